@@ -1,0 +1,14 @@
+//! The values that every part of the tool speaks of: names, tokens, places in the text, and refusals.
+//!
+//! Contracts see each of them as plain data: a [`List`] as the list of its items, and the rest by their fields.
+#![tactic(auto)]
+
+mod list;
+mod name;
+mod refusal;
+mod token;
+
+pub use list::List;
+pub use name::{Name, Root, Word, fold, is_same};
+pub use refusal::{Answer, Code, Mem, Place, Refusal, Stop};
+pub use token::{Token, TokenKind};
