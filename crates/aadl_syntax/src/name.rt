@@ -1,5 +1,5 @@
 ghost use Rattle.std.specs.Prelude.{◌≡◌, ◌↔◌, IsTrue, IfOk};
-ghost use Rattle.aadl_syntax.specs.Name.{folded, lower};
+ghost use Rattle.aadl_syntax.specs.Name.{folded, is_same_text, lower};
 
 use crate::list::List;
 use crate::refusal::Mem;
@@ -39,7 +39,8 @@ fn lower(byte: u8) -> u8
 
 /// Whether two texts have the same bytes.
 pub fn is_same(a: &[u8], b: &[u8]) -> bool
-    ensures { IsTrue result ↔ (a.now ≡ b.now) }
+    ensures value { result ≡ is_same_text a.now b.now }
+    ensures means { IsTrue result ↔ (a.now ≡ b.now) }
 {
     a == b
 }

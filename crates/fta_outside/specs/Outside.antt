@@ -1,0 +1,14 @@
+-- What is known of the outside: counts of faults, and the bytes that a sink took.
+use Rattle.std.specs.Prelude.{◌≡◌, ℕ, ◌<◌, ◌≤◌, ◌⊎◌, List, ◌++◌, length, take, Option, option_map}
+
+-- A count rose in a call if it is greater after the call than before it, or stands after it at the last value of a counter.
+abbrev pub Rose : ℕ → ℕ → Type 0
+Rose before after = (before < after) ⊎ (after ≡ 18446744073709551615)
+
+-- what was taken, with these bytes after it, where it is told
+abbrev pub with_bytes : Option (List ℕ) → List ℕ → Option (List ℕ)
+with_bytes taken bytes = option_map (λ before. before ++ bytes) taken
+
+-- Some bytes of the front of a text were taken, and no others.
+abbrev pub TookPrefix : Option (List ℕ) → Option (List ℕ) → List ℕ → Type 0
+TookPrefix before after text = (count : ℕ) × (count ≤ length text) × (after ≡ with_bytes before (take count text))

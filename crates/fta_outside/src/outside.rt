@@ -1,0 +1,90 @@
+ghost use Rattle.std.specs.Prelude.{◌≡◌, ℕ, ◌≤◌, ◌<◌, List, Option, IfOk, OnOk, OnErr, IfSome, IsErrOf, length, take};
+ghost use Rattle.fta_outside.specs.Outside.{Rose, with_bytes, TookPrefix};
+ghost use Rattle.fta_outside.specs.declared.outside.ReadError.TheVariants.{Memory};
+
+use aadl_syntax::Word;
+use std::alloc::{AllocError, AllocFailed, Global};
+use thiserror::Error;
+
+/// Why a file was not read.
+#[derive(Clone, Copy, Debug, PartialEq, Eq, Error)]
+pub enum ReadError {
+    /// The file is missing or could not be read; the count of faults of its name rose.
+    #[error("read failed")]
+    Failed,
+    /// Memory was wanting.
+    #[error("out of memory")]
+    Memory,
+}
+
+impl From<AllocError> for ReadError {
+    ghost from_gives = { λ _ e. e ≡ Memory };
+
+    fn from(_error: AllocError) -> ReadError {
+        ReadError::Memory
+    }
+}
+
+impl<T: Drop> From<AllocFailed<T>> for ReadError {
+    ghost from_gives = { λ _ e. e ≡ Memory };
+
+    fn from(_error: AllocFailed<T>) -> ReadError {
+        ReadError::Memory
+    }
+}
+
+/// What files a name stands for, and how they are read.
+pub trait Files {
+    /// What the file of a name contains, where that is told.
+    ghost contents: { Self → List ℕ → Option (List ℕ) };
+
+    /// How often a read of the name failed. One count may serve all names.
+    ghost faults: { Self → List ℕ → ℕ };
+
+    /// The first `most` bytes of the file of this name, or all of it where it is shorter.
+    ///
+    /// `Failed` comes only where the count of faults of the name rose; a missing file is such a fault.
+    fn read(&mut self, alloc: Global, name: &Word, most: usize) -> Result<Vec<u8>, ReadError>
+        ensures front { IfOk result (λ bytes. IfSome (contents self.old name.now) (λ whole. bytes.items ≡ take most whole)) }
+        ensures failed { IsErrOf result ReadError.Failed → Rose (faults self.old name.now) (faults self.new name.now) }
+        ensures kept { (other : List ℕ) → contents self.new other ≡ contents self.old other }
+        ensures never_falls { (other : List ℕ) → faults self.old other ≤ faults self.new other };
+}
+
+/// A write failed; the count of faults of the sink rose, and it took nothing.
+#[derive(Clone, Copy, Debug, PartialEq, Eq)]
+pub struct SinkFailed;
+
+/// What takes the text that the tool writes.
+pub trait Sink {
+    /// The bytes that it took so far, where that is told.
+    ghost taken: { Self → Option (List ℕ) };
+
+    /// How often a write failed.
+    ghost faults: { Self → ℕ };
+
+    /// Writes some bytes of the front of the piece, at least one where there is one, and says how many.
+    ///
+    /// A fault comes only where the count of faults rose.
+    fn write(&mut self, piece: &[u8]) -> Result<usize, SinkFailed>
+        ensures within { IfOk result (λ count. count ≤ length piece.now) }
+        ensures moves { IfOk result (λ count. 0 < length piece.now → 0 < count) }
+        ensures adds { IfOk result (λ count. taken self.new ≡ with_bytes (taken self.old) (take count piece.now)) }
+        ensures failed { OnErr result (Rose (faults self.old) (faults self.new)) }
+        ensures unchanged { OnErr result (taken self.new ≡ taken self.old) }
+        ensures never_falls { faults self.old ≤ faults self.new };
+}
+
+/// Writes all the bytes. After a fault a prefix of them was written.
+pub fn write_all<S: Sink>(sink: &mut S, bytes: &[u8]) -> Result<(), SinkFailed>
+    ensures adds { OnOk result (S.taken sink.new ≡ with_bytes (S.taken sink.old) bytes.now) }
+    ensures prefix { OnErr result (TookPrefix (S.taken sink.old) (S.taken sink.new) bytes.now) }
+    ensures failed { OnErr result (Rose (S.faults sink.old) (S.faults sink.new)) }
+    ensures never_falls { S.faults sink.old ≤ S.faults sink.new }
+{
+    let mut at = 0;
+    while at < bytes.len() {
+        at += sink.write(&bytes[at..])?;
+    }
+    Ok(())
+}
