@@ -1,0 +1,7 @@
+pub mod Words
+pub mod Looks
+pub mod Laws
+pub mod Takes
+pub mod Loops
+pub mod Texts
+pub mod Runs

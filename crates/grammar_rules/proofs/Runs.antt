@@ -1,0 +1,87 @@
+-- A loop over a run of tokens.
+use Rattle.std.proofs.Common.{◌≡◌, ℕ, suc, ◌+◌, ◌-◌, ◌<◌, ◌≤◌, Bool, true, false, List, [], ◌∷◌, ◌++◌, length, take, drop, get_or, Option, Some, count_by, cond, ◌&&◌, eq-eqb, ne_eqb, refl, sym, ◌∙◌, ap, arith, length-drop, length-append, add-one, take-suc, drop-cons}
+use Rattle.std.specs.Prelude.{slice_get, if◌then◌else◌}
+use Rattle.std.proofs.lemmas.List.Sums.{count_by_more_yes, count_by_more_no}
+use Rattle.aadl_syntax.specs.declared.token.Token.{Token}
+use Rattle.grammar_rules.specs.Running.{read, seen, spanned}
+use Rattle.grammar_rules.specs.Spans.{opens, closes, is_even, last, stopping}
+
+-- What a loop has passed of a run: k tokens, none of which stops it.
+pub record Passed (stops : Option Token → Token → Bool) (tokens : List Token) (k opened closed : ℕ) (before : Option Token) : Type 0 where
+  pub within : k ≤ length tokens
+  pub opened_is : opened ≡ count_by opens (take k tokens)
+  pub closed_is : closed ≡ count_by closes (take k tokens)
+  pub opened_few : opened ≤ k
+  pub closed_few : closed ≤ k
+  pub before_is : before ≡ last (take k tokens)
+  pub so_far : (unseen : ℕ) → spanned (stopping stops) [] tokens unseen ≡ spanned (stopping stops) (take k tokens) (drop k tokens) unseen
+
+slice_get-last : (passed : List Token) (t : Token) → last (passed ++ t ∷ []) ≡ Some t
+slice_get-last passed t = let e : length (passed ++ t ∷ []) - 1 ≡ length passed = omega (arith, length-append passed (t ∷ [])) in ap (slice_get (passed ++ t ∷ [])) e ∙ at passed where
+  at : (xs : List Token) → slice_get (xs ++ t ∷ []) (length xs) ≡ Some t
+  at [] = refl
+  at (x ∷ xs) = at xs
+
+module _ (tokens : List Token) (k : ℕ) (t : Token) (lt : k < length tokens) (is : t ≡ get_or tokens k t) where
+  pub take_more : take (k + 1) tokens ≡ take k tokens ++ t ∷ []
+  take_more = ap (λ n. take n tokens) (add-one k) ∙ take-suc tokens k t lt ∙ ap (λ (u : Token). take k tokens ++ u ∷ []) (sym is)
+
+  drop_more : drop k tokens ≡ t ∷ drop (k + 1) tokens
+  drop_more = drop-cons tokens k t lt ∙ ap (λ (u : Token). u ∷ drop (suc k) tokens) (sym is) ∙ ap (λ n. t ∷ drop n tokens) (sym (add-one k))
+
+  pub last_more : Some t ≡ last (take (k + 1) tokens)
+  last_more = sym (ap last take_more ∙ slice_get-last (take k tokens) t)
+
+  module _ (stops : List Token → Token → Bool) (unseen : ℕ) where
+    one_more : spanned stops (take k tokens) (drop k tokens) unseen ≡ (if stops (take k tokens) t then read (take k tokens) (t ∷ drop (k + 1) tokens) (seen 0 (t ∷ drop (k + 1) tokens) unseen) else spanned stops (take k tokens ++ t ∷ []) (drop (k + 1) tokens) unseen)
+    one_more = ap (λ (ts : List Token). spanned stops (take k tokens) ts unseen) drop_more
+
+    pub stops_here : stops (take k tokens) t ≡ true → spanned stops (take k tokens) (drop k tokens) unseen ≡ read (take k tokens) (drop k tokens) (seen k tokens unseen)
+    stops_here e =
+        let n : seen 0 (t ∷ drop (k + 1) tokens) unseen ≡ seen k tokens unseen = omega (arith, ap length drop_more, length-drop k tokens) in
+        one_more ∙ ap (λ (c : Bool). if c then read (take k tokens) (t ∷ drop (k + 1) tokens) (seen 0 (t ∷ drop (k + 1) tokens) unseen) else spanned stops (take k tokens ++ t ∷ []) (drop (k + 1) tokens) unseen) e
+        ∙ ap (λ (ts : List Token). read (take k tokens) ts (seen 0 (t ∷ drop (k + 1) tokens) unseen)) (sym drop_more) ∙ ap (λ m. read (take k tokens) (drop k tokens) m) n
+
+    pub goes_past : stops (take k tokens) t ≡ false → spanned stops (take k tokens) (drop k tokens) unseen ≡ spanned stops (take (k + 1) tokens) (drop (k + 1) tokens) unseen
+    goes_past e =
+        one_more ∙ ap (λ (c : Bool). if c then read (take k tokens) (t ∷ drop (k + 1) tokens) (seen 0 (t ∷ drop (k + 1) tokens) unseen) else spanned stops (take k tokens ++ t ∷ []) (drop (k + 1) tokens) unseen) e
+        ∙ ap (λ (ts : List Token). spanned stops ts (drop (k + 1) tokens) unseen) (sym take_more)
+
+and_false : (a : Bool) → (a && false) ≡ false
+and_false true = refl
+and_false false = refl
+
+pub is_deep : {stops : Option Token → Token → Bool} {tokens : List Token} {k opened closed : ℕ} {before : Option Token} (t : Token) → Passed stops tokens k opened closed before → (opened ≡ closed → ⊥) → stopping stops (take k tokens) t ≡ false
+unfolding is_even
+is_deep {stops} {tokens} {k} t p e = ap (λ b. b && stops (last (take k tokens)) t) (ne_eqb _ _ (λ g. e (p.opened_is ∙ g ∙ sym p.closed_is)))
+
+module _ {stops : Option Token → Token → Bool} {tokens : List Token} {k opened closed : ℕ} {before : Option Token} {t : Token} (p : Passed stops tokens k opened closed before) where
+  pub does_stop : opened ≡ closed → stops before t ≡ true → stopping stops (take k tokens) t ≡ true
+  unfolding is_even
+  does_stop e f =
+      let g : count_by opens (take k tokens) ≡ count_by closes (take k tokens) = sym p.opened_is ∙ e ∙ p.closed_is in
+      ap (λ b. b && stops (last (take k tokens)) t) (eq-eqb _ _ g) ∙ ap (λ (o : Option Token). stops o t) (sym p.before_is) ∙ f
+
+  pub does_not_stop : stops before t ≡ false → stopping stops (take k tokens) t ≡ false
+  does_not_stop f = ap (λ b. is_even (take k tokens) && b) (ap (λ (o : Option Token). stops o t) (sym p.before_is) ∙ f) ∙ and_false _
+
+  pub passes : (lt : k < length tokens) → (is : t ≡ get_or tokens k t) → stopping stops (take k tokens) t ≡ false → (o c : ℕ) → o ≡ cond (opens t) (opened + 1) opened → c ≡ cond (closes t) (closed + 1) closed
+      → Passed stops tokens (k + 1) o c (Some t)
+  passes lt is f o c e g = record {
+    within = omega arith;
+    opened_is = e ∙ counted opens opened p.opened_is;
+    closed_is = g ∙ counted closes closed p.closed_is;
+    opened_few = few (opens t) opened o p.opened_few e;
+    closed_few = few (closes t) closed c p.closed_few g;
+    before_is = last_more tokens k t lt is;
+    so_far = λ unseen. p.so_far unseen ∙ goes_past tokens k t lt is (stopping stops) unseen f;
+  } where
+    few : (b : Bool) (n m : ℕ) → n ≤ k → m ≡ cond b (n + 1) n → m ≤ k + 1
+    few true n m h e = omega arith
+    few false n m h e = omega arith
+
+    counted : (test : Token → Bool) (n : ℕ) → n ≡ count_by test (take k tokens) → cond (test t) (n + 1) n ≡ count_by test (take (k + 1) tokens)
+    counted test n h = either (test t) refl where
+      either : (b : Bool) → test t ≡ b → cond b (n + 1) n ≡ count_by test (take (k + 1) tokens)
+      either true q = ap (λ n. n + 1) h ∙ sym (count_by_more_yes test tokens k t lt (ap test (sym is) ∙ q))
+      either false q = h ∙ sym (count_by_more_no test tokens k t lt (ap test (sym is) ∙ q))

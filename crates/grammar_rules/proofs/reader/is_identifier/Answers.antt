@@ -1,0 +1,9 @@
+use Rattle.std.proofs.Common.{arith}
+use Rattle.std.proofs.lemmas.Grind.{common_steps}
+use Rattle.grammar_rules.specs.Tokens.{is_identifier}
+use Rattle.grammar_rules.proofs.Words.{among_map}
+use Rattle.grammar_rules.proofs.reader.is_identifier.Goals as goal
+
+pub returns-then-eq : goal.returns-then-eq
+unfolding is_identifier
+returns-then-eq c = rw (← among_map c.args.token.now.text c.args.reserved.now) (grind (arith, common_steps))

@@ -1,0 +1,46 @@
+-- Runs of tokens that are read without a look at what they say but for brackets.
+use Rattle.std.specs.Prelude.{◌-◌, Bool, ◌==◌, ◌&&◌, ◌||◌, List, length, Option, count_by, slice_get, codes, Result, Ok, Err}
+use Rattle.aadl_syntax.specs.declared.token.Token.{Token}
+use Rattle.aadl_syntax.specs.declared.token.TokenKind.TheVariants.{AnnexBegin, AnnexEnd}
+use Rattle.grammar_rules.specs.Rules.{Test, Rule, spans}
+use Rattle.grammar_rules.specs.Tokens.{is_kind, is_sign, is_word}
+
+-- an opening and a closing bracket
+unfoldable pub opens : Test
+opens token = is_sign (codes "(") token || is_sign (codes "[") token || is_sign (codes "{") token || is_kind AnnexBegin token
+
+unfoldable pub closes : Test
+closes token = is_sign (codes ")") token || is_sign (codes "]") token || is_sign (codes "}") token || is_kind AnnexEnd token
+
+-- as many brackets were opened as closed
+unfoldable pub is_even : List Token → Bool
+is_even passed = count_by opens passed == count_by closes passed
+
+-- the last of some tokens
+abbrev pub last : List Token → Option Token
+last tokens = slice_get tokens (length tokens - 1)
+
+-- whether a run stops at a token: at depth 0, where the token before it may matter
+abbrev pub stopping : (Option Token → Token → Bool) → List Token → Token → Bool
+stopping stops passed token = is_even passed && stops (last passed) token
+
+-- the tokens up to the first at which the run stops
+unfoldable pub until : (Option Token → Token → Bool) → Rule (List Token)
+until stops = spans (stopping stops)
+
+-- `balanced` stops at the bracket that closes what was open before
+unfoldable pub ends_balanced : Option Token → Token → Bool
+ends_balanced before token = closes token
+
+-- `tail` stops there too, and at a semicolon
+unfoldable pub ends_tail : Option Token → Token → Bool
+ends_tail before token = closes token || is_sign (codes ";") token
+
+-- `to-end` stops at the word `end`
+unfoldable pub ends_to_end : Option Token → Token → Bool
+ends_to_end before token = is_word (codes "end") token
+
+-- the result seen by `view`
+abbrev pub viewed : {X Y E : Type 0} → (X → Y) → Result X E → Result Y E
+viewed view (Ok x) = Ok (view x)
+viewed view (Err e) = Err e

@@ -1,0 +1,19 @@
+//! Grammar rules, and the reader with which parsers read by them.
+//!
+//! A grammar is written down as rules, in `specs/`: what the tokens must be, and the value that they give. A parser is
+//! one function a rule over a [`Reader`], and its contract says that it gives what the rule gives. What holds of all
+//! rules is proved once: tokens read as one value at most, and a refusal rests on the tokens that were looked at alone.
+#![tactic(auto)]
+
+mod part;
+mod reader;
+mod span;
+mod text;
+
+pub use part::Parts;
+pub use reader::{ReadError, Reader};
+pub use span::{Balanced, Span, Tail, ToEnd};
+pub use text::{Grammar, TextError, one_reading, read_text};
+
+#[cfg(test)]
+mod tests;

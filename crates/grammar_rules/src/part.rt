@@ -1,0 +1,61 @@
+use crate::reader::{ReadError, Reader};
+use aadl_syntax::List;
+
+/// Parts of which a text may have several, one after the other: a loop of the grammar.
+///
+/// A further part is read exactly where the next tokens can begin one, and each takes at least one token.
+pub trait Parts {
+    ghost use Rattle.std.specs.Prelude.{List as Items};
+    ghost use Rattle.grammar_rules.specs.Rules.{Rule, Test};
+    ghost use Rattle.grammar_rules.specs.Parts.{TakesTokens};
+    ghost use Rattle.grammar_rules.specs.Reader.{Gives, Begins};
+
+    /// What a part gives.
+    type Part: Drop;
+
+    ghost tests: { Items Test };
+
+    ghost rule: { Rule Self.Part };
+
+    /// Whether the next tokens begin a part.
+    fn begins(reader: &mut Reader) -> bool
+        ensures { Begins result 0 tests reader.old reader.new };
+
+    /// Reads a part.
+    fn part(reader: &mut Reader) -> Result<Self::Part, ReadError>
+        ensures { Gives result rule reader.old reader.new };
+
+    ghost takes_tokens: { TakesTokens rule };
+}
+
+impl<'a> Reader<'a> {
+    ghost use Rattle.std.specs.Prelude.{[], ◌∷◌};
+    ghost use Rattle.grammar_rules.specs.Parts.{parts_after};
+    ghost use Rattle.grammar_rules.specs.Reader.{Gives};
+
+    /// Reads parts as long as the next tokens begin one, perhaps none.
+    pub fn parts<P: Parts>(&mut self) -> Result<List<P::Part>, ReadError>
+        ensures { Gives result (parts_after [] P.tests P.rule) self.old self.new }
+    {
+        let none = List::new(self.alloc());
+        self.more_parts::<P>(none)
+    }
+
+    /// Reads parts as long as the next tokens begin one, and gives them after the first, which was read before.
+    pub fn parts_after<P: Parts>(&mut self, first: P::Part) -> Result<List<P::Part>, ReadError>
+        ensures { Gives result (parts_after (first ∷ []) P.tests P.rule) self.old self.new }
+    {
+        let mut one = List::new(self.alloc());
+        one.push(first)?;
+        self.more_parts::<P>(one)
+    }
+
+    fn more_parts<P: Parts>(&mut self, mut parts: List<P::Part>) -> Result<List<P::Part>, ReadError>
+        ensures { Gives result (parts_after parts P.tests P.rule) self.old self.new }
+    {
+        while P::begins(self) {
+            parts.push(P::part(self)?)?;
+        }
+        Ok(parts)
+    }
+}

@@ -1,0 +1,130 @@
+ghost use Rattle.std.specs.Prelude.{◌≡◌, ℕ, [], ◌<◌, length, take, drop, IfSome, MatchOption};
+ghost use Rattle.grammar_rules.specs.Running.{spanned, read, dead, seen};
+ghost use Rattle.grammar_rules.specs.Spans.{opens, closes, stopping};
+
+use crate::reader::{ReadError, Reader, is_kind, is_sign, is_word};
+use aadl_syntax::{Token, TokenKind};
+
+/// Where a run of tokens ends whose text does not matter: at a token at depth 0, that is where as many brackets were
+/// opened as closed in the run. Round, square and curly brackets and the marks of an annex count alike.
+pub trait Span {
+    ghost use Rattle.std.specs.Prelude.{Option, Bool, option_copied};
+    ghost use Rattle.aadl_syntax.specs.declared.token.Token.{Token};
+
+    ghost stops: { Option Token → Token → Bool };
+
+    /// Whether the run ends before this token at depth 0; `before` is the last token of the run, if it has any.
+    fn stops_at(before: Option<&Token>, token: &Token) -> bool
+        ensures { result ≡ stops (option_copied before.entry) token.now };
+}
+
+/// Tokens with matching counts of brackets: up to the bracket that closes one opened before them.
+pub struct Balanced;
+
+impl Span for Balanced {
+    ghost use Rattle.grammar_rules.specs.Spans.{ends_balanced};
+
+    ghost stops = { ends_balanced };
+
+    #[tactic(auto, unfolding(crate::specs::Spans::ends_balanced))]
+    fn stops_at(_before: Option<&Token>, token: &Token) -> bool {
+        closes(token)
+    }
+}
+
+/// Balanced tokens without a semicolon at depth 0.
+pub struct Tail;
+
+impl Span for Tail {
+    ghost use Rattle.grammar_rules.specs.Spans.{ends_tail};
+
+    ghost stops = { ends_tail };
+
+    #[tactic(auto, unfolding(crate::specs::Spans::ends_tail))]
+    fn stops_at(_before: Option<&Token>, token: &Token) -> bool {
+        closes(token) || is_sign(token, b";")
+    }
+}
+
+/// Tokens up to the first word `end` at depth 0; the depth may fall below 0, and `end` does not count there.
+pub struct ToEnd;
+
+impl Span for ToEnd {
+    ghost use Rattle.grammar_rules.specs.Spans.{ends_to_end};
+
+    ghost stops = { ends_to_end };
+
+    #[tactic(auto, unfolding(crate::specs::Spans::ends_to_end))]
+    fn stops_at(_before: Option<&Token>, token: &Token) -> bool {
+        is_word(token, b"end")
+    }
+}
+
+impl<'a> Reader<'a> {
+    ghost use Rattle.grammar_rules.specs.Spans.{until, viewed};
+    ghost use Rattle.grammar_rules.specs.Reader.{Gives};
+
+    /// Takes the tokens of a run, perhaps none. Without a token that ends it, the run is refused at the end.
+    #[tactic(auto, unfolding(crate::specs::Spans::until))]
+    pub fn until<S: Span>(&mut self) -> Result<&'a [Token], ReadError>
+        ensures { Gives (viewed (λ s. s.now) result) (until S.stops) self.old self.new }
+    {
+        let tokens = self.tokens;
+        match length_until::<S>(tokens) {
+            Some(length) => {
+                self.look(length);
+                self.tokens = &tokens[length..];
+                Ok(&tokens[..length])
+            }
+            None => {
+                self.look(tokens.len());
+                Err(ReadError::Refused)
+            }
+        }
+    }
+}
+
+fn length_until<S: Span>(tokens: &[Token]) -> Option<usize>
+    ensures within { IfSome result (λ n. n < length tokens.now) }
+    ensures run { MatchOption result
+        ((unseen : ℕ) → spanned (stopping S.stops) [] tokens.now unseen ≡ dead 0)
+        (λ n. (unseen : ℕ) → spanned (stopping S.stops) [] tokens.now unseen
+        ≡ read (take n tokens.now) (drop n tokens.now) (seen n tokens.now unseen)) }
+{
+    let mut opened: usize = 0;
+    let mut closed: usize = 0;
+    let mut before: Option<&Token> = None;
+    for (k, token) in tokens.iter().enumerate() {
+        if opened == closed && S::stops_at(before, token) {
+            return Some(k);
+        }
+        if opens(token) {
+            opened += 1;
+        }
+        if closes(token) {
+            closed += 1;
+        }
+        before = Some(token);
+    }
+    None
+}
+
+#[tactic(auto, unfolding(crate::specs::Spans::opens))]
+fn opens(token: &Token) -> bool
+    ensures { result ≡ opens token.now }
+{
+    is_sign(token, b"(")
+        || is_sign(token, b"[")
+        || is_sign(token, b"{")
+        || is_kind(token, TokenKind::AnnexBegin)
+}
+
+#[tactic(auto, unfolding(crate::specs::Spans::closes))]
+fn closes(token: &Token) -> bool
+    ensures { result ≡ closes token.now }
+{
+    is_sign(token, b")")
+        || is_sign(token, b"]")
+        || is_sign(token, b"}")
+        || is_kind(token, TokenKind::AnnexEnd)
+}
