@@ -1,0 +1,10 @@
+pub mod TruthLaws
+pub mod Marks
+pub mod HoldsLaws
+pub mod AddTrue
+pub mod CutSetLaws
+pub mod Elements
+pub mod Orders
+pub mod ListingLaws
+pub mod Names
+pub mod Examples

@@ -1,0 +1,4 @@
+pub mod Truth
+pub mod Systems
+pub mod CutSets
+pub mod Listings

@@ -1,0 +1,17 @@
+//! Facts with their formulas over events and facts, and which facts hold under a set of events.
+#![tactic(auto)]
+
+mod bits;
+mod checks;
+mod formula;
+mod laws;
+mod system;
+
+pub use bits::Bits;
+pub use checks::{Named, is_system, names_differ};
+pub use formula::{EventInfo, FactInfo, Formula};
+pub use laws::{computed_listing, cover, join, one_listing};
+pub use system::FaultSystem;
+
+#[cfg(test)]
+mod tests;
