@@ -1,0 +1,9 @@
+pub mod Runs
+pub mod Most
+pub mod Numbers
+pub mod Words
+pub mod Fronts
+pub mod Cuts
+pub mod Ends
+pub mod Single
+pub mod Examples

@@ -1,0 +1,10 @@
+use Rattle.std.proofs.Common.{length, ◌-◌, ◌≡◌, ◌≤◌, ◌+◌, drop}
+use Rattle.std.specs.Option.{option_map}
+use Rattle.aadl_lexer.specs.Scan.{text_rest_len}
+use Rattle.aadl_lexer.proofs.form.text_rest_len.Given as goal
+
+abbrev pub invariant-loop-len : goal.invariant-loop-len
+invariant-loop-len l = record { within : l.len ≤ length l.text + 1; counted : option_map (λ n. l.len + n) (text_rest_len (drop l.len l.text)) ≡ text_rest_len l.text }
+
+abbrev pub decreases-loop-len : goal.decreases-loop-len
+decreases-loop-len l = length l.text - l.len

@@ -1,0 +1,37 @@
+use Rattle.std.proofs.Common.{List, [], ℕ, ◌-◌, length, take, drop, sym, subst, zero-add}
+use Rattle.std.proofs.lemmas.Result.{err_from_is_err_and}
+use Rattle.std.proofs.lemmas.List.{take_rest}
+use Rattle.aadl_syntax.specs.declared.token.Token.{Token}
+use Rattle.aadl_syntax.specs.declared.refusal.Code.{Code}
+use Rattle.aadl_lexer.specs.Tokens.{InCore, StuckInCore, Tokens, IsFault}
+use Rattle.aadl_lexer.specs.Steps.{Takes}
+use Rattle.aadl_lexer.proofs.Cuts.{more_so_far, all_so_far, stops_so_far}
+use Rattle.aadl_lexer.proofs.Single.{one_list, refused_more, no_refusal}
+use Rattle.aadl_lexer.proofs.lexer.tokens.Goals as goal
+
+pub loop-at-preserved : goal.loop-at-preserved
+loop-at-preserved c =
+    let so_far = c.loop-at.invariant in
+    let takes = subst (λ (x : List ℕ). Takes (InCore c.loop-at.list c.loop-at.at) x c.loop-at.list c.core_piece.new.list c.in_ok-at.field-0) (take_rest c.args.bytes.now c.loop-at.at) c.in_ok-at.ensures.ok in
+    let before = subst (λ (b : List Token). Takes (InCore b c.loop-at.at) (drop c.loop-at.at c.args.bytes.now) c.loop-at.list c.core_piece.new.list c.in_ok-at.field-0) so_far.added takes in
+    let placed = subst (λ (n : ℕ). Takes (InCore so_far.tokens n) (drop c.loop-at.at c.args.bytes.now) c.loop-at.list c.core_piece.new.list c.in_ok-at.field-0) (sym (zero-add c.loop-at.at)) before in
+    more_so_far InCore 0 c.args.bytes.now [] c.loop-at.list c.core_piece.new.list c.loop-at.at c.in_ok-at.field-0 so_far placed
+
+pub returns-clause-only : goal.returns-clause-only
+returns-clause-only c = λ list h.
+    let all = all_so_far InCore 0 c.args.bytes.now [] c.loop-at.list c.loop-at.at c.loop-at.invariant c.loop-at-test.false in
+    one_list c.args.bytes.now c.loop-at.list list (subst (Tokens c.args.bytes.now) (sym all.added) all.read) h
+
+pub returns-in_err-at-clause-only : goal.returns-in_err-at-clause-only
+returns-in_err-at-clause-only c = λ list h.
+    let bytes = c.args.bytes.now in
+    let so_far = c.loop-at.invariant in
+    let at = c.loop-at.at in
+    let stuck : (code : Code) (place : ℕ) → StuckInCore c.loop-at.list at (take (length bytes - at) (drop at bytes)) code place → IsFault bytes code place =
+    λ code place k. stops_so_far InCore StuckInCore 0 bytes [] c.loop-at.list at so_far code place
+    (subst (λ (n : ℕ). StuckInCore so_far.tokens n (drop at bytes) code place) (sym (zero-add at))
+    (subst (λ (b : List Token). StuckInCore b at (drop at bytes) code place) so_far.added
+    (subst (λ (x : List ℕ). StuckInCore c.loop-at.list at x code place) (take_rest bytes at) k))) in
+    let fault = refused_more c.args.file (StuckInCore c.loop-at.list at (take (length bytes - at) (drop at bytes))) (IsFault bytes) stuck _ c.in_err-at.ensures.err in
+    let p = err_from_is_err_and c.from_residual.result c.from_residual.ensures.1 in
+    rw (p.1, p.2) (no_refusal c.args.file bytes _ fault list h)

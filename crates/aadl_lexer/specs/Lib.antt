@@ -1,0 +1,4 @@
+pub mod Form
+pub mod Tokens
+pub mod Scan
+pub mod Steps

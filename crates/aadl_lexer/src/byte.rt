@@ -1,0 +1,45 @@
+//! Classes of bytes.
+
+ghost use Rattle.std.specs.Prelude.{◌≡◌};
+ghost use Rattle.aadl_lexer.specs.Form.{is_blank, is_letter, is_digit, is_letter_or_digit, is_hexadecimal, is_sign};
+
+pub fn is_blank(b: u8) -> bool
+    ensures { result ≡ is_blank b }
+{
+    b == 9 || b == 10 || b == 13 || b == 32
+}
+
+pub fn is_letter(b: u8) -> bool
+    ensures { result ≡ is_letter b }
+{
+    (b >= b'A' && b <= b'Z') || (b >= b'a' && b <= b'z')
+}
+
+pub fn is_digit(b: u8) -> bool
+    ensures { result ≡ is_digit b }
+{
+    b >= b'0' && b <= b'9'
+}
+
+pub fn is_letter_or_digit(b: u8) -> bool
+    ensures { result ≡ is_letter_or_digit b }
+{
+    is_letter(b) || is_digit(b)
+}
+
+pub fn is_hexadecimal(b: u8) -> bool
+    ensures { result ≡ is_hexadecimal b }
+{
+    is_digit(b) || (b >= b'A' && b <= b'F') || (b >= b'a' && b <= b'f')
+}
+
+pub fn is_sign(b: u8) -> bool
+    ensures { result ≡ is_sign b }
+{
+    match b {
+        b';' | b':' | b',' | b'.' | b'(' | b')' | b'[' | b']' | b'{' | b'}' | b'-' | b'+' | b'*' =>
+            { true }
+        b'/' | b'=' | b'<' | b'>' | b'^' | b'@' | b'!' | b'&' | b'|' => true,
+        _ => false,
+    }
+}

@@ -1,0 +1,6 @@
+mod Answering
+mod Identifiers
+mod Lines
+mod MadeSystem
+mod NameLists
+mod NamesIn

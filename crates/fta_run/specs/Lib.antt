@@ -1,0 +1,9 @@
+pub mod Meaning
+pub mod Names
+pub mod Output
+pub mod Productions
+pub mod Served
+pub mod Status
+pub mod Takes
+pub mod Text
+pub mod Words

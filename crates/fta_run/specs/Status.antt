@@ -1,0 +1,22 @@
+-- The statuses, and the number with which the program ends at each.
+use Rattle.std.specs.Prelude.{ℕ}
+use Rattle.fta_run.specs.declared.status.Status.{Status}
+use Rattle.fta_run.specs.declared.status.Status.TheVariants.{Done, Usage, ReadFault, WriteFault, Memory, NotYet}
+
+-- the exit number of a status
+abbrev pub exit_number : Status → ℕ
+exit_number Done = 0
+exit_number Usage = 1
+exit_number (ReadFault file) = 4
+exit_number WriteFault = 5
+exit_number Memory = 7
+exit_number NotYet = 8
+
+-- every status but Done
+abbrev pub IsFault : Status → Type 0
+IsFault Done = ⊥
+IsFault Usage = Unit {0}
+IsFault (ReadFault file) = Unit {0}
+IsFault WriteFault = Unit {0}
+IsFault Memory = Unit {0}
+IsFault NotYet = Unit {0}

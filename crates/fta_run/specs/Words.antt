@@ -1,0 +1,45 @@
+-- The words of the command line.
+use Rattle.std.specs.Prelude.{◌≡◌, ◌≢◌, ◌<◌, ◌≤◌, ℕ, Bool, true, false, not, ◌==◌, ◌&&◌, if◌then◌else◌, List, [], ◌∷◌, ◌++◌, length, codes, Option, Some, None, IfSome, IsUtf8}
+use Rattle.std.specs.List.{AllByRecursion}
+use Rattle.aadl_syntax.specs.Name.{folded}
+use Rattle.aadl_syntax.specs.declared.name.Root.{Root}
+use Rattle.aadl_lexer.specs.Form.{IsWord, is_letter_or_digit}
+
+-- a word that stands for itself: UTF-8 text, not empty, that does not begin with `-`
+abbrev pub IsPlainWord : List ℕ → Type 0
+IsPlainWord [] = ⊥
+IsPlainWord (byte ∷ bytes) = (byte ≢ 45) × IsUtf8 (byte ∷ bytes)
+
+-- names with `::` between them
+abbrev pub with_colons : List (List ℕ) → List ℕ
+with_colons [] = []
+with_colons (name ∷ []) = name
+with_colons (name ∷ next ∷ names) = name ++ (58 ∷ 58 ∷ with_colons (next ∷ names))
+
+-- the item of an implementation, after a dot
+abbrev pub dotted : Option (List ℕ) → List ℕ
+dotted None = []
+dotted (Some item) = 46 ∷ item
+
+-- The text of a root: at least two identifiers with `::` between them, and perhaps a dot and one more.
+pub record IsRoot (text : List ℕ) (root : Root) : Type 0 where
+  pub text_is : text ≡ with_colons root.names ++ dotted root.item
+  pub at_least_two : 2 ≤ length root.names
+  pub identifiers : AllByRecursion IsWord root.names
+  pub item_identifier : IfSome root.item IsWord
+
+-- The words are `cuts`, a root, a target and one or more files, all plain; letters of root and target are folded.
+pub record IsCuts (words : List (List ℕ)) (root : Root) (target : List ℕ) (files : List (List ℕ)) : Type 0 where
+  pub root_word : List ℕ
+  pub target_word : List ℕ
+  pub words_are : words ≡ codes "cuts" ∷ root_word ∷ target_word ∷ files
+  pub some_file : 0 < length files
+  pub plain : AllByRecursion IsPlainWord words
+  pub root_is : IsRoot (folded root_word) root
+  pub target_is : target ≡ folded target_word
+
+-- whether letters and digits follow, each perhaps after one `_`; a waiting `_` wants one at once
+abbrev pub follows_well : Bool → List ℕ → Bool
+follows_well waiting [] = not waiting
+follows_well waiting (byte ∷ bytes) =
+    if is_letter_or_digit byte then follows_well false bytes else (byte == 95 && (not waiting && follows_well true bytes))

@@ -1,0 +1,18 @@
+//! The tool from the bytes of its words and files to the bytes that it writes.
+#![tactic(auto)]
+
+mod command;
+mod conditions;
+mod form;
+mod meaning;
+mod reading;
+mod served;
+mod status;
+mod text;
+mod words;
+
+pub use command::run;
+pub use status::Status;
+
+#[cfg(test)]
+mod tests;

@@ -1,0 +1,98 @@
+ghost use Rattle.std.specs.Prelude.{◌≡◌, ℕ, ◌++◌, ◌∷◌, IfOk, OnOk, OnErr, IsErrOf, map, take};
+ghost use Rattle.std.specs.List.{flat_map};
+ghost use Rattle.fta_outside.specs.Outside.{Rose, with_bytes, TookPrefix};
+ghost use Rattle.fta_run.specs.Text.{event_name, set_text, set_line, listing_text};
+ghost use Rattle.fta_run.specs.declared.text.WriteStop.TheVariants.{Failed, Memory};
+
+use aadl_syntax::{List, Mem};
+use fault_system::FaultSystem;
+use fta_outside::{Sink, SinkFailed, write_all};
+use itoa::Buffer;
+use std::alloc::{AllocError, Global};
+
+/// Why the text of a listing was not written whole.
+#[derive(Clone, Copy, Debug, PartialEq, Eq)]
+pub enum WriteStop {
+    /// A write failed.
+    Failed,
+    /// Memory was wanting.
+    Memory,
+}
+
+impl From<AllocError> for WriteStop {
+    ghost from_gives = { λ _ e. e ≡ Memory };
+
+    fn from(_error: AllocError) -> WriteStop {
+        WriteStop::Memory
+    }
+}
+
+impl From<SinkFailed> for WriteStop {
+    ghost from_gives = { λ _ e. e ≡ Failed };
+
+    fn from(_error: SinkFailed) -> WriteStop {
+        WriteStop::Failed
+    }
+}
+
+/// Writes the lines of the sets and the line `end`, each line at once.
+pub fn write_listing<S: Sink>(
+    alloc: Global,
+    system: &FaultSystem,
+    sets: &[List<u32>],
+    out: &mut S,
+) -> Result<(), WriteStop>
+    ensures whole { OnOk result (S.taken out.new ≡ with_bytes (S.taken out.old) (listing_text system.now sets.now)) }
+    ensures prefix { OnErr result (TookPrefix (S.taken out.old) (S.taken out.new) (listing_text system.now sets.now)) }
+    ensures failed { IsErrOf result WriteStop.Failed → Rose (S.faults out.old) (S.faults out.new) }
+{
+    for set in sets {
+        let line = set_line(alloc, system, set.items())?;
+        write_all(out, line.as_slice())?;
+    }
+    write_all(out, b"end\n")?;
+    Ok(())
+}
+
+fn set_line(alloc: Global, system: &FaultSystem, set: &[u32]) -> Mem<Vec<u8>>
+    ensures { IfOk result (λ line. line.items ≡ set_line system.now set.now) }
+{
+    let mut line = Vec::new(alloc);
+    let mut buffer = Buffer::new();
+    line.extend_from_slice(buffer.format(set.len()).as_bytes())?;
+    line.push(b' ')?;
+    push_text(&mut line, system, set)?;
+    line.push(b'\n')?;
+    Ok(line)
+}
+
+fn push_text(line: &mut Vec<u8>, system: &FaultSystem, set: &[u32]) -> Mem<()>
+    ensures { OnOk result (line.new.items ≡ line.old.items ++ set_text system.now set.now) }
+{
+    match set.split_first() {
+        None => line.extend_from_slice(b"none"),
+        Some((first, others)) => {
+            line.extend_from_slice(event_name(system, *first))?;
+            push_others(line, system, others)
+        }
+    }
+}
+
+fn push_others(line: &mut Vec<u8>, system: &FaultSystem, others: &[u32]) -> Mem<()>
+    ensures { OnOk result (line.new.items ≡ line.old.items ++ flat_map (λ event. 43 ∷ event_name system.now event) others.now) }
+{
+    for event in others {
+        line.push(b'+')?;
+        line.extend_from_slice(event_name(system, *event))?;
+    }
+    Ok(())
+}
+
+fn event_name(system: &FaultSystem, number: u32) -> &[u8]
+    ensures { result.now ≡ event_name system.now number }
+{
+    match system.event(number) {
+        Some(event) => event.name.items(),
+        None => &[],
+    }
+}

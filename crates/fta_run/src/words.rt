@@ -1,0 +1,157 @@
+ghost use Rattle.std.specs.Prelude.{◌≡◌, ◌<◌, ◌++◌, ◌∷◌, [], IsTrue, IfOk, IfSome, MatchOption, length, false};
+ghost use Rattle.std.specs.List.{AllByRecursion};
+ghost use Rattle.aadl_lexer.specs.Form.{IsWord, is_letter, is_letter_or_digit};
+ghost use Rattle.fta_run.specs.Words.{IsCuts, IsRoot, IsPlainWord, follows_well, with_colons};
+ghost use Rattle.aadl_syntax.specs.Name.{folded};
+
+use aadl_syntax::{List, Mem, Name, Root, Word, fold, is_same};
+use std::alloc::Global;
+
+/// The command `cuts`: the minimal cut sets of a target in the model of a root, which stands in files.
+#[derive(Drop)]
+pub struct Cuts<'a> {
+    pub root: Root,
+    /// The name of the fact, folded.
+    pub target: Name,
+    /// The names of the files, at least one.
+    pub files: &'a [Word],
+}
+
+/// The command that the words give, if they give one.
+pub fn command_of<'a>(alloc: Global, words: &'a [Word]) -> Mem<Option<Cuts<'a>>>
+    ensures { IfOk result (λ answer. IfSome answer (λ cuts. IsCuts words.now cuts.root cuts.target cuts.files.now)) }
+{
+    let [name, root, target, files @ ..] = words else {
+        return Ok(None);
+    };
+    if files.is_empty() || !is_same(name.items(), b"cuts") || !are_plain(words) {
+        return Ok(None);
+    }
+    let Some(root) = root_of(alloc, root.items())? else {
+        return Ok(None);
+    };
+    Ok(Some(Cuts {
+        root,
+        target: fold(alloc, target.items())?,
+        files,
+    }))
+}
+
+fn are_plain(words: &[Word]) -> bool
+    ensures { IsTrue result → AllByRecursion IsPlainWord words.now }
+{
+    for word in words {
+        if !is_plain(word.items()) {
+            return false;
+        }
+    }
+    true
+}
+
+fn is_plain(word: &[u8]) -> bool
+    ensures { IsTrue result → IsPlainWord word.now }
+{
+    match word {
+        [] => false,
+        [first, ..] => *first != b'-' && std::str::from_utf8(word).is_ok(),
+    }
+}
+
+/// The root that a word stands for, if it does.
+fn root_of(alloc: Global, word: &[u8]) -> Mem<Option<Root>>
+    ensures { IfOk result (λ answer. IfSome answer (λ root. IsRoot (folded word.now) root)) }
+{
+    let text = fold(alloc, word)?;
+    let (front, item) = split_once(text.items(), b".");
+    let Some(names) = names_of(alloc, front)? else {
+        return Ok(None);
+    };
+    if names.items().len() < 2 {
+        return Ok(None);
+    }
+    match item {
+        None => Ok(Some(Root { names, item: None })),
+        Some(item) if is_identifier(item) => Ok(Some(Root {
+            names,
+            item: Some(name_of(alloc, item)?),
+        })),
+        Some(_) => Ok(None),
+    }
+}
+
+/// The identifiers of a text that has `::` between them, if it has that form.
+fn names_of(alloc: Global, text: &[u8]) -> Mem<Option<List<Name>>>
+    ensures { IfOk result (λ answer. IfSome answer (λ names. (text.now ≡ with_colons names) × AllByRecursion IsWord names)) }
+{
+    let mut names = List::new(alloc);
+    let mut rest = text;
+    loop {
+        let (name, more) = split_once(rest, b"::");
+        if !is_identifier(name) {
+            return Ok(None);
+        }
+        names.push(name_of(alloc, name)?)?;
+        match more {
+            Some(more) => rest = more,
+            None => return Ok(Some(names)),
+        }
+    }
+}
+
+fn name_of(alloc: Global, bytes: &[u8]) -> Mem<Name>
+    ensures { IfOk result (λ name. name ≡ bytes.now) }
+{
+    List::of(Vec::from_slice(alloc, bytes)?)
+}
+
+/// What stands before the first sign in a text and what stands after it; without the sign, the whole text.
+fn split_once<'a>(text: &'a [u8], sign: &[u8]) -> (&'a [u8], Option<&'a [u8]>)
+    requires { 0 < length sign.now }
+    ensures parts { MatchOption result.1 (result.0.now ≡ text.now) (λ after. text.now ≡ result.0.now ++ (sign.now ++ after.now)) }
+    ensures shorter { IfSome result.1 (λ after. length after.now < length text.now) }
+{
+    for at in 0..text.len() {
+        if text[at..].starts_with(sign) {
+            return (&text[..at], Some(&text[at + sign.len()..]));
+        }
+    }
+    (text, None)
+}
+
+/// Whether a text is a letter, and then letters and digits, each perhaps after one `_`.
+fn is_identifier(text: &[u8]) -> bool
+    ensures { IsTrue result → IsWord text.now }
+{
+    match text.split_first() {
+        None => false,
+        Some((first, others)) => is_letter(*first) && follows_well(others),
+    }
+}
+
+fn follows_well(bytes: &[u8]) -> bool
+    ensures { result ≡ follows_well false bytes.now }
+{
+    let mut waiting = false;
+    for byte in bytes {
+        if is_letter_or_digit(*byte) {
+            waiting = false;
+        } else if *byte == b'_' && !waiting {
+            waiting = true;
+        } else {
+            return false;
+        }
+    }
+    !waiting
+}
+
+fn is_letter(byte: u8) -> bool
+    ensures { result ≡ is_letter byte }
+{
+    (byte >= 65 && byte <= 90) || (byte >= 97 && byte <= 122)
+}
+
+fn is_letter_or_digit(byte: u8) -> bool
+    ensures { result ≡ is_letter_or_digit byte }
+{
+    is_letter(byte) || (byte >= 48 && byte <= 57)
+}
