@@ -27,6 +27,8 @@ took_front t u front back text e f =
 
 -- the front of a text was written, and then a front of the piece that follows it
 pub took_more : (t u v : Option (List ℕ)) (front piece back text : List ℕ) → text ≡ front ++ (piece ++ back) → u ≡ with_bytes t front → TookPrefix u v piece → TookPrefix t v text
-took_more t u v front piece back text e f (count, fits, g) =
-    (length front + count, omega (arith, ap length e, length-append front (piece ++ back), length-append piece back),
-     wrote_both t u v front (take count piece) f g ∙ ap (with_bytes t) (sym (ap (take (length front + count)) e ∙ take-append-add front (piece ++ back) count ∙ ap (λ p. front ++ p) (take-append-le count piece back fits))))
+took_more t u v front piece back text e f (count, fits, g) = (
+  length front + count,
+  omega (arith, ap length e, length-append front (piece ++ back), length-append piece back),
+  wrote_both t u v front (take count piece) f g ∙ ap (with_bytes t) (sym (ap (take (length front + count)) e ∙ take-append-add front (piece ++ back) count ∙ ap (λ p. front ++ p) (take-append-le count piece back fits))),
+)
