@@ -1,10 +1,12 @@
 -- From what was read and written to the text of the command.
-use Rattle.std.proofs.Common.{◌≡◌, ℕ, ◌<◌, ◌≤◌, List, [], ◌∷◌, length, get_or, take, Option, Some, None, IsSome, IfSome, sym, ap, ◌∙◌, subst, arith, length-take}
+use Rattle.std.proofs.Common.{◌≡◌, ℕ, ◌<◌, ◌≤◌, List, [], ◌∷◌, length, get_or, take, Option, Some, None, IsSome, IfSome, sym, ap, ◌∙◌, subst, arith, length-take, inl, inr}
 use Rattle.std.proofs.lemmas.List.{take_all}
 use Rattle.std.proofs.lemmas.Bool.{false≢true}
 use Rattle.aadl_syntax.specs.declared.name.Root.{Root}
 use Rattle.fta_run.specs.Words.{IsCuts}
-use Rattle.fta_run.specs.Output.{AllTold, IsListingText, IsOutput}
+use Rattle.fta_run.specs.declared.status.Status.{Status}
+use Rattle.fta_run.specs.declared.status.Status.TheVariants.{Done, Usage, ReadFault, WriteFault, Memory, NotYet}
+use Rattle.fta_run.specs.Output.{AllTold, IsListingText, IsOutput, Took}
 
 -- a list of one item
 pub one_item : {A : Type 0} (xs : List A) (x : A) → 1 ≤ length xs → length xs < 2 → x ≡ get_or xs 0 x → xs ≡ x ∷ []
@@ -31,6 +33,15 @@ answered words contents root target files file bytes text command one front told
       file = file;
       command = cuts;
       bytes = bytes;
-      bytes_are = told_bytes (contents file) bytes is_told front listing.form_is.short;
+      bytes_are = told_bytes (contents file) bytes is_told front listing.asked.form_is.short;
       listing = listing;
     }
+
+-- what a sink took, where the text is known to be of a further sort
+pub took_as : (P Q : List ℕ → Type 0) → ((text : List ℕ) → P text → Q text) → (status : Status) (before after : Option (List ℕ)) → Took P status before after → Took Q status before after
+took_as P Q f Done before after took = (took.0, f took.0 took.1, took.2)
+took_as P Q f WriteFault before after took = (took.0, f took.0 took.1, took.2)
+took_as P Q f Memory before after took = elim took [ inl same ↦ inl same | inr front ↦ inr (front.0, f front.0 front.1, front.2) ]
+took_as P Q f Usage before after took = took
+took_as P Q f (ReadFault file) before after took = took
+took_as P Q f NotYet before after took = took

@@ -4,3 +4,4 @@ mod Lines
 mod MadeSystem
 mod NameLists
 mod NamesIn
+mod OneText

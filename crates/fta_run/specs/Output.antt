@@ -1,5 +1,5 @@
 -- The text of a command, from the bytes of the words and of the file.
-use Rattle.std.specs.Prelude.{◌≡◌, ◌≤◌, ℕ, List, [], ◌∷◌, drop, length, Option, None, Some, IsSome, slice_get}
+use Rattle.std.specs.Prelude.{◌≡◌, ◌≤◌, ◌⊎◌, ℕ, List, [], ◌∷◌, drop, length, Option, None, Some, IsSome, slice_get}
 use Rattle.std.specs.List.{AllByRecursion}
 use Rattle.aadl_syntax.specs.declared.name.Root.{Root}
 use Rattle.aadl_syntax.specs.declared.token.Token.{Token}
@@ -8,7 +8,9 @@ use Rattle.grammar_rules.specs.Rules.{Reads}
 use Rattle.fault_system.specs.Systems.{System}
 use Rattle.fault_system.specs.Listings.{IsListing}
 use Rattle.fault_system.specs.declared.formula.FactInfo.{FactInfo}
-use Rattle.fta_outside.specs.Outside.{with_bytes}
+use Rattle.fta_outside.specs.Outside.{Rose, TookPrefix, with_bytes}
+use Rattle.fta_run.specs.declared.status.Status.{Status}
+use Rattle.fta_run.specs.declared.status.Status.TheVariants.{Done, Usage, ReadFault, WriteFault, Memory, NotYet}
 use Rattle.fta_run.specs.declared.form.FirstForm.{FirstForm}
 use Rattle.fta_run.specs.Productions.{first_form}
 use Rattle.fta_run.specs.Served.{IsServed}
@@ -35,17 +37,23 @@ pub record IsFactNamed (system : System) (number : ℕ) (name : List ℕ) : Type
   pub there : slice_get system.facts number ≡ Some fact
   pub named : fact.name ≡ name
 
--- The text of the command `cuts` for a root and a target in a file of these bytes: the listing of the fact that has the
--- target's name, in the system of the text's machine.
-pub record IsListingText (root : Root) (target bytes text : List ℕ) : Type 0 where
+-- What the words ask of the text of these bytes: the system of its machine, whose root they name, and the fact that has the target's name.
+pub record IsAskedOf (root : Root) (target bytes : List ℕ) (system : System) (number : ℕ) : Type 0 where
   pub form : FirstForm
   pub form_is : IsFirstForm bytes form
   pub root_is : IsRootOf form root
+  pub system_is : system ≡ system_of form.machine
+  pub number_is : IsFactNamed system number target
+
+-- The text of the command `cuts` for a root and a target in a file of these bytes: the listing of the fact that has the
+-- target's name, in the system of the text's machine.
+pub record IsListingText (root : Root) (target bytes text : List ℕ) : Type 0 where
+  pub system : System
   pub number : ℕ
-  pub number_is : IsFactNamed (system_of form.machine) number target
+  pub asked : IsAskedOf root target bytes system number
   pub sets : List (List ℕ)
-  pub sets_are : IsListing (system_of form.machine) number None sets
-  pub text_is : text ≡ listing_text (system_of form.machine) sets
+  pub sets_are : IsListing system number None sets
+  pub text_is : text ≡ listing_text system sets
 
 -- The text of the command that the words give, on the contents of the file that they name.
 pub record IsOutput (words : List (List ℕ)) (contents : List ℕ → Option (List ℕ)) (text : List ℕ) : Type 0 where
@@ -61,6 +69,34 @@ pub record IsOutput (words : List (List ℕ)) (contents : List ℕ → Option (L
 abbrev pub AllTold : List (List ℕ) → (List ℕ → Option (List ℕ)) → Type 0
 AllTold words contents = AllByRecursion (λ file. IsSome (contents file)) (drop 3 words)
 
--- The sink took the text of the command after what it took before, where that is told.
-abbrev pub TookOutput : List (List ℕ) → (List ℕ → Option (List ℕ)) → Option (List ℕ) → Option (List ℕ) → Type 0
-TookOutput words contents before after = (text : List ℕ) × IsOutput words contents text × (after ≡ with_bytes before text)
+-- A sink took a text of this sort after what it took before.
+abbrev pub TookText : (List ℕ → Type 0) → Option (List ℕ) → Option (List ℕ) → Type 0
+TookText IsText before after = (text : List ℕ) × IsText text × (after ≡ with_bytes before text)
+
+-- A sink took some front of a text of this sort.
+abbrev pub TookFront : (List ℕ → Type 0) → Option (List ℕ) → Option (List ℕ) → Type 0
+TookFront IsText before after = (text : List ℕ) × IsText text × TookPrefix before after text
+
+-- What a sink took where a run ended so, if the command's text is of this sort: under Done the text, after a fault or
+-- want of memory a front of it, and else nothing.
+abbrev pub Took : (List ℕ → Type 0) → Status → Option (List ℕ) → Option (List ℕ) → Type 0
+Took IsText Done before after = TookText IsText before after
+Took IsText WriteFault before after = TookFront IsText before after
+Took IsText Memory before after = (after ≡ before) ⊎ TookFront IsText before after
+Took IsText Usage before after = after ≡ before
+Took IsText (ReadFault file) before after = after ≡ before
+Took IsText NotYet before after = after ≡ before
+
+-- The same without the sort of the text, which is known only where the files tell their contents.
+abbrev pub TookNothing : Status → Option (List ℕ) → Option (List ℕ) → Type 0
+TookNothing Usage before after = after ≡ before
+TookNothing (ReadFault file) before after = after ≡ before
+TookNothing NotYet before after = after ≡ before
+TookNothing _ before after = Unit {0}
+
+-- A fault comes only where its count rose: that of the name of the file word, or that of the output.
+abbrev pub IsCaused : Status → List (List ℕ) → (List ℕ → ℕ) → (List ℕ → ℕ) → ℕ → ℕ → Type 0
+IsCaused (ReadFault file) words before after out_before out_after =
+    (name : List ℕ) × (slice_get (drop 3 words) file ≡ Some name) × Rose (before name) (after name)
+IsCaused WriteFault words before after out_before out_after = Rose out_before out_after
+IsCaused _ words before after out_before out_after = Unit {0}

@@ -4,8 +4,8 @@ ghost use Rattle.fta_run.specs.Productions.{first_form};
 ghost use Rattle.fault_system.specs.Listings.{IsListing};
 ghost use Rattle.fta_outside.specs.Outside.{with_bytes};
 ghost use Rattle.fta_run.specs.Meaning.{system_of};
-ghost use Rattle.fta_run.specs.Status.{IsFault};
-ghost use Rattle.fta_run.specs.Output.{AllTold, IsFactNamed, IsFirstForm, IsListingText, IsRootOf, TookOutput};
+ghost use Rattle.fta_run.specs.Status.{IsFileFault, IsFormFault, IsWriteEnd};
+ghost use Rattle.fta_run.specs.Output.{AllTold, IsAskedOf, IsCaused, IsFactNamed, IsFirstForm, IsListingText, IsOutput, IsRootOf, Took, TookNothing};
 
 use crate::form::FirstForm;
 use crate::meaning::system_of;
@@ -35,39 +35,32 @@ pub fn run<F: Files, S: Sink, E: Sink>(
     out: &mut S,
     err: &mut E,
 ) -> Status
-    // Done: where the files tell their contents, `out` took the text of the command on them.
-    ensures output { result ≡ Status.Done → AllTold words.now (F.contents files.old) → TookOutput words.now (F.contents files.old) (S.taken out.old) (S.taken out.new) }
+    // Where the files tell their contents, `out` took the text of the command on them under Done, and at most a front of it else.
+    ensures output { AllTold words.now (F.contents files.old) → Took (IsOutput words.now (F.contents files.old)) result (S.taken out.old) (S.taken out.new) }
+    // Under Usage, ReadFault and NotYet `out` took nothing, whatever the files tell.
+    ensures nothing { TookNothing result (S.taken out.old) (S.taken out.new) }
+    // A fault comes only where its count rose.
+    ensures faults { IsCaused result words.now (F.faults files.old) (F.faults files.new) (S.faults out.old) (S.faults out.new) }
     // Nothing is written to `err` yet.
     ensures no_line { E.taken err.new ≡ E.taken err.old }
 {
-    match answer(alloc, words, files, out) {
-        Ok(()) => Status::Done,
+    let cuts = match command_of(alloc, words) {
+        Ok(Some(cuts)) => cuts,
+        Ok(None) => return Status::Usage,
+        Err(_) => return Status::Memory,
+    };
+    let [file] = cuts.files else {
+        return Status::NotYet;
+    };
+    match read_file(alloc, files, file) {
+        Ok(bytes) => write_cuts(alloc, &cuts, bytes.as_slice(), out),
         Err(status) => status,
     }
 }
 
-fn answer<F: Files, S: Sink>(
-    alloc: Global,
-    words: &[Word],
-    files: &mut F,
-    out: &mut S,
-) -> Result<(), Status>
-    ensures fault { IfErr result IsFault }
-    ensures output { OnOk result (AllTold words.now (F.contents files.old) → TookOutput words.now (F.contents files.old) (S.taken out.old) (S.taken out.new)) }
-{
-    let Some(cuts) = command_of(alloc, words)? else {
-        return Err(Status::Usage);
-    };
-    let [file] = cuts.files else {
-        return Err(Status::NotYet);
-    };
-    let bytes = read_file(alloc, files, file)?;
-    write_cuts(alloc, &cuts, bytes.as_slice(), out)
-}
-
 fn read_file<F: Files>(alloc: Global, files: &mut F, file: &Word) -> Result<Vec<u8>, Status>
-    ensures fault { IfErr result IsFault }
     ensures front { IfOk result (λ bytes. IfSome (F.contents files.old file.now) (λ whole. bytes.items ≡ take 4194305 whole)) }
+    ensures fault { IfErr result (IsFileFault (F.faults files.old file.now) (F.faults files.new file.now)) }
 {
     match files.read(alloc, file, MOST_BYTES + 1) {
         Ok(bytes) => Ok(bytes),
@@ -76,29 +69,44 @@ fn read_file<F: Files>(alloc: Global, files: &mut F, file: &Word) -> Result<Vec<
     }
 }
 
-fn write_cuts<S: Sink>(alloc: Global, cuts: &Cuts, bytes: &[u8], out: &mut S) -> Result<(), Status>
-    ensures fault { IfErr result IsFault }
-    ensures text { OnOk result ((text : List ℕ) × IsListingText cuts.now.root cuts.now.target bytes.now text × (S.taken out.new ≡ with_bytes (S.taken out.old) text)) }
+// Writes the listing, and says how that ended.
+fn write_cuts<S: Sink>(alloc: Global, cuts: &Cuts, bytes: &[u8], out: &mut S) -> Status
+    ensures took { Took (IsListingText cuts.now.root cuts.now.target bytes.now) result (S.taken out.old) (S.taken out.new) }
+    ensures fault { IsWriteEnd (S.faults out.old) (S.faults out.new) result }
+{
+    let (system, target) = match system_and_target(alloc, cuts, bytes) {
+        Ok(found) => found,
+        Err(status) => return status,
+    };
+    let Ok(sets) = plain_listing(alloc, &system, target) else {
+        return Status::Memory;
+    };
+    match write_listing(alloc, &system, sets.items(), out) {
+        Ok(()) => Status::Done,
+        Err(WriteStop::Failed) => Status::WriteFault,
+        Err(WriteStop::Memory) => Status::Memory,
+    }
+}
+
+// The system of the root that the words name, and the number of the target in it.
+fn system_and_target(alloc: Global, cuts: &Cuts, bytes: &[u8]) -> Result<(FaultSystem, u32), Status>
+    ensures found { IfOk result (λ found. IsAskedOf cuts.now.root cuts.now.target bytes.now found.0 found.1) }
+    ensures fault { IfErr result IsFormFault }
 {
     let form = first_form_of(alloc, bytes)?;
     if !is_root_of(&form, &cuts.root) {
         return Err(Status::NotYet);
     }
     let system = system_of(alloc, &form.machine)?;
-    let Some(target) = find_target(&system, cuts.target.items()) else {
-        return Err(Status::NotYet);
-    };
-    let sets = plain_listing(alloc, &system, target)?;
-    match write_listing(alloc, &system, sets.items(), out) {
-        Ok(()) => Ok(()),
-        Err(WriteStop::Failed) => Err(Status::WriteFault),
-        Err(WriteStop::Memory) => Err(Status::Memory),
+    match find_target(&system, cuts.target.items()) {
+        Some(target) => Ok((system, target)),
+        None => Err(Status::NotYet),
     }
 }
 
 fn first_form_of(alloc: Global, bytes: &[u8]) -> Result<FirstForm, Status>
-    ensures fault { IfErr result IsFault }
     ensures form { IfOk result (λ form. IsFirstForm bytes.now form) }
+    ensures fault { IfErr result IsFormFault }
 {
     if bytes.len() > MOST_BYTES {
         return Err(Status::NotYet);
@@ -116,7 +124,7 @@ fn first_form_of(alloc: Global, bytes: &[u8]) -> Result<FirstForm, Status>
 }
 
 fn read_form(alloc: Global, tokens: &[Token]) -> Result<FirstForm, Status>
-    ensures fault { IfErr result IsFault }
+    ensures fault { IfErr result IsFormFault }
     ensures form { IfOk result (λ form. Reads 0 first_form tokens.now form []) }
 {
     match read_text::<FirstFormText>(alloc, 0, tokens) {

@@ -4,6 +4,7 @@
 mod command;
 mod conditions;
 mod form;
+mod laws;
 mod meaning;
 mod reading;
 mod served;
@@ -12,6 +13,7 @@ mod text;
 mod words;
 
 pub use command::run;
+pub use laws::one_text;
 pub use status::Status;
 
 #[cfg(test)]

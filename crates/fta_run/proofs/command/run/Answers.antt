@@ -1,6 +1,17 @@
-use Rattle.std.proofs.Common.{subst, rules}
-use Rattle.fta_run.specs.Status.{IsFault}
+use Rattle.std.proofs.Common.{◌≡◌, ◌∷◌, [], List, IfSome, take, sym, subst, arith, rules}
+use Rattle.fta_run.specs.Words.{IsCuts}
+use Rattle.fta_run.specs.Output.{IsListingText, IsOutput}
+use Rattle.fta_run.proofs.Answering.{one_item, answered, took_as}
 use Rattle.fta_run.proofs.command.run.Goals as goal
 
-pub returns-in-Err-clause-output : goal.returns-in-Err-clause-output
-returns-in-Err-clause-output g c is_done told = let fault : IsFault c.in-Err.status = search rules in absurd (subst IsFault is_done fault)
+pub returns-in-Ok-clause-output : goal.returns-in-Ok-clause-output
+returns-in-Ok-clause-output g c told =
+    let cuts = c.in-Ok-Some.cuts in
+    let contents = g.F.Files.contents c.args.files.now in
+    let command : IsCuts c.args.words.now cuts.root cuts.target cuts.files.now = search rules in
+    let one : cuts.files.now ≡ c.file-item.result ∷ [] = one_item cuts.files.now c.file-item.result (omega arith) (omega arith) c.file-item.is in
+    let front : IfSome (contents c.file-item.result) (λ whole. c.as_slice.result.now ≡ take 4194305 whole) =
+    subst (λ bytes. IfSome (contents c.file-item.result) (λ whole. bytes ≡ take 4194305 whole)) (sym c.as_slice.ensures.value) c.in-Ok.ensures.front in
+    took_as (IsListingText cuts.root cuts.target c.as_slice.result.now) (IsOutput c.args.words.now contents)
+    (λ text listing. answered c.args.words.now contents cuts.root cuts.target cuts.files.now c.file-item.result c.as_slice.result.now text command one front told listing)
+    c.write_cuts.result _ _ c.write_cuts.ensures.took
