@@ -10,6 +10,7 @@ mod form;
 mod laws;
 mod lexer;
 
+pub use byte::{is_letter, is_letter_or_digit};
 pub use laws::{one_fault, one_list};
 pub use lexer::tokens;
 

@@ -45,3 +45,18 @@ took_as P Q f Memory before after took = elim took [ inl same ↦ inl same | inr
 took_as P Q f Usage before after took = took
 took_as P Q f (ReadFault file) before after took = took
 took_as P Q f NotYet before after took = took
+
+-- what was read of a file that is not too long is the file
+pub read_bytes : (contents : Option (List ℕ)) (bytes whole : List ℕ) → IfSome contents (λ all. bytes ≡ take 4194305 all) → contents ≡ Some whole → length whole ≤ 4194304 → bytes ≡ whole
+read_bytes contents bytes whole front is short =
+    let read : bytes ≡ take 4194305 whole = subst (λ o. IfSome o (λ all. bytes ≡ take 4194305 all)) is front in
+    let fits : length whole ≤ 4194305 = omega arith in
+    read ∙ take_all 4194305 whole fits
+
+-- the listing of a command on the bytes that were read
+pub listing_of : (words : List (List ℕ)) (contents : List ℕ → Option (List ℕ)) (root : Root) (target : List ℕ) (files : List (List ℕ)) (file bytes text : List ℕ) (output : IsOutput words contents text)
+    → (root ≡ output.root) × (target ≡ output.target) × (files ≡ output.file ∷ []) → files ≡ file ∷ [] → IfSome (contents file) (λ whole. bytes ≡ take 4194305 whole) → IsListingText root target bytes text
+listing_of words contents root target files file bytes text output same one front =
+    let file_is : file ≡ output.file = cc (one, same.2) in
+    let read : bytes ≡ output.bytes = read_bytes (contents file) bytes output.bytes front (ap contents file_is ∙ output.bytes_are) output.listing.asked.form_is.short in
+    subst (λ b. IsListingText root target b text) (sym read) (subst (λ t. IsListingText root t output.bytes text) (sym same.1) (subst (λ r. IsListingText r output.target output.bytes text) (sym same.0) output.listing))

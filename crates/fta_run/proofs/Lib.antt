@@ -5,3 +5,5 @@ mod MadeSystem
 mod NameLists
 mod NamesIn
 mod OneText
+mod Room
+mod Roots

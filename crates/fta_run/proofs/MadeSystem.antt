@@ -23,15 +23,7 @@ use Rattle.fta_run.specs.Names.{is_among, place_of}
 use Rattle.fta_run.specs.Meaning.{formula_of, formula_step, event_names, state_names, step_of, fact_of, event_of, system_of}
 use Rattle.fta_run.specs.Served.{names_in, names_step, IsKnown, IsMachine}
 use Rattle.fta_run.proofs.NameLists.{place_of-lt}
-
--- what holds of each item of two lists holds of the first and of the second
-all_front : {A : Type 0} (P : A → Type 0) (xs ys : List A) → AllByRecursion P (xs ++ ys) → AllByRecursion P xs
-all_front P [] ys h = tt
-all_front P (x ∷ xs) ys h = (h.0, all_front P xs ys h.1)
-
-all_back : {A : Type 0} (P : A → Type 0) (xs ys : List A) → AllByRecursion P (xs ++ ys) → AllByRecursion P ys
-all_back P [] ys h = h
-all_back P (x ∷ xs) ys h = all_back P xs ys h.1
+use Rattle.fta_run.proofs.Room.{all_front, all_back}
 
 both_true : (a b : Bool) → a ≡ true → b ≡ true → (a && b) ≡ true
 both_true true b e f = f

@@ -1,5 +1,5 @@
 -- A command on a file of given bytes has one text.
-use Rattle.std.proofs.Common.{◌≡◌, ◌≢◌, ℕ, ◌<◌, List, [], length, get_or, map, Option, Some, None, slice_get, sym, ap, subst, ◌∙◌, inl, inr, arith}
+use Rattle.std.proofs.Common.{◌≡◌, ℕ, ◌<◌, List, [], ◌∷◌, length, get_or, map, Option, Some, Some, None, sym, ap, subst, ◌∙◌, inl, inr, arith}
 use Rattle.std.proofs.lemmas.Option.{slice_get_within, get_or_from_slice_get}
 use Rattle.std.proofs.lemmas.List.{get_or-map}
 use Rattle.std.proofs.lemmas.Bool.{cases_lt}
@@ -15,8 +15,9 @@ use Rattle.fault_system.proofs.Orders.{one_order}
 use Rattle.fta_run.specs.declared.form.FirstForm.{FirstForm}
 use Rattle.fta_run.specs.Productions.{first_form}
 use Rattle.fta_run.specs.Meaning.{system_of}
-use Rattle.fta_run.specs.Output.{IsFirstForm, IsFactNamed, IsAskedOf, IsListingText}
+use Rattle.fta_run.specs.Output.{IsFirstForm, IsFactNamed, IsListingText, IsOutput}
 use Rattle.fta_run.specs.Text.{listing_text}
+use Rattle.fta_run.proofs.Roots.{one_command}
 use Rattle.fta_run.proofs.MadeSystem.{system_is_one}
 
 one_form : (bytes : List ℕ) (a b : FirstForm) → IsFirstForm bytes a → IsFirstForm bytes b → a ≡ b
@@ -54,7 +55,7 @@ one_listing system target a b one other =
     (λ set i. In-contains set a ((one.exact set).1 ((other.exact set).0 (contains_In set b i))))
 
 -- the words' root and target on these bytes give one text
-pub one_text : (root : Root) (target bytes a b : List ℕ) → IsListingText root target bytes a → IsListingText root target bytes b → a ≡ b
+one_text : (root : Root) (target bytes a b : List ℕ) → IsListingText root target bytes a → IsListingText root target bytes b → a ≡ b
 one_text root target bytes a b h k =
     let form : h.asked.form ≡ k.asked.form = one_form bytes h.asked.form k.asked.form h.asked.form_is k.asked.form_is in
     let system : h.system ≡ k.system = h.asked.system_is ∙ ap (λ f. system_of f.machine) form ∙ sym k.asked.system_is in
@@ -62,3 +63,12 @@ one_text root target bytes a b h k =
     let number : h.number ≡ k.number = one_number k.system h.number k.number target right.facts_named (subst (λ s. IsFactNamed s h.number target) system h.asked.number_is) k.asked.number_is in
     let sets : h.sets ≡ k.sets = one_listing k.system k.number h.sets k.sets (subst (λ n. IsListing k.system n None h.sets) number (subst (λ s. IsListing s h.number None h.sets) system h.sets_are)) k.sets_are in
     h.text_is ∙ ap (λ s. listing_text s h.sets) system ∙ ap (listing_text k.system) sets ∙ sym k.text_is
+
+-- the words and the contents give one text
+pub one_output : (words : List (List ℕ)) (contents : List ℕ → Option (List ℕ)) (a b : List ℕ) → IsOutput words contents a → IsOutput words contents b → a ≡ b
+one_output words contents a b h k =
+    let command = one_command words h.root k.root h.target k.target (h.file ∷ []) (k.file ∷ []) h.command k.command in
+    let file : h.file ≡ k.file = cc (command.2) in
+    let told : Some h.bytes ≡ Some k.bytes = sym h.bytes_are ∙ ap contents file ∙ k.bytes_are in
+    let bytes : h.bytes ≡ k.bytes = cc (told) in
+    one_text k.root k.target k.bytes a b (subst (λ s. IsListingText k.root k.target s a) bytes (subst (λ t. IsListingText k.root t h.bytes a) command.1 (subst (λ r. IsListingText r h.target h.bytes a) command.0 h.listing))) k.listing

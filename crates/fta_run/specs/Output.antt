@@ -100,3 +100,15 @@ IsCaused (ReadFault file) words before after out_before out_after =
     (name : List ℕ) × (slice_get (drop 3 words) file ≡ Some name) × Rose (before name) (after name)
 IsCaused WriteFault words before after out_before out_after = Rose out_before out_after
 IsCaused _ words before after out_before out_after = Unit {0}
+
+-- Usage comes exactly where the words give no command; want of memory may come at any point.
+abbrev pub AnswersWords : Status → List (List ℕ) → Type 0
+AnswersWords Usage words = (root : Root) (target : List ℕ) (files : List (List ℕ)) → IsCuts words root target files → ⊥
+AnswersWords Memory words = Unit {0}
+AnswersWords _ words = (root : Root) × (target : List ℕ) × (files : List (List ℕ)) × IsCuts words root target files
+
+-- the statuses that may come where the words and the contents give a text
+abbrev pub MayAnswer : Status → Type 0
+MayAnswer Usage = ⊥
+MayAnswer NotYet = ⊥
+MayAnswer _ = Unit {0}

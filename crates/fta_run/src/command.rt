@@ -1,11 +1,13 @@
-ghost use Rattle.std.specs.Prelude.{◌≡◌, ◌<◌, ◌≤◌, ◌∷◌, [], None, ℕ, List, IfErr, IfOk, IfSome, OnOk, length, take, true};
+ghost use Rattle.std.specs.Prelude.{◌≡◌, ◌<◌, ◌≤◌, ◌∷◌, [], None, ◌↔◌, ℕ, List, IfErr, IfNone, IfOk, IfSome, IsTrue, MatchResult, OnOk, length, take, true};
 ghost use Rattle.grammar_rules.specs.Rules.{Reads};
 ghost use Rattle.fta_run.specs.Productions.{first_form};
 ghost use Rattle.fault_system.specs.Listings.{IsListing};
+ghost use Rattle.fault_system.specs.Systems.{System};
+ghost use Rattle.fta_run.specs.declared.form.FirstForm.{FirstForm};
 ghost use Rattle.fta_outside.specs.Outside.{with_bytes};
 ghost use Rattle.fta_run.specs.Meaning.{system_of};
 ghost use Rattle.fta_run.specs.Status.{IsFileFault, IsFormFault, IsWriteEnd};
-ghost use Rattle.fta_run.specs.Output.{AllTold, IsAskedOf, IsCaused, IsFactNamed, IsFirstForm, IsListingText, IsOutput, IsRootOf, Took, TookNothing};
+ghost use Rattle.fta_run.specs.Output.{AllTold, AnswersWords, IsAskedOf, IsCaused, IsFactNamed, IsFirstForm, IsListingText, IsOutput, IsRootOf, MayAnswer, Took, TookNothing};
 
 use crate::form::FirstForm;
 use crate::meaning::system_of;
@@ -41,6 +43,10 @@ pub fn run<F: Files, S: Sink, E: Sink>(
     ensures nothing { TookNothing result (S.taken out.old) (S.taken out.new) }
     // A fault comes only where its count rose.
     ensures faults { IsCaused result words.now (F.faults files.old) (F.faults files.new) (S.faults out.old) (S.faults out.new) }
+    // Usage comes exactly where the words give no command.
+    ensures words { AnswersWords result words.now }
+    // Where the words and the contents give a text, neither Usage nor NotYet comes.
+    ensures complete { (text : List ℕ) → IsOutput words.now (F.contents files.old) text → MayAnswer result }
     // Nothing is written to `err` yet.
     ensures no_line { E.taken err.new ≡ E.taken err.old }
 {
@@ -73,6 +79,7 @@ fn read_file<F: Files>(alloc: Global, files: &mut F, file: &Word) -> Result<Vec<
 fn write_cuts<S: Sink>(alloc: Global, cuts: &Cuts, bytes: &[u8], out: &mut S) -> Status
     ensures took { Took (IsListingText cuts.now.root cuts.now.target bytes.now) result (S.taken out.old) (S.taken out.new) }
     ensures fault { IsWriteEnd (S.faults out.old) (S.faults out.new) result }
+    ensures only { (text : List ℕ) → IsListingText cuts.now.root cuts.now.target bytes.now text → MayAnswer result }
 {
     let (system, target) = match system_and_target(alloc, cuts, bytes) {
         Ok(found) => found,
@@ -91,6 +98,7 @@ fn write_cuts<S: Sink>(alloc: Global, cuts: &Cuts, bytes: &[u8], out: &mut S) ->
 // The system of the root that the words name, and the number of the target in it.
 fn system_and_target(alloc: Global, cuts: &Cuts, bytes: &[u8]) -> Result<(FaultSystem, u32), Status>
     ensures found { IfOk result (λ found. IsAskedOf cuts.now.root cuts.now.target bytes.now found.0 found.1) }
+    ensures only { (system : System) (number : ℕ) → IsAskedOf cuts.now.root cuts.now.target bytes.now system number → IfErr result (λ status. status ≡ Status.Memory) }
     ensures fault { IfErr result IsFormFault }
 {
     let form = first_form_of(alloc, bytes)?;
@@ -106,6 +114,7 @@ fn system_and_target(alloc: Global, cuts: &Cuts, bytes: &[u8]) -> Result<(FaultS
 
 fn first_form_of(alloc: Global, bytes: &[u8]) -> Result<FirstForm, Status>
     ensures form { IfOk result (λ form. IsFirstForm bytes.now form) }
+    ensures only { (form : FirstForm) → IsFirstForm bytes.now form → MatchResult result (λ found. found ≡ form) (λ status. status ≡ Status.Memory) }
     ensures fault { IfErr result IsFormFault }
 {
     if bytes.len() > MOST_BYTES {
@@ -126,6 +135,7 @@ fn first_form_of(alloc: Global, bytes: &[u8]) -> Result<FirstForm, Status>
 fn read_form(alloc: Global, tokens: &[Token]) -> Result<FirstForm, Status>
     ensures fault { IfErr result IsFormFault }
     ensures form { IfOk result (λ form. Reads 0 first_form tokens.now form []) }
+    ensures only { (form : FirstForm) → Reads 0 first_form tokens.now form [] → MatchResult result (λ found. found ≡ form) (λ status. status ≡ Status.Memory) }
 {
     match read_text::<FirstFormText>(alloc, 0, tokens) {
         Ok(form) => Ok(form),
@@ -135,7 +145,7 @@ fn read_form(alloc: Global, tokens: &[Token]) -> Result<FirstForm, Status>
 }
 
 fn is_root_of(form: &FirstForm, root: &Root) -> bool
-    ensures { result ≡ true → IsRootOf form.now root.now }
+    ensures { IsTrue result ↔ IsRootOf form.now root.now }
 {
     match (root.names.items(), &root.item) {
         ([library, system], None) => {
@@ -147,14 +157,22 @@ fn is_root_of(form: &FirstForm, root: &Root) -> bool
 }
 
 fn find_target(system: &FaultSystem, name: &[u8]) -> Option<u32>
-    ensures { IfSome result (λ number. IsFactNamed system.now number name.now) }
+    ensures found { IfSome result (λ number. IsFactNamed system.now number name.now) }
+    ensures none { IfNone result ((number : ℕ) → IsFactNamed system.now number name.now → ⊥) }
 {
     for number in 0..system.facts() {
-        if let Some(fact) = system.fact(number) {
-            if is_same(fact.name.items(), name) {
-                return Some(number);
-            }
+        if has_name(system, number, name) {
+            return Some(number);
         }
     }
     None
+}
+
+fn has_name(system: &FaultSystem, number: u32, name: &[u8]) -> bool
+    ensures { IsTrue result ↔ IsFactNamed system.now number name.now }
+{
+    match system.fact(number) {
+        Some(fact) => is_same(fact.name.items(), name),
+        None => false,
+    }
 }

@@ -1,10 +1,9 @@
 //! Laws of the definitions alone: the contract of each function is the law, and its body is empty.
 
-ghost use Rattle.std.specs.Prelude.{◌≡◌, ℕ, List};
-ghost use Rattle.aadl_syntax.specs.declared.name.Root.{Root};
-ghost use Rattle.fta_run.specs.Output.{IsListingText};
+ghost use Rattle.std.specs.Prelude.{◌≡◌, ℕ, List, Option};
+ghost use Rattle.fta_run.specs.Output.{IsOutput};
 
-/// A root and a target in a file of given bytes have one text at most.
-pub fn one_text()
-    ensures { (root : Root) (target bytes a b : List ℕ) → IsListingText root target bytes a → IsListingText root target bytes b → a ≡ b }
+/// The words and the contents of the files give one text at most.
+pub fn one_output()
+    ensures { (words : List (List ℕ)) (contents : List ℕ → Option (List ℕ)) (a b : List ℕ) → IsOutput words contents a → IsOutput words contents b → a ≡ b }
 {}

@@ -13,7 +13,7 @@ mod text;
 mod words;
 
 pub use command::run;
-pub use laws::one_text;
+pub use laws::one_output;
 pub use status::Status;
 
 #[cfg(test)]

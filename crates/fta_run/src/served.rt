@@ -1,4 +1,4 @@
-ghost use Rattle.std.specs.Prelude.{◌≡◌, ◌+◌, ◌≤◌, IfSome, true, length, map, sum_by};
+ghost use Rattle.std.specs.Prelude.{◌≡◌, ◌↔◌, ◌+◌, ◌≤◌, IsTrue, MatchOption, true, length, map, sum_by};
 ghost use Rattle.std.specs.List.{AllByRecursion, flat_map};
 ghost use Rattle.fta_run.specs.Names.{is_among};
 ghost use Rattle.fta_run.specs.Served.{IsKnown, IsMachine, IsServed, IsSmall, names_in};
@@ -15,7 +15,7 @@ const MOST_NAMES: usize = 64;
 
 /// Whether a text of the first form is served.
 pub fn is_served(form: &FirstForm) -> bool
-    ensures { result ≡ true → IsServed form.now }
+    ensures { IsTrue result ↔ IsServed form.now }
 {
     is_same(form.used.package_name.items(), form.package_name.items())
         && is_same(form.used.machine.items(), form.machine.name.items())
@@ -23,8 +23,7 @@ pub fn is_served(form: &FirstForm) -> bool
 }
 
 fn is_small_machine(machine: &Machine) -> bool
-    ensures right { result ≡ true → IsMachine machine.now }
-    ensures small { result ≡ true → IsSmall machine.now }
+    ensures { IsTrue result ↔ (IsMachine machine.now × IsSmall machine.now) }
 {
     machine.events.items().len() <= MOST_OF_EACH
         && machine.states.items().len() <= MOST_OF_EACH
@@ -34,8 +33,9 @@ fn is_small_machine(machine: &Machine) -> bool
 }
 
 fn are_known(machine: &Machine) -> bool
-    ensures known { result ≡ true → AllByRecursion (IsKnown machine.now) machine.now.transitions }
-    ensures few { result ≡ true → sum_by (λ transition. length (names_in transition.condition)) machine.now.transitions ≤ 64 }
+    ensures { IsTrue result
+        ↔ (AllByRecursion (IsKnown machine.now) machine.now.transitions
+        × (sum_by (λ transition. length (names_in transition.condition)) machine.now.transitions ≤ 64)) }
 {
     let mut room = MOST_NAMES;
     for transition in machine.transitions.items() {
@@ -49,8 +49,8 @@ fn are_known(machine: &Machine) -> bool
 
 // What is left of the room for names after a transition, if it is known and there is room.
 fn room_after(machine: &Machine, transition: &Transition, room: usize) -> Option<usize>
-    ensures known { IfSome result (λ _. IsKnown machine.now transition.now) }
-    ensures left { IfSome result (λ left. length (names_in transition.now.condition) + left ≡ room) }
+    ensures { MatchOption result (IsKnown machine.now transition.now → length (names_in transition.now.condition) ≤ room → ⊥)
+        (λ left. IsKnown machine.now transition.now × (length (names_in transition.now.condition) + left ≡ room)) }
 {
     let states = machine.states.items();
     if !is_among(states, transition.source.items())
@@ -63,8 +63,8 @@ fn room_after(machine: &Machine, transition: &Transition, room: usize) -> Option
 
 #[cycle(room)]
 fn room_after_condition(events: &[Event], condition: &Condition, room: usize) -> Option<usize>
-    ensures known { IfSome result (λ _. AllByRecursion (λ name. is_among (map (λ event. event.name) events.now) name ≡ true) (names_in condition.now)) }
-    ensures left { IfSome result (λ left. length (names_in condition.now) + left ≡ room) }
+    ensures { MatchOption result (AllByRecursion (λ name. is_among (map (λ event. event.name) events.now) name ≡ true) (names_in condition.now) → length (names_in condition.now) ≤ room → ⊥)
+        (λ left. AllByRecursion (λ name. is_among (map (λ event. event.name) events.now) name ≡ true) (names_in condition.now) × (length (names_in condition.now) + left ≡ room)) }
 {
     match condition {
         Condition::Event(name) if room > 0 && is_among(events, name.items()) => Some(room - 1),
@@ -76,8 +76,8 @@ fn room_after_condition(events: &[Event], condition: &Condition, room: usize) ->
 
 #[cycle(room)]
 fn room_after_parts(events: &[Event], parts: &[Condition], room: usize) -> Option<usize>
-    ensures known { IfSome result (λ _. AllByRecursion (λ name. is_among (map (λ event. event.name) events.now) name ≡ true) (flat_map names_in parts.now)) }
-    ensures left { IfSome result (λ left. length (flat_map names_in parts.now) + left ≡ room) }
+    ensures { MatchOption result (AllByRecursion (λ name. is_among (map (λ event. event.name) events.now) name ≡ true) (flat_map names_in parts.now) → length (flat_map names_in parts.now) ≤ room → ⊥)
+        (λ left. AllByRecursion (λ name. is_among (map (λ event. event.name) events.now) name ≡ true) (flat_map names_in parts.now) × (length (flat_map names_in parts.now) + left ≡ room)) }
 {
     let mut room = room;
     for part in parts {

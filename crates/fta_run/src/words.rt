@@ -1,9 +1,11 @@
-ghost use Rattle.std.specs.Prelude.{◌≡◌, ◌<◌, ◌++◌, ◌∷◌, [], IsTrue, IfOk, IfSome, MatchOption, length, false};
+ghost use Rattle.std.specs.Prelude.{◌≡◌, ◌<◌, ◌++◌, ◌∷◌, [], ◌≤◌, ◌↔◌, ℕ, List, Some, IsSome, IsTrue, IfOk, IfSome, IsSomeAnd, MatchOption, length, false};
 ghost use Rattle.std.specs.List.{AllByRecursion};
 ghost use Rattle.aadl_lexer.specs.Form.{IsWord, is_letter, is_letter_or_digit};
-ghost use Rattle.fta_run.specs.Words.{IsCuts, IsRoot, IsPlainWord, follows_well, with_colons};
+ghost use Rattle.fta_run.specs.Words.{IsCuts, IsRoot, IsPlainWord, AreJoined, follows_well, with_colons};
+ghost use Rattle.aadl_syntax.specs.declared.name.Root.{Root};
 ghost use Rattle.aadl_syntax.specs.Name.{folded};
 
+use aadl_lexer::{is_letter, is_letter_or_digit};
 use aadl_syntax::{List, Mem, Name, Root, Word, fold, is_same};
 use std::alloc::Global;
 
@@ -19,7 +21,8 @@ pub struct Cuts<'a> {
 
 /// The command that the words give, if they give one.
 pub fn command_of<'a>(alloc: Global, words: &'a [Word]) -> Mem<Option<Cuts<'a>>>
-    ensures { IfOk result (λ answer. IfSome answer (λ cuts. IsCuts words.now cuts.root cuts.target cuts.files.now)) }
+    ensures found { IfOk result (λ answer. IfSome answer (λ cuts. IsCuts words.now cuts.root cuts.target cuts.files.now)) }
+    ensures only { (root : Root) (target : List ℕ) (files : List (List ℕ)) → IsCuts words.now root target files → IfOk result (λ answer. IsSomeAnd answer (λ cuts. (cuts.root ≡ root) × (cuts.target ≡ target) × (cuts.files.now ≡ files))) }
 {
     let [name, root, target, files @ ..] = words else {
         return Ok(None);
@@ -38,7 +41,7 @@ pub fn command_of<'a>(alloc: Global, words: &'a [Word]) -> Mem<Option<Cuts<'a>>>
 }
 
 fn are_plain(words: &[Word]) -> bool
-    ensures { IsTrue result → AllByRecursion IsPlainWord words.now }
+    ensures { IsTrue result ↔ AllByRecursion IsPlainWord words.now }
 {
     for word in words {
         if !is_plain(word.items()) {
@@ -49,7 +52,7 @@ fn are_plain(words: &[Word]) -> bool
 }
 
 fn is_plain(word: &[u8]) -> bool
-    ensures { IsTrue result → IsPlainWord word.now }
+    ensures { IsTrue result ↔ IsPlainWord word.now }
 {
     match word {
         [] => false,
@@ -59,7 +62,8 @@ fn is_plain(word: &[u8]) -> bool
 
 /// The root that a word stands for, if it does.
 fn root_of(alloc: Global, word: &[u8]) -> Mem<Option<Root>>
-    ensures { IfOk result (λ answer. IfSome answer (λ root. IsRoot (folded word.now) root)) }
+    ensures found { IfOk result (λ answer. IfSome answer (λ root. IsRoot (folded word.now) root)) }
+    ensures only { (root : Root) → IsRoot (folded word.now) root → IfOk result (λ answer. answer ≡ Some root) }
 {
     let text = fold(alloc, word)?;
     let (front, item) = split_once(text.items(), b".");
@@ -81,7 +85,8 @@ fn root_of(alloc: Global, word: &[u8]) -> Mem<Option<Root>>
 
 /// The identifiers of a text that has `::` between them, if it has that form.
 fn names_of(alloc: Global, text: &[u8]) -> Mem<Option<List<Name>>>
-    ensures { IfOk result (λ answer. IfSome answer (λ names. (text.now ≡ with_colons names) × AllByRecursion IsWord names)) }
+    ensures found { IfOk result (λ answer. IfSome answer (λ names. (text.now ≡ with_colons names) × AllByRecursion IsWord names)) }
+    ensures only { (names : List (List ℕ)) → AreJoined text.now names → IfOk result (λ answer. answer ≡ Some names) }
 {
     let mut names = List::new(alloc);
     let mut rest = text;
@@ -108,6 +113,7 @@ fn name_of(alloc: Global, bytes: &[u8]) -> Mem<Name>
 fn split_once<'a>(text: &'a [u8], sign: &[u8]) -> (&'a [u8], Option<&'a [u8]>)
     requires { 0 < length sign.now }
     ensures parts { MatchOption result.1 (result.0.now ≡ text.now) (λ after. text.now ≡ result.0.now ++ (sign.now ++ after.now)) }
+    ensures first { (front back : List ℕ) → text.now ≡ front ++ (sign.now ++ back) → IsSome result.1 × (length result.0.now ≤ length front) }
     ensures shorter { IfSome result.1 (λ after. length after.now < length text.now) }
 {
     for at in 0..text.len() {
@@ -120,7 +126,7 @@ fn split_once<'a>(text: &'a [u8], sign: &[u8]) -> (&'a [u8], Option<&'a [u8]>)
 
 /// Whether a text is a letter, and then letters and digits, each perhaps after one `_`.
 fn is_identifier(text: &[u8]) -> bool
-    ensures { IsTrue result → IsWord text.now }
+    ensures { IsTrue result ↔ IsWord text.now }
 {
     match text.split_first() {
         None => false,
@@ -142,16 +148,4 @@ fn follows_well(bytes: &[u8]) -> bool
         }
     }
     !waiting
-}
-
-fn is_letter(byte: u8) -> bool
-    ensures { result ≡ is_letter byte }
-{
-    (byte >= 65 && byte <= 90) || (byte >= 97 && byte <= 122)
-}
-
-fn is_letter_or_digit(byte: u8) -> bool
-    ensures { result ≡ is_letter_or_digit byte }
-{
-    is_letter(byte) || (byte >= 48 && byte <= 57)
 }

@@ -1,0 +1,5 @@
+use Rattle.fta_run.proofs.OneText.{one_output}
+use Rattle.fta_run.proofs.laws.one_output.Goals as goal
+
+pub returns : goal.returns
+returns c = one_output
