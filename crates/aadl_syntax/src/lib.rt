@@ -12,3 +12,6 @@ pub use list::List;
 pub use name::{Name, Root, Word, fold, is_same};
 pub use refusal::{Answer, Code, Mem, Place, Refusal, Stop};
 pub use token::{Token, TokenKind};
+
+#[cfg(test)]
+mod tests;

@@ -1,3 +1,5 @@
+ghost use Rattle.std.specs.Prelude.{◌≡◌};
+
 use std::alloc::AllocError;
 
 /// What takes memory answers this: the value, or want of memory.
@@ -12,6 +14,21 @@ pub enum Code {
     OpenString,
     /// An annex that does not end.
     OpenAnnex,
+}
+
+impl Code {
+    ghost use Rattle.aadl_syntax.specs.Refusal.{code_text};
+
+    /// The code and the name, as they are printed.
+    pub fn text(&self) -> &'static str
+        ensures { result.now ≡ code_text self.now }
+    {
+        match self {
+            Code::BadByte => "L1 BadByte",
+            Code::OpenString => "L2 OpenString",
+            Code::OpenAnnex => "L3 OpenAnnex",
+        }
+    }
 }
 
 /// Where a refusal stands: in the words, in a whole file, or at a byte of a file. Files and bytes are numbered from 0.
