@@ -1,4 +1,4 @@
--- What a served text of the first machine gives is a system: its numbers are in range and its names differ.
+-- What the machine of a served text gives is a system: its numbers are in range and its names differ.
 use Rattle.std.proofs.Common.{◌≡◌, ℕ, ◌<◌, ◌&&◌, Bool, true, false, cond, List, [], ◌∷◌, ◌++◌, length, map, filter, codes, refl, sym, ap, ◌∙◌, subst, arith}
 use Rattle.std.specs.List.{AllByRecursion, list_all, flat_map}
 use Rattle.std.proofs.lemmas.Bool.{lt-ltb}

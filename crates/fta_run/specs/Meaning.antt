@@ -1,4 +1,4 @@
--- The facts, the events and the formulas of a text of the first machine.
+-- The facts, the events and the formulas of a text of the first form.
 use Rattle.std.specs.Prelude.{ℕ, if◌then◌else◌, List, [], ◌∷◌, ◌++◌, map, filter, codes}
 use Rattle.aadl_syntax.specs.Name.{is_same_text}
 use Rattle.fault_system.specs.Systems.{System}

@@ -77,8 +77,8 @@ TookText IsText before after = (text : List ℕ) × IsText text × (after ≡ wi
 abbrev pub TookFront : (List ℕ → Type 0) → Option (List ℕ) → Option (List ℕ) → Type 0
 TookFront IsText before after = (text : List ℕ) × IsText text × TookPrefix before after text
 
--- What a sink took where a run ended so, if the command's text is of this sort: under Done the text, after a fault or
--- want of memory a front of it, and else nothing.
+-- What a sink took where a run ended so, if the command's text is of this sort: under Done the text, after a fault of
+-- the output or want of memory a front of it, and else nothing.
 abbrev pub Took : (List ℕ → Type 0) → Status → Option (List ℕ) → Option (List ℕ) → Type 0
 Took IsText Done before after = TookText IsText before after
 Took IsText WriteFault before after = TookFront IsText before after

@@ -13,11 +13,11 @@ use Rattle.fta_run.specs.declared.form.Transition.{Transition}
 use Rattle.fta_run.specs.declared.form.Condition.{Condition}
 use Rattle.fta_run.specs.declared.form.Condition.TheVariants as condition
 
--- the words that the grammar of core text quotes (AS5506)
+-- the words that are reserved in core text, by this project's grammar of AADL
 unfoldable pub core_words : List (List ℕ)
 core_words = codes "abstract" ∷ codes "access" ∷ codes "all" ∷ codes "annex" ∷ codes "bus" ∷ codes "calls" ∷ codes "connections" ∷ codes "data" ∷ codes "device" ∷ codes "end" ∷ codes "event" ∷ codes "extends" ∷ codes "feature" ∷ codes "features" ∷ codes "flows" ∷ codes "group" ∷ codes "implementation" ∷ codes "in" ∷ codes "internal" ∷ codes "is" ∷ codes "memory" ∷ codes "modes" ∷ codes "none" ∷ codes "out" ∷ codes "package" ∷ codes "parameter" ∷ codes "port" ∷ codes "private" ∷ codes "process" ∷ codes "processor" ∷ codes "properties" ∷ codes "property" ∷ codes "prototypes" ∷ codes "provides" ∷ codes "public" ∷ codes "refined" ∷ codes "renames" ∷ codes "requires" ∷ codes "set" ∷ codes "subcomponents" ∷ codes "subprogram" ∷ codes "system" ∷ codes "thread" ∷ codes "to" ∷ codes "virtual" ∷ codes "with" ∷ []
 
--- the words that the grammar of error model text quotes (EMV2)
+-- the words that are reserved in error model text, by this project's grammar of EMV2
 unfoldable pub error_words : List (List ℕ)
 error_words = codes "access" ∷ codes "all" ∷ codes "and" ∷ codes "applies" ∷ codes "behavior" ∷ codes "binding" ∷ codes "bindings" ∷ codes "component" ∷ codes "composite" ∷ codes "connection" ∷ codes "detections" ∷ codes "end" ∷ codes "equivalence" ∷ codes "error" ∷ codes "event" ∷ codes "events" ∷ codes "extends" ∷ codes "flows" ∷ codes "in" ∷ codes "initial" ∷ codes "mappings" ∷ codes "memory" ∷ codes "mode" ∷ codes "noerror" ∷ codes "not" ∷ codes "or" ∷ codes "orless" ∷ codes "ormore" ∷ codes "others" ∷ codes "out" ∷ codes "path" ∷ codes "paths" ∷ codes "point" ∷ codes "processor" ∷ codes "propagation" ∷ codes "propagations" ∷ codes "properties" ∷ codes "recover" ∷ codes "renames" ∷ codes "repair" ∷ codes "same" ∷ codes "set" ∷ codes "sink" ∷ codes "source" ∷ codes "state" ∷ codes "states" ∷ codes "to" ∷ codes "transformations" ∷ codes "transitions" ∷ codes "type" ∷ codes "types" ∷ codes "use" ∷ codes "when" ∷ codes "with" ∷ []
 

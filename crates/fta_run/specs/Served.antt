@@ -1,4 +1,4 @@
--- Which texts of the first machine are served.
+-- Which texts of the first form are served.
 use Rattle.std.specs.Prelude.{ℕ, ◌≤◌, ◌≡◌, true, List, [], ◌∷◌, length, sum_by}
 use Rattle.std.specs.List.{AllByRecursion, flat_map}
 use Rattle.fault_system.specs.Systems.{NamesDiffer}

@@ -44,7 +44,8 @@ pub record IsCuts (words : List (List ℕ)) (root : Root) (target : List ℕ) (f
   pub root_is : IsRoot (folded root_word) root
   pub target_is : target ≡ folded target_word
 
--- whether letters and digits follow, each perhaps after one `_`; a waiting `_` wants one at once
+-- whether letters and digits follow, each perhaps after one `_`: it goes along the bytes, and after a
+-- `_` (waiting) a letter or digit must stand
 abbrev pub follows_well : Bool → List ℕ → Bool
 follows_well waiting [] = not waiting
 follows_well waiting (byte ∷ bytes) =

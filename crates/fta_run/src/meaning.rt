@@ -8,7 +8,7 @@ use aadl_syntax::{List, Mem, Name, is_same};
 use fault_system::{EventInfo, FactInfo, FaultSystem, Formula};
 use std::alloc::Global;
 
-/// The system of a served text of the first machine: a fact for each state, and an event for each error event.
+/// The system of a machine: a fact for each state, and an event for each error event.
 pub fn system_of(alloc: Global, machine: &Machine) -> Mem<FaultSystem>
     requires { IsMachine machine.now }
     ensures { IfOk result (λ system. system ≡ system_of machine.now) }
@@ -18,7 +18,7 @@ pub fn system_of(alloc: Global, machine: &Machine) -> Mem<FaultSystem>
     Ok(FaultSystem::new(facts, events))
 }
 
-/// The facts of a text of the first machine: one for each state, in order.
+/// The facts of a machine: one for each state, in order.
 fn facts_of(alloc: Global, machine: &Machine) -> Mem<List<FactInfo>>
     ensures { IfOk result (λ facts. facts ≡ map (fact_of machine.now) machine.now.states) }
 {
@@ -33,7 +33,7 @@ fn facts_of(alloc: Global, machine: &Machine) -> Mem<List<FactInfo>>
     Ok(facts)
 }
 
-/// The events of a text of the first machine: those of its machine, in order.
+/// The events of a machine: its error events, in order.
 fn events_of(alloc: Global, machine: &Machine) -> Mem<List<EventInfo>>
     ensures { IfOk result (λ events. events ≡ map event_of machine.now.events) }
 {

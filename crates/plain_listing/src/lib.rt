@@ -12,7 +12,7 @@ use fault_system::{FaultSystem, computed_listing};
 use std::alloc::Global;
 
 /// The listing of a target: its minimal cut sets, each a rising list of event numbers, fewer events first and then by
-/// the smaller number at the first difference. It tries all sets of events, of which there may be 16.
+/// the smaller number at the first difference. It tries all sets of at most 16 events.
 pub fn plain_listing(alloc: Global, system: &FaultSystem, target: u32) -> Mem<List<List<u32>>>
     requires target { target < length system.now.facts }
     requires few { length system.now.events ≤ 16 }
