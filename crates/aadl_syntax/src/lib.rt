@@ -3,13 +3,21 @@
 //! Contracts see each of them as plain data: a [`List`] as the list of its items, and the rest by their fields.
 #![tactic(auto)]
 
+mod error_model;
 mod list;
 mod name;
+mod place;
 mod refusal;
 mod token;
 
+pub use error_model::{
+    Association, Atom, Composite, Condition, Emv2Clause, Emv2Library, EventDecl, EventKind, Flow,
+    FlowKind, MachineDecl, Outgoing, PointItem, PointRef, Source, StateDecl, StateRef, Term,
+    Transition, TypeItem, TypeKind, TypeSet, TypesBlock, UserPath, UserPoint,
+};
 pub use list::List;
 pub use name::{Name, Root, Word, fold, is_same};
+pub use place::{End, Ref, Spot};
 pub use refusal::{Answer, Code, Mem, Place, Refusal, Stop};
 pub use token::{Token, TokenKind};
 

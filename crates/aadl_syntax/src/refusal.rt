@@ -14,6 +14,94 @@ pub enum Code {
     OpenString,
     /// An annex that does not end.
     OpenAnnex,
+    /// Tokens that have no reading.
+    Syntax,
+    /// A second package of a name, or a second classifier of a name in a package.
+    DuplicateUnit,
+    /// A package that is not declared.
+    UnknownPackage,
+    /// A classifier that is not declared, or is of the other sort.
+    UnknownClassifier,
+    /// An extension that comes back to its classifier.
+    CyclicExtends,
+    /// A refined member that no extended classifier has.
+    UnknownMember,
+    /// A second member of a name.
+    DuplicateName,
+    /// An error type that is not declared.
+    UnknownType,
+    /// A type or a library that comes back to itself.
+    CyclicType,
+    /// A propagation point that the component does not have.
+    UnknownPoint,
+    /// A set with a type outside that of its point.
+    NotContained,
+    /// A state that the component does not have.
+    UnknownState,
+    /// A trigger that is neither an event nor a point with an inward side.
+    UnknownTrigger,
+    /// A subcomponent that the component does not have.
+    UnknownSubcomponent,
+    /// An end of a connection that names nothing.
+    UnknownEnd,
+    /// A state machine that the package does not have.
+    UnknownMachine,
+    /// A prototype, or bindings of one.
+    Prototype,
+    /// An array of features or subcomponents.
+    Array,
+    /// A feature group, or what names into one.
+    FeatureGroup,
+    /// A product of error types.
+    TypeProduct,
+    /// A condition `orless`.
+    OrLess,
+    /// The type `noerror` in a condition.
+    NoErrorCondition,
+    /// A composite state `others` that is not initial.
+    Others,
+    /// A recover or repair event.
+    Recovery,
+    /// Error behavior of a connection.
+    ConnectionError,
+    /// A set of types at a state or an event.
+    Typed,
+    /// A use of mappings, equivalences or transformations.
+    Mapping,
+    /// A machine that extends another.
+    MachineExtends,
+    /// A file of too many bytes.
+    FileTooLong,
+    /// Too many files.
+    TooManyFiles,
+    /// Files of too many bytes together.
+    TooMuchText,
+    /// Too many brackets open at once.
+    TooNested,
+    /// Too many components.
+    TooManyComponents,
+    /// A component too deep in the instance.
+    TooDeep,
+    /// Too many facts.
+    TooManyFacts,
+    /// Too many events.
+    TooManyEvents,
+    /// Too many declared types.
+    TooManyTypes,
+    /// Too many places in formulas.
+    TooManyPlaces,
+    /// A slice of too many facts.
+    SliceTooLarge,
+    /// A slice of too many events.
+    TooManySliceEvents,
+    /// A tree of too many gates.
+    TooManyGates,
+    /// Too many connections and paths.
+    TooManyLinks,
+    /// A target that is the name of no fact.
+    UnknownTarget,
+    /// A page token that names no set of events.
+    BadToken,
 }
 
 impl Code {
@@ -27,6 +115,50 @@ impl Code {
             Code::BadByte => "L1 BadByte",
             Code::OpenString => "L2 OpenString",
             Code::OpenAnnex => "L3 OpenAnnex",
+            Code::Syntax => "S1 Syntax",
+            Code::DuplicateUnit => "N1 DuplicateUnit",
+            Code::UnknownPackage => "N2 UnknownPackage",
+            Code::UnknownClassifier => "N3 UnknownClassifier",
+            Code::CyclicExtends => "N4 CyclicExtends",
+            Code::UnknownMember => "N5 UnknownMember",
+            Code::DuplicateName => "N6 DuplicateName",
+            Code::UnknownType => "N7 UnknownType",
+            Code::CyclicType => "N8 CyclicType",
+            Code::UnknownPoint => "N9 UnknownPoint",
+            Code::NotContained => "N10 NotContained",
+            Code::UnknownState => "N11 UnknownState",
+            Code::UnknownTrigger => "N12 UnknownTrigger",
+            Code::UnknownSubcomponent => "N13 UnknownSubcomponent",
+            Code::UnknownEnd => "N14 UnknownEnd",
+            Code::UnknownMachine => "N15 UnknownMachine",
+            Code::Prototype => "P1 Prototype",
+            Code::Array => "P2 Array",
+            Code::FeatureGroup => "P3 FeatureGroup",
+            Code::TypeProduct => "P4 TypeProduct",
+            Code::OrLess => "P5 OrLess",
+            Code::NoErrorCondition => "P6 NoErrorCondition",
+            Code::Others => "P7 Others",
+            Code::Recovery => "P8 Recovery",
+            Code::ConnectionError => "P9 ConnectionError",
+            Code::Typed => "P10 Typed",
+            Code::Mapping => "P11 Mapping",
+            Code::MachineExtends => "P12 MachineExtends",
+            Code::FileTooLong => "M1 FileTooLong",
+            Code::TooManyFiles => "M2 TooManyFiles",
+            Code::TooMuchText => "M13 TooMuchText",
+            Code::TooNested => "M3 TooNested",
+            Code::TooManyComponents => "M4 TooManyComponents",
+            Code::TooDeep => "M5 TooDeep",
+            Code::TooManyFacts => "M6 TooManyFacts",
+            Code::TooManyEvents => "M7 TooManyEvents",
+            Code::TooManyTypes => "M8 TooManyTypes",
+            Code::TooManyPlaces => "M9 TooManyPlaces",
+            Code::SliceTooLarge => "M10 SliceTooLarge",
+            Code::TooManySliceEvents => "M11 TooManySliceEvents",
+            Code::TooManyGates => "M12 TooManyGates",
+            Code::TooManyLinks => "M14 TooManyLinks",
+            Code::UnknownTarget => "T1 UnknownTarget",
+            Code::BadToken => "K1 BadToken",
         }
     }
 }
