@@ -1,3 +1,4 @@
 pub mod Name
+pub mod Order
 pub mod Refusal
 pub mod formers

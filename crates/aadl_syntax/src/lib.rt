@@ -4,8 +4,10 @@
 #![tactic(auto)]
 
 mod error_model;
+mod laws;
 mod list;
 mod name;
+mod order;
 mod place;
 mod refusal;
 mod token;
@@ -15,8 +17,10 @@ pub use error_model::{
     FlowKind, MachineDecl, Outgoing, PointItem, PointRef, Source, StateDecl, StateRef, Term,
     Transition, TypeItem, TypeKind, TypeSet, TypesBlock, UserPath, UserPoint,
 };
+pub use laws::{least_is_first, one_first};
 pub use list::List;
 pub use name::{Name, Root, Word, fold, is_same};
+pub use order::FirstRefusal;
 pub use place::{End, Ref, Spot};
 pub use refusal::{Answer, Code, Mem, Place, Refusal, Stop};
 pub use token::{Token, TokenKind};

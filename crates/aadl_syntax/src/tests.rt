@@ -1,4 +1,6 @@
-use super::{Code, List, fold, is_same};
+use super::{
+    Code, FirstRefusal, List, Place, Refusal, Stop, fold, is_same, least_is_first, one_first,
+};
 use std::test::Fail;
 
 #[test]
@@ -25,4 +27,55 @@ fn names_codes(rt: HostRuntime) {
     assert_eq!(rt; Code::BadByte.text(), "L1 BadByte");
     assert_eq!(rt; Code::OpenString.text(), "L2 OpenString");
     assert_eq!(rt; Code::OpenAnnex.text(), "L3 OpenAnnex");
+    assert_eq!(rt; Code::TooMuchText.text(), "M13 TooMuchText");
+    assert_eq!(rt; Code::UnknownTarget.text(), "T1 UnknownTarget");
+}
+
+fn refusal(code: Code, place: Place) -> Refusal {
+    Refusal {
+        code,
+        place,
+        limit: 0,
+    }
+}
+
+#[test]
+fn refuses_with_the_first(rt: HostRuntime) {
+    let at = |file: u32, at: u32| Place::At { file, at };
+    let rows = [
+        // Files go by number before bytes do.
+        (Code::BadByte, at(1, 0), Code::OpenAnnex, at(0, 9)),
+        (Code::BadByte, at(0, 9), Code::OpenAnnex, at(0, 3)),
+        // At one place the row of the code decides.
+        (
+            Code::TooMuchText,
+            Place::Words,
+            Code::TooManyFiles,
+            Place::Words,
+        ),
+        (Code::TooNested, at(0, 4), Code::TooMuchText, at(0, 4)),
+        (Code::BadToken, at(2, 7), Code::UnknownTarget, at(2, 7)),
+        // A whole file comes before its bytes, and the words before all files.
+        (Code::BadByte, at(3, 0), Code::FileTooLong, Place::Whole(3)),
+        (
+            Code::FileTooLong,
+            Place::Whole(3),
+            Code::FileTooLong,
+            Place::Whole(2),
+        ),
+        (Code::BadByte, at(0, 0), Code::BadToken, Place::Words),
+    ];
+    for (later_code, later_place, code, place) in &rows {
+        let first = refusal(*code, *place);
+        let later = refusal(*later_code, *later_place);
+        let mut noted = FirstRefusal::new();
+        assert_eq!(rt; noted.settle(), Ok(()));
+        noted.note(later);
+        assert_eq!(rt; noted.settle(), Err(Stop::Refused(later)));
+        noted.note(first);
+        noted.note(later);
+        assert_eq!(rt; noted.settle(), Err(Stop::Refused(first)));
+    }
+    least_is_first();
+    one_first();
 }
