@@ -1,8 +1,7 @@
 ghost use Rattle.std.specs.Prelude.{◌≡◌, None, Some, MatchResult};
 ghost use Rattle.aadl_syntax.specs.Order.{code_row, place_key, refusal_key, sooner, nearer};
-ghost use Rattle.aadl_syntax.specs.declared.refusal.Stop.TheVariants.{Refused};
 
-use crate::refusal::{Answer, Code, Place, Refusal, Stop};
+use crate::refusal::{Code, Place, Refusal};
 use std::cmp::Ordering;
 use std::marker::Model;
 
@@ -40,12 +39,12 @@ impl FirstRefusal {
     }
 
     /// Refuses with the first that was noted, where one was.
-    pub fn settle(&self) -> Answer<()>
-        ensures { MatchResult result (λ _. self.now ≡ None) (λ stop. (refusal : _) × (stop ≡ Refused refusal) × (self.now ≡ Some refusal)) }
+    pub fn settle(&self) -> Result<(), Refusal>
+        ensures { MatchResult result (λ _. self.now ≡ None) (λ refusal. self.now ≡ Some refusal) }
     {
         match self.noted {
             None => Ok(()),
-            Some(refusal) => Err(Stop::Refused(refusal)),
+            Some(refusal) => Err(refusal),
         }
     }
 }

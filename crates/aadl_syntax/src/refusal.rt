@@ -1,6 +1,6 @@
 ghost use Rattle.std.specs.Prelude.{◌≡◌};
 
-use std::alloc::AllocError;
+use std::alloc::{AllocError, AllocFailed};
 
 /// What takes memory answers this: the value, or want of memory.
 pub type Mem<T> = Result<T, AllocError>;
@@ -188,3 +188,33 @@ pub enum Stop {
 
 /// What reads a text answers this.
 pub type Answer<T> = Result<T, Stop>;
+
+impl From<Refusal> for Stop {
+    ghost use Rattle.aadl_syntax.specs.declared.refusal.Stop.TheVariants.{Refused};
+
+    ghost from_gives = { λ refusal stop. stop ≡ Refused refusal };
+
+    fn from(refusal: Refusal) -> Stop {
+        Stop::Refused(refusal)
+    }
+}
+
+impl From<AllocError> for Stop {
+    ghost use Rattle.aadl_syntax.specs.declared.refusal.Stop.TheVariants.{Memory};
+
+    ghost from_gives = { λ _ stop. stop ≡ Memory };
+
+    fn from(_error: AllocError) -> Stop {
+        Stop::Memory
+    }
+}
+
+impl<T: Drop> From<AllocFailed<T>> for Stop {
+    ghost use Rattle.aadl_syntax.specs.declared.refusal.Stop.TheVariants.{Memory};
+
+    ghost from_gives = { λ _ stop. stop ≡ Memory };
+
+    fn from(_error: AllocFailed<T>) -> Stop {
+        Stop::Memory
+    }
+}

@@ -1,5 +1,5 @@
 use super::{
-    Code, FirstRefusal, List, Place, Refusal, Stop, fold, is_same, least_is_first, one_first,
+    Code, FirstRefusal, List, Place, Refusal, fold, is_same, least_is_first, one_first,
 };
 use std::test::Fail;
 
@@ -71,10 +71,10 @@ fn refuses_with_the_first(rt: HostRuntime) {
         let mut noted = FirstRefusal::new();
         assert_eq!(rt; noted.settle(), Ok(()));
         noted.note(later);
-        assert_eq!(rt; noted.settle(), Err(Stop::Refused(later)));
+        assert_eq!(rt; noted.settle(), Err(later));
         noted.note(first);
         noted.note(later);
-        assert_eq!(rt; noted.settle(), Err(Stop::Refused(first)));
+        assert_eq!(rt; noted.settle(), Err(first));
     }
     least_is_first();
     one_first();
