@@ -1,10 +1,12 @@
 -- The laws of the order of refusals.
-use Rattle.std.proofs.Common.{◌≡◌, ℕ, ◌+◌, ◌-◌, ◌∷◌, [], List, ◌++◌, Some, None, Option, sym, ap, ◌∙◌, refl, subst, get_or, arith, if◌then◌else◌, ◌==◌, false, true, Bool, inl, inr, ◌⊎◌, Contains, MatchOption}
+use Rattle.std.proofs.Common.{◌≡◌, ℕ, ◌+◌, ◌-◌, ◌∷◌, [], List, ◌++◌, Some, None, Option, sym, ap, ◌∙◌, refl, subst, get_or, arith, if◌then◌else◌, ◌==◌, false, true, Bool, inl, inr, ◌⊎◌, Contains, MatchOption, cond, ◌<◌}
 use Rattle.std.proofs.lemmas.Bool.{false≢true}
 use Rattle.std.proofs.lemmas.Bool.Decides.{nat_tests}
 use Rattle.std.specs.declared.cmp.Ordering.{Ordering}
 use Rattle.std.specs.declared.cmp.Ordering.TheVariants.{Less, Equal, Greater}
-use Rattle.std.specs.Ordering.{is_gt, ordering_reverse}
+use Rattle.std.specs.Ordering.{is_gt, nat_cmp, ordering_reverse, ordering_then}
+use Rattle.std.specs.Cmp.Lexicographic.{slice_cmp}
+use borrow.Author.Tests.{lt-ltb}
 use Rattle.std.specs.Cmp.{IsTotalOrder}
 use Rattle.std.proofs.lemmas.Cmp.{on_total, nat_list_cmp_total, tied_itself, upto}
 use Rattle.std.proofs.lemmas.Map.Lookups.{exact_bytes}
@@ -130,14 +132,26 @@ both_not_before : (a b : Refusal) → is_gt (refusal_cmp a b) ≡ false → is_g
 both_not_before a b h k =
     refusal_cmp-same a b (not_before (refusal_cmp a b) h (ap is_gt (sym (refusal_cmp-total.antisymm b a)) ∙ k))
 
-itself : (a : Refusal) → is_gt (refusal_cmp a a) ≡ false
+pub itself : (a : Refusal) → is_gt (refusal_cmp a a) ≡ false
 itself a = ap is_gt (tied_itself refusal_cmp-total a)
+
+-- what stands in an earlier file comes first
+pub earlier_file : (a b : Refusal) (i j m n : ℕ) → a.place ≡ At i m → b.place ≡ At j n → i < j → is_gt (refusal_cmp a b) ≡ false
+earlier_file a b i j m n here there earlier =
+    let a_more = code_row a.code ∷ a.limit ∷ [] in
+    let b_more = code_row b.code ∷ b.limit ∷ [] in
+    let less : is_gt (slice_cmp nat_cmp (place_key (At i m) ++ a_more) (place_key (At j n) ++ b_more)) ≡ false = ap (λ less. is_gt (ordering_then (cond less Less (cond (i == j) Equal Greater)) (slice_cmp nat_cmp ((m + 1) ∷ a_more) ((n + 1) ∷ b_more)))) (lt-ltb i j earlier) in
+    subst (λ p. is_gt (slice_cmp nat_cmp (place_key p ++ a_more) (place_key b.place ++ b_more)) ≡ false) (sym here) (subst (λ p. is_gt (slice_cmp nat_cmp (place_key (At i m) ++ a_more) (place_key p ++ b_more)) ≡ false) (sym there) less)
 
 -- ---- the first of a group
 
 -- a group has one first refusal at most
 pub first_once : (Stands : Refusal → Type 0) (a b : Refusal) → IsFirst Stands a → IsFirst Stands b → a ≡ b
 first_once Stands a b h k = both_not_before a b (h.none_before b k.stands) (k.none_before a h.stands)
+
+-- where all refusals of a group are one, it is the first
+pub first_alone : (Stands : Refusal → Type 0) (a : Refusal) → Stands a → ((other : Refusal) → Stands other → other ≡ a) → IsFirst Stands a
+first_alone Stands a stands alone = record { stands = stands; none_before = λ other there. subst (λ z. is_gt (refusal_cmp a z) ≡ false) (sym (alone other there)) (itself a) }
 
 -- and so have phases
 pub or_else_once : (Earlier Later : Refusal → Type 0) → ((a b : Refusal) → Later a → Later b → a ≡ b) → (a b : Refusal) → (Earlier or_else Later) a → (Earlier or_else Later) b → a ≡ b
@@ -204,7 +218,7 @@ least-first (x ∷ xs) = least-of xs x (least xs) (least-first xs)
 
 -- ---- what is noted
 
-nearer-none : (a : Option Refusal) → nearer a None ≡ a
+pub nearer-none : (a : Option Refusal) → nearer a None ≡ a
 nearer-none None = refl
 nearer-none (Some a) = refl
 

@@ -1,9 +1,13 @@
-mod Answering
 mod Identifiers
 mod Lines
 mod MadeSystem
 mod NameLists
 mod NamesIn
-mod OneText
 mod Room
 mod Roots
+mod Writes
+mod Inputs
+mod Lacking
+mod Forms
+mod Asked
+mod OneDue

@@ -1,35 +1,33 @@
-ghost use Rattle.std.specs.Prelude.{◌≡◌, ◌<◌, ◌≤◌, ◌∷◌, [], None, ◌↔◌, ℕ, List, IfErr, IfNone, IfOk, IfSome, IsTrue, MatchResult, OnOk, length, take, true};
-ghost use Rattle.grammar_rules.specs.Rules.{Reads};
-ghost use Rattle.fta_run.specs.Productions.{first_form};
-ghost use Rattle.fault_system.specs.Listings.{IsListing};
-ghost use Rattle.fault_system.specs.Systems.{System};
+ghost use Rattle.std.specs.Prelude.{◌≡◌, ◌<◌, ◌≤◌, ℕ, List, IfErr, IfOk, IsTrue, MatchOption, MatchResult, All, drop, length, ◌^◌, ◌↔◌};
+ghost use Rattle.aadl_syntax.specs.Order.{IsFirst};
+ghost use Rattle.aadl_syntax.specs.declared.name.Root.{Root};
+ghost use Rattle.fta_outside.specs.Outside.{Rose, TookPrefix, with_bytes};
 ghost use Rattle.fta_run.specs.declared.form.FirstForm.{FirstForm};
-ghost use Rattle.fta_outside.specs.Outside.{with_bytes};
-ghost use Rattle.fta_run.specs.Meaning.{system_of};
-ghost use Rattle.fta_run.specs.Status.{IsFileFault, IsFormFault, IsWriteEnd};
-ghost use Rattle.fta_run.specs.Output.{AllTold, AnswersWords, IsAskedOf, IsCaused, IsFactNamed, IsFirstForm, IsListingText, IsOutput, IsRootOf, MayAnswer, Took, TookNothing};
+ghost use Rattle.fta_run.specs.Line.{status_line};
+ghost use Rattle.fta_run.specs.Output.{IsAskedOf, IsFirstForm, IsFactNamed, IsListingText, IsOutput, IsRootOf, LacksRoot, LacksTarget, NamesPackage};
+ghost use Rattle.fta_run.specs.Answers.{AllTold, AnswersWords, IsCaused, IsDue, IsJustified, MayCome, Took, TookNothing};
+ghost use Rattle.fta_run.specs.Steps.{IsFormEnd, IsFormOf, IsTextEnd, IsWriteEnd};
 
 use crate::form::FirstForm;
+use crate::input::{of_words, read_texts, tokens_of_texts};
+use crate::line::write_line;
 use crate::meaning::system_of;
 use crate::reading::FirstFormText;
 use crate::served::is_served;
 use crate::status::Status;
 use crate::text::{WriteStop, write_listing};
 use crate::words::{Cuts, command_of};
-use aadl_lexer::tokens;
-use aadl_syntax::{Root, Stop, Token, Word, is_same};
+use aadl_syntax::{Code, List, Mem, Name, Refusal, Root, Token, Word, is_same};
 use fault_system::FaultSystem;
-use fta_outside::{Files, ReadError, Sink};
+use fta_outside::{Files, Sink};
 use grammar_rules::{TextError, read_text};
 use plain_listing::plain_listing;
-use std::alloc::Global;
-
-/// The greatest length of a file, in bytes.
-const MOST_BYTES: usize = 4_194_304;
+use std::alloc::{AllocError, Global};
 
 /// Runs the command that the words give, and says how it ended.
 ///
-/// `cuts ROOT TARGET FILE` writes the minimal cut sets of a fact in the system that the file describes.
+/// `cuts ROOT TARGET FILE..` writes the minimal cut sets of a fact in the system that the files describe. Under every status
+/// but Done one line is written to `err`; a fault of `err` changes nothing.
 pub fn run<F: Files, S: Sink, E: Sink>(
     alloc: Global,
     words: &[Word],
@@ -37,51 +35,84 @@ pub fn run<F: Files, S: Sink, E: Sink>(
     out: &mut S,
     err: &mut E,
 ) -> Status
-    // Where the files tell their contents, `out` took the text of the command on them under Done, and at most a front of it else.
-    ensures output { AllTold words.now (F.contents files.old) → Took (IsOutput words.now (F.contents files.old)) result (S.taken out.old) (S.taken out.new) }
-    // Under Usage, ReadFault and NotYet `out` took nothing, whatever the files tell.
-    ensures nothing { TookNothing result (S.taken out.old) (S.taken out.new) }
-    // A fault comes only where its count rose.
-    ensures faults { IsCaused result words.now (F.faults files.old) (F.faults files.new) (S.faults out.old) (S.faults out.new) }
     // Usage comes exactly where the words give no command.
     ensures words { AnswersWords result words.now }
-    // Where the words and the contents give a text, neither Usage nor NotYet comes.
-    ensures complete { (text : List ℕ) → IsOutput words.now (F.contents files.old) text → MayAnswer result }
-    // Nothing is written to `err` yet.
-    ensures no_line { E.taken err.new ≡ E.taken err.old }
+
+    // Where the files tell their contents, a refusal is the verdict, and NotYet comes only for a text that is not served and that no earlier phase refuses.
+    ensures verdict { AllTold words.now (F.contents files.old) → IsJustified words.now (F.contents files.old) result }
+
+    // Where the files tell their contents, `out` took the text of the command on them under Done, and at most a front of it else.
+    ensures output { AllTold words.now (F.contents files.old) → Took (IsOutput words.now (F.contents files.old)) result (S.taken out.old) (S.taken out.new) }
+
+    // Under Usage, a refusal, ReadFault and NotYet `out` took nothing, whatever the files tell.
+    ensures nothing { TookNothing result (S.taken out.old) (S.taken out.new) }
+
+    // A fault comes only where its count rose.
+    ensures faults { IsCaused result words.now (F.faults files.old) (F.faults files.new) (S.faults out.old) (S.faults out.new) }
+
+    // What is due for the words and the contents comes, unless memory runs out or a fault comes first.
+    ensures complete { (due : Status) → IsDue words.now (F.contents files.old) due → MayCome due result }
+
+    // No file is read where there is no command, or where too many are named.
+    ensures no_command { result ≡ Status.Usage → files.new ≡ files.old }
+    ensures too_many { 64 < length (drop 3 words.now) → files.new ≡ files.old }
+
+    // `err` took exactly the line of the status where its count did not rise, and else at most a front of it.
+    ensures line { (Rose (E.faults err.old) (E.faults err.new) → ⊥) → E.taken err.new ≡ with_bytes (E.taken err.old) (status_line (drop 3 words.now) result) }
+    ensures at_most_the_line { TookPrefix (E.taken err.old) (E.taken err.new) (status_line (drop 3 words.now) result) }
+{
+    let status = answer(alloc, words, files, out);
+    write_status(words, &status, err);
+    status
+}
+
+/// Writes the line of a status, and forgets a fault.
+fn write_status<E: Sink>(words: &[Word], status: &Status, err: &mut E)
+    ensures line { (Rose (E.faults err.old) (E.faults err.new) → ⊥) → E.taken err.new ≡ with_bytes (E.taken err.old) (status_line (drop 3 words.now) status.now) }
+    ensures at_most_the_line { TookPrefix (E.taken err.old) (E.taken err.new) (status_line (drop 3 words.now) status.now) }
+{
+    let files = file_words(words);
+    let _written = write_line(err, files, status);
+}
+
+fn file_words(words: &[Word]) -> &[Word]
+    ensures { result.now ≡ drop 3 words.now }
+{
+    match words {
+        [_, _, _, files @ ..] => files,
+        _ => &[],
+    }
+}
+
+/// Runs the command that the words give, but for the line.
+fn answer<F: Files, S: Sink>(alloc: Global, words: &[Word], files: &mut F, out: &mut S) -> Status
+    ensures words { AnswersWords result words.now }
+    ensures verdict { AllTold words.now (F.contents files.old) → IsJustified words.now (F.contents files.old) result }
+    ensures output { AllTold words.now (F.contents files.old) → Took (IsOutput words.now (F.contents files.old)) result (S.taken out.old) (S.taken out.new) }
+    ensures nothing { TookNothing result (S.taken out.old) (S.taken out.new) }
+    ensures faults { IsCaused result words.now (F.faults files.old) (F.faults files.new) (S.faults out.old) (S.faults out.new) }
+    ensures no_command { result ≡ Status.Usage → files.new ≡ files.old }
+    ensures too_many { 64 < length (drop 3 words.now) → files.new ≡ files.old }
 {
     let cuts = match command_of(alloc, words) {
         Ok(Some(cuts)) => cuts,
         Ok(None) => return Status::Usage,
         Err(_) => return Status::Memory,
     };
-    let [file] = cuts.files else {
-        return Status::NotYet;
-    };
-    match read_file(alloc, files, file) {
-        Ok(bytes) => write_cuts(alloc, &cuts, bytes.as_slice(), out),
+    match read_texts(alloc, files, cuts.files) {
+        Ok(texts) => write_cuts(alloc, &cuts, texts.items(), out),
         Err(status) => status,
     }
 }
 
-fn read_file<F: Files>(alloc: Global, files: &mut F, file: &Word) -> Result<Vec<u8>, Status>
-    ensures front { IfOk result (λ bytes. IfSome (F.contents files.old file.now) (λ whole. bytes.items ≡ take 4194305 whole)) }
-    ensures fault { IfErr result (IsFileFault (F.faults files.old file.now) (F.faults files.new file.now)) }
+/// Writes the listing, and says how that ended.
+fn write_cuts<S: Sink>(alloc: Global, cuts: &Cuts, texts: &[Name], out: &mut S) -> Status
+    requires few { length texts.now < 2 ^ 32 }
+    requires short { All (λ text. length text ≤ 4194304) texts.now }
+    ensures took { Took (IsListingText cuts.now.root cuts.now.target texts.now) result (S.taken out.old) (S.taken out.new) }
+    ensures end { IsWriteEnd cuts.now.root cuts.now.target texts.now (S.faults out.old) (S.faults out.new) result }
 {
-    match files.read(alloc, file, MOST_BYTES + 1) {
-        Ok(bytes) => Ok(bytes),
-        Err(ReadError::Failed) => Err(Status::ReadFault(0)),
-        Err(ReadError::Memory) => Err(Status::Memory),
-    }
-}
-
-// Writes the listing, and says how that ended.
-fn write_cuts<S: Sink>(alloc: Global, cuts: &Cuts, bytes: &[u8], out: &mut S) -> Status
-    ensures took { Took (IsListingText cuts.now.root cuts.now.target bytes.now) result (S.taken out.old) (S.taken out.new) }
-    ensures fault { IsWriteEnd (S.faults out.old) (S.faults out.new) result }
-    ensures only { (text : List ℕ) → IsListingText cuts.now.root cuts.now.target bytes.now text → MayAnswer result }
-{
-    let (system, target) = match system_and_target(alloc, cuts, bytes) {
+    let (system, target) = match system_and_target(alloc, cuts, texts) {
         Ok(found) => found,
         Err(status) => return status,
     };
@@ -95,52 +126,69 @@ fn write_cuts<S: Sink>(alloc: Global, cuts: &Cuts, bytes: &[u8], out: &mut S) ->
     }
 }
 
-// The system of the root that the words name, and the number of the target in it.
-fn system_and_target(alloc: Global, cuts: &Cuts, bytes: &[u8]) -> Result<(FaultSystem, u32), Status>
-    ensures found { IfOk result (λ found. IsAskedOf cuts.now.root cuts.now.target bytes.now found.0 found.1) }
-    ensures only { (system : System) (number : ℕ) → IsAskedOf cuts.now.root cuts.now.target bytes.now system number → IfErr result (λ status. status ≡ Status.Memory) }
-    ensures fault { IfErr result IsFormFault }
+/// The system of the root that the words name, and the number of the target in it.
+fn system_and_target(
+    alloc: Global,
+    cuts: &Cuts,
+    texts: &[Name],
+) -> Result<(FaultSystem, u32), Status>
+    requires few { length texts.now < 2 ^ 32 }
+    requires short { All (λ text. length text ≤ 4194304) texts.now }
+    ensures { MatchResult result (λ found. IsAskedOf cuts.now.root cuts.now.target texts.now found.0 found.1) (IsFormEnd cuts.now.root cuts.now.target texts.now) }
 {
-    let form = first_form_of(alloc, bytes)?;
-    if !is_root_of(&form, &cuts.root) {
-        return Err(Status::NotYet);
-    }
+    let form = form_of_texts(alloc, texts)?;
+    find_root(&form, &cuts.root)?;
     let system = system_of(alloc, &form.machine)?;
-    match find_target(&system, cuts.target.items()) {
-        Some(target) => Ok((system, target)),
+    let target = find_target(&system, cuts.target.items())?;
+    Ok((system, target))
+}
+
+/// The form of the text, where there is one text and it is of the first form.
+fn form_of_texts(alloc: Global, texts: &[Name]) -> Result<FirstForm, Status>
+    requires few { length texts.now < 2 ^ 32 }
+    requires short { All (λ text. length text ≤ 4194304) texts.now }
+    ensures { MatchResult result (λ form. IsFirstForm texts.now form) (IsTextEnd texts.now) }
+{
+    let lists = tokens_of_texts(alloc, texts)?;
+    match form_of_tokens(alloc, lists.items())? {
+        Some(form) => Ok(form),
         None => Err(Status::NotYet),
     }
 }
 
-fn first_form_of(alloc: Global, bytes: &[u8]) -> Result<FirstForm, Status>
-    ensures form { IfOk result (λ form. IsFirstForm bytes.now form) }
-    ensures only { (form : FirstForm) → IsFirstForm bytes.now form → MatchResult result (λ found. found ≡ form) (λ status. status ≡ Status.Memory) }
-    ensures fault { IfErr result IsFormFault }
+/// The form that the tokens of the texts read as, where there is one text and it is served.
+fn form_of_tokens(alloc: Global, lists: &[List<Token>]) -> Mem<Option<FirstForm>>
+    ensures { IfOk result (λ answer. MatchOption answer ((form : FirstForm) → IsFormOf lists.now form → ⊥) (λ form. IsFormOf lists.now form)) }
 {
-    if bytes.len() > MOST_BYTES {
-        return Err(Status::NotYet);
-    }
-    let form = match tokens(alloc, 0, bytes) {
-        Ok(tokens) => read_form(alloc, tokens.items())?,
-        Err(Stop::Refused(_)) => return Err(Status::NotYet),
-        Err(Stop::Memory) => return Err(Status::Memory),
+    let [tokens] = lists else {
+        return Ok(None);
     };
-    if is_served(&form) {
-        Ok(form)
-    } else {
-        Err(Status::NotYet)
+    match read_text::<FirstFormText>(alloc, 0, tokens.items()) {
+        Ok(form) if is_served(&form) => Ok(Some(form)),
+        Ok(_) | Err(TextError::Dead(_)) => Ok(None),
+        Err(TextError::Memory) => Err(AllocError),
     }
 }
 
-fn read_form(alloc: Global, tokens: &[Token]) -> Result<FirstForm, Status>
-    ensures fault { IfErr result IsFormFault }
-    ensures form { IfOk result (λ form. Reads 0 first_form tokens.now form []) }
-    ensures only { (form : FirstForm) → Reads 0 first_form tokens.now form [] → MatchResult result (λ found. found ≡ form) (λ status. status ≡ Status.Memory) }
+/// Refuses a root that is not the system of the text.
+fn find_root(form: &FirstForm, root: &Root) -> Result<(), Refusal>
+    ensures { MatchResult result (λ _. IsRootOf form.now root.now) (λ refusal. LacksRoot form.now root.now refusal) }
 {
-    match read_text::<FirstFormText>(alloc, 0, tokens) {
-        Ok(form) => Ok(form),
-        Err(TextError::Dead(_)) => Err(Status::NotYet),
-        Err(TextError::Memory) => Err(Status::Memory),
+    if !names_package(form, root) {
+        return Err(of_words(Code::UnknownPackage, 0));
+    }
+    if !is_root_of(form, root) {
+        return Err(of_words(Code::UnknownClassifier, 0));
+    }
+    Ok(())
+}
+
+fn names_package(form: &FirstForm, root: &Root) -> bool
+    ensures { IsTrue result ↔ NamesPackage form.now root.now }
+{
+    match root.names.items() {
+        [library, _] => is_same(library.items(), form.package_name.items()),
+        _ => false,
     }
 }
 
@@ -156,16 +204,16 @@ fn is_root_of(form: &FirstForm, root: &Root) -> bool
     }
 }
 
-fn find_target(system: &FaultSystem, name: &[u8]) -> Option<u32>
-    ensures found { IfSome result (λ number. IsFactNamed system.now number name.now) }
-    ensures none { IfNone result ((number : ℕ) → IsFactNamed system.now number name.now → ⊥) }
+/// The number of the fact of a name.
+fn find_target(system: &FaultSystem, name: &[u8]) -> Result<u32, Refusal>
+    ensures { MatchResult result (λ number. IsFactNamed system.now number name.now) (λ refusal. LacksTarget system.now name.now refusal) }
 {
     for number in 0..system.facts() {
         if has_name(system, number, name) {
-            return Some(number);
+            return Ok(number);
         }
     }
-    None
+    Err(of_words(Code::UnknownTarget, 0))
 }
 
 fn has_name(system: &FaultSystem, number: u32, name: &[u8]) -> bool

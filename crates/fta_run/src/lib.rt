@@ -4,7 +4,9 @@
 mod command;
 mod conditions;
 mod form;
+mod input;
 mod laws;
+mod line;
 mod meaning;
 mod reading;
 mod served;
@@ -13,7 +15,8 @@ mod text;
 mod words;
 
 pub use command::run;
-pub use laws::one_output;
+pub use laws::{one_due, one_output};
+pub use line::write_line;
 pub use status::Status;
 
 #[cfg(test)]

@@ -1,5 +1,6 @@
 ghost use Rattle.std.specs.Prelude.{◌≡◌};
 
+use aadl_syntax::{Refusal, Stop};
 use std::alloc::{AllocError, AllocFailed};
 
 /// How a run ended.
@@ -9,13 +10,15 @@ pub enum Status {
     Done,
     /// The words give no command.
     Usage,
+    /// The words or the texts are refused.
+    Refused(Refusal),
     /// The file word of this number, counted from 0, could not be read.
     ReadFault(u32),
     /// A write to the output failed.
     WriteFault,
     /// Memory was wanting.
     Memory,
-    /// The command or the text is not served yet.
+    /// The text is not served yet.
     NotYet,
 }
 
@@ -29,6 +32,7 @@ impl Status {
         match self {
             Status::Done => 0,
             Status::Usage => 1,
+            Status::Refused(_) => 2,
             Status::ReadFault(_) => 4,
             Status::WriteFault => 5,
             Status::Memory => 7,
@@ -54,5 +58,28 @@ impl<T: Drop> From<AllocFailed<T>> for Status {
 
     fn from(_error: AllocFailed<T>) -> Status {
         Status::Memory
+    }
+}
+
+impl From<Refusal> for Status {
+    ghost use Rattle.fta_run.specs.declared.status.Status.TheVariants.{Refused};
+
+    ghost from_gives = { λ refusal status. status ≡ Refused refusal };
+
+    fn from(refusal: Refusal) -> Status {
+        Status::Refused(refusal)
+    }
+}
+
+impl From<Stop> for Status {
+    ghost use Rattle.fta_run.specs.Stopped.{status_of};
+
+    ghost from_gives = { λ stop status. status ≡ status_of stop };
+
+    fn from(stop: Stop) -> Status {
+        match stop {
+            Stop::Refused(refusal) => Status::Refused(refusal),
+            Stop::Memory => Status::Memory,
+        }
     }
 }

@@ -1,23 +1,24 @@
-use super::{Status, run};
-use aadl_syntax::{Mem, Word};
+use super::{Status, one_due, one_output, run};
+use aadl_syntax::{Code, Mem, Place, Refusal, Word};
 use fta_outside::{MemoryFiles, MemorySink};
 use std::alloc::Global;
 use std::process::Abort;
 use std::test::Fail;
 
-const EVENTS: &[u8] = b"events e1: error event; e2: error event;\n";
-
 const STATES: &[u8] = b"states ok: initial state; bad: state;\n";
 
 const BOTH: &[u8] = b"transitions ok -[e1 and e2]-> bad;\n";
+
+const WORDS: &[&[u8]] = &[b"cuts", b"p::s", b"root/state:bad", b"a.aadl"];
+
+const LISTING: &[u8] = b"2 root/e1+root/e2\nend\n";
 
 /// A package with one machine of these parts, and a system that uses it.
 fn text_of(alloc: Global, states: &[u8], transitions: &[u8]) -> Mem<Vec<u8>> {
     let mut text = Vec::from_slice(
         alloc,
-        b"package p\npublic\nannex EMV2 {**\nerror behavior m\n",
+        b"package p\npublic\nannex EMV2 {**\nerror behavior m\nevents e1: error event; e2: error event;\n",
     )?;
-    text.extend_from_slice(EVENTS)?;
     text.extend_from_slice(states)?;
     text.extend_from_slice(transitions)?;
     text.extend_from_slice(
@@ -30,17 +31,35 @@ fn word(alloc: Global, text: &[u8]) -> Mem<Word> {
     Word::of(Vec::from_slice(alloc, text)?)
 }
 
-/// Runs the words over one file `a.aadl` of this text, with the reads and the writes of these numbers failing, and
-/// tests the status and what was written.
+/// Which calls fail, and how many bytes the output takes in one write and in all.
+#[derive(Clone, Copy)]
+struct Outside<'a> {
+    reads: &'a [u64],
+    writes: &'a [u64],
+    lines: &'a [u64],
+    piece: usize,
+    room: usize,
+}
+
+const WELL: Outside<'static> = Outside {
+    reads: &[],
+    writes: &[],
+    lines: &[],
+    piece: 64,
+    room: 4096,
+};
+
+/// What is wanted: the status, what `out` took, and what `err` took.
+type Wanted<'a> = (Status, &'a [u8], &'a [u8]);
+
+/// Runs the words over one file `a.aadl` of this text, and tests the status and what was written.
 fn expect(
     rt: &impl Abort,
     alloc: Global,
     words: &[&[u8]],
     text: &[u8],
-    failing_reads: &[u64],
-    failing_writes: &[u64],
-    status: Status,
-    written: &[u8],
+    outside: Outside,
+    wanted: Wanted,
 ) -> Result<(), Fail> {
     let mut list = Vec::new(alloc);
     for text in words {
@@ -49,43 +68,34 @@ fn expect(
     let entry = (word(alloc, b"a.aadl")?, Vec::from_slice(alloc, text)?);
     let mut files = MemoryFiles::new(
         vec![in alloc; entry]?,
-        Vec::from_slice(alloc, failing_reads)?,
+        Vec::from_slice(alloc, outside.reads)?,
     );
-    let mut out = MemorySink::new(alloc, Vec::from_slice(alloc, failing_writes)?, 64, 4096)?;
-    let mut err = MemorySink::new(alloc, Vec::new(alloc), 64, 4096)?;
-    let answer = run(alloc, list.as_slice(), &mut files, &mut out, &mut err);
-    assert_eq!(rt; answer, status);
-    assert_eq!(rt; out.bytes(), written);
-    assert!(rt; err.bytes().is_empty());
+    let writes = Vec::from_slice(alloc, outside.writes)?;
+    let mut out = MemorySink::new(alloc, writes, outside.piece, outside.room)?;
+    let mut err = MemorySink::new(alloc, Vec::from_slice(alloc, outside.lines)?, 5, 4096)?;
+    let status = run(alloc, list.as_slice(), &mut files, &mut out, &mut err);
+    assert_eq!(rt; status, wanted.0);
+    assert_eq!(rt; out.bytes(), wanted.1);
+    assert_eq!(rt; err.bytes(), wanted.2);
     Ok(())
 }
 
-/// Runs `cuts` of a target in such a text, and tests what was written.
-fn lists(
-    rt: &impl Abort,
-    alloc: Global,
-    states: &[u8],
-    transitions: &[u8],
-    target: &[u8],
-    written: &[u8],
-) -> Result<(), Fail> {
-    let text = text_of(alloc, states, transitions)?;
-    let words = [
-        b"cuts".as_slice(),
-        b"p::s".as_slice(),
-        target,
-        b"a.aadl".as_slice(),
-    ];
-    expect(
-        rt,
-        alloc,
-        &words,
-        text.as_slice(),
-        &[],
-        &[],
-        Status::Done,
-        written,
-    )
+/// A refusal of the words.
+fn of_words(code: Code, limit: u64) -> Status {
+    Status::Refused(Refusal {
+        code,
+        place: Place::Words,
+        limit,
+    })
+}
+
+/// A refusal at a byte of the first file.
+fn at_byte(code: Code, at: u32) -> Status {
+    Status::Refused(Refusal {
+        code,
+        place: Place::At { file: 0, at },
+        limit: 0,
+    })
 }
 
 #[test]
@@ -94,209 +104,351 @@ fn listings(rt: HostRuntime) -> Result<(), Fail> {
     let lost = b"states ok: initial state; bad: state; lost: state;\n".as_slice();
     let chain = b"states ok: initial state; mid: state; bad: state;\n".as_slice();
     let looped = b"transitions ok -[e1]-> mid; mid -[e2]-> bad; bad -[e2]-> mid;\n".as_slice();
-    let rows = [
+    let bad = b"root/state:bad".as_slice();
+    let rows: [(&[u8], &[u8], &[u8], &[u8]); 9] = [
+        (STATES, BOTH, bad, LISTING),
         (
             STATES,
-            BOTH,
-            b"root/state:bad".as_slice(),
-            b"2 root/e1+root/e2\nend\n".as_slice(),
+            b"transitions ok -[e1]-> bad; ok -[e1 and e2]-> bad;\n",
+            bad,
+            b"1 root/e1\nend\n",
         ),
+        (STATES, BOTH, b"root/state:ok", b"0 none\nend\n"),
+        (lost, BOTH, b"root/state:lost", b"end\n"),
         (
             STATES,
-            b"transitions ok -[e1]-> bad; ok -[e1 and e2]-> bad;\n".as_slice(),
-            b"root/state:bad".as_slice(),
-            b"1 root/e1\nend\n".as_slice(),
-        ),
-        (
-            STATES,
-            BOTH,
-            b"root/state:ok".as_slice(),
-            b"0 none\nend\n".as_slice(),
-        ),
-        (
-            lost,
-            BOTH,
-            b"root/state:lost".as_slice(),
-            b"end\n".as_slice(),
+            b"transitions ok -[(e1 or e2) and e1]-> bad;\n",
+            bad,
+            b"1 root/e1\nend\n",
         ),
         (
             STATES,
-            b"transitions ok -[(e1 or e2) and e1]-> bad;\n".as_slice(),
-            b"root/state:bad".as_slice(),
-            b"1 root/e1\nend\n".as_slice(),
+            b"transitions ok -[e2 or ((e1))]-> bad;\n",
+            bad,
+            b"1 root/e1\n1 root/e2\nend\n",
         ),
+        (chain, looped, b"root/state:mid", b"1 root/e1\nend\n"),
+        (chain, looped, bad, LISTING),
         (
             STATES,
-            b"transitions ok -[e2 or ((e1))]-> bad;\n".as_slice(),
-            b"root/state:bad".as_slice(),
-            b"1 root/e1\n1 root/e2\nend\n".as_slice(),
-        ),
-        (
-            chain,
-            looped,
-            b"root/state:mid".as_slice(),
-            b"1 root/e1\nend\n".as_slice(),
-        ),
-        (
-            chain,
-            looped,
-            b"root/state:bad".as_slice(),
-            b"2 root/e1+root/e2\nend\n".as_slice(),
-        ),
-        (
-            STATES,
-            b"Transitions OK -[E1 and e2]-> Bad;\n".as_slice(),
-            b"ROOT/State:BAD".as_slice(),
-            b"2 root/e1+root/e2\nend\n".as_slice(),
+            b"Transitions OK -[E1 and e2]-> Bad;\n",
+            b"ROOT/State:BAD",
+            LISTING,
         ),
     ];
     for (states, transitions, target, written) in &rows {
-        lists(&rt, alloc, states, transitions, target, written)?;
+        let text = text_of(alloc, states, transitions)?;
+        let words = [b"cuts".as_slice(), b"p::s", target, b"a.aadl"];
+        let wanted = (Status::Done, *written, b"".as_slice());
+        expect(&rt, alloc, &words, text.as_slice(), WELL, wanted)?;
+    }
+    one_output();
+    one_due();
+    Ok(())
+}
+
+#[test]
+fn long_texts(rt: HostRuntime) -> Result<(), Fail> {
+    let alloc = rt.alloc();
+    let mut text = text_of(alloc, STATES, BOTH)?;
+    let blanks = vec![in alloc; b' '; 4_194_304]?;
+    text.extend_from_slice(&blanks[text.len().min(4_194_304)..])?;
+    let done = (Status::Done, LISTING, b"".as_slice());
+    expect(&rt, alloc, WORDS, text.as_slice(), WELL, done)?;
+
+    // Four such texts are not too much, and a fifth is; several texts are not served yet.
+    let [cuts, root, bad, a] = [b"cuts".as_slice(), b"p::s", b"root/state:bad", b"a.aadl"];
+    let four = [cuts, root, bad, a, a, a, a];
+    let not_yet = (
+        Status::NotYet,
+        b"".as_slice(),
+        b"aadl_fta: not yet\n".as_slice(),
+    );
+    expect(&rt, alloc, &four, text.as_slice(), WELL, not_yet)?;
+    let five = [cuts, root, bad, a, a, a, a, a];
+    let much = (
+        of_words(Code::TooMuchText, 16_777_216),
+        b"".as_slice(),
+        b"aadl_fta: M13 TooMuchText over 16777216\n".as_slice(),
+    );
+    expect(&rt, alloc, &five, text.as_slice(), WELL, much)?;
+
+    // One byte more is too long.
+    text.push(b' ')?;
+    let long = |file: u32| {
+        Status::Refused(Refusal {
+            code: Code::FileTooLong,
+            place: Place::Whole(file),
+            limit: 4_194_304,
+        })
+    };
+    let line = b"aadl_fta: M1 FileTooLong a.aadl over 4194304\n".as_slice();
+    let wanted = (long(0), b"".as_slice(), line);
+    expect(&rt, alloc, WORDS, text.as_slice(), WELL, wanted)?;
+    expect(&rt, alloc, &five, text.as_slice(), WELL, wanted)
+}
+
+#[test]
+fn refusals(rt: HostRuntime) -> Result<(), Fail> {
+    let alloc = rt.alloc();
+    let a = text_of(alloc, STATES, BOTH)?;
+    let [cuts, root, bad, file] = [b"cuts".as_slice(), b"p::s", b"root/state:bad", b"a.aadl"];
+    let unknown_classifier = of_words(Code::UnknownClassifier, 0);
+    let n3 = b"aadl_fta: N3 UnknownClassifier\n".as_slice();
+    let unknown_package = of_words(Code::UnknownPackage, 0);
+    let n2 = b"aadl_fta: N2 UnknownPackage\n".as_slice();
+    let t1 = b"aadl_fta: T1 UnknownTarget\n".as_slice();
+    let not_yet = b"aadl_fta: not yet\n".as_slice();
+    let worse = b"root/state:worse".as_slice();
+    let rows: [(&[&[u8]], &[u8], Status, &[u8]); 19] = [
+        (
+            &[cuts, root, worse, file],
+            a.as_slice(),
+            of_words(Code::UnknownTarget, 0),
+            t1,
+        ),
+        (
+            &[cuts, b"p::x", bad, file],
+            a.as_slice(),
+            unknown_classifier,
+            n3,
+        ),
+        (
+            &[cuts, b"p::s.i", bad, file],
+            a.as_slice(),
+            unknown_classifier,
+            n3,
+        ),
+        (
+            &[cuts, b"q::s", bad, file],
+            a.as_slice(),
+            unknown_package,
+            n2,
+        ),
+        (
+            &[cuts, b"p::q::s", bad, file],
+            a.as_slice(),
+            unknown_package,
+            n2,
+        ),
+        // The package comes before the classifier, and the root before the target.
+        (
+            &[cuts, b"q::x", worse, file],
+            a.as_slice(),
+            unknown_package,
+            n2,
+        ),
+        (
+            &[cuts, b"p::x", worse, file],
+            a.as_slice(),
+            unknown_classifier,
+            n3,
+        ),
+        (
+            &[cuts, root, bad, file, file],
+            a.as_slice(),
+            Status::NotYet,
+            not_yet,
+        ),
+        (
+            &[cuts, b"q::x", worse, file, file],
+            a.as_slice(),
+            Status::NotYet,
+            not_yet,
+        ),
+        (WORDS, b"", Status::NotYet, not_yet),
+        (WORDS, b"package p end p;", Status::NotYet, not_yet),
+        (
+            WORDS,
+            b"a\x00\"",
+            at_byte(Code::BadByte, 1),
+            b"aadl_fta: L1 BadByte a.aadl:1\n",
+        ),
+        (
+            WORDS,
+            b"a \"b",
+            at_byte(Code::OpenString, 2),
+            b"aadl_fta: L2 OpenString a.aadl:2\n",
+        ),
+        // The tokens come before the root and the target, and the first file before the second.
+        (
+            &[cuts, b"q::x", worse, file],
+            b"\x7f",
+            at_byte(Code::BadByte, 0),
+            b"aadl_fta: L1 BadByte a.aadl:0\n",
+        ),
+        (
+            &[cuts, root, bad, file, file],
+            b"\x7f",
+            at_byte(Code::BadByte, 0),
+            b"aadl_fta: L1 BadByte a.aadl:0\n",
+        ),
+        (&[], b"", Status::Usage, b"aadl_fta: usage\n"),
+        (&[cuts, root], b"", Status::Usage, b"aadl_fta: usage\n"),
+        (
+            &[cuts, root, bad, b"b.aadl"],
+            b"",
+            Status::ReadFault(0),
+            b"aadl_fta: cannot read b.aadl\n",
+        ),
+        (
+            &[cuts, root, bad, file, b"b.aadl"],
+            b"\x7f",
+            Status::ReadFault(1),
+            b"aadl_fta: cannot read b.aadl\n",
+        ),
+    ];
+    for (words, text, status, line) in &rows {
+        expect(&rt, alloc, words, text, WELL, (*status, b"", line))?;
+    }
+    Ok(())
+}
+
+/// The words with so many files.
+fn with_files(alloc: Global, count: usize) -> Mem<Vec<&'static [u8]>> {
+    let mut words = Vec::from_slice(alloc, &WORDS[..3])?;
+    for _ in 0..count {
+        words.push(b"a.aadl".as_slice())?;
+    }
+    Ok(words)
+}
+
+#[test]
+fn many_files(rt: HostRuntime) -> Result<(), Fail> {
+    let alloc = rt.alloc();
+    let failing = Outside {
+        reads: &[0],
+        ..WELL
+    };
+    let words = with_files(alloc, 64)?;
+    let unread = b"aadl_fta: cannot read a.aadl\n".as_slice();
+    let wanted = (Status::ReadFault(0), b"".as_slice(), unread);
+    expect(&rt, alloc, words.as_slice(), b"", failing, wanted)?;
+
+    // With one more no file is read.
+    let words = with_files(alloc, 65)?;
+    let line = b"aadl_fta: M2 TooManyFiles over 64\n".as_slice();
+    let wanted = (of_words(Code::TooManyFiles, 64), b"".as_slice(), line);
+    expect(&rt, alloc, words.as_slice(), b"", failing, wanted)
+}
+
+#[test]
+fn fronts_of_a_text(rt: HostRuntime) -> Result<(), Fail> {
+    let alloc = rt.alloc();
+    let text = text_of(alloc, STATES, BOTH)?;
+    assert_eq!(rt; text.len(), 244);
+    for count in 0..=text.len() {
+        let wanted = match count {
+            31..=179 => (
+                at_byte(Code::OpenAnnex, 28),
+                b"".as_slice(),
+                b"aadl_fta: L3 OpenAnnex a.aadl:28\n".as_slice(),
+            ),
+            205..=227 => (
+                at_byte(Code::OpenAnnex, 202),
+                b"".as_slice(),
+                b"aadl_fta: L3 OpenAnnex a.aadl:202\n".as_slice(),
+            ),
+            243 | 244 => (Status::Done, LISTING, b"".as_slice()),
+            _ => (
+                Status::NotYet,
+                b"".as_slice(),
+                b"aadl_fta: not yet\n".as_slice(),
+            ),
+        };
+        expect(&rt, alloc, WORDS, &text[..count], WELL, wanted)?;
     }
     Ok(())
 }
 
 #[test]
-fn the_longest_text(rt: HostRuntime) -> Result<(), Fail> {
+fn faults(rt: HostRuntime) -> Result<(), Fail> {
     let alloc = rt.alloc();
-    let words = [
-        b"cuts".as_slice(),
-        b"P::S".as_slice(),
-        b"root/state:bad".as_slice(),
-        b"a.aadl".as_slice(),
-    ];
-    let mut text = text_of(alloc, STATES, BOTH)?;
-    for _ in 0..4_194_304 {
-        if text.len() >= 4_194_304 {
-            break;
-        }
-        text.push(b' ')?;
-    }
-    expect(
-        &rt,
-        alloc,
-        &words,
-        text.as_slice(),
-        &[],
-        &[],
+    let either = text_of(alloc, STATES, b"transitions ok -[e1 or e2]-> bad;\n")?;
+    let done = (
         Status::Done,
-        b"2 root/e1+root/e2\nend\n",
-    )?;
-    text.push(b' ')?;
-    expect(
-        &rt,
-        alloc,
-        &words,
-        text.as_slice(),
-        &[],
-        &[],
-        Status::NotYet,
-        b"",
-    )
-}
-
-#[test]
-fn other_answers(rt: HostRuntime) -> Result<(), Fail> {
-    let alloc = rt.alloc();
-    let text = text_of(alloc, STATES, BOTH)?;
-    let a = text.as_slice();
-    let cuts = b"cuts".as_slice();
-    let root = b"p::s".as_slice();
-    let bad = b"root/state:bad".as_slice();
-    let file = b"a.aadl".as_slice();
-    let all = [cuts, root, bad, file];
-    expect(&rt, alloc, &all, b"", &[], &[], Status::NotYet, b"")?;
-    expect(
-        &rt,
-        alloc,
-        &all,
-        b"package p end p;",
-        &[],
-        &[],
-        Status::NotYet,
-        b"",
-    )?;
-    expect(&rt, alloc, &all, a, &[0], &[], Status::ReadFault(0), b"")?;
-    expect(&rt, alloc, &all, a, &[], &[0], Status::WriteFault, b"")?;
-    expect(
-        &rt,
-        alloc,
-        &all,
-        a,
-        &[],
-        &[1],
+        b"1 root/e1\n1 root/e2\nend\n".as_slice(),
+        b"".as_slice(),
+    );
+    let unread = b"aadl_fta: cannot read a.aadl\n".as_slice();
+    let unwritten = b"aadl_fta: cannot write\n".as_slice();
+    let rows: [(Outside, Wanted); 10] = [
+        (WELL, done),
+        (
+            Outside {
+                reads: &[0],
+                ..WELL
+            },
+            (Status::ReadFault(0), b"", unread),
+        ),
+        (
+            Outside {
+                writes: &[0],
+                ..WELL
+            },
+            (Status::WriteFault, b"", unwritten),
+        ),
+        (
+            Outside {
+                writes: &[1],
+                ..WELL
+            },
+            (Status::WriteFault, b"1 root/e1\n", unwritten),
+        ),
+        (
+            Outside {
+                writes: &[2],
+                ..WELL
+            },
+            (Status::WriteFault, b"1 root/e1\n1 root/e2\n", unwritten),
+        ),
+        (Outside { piece: 1, ..WELL }, done),
+        (
+            Outside {
+                piece: 1,
+                writes: &[12],
+                ..WELL
+            },
+            (Status::WriteFault, b"1 root/e1\n1 ", unwritten),
+        ),
+        (
+            Outside { piece: 0, ..WELL },
+            (Status::WriteFault, b"", unwritten),
+        ),
+        (
+            Outside { room: 12, ..WELL },
+            (Status::WriteFault, b"1 root/e1\n1 ", unwritten),
+        ),
+        // A fault of `err` changes nothing but its line.
+        (
+            Outside {
+                reads: &[0],
+                lines: &[0],
+                ..WELL
+            },
+            (Status::ReadFault(0), b"", b""),
+        ),
+    ];
+    for (outside, wanted) in &rows {
+        expect(&rt, alloc, WORDS, either.as_slice(), *outside, *wanted)?;
+    }
+    let cut = Outside {
+        writes: &[1],
+        lines: &[2],
+        ..WELL
+    };
+    let wanted = (
         Status::WriteFault,
-        b"2 root/e1+root/e2\n",
-    )?;
-    expect(
-        &rt,
-        alloc,
-        &[cuts, root, bad, b"b.aadl"],
-        a,
-        &[],
-        &[],
-        Status::ReadFault(0),
-        b"",
-    )?;
-    expect(
-        &rt,
-        alloc,
-        &[cuts, root, b"root/state:worse", file],
-        a,
-        &[],
-        &[],
-        Status::NotYet,
-        b"",
-    )?;
-    expect(
-        &rt,
-        alloc,
-        &[cuts, b"p::x", bad, file],
-        a,
-        &[],
-        &[],
-        Status::NotYet,
-        b"",
-    )?;
-    expect(
-        &rt,
-        alloc,
-        &[cuts, b"q::s", bad, file],
-        a,
-        &[],
-        &[],
-        Status::NotYet,
-        b"",
-    )?;
-    expect(
-        &rt,
-        alloc,
-        &[cuts, b"p::s.i", bad, file],
-        a,
-        &[],
-        &[],
-        Status::NotYet,
-        b"",
-    )?;
-    expect(
-        &rt,
-        alloc,
-        &[cuts, root, bad, file, file],
-        a,
-        &[],
-        &[],
-        Status::NotYet,
-        b"",
-    )
+        b"1 root/e1\n".as_slice(),
+        b"aadl_fta: ".as_slice(),
+    );
+    expect(&rt, alloc, WORDS, either.as_slice(), cut, wanted)
 }
 
 #[test]
 fn words_without_command(rt: HostRuntime) -> Result<(), Fail> {
     let alloc = rt.alloc();
-    let cuts = b"cuts".as_slice();
-    let root = b"p::s".as_slice();
-    let bad = b"root/state:bad".as_slice();
-    let file = b"a.aadl".as_slice();
+    let [cuts, root, bad, file] = [b"cuts".as_slice(), b"p::s", b"root/state:bad", b"a.aadl"];
     let rows: [&[&[u8]]; 12] = [
         &[],
         &[cuts, root],
@@ -311,8 +463,13 @@ fn words_without_command(rt: HostRuntime) -> Result<(), Fail> {
         &[cuts, root, bad, b"-a.aadl"],
         &[cuts, root, b"\xff", file],
     ];
+    let wanted = (
+        Status::Usage,
+        b"".as_slice(),
+        b"aadl_fta: usage\n".as_slice(),
+    );
     for words in &rows {
-        expect(&rt, alloc, words, b"", &[], &[], Status::Usage, b"")?;
+        expect(&rt, alloc, words, b"", WELL, wanted)?;
     }
     Ok(())
 }
@@ -322,6 +479,7 @@ fn exit_numbers(rt: HostRuntime) {
     let rows = [
         (Status::Done, 0),
         (Status::Usage, 1),
+        (of_words(Code::UnknownTarget, 0), 2),
         (Status::ReadFault(3), 4),
         (Status::WriteFault, 5),
         (Status::Memory, 7),

@@ -7,10 +7,11 @@ pub loop-number-preserved : goal.loop-number-preserved
 loop-number-preserved c =
     below_more _ _ c.loop-number.invariant (λ named. false≢true (sym c.if-has_name.false ∙ c.has_name.ensures.1 named))
 
-pub returns-clause-none : goal.returns-clause-none
-returns-clause-none c n named =
-    let within = slice_get_within _ n named.fact named.there in
-    c.loop-number.invariant n (omega (arith, within, c.facts-number-end.ensures.count)) named
+pub returns : goal.returns
+returns c = (
+  λ number named. c.loop-number.invariant number (omega (arith, slice_get_within _ number named.fact named.there, c.facts-number-end.ensures.count, c.loop-number-test.false)) named,
+  c.of_words.ensures,
+)
 
-pub returns-then-has_name-clause-found : goal.returns-then-has_name-clause-found
-returns-then-has_name-clause-found c = c.has_name.ensures.0 c.if-has_name.true
+pub returns-then-has_name : goal.returns-then-has_name
+returns-then-has_name c = c.has_name.ensures.0 c.if-has_name.true

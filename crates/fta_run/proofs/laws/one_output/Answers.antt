@@ -1,4 +1,4 @@
-use Rattle.fta_run.proofs.OneText.{one_output}
+use Rattle.fta_run.proofs.OneDue.{one_output}
 use Rattle.fta_run.proofs.laws.one_output.Goals as goal
 
 pub returns : goal.returns

@@ -1,0 +1,9 @@
+use Rattle.std.proofs.Common.{subst}
+use Rattle.fta_outside.specs.Outside.{TookPrefix}
+use Rattle.fta_run.specs.Line.{status_line}
+use Rattle.fta_run.proofs.Writes.{wrote_front}
+use Rattle.fta_run.proofs.command.write_status.Goals as goal
+
+pub returns-clause-at_most_the_line : goal.returns-clause-at_most_the_line
+returns-clause-at_most_the_line g c =
+    subst (λ files. TookPrefix (g.E.Sink.taken c.args.err.now) (g.E.Sink.taken c.write_line-written.new.err) (status_line files c.args.status.now)) c.file_words-files.ensures (wrote_front c.write_line-written.result _ _ _ _ _ c.write_line-written.ensures)

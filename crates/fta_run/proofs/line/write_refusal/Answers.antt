@@ -1,0 +1,25 @@
+use Rattle.std.proofs.Common.{◌≡◌, ◌++◌, codes, sym, ap, ◌∙◌}
+use Rattle.std.proofs.lemmas.Result.{err_from_is_err_and}
+use Rattle.aadl_syntax.specs.Refusal.{code_text}
+use Rattle.fta_run.specs.Line.{limit_text, place_text}
+use Rattle.fta_run.proofs.Writes.{line_parts, wrote_not, wrote_then}
+use Rattle.fta_run.proofs.line.write_refusal.Goals as goal
+
+pub returns-in_err-write_two : goal.returns-in_err-write_two
+returns-in_err-write_two g c =
+    let refusal = c.args.refusal.now in
+    let place = place_text c.args.files.now refusal.place in
+    let limit = limit_text refusal.limit in
+    let code : code_text refusal.code ≡ c.as_bytes.result.now = sym (c.as_bytes.ensures.value ∙ c.text.ensures) in
+    let whole = ap (λ text. codes "aadl_fta: " ++ ((text ++ (place ++ limit)) ++ codes "\n")) code ∙ line_parts (codes "aadl_fta: ") c.as_bytes.result.now place limit (codes "\n") in
+    let p = err_from_is_err_and c.from_residual.result c.from_residual.ensures.1 in
+    wrote_not c.from_residual.result p.0 p.1 _ _ _ _ (codes "aadl_fta: " ++ c.as_bytes.result.now) (place ++ (limit ++ codes "\n")) _ whole c.in_err-write_two.ensures
+
+pub returns : goal.returns
+returns g c =
+    let refusal = c.args.refusal.now in
+    let place = place_text c.args.files.now refusal.place in
+    let limit = limit_text refusal.limit in
+    let code : code_text refusal.code ≡ c.as_bytes.result.now = sym (c.as_bytes.ensures.value ∙ c.text.ensures) in
+    let whole = ap (λ text. codes "aadl_fta: " ++ ((text ++ (place ++ limit)) ++ codes "\n")) code ∙ line_parts (codes "aadl_fta: ") c.as_bytes.result.now place limit (codes "\n") in
+    wrote_then c.write_place_and_limit.result _ _ _ _ _ _ (codes "aadl_fta: " ++ c.as_bytes.result.now) (place ++ (limit ++ codes "\n")) _ whole c.in_ok-write_two.ensures.0 c.in_ok-write_two.ensures.1 c.write_place_and_limit.ensures

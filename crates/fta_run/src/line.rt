@@ -1,0 +1,105 @@
+ghost use Rattle.std.specs.Prelude.{◌≡◌, ◌++◌, codes, decimal};
+ghost use Rattle.fta_run.specs.Line.{Writes, file_word, limit_text, place_text, refusal_text, status_line};
+
+use crate::status::Status;
+use aadl_syntax::{Place, Refusal, Word};
+use fta_outside::{Sink, SinkFailed, write_all};
+use itoa::Buffer;
+
+/// Writes the line of a status to the error stream, where these files are named; nothing where all went well. It takes no
+/// memory.
+pub fn write_line<E: Sink>(err: &mut E, files: &[Word], status: &Status) -> Result<(), SinkFailed>
+    ensures { Writes result (status_line files.now status.now) (E.taken err.old) (E.taken err.new) (E.faults err.old) (E.faults err.new) }
+{
+    match status {
+        Status::Done => Ok(()),
+        Status::Usage => write_piece(err, b"aadl_fta: usage\n"),
+        Status::Refused(refusal) => write_refusal(err, files, refusal),
+        Status::ReadFault(file) => write_unread(err, file_word(files, *file)),
+        Status::WriteFault => write_piece(err, b"aadl_fta: cannot write\n"),
+        Status::Memory => write_piece(err, b"aadl_fta: out of memory\n"),
+        Status::NotYet => write_piece(err, b"aadl_fta: not yet\n"),
+    }
+}
+
+fn write_unread<E: Sink>(err: &mut E, file: &[u8]) -> Result<(), SinkFailed>
+    ensures { Writes result (codes "aadl_fta: cannot read " ++ (file.now ++ codes "\n")) (E.taken err.old) (E.taken err.new) (E.faults err.old) (E.faults err.new) }
+{
+    write_piece(err, b"aadl_fta: cannot read ")?;
+    write_two(err, file, b"\n")
+}
+
+fn write_refusal<E: Sink>(err: &mut E, files: &[Word], refusal: &Refusal) -> Result<(), SinkFailed>
+    ensures { Writes result (codes "aadl_fta: " ++ (refusal_text files.now refusal.now ++ codes "\n")) (E.taken err.old) (E.taken err.new) (E.faults err.old) (E.faults err.new) }
+{
+    write_two(err, b"aadl_fta: ", refusal.code.text().as_bytes())?;
+    write_place_and_limit(err, files, refusal)
+}
+
+fn write_place_and_limit<E: Sink>(
+    err: &mut E,
+    files: &[Word],
+    refusal: &Refusal,
+) -> Result<(), SinkFailed>
+    ensures { Writes result (place_text files.now refusal.now.place ++ (limit_text refusal.now.limit ++ codes "\n")) (E.taken err.old) (E.taken err.new) (E.faults err.old) (E.faults err.new) }
+{
+    write_place(err, files, refusal.place)?;
+    write_limit(err, refusal.limit)
+}
+
+fn write_place<E: Sink>(err: &mut E, files: &[Word], place: Place) -> Result<(), SinkFailed>
+    ensures { Writes result (place_text files.now place) (E.taken err.old) (E.taken err.new) (E.faults err.old) (E.faults err.new) }
+{
+    match place {
+        Place::Words => Ok(()),
+        Place::Whole(file) => write_two(err, b" ", file_word(files, file)),
+        Place::At { file, at } => write_byte(err, file_word(files, file), at),
+    }
+}
+
+fn write_byte<E: Sink>(err: &mut E, file: &[u8], at: u32) -> Result<(), SinkFailed>
+    ensures { Writes result (codes " " ++ (file.now ++ (codes ":" ++ decimal at))) (E.taken err.old) (E.taken err.new) (E.faults err.old) (E.faults err.new) }
+{
+    write_two(err, b" ", file)?;
+    write_number(err, b":", at as u64)
+}
+
+fn write_limit<E: Sink>(err: &mut E, limit: u64) -> Result<(), SinkFailed>
+    ensures { Writes result (limit_text limit ++ codes "\n") (E.taken err.old) (E.taken err.new) (E.faults err.old) (E.faults err.new) }
+{
+    if limit == 0 {
+        return write_piece(err, b"\n");
+    }
+    write_number(err, b" over ", limit)?;
+    write_piece(err, b"\n")
+}
+
+fn write_number<E: Sink>(err: &mut E, sign: &[u8], number: u64) -> Result<(), SinkFailed>
+    ensures { Writes result (sign.now ++ decimal number) (E.taken err.old) (E.taken err.new) (E.faults err.old) (E.faults err.new) }
+{
+    let mut digits = Buffer::new();
+    write_two(err, sign, digits.format(number).as_bytes())
+}
+
+fn write_two<E: Sink>(err: &mut E, first: &[u8], second: &[u8]) -> Result<(), SinkFailed>
+    ensures { Writes result (first.now ++ second.now) (E.taken err.old) (E.taken err.new) (E.faults err.old) (E.faults err.new) }
+{
+    write_piece(err, first)?;
+    write_piece(err, second)
+}
+
+fn write_piece<E: Sink>(err: &mut E, piece: &[u8]) -> Result<(), SinkFailed>
+    ensures { Writes result piece.now (E.taken err.old) (E.taken err.new) (E.faults err.old) (E.faults err.new) }
+{
+    write_all(err, piece)
+}
+
+/// The file word of a number.
+fn file_word(files: &[Word], number: u32) -> &[u8]
+    ensures { result.now ≡ file_word files.now number }
+{
+    match files.get(number as usize) {
+        Some(file) => file.items(),
+        None => &[],
+    }
+}
