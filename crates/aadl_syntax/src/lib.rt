@@ -3,6 +3,7 @@
 //! Contracts see each of them as plain data: a [`List`] as the list of its items, and the rest by their fields.
 #![tactic(auto)]
 
+mod core_model;
 mod error_model;
 mod laws;
 mod list;
@@ -12,6 +13,10 @@ mod place;
 mod refusal;
 mod token;
 
+pub use core_model::{
+    Alias, Connection, ConnectionKind, Decl, Ends, Feature, FeatureKind, PackageUnit, Subcomponent,
+    Unit,
+};
 pub use error_model::{
     Association, Atom, Composite, Condition, Emv2Clause, Emv2Library, EventDecl, EventKind, Flow,
     FlowKind, MachineDecl, Outgoing, PointItem, PointRef, Source, StateDecl, StateRef, Term,

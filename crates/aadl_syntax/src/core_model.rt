@@ -1,0 +1,115 @@
+use crate::error_model::{Emv2Clause, Emv2Library};
+use crate::list::List;
+use crate::name::Name;
+use crate::place::{End, Ref, Spot};
+
+/// A unit of a file: a package, or a property set by its name, which is read past.
+#[derive(Debug, Drop)]
+pub enum Unit {
+    Package(PackageUnit),
+    PropertySet(Name, Spot),
+}
+
+/// A package (AS5506): its aliases, its classifiers and its error model text, each in order, whether public or private.
+#[derive(Debug, Drop)]
+pub struct PackageUnit {
+    pub name: List<Name>,
+    pub spot: Spot,
+    pub aliases: List<Alias>,
+    pub decls: List<Decl>,
+    pub library: Emv2Library,
+}
+
+/// Another name for a package or a classifier, `renames`. The spot is that of the name, or of the target's where the alias
+/// states none.
+#[derive(Debug, Drop)]
+pub struct Alias {
+    pub name: Name,
+    /// Whether it stands for a package.
+    pub package: bool,
+    /// The names of the target.
+    pub names: List<Name>,
+    pub spot: Spot,
+}
+
+/// A classifier: a component type, or an implementation, which has an item.
+#[derive(Debug, Drop)]
+pub struct Decl {
+    pub name: Name,
+    /// The identifier after the dot of an implementation.
+    pub item: Option<Name>,
+    pub spot: Spot,
+    pub extends: Option<Ref>,
+    /// Where bindings of prototypes follow the extended name: their `(`.
+    pub binds: Option<Spot>,
+    /// Where it has a `prototypes` section that is not `none`: its first word.
+    pub prototypes: Option<Spot>,
+    pub features: List<Feature>,
+    pub subcomponents: List<Subcomponent>,
+    pub connections: List<Connection>,
+    pub clauses: List<Emv2Clause>,
+}
+
+/// A feature of a component type.
+#[derive(Debug, Drop)]
+pub struct Feature {
+    pub name: Name,
+    pub spot: Spot,
+    /// Whether it is `refined to`.
+    pub refined: bool,
+    pub kind: FeatureKind,
+    /// Where it is an array: its `[`.
+    pub array: Option<Spot>,
+}
+
+/// The direction of a feature, or that it is an access or a feature group.
+#[derive(Clone, Copy, Debug, PartialEq, Eq)]
+pub enum FeatureKind {
+    Inward,
+    Outward,
+    Both,
+    Access,
+    Group,
+}
+
+/// A subcomponent of an implementation.
+#[derive(Debug, Drop)]
+pub struct Subcomponent {
+    pub name: Name,
+    pub spot: Spot,
+    /// Whether it is `refined to`.
+    pub refined: bool,
+    pub classifier: Option<Ref>,
+    /// Where it is an array: its `[`.
+    pub array: Option<Spot>,
+    /// Where bindings of prototypes follow its classifier: their `(`.
+    pub binds: Option<Spot>,
+}
+
+/// A connection of an implementation.
+#[derive(Debug, Drop)]
+pub struct Connection {
+    pub name: Name,
+    pub spot: Spot,
+    /// Whether it is `refined to`.
+    pub refined: bool,
+    pub kind: ConnectionKind,
+    /// Its ends, which a refinement may leave out.
+    pub ends: Option<Ends>,
+}
+
+/// The kind of a connection: of ports, parameters or features, of an access, or of feature groups.
+#[derive(Clone, Copy, Debug, PartialEq, Eq)]
+pub enum ConnectionKind {
+    Plain,
+    Access,
+    Group,
+}
+
+/// The ends of a connection; `both` where it goes both ways.
+#[derive(Debug, Drop)]
+pub struct Ends {
+    pub from: End,
+    pub to: End,
+    pub both: bool,
+}
