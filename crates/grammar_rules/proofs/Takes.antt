@@ -4,7 +4,7 @@ use Rattle.aadl_syntax.specs.declared.token.Token.{Token}
 use Rattle.aadl_syntax.specs.declared.token.TokenKind.{TokenKind}
 use Rattle.grammar_rules.specs.Rules.{Test, Rule, takes, joins, chooses, begin, Reads}
 use Rattle.grammar_rules.specs.Running.{Outcome, read, dead, run}
-use Rattle.grammar_rules.specs.Tokens.{kind, word, sign, identifier}
+use Rattle.grammar_rules.specs.Tokens.{kind, word, sign, identifier, one_of}
 use Rattle.grammar_rules.specs.Parts.{TakesTokens}
 use Rattle.grammar_rules.proofs.Laws.{IsOutcome, is_outcome}
 
@@ -48,3 +48,7 @@ sign_takes text = takes_takes _
 pub identifier_takes : (reserved : List (List ℕ)) → TakesTokens (identifier reserved)
 unfolding identifier
 identifier_takes reserved = takes_takes _
+
+pub one_of_takes : (words : List (List ℕ)) → TakesTokens (one_of words)
+unfolding one_of
+one_of_takes words = takes_takes _

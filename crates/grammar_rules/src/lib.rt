@@ -10,7 +10,7 @@ mod reader;
 mod span;
 mod text;
 
-pub use part::Parts;
+pub use part::{Gathered, Parts};
 pub use reader::{ReadError, Reader};
 pub use span::{Balanced, Span, Tail, ToEnd};
 pub use text::{Grammar, TextError, one_reading, read_text};
