@@ -239,15 +239,17 @@ pub(crate) fn is_kind(token: &Token, kind: TokenKind) -> bool
     token.kind == kind
 }
 
+/// Whether a token is this word, given in lower case.
 #[tactic(auto, unfolding(crate::specs::Tokens::is_word))]
-pub(crate) fn is_word(token: &Token, text: &[u8]) -> bool
+pub fn is_word(token: &Token, text: &[u8]) -> bool
     ensures { result ≡ is_word text.now token.now }
 {
     token.kind == TokenKind::Word && token.text.items() == text
 }
 
+/// Whether a token is this sign.
 #[tactic(auto, unfolding(crate::specs::Tokens::is_sign))]
-pub(crate) fn is_sign(token: &Token, text: &[u8]) -> bool
+pub fn is_sign(token: &Token, text: &[u8]) -> bool
     ensures { result ≡ is_sign text.now token.now }
 {
     token.kind == TokenKind::Sign && token.text.items() == text
