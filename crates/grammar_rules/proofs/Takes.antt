@@ -27,6 +27,14 @@ takes_first {first = first} {after = after} h = record {
       let g = length-rest file (after r.0) r.1 value rest r.3 in omega arith;
 }
 
+pub takes_after : {A B : Type 0} {first : Rule A} {after : A → Rule B} → ((x : A) → TakesTokens (after x)) → TakesTokens (joins first after)
+takes_after {first = first} {after = after} h = record {
+  fewer = λ file tokens value rest r.
+      let f = length-rest file first tokens r.0 r.1 r.2 in
+      let k = h r.0 in
+      let g = k.fewer file r.1 value rest r.3 in omega arith;
+}
+
 pub takes_either : {A : Type 0} (tests : List Test) {one other : Rule A} → TakesTokens one → TakesTokens other → TakesTokens (chooses tests one other)
 takes_either tests {one} {other} h k = record { fewer = λ file tokens value rest r. either file tokens value rest (begin tests tokens) r } where
   either : (file : ℕ) (tokens : List Token) (value : _) (rest : List Token) (b : Bool) → MatchBool b (Reads file one tokens value rest) (Reads file other tokens value rest) → length rest < length tokens
