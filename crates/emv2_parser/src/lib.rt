@@ -14,3 +14,6 @@ mod words;
 
 pub use text::{clause, library, one_clause, one_library};
 
+
+#[cfg(test)]
+mod tests;
