@@ -2,8 +2,8 @@
 use Rattle.std.proofs.Common.{◌≡◌, ℕ, zero, suc, ◌+◌, ◌-◌, ◌<◌, ◌≤◌, min, Bool, true, false, MatchBool, List, [], ◌∷◌, ◌++◌, length, drop, Option, Some, None, nat_lt, refl, sym, ◌∙◌, ap, arith, subst, append_assoc, append-nil, length-drop, drop-drop, ltb-true, ltb-false}
 use Rattle.std.specs.Prelude.{slice_get, if◌then◌else◌}
 use Rattle.aadl_syntax.specs.declared.token.Token.{Token}
-use Rattle.grammar_rules.specs.Rules.{Test, Rule, gives, gives_file, refuses, takes, sees, ends, spans, joins, chooses, repeats, begin, IsSpan, Reads}
-use Rattle.grammar_rules.specs.Running.{Outcome, read, dead, seen, looked, found, followed, spanned, repeated, run}
+use Rattle.grammar_rules.specs.Rules.{Test, Rule, gives, gives_file, refuses, takes, sees, ends, spans, joins, chooses, repeats, gathers, begin, IsSpan, ReadsThrough, Reads}
+use Rattle.grammar_rules.specs.Running.{Outcome, read, dead, seen, looked, found, followed, spanned, repeated, gathered, run}
 use Rattle.grammar_rules.proofs.Looks.{SameSeen, SameSeen-le, looked_at-le, begin-same}
 
 slice_get-drop : (n : ℕ) (tokens : List Token) (k : ℕ) → slice_get (drop n tokens) k ≡ slice_get tokens (n + k)
@@ -264,6 +264,113 @@ module _ {A : Type 0} (file : ℕ) (tests : List Test) (part : Rule A) where
       either again true e = turned tokens unseen turns e again _ (one tokens (looked tests tokens unseen))
       either again false e = no_part tokens unseen e
 
+-- parts, one after the other, each of which goes on from the value of those before it
+module _ {A : Type 0} (file : ℕ) (tests : List Test) (part : A → Rule A) where
+  -- the first of some parts, and the others
+  record Next (others : List Token) (before value : A) (end : List Token) : Type 0 where
+    after : A
+    middle : List Token
+    shorter : length middle < length others
+    first : Reads file (part before) others after middle
+    reads : Reads file (gathers tests part after) middle value end
+
+  has_next : (others : List Token) (before value : A) (end : List Token) → begin tests others ≡ true → Reads file (gathers tests part before) others value end → Next others before value end
+  has_next others before value end e r = split r.0 r.1 where
+    split : (values : List A) → ReadsThrough tests (λ x. Reads file (part x)) others before values value end → Next others before value end
+    split [] q = let f : begin tests others ≡ false = q.0 in cc
+    split (x ∷ xs) q = record { after = x; middle = q.1; shorter = q.2; first = q.3; reads = (xs, q.4) }
+
+  ends_there : (others : List Token) (before value : A) (end : List Token) → begin tests others ≡ false → Reads file (gathers tests part before) others value end → (value ≡ before) × (end ≡ others)
+  ends_there others before value end e r = split r.0 r.1 where
+    split : (values : List A) → ReadsThrough tests (λ x. Reads file (part x)) others before values value end → (value ≡ before) × (end ≡ others)
+    split [] q = (q.1, q.2)
+    split (x ∷ xs) q = let f : begin tests others ≡ true = q.0 in cc
+
+  module _ (start : A) (tokens : List Token) (unseen : ℕ) where
+    none_next : begin tests tokens ≡ false → IsOutcome file (gathers tests part start) tokens unseen (read start tokens (looked tests tokens unseen))
+    none_next e = record {
+      taken = 0;
+      within = omega arith;
+      rest_is = refl;
+      fewer = looked_at-le 0 tests tokens unseen;
+      reads = ([], (e, refl, refl));
+      alone = λ others s v end r. ends_there others start v end (begin-same 0 tests tokens others unseen _ (omega arith) (omega arith) s ∙ e) r;
+    }
+
+    module _ (e : begin tests tokens ≡ true) where
+      dead_next : (left : ℕ) → IsDead file (part start) tokens (looked tests tokens unseen) left → IsDead file (gathers tests part start) tokens unseen left
+      dead_next left h = record {
+        fewer = let f = h.fewer in let g = looked_at-le 0 tests tokens unseen in omega arith;
+        none = λ others s v end r.
+            let p = has_next others start v end (begin-same 0 tests tokens others unseen left (omega arith) h.fewer s ∙ e) r in
+            h.none others s p.after p.middle p.first;
+      }
+
+      module _ (x : A) (middle : List Token) (left : ℕ) (h : IsRead file (part start) tokens (looked tests tokens unseen) x middle left) where
+        -- a part that takes nothing
+        empty_next : length tokens ≤ length middle → IsDead file (gathers tests part start) tokens unseen left
+        empty_next le = record {
+          fewer = let f = h.fewer in let g = looked_at-le 0 tests tokens unseen in omega arith;
+          none = λ others s v end r.
+              let p = has_next others start v end (begin-same 0 tests tokens others unseen left (omega arith) h.fewer s ∙ e) r in
+              let same = h.alone others s p.after p.middle p.first in
+              let n = ap length h.rest_is in
+              let w = h.within in
+              let z : h.taken ≡ 0 = omega (arith, length-drop h.taken tokens) in
+              let m : p.middle ≡ others = same.1 ∙ ap (λ n. drop n others) z in
+              let k = p.shorter in
+              absurd (omega (arith, ap length m));
+        }
+
+        more_next : length middle < length tokens → (o : Outcome A) → IsOutcome file (gathers tests part x) middle left o → IsOutcome file (gathers tests part start) tokens unseen o
+        more_next lt (dead last) k = record {
+          fewer = let f = h.fewer in let g = k.fewer in let i = looked_at-le 0 tests tokens unseen in omega arith;
+          none = λ others s v end r.
+              let s1 = SameSeen-le k.fewer s in
+              let p = has_next others start v end (begin-same 0 tests tokens others unseen left (omega arith) h.fewer s1 ∙ e) r in
+              let same = h.alone others s1 p.after p.middle p.first in
+              let s2 = subst (λ (ts : List Token). SameSeen last ts (drop h.taken others)) (sym h.rest_is) (SameSeen-drop h.taken h.within s) in
+              let q = subst (λ (a : A). Reads file (gathers tests part a) p.middle v end) same.0 p.reads in
+              k.none (drop h.taken others) s2 v end (subst (λ (ts : List Token). Reads file (gathers tests part x) ts v end) same.1 q);
+        }
+        more_next lt (read y rest last) k = record {
+          taken = h.taken + k.taken;
+          within = let n = ap length h.rest_is in let f = k.within in let g = h.within in omega (arith, length-drop h.taken tokens);
+          rest_is = k.rest_is ∙ ap (drop k.taken) h.rest_is ∙ drop-drop k.taken h.taken tokens;
+          fewer = let f = h.fewer in let g = k.fewer in let i = looked_at-le 0 tests tokens unseen in omega arith;
+          reads = (x ∷ k.reads.0, (e, middle, lt, h.reads, k.reads.1));
+          alone = λ others s v end r.
+              let s1 = SameSeen-le k.fewer s in
+              let p = has_next others start v end (begin-same 0 tests tokens others unseen left (omega arith) h.fewer s1 ∙ e) r in
+              let same = h.alone others s1 p.after p.middle p.first in
+              let s2 = subst (λ (ts : List Token). SameSeen last ts (drop h.taken others)) (sym h.rest_is) (SameSeen-drop h.taken h.within s) in
+              let t = subst (λ (a : A). Reads file (gathers tests part a) p.middle v end) same.0 p.reads in
+              let q = k.alone (drop h.taken others) s2 v end (subst (λ (ts : List Token). Reads file (gathers tests part x) ts v end) same.1 t) in
+              (q.0, q.1 ∙ drop-drop k.taken h.taken others);
+        }
+
+  -- what a part comes to, and the parts after it
+  next_turn : (start : A) (tokens : List Token) (unseen turns : ℕ) → begin tests tokens ≡ true
+      → ((x : A) (middle : List Token) (left : ℕ) → length middle < length tokens → IsOutcome file (gathers tests part x) middle left (gathered tests (λ x. run file (part x)) turns x middle left))
+      → (o : Outcome A) → IsOutcome file (part start) tokens (looked tests tokens unseen) o
+      → IsOutcome file (gathers tests part start) tokens unseen (followed o (λ next rest left. if nat_lt (length rest) (length tokens) then gathered tests (λ x. run file (part x)) turns next rest left else dead left))
+  next_turn start tokens unseen turns e again (dead left) h = dead_next start tokens unseen e left h
+  next_turn start tokens unseen turns e again (read x middle left) h = either (nat_lt (length middle) (length tokens)) refl where
+    either : (b : Bool) → nat_lt (length middle) (length tokens) ≡ b → IsOutcome file (gathers tests part start) tokens unseen (if b then gathered tests (λ x. run file (part x)) turns x middle left else dead left)
+    either true lt = let l = ltb-true (length middle) (length tokens) lt in more_next start tokens unseen e x middle left h l (gathered tests (λ x. run file (part x)) turns x middle left) (again x middle left l)
+    either false lt = empty_next start tokens unseen e x middle left h (ltb-false (length middle) (length tokens) lt)
+
+  module _ (one : (x : A) (tokens : List Token) (unseen : ℕ) → IsOutcome file (part x) tokens unseen (run file (part x) tokens unseen)) where
+    each_next : (turns : ℕ) (start : A) (tokens : List Token) (unseen : ℕ) → length tokens < turns → IsOutcome file (gathers tests part start) tokens unseen (gathered tests (λ x. run file (part x)) turns start tokens unseen)
+    each_next zero start tokens unseen h = absurd (omega arith)
+    each_next (suc turns) start tokens unseen h = either (λ x middle left l. each_next turns x middle left (omega arith)) (begin tests tokens) refl where
+      either : ((x : A) (middle : List Token) (left : ℕ) → length middle < length tokens → IsOutcome file (gathers tests part x) middle left (gathered tests (λ x. run file (part x)) turns x middle left))
+          → (b : Bool) → begin tests tokens ≡ b → IsOutcome file (gathers tests part start) tokens unseen (if b
+          then followed (run file (part start) tokens (looked tests tokens unseen)) (λ next rest left. if nat_lt (length rest) (length tokens) then gathered tests (λ x. run file (part x)) turns next rest left else dead left)
+          else read start tokens (looked tests tokens unseen))
+      either again true e = next_turn start tokens unseen turns e again _ (one start tokens (looked tests tokens unseen))
+      either again false e = none_next start tokens unseen e
+
 -- tokens up to the first that stops
 module _ (file : ℕ) (stops : List Token → Token → Bool) where
   -- the same for the tokens after those that were passed before
@@ -386,3 +493,4 @@ is_outcome file (spans stops) tokens unseen = is_spanned file stops tokens unsee
 is_outcome file (joins first after) tokens unseen = joined file first after tokens unseen (λ x middle left. is_outcome file (after x) middle left) _ (is_outcome file first tokens unseen)
 is_outcome file (chooses tests one other) tokens unseen = chosen file tests one other tokens unseen (is_outcome file one tokens (looked tests tokens unseen)) (is_outcome file other tokens (looked tests tokens unseen)) (begin tests tokens) refl
 is_outcome file (repeats tests part) tokens unseen = each_part file tests part (λ ts n. is_outcome file part ts n) (suc (length tokens)) tokens unseen (omega arith)
+is_outcome file (gathers tests part start) tokens unseen = each_next file tests part (λ x ts n. is_outcome file (part x) ts n) (suc (length tokens)) start tokens unseen (omega arith)

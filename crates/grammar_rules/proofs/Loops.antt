@@ -68,7 +68,7 @@ pub record Collects {A : Type 0} (tests : List Test) (part : Rule A) (before par
   pub same_file : now.file ≡ start.file
   pub so_far : run start.file (parts_after parts tests part) now.tokens.now now.unseen ≡ run start.file (parts_after before tests part) start.tokens.now start.unseen
 
-run-same : {A : Type 0} (rule : Rule A) (f g : ℕ) (ts us : List Token) (m n : ℕ) → f ≡ g → ts ≡ us → m ≡ n → run f rule ts m ≡ run g rule us n
+pub run-same : {A : Type 0} (rule : Rule A) (f g : ℕ) (ts us : List Token) (m n : ℕ) → f ≡ g → ts ≡ us → m ≡ n → run f rule ts m ≡ run g rule us n
 run-same rule f g ts us m n p q r = ap (λ f. run f rule ts m) p ∙ ap (λ (ts : List Token). run g rule ts m) q ∙ ap (λ n. run g rule us n) r
 
 -- what an outcome is, of the value that was read

@@ -4,7 +4,7 @@ use Rattle.aadl_syntax.specs.declared.token.Token.{Token}
 use Rattle.aadl_syntax.specs.declared.token.TokenKind.{TokenKind}
 use Rattle.grammar_rules.specs.Rules.{Test, Rule, takes, joins, chooses, begin, Reads}
 use Rattle.grammar_rules.specs.Running.{Outcome, read, dead, run}
-use Rattle.grammar_rules.specs.Tokens.{kind, word, sign, identifier}
+use Rattle.grammar_rules.specs.Tokens.{kind, word, sign, identifier, one_of}
 use Rattle.grammar_rules.specs.Parts.{TakesTokens}
 use Rattle.grammar_rules.proofs.Laws.{IsOutcome, is_outcome}
 
@@ -25,6 +25,14 @@ takes_first {first = first} {after = after} h = record {
   fewer = λ file tokens value rest r.
       let f = h.fewer file tokens r.0 r.1 r.2 in
       let g = length-rest file (after r.0) r.1 value rest r.3 in omega arith;
+}
+
+pub takes_after : {A B : Type 0} {first : Rule A} {after : A → Rule B} → ((x : A) → TakesTokens (after x)) → TakesTokens (joins first after)
+takes_after {first = first} {after = after} h = record {
+  fewer = λ file tokens value rest r.
+      let f = length-rest file first tokens r.0 r.1 r.2 in
+      let k = h r.0 in
+      let g = k.fewer file r.1 value rest r.3 in omega arith;
 }
 
 pub takes_either : {A : Type 0} (tests : List Test) {one other : Rule A} → TakesTokens one → TakesTokens other → TakesTokens (chooses tests one other)
@@ -48,3 +56,7 @@ sign_takes text = takes_takes _
 pub identifier_takes : (reserved : List (List ℕ)) → TakesTokens (identifier reserved)
 unfolding identifier
 identifier_takes reserved = takes_takes _
+
+pub one_of_takes : (words : List (List ℕ)) → TakesTokens (one_of words)
+unfolding one_of
+one_of_takes words = takes_takes _

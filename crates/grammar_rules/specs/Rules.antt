@@ -28,6 +28,8 @@ pub data Rule : Type 0 → Type 1 where
   chooses : {A : Type 0} → List Test → Rule A → Rule A → Rule A
   -- parts, one after the other, as long as the next tokens pass these tests
   repeats : {A : Type 0} → List Test → Rule A → Rule (List A)
+  -- parts as long as the next tokens pass these tests, each of which goes on from the value of those before it
+  gathers : {A : Type 0} → List Test → (A → Rule A) → A → Rule A
 
 -- the rules of a production are written one below the other, in a `do` block
 infixl 10 ◌>>=◌
@@ -59,6 +61,12 @@ abbrev pub ReadsEach : {A : Type 0} → List Test → (List Token → A → List
 ReadsEach tests Part tokens [] rest = IsFalse (begin tests tokens) × (rest ≡ tokens)
 ReadsEach tests Part tokens (value ∷ values) rest = IsTrue (begin tests tokens) × (middle : List Token) × (length middle < length tokens) × Part tokens value middle × ReadsEach tests Part middle values rest
 
+-- The tokens are parts that read so, each of at least one token, up to where the next tokens fail the tests; each goes on from
+-- the value of the one before it, and these are the values after each of them.
+abbrev pub ReadsThrough : {A : Type 0} → List Test → (A → List Token → A → List Token → Type 0) → List Token → A → List A → A → List Token → Type 0
+ReadsThrough tests Part tokens before [] value rest = IsFalse (begin tests tokens) × (value ≡ before) × (rest ≡ tokens)
+ReadsThrough tests Part tokens before (after ∷ more) value rest = IsTrue (begin tests tokens) × (middle : List Token) × (length middle < length tokens) × Part before tokens after middle × ReadsThrough tests Part middle after more value rest
+
 -- The front of the tokens of this file reads by the rule as the value, and the rest is left.
 abbrev pub Reads : {A : Type 0} → ℕ → Rule A → List Token → A → List Token → Type 0
 Reads file (gives x) tokens value rest = (value ≡ x) × (rest ≡ tokens)
@@ -71,6 +79,7 @@ Reads file (spans stops) tokens value rest = (tokens ≡ value ++ rest) × IsSpa
 Reads file (joins {A = A} first after) tokens value rest = (x : A) × (middle : List Token) × Reads file first tokens x middle × Reads file (after x) middle value rest
 Reads file (chooses tests one other) tokens value rest = MatchBool (begin tests tokens) (Reads file one tokens value rest) (Reads file other tokens value rest)
 Reads file (repeats tests part) tokens values rest = ReadsEach tests (Reads file part) tokens values rest
+Reads file (gathers {A = A} tests part start) tokens value rest = (values : List A) × ReadsThrough tests (λ x. Reads file (part x)) tokens start values value rest
 
 -- Two lists of tokens have the same at every place up to and with this one; the end of a list is the place after its last token.
 abbrev pub AgreeTo : ℕ → List Token → List Token → Type 0

@@ -1,7 +1,7 @@
 -- The reading of tokens by a rule as a function, which also counts how much of the tokens is still unseen.
 use Rattle.std.specs.Prelude.{ℕ, zero, suc, ◌-◌, min, Bool, if◌then◌else◌, List, [], ◌∷◌, ◌++◌, length, drop, Option, Some, None, option_and_then, is_none, nat_lt, slice_get}
 use Rattle.aadl_syntax.specs.declared.token.Token.{Token}
-use Rattle.grammar_rules.specs.Rules.{Test, Rule, gives, gives_file, refuses, takes, sees, ends, spans, joins, chooses, repeats, passes_test, begin}
+use Rattle.grammar_rules.specs.Rules.{Test, Rule, gives, gives_file, refuses, takes, sees, ends, spans, joins, chooses, repeats, gathers, passes_test, begin}
 
 -- What a reading comes to: a value, the tokens that are left, and how many of these and the end no test has looked at;
 -- or a refusal, where that many of the tokens and the end are unseen.
@@ -48,6 +48,14 @@ repeated tests part (suc turns) tokens unseen =
     if nat_lt (length rest) (length tokens) then followed (repeated tests part turns rest left) (λ values end last. read (value ∷ values) end last) else dead left)
     else read [] tokens (looked tests tokens unseen)
 
+-- parts as long as the next tokens pass the tests, each going on from the value of those before it, in less than so many turns
+abbrev pub gathered : {A : Type 0} → List Test → (A → List Token → ℕ → Outcome A) → ℕ → A → List Token → ℕ → Outcome A
+gathered tests part zero value tokens unseen = dead unseen
+gathered tests part (suc turns) value tokens unseen =
+    if begin tests tokens
+    then followed (part value tokens (looked tests tokens unseen)) (λ next rest left. if nat_lt (length rest) (length tokens) then gathered tests part turns next rest left else dead left)
+    else read value tokens (looked tests tokens unseen)
+
 -- the reading of these tokens of a file by a rule, where so many of the tokens and the end are unseen
 abbrev pub run : {A : Type 0} → ℕ → Rule A → List Token → ℕ → Outcome A
 run file (gives x) tokens unseen = read x tokens unseen
@@ -60,3 +68,4 @@ run file (spans stops) tokens unseen = spanned stops [] tokens unseen
 run file (joins first after) tokens unseen = followed (run file first tokens unseen) (λ value rest left. run file (after value) rest left)
 run file (chooses tests one other) tokens unseen = if begin tests tokens then run file one tokens (looked tests tokens unseen) else run file other tokens (looked tests tokens unseen)
 run file (repeats tests part) tokens unseen = repeated tests (run file part) (suc (length tokens)) tokens unseen
+run file (gathers tests part start) tokens unseen = gathered tests (λ x. run file (part x)) (suc (length tokens)) start tokens unseen

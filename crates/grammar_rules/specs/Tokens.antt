@@ -32,6 +32,10 @@ is_sign text token = same_kind token.kind Sign && bytes_eq token.text text
 unfoldable pub is_identifier : List (List ℕ) → Test
 is_identifier reserved token = same_kind token.kind Word && not (list_any (bytes_eq token.text) reserved)
 
+-- one of these words
+unfoldable pub is_one_of : List (List ℕ) → Test
+is_one_of words token = same_kind token.kind Word && list_any (bytes_eq token.text) words
+
 -- takes a token that passes the test
 abbrev pub passing : Test → Rule (Unit {0})
 passing test = takes (λ token. if test token then Some tt else None)
@@ -51,6 +55,10 @@ sign text = passing (is_sign text)
 -- takes a word that is not reserved, and gives its text
 unfoldable pub identifier : List (List ℕ) → Rule (List ℕ)
 identifier reserved = takes (λ token. if is_identifier reserved token then Some token.text else None)
+
+-- takes one of these words, and gives it
+unfoldable pub one_of : List (List ℕ) → Rule (List ℕ)
+one_of words = takes (λ token. if is_one_of words token then Some token.text else None)
 
 -- where the next token starts: the number of its first byte in the file
 unfoldable pub place : Rule ℕ

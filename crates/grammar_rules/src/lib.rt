@@ -10,9 +10,9 @@ mod reader;
 mod span;
 mod text;
 
-pub use part::Parts;
-pub use reader::{ReadError, Reader};
-pub use span::{Balanced, Span, Tail, ToEnd};
+pub use part::{Gathered, Parts};
+pub use reader::{ReadError, Reader, is_sign, is_word};
+pub use span::{Balanced, Span, Tail, ToEnd, closes};
 pub use text::{Grammar, TextError, one_reading, read_text};
 
 #[cfg(test)]

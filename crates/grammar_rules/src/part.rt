@@ -50,12 +50,59 @@ impl<'a> Reader<'a> {
         self.more_parts::<P>(one)
     }
 
-    fn more_parts<P: Parts>(&mut self, mut parts: List<P::Part>) -> Result<List<P::Part>, ReadError>
+    /// Reads parts as long as the next tokens begin one, perhaps none, and gives them after those that were read before.
+    pub fn more_parts<P: Parts>(
+        &mut self,
+        mut parts: List<P::Part>,
+    ) -> Result<List<P::Part>, ReadError>
         ensures { Gives result (parts_after parts P.tests P.rule) self.old self.new }
     {
         while P::begins(self) {
             parts.push(P::part(self)?)?;
         }
         Ok(parts)
+    }
+}
+
+/// Parts of which a text may have several, one after the other, and which make one value together: each goes on from
+/// the value of those before it.
+///
+/// A further part is read exactly where the next tokens can begin one, and each takes at least one token.
+pub trait Gathered {
+    ghost use Rattle.std.specs.Prelude.{List as Items};
+    ghost use Rattle.grammar_rules.specs.Rules.{Rule, Test};
+    ghost use Rattle.grammar_rules.specs.Parts.{TakesTokens};
+    ghost use Rattle.grammar_rules.specs.Reader.{Gives, Begins};
+
+    /// What the parts give together.
+    type Whole: Drop;
+
+    ghost tests: { Items Test };
+
+    ghost rule: { Self.Whole → Rule Self.Whole };
+
+    /// Whether the next tokens begin a part.
+    fn begins(reader: &mut Reader) -> bool
+        ensures { Begins result 0 tests reader.old reader.new };
+
+    /// Reads a part, after what those before it give.
+    fn part(reader: &mut Reader, whole: Self::Whole) -> Result<Self::Whole, ReadError>
+        ensures { Gives result (rule whole) reader.old reader.new };
+
+    ghost takes_tokens: { (whole : Self.Whole) → TakesTokens (rule whole) };
+}
+
+impl<'a> Reader<'a> {
+    ghost use Rattle.grammar_rules.specs.Rules.{gathers};
+    ghost use Rattle.grammar_rules.specs.Reader.{Gives};
+
+    /// Reads parts as long as the next tokens begin one, perhaps none, and gives what they make of `whole`.
+    pub fn gather<G: Gathered>(&mut self, mut whole: G::Whole) -> Result<G::Whole, ReadError>
+        ensures { Gives result (gathers G.tests G.rule whole) self.old self.new }
+    {
+        while G::begins(self) {
+            whole = G::part(self, whole)?;
+        }
+        Ok(whole)
     }
 }

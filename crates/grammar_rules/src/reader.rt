@@ -1,6 +1,6 @@
 ghost use Rattle.std.specs.Prelude.{◌≡◌, ◌+◌, length, slice_get, option_copied, map, bytes_eq};
 ghost use Rattle.std.specs.List.{list_any};
-ghost use Rattle.grammar_rules.specs.Tokens.{is_kind, is_word, is_sign, is_identifier};
+ghost use Rattle.grammar_rules.specs.Tokens.{is_kind, is_word, is_sign, is_identifier, is_one_of};
 
 use aadl_syntax::{List, Name, Token, TokenKind};
 use std::alloc::{AllocError, Global};
@@ -39,7 +39,7 @@ impl<'a> Reader<'a> {
     ghost use Rattle.std.specs.Prelude.{[], ◌∷◌};
     ghost use Rattle.grammar_rules.specs.Rules.{ends};
     ghost use Rattle.grammar_rules.specs.Reader.{Gives, Begins, LooksAt, Steps};
-    ghost use Rattle.grammar_rules.specs.Tokens.{kind, word, sign, identifier, place};
+    ghost use Rattle.grammar_rules.specs.Tokens.{kind, word, sign, identifier, one_of, place};
 
     /// A reader before the first of these tokens, none of which it has looked at; files are numbered from 0.
     pub fn new(alloc: Global, file: u32, tokens: &'a [Token]) -> Reader<'a>
@@ -134,6 +134,16 @@ impl<'a> Reader<'a> {
         }
     }
 
+    /// Whether the token `k` places ahead is one of these words, given in lower case.
+    pub fn one_of_at(&mut self, k: usize, words: &[&[u8]]) -> bool
+        ensures { Begins result k (is_one_of (map (λ w. w.now) words.now) ∷ []) self.old self.new }
+    {
+        match self.look(k) {
+            Some(token) => is_one_of(token, words),
+            None => false,
+        }
+    }
+
     /// Takes a token of this kind.
     #[tactic(auto, unfolding(crate::specs::Tokens::kind))]
     pub fn kind(&mut self, expected: TokenKind) -> Result<(), ReadError>
@@ -185,6 +195,21 @@ impl<'a> Reader<'a> {
         }
     }
 
+    /// Takes one of these words, given in lower case, and gives a copy of it.
+    #[tactic(auto, unfolding(crate::specs::Tokens::one_of))]
+    pub fn one_of(&mut self, words: &[&[u8]]) -> Result<Name, ReadError>
+        ensures { Gives result (one_of (map (λ w. w.now) words.now)) self.old self.new }
+    {
+        match self.look(0) {
+            Some(token) if is_one_of(token, words) => {
+                self.step();
+                let text = Vec::from_slice(self.alloc, token.text.items())?;
+                Ok(List::of(text)?)
+            }
+            _ => Err(ReadError::Refused),
+        }
+    }
+
     /// Where the next token starts: the number of its first byte in the file, from 0. Refused at the end.
     #[tactic(auto, unfolding(crate::specs::Tokens::place))]
     pub fn place(&mut self) -> Result<u32, ReadError>
@@ -214,15 +239,17 @@ pub(crate) fn is_kind(token: &Token, kind: TokenKind) -> bool
     token.kind == kind
 }
 
+/// Whether a token is this word, given in lower case.
 #[tactic(auto, unfolding(crate::specs::Tokens::is_word))]
-pub(crate) fn is_word(token: &Token, text: &[u8]) -> bool
+pub fn is_word(token: &Token, text: &[u8]) -> bool
     ensures { result ≡ is_word text.now token.now }
 {
     token.kind == TokenKind::Word && token.text.items() == text
 }
 
+/// Whether a token is this sign.
 #[tactic(auto, unfolding(crate::specs::Tokens::is_sign))]
-pub(crate) fn is_sign(token: &Token, text: &[u8]) -> bool
+pub fn is_sign(token: &Token, text: &[u8]) -> bool
     ensures { result ≡ is_sign text.now token.now }
 {
     token.kind == TokenKind::Sign && token.text.items() == text
@@ -233,6 +260,13 @@ fn is_identifier(token: &Token, reserved: &[&[u8]]) -> bool
     ensures { result ≡ is_identifier (map (λ w. w.now) reserved.now) token.now }
 {
     token.kind == TokenKind::Word && !is_among(token.text.items(), reserved)
+}
+
+#[tactic(auto, unfolding(crate::specs::Tokens::is_one_of))]
+fn is_one_of(token: &Token, words: &[&[u8]]) -> bool
+    ensures { result ≡ is_one_of (map (λ w. w.now) words.now) token.now }
+{
+    token.kind == TokenKind::Word && is_among(token.text.items(), words)
 }
 
 fn is_among(text: &[u8], words: &[&[u8]]) -> bool

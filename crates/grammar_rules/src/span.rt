@@ -119,8 +119,9 @@ fn opens(token: &Token) -> bool
         || is_kind(token, TokenKind::AnnexBegin)
 }
 
+/// Whether a token is a closing bracket.
 #[tactic(auto, unfolding(crate::specs::Spans::closes))]
-fn closes(token: &Token) -> bool
+pub fn closes(token: &Token) -> bool
     ensures { result ≡ closes token.now }
 {
     is_sign(token, b")")

@@ -1,0 +1,164 @@
+-- The grammar of error model text: the library of a package, and the clause of a classifier.
+use Rattle.std.specs.Prelude.{◌≡◌, ℕ, Bool, true, List, [], ◌∷◌, ◌++◌, Option, Some, None, slice_get, codes}
+use Rattle.aadl_syntax.specs.declared.token.Token.{Token}
+use Rattle.aadl_syntax.specs.declared.place.Spot.{Spot}
+use Rattle.aadl_syntax.specs.declared.refusal.Stop.{Stop}
+use Rattle.aadl_syntax.specs.declared.refusal.Stop.TheVariants.{Refused, Memory}
+use Rattle.aadl_syntax.specs.declared.refusal.Code.TheVariants.{Syntax}
+use Rattle.aadl_syntax.specs.declared.refusal.Place.TheVariants.{At}
+use Rattle.aadl_syntax.specs.declared.refusal.Refusal.{Refusal}
+use Rattle.aadl_syntax.specs.declared.error_model.Emv2Library.{Emv2Library}
+use Rattle.aadl_syntax.specs.declared.error_model.Emv2Clause.{Emv2Clause}
+use Rattle.grammar_rules.specs.Rules.{Test, Rule, gives, gives_file, chooses, gathers, Dead, ◌>>=◌}
+use Rattle.grammar_rules.specs.Spans.{until, ends_to_end}
+use Rattle.grammar_rules.specs.Tokens.{word, sign, is_word, is_one_of}
+use Rattle.emv2_parser.specs.Words.{library_words, clause_words, begins_paths}
+use Rattle.emv2_parser.specs.Names.{error_name, names, spot, reference, use_types_after}
+use Rattle.emv2_parser.specs.Properties.{properties_after}
+use Rattle.emv2_parser.specs.Types.{types_block}
+use Rattle.emv2_parser.specs.Machines.{machine}
+use Rattle.emv2_parser.specs.Propagations.{clause_propagations}
+use Rattle.emv2_parser.specs.Behavior.{clause_component, clause_composites, clause_connection, clause_paths}
+
+-- "mappings" | "transformations"
+unfoldable pub mapping_word : Rule (Unit {0})
+mapping_word = chooses (is_word (codes "mappings") ∷ []) (word (codes "mappings")) (word (codes "transformations"))
+
+-- "end" ( "mappings" | "transformations" ) ";"
+unfoldable pub mapping_end : Rule (Unit {0})
+mapping_end = do
+  _ ← word (codes "end")
+  _ ← mapping_word
+  sign (codes ";")
+
+-- "type" ( "mappings" | "transformations" ) ID to-end "end" ( "mappings" | "transformations" ) ";"
+unfoldable pub type_mapping : Rule (Unit {0})
+type_mapping = do
+  _ ← word (codes "type")
+  _ ← mapping_word
+  _ ← error_name
+  _ ← until ends_to_end
+  mapping_end
+
+unfoldable pub library_types : Emv2Library → Rule Emv2Library
+library_types library = do
+  block ← types_block
+  gives (record library { blocks = library.blocks ++ block ∷ [] })
+
+unfoldable pub library_machine : Emv2Library → Rule Emv2Library
+library_machine library = do
+  its_machine ← machine
+  gives (record library { machines = library.machines ++ its_machine ∷ [] })
+
+unfoldable pub library_mapping : Emv2Library → Rule Emv2Library
+library_mapping library = do
+  _ ← type_mapping
+  gives library
+
+-- a block of types, a machine, or type mappings, which mean nothing here, as a part of the library
+unfoldable pub library_block : Emv2Library → Rule Emv2Library
+library_block library = chooses (is_word (codes "error") ∷ is_word (codes "types") ∷ []) (library_types library)
+    (chooses (is_word (codes "error") ∷ []) (library_machine library) (library_mapping library))
+
+-- library = { "error" "types" .. | "error" "behavior" .. | "type" .. }
+unfoldable pub library : Rule Emv2Library
+library = gathers (is_one_of library_words ∷ []) library_block (record { blocks = []; machines = [] })
+
+unfoldable pub clause_uses : Emv2Clause → Rule Emv2Clause
+clause_uses clause = do
+  uses ← use_types_after clause.uses
+  gives (record clause { uses = uses })
+
+-- "use" "behavior" names ";": the last one counts
+unfoldable pub clause_machine : Emv2Clause → Rule Emv2Clause
+clause_machine clause = do
+  _ ← word (codes "use")
+  _ ← word (codes "behavior")
+  its_machine ← reference
+  _ ← sign (codes ";")
+  gives (record clause { machine = Some its_machine })
+
+-- "type" "equivalence" | "mappings"
+unfoldable pub mapping_kind : Rule (Unit {0})
+mapping_kind = chooses (is_word (codes "type") ∷ [])
+    (do
+      _ ← word (codes "type")
+      word (codes "equivalence"))
+    (word (codes "mappings"))
+
+-- "use" "type" "equivalence" names ";" | "use" "mappings" names ";"
+unfoldable pub clause_mapping : Emv2Clause → Rule Emv2Clause
+clause_mapping clause = do
+  at ← spot
+  _ ← word (codes "use")
+  _ ← mapping_kind
+  _ ← names
+  _ ← sign (codes ";")
+  gives (record clause { mappings = clause.mappings ++ at ∷ [] })
+
+-- the parts of a clause that begin with `use`
+unfoldable pub clause_use : Emv2Clause → Rule Emv2Clause
+clause_use clause = chooses (is_word (codes "use") ∷ is_word (codes "types") ∷ []) (clause_uses clause)
+    (chooses (is_word (codes "use") ∷ is_word (codes "behavior") ∷ []) (clause_machine clause) (clause_mapping clause))
+
+unfoldable pub clause_properties : Emv2Clause → Rule Emv2Clause
+clause_properties clause = do
+  associations ← properties_after clause.associations
+  gives (record clause { associations = associations })
+
+-- the parts of a clause on connections, paths and properties
+unfoldable pub clause_other : Emv2Clause → Rule Emv2Clause
+clause_other clause = chooses (is_word (codes "connection") ∷ []) (clause_connection clause)
+    (chooses (begins_paths ∷ []) (clause_paths clause) (clause_properties clause))
+
+-- the parts of a clause on the behavior of a component, and those on connections, paths and properties
+unfoldable pub clause_behavior : Emv2Clause → Rule Emv2Clause
+clause_behavior clause = chooses (is_word (codes "component") ∷ []) (clause_component clause)
+    (chooses (is_word (codes "composite") ∷ []) (clause_composites clause) (clause_other clause))
+
+-- a part of the clause, by its first word
+unfoldable pub clause_part : Emv2Clause → Rule Emv2Clause
+clause_part clause = chooses (is_word (codes "use") ∷ []) (clause_use clause)
+    (chooses (is_word (codes "error") ∷ []) (clause_propagations clause) (clause_behavior clause))
+
+-- any token
+unfoldable pub is_token : Test
+is_token token = true
+
+-- the place of the next token, or this one at the end of the tokens
+unfoldable pub spot_or : ℕ → Rule Spot
+spot_or end = chooses (is_token ∷ []) spot
+    (do
+      file ← gives_file
+      gives (record { file = file; at = end }))
+
+-- a clause at this place without parts
+abbrev pub empty_clause : Spot → Emv2Clause
+empty_clause at = record { spot = at; uses = []; machine = None; mappings = []; points = []; flows = []; events = []; transitions = []; outgoing = []; composites = []; connection_errors = []; user_points = []; user_paths = []; associations = [] }
+
+-- { "use" .. | "error" .. | .. }
+unfoldable pub clause_parts : Emv2Clause → Rule Emv2Clause
+clause_parts clause = gathers (is_one_of clause_words ∷ []) clause_part clause
+
+-- clause = { "use" .. | "error" .. | "component" .. | "composite" .. | "connection" .. | "propagation" .. | "properties" .. },
+-- in text that ends at this place
+unfoldable pub clause : ℕ → Rule Emv2Clause
+clause end = do
+  at ← spot_or end
+  clause_parts (empty_clause at)
+
+-- where the token of this number starts, or the place of the end
+abbrev pub place_of : List Token → ℕ → ℕ → ℕ
+place_of tokens end number = start (slice_get tokens number) where
+  start : Option Token → ℕ
+  start None = end
+  start (Some token) = token.start
+
+-- the refusal of text of this file at this place
+abbrev pub syntax_error : ℕ → ℕ → Refusal
+syntax_error file at = record { code = Syntax; place = At file at; limit = 0 }
+
+-- The stop is want of memory, or the refusal at a dead place: no text with the same tokens up to and with that place reads.
+abbrev pub StopsAt : {A : Type 0} → ℕ → Rule A → List Token → ℕ → Stop → Type 0
+StopsAt file rule tokens end Memory = Unit {0}
+StopsAt file rule tokens end (Refused refusal) = (number : ℕ) × (refusal ≡ syntax_error file (place_of tokens end number)) × Dead file rule tokens number

@@ -1,0 +1,10 @@
+pub mod Words
+pub mod Names
+pub mod Properties
+pub mod Conditions
+pub mod Types
+pub mod Machines
+pub mod Propagations
+pub mod Behavior
+pub mod Grammar
+pub mod Takes

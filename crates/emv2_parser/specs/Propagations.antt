@@ -1,0 +1,160 @@
+-- Error propagations of points, and error flows.
+use Rattle.std.specs.Prelude.{ℕ, Bool, true, false, List, [], ◌∷◌, Option, Some, None, codes}
+use Rattle.aadl_syntax.specs.declared.token.TokenKind.TheVariants.{Text}
+use Rattle.aadl_syntax.specs.declared.place.Spot.{Spot}
+use Rattle.aadl_syntax.specs.declared.error_model.StateRef.{StateRef}
+use Rattle.aadl_syntax.specs.declared.error_model.PointItem.{PointItem}
+use Rattle.aadl_syntax.specs.declared.error_model.Flow.{Flow}
+use Rattle.aadl_syntax.specs.declared.error_model.FlowKind.{FlowKind}
+use Rattle.aadl_syntax.specs.declared.error_model.FlowKind.TheVariants as kind
+use Rattle.aadl_syntax.specs.declared.error_model.Emv2Clause.{Emv2Clause}
+use Rattle.emv2_parser.specs.declared.propagations.Propagations.{Propagations}
+use Rattle.grammar_rules.specs.Rules.{Rule, gives, chooses, ◌>>=◌}
+use Rattle.grammar_rules.specs.Parts.{parts_after}
+use Rattle.grammar_rules.specs.Tokens as token
+use Rattle.grammar_rules.specs.Tokens.{word, sign, is_kind, is_word, is_sign}
+use Rattle.emv2_parser.specs.Words.{is_name, begins_point}
+use Rattle.emv2_parser.specs.Names.{error_name, names, spot, point, type_set, optional_set, state_reference, tail_end, block_end}
+
+-- [ "not" ]
+unfoldable pub negation : Rule Bool
+negation = chooses (is_word (codes "not") ∷ [])
+    (do
+      _ ← word (codes "not")
+      gives true)
+    (gives false)
+
+-- ( "in" | "out" ) "propagation": whether it is outward
+unfoldable pub direction : Rule Bool
+direction = chooses (is_word (codes "in") ∷ [])
+    (do
+      _ ← word (codes "in")
+      _ ← word (codes "propagation")
+      gives false)
+    (do
+      _ ← word (codes "out")
+      _ ← word (codes "propagation")
+      gives true)
+
+-- pitem = point ":" [ "not" ] ( "in" | "out" ) "propagation" tset tail ";"
+unfoldable pub point_item : Rule PointItem
+point_item = do
+  its_point ← point
+  _ ← sign (codes ":")
+  negative ← negation
+  outward ← direction
+  set ← type_set
+  _ ← tail_end
+  gives (record { point = its_point; negative = negative; outward = outward; set = set })
+
+-- ID [ tset ] | tset | Text: the state, where it is one
+unfoldable pub when_part : Rule (Option StateRef)
+when_part = chooses (is_sign (codes "{") ∷ [])
+    (do
+      _ ← type_set
+      gives None)
+    (chooses (is_kind Text ∷ [])
+    (do
+      _ ← token.kind Text
+      gives None)
+    (do
+      its_state ← state_reference
+      gives (Some its_state)))
+
+-- [ "when" ( ID [ tset ] | tset | Text ) ]
+unfoldable pub source_state : Rule (Option StateRef)
+source_state = chooses (is_word (codes "when") ∷ [])
+    (do
+      _ ← word (codes "when")
+      when_part)
+    (gives None)
+
+-- "source" point [ tset ] [ "when" ( ID [ tset ] | tset | Text ) ]
+unfoldable pub source_flow : Rule FlowKind
+source_flow = do
+  _ ← word (codes "source")
+  its_point ← point
+  set ← optional_set
+  its_state ← source_state
+  gives (kind.Source its_point set its_state)
+
+-- "sink" point [ tset ]
+unfoldable pub sink_flow : Rule FlowKind
+sink_flow = do
+  _ ← word (codes "sink")
+  its_point ← point
+  set ← optional_set
+  gives (kind.Sink its_point set)
+
+-- [ "use" "mappings" names ]: the place of the word `use`
+unfoldable pub flow_mappings : Rule (Option Spot)
+flow_mappings = chooses (is_word (codes "use") ∷ [])
+    (do
+      at ← spot
+      _ ← word (codes "use")
+      _ ← word (codes "mappings")
+      _ ← names
+      gives (Some at))
+    (gives None)
+
+-- "path" point [ tset ] "->" point [ tset ] [ "use" "mappings" names ]
+unfoldable pub path_flow : Rule FlowKind
+path_flow = do
+  _ ← word (codes "path")
+  from ← point
+  from_set ← optional_set
+  _ ← sign (codes "->")
+  to ← point
+  to_set ← optional_set
+  mappings ← flow_mappings
+  gives (kind.Path from from_set to to_set mappings)
+
+-- a source, a sink or a path
+unfoldable pub flow_kind : Rule FlowKind
+flow_kind = chooses (is_word (codes "source") ∷ []) source_flow
+    (chooses (is_word (codes "sink") ∷ []) sink_flow path_flow)
+
+-- flow = ID ":" "error" "source" point [ tset ] [ "when" ( ID [ tset ] | tset | Text ) ] tail ";"
+--      | ID ":" "error" "sink" point [ tset ] tail ";"
+--      | ID ":" "error" "path" point [ tset ] "->" point [ tset ] [ "use" "mappings" names ] tail ";"
+unfoldable pub flow : Rule Flow
+flow = do
+  at ← spot
+  name ← error_name
+  _ ← sign (codes ":")
+  _ ← word (codes "error")
+  its_kind ← flow_kind
+  _ ← tail_end
+  gives (record { name = name; spot = at; kind = its_kind })
+
+-- [ "flows" { flow } ], after other flows
+unfoldable pub flows_after : List Flow → Rule (List Flow)
+flows_after flows = chooses (is_word (codes "flows") ∷ [])
+    (do
+      _ ← word (codes "flows")
+      parts_after flows (is_name ∷ []) flow)
+    (gives flows)
+
+-- { pitem }, after other points
+unfoldable pub points_after : List PointItem → Rule (List PointItem)
+points_after points = parts_after points (begins_point ∷ []) point_item
+
+-- "error" "propagations"
+unfoldable pub propagations_head : Rule (Unit {0})
+propagations_head = do
+  _ ← word (codes "error")
+  word (codes "propagations")
+
+-- "error" "propagations" { pitem } [ "flows" { flow } ] "end" "propagations" ";", after other points and flows
+unfoldable pub propagations_after : List PointItem → List Flow → Rule Propagations
+propagations_after points flows = do
+  _ ← propagations_head
+  all_points ← points_after points
+  all_flows ← flows_after flows
+  _ ← block_end (codes "propagations")
+  gives (record { points = all_points; flows = all_flows })
+
+unfoldable pub clause_propagations : Emv2Clause → Rule Emv2Clause
+clause_propagations clause = do
+  all ← propagations_after clause.points clause.flows
+  gives (record clause { points = all.points; flows = all.flows })

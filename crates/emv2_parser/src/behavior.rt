@@ -1,0 +1,519 @@
+ghost use Rattle.std.specs.Prelude.{◌≡◌, [], ◌∷◌, ◌++◌, codes};
+ghost use Rattle.grammar_rules.specs.Reader.{Gives};
+ghost use Rattle.grammar_rules.specs.Rules.{chooses};
+ghost use Rattle.grammar_rules.specs.Tokens.{is_one_of};
+ghost use Rattle.emv2_parser.specs.Words.{is_name, point_words, begins_source, begins_composite, component_words};
+ghost use Rattle.emv2_parser.specs.Names.{point_word};
+ghost use Rattle.emv2_parser.specs.Behavior.{some_condition, optional_condition, outgoing_condition, outgoing, component_transforms, component_events, component_transitions, further_outgoing, outgoing_after, component_outgoing, detections, mode_mappings, component_other, component_block, component_blocks, clause_component, others_or_condition, composite_condition, composite, states_word, composite_head, clause_composites, clause_connection, last_word, end_names, path_end, user_point, user_path, clause_user_point, clause_user_path, user_item, user_items, paths_head, clause_paths};
+ghost use Rattle.emv2_parser.specs.Takes.{outgoing-takes, composite-takes, component_block-takes, user_item-takes};
+
+use crate::conditions::whole_condition;
+use crate::machines::{events_after, source, transitions_after, use_transformations};
+use crate::names::{
+    block_end, dotted_names, label, optional_set, point, point_word, spot, state_reference,
+    tail_end,
+};
+use crate::words::{
+    component_block_at, composite_at, error_name, name_at, point_name, point_word_at,
+    propagations_at, source_at, transitions_at,
+};
+use aadl_syntax::{
+    Composite, Condition, Emv2Clause, End, List, Name, Outgoing, Spot, UserPath, UserPoint,
+};
+use grammar_rules::{Gathered, Parts, ReadError, Reader, ToEnd};
+
+#[tactic(auto, unfolding(crate::specs::Behavior::some_condition))]
+fn some_condition(reader: &mut Reader) -> Result<Option<Condition>, ReadError>
+    ensures { Gives result some_condition reader.old reader.new }
+{
+    Ok(Some(whole_condition(reader)?))
+}
+
+#[tactic(auto, unfolding(crate::specs::Behavior::optional_condition))]
+fn optional_condition(reader: &mut Reader) -> Result<Option<Condition>, ReadError>
+    ensures { Gives result optional_condition reader.old reader.new }
+{
+    if reader.sign_at(0, b"]") {
+        return Ok(None);
+    }
+    some_condition(reader)
+}
+
+#[tactic(auto, unfolding(crate::specs::Behavior::outgoing_condition))]
+fn outgoing_condition(reader: &mut Reader) -> Result<Option<Condition>, ReadError>
+    ensures { Gives result outgoing_condition reader.old reader.new }
+{
+    reader.sign(b"-")?;
+    reader.sign(b"[")?;
+    let condition = optional_condition(reader)?;
+    reader.sign(b"]")?;
+    reader.sign(b"->")?;
+    Ok(condition)
+}
+
+#[tactic(auto, unfolding(crate::specs::Behavior::outgoing))]
+fn outgoing(reader: &mut Reader) -> Result<Outgoing, ReadError>
+    ensures { Gives result outgoing reader.old reader.new }
+{
+    let spot = spot(reader)?;
+    let name = label(reader)?;
+    let source = source(reader)?;
+    let condition = outgoing_condition(reader)?;
+    let point = point(reader)?;
+    let set = optional_set(reader)?;
+    tail_end(reader)?;
+    Ok(Outgoing {
+        name,
+        spot,
+        source,
+        condition,
+        point,
+        set,
+    })
+}
+
+#[tactic(auto, unfolding(crate::specs::Behavior::component_transforms))]
+fn component_transforms(reader: &mut Reader, clause: Emv2Clause) -> Result<Emv2Clause, ReadError>
+    ensures { Gives result (component_transforms clause) reader.old reader.new }
+{
+    let mut mappings = clause.mappings;
+    mappings.push(use_transformations(reader)?)?;
+    Ok(Emv2Clause { mappings, ..clause })
+}
+
+#[tactic(auto, unfolding(crate::specs::Behavior::component_events))]
+fn component_events(reader: &mut Reader, clause: Emv2Clause) -> Result<Emv2Clause, ReadError>
+    ensures { Gives result (component_events clause) reader.old reader.new }
+{
+    let events = events_after(reader, clause.events)?;
+    Ok(Emv2Clause { events, ..clause })
+}
+
+#[tactic(auto, unfolding(crate::specs::Behavior::component_transitions))]
+fn component_transitions(reader: &mut Reader, clause: Emv2Clause) -> Result<Emv2Clause, ReadError>
+    ensures { Gives result (component_transitions clause) reader.old reader.new }
+{
+    let transitions = transitions_after(reader, clause.transitions)?;
+    Ok(Emv2Clause {
+        transitions,
+        ..clause
+    })
+}
+
+#[tactic(auto, unfolding(crate::specs::Behavior::further_outgoing))]
+fn further_outgoing(
+    reader: &mut Reader,
+    conditions: List<Outgoing>,
+) -> Result<List<Outgoing>, ReadError>
+    ensures { Gives result (further_outgoing conditions) reader.old reader.new }
+{
+    reader.more_parts::<OutgoingConditions>(conditions)
+}
+
+#[tactic(auto, unfolding(crate::specs::Behavior::outgoing_after))]
+fn outgoing_after(
+    reader: &mut Reader,
+    conditions: List<Outgoing>,
+) -> Result<List<Outgoing>, ReadError>
+    ensures { Gives result (outgoing_after conditions) reader.old reader.new }
+{
+    reader.word(b"propagations")?;
+    further_outgoing(reader, conditions)
+}
+
+#[tactic(auto, unfolding(crate::specs::Behavior::component_outgoing))]
+fn component_outgoing(reader: &mut Reader, clause: Emv2Clause) -> Result<Emv2Clause, ReadError>
+    ensures { Gives result (component_outgoing clause) reader.old reader.new }
+{
+    let outgoing = outgoing_after(reader, clause.outgoing)?;
+    Ok(Emv2Clause { outgoing, ..clause })
+}
+
+#[tactic(auto, unfolding(crate::specs::Behavior::detections))]
+fn detections(reader: &mut Reader, clause: Emv2Clause) -> Result<Emv2Clause, ReadError>
+    ensures { Gives result (detections clause) reader.old reader.new }
+{
+    reader.word(b"detections")?;
+    reader.until::<ToEnd>()?;
+    Ok(clause)
+}
+
+#[tactic(auto, unfolding(crate::specs::Behavior::mode_mappings))]
+fn mode_mappings(reader: &mut Reader, clause: Emv2Clause) -> Result<Emv2Clause, ReadError>
+    ensures { Gives result (mode_mappings clause) reader.old reader.new }
+{
+    reader.word(b"mode")?;
+    reader.word(b"mappings")?;
+    reader.until::<ToEnd>()?;
+    Ok(clause)
+}
+
+#[tactic(auto, unfolding(crate::specs::Behavior::component_other))]
+fn component_other(reader: &mut Reader, clause: Emv2Clause) -> Result<Emv2Clause, ReadError>
+    ensures { Gives result (component_other clause) reader.old reader.new }
+{
+    if propagations_at(reader) {
+        return component_outgoing(reader, clause);
+    }
+    if reader.word_at(0, b"detections") {
+        return detections(reader, clause);
+    }
+    mode_mappings(reader, clause)
+}
+
+#[tactic(auto, unfolding(crate::specs::Behavior::component_block))]
+fn component_block(reader: &mut Reader, clause: Emv2Clause) -> Result<Emv2Clause, ReadError>
+    ensures { Gives result (component_block clause) reader.old reader.new }
+{
+    if reader.word_at(0, b"use") {
+        return component_transforms(reader, clause);
+    }
+    if reader.word_at(0, b"events") {
+        return component_events(reader, clause);
+    }
+    if transitions_at(reader) {
+        return component_transitions(reader, clause);
+    }
+    component_other(reader, clause)
+}
+
+#[tactic(auto, unfolding(crate::specs::Behavior::component_blocks))]
+fn component_blocks(reader: &mut Reader, clause: Emv2Clause) -> Result<Emv2Clause, ReadError>
+    ensures { Gives result (component_blocks clause) reader.old reader.new }
+{
+    reader.gather::<ComponentBlocks>(clause)
+}
+
+/// Reads the error behavior of a component, as a part of its clause.
+#[tactic(auto, unfolding(crate::specs::Behavior::clause_component))]
+pub(crate) fn clause_component(
+    reader: &mut Reader,
+    clause: Emv2Clause,
+) -> Result<Emv2Clause, ReadError>
+    ensures { Gives result (clause_component clause) reader.old reader.new }
+{
+    reader.word(b"component")?;
+    reader.word(b"error")?;
+    reader.word(b"behavior")?;
+    let clause = component_blocks(reader, clause)?;
+    block_end(reader, b"component")?;
+    Ok(clause)
+}
+
+#[tactic(auto, unfolding(crate::specs::Behavior::others_or_condition))]
+fn others_or_condition(reader: &mut Reader) -> Result<Option<Condition>, ReadError>
+    ensures { Gives result others_or_condition reader.old reader.new }
+{
+    if reader.word_at(0, b"others") {
+        reader.word(b"others")?;
+        return Ok(None);
+    }
+    some_condition(reader)
+}
+
+#[tactic(auto, unfolding(crate::specs::Behavior::composite_condition))]
+fn composite_condition(reader: &mut Reader) -> Result<Option<Condition>, ReadError>
+    ensures { Gives result composite_condition reader.old reader.new }
+{
+    reader.sign(b"[")?;
+    let condition = others_or_condition(reader)?;
+    reader.sign(b"]")?;
+    reader.sign(b"->")?;
+    Ok(condition)
+}
+
+#[tactic(auto, unfolding(crate::specs::Behavior::composite))]
+fn composite(reader: &mut Reader) -> Result<Composite, ReadError>
+    ensures { Gives result composite reader.old reader.new }
+{
+    let spot = spot(reader)?;
+    let name = label(reader)?;
+    let condition = composite_condition(reader)?;
+    let target = state_reference(reader)?;
+    reader.sign(b";")?;
+    Ok(Composite {
+        name,
+        spot,
+        condition,
+        target,
+    })
+}
+
+#[tactic(auto, unfolding(crate::specs::Behavior::states_word))]
+fn states_word(reader: &mut Reader) -> Result<(), ReadError>
+    ensures { Gives result states_word reader.old reader.new }
+{
+    if reader.word_at(0, b"states") {
+        return reader.word(b"states");
+    }
+    Ok(())
+}
+
+#[tactic(auto, unfolding(crate::specs::Behavior::composite_head))]
+fn composite_head(reader: &mut Reader) -> Result<(), ReadError>
+    ensures { Gives result composite_head reader.old reader.new }
+{
+    reader.word(b"composite")?;
+    reader.word(b"error")?;
+    reader.word(b"behavior")?;
+    states_word(reader)
+}
+
+/// Reads the composite error behavior of a component, as a part of its clause.
+#[tactic(auto, unfolding(crate::specs::Behavior::clause_composites))]
+pub(crate) fn clause_composites(
+    reader: &mut Reader,
+    clause: Emv2Clause,
+) -> Result<Emv2Clause, ReadError>
+    ensures { Gives result (clause_composites clause) reader.old reader.new }
+{
+    composite_head(reader)?;
+    let composites = reader.more_parts::<Composites>(clause.composites)?;
+    block_end(reader, b"composite")?;
+    Ok(Emv2Clause {
+        composites,
+        ..clause
+    })
+}
+
+/// Reads the error behavior of connections, as a part of a clause, which keeps its place.
+#[tactic(auto, unfolding(crate::specs::Behavior::clause_connection))]
+pub(crate) fn clause_connection(
+    reader: &mut Reader,
+    clause: Emv2Clause,
+) -> Result<Emv2Clause, ReadError>
+    ensures { Gives result (clause_connection clause) reader.old reader.new }
+{
+    let spot = spot(reader)?;
+    reader.word(b"connection")?;
+    reader.word(b"error")?;
+    reader.until::<ToEnd>()?;
+    block_end(reader, b"connection")?;
+    let mut connection_errors = clause.connection_errors;
+    connection_errors.push(spot)?;
+    Ok(Emv2Clause {
+        connection_errors,
+        ..clause
+    })
+}
+
+#[tactic(auto, unfolding(crate::specs::Behavior::last_word))]
+fn last_word(reader: &mut Reader, mut names: List<Name>) -> Result<List<Name>, ReadError>
+    ensures { Gives result (last_word names) reader.old reader.new }
+{
+    if reader.sign_at(0, b".") && point_word_at(reader, 1) {
+        reader.sign(b".")?;
+        names.push(point_name(reader)?)?;
+    }
+    Ok(names)
+}
+
+#[tactic(auto, unfolding(crate::specs::Behavior::end_names))]
+fn end_names(reader: &mut Reader) -> Result<List<Name>, ReadError>
+    ensures { Gives result end_names reader.old reader.new }
+{
+    let names = dotted_names(reader)?;
+    last_word(reader, names)
+}
+
+// The names of an end.
+fn any_end_names(reader: &mut Reader) -> Result<List<Name>, ReadError>
+    ensures { Gives result (chooses (is_one_of point_words ∷ []) point_word end_names) reader.old reader.new }
+{
+    if point_word_at(reader, 0) {
+        return point_word(reader);
+    }
+    end_names(reader)
+}
+
+#[tactic(auto, unfolding(crate::specs::Behavior::path_end))]
+fn path_end(reader: &mut Reader) -> Result<End, ReadError>
+    ensures { Gives result path_end reader.old reader.new }
+{
+    let spot = spot(reader)?;
+    let names = any_end_names(reader)?;
+    Ok(End { names, spot })
+}
+
+#[tactic(auto, unfolding(crate::specs::Behavior::user_point))]
+fn user_point(reader: &mut Reader, name: Name, spot: Spot) -> Result<UserPoint, ReadError>
+    ensures { Gives result (user_point name spot) reader.old reader.new }
+{
+    reader.word(b"propagation")?;
+    reader.word(b"point")?;
+    reader.sign(b";")?;
+    Ok(UserPoint { name, spot })
+}
+
+#[tactic(auto, unfolding(crate::specs::Behavior::user_path))]
+fn user_path(reader: &mut Reader, name: Name, spot: Spot) -> Result<UserPath, ReadError>
+    ensures { Gives result (user_path name spot) reader.old reader.new }
+{
+    let from = path_end(reader)?;
+    reader.sign(b"->")?;
+    let to = path_end(reader)?;
+    reader.sign(b";")?;
+    Ok(UserPath {
+        name,
+        spot,
+        from,
+        to,
+    })
+}
+
+#[tactic(auto, unfolding(crate::specs::Behavior::clause_user_point))]
+fn clause_user_point(
+    reader: &mut Reader,
+    clause: Emv2Clause,
+    name: Name,
+    spot: Spot,
+) -> Result<Emv2Clause, ReadError>
+    ensures { Gives result (clause_user_point clause name spot) reader.old reader.new }
+{
+    let mut user_points = clause.user_points;
+    user_points.push(user_point(reader, name, spot)?)?;
+    Ok(Emv2Clause {
+        user_points,
+        ..clause
+    })
+}
+
+#[tactic(auto, unfolding(crate::specs::Behavior::clause_user_path))]
+fn clause_user_path(
+    reader: &mut Reader,
+    clause: Emv2Clause,
+    name: Name,
+    spot: Spot,
+) -> Result<Emv2Clause, ReadError>
+    ensures { Gives result (clause_user_path clause name spot) reader.old reader.new }
+{
+    let mut user_paths = clause.user_paths;
+    user_paths.push(user_path(reader, name, spot)?)?;
+    Ok(Emv2Clause {
+        user_paths,
+        ..clause
+    })
+}
+
+#[tactic(auto, unfolding(crate::specs::Behavior::user_item))]
+fn user_item(reader: &mut Reader, clause: Emv2Clause) -> Result<Emv2Clause, ReadError>
+    ensures { Gives result (user_item clause) reader.old reader.new }
+{
+    let spot = spot(reader)?;
+    let name = error_name(reader)?;
+    reader.sign(b":")?;
+    if reader.word_at(0, b"propagation") {
+        return clause_user_point(reader, clause, name, spot);
+    }
+    clause_user_path(reader, clause, name, spot)
+}
+
+#[tactic(auto, unfolding(crate::specs::Behavior::user_items))]
+fn user_items(reader: &mut Reader, clause: Emv2Clause) -> Result<Emv2Clause, ReadError>
+    ensures { Gives result (user_items clause) reader.old reader.new }
+{
+    reader.gather::<UserItems>(clause)
+}
+
+#[tactic(auto, unfolding(crate::specs::Behavior::paths_head))]
+fn paths_head(reader: &mut Reader) -> Result<(), ReadError>
+    ensures { Gives result paths_head reader.old reader.new }
+{
+    reader.word(b"propagation")?;
+    reader.word(b"paths")
+}
+
+/// Reads the propagation points and paths of the user's, as a part of a clause.
+#[tactic(auto, unfolding(crate::specs::Behavior::clause_paths))]
+pub(crate) fn clause_paths(reader: &mut Reader, clause: Emv2Clause) -> Result<Emv2Clause, ReadError>
+    ensures { Gives result (clause_paths clause) reader.old reader.new }
+{
+    paths_head(reader)?;
+    let clause = user_items(reader, clause)?;
+    block_end(reader, b"paths")?;
+    Ok(clause)
+}
+
+// The outgoing conditions of a block.
+pub(crate) struct OutgoingConditions;
+
+impl Parts for OutgoingConditions {
+    type Part = Outgoing;
+
+    ghost tests = { begins_source ∷ [] };
+
+    ghost rule = { outgoing };
+
+    fn begins(reader: &mut Reader) -> bool {
+        source_at(reader)
+    }
+
+    fn part(reader: &mut Reader) -> Result<Outgoing, ReadError> {
+        outgoing(reader)
+    }
+
+    ghost takes_tokens = { outgoing-takes };
+}
+
+// The composite states of a block.
+pub(crate) struct Composites;
+
+impl Parts for Composites {
+    type Part = Composite;
+
+    ghost tests = { begins_composite ∷ [] };
+
+    ghost rule = { composite };
+
+    fn begins(reader: &mut Reader) -> bool {
+        composite_at(reader)
+    }
+
+    fn part(reader: &mut Reader) -> Result<Composite, ReadError> {
+        composite(reader)
+    }
+
+    ghost takes_tokens = { composite-takes };
+}
+
+// The blocks of a component's error behavior.
+pub(crate) struct ComponentBlocks;
+
+impl Gathered for ComponentBlocks {
+    type Whole = Emv2Clause;
+
+    ghost tests = { is_one_of component_words ∷ [] };
+
+    ghost rule = { component_block };
+
+    fn begins(reader: &mut Reader) -> bool {
+        component_block_at(reader)
+    }
+
+    fn part(reader: &mut Reader, whole: Emv2Clause) -> Result<Emv2Clause, ReadError> {
+        component_block(reader, whole)
+    }
+
+    ghost takes_tokens = { component_block-takes };
+}
+
+// The points and paths of the user's.
+pub(crate) struct UserItems;
+
+impl Gathered for UserItems {
+    type Whole = Emv2Clause;
+
+    ghost tests = { is_name ∷ [] };
+
+    ghost rule = { user_item };
+
+    fn begins(reader: &mut Reader) -> bool {
+        name_at(reader, 0)
+    }
+
+    fn part(reader: &mut Reader, whole: Emv2Clause) -> Result<Emv2Clause, ReadError> {
+        user_item(reader, whole)
+    }
+
+    ghost takes_tokens = { user_item-takes };
+}

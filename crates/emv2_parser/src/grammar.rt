@@ -1,0 +1,317 @@
+ghost use Rattle.std.specs.Prelude.{◌≡◌, [], ◌∷◌, ◌++◌, codes};
+ghost use Rattle.grammar_rules.specs.Reader.{Gives, Begins};
+ghost use Rattle.grammar_rules.specs.Tokens.{is_one_of};
+ghost use Rattle.emv2_parser.specs.Words.{library_words, clause_words};
+ghost use Rattle.emv2_parser.specs.Grammar.{mapping_word, mapping_end, type_mapping, library_types, library_machine, library_mapping, library_block, library, clause_uses, clause_machine, mapping_kind, clause_mapping, clause_use, clause_properties, clause_other, clause_behavior, clause_part, clause_parts, is_token, spot_or, empty_clause, clause};
+ghost use Rattle.emv2_parser.specs.Takes.{library_block-takes, clause_part-takes};
+
+use crate::behavior::{clause_component, clause_composites, clause_connection, clause_paths};
+use crate::machines::machine;
+use crate::names::{names, reference, spot, use_types_after};
+use crate::propagations::clause_propagations;
+use crate::properties::properties_after;
+use crate::types::types_block;
+use crate::words::{clause_part_at, error_name, library_block_at, paths_at};
+use aadl_syntax::{Emv2Clause, Emv2Library, List, Spot};
+use grammar_rules::{Gathered, ReadError, Reader, ToEnd};
+use std::alloc::Global;
+
+#[tactic(auto, unfolding(crate::specs::Grammar::mapping_word))]
+fn mapping_word(reader: &mut Reader) -> Result<(), ReadError>
+    ensures { Gives result mapping_word reader.old reader.new }
+{
+    if reader.word_at(0, b"mappings") {
+        return reader.word(b"mappings");
+    }
+    reader.word(b"transformations")
+}
+
+#[tactic(auto, unfolding(crate::specs::Grammar::mapping_end))]
+fn mapping_end(reader: &mut Reader) -> Result<(), ReadError>
+    ensures { Gives result mapping_end reader.old reader.new }
+{
+    reader.word(b"end")?;
+    mapping_word(reader)?;
+    reader.sign(b";")
+}
+
+#[tactic(auto, unfolding(crate::specs::Grammar::type_mapping))]
+fn type_mapping(reader: &mut Reader) -> Result<(), ReadError>
+    ensures { Gives result type_mapping reader.old reader.new }
+{
+    reader.word(b"type")?;
+    mapping_word(reader)?;
+    error_name(reader)?;
+    reader.until::<ToEnd>()?;
+    mapping_end(reader)
+}
+
+#[tactic(auto, unfolding(crate::specs::Grammar::library_types))]
+fn library_types(reader: &mut Reader, library: Emv2Library) -> Result<Emv2Library, ReadError>
+    ensures { Gives result (library_types library) reader.old reader.new }
+{
+    let mut blocks = library.blocks;
+    blocks.push(types_block(reader)?)?;
+    Ok(Emv2Library { blocks, ..library })
+}
+
+#[tactic(auto, unfolding(crate::specs::Grammar::library_machine))]
+fn library_machine(reader: &mut Reader, library: Emv2Library) -> Result<Emv2Library, ReadError>
+    ensures { Gives result (library_machine library) reader.old reader.new }
+{
+    let mut machines = library.machines;
+    machines.push(machine(reader)?)?;
+    Ok(Emv2Library {
+        machines,
+        ..library
+    })
+}
+
+#[tactic(auto, unfolding(crate::specs::Grammar::library_mapping))]
+fn library_mapping(reader: &mut Reader, library: Emv2Library) -> Result<Emv2Library, ReadError>
+    ensures { Gives result (library_mapping library) reader.old reader.new }
+{
+    type_mapping(reader)?;
+    Ok(library)
+}
+
+#[tactic(auto, unfolding(crate::specs::Grammar::library_block))]
+fn library_block(reader: &mut Reader, library: Emv2Library) -> Result<Emv2Library, ReadError>
+    ensures { Gives result (library_block library) reader.old reader.new }
+{
+    if reader.word_at(0, b"error") && reader.word_at(1, b"types") {
+        return library_types(reader, library);
+    }
+    if reader.word_at(0, b"error") {
+        return library_machine(reader, library);
+    }
+    library_mapping(reader, library)
+}
+
+/// Reads blocks of a library as long as the next tokens begin one.
+#[tactic(auto, unfolding(crate::specs::Grammar::library))]
+pub(crate) fn library(reader: &mut Reader) -> Result<Emv2Library, ReadError>
+    ensures { Gives result library reader.old reader.new }
+{
+    let alloc = reader.alloc();
+    let empty = Emv2Library {
+        blocks: List::new(alloc),
+        machines: List::new(alloc),
+    };
+    reader.gather::<LibraryBlocks>(empty)
+}
+
+#[tactic(auto, unfolding(crate::specs::Grammar::clause_uses))]
+fn clause_uses(reader: &mut Reader, clause: Emv2Clause) -> Result<Emv2Clause, ReadError>
+    ensures { Gives result (clause_uses clause) reader.old reader.new }
+{
+    let uses = use_types_after(reader, clause.uses)?;
+    Ok(Emv2Clause { uses, ..clause })
+}
+
+#[tactic(auto, unfolding(crate::specs::Grammar::clause_machine))]
+fn clause_machine(reader: &mut Reader, clause: Emv2Clause) -> Result<Emv2Clause, ReadError>
+    ensures { Gives result (clause_machine clause) reader.old reader.new }
+{
+    reader.word(b"use")?;
+    reader.word(b"behavior")?;
+    let machine = Some(reference(reader)?);
+    reader.sign(b";")?;
+    Ok(Emv2Clause { machine, ..clause })
+}
+
+#[tactic(auto, unfolding(crate::specs::Grammar::mapping_kind))]
+fn mapping_kind(reader: &mut Reader) -> Result<(), ReadError>
+    ensures { Gives result mapping_kind reader.old reader.new }
+{
+    if reader.word_at(0, b"type") {
+        reader.word(b"type")?;
+        return reader.word(b"equivalence");
+    }
+    reader.word(b"mappings")
+}
+
+#[tactic(auto, unfolding(crate::specs::Grammar::clause_mapping))]
+fn clause_mapping(reader: &mut Reader, clause: Emv2Clause) -> Result<Emv2Clause, ReadError>
+    ensures { Gives result (clause_mapping clause) reader.old reader.new }
+{
+    let spot = spot(reader)?;
+    reader.word(b"use")?;
+    mapping_kind(reader)?;
+    names(reader)?;
+    reader.sign(b";")?;
+    let mut mappings = clause.mappings;
+    mappings.push(spot)?;
+    Ok(Emv2Clause { mappings, ..clause })
+}
+
+#[tactic(auto, unfolding(crate::specs::Grammar::clause_use))]
+fn clause_use(reader: &mut Reader, clause: Emv2Clause) -> Result<Emv2Clause, ReadError>
+    ensures { Gives result (clause_use clause) reader.old reader.new }
+{
+    if reader.word_at(0, b"use") && reader.word_at(1, b"types") {
+        return clause_uses(reader, clause);
+    }
+    if reader.word_at(0, b"use") && reader.word_at(1, b"behavior") {
+        return clause_machine(reader, clause);
+    }
+    clause_mapping(reader, clause)
+}
+
+#[tactic(auto, unfolding(crate::specs::Grammar::clause_properties))]
+fn clause_properties(reader: &mut Reader, clause: Emv2Clause) -> Result<Emv2Clause, ReadError>
+    ensures { Gives result (clause_properties clause) reader.old reader.new }
+{
+    let associations = properties_after(reader, clause.associations)?;
+    Ok(Emv2Clause {
+        associations,
+        ..clause
+    })
+}
+
+#[tactic(auto, unfolding(crate::specs::Grammar::clause_other))]
+fn clause_other(reader: &mut Reader, clause: Emv2Clause) -> Result<Emv2Clause, ReadError>
+    ensures { Gives result (clause_other clause) reader.old reader.new }
+{
+    if reader.word_at(0, b"connection") {
+        return clause_connection(reader, clause);
+    }
+    if paths_at(reader) {
+        return clause_paths(reader, clause);
+    }
+    clause_properties(reader, clause)
+}
+
+#[tactic(auto, unfolding(crate::specs::Grammar::clause_behavior))]
+fn clause_behavior(reader: &mut Reader, clause: Emv2Clause) -> Result<Emv2Clause, ReadError>
+    ensures { Gives result (clause_behavior clause) reader.old reader.new }
+{
+    if reader.word_at(0, b"component") {
+        return clause_component(reader, clause);
+    }
+    if reader.word_at(0, b"composite") {
+        return clause_composites(reader, clause);
+    }
+    clause_other(reader, clause)
+}
+
+#[tactic(auto, unfolding(crate::specs::Grammar::clause_part))]
+fn clause_part(reader: &mut Reader, clause: Emv2Clause) -> Result<Emv2Clause, ReadError>
+    ensures { Gives result (clause_part clause) reader.old reader.new }
+{
+    if reader.word_at(0, b"use") {
+        return clause_use(reader, clause);
+    }
+    if reader.word_at(0, b"error") {
+        return clause_propagations(reader, clause);
+    }
+    clause_behavior(reader, clause)
+}
+
+#[tactic(auto, unfolding(crate::specs::Grammar::clause_parts))]
+fn clause_parts(reader: &mut Reader, clause: Emv2Clause) -> Result<Emv2Clause, ReadError>
+    ensures { Gives result (clause_parts clause) reader.old reader.new }
+{
+    reader.gather::<ClauseParts>(clause)
+}
+
+#[tactic(auto, unfolding(crate::specs::Grammar::is_token))]
+fn token_at(reader: &mut Reader) -> bool
+    ensures { Begins result 0 (is_token ∷ []) reader.old reader.new }
+{
+    match reader.look(0) {
+        Some(_) => true,
+        None => false,
+    }
+}
+
+#[tactic(auto, unfolding(crate::specs::Grammar::spot_or))]
+fn spot_or(reader: &mut Reader, end: u32) -> Result<Spot, ReadError>
+    ensures { Gives result (spot_or end) reader.old reader.new }
+{
+    if token_at(reader) {
+        return spot(reader);
+    }
+    let file = reader.file();
+    Ok(Spot { file, at: end })
+}
+
+fn empty_clause(alloc: Global, spot: Spot) -> Emv2Clause
+    ensures { result ≡ empty_clause spot }
+{
+    Emv2Clause {
+        spot,
+        uses: List::new(alloc),
+        machine: None,
+        mappings: List::new(alloc),
+        points: List::new(alloc),
+        flows: List::new(alloc),
+        events: List::new(alloc),
+        transitions: List::new(alloc),
+        outgoing: List::new(alloc),
+        composites: List::new(alloc),
+        connection_errors: List::new(alloc),
+        user_points: List::new(alloc),
+        user_paths: List::new(alloc),
+        associations: List::new(alloc),
+    }
+}
+
+// The parts of a clause at this place.
+fn parts_at(reader: &mut Reader, spot: Spot) -> Result<Emv2Clause, ReadError>
+    ensures { Gives result (clause_parts (empty_clause spot)) reader.old reader.new }
+{
+    let empty = empty_clause(reader.alloc(), spot);
+    clause_parts(reader, empty)
+}
+
+/// Reads parts of a clause as long as the next tokens begin one, in text that ends at this byte.
+#[tactic(auto, unfolding(crate::specs::Grammar::clause))]
+pub(crate) fn clause(reader: &mut Reader, end: u32) -> Result<Emv2Clause, ReadError>
+    ensures { Gives result (clause end) reader.old reader.new }
+{
+    let spot = spot_or(reader, end)?;
+    parts_at(reader, spot)
+}
+
+// The blocks of a library.
+pub(crate) struct LibraryBlocks;
+
+impl Gathered for LibraryBlocks {
+    type Whole = Emv2Library;
+
+    ghost tests = { is_one_of library_words ∷ [] };
+
+    ghost rule = { library_block };
+
+    fn begins(reader: &mut Reader) -> bool {
+        library_block_at(reader)
+    }
+
+    fn part(reader: &mut Reader, whole: Emv2Library) -> Result<Emv2Library, ReadError> {
+        library_block(reader, whole)
+    }
+
+    ghost takes_tokens = { library_block-takes };
+}
+
+// The parts of a clause.
+pub(crate) struct ClauseParts;
+
+impl Gathered for ClauseParts {
+    type Whole = Emv2Clause;
+
+    ghost tests = { is_one_of clause_words ∷ [] };
+
+    ghost rule = { clause_part };
+
+    fn begins(reader: &mut Reader) -> bool {
+        clause_part_at(reader)
+    }
+
+    fn part(reader: &mut Reader, whole: Emv2Clause) -> Result<Emv2Clause, ReadError> {
+        clause_part(reader, whole)
+    }
+
+    ghost takes_tokens = { clause_part-takes };
+}

@@ -1,0 +1,19 @@
+//! The error model annex (EMV2) of AADL: its text read into the syntax types, by this project's grammar.
+#![tactic(auto)]
+
+mod behavior;
+mod conditions;
+mod grammar;
+mod machines;
+mod names;
+mod propagations;
+mod properties;
+mod text;
+mod types;
+mod words;
+
+pub use text::{clause, library, one_clause, one_library};
+
+
+#[cfg(test)]
+mod tests;

@@ -1,0 +1,537 @@
+ghost use Rattle.std.specs.Prelude.{◌≡◌, [], ◌∷◌, codes};
+ghost use Rattle.grammar_rules.specs.Reader.{Gives};
+ghost use Rattle.grammar_rules.specs.Tokens.{is_sign, is_one_of};
+ghost use Rattle.emv2_parser.specs.Words.{is_name, begins_source, machine_words};
+ghost use Rattle.emv2_parser.specs.Machines.{error_event, recovery_kind, recovery_event, event, events_after, initial, state, states_after, source, target_state_after, chance, branch_after, further_branch, further_branches, branches, transition_targets, transition_condition, transition, transitions_after, use_transformations, first_place, machine_uses, machine_transforms, machine_events, machine_states, machine_transitions, machine_properties, machine_use, machine_other, machine_block, machine_blocks, machine_extends, machine_head, machine};
+ghost use Rattle.emv2_parser.specs.Takes.{event-takes, state-takes, transition-takes, further_branch-takes, machine_block-takes};
+
+use crate::conditions::whole_condition;
+use crate::names::{
+    block_end, label, names, optional_set, spot, state_reference, tail_end, use_types_after,
+};
+use crate::properties::properties_after;
+use crate::words::{error_name, machine_block_at, name_at, source_at};
+use aadl_syntax::{
+    Condition, EventDecl, EventKind, List, MachineDecl, Name, Source, Spot, StateDecl, StateRef,
+    TokenKind, Transition,
+};
+use grammar_rules::{Gathered, Parts, ReadError, Reader};
+
+#[tactic(auto, unfolding(crate::specs::Machines::error_event))]
+fn error_event(reader: &mut Reader, name: Name, spot: Spot) -> Result<EventDecl, ReadError>
+    ensures { Gives result (error_event name spot) reader.old reader.new }
+{
+    reader.word(b"error")?;
+    reader.word(b"event")?;
+    let set = optional_set(reader)?;
+    tail_end(reader)?;
+    Ok(EventDecl {
+        name,
+        spot,
+        kind: EventKind::Error,
+        set,
+    })
+}
+
+#[tactic(auto, unfolding(crate::specs::Machines::recovery_kind))]
+fn recovery_kind(reader: &mut Reader) -> Result<EventKind, ReadError>
+    ensures { Gives result recovery_kind reader.old reader.new }
+{
+    if reader.word_at(0, b"recover") {
+        reader.word(b"recover")?;
+        return Ok(EventKind::Recover);
+    }
+    reader.word(b"repair")?;
+    Ok(EventKind::Repair)
+}
+
+#[tactic(auto, unfolding(crate::specs::Machines::recovery_event))]
+fn recovery_event(reader: &mut Reader, name: Name, spot: Spot) -> Result<EventDecl, ReadError>
+    ensures { Gives result (recovery_event name spot) reader.old reader.new }
+{
+    let kind = recovery_kind(reader)?;
+    reader.word(b"event")?;
+    tail_end(reader)?;
+    Ok(EventDecl {
+        name,
+        spot,
+        kind,
+        set: None,
+    })
+}
+
+#[tactic(auto, unfolding(crate::specs::Machines::event))]
+fn event(reader: &mut Reader) -> Result<EventDecl, ReadError>
+    ensures { Gives result event reader.old reader.new }
+{
+    let spot = spot(reader)?;
+    let name = error_name(reader)?;
+    reader.sign(b":")?;
+    if reader.word_at(0, b"error") {
+        return error_event(reader, name, spot);
+    }
+    recovery_event(reader, name, spot)
+}
+
+/// Reads a block of events, and gives them after others.
+#[tactic(auto, unfolding(crate::specs::Machines::events_after))]
+pub(crate) fn events_after(
+    reader: &mut Reader,
+    events: List<EventDecl>,
+) -> Result<List<EventDecl>, ReadError>
+    ensures { Gives result (events_after events) reader.old reader.new }
+{
+    reader.word(b"events")?;
+    reader.more_parts::<Events>(events)
+}
+
+#[tactic(auto, unfolding(crate::specs::Machines::initial))]
+fn initial(reader: &mut Reader) -> Result<bool, ReadError>
+    ensures { Gives result initial reader.old reader.new }
+{
+    if reader.word_at(0, b"initial") {
+        reader.word(b"initial")?;
+        return Ok(true);
+    }
+    Ok(false)
+}
+
+#[tactic(auto, unfolding(crate::specs::Machines::state))]
+fn state(reader: &mut Reader) -> Result<StateDecl, ReadError>
+    ensures { Gives result state reader.old reader.new }
+{
+    let spot = spot(reader)?;
+    let name = error_name(reader)?;
+    reader.sign(b":")?;
+    let initial = initial(reader)?;
+    reader.word(b"state")?;
+    let set = optional_set(reader)?;
+    reader.sign(b";")?;
+    Ok(StateDecl {
+        name,
+        spot,
+        initial,
+        set,
+    })
+}
+
+#[tactic(auto, unfolding(crate::specs::Machines::states_after))]
+fn states_after(reader: &mut Reader, states: List<StateDecl>) -> Result<List<StateDecl>, ReadError>
+    ensures { Gives result (states_after states) reader.old reader.new }
+{
+    reader.word(b"states")?;
+    reader.more_parts::<States>(states)
+}
+
+/// Reads the source of a transition or of an outgoing condition.
+#[tactic(auto, unfolding(crate::specs::Machines::source))]
+pub(crate) fn source(reader: &mut Reader) -> Result<Source, ReadError>
+    ensures { Gives result source reader.old reader.new }
+{
+    let spot = spot(reader)?;
+    if reader.word_at(0, b"all") {
+        reader.word(b"all")?;
+        return Ok(Source { state: None, spot });
+    }
+    let state = Some(state_reference(reader)?);
+    Ok(Source { state, spot })
+}
+
+#[tactic(auto, unfolding(crate::specs::Machines::target_state_after))]
+fn target_state_after(
+    reader: &mut Reader,
+    mut targets: List<StateRef>,
+) -> Result<List<StateRef>, ReadError>
+    ensures { Gives result (target_state_after targets) reader.old reader.new }
+{
+    if reader.word_at(0, b"same") {
+        reader.word(b"same")?;
+        reader.word(b"state")?;
+        return Ok(targets);
+    }
+    targets.push(state_reference(reader)?)?;
+    Ok(targets)
+}
+
+#[tactic(auto, unfolding(crate::specs::Machines::chance))]
+fn chance(reader: &mut Reader) -> Result<(), ReadError>
+    ensures { Gives result chance reader.old reader.new }
+{
+    if reader.kind_at(0, TokenKind::Number) {
+        return reader.kind(TokenKind::Number);
+    }
+    if reader.word_at(0, b"others") {
+        return reader.word(b"others");
+    }
+    names(reader)?;
+    Ok(())
+}
+
+#[tactic(auto, unfolding(crate::specs::Machines::branch_after))]
+fn branch_after(reader: &mut Reader, targets: List<StateRef>) -> Result<List<StateRef>, ReadError>
+    ensures { Gives result (branch_after targets) reader.old reader.new }
+{
+    let targets = target_state_after(reader, targets)?;
+    reader.word(b"with")?;
+    chance(reader)?;
+    Ok(targets)
+}
+
+#[tactic(auto, unfolding(crate::specs::Machines::further_branch))]
+fn further_branch(reader: &mut Reader, targets: List<StateRef>) -> Result<List<StateRef>, ReadError>
+    ensures { Gives result (further_branch targets) reader.old reader.new }
+{
+    reader.sign(b",")?;
+    branch_after(reader, targets)
+}
+
+#[tactic(auto, unfolding(crate::specs::Machines::further_branches))]
+fn further_branches(
+    reader: &mut Reader,
+    targets: List<StateRef>,
+) -> Result<List<StateRef>, ReadError>
+    ensures { Gives result (further_branches targets) reader.old reader.new }
+{
+    reader.gather::<FurtherBranches>(targets)
+}
+
+#[tactic(auto, unfolding(crate::specs::Machines::branches))]
+fn branches(reader: &mut Reader) -> Result<List<StateRef>, ReadError>
+    ensures { Gives result branches reader.old reader.new }
+{
+    let none = List::new(reader.alloc());
+    reader.sign(b"(")?;
+    let first = branch_after(reader, none)?;
+    let targets = further_branches(reader, first)?;
+    reader.sign(b")")?;
+    Ok(targets)
+}
+
+#[tactic(auto, unfolding(crate::specs::Machines::transition_targets))]
+fn transition_targets(reader: &mut Reader) -> Result<List<StateRef>, ReadError>
+    ensures { Gives result transition_targets reader.old reader.new }
+{
+    if reader.sign_at(0, b"(") {
+        return branches(reader);
+    }
+    let none = List::new(reader.alloc());
+    target_state_after(reader, none)
+}
+
+#[tactic(auto, unfolding(crate::specs::Machines::transition_condition))]
+fn transition_condition(reader: &mut Reader) -> Result<Condition, ReadError>
+    ensures { Gives result transition_condition reader.old reader.new }
+{
+    reader.sign(b"-")?;
+    reader.sign(b"[")?;
+    let condition = whole_condition(reader)?;
+    reader.sign(b"]")?;
+    reader.sign(b"->")?;
+    Ok(condition)
+}
+
+#[tactic(auto, unfolding(crate::specs::Machines::transition))]
+fn transition(reader: &mut Reader) -> Result<Transition, ReadError>
+    ensures { Gives result transition reader.old reader.new }
+{
+    let spot = spot(reader)?;
+    let name = label(reader)?;
+    let source = source(reader)?;
+    let condition = transition_condition(reader)?;
+    let targets = transition_targets(reader)?;
+    reader.sign(b";")?;
+    Ok(Transition {
+        name,
+        spot,
+        source,
+        condition,
+        targets,
+    })
+}
+
+/// Reads a block of transitions, and gives them after others.
+#[tactic(auto, unfolding(crate::specs::Machines::transitions_after))]
+pub(crate) fn transitions_after(
+    reader: &mut Reader,
+    transitions: List<Transition>,
+) -> Result<List<Transition>, ReadError>
+    ensures { Gives result (transitions_after transitions) reader.old reader.new }
+{
+    reader.word(b"transitions")?;
+    reader.more_parts::<Transitions>(transitions)
+}
+
+/// Reads a `use transformations`, and gives the place of its first word.
+#[tactic(auto, unfolding(crate::specs::Machines::use_transformations))]
+pub(crate) fn use_transformations(reader: &mut Reader) -> Result<Spot, ReadError>
+    ensures { Gives result use_transformations reader.old reader.new }
+{
+    let spot = spot(reader)?;
+    reader.word(b"use")?;
+    reader.word(b"transformations")?;
+    names(reader)?;
+    reader.sign(b";")?;
+    Ok(spot)
+}
+
+fn first_place(earlier: Option<Spot>, spot: Spot) -> Option<Spot>
+    ensures { result ≡ first_place earlier spot }
+{
+    match earlier {
+        Some(place) => Some(place),
+        None => Some(spot),
+    }
+}
+
+#[tactic(auto, unfolding(crate::specs::Machines::machine_uses))]
+fn machine_uses(reader: &mut Reader, machine: MachineDecl) -> Result<MachineDecl, ReadError>
+    ensures { Gives result (machine_uses machine) reader.old reader.new }
+{
+    let uses = use_types_after(reader, machine.uses)?;
+    Ok(MachineDecl { uses, ..machine })
+}
+
+#[tactic(auto, unfolding(crate::specs::Machines::machine_transforms))]
+fn machine_transforms(reader: &mut Reader, machine: MachineDecl) -> Result<MachineDecl, ReadError>
+    ensures { Gives result (machine_transforms machine) reader.old reader.new }
+{
+    let spot = use_transformations(reader)?;
+    let transforms = first_place(machine.transforms, spot);
+    Ok(MachineDecl {
+        transforms,
+        ..machine
+    })
+}
+
+#[tactic(auto, unfolding(crate::specs::Machines::machine_events))]
+fn machine_events(reader: &mut Reader, machine: MachineDecl) -> Result<MachineDecl, ReadError>
+    ensures { Gives result (machine_events machine) reader.old reader.new }
+{
+    let events = events_after(reader, machine.events)?;
+    Ok(MachineDecl { events, ..machine })
+}
+
+#[tactic(auto, unfolding(crate::specs::Machines::machine_states))]
+fn machine_states(reader: &mut Reader, machine: MachineDecl) -> Result<MachineDecl, ReadError>
+    ensures { Gives result (machine_states machine) reader.old reader.new }
+{
+    let states = states_after(reader, machine.states)?;
+    Ok(MachineDecl { states, ..machine })
+}
+
+#[tactic(auto, unfolding(crate::specs::Machines::machine_transitions))]
+fn machine_transitions(reader: &mut Reader, machine: MachineDecl) -> Result<MachineDecl, ReadError>
+    ensures { Gives result (machine_transitions machine) reader.old reader.new }
+{
+    let transitions = transitions_after(reader, machine.transitions)?;
+    Ok(MachineDecl {
+        transitions,
+        ..machine
+    })
+}
+
+#[tactic(auto, unfolding(crate::specs::Machines::machine_properties))]
+fn machine_properties(reader: &mut Reader, machine: MachineDecl) -> Result<MachineDecl, ReadError>
+    ensures { Gives result (machine_properties machine) reader.old reader.new }
+{
+    let associations = properties_after(reader, machine.associations)?;
+    Ok(MachineDecl {
+        associations,
+        ..machine
+    })
+}
+
+#[tactic(auto, unfolding(crate::specs::Machines::machine_use))]
+fn machine_use(reader: &mut Reader, machine: MachineDecl) -> Result<MachineDecl, ReadError>
+    ensures { Gives result (machine_use machine) reader.old reader.new }
+{
+    if reader.word_at(0, b"use") && reader.word_at(1, b"types") {
+        return machine_uses(reader, machine);
+    }
+    machine_transforms(reader, machine)
+}
+
+#[tactic(auto, unfolding(crate::specs::Machines::machine_other))]
+fn machine_other(reader: &mut Reader, machine: MachineDecl) -> Result<MachineDecl, ReadError>
+    ensures { Gives result (machine_other machine) reader.old reader.new }
+{
+    if reader.word_at(0, b"states") {
+        return machine_states(reader, machine);
+    }
+    if reader.word_at(0, b"transitions") {
+        return machine_transitions(reader, machine);
+    }
+    machine_properties(reader, machine)
+}
+
+#[tactic(auto, unfolding(crate::specs::Machines::machine_block))]
+fn machine_block(reader: &mut Reader, machine: MachineDecl) -> Result<MachineDecl, ReadError>
+    ensures { Gives result (machine_block machine) reader.old reader.new }
+{
+    if reader.word_at(0, b"use") {
+        return machine_use(reader, machine);
+    }
+    if reader.word_at(0, b"events") {
+        return machine_events(reader, machine);
+    }
+    machine_other(reader, machine)
+}
+
+#[tactic(auto, unfolding(crate::specs::Machines::machine_blocks))]
+fn machine_blocks(reader: &mut Reader, machine: MachineDecl) -> Result<MachineDecl, ReadError>
+    ensures { Gives result (machine_blocks machine) reader.old reader.new }
+{
+    reader.gather::<MachineBlocks>(machine)
+}
+
+#[tactic(auto, unfolding(crate::specs::Machines::machine_extends))]
+fn machine_extends(reader: &mut Reader) -> Result<Option<Spot>, ReadError>
+    ensures { Gives result machine_extends reader.old reader.new }
+{
+    if !reader.word_at(0, b"extends") {
+        return Ok(None);
+    }
+    let spot = spot(reader)?;
+    reader.word(b"extends")?;
+    names(reader)?;
+    Ok(Some(spot))
+}
+
+#[tactic(auto, unfolding(crate::specs::Machines::machine_head))]
+fn machine_head(reader: &mut Reader) -> Result<MachineDecl, ReadError>
+    ensures { Gives result machine_head reader.old reader.new }
+{
+    let spot = spot(reader)?;
+    let name = error_name(reader)?;
+    let extends = machine_extends(reader)?;
+    let alloc = reader.alloc();
+    Ok(MachineDecl {
+        name,
+        spot,
+        extends,
+        uses: List::new(alloc),
+        transforms: None,
+        events: List::new(alloc),
+        states: List::new(alloc),
+        transitions: List::new(alloc),
+        associations: List::new(alloc),
+    })
+}
+
+/// Reads an error behavior state machine.
+#[tactic(auto, unfolding(crate::specs::Machines::machine))]
+pub(crate) fn machine(reader: &mut Reader) -> Result<MachineDecl, ReadError>
+    ensures { Gives result machine reader.old reader.new }
+{
+    reader.word(b"error")?;
+    reader.word(b"behavior")?;
+    let head = machine_head(reader)?;
+    let machine = machine_blocks(reader, head)?;
+    block_end(reader, b"behavior")?;
+    Ok(machine)
+}
+
+// The events of a block.
+pub(crate) struct Events;
+
+impl Parts for Events {
+    type Part = EventDecl;
+
+    ghost tests = { is_name ∷ [] };
+
+    ghost rule = { event };
+
+    fn begins(reader: &mut Reader) -> bool {
+        name_at(reader, 0)
+    }
+
+    fn part(reader: &mut Reader) -> Result<EventDecl, ReadError> {
+        event(reader)
+    }
+
+    ghost takes_tokens = { event-takes };
+}
+
+// The states of a block.
+pub(crate) struct States;
+
+impl Parts for States {
+    type Part = StateDecl;
+
+    ghost tests = { is_name ∷ [] };
+
+    ghost rule = { state };
+
+    fn begins(reader: &mut Reader) -> bool {
+        name_at(reader, 0)
+    }
+
+    fn part(reader: &mut Reader) -> Result<StateDecl, ReadError> {
+        state(reader)
+    }
+
+    ghost takes_tokens = { state-takes };
+}
+
+// The transitions of a block.
+pub(crate) struct Transitions;
+
+impl Parts for Transitions {
+    type Part = Transition;
+
+    ghost tests = { begins_source ∷ [] };
+
+    ghost rule = { transition };
+
+    fn begins(reader: &mut Reader) -> bool {
+        source_at(reader)
+    }
+
+    fn part(reader: &mut Reader) -> Result<Transition, ReadError> {
+        transition(reader)
+    }
+
+    ghost takes_tokens = { transition-takes };
+}
+
+// Branches after the first.
+pub(crate) struct FurtherBranches;
+
+impl Gathered for FurtherBranches {
+    type Whole = List<StateRef>;
+
+    ghost tests = { is_sign (codes ",") ∷ [] };
+
+    ghost rule = { further_branch };
+
+    fn begins(reader: &mut Reader) -> bool {
+        reader.sign_at(0, b",")
+    }
+
+    fn part(reader: &mut Reader, whole: List<StateRef>) -> Result<List<StateRef>, ReadError> {
+        further_branch(reader, whole)
+    }
+
+    ghost takes_tokens = { further_branch-takes };
+}
+
+// The blocks of a machine.
+pub(crate) struct MachineBlocks;
+
+impl Gathered for MachineBlocks {
+    type Whole = MachineDecl;
+
+    ghost tests = { is_one_of machine_words ∷ [] };
+
+    ghost rule = { machine_block };
+
+    fn begins(reader: &mut Reader) -> bool {
+        machine_block_at(reader)
+    }
+
+    fn part(reader: &mut Reader, whole: MachineDecl) -> Result<MachineDecl, ReadError> {
+        machine_block(reader, whole)
+    }
+
+    ghost takes_tokens = { machine_block-takes };
+}

@@ -1,0 +1,262 @@
+ghost use Rattle.std.specs.Prelude.{◌≡◌, [], ◌∷◌, codes};
+ghost use Rattle.grammar_rules.specs.Reader.{Gives};
+ghost use Rattle.emv2_parser.specs.Words.{is_name, begins_point};
+ghost use Rattle.emv2_parser.specs.Propagations.{negation, direction, point_item, when_part, source_state, source_flow, sink_flow, flow_mappings, path_flow, flow_kind, flow, flows_after, points_after, propagations_head, propagations_after, clause_propagations};
+ghost use Rattle.emv2_parser.specs.Takes.{point_item-takes, flow-takes};
+
+use crate::names::{
+    block_end, names, optional_set, point, spot, state_reference, tail_end, type_set,
+};
+use crate::words::{error_name, name_at, point_at};
+use aadl_syntax::{Emv2Clause, Flow, FlowKind, List, PointItem, Spot, StateRef, TokenKind};
+use grammar_rules::{Parts, ReadError, Reader};
+
+/// The declared propagations of points, and the flows.
+#[derive(Debug, Drop)]
+pub(crate) struct Propagations {
+    pub(crate) points: List<PointItem>,
+    pub(crate) flows: List<Flow>,
+}
+
+#[tactic(auto, unfolding(crate::specs::Propagations::negation))]
+fn negation(reader: &mut Reader) -> Result<bool, ReadError>
+    ensures { Gives result negation reader.old reader.new }
+{
+    if reader.word_at(0, b"not") {
+        reader.word(b"not")?;
+        return Ok(true);
+    }
+    Ok(false)
+}
+
+#[tactic(auto, unfolding(crate::specs::Propagations::direction))]
+fn direction(reader: &mut Reader) -> Result<bool, ReadError>
+    ensures { Gives result direction reader.old reader.new }
+{
+    if reader.word_at(0, b"in") {
+        reader.word(b"in")?;
+        reader.word(b"propagation")?;
+        return Ok(false);
+    }
+    reader.word(b"out")?;
+    reader.word(b"propagation")?;
+    Ok(true)
+}
+
+#[tactic(auto, unfolding(crate::specs::Propagations::point_item))]
+fn point_item(reader: &mut Reader) -> Result<PointItem, ReadError>
+    ensures { Gives result point_item reader.old reader.new }
+{
+    let point = point(reader)?;
+    reader.sign(b":")?;
+    let negative = negation(reader)?;
+    let outward = direction(reader)?;
+    let set = type_set(reader)?;
+    tail_end(reader)?;
+    Ok(PointItem {
+        point,
+        negative,
+        outward,
+        set,
+    })
+}
+
+#[tactic(auto, unfolding(crate::specs::Propagations::when_part))]
+fn when_part(reader: &mut Reader) -> Result<Option<StateRef>, ReadError>
+    ensures { Gives result when_part reader.old reader.new }
+{
+    if reader.sign_at(0, b"{") {
+        type_set(reader)?;
+        return Ok(None);
+    }
+    if reader.kind_at(0, TokenKind::Text) {
+        reader.kind(TokenKind::Text)?;
+        return Ok(None);
+    }
+    Ok(Some(state_reference(reader)?))
+}
+
+#[tactic(auto, unfolding(crate::specs::Propagations::source_state))]
+fn source_state(reader: &mut Reader) -> Result<Option<StateRef>, ReadError>
+    ensures { Gives result source_state reader.old reader.new }
+{
+    if reader.word_at(0, b"when") {
+        reader.word(b"when")?;
+        return when_part(reader);
+    }
+    Ok(None)
+}
+
+#[tactic(auto, unfolding(crate::specs::Propagations::source_flow))]
+fn source_flow(reader: &mut Reader) -> Result<FlowKind, ReadError>
+    ensures { Gives result source_flow reader.old reader.new }
+{
+    reader.word(b"source")?;
+    let point = point(reader)?;
+    let set = optional_set(reader)?;
+    let state = source_state(reader)?;
+    Ok(FlowKind::Source(point, set, state))
+}
+
+#[tactic(auto, unfolding(crate::specs::Propagations::sink_flow))]
+fn sink_flow(reader: &mut Reader) -> Result<FlowKind, ReadError>
+    ensures { Gives result sink_flow reader.old reader.new }
+{
+    reader.word(b"sink")?;
+    let point = point(reader)?;
+    let set = optional_set(reader)?;
+    Ok(FlowKind::Sink(point, set))
+}
+
+#[tactic(auto, unfolding(crate::specs::Propagations::flow_mappings))]
+fn flow_mappings(reader: &mut Reader) -> Result<Option<Spot>, ReadError>
+    ensures { Gives result flow_mappings reader.old reader.new }
+{
+    if !reader.word_at(0, b"use") {
+        return Ok(None);
+    }
+    let spot = spot(reader)?;
+    reader.word(b"use")?;
+    reader.word(b"mappings")?;
+    names(reader)?;
+    Ok(Some(spot))
+}
+
+#[tactic(auto, unfolding(crate::specs::Propagations::path_flow))]
+fn path_flow(reader: &mut Reader) -> Result<FlowKind, ReadError>
+    ensures { Gives result path_flow reader.old reader.new }
+{
+    reader.word(b"path")?;
+    let from = point(reader)?;
+    let from_set = optional_set(reader)?;
+    reader.sign(b"->")?;
+    let to = point(reader)?;
+    let to_set = optional_set(reader)?;
+    let mappings = flow_mappings(reader)?;
+    Ok(FlowKind::Path(from, from_set, to, to_set, mappings))
+}
+
+#[tactic(auto, unfolding(crate::specs::Propagations::flow_kind))]
+fn flow_kind(reader: &mut Reader) -> Result<FlowKind, ReadError>
+    ensures { Gives result flow_kind reader.old reader.new }
+{
+    if reader.word_at(0, b"source") {
+        return source_flow(reader);
+    }
+    if reader.word_at(0, b"sink") {
+        return sink_flow(reader);
+    }
+    path_flow(reader)
+}
+
+#[tactic(auto, unfolding(crate::specs::Propagations::flow))]
+fn flow(reader: &mut Reader) -> Result<Flow, ReadError>
+    ensures { Gives result flow reader.old reader.new }
+{
+    let spot = spot(reader)?;
+    let name = error_name(reader)?;
+    reader.sign(b":")?;
+    reader.word(b"error")?;
+    let kind = flow_kind(reader)?;
+    tail_end(reader)?;
+    Ok(Flow { name, spot, kind })
+}
+
+#[tactic(auto, unfolding(crate::specs::Propagations::flows_after))]
+fn flows_after(reader: &mut Reader, flows: List<Flow>) -> Result<List<Flow>, ReadError>
+    ensures { Gives result (flows_after flows) reader.old reader.new }
+{
+    if !reader.word_at(0, b"flows") {
+        return Ok(flows);
+    }
+    reader.word(b"flows")?;
+    reader.more_parts::<Flows>(flows)
+}
+
+#[tactic(auto, unfolding(crate::specs::Propagations::points_after))]
+fn points_after(reader: &mut Reader, points: List<PointItem>) -> Result<List<PointItem>, ReadError>
+    ensures { Gives result (points_after points) reader.old reader.new }
+{
+    reader.more_parts::<PointItems>(points)
+}
+
+#[tactic(auto, unfolding(crate::specs::Propagations::propagations_head))]
+fn propagations_head(reader: &mut Reader) -> Result<(), ReadError>
+    ensures { Gives result propagations_head reader.old reader.new }
+{
+    reader.word(b"error")?;
+    reader.word(b"propagations")
+}
+
+#[tactic(auto, unfolding(crate::specs::Propagations::propagations_after))]
+fn propagations_after(
+    reader: &mut Reader,
+    points: List<PointItem>,
+    flows: List<Flow>,
+) -> Result<Propagations, ReadError>
+    ensures { Gives result (propagations_after points flows) reader.old reader.new }
+{
+    propagations_head(reader)?;
+    let points = points_after(reader, points)?;
+    let flows = flows_after(reader, flows)?;
+    block_end(reader, b"propagations")?;
+    Ok(Propagations { points, flows })
+}
+
+/// Reads the propagations and flows of a clause, as a part of it.
+#[tactic(auto, unfolding(crate::specs::Propagations::clause_propagations))]
+pub(crate) fn clause_propagations(
+    reader: &mut Reader,
+    clause: Emv2Clause,
+) -> Result<Emv2Clause, ReadError>
+    ensures { Gives result (clause_propagations clause) reader.old reader.new }
+{
+    let all = propagations_after(reader, clause.points, clause.flows)?;
+    Ok(Emv2Clause {
+        points: all.points,
+        flows: all.flows,
+        ..clause
+    })
+}
+
+// The propagations of a block.
+pub(crate) struct PointItems;
+
+impl Parts for PointItems {
+    type Part = PointItem;
+
+    ghost tests = { begins_point ∷ [] };
+
+    ghost rule = { point_item };
+
+    fn begins(reader: &mut Reader) -> bool {
+        point_at(reader)
+    }
+
+    fn part(reader: &mut Reader) -> Result<PointItem, ReadError> {
+        point_item(reader)
+    }
+
+    ghost takes_tokens = { point_item-takes };
+}
+
+// The flows of a block.
+pub(crate) struct Flows;
+
+impl Parts for Flows {
+    type Part = Flow;
+
+    ghost tests = { is_name ∷ [] };
+
+    ghost rule = { flow };
+
+    fn begins(reader: &mut Reader) -> bool {
+        name_at(reader, 0)
+    }
+
+    fn part(reader: &mut Reader) -> Result<Flow, ReadError> {
+        flow(reader)
+    }
+
+    ghost takes_tokens = { flow-takes };
+}

@@ -1,0 +1,9 @@
+use Rattle.std.proofs.Common.{arith}
+use Rattle.std.proofs.lemmas.Grind.{common_steps}
+use Rattle.grammar_rules.specs.Tokens.{is_one_of}
+use Rattle.grammar_rules.proofs.Words.{among_map}
+use Rattle.grammar_rules.proofs.reader.is_one_of.Goals as goal
+
+pub returns-then-eq : goal.returns-then-eq
+unfolding is_one_of
+returns-then-eq c = rw (← among_map c.args.token.now.text c.args.words.now) (grind (arith, common_steps))
