@@ -14,6 +14,5 @@ mod words;
 
 pub use text::{clause, library, one_clause, one_library};
 
-
 #[cfg(test)]
 mod tests;
