@@ -1,6 +1,4 @@
-use super::{
-    Code, FirstRefusal, List, Place, Refusal, fold, is_same, least_is_first, one_first,
-};
+use super::{Code, FirstRefusal, List, Place, Refusal, fold, is_same, least_is_first, one_first};
 use std::test::Fail;
 
 #[test]
