@@ -8,7 +8,7 @@ use Rattle.aadl_syntax.specs.Order.{◌or_else◌}
 use Rattle.fta_run.specs.declared.status.Status.{Status}
 use Rattle.fta_run.specs.declared.status.Status.TheVariants.{Done, Usage, Refused, ReadFault, WriteFault, Memory, NotYet}
 use Rattle.fta_run.specs.Words.{IsCuts}
-use Rattle.fta_run.specs.Files.{AreContents, InputRefused, LacksTokens}
+use Rattle.fta_run.specs.Files.{AreContents, InputRefused, LacksTokens, GrammarRefused}
 use Rattle.fta_run.specs.Output.{FormRefused, IsAsked, IsListingText, IsOutput}
 use Rattle.fta_run.specs.Answers.{AllTold, IsJustified, Took}
 use Rattle.fta_run.specs.Steps.{IsInputEnd, IsReadEnd, IsWriteEnd, PassInput}
@@ -46,7 +46,7 @@ more_phases files texts Later refusal h =
 -- a run that ended at the reading
 pub justified_input : (words : List (List ℕ)) (contents : List ℕ → Option (List ℕ)) (root : Root) (target : List ℕ) (files texts : List (List ℕ)) (before after : List ℕ → ℕ) (status : Status) → IsAsked words contents root target files texts → IsReadEnd files before after status → IsInputEnd files texts status → IsJustified words contents status
 justified_input words contents root target files texts before after (Refused refusal) asked end why =
-    record { root = root; target = target; files = files; texts = texts; asked = asked; first = more_phases files texts (LacksTokens texts or_else FormRefused root target texts) refusal why }
+    record { root = root; target = target; files = files; texts = texts; asked = asked; first = more_phases files texts (LacksTokens texts or_else GrammarRefused texts (FormRefused root target texts)) refusal why }
 justified_input words contents root target files texts before after Done asked end why = tt
 justified_input words contents root target files texts before after Usage asked end why = tt
 justified_input words contents root target files texts before after (ReadFault file) asked end why = tt
@@ -57,7 +57,7 @@ justified_input words contents root target files texts before after NotYet asked
 -- a run that ended later
 pub justified_later : (words : List (List ℕ)) (contents : List ℕ → Option (List ℕ)) (root : Root) (target : List ℕ) (files texts read : List (List ℕ)) (before after : ℕ) (status : Status) → IsAsked words contents root target files texts → PassInput read files texts → IsWriteEnd root target read before after status → IsJustified words contents status
 justified_later words contents root target files texts read before after (Refused refusal) asked passed end =
-    let later : (LacksTokens texts or_else FormRefused root target texts) refusal = subst (λ ts. (LacksTokens ts or_else FormRefused root target ts) refusal) passed.whole end in
+    let later : (LacksTokens texts or_else GrammarRefused texts (FormRefused root target texts)) refusal = subst (λ ts. (LacksTokens ts or_else GrammarRefused ts (FormRefused root target ts)) refusal) passed.whole end in
     record { root = root; target = target; files = files; texts = texts; asked = asked; first = inr (passed.few, inr (passed.short, inr (passed.not_much, later))) }
 justified_later words contents root target files texts read before after NotYet asked passed end =
     let its = subst (λ ts. IsWriteEnd root target ts before after NotYet) passed.whole end in
@@ -68,7 +68,8 @@ justified_later words contents root target files texts read before after NotYet 
       texts = texts;
       asked = asked;
       have_tokens = record { few = passed.few; short = passed.short; not_much = passed.not_much; tokens = its.0 };
-      other = its.1;
+      have_units = its.1;
+      other = its.2;
     }
 justified_later words contents root target files texts read before after Done asked passed end = tt
 justified_later words contents root target files texts read before after Usage asked passed end = tt

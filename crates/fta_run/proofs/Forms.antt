@@ -10,7 +10,8 @@ use Rattle.aadl_lexer.proofs.Single.{one_list}
 use Rattle.grammar_rules.specs.Rules.{Reads}
 use Rattle.fta_run.specs.declared.form.FirstForm.{FirstForm}
 use Rattle.fta_run.specs.Productions.{first_form}
-use Rattle.fta_run.specs.Files.{LacksTokens}
+use Rattle.fta_run.specs.Files.{LacksTokens, HaveUnits}
+use Rattle.fta_run.proofs.Grammars.{single_units}
 use Rattle.fta_run.specs.Output.{IsFirstForm, IsRootOf, LacksRoot}
 use Rattle.fta_run.proofs.Lacking.{clear_tokens}
 use Rattle.fta_run.specs.Steps.{AreTokens, IsFormOf}
@@ -24,13 +25,14 @@ one_text texts lists tokens zip one = of_one texts (subst (AreTokens texts) one 
     of_one (t ∷ []) z = (t, refl, z.0)
     of_one (t ∷ u ∷ us) z = absurd z.1
 
-pub form_is : (texts : List (List ℕ)) (lists : List (List Token)) (form : FirstForm) → AreTokens texts lists → All (λ text. length text ≤ 4194304) texts → IsFormOf lists form → IsFirstForm texts form
-form_is texts lists form zip short is =
+pub form_is : (texts : List (List ℕ)) (lists : List (List Token)) (form : FirstForm) → AreTokens texts lists → HaveUnits texts → All (λ text. length text ≤ 4194304) texts → IsFormOf lists form → IsFirstForm texts form
+form_is texts lists form zip have short is =
     let found = one_text texts lists is.tokens zip is.one in
     let its : length (get_or texts 0 []) ≤ 4194304 = All-get_or (λ text. length text ≤ 4194304) texts 0 [] (omega (arith, ap length found.1)) short in
     record {
       text = found.0;
       one = found.1;
+      whole = subst HaveUnits found.1 have 0 found.0 refl;
       tokens = is.tokens;
       tokens_are = found.2;
       reads = is.reads;
@@ -53,6 +55,10 @@ two_items [] x some few is = absurd (omega arith)
 two_items (a ∷ []) x some few is = absurd (omega arith)
 two_items (a ∷ b ∷ []) x some few is = (b, ap (λ z. z ∷ b ∷ []) (sym is))
 two_items (a ∷ b ∷ d ∷ xs) x some few is = absurd (omega arith)
+
+-- a text of the first form has units
+pub units_of_form : (texts : List (List ℕ)) (form : FirstForm) → IsFirstForm texts form → HaveUnits texts
+units_of_form texts form is = subst HaveUnits (sym is.one) (single_units is.text is.whole)
 
 -- ---- what stands at a root
 

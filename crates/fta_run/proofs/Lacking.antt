@@ -24,16 +24,30 @@ zip-more R (z ∷ xs) (w ∷ ys) zero x y within is zip here = absurd zip
 zip-more R (z ∷ xs) [] (suc i) x y within is zip here = absurd zip
 zip-more R (z ∷ xs) (w ∷ ys) (suc i) x y within is zip here = (zip.0, zip-more R xs ys i x y (omega arith) is zip.1 here)
 
-zip_at : (texts : List (List ℕ)) (lists : List (List Token)) (file : ℕ) (d : List ℕ) → AreTokens texts lists → file < length texts → Tokens (get_or texts file d) (get_or lists file [])
-zip_at [] lists file d zip within = absurd (omega arith)
-zip_at (text ∷ texts) [] file d zip within = absurd zip
-zip_at (text ∷ texts) (list ∷ lists) zero d zip within = zip.0
-zip_at (text ∷ texts) (list ∷ lists) (suc file) d zip within = zip_at texts lists file d zip.1 (omega arith)
+-- the tokens of the text at a place
+pub zip_at : (texts : List (List ℕ)) (lists : List (List Token)) (file : ℕ) (d : List ℕ) (e : List Token) → AreTokens texts lists → file < length texts → Tokens (get_or texts file d) (get_or lists file e)
+zip_at [] lists file d e zip within = absurd (omega arith)
+zip_at (text ∷ texts) [] file d e zip within = absurd zip
+zip_at (text ∷ texts) (list ∷ lists) zero d e zip within = zip.0
+zip_at (text ∷ texts) (list ∷ lists) (suc file) d e zip within = zip_at texts lists file d e zip.1 (omega arith)
 
 -- the tokens of the text at a place
 tokens_at : (texts : List (List ℕ)) (lists : List (List Token)) (file : ℕ) (text : List ℕ) → AreTokens texts lists → slice_get texts file ≡ Some text → Tokens text (get_or lists file [])
 tokens_at texts lists file text zip there =
-    subst (λ t. Tokens t (get_or lists file [])) (get_or_from_slice_get texts file text text there) (zip_at texts lists file text zip (slice_get_within texts file text there))
+    subst (λ t. Tokens t (get_or lists file [])) (get_or_from_slice_get texts file text text there) (zip_at texts lists file text [] zip (slice_get_within texts file text there))
+
+-- the same of a text and of a list that are read at the place
+pub tokens_here : (texts : List (List ℕ)) (lists : List (List Token)) (file : ℕ) (text : List ℕ) (list : List Token) (bytes : List ℕ) (tokens : List Token) → AreTokens texts lists → file < length texts → text ≡ get_or texts file text → list ≡ get_or lists file list → bytes ≡ text → tokens ≡ list → Tokens bytes tokens
+tokens_here texts lists file text list bytes tokens zip within is its same also =
+    let pair = zip_at texts lists file text list zip within in
+    subst (λ b. Tokens b tokens) (sym (same ∙ is)) (subst (Tokens (get_or texts file text)) (sym (also ∙ its)) pair)
+
+-- there are as many lists of tokens as texts
+pub length-zip : (texts : List (List ℕ)) (lists : List (List Token)) → AreTokens texts lists → length lists ≡ length texts
+length-zip [] [] zip = refl
+length-zip [] (list ∷ lists) zip = absurd zip
+length-zip (text ∷ texts) [] zip = absurd zip
+length-zip (text ∷ texts) (list ∷ lists) zip = ap suc (length-zip texts lists zip.1)
 
 -- texts that have tokens lack none
 pub clear_tokens : (texts : List (List ℕ)) (lists : List (List Token)) → AreTokens texts lists → IsClear (LacksTokens texts)

@@ -11,3 +11,4 @@ mod Lacking
 mod Forms
 mod Asked
 mod OneDue
+mod Grammars

@@ -22,11 +22,12 @@ use Rattle.fta_run.specs.declared.status.Status.{Status}
 use Rattle.fta_run.specs.declared.status.Status.TheVariants.{Done, Usage, Refused, ReadFault, WriteFault, Memory, NotYet}
 use Rattle.fta_run.specs.Productions.{first_form}
 use Rattle.fta_run.specs.Meaning.{system_of}
-use Rattle.fta_run.specs.Files.{AreContents, HasTooLong, HasTooMuch, InputRefused, LacksTokens, NamesTooMany, too_long_from}
+use Rattle.fta_run.specs.Files.{AreContents, HasTooLong, HasTooMuch, InputRefused, LacksTokens, NamesTooMany, too_long_from, GrammarRefused, HaveUnits}
+use Rattle.fta_run.proofs.Grammars.{grammar_once, lacks_or_have}
 use Rattle.fta_run.specs.Output.{FormRefused, IsAsked, IsAskedOf, IsFactNamed, IsFirstForm, IsListingText, IsNotServed, IsOutput, IsVerdict, LacksRoot, LacksTarget}
-use Rattle.fta_run.specs.Answers.{AllTold, AnswersWords, IsDue, IsJustified, MayCome, Took}
+use Rattle.fta_run.specs.Answers.{AllTold, IsSameRefusal, IsSameStatus, AnswersWords, IsDue, IsJustified, MayCome, Took}
 use Rattle.fta_run.specs.Text.{listing_text}
-use Rattle.fta_run.proofs.Forms.{clear_of_form, clear_of_root}
+use Rattle.fta_run.proofs.Forms.{clear_of_form, clear_of_root, units_of_form}
 use Rattle.fta_run.proofs.Inputs.{from_short}
 use Rattle.fta_run.proofs.MadeSystem.{system_is_one}
 use Rattle.fta_run.proofs.Roots.{one_command}
@@ -118,7 +119,7 @@ one_output words contents a b h k =
 
 -- the phases of a command
 abbrev Phases : Root → List ℕ → List (List ℕ) → List (List ℕ) → Refusal → Type 0
-Phases root target files texts = InputRefused files texts (LacksTokens texts or_else FormRefused root target texts)
+Phases root target files texts = InputRefused files texts (LacksTokens texts or_else GrammarRefused texts (FormRefused root target texts))
 
 moved : (r : Root) (t : List ℕ) (fs ts : List (List ℕ)) (root : Root) (target : List ℕ) (files texts : List (List ℕ)) (refusal : Refusal) → IsSame r t fs ts root target files texts → Phases r t fs ts refusal → Phases root target files texts refusal
 moved r t fs ts root target files texts refusal same h =
@@ -129,11 +130,22 @@ form_refused_once root target texts a b h k =
     let form : h.form ≡ k.form = one_form texts h.form k.form h.form_is k.form_is in
     or_else_once (LacksRoot k.form root) (IsFirst (LacksTarget (system_of k.form.machine) target)) (first_once (LacksTarget (system_of k.form.machine) target)) a b (subst (λ f. (LacksRoot f root or_else IsFirst (LacksTarget (system_of f.machine) target)) a) form h.first) k.first
 
-phases_once : (root : Root) (target : List ℕ) (files texts : List (List ℕ)) (a b : Refusal) → Phases root target files texts a → Phases root target files texts b → a ≡ b
-phases_once root target files texts =
-    or_else_once (NamesTooMany files) _ (or_else_once (HasTooLong texts) _ (or_else_once (HasTooMuch texts) _ (or_else_once (LacksTokens texts) (FormRefused root target texts) (form_refused_once root target texts))))
+-- two refusals of phases are the same, where those of the later ones are
+same_or_else : (Earlier Later : Refusal → Type 0) → ((a b : Refusal) → Later a → Later b → IsSameRefusal a b) → (a b : Refusal) → (Earlier or_else Later) a → (Earlier or_else Later) b → IsSameRefusal a b
+same_or_else Earlier Later once a b h k =
+    elim h [
+      | inl first ↦ elim k [ inl other ↦ inl (first_once Earlier a b first other) | inr later ↦ absurd (later.0 a first.stands) ]
+      | inr later ↦ elim k [ inl other ↦ absurd (later.0 b other.stands) | inr also ↦ once a b later.1 also.1 ]
+    ]
 
-pub one_verdict : (words : List (List ℕ)) (contents : List ℕ → Option (List ℕ)) (a b : Refusal) → IsVerdict words contents a → IsVerdict words contents b → a ≡ b
+phases_once : (root : Root) (target : List ℕ) (files texts : List (List ℕ)) (a b : Refusal) → Phases root target files texts a → Phases root target files texts b → IsSameRefusal a b
+phases_once root target files texts =
+    let form_phases = FormRefused root target texts in
+    let text_phases = LacksTokens texts or_else GrammarRefused texts form_phases in
+    let length_phases = HasTooMuch texts or_else text_phases in
+    same_or_else (NamesTooMany files) (HasTooLong texts or_else length_phases) (same_or_else (HasTooLong texts) length_phases (same_or_else (HasTooMuch texts) text_phases (same_or_else (LacksTokens texts) (GrammarRefused texts form_phases) (grammar_once texts form_phases (λ a b h k. inl (form_refused_once root target texts a b h k))))))
+
+pub one_verdict : (words : List (List ℕ)) (contents : List ℕ → Option (List ℕ)) (a b : Refusal) → IsVerdict words contents a → IsVerdict words contents b → IsSameRefusal a b
 one_verdict words contents a b h k =
     let same = asked_once words contents h.root h.target h.files h.texts k.root k.target k.files k.texts h.asked k.asked in
     phases_once k.root k.target k.files k.texts a b (moved h.root h.target h.files h.texts k.root k.target k.files k.texts a same h.first) k.first
@@ -143,12 +155,16 @@ one_verdict words contents a b h k =
 none_of : (Earlier Later : Refusal → Type 0) (refusal : Refusal) → IsClear Earlier → (Later refusal → ⊥) → (Earlier or_else Later) refusal → ⊥
 none_of Earlier Later refusal clear none h = elim h [ inl first ↦ clear refusal first.stands | inr later ↦ none later.1 ]
 
+none_of_grammar : (texts : List (List ℕ)) (Later : Refusal → Type 0) (refusal : Refusal) → HaveUnits texts → (Later refusal → ⊥) → GrammarRefused texts Later refusal → ⊥
+none_of_grammar texts Later refusal have none h = elim h [ inl lacks ↦ lacks_or_have texts refusal lacks have | inr later ↦ none later.1 ]
+
 -- no phase refuses where none of the earlier ones does and the text is not refused either
-passes : (root : Root) (target : List ℕ) (files texts : List (List ℕ)) (refusal : Refusal) → IsClear (NamesTooMany files) → IsClear (HasTooLong texts) → IsClear (HasTooMuch texts) → IsClear (LacksTokens texts) → (FormRefused root target texts refusal → ⊥) → Phases root target files texts refusal → ⊥
-passes root target files texts refusal few short little tokens form =
-    let text_phases = LacksTokens texts or_else FormRefused root target texts in
+passes : (root : Root) (target : List ℕ) (files texts : List (List ℕ)) (refusal : Refusal) → IsClear (NamesTooMany files) → IsClear (HasTooLong texts) → IsClear (HasTooMuch texts) → IsClear (LacksTokens texts) → HaveUnits texts → (FormRefused root target texts refusal → ⊥) → Phases root target files texts refusal → ⊥
+passes root target files texts refusal few short little tokens have form =
+    let grammar_phases = GrammarRefused texts (FormRefused root target texts) in
+    let text_phases = LacksTokens texts or_else grammar_phases in
     let length_phases = HasTooMuch texts or_else text_phases in
-    none_of (NamesTooMany files) (HasTooLong texts or_else length_phases) refusal few (none_of (HasTooLong texts) length_phases refusal short (none_of (HasTooMuch texts) text_phases refusal little (none_of (LacksTokens texts) (FormRefused root target texts) refusal tokens form)))
+    none_of (NamesTooMany files) (HasTooLong texts or_else length_phases) refusal few (none_of (HasTooLong texts) length_phases refusal short (none_of (HasTooMuch texts) text_phases refusal little (none_of (LacksTokens texts) grammar_phases refusal tokens (none_of_grammar texts (FormRefused root target texts) refusal have form))))
 
 not_refused : (root : Root) (target : List ℕ) (texts : List (List ℕ)) (system : System) (number : ℕ) (refusal : Refusal) → IsAskedOf root target texts system number → FormRefused root target texts refusal → ⊥
 not_refused root target texts system number refusal asked refused =
@@ -170,13 +186,14 @@ verdict_or_output words contents refusal text h k =
     (λ r long. let in_none : Contains [] r = subst (λ group. Contains group r) none long in absurd (omega (arith, in_none.1)))
     (λ r much. absurd (omega (arith, much.0, total)))
     (clear_of_form k.texts asked.form is)
+    (units_of_form k.texts asked.form is)
     (not_refused k.root k.target k.texts k.listing.system k.listing.number refusal asked)
     (moved h.root h.target h.files h.texts k.root k.target k.files k.texts refusal same h.first)
 
 verdict_or_not_served : (words : List (List ℕ)) (contents : List ℕ → Option (List ℕ)) (refusal : Refusal) → IsVerdict words contents refusal → IsNotServed words contents → ⊥
 verdict_or_not_served words contents refusal h k =
     let same = asked_once words contents h.root h.target h.files h.texts k.root k.target k.files k.texts h.asked k.asked in
-    passes k.root k.target k.files k.texts refusal k.have_tokens.few k.have_tokens.short k.have_tokens.not_much k.have_tokens.tokens (λ refused. k.other refused.form refused.form_is) (moved h.root h.target h.files h.texts k.root k.target k.files k.texts refusal same h.first)
+    passes k.root k.target k.files k.texts refusal k.have_tokens.few k.have_tokens.short k.have_tokens.not_much k.have_tokens.tokens k.have_units (λ refused. k.other refused.form refused.form_is) (moved h.root h.target h.files h.texts k.root k.target k.files k.texts refusal same h.first)
 
 output_or_not_served : (words : List (List ℕ)) (contents : List ℕ → Option (List ℕ)) (text : List ℕ) → IsOutput words contents text → IsNotServed words contents → ⊥
 output_or_not_served words contents text h k =
@@ -185,7 +202,7 @@ output_or_not_served words contents text h k =
 
 -- ---- one status is due
 
-pub one_due : (words : List (List ℕ)) (contents : List ℕ → Option (List ℕ)) (a b : Status) → IsDue words contents a → IsDue words contents b → a ≡ b
+pub one_due : (words : List (List ℕ)) (contents : List ℕ → Option (List ℕ)) (a b : Status) → IsDue words contents a → IsDue words contents b → IsSameStatus a b
 one_due words contents Usage Usage h k = refl
 one_due words contents Usage Done h k = absurd (h k.1.root k.1.target k.1.files k.1.asked.command)
 one_due words contents Usage (Refused s) h k = absurd (h k.root k.target k.files k.asked.command)
@@ -196,7 +213,7 @@ one_due words contents Done (Refused s) h k = absurd (verdict_or_output words co
 one_due words contents Done NotYet h k = absurd (output_or_not_served words contents h.0 h.1 k)
 one_due words contents (Refused r) Usage h k = absurd (k h.root h.target h.files h.asked.command)
 one_due words contents (Refused r) Done h k = absurd (verdict_or_output words contents r k.0 h k.1)
-one_due words contents (Refused r) (Refused s) h k = ap (λ refusal. Refused refusal) (one_verdict words contents r s h k)
+one_due words contents (Refused r) (Refused s) h k = one_verdict words contents r s h k
 one_due words contents (Refused r) NotYet h k = absurd (verdict_or_not_served words contents r h k)
 one_due words contents NotYet Usage h k = absurd (k h.root h.target h.files h.asked.command)
 one_due words contents NotYet Done h k = absurd (output_or_not_served words contents k.0 k.1 h)
@@ -231,12 +248,21 @@ all_told contents (file ∷ files) (text ∷ texts) told =
 told_of : (words : List (List ℕ)) (contents : List ℕ → Option (List ℕ)) (root : Root) (target : List ℕ) (files texts : List (List ℕ)) → IsAsked words contents root target files texts → AllTold words contents
 told_of words contents root target files texts asked = subst (λ w. AllTold w contents) (sym asked.command.words_are) (all_told contents files texts asked.told)
 
+done_alone : (due : Status) → IsSameStatus due Done → due ≡ Done
+done_alone Done same = same
+done_alone Usage same = same
+done_alone (Refused r) same = absurd same
+done_alone (ReadFault file) same = same
+done_alone WriteFault same = same
+done_alone Memory same = same
+done_alone NotYet same = same
+
 later : (words : List (List ℕ)) (contents : List ℕ → Option (List ℕ)) (due result : Status) (before after : Option (List ℕ)) → IsDue words contents due → AnswersWords result words → IsJustified words contents result → Took (IsOutput words contents) result before after → MayCome due result
 later words contents due Done before after h command justified took = one_due words contents due Done h (took.0, took.1)
 later words contents due Usage before after h command justified took = one_due words contents due Usage h command
 later words contents due (Refused r) before after h command justified took = one_due words contents due (Refused r) h justified
 later words contents due NotYet before after h command justified took = one_due words contents due NotYet h justified
-later words contents due WriteFault before after h command justified took = one_due words contents due Done h (took.0, took.1)
+later words contents due WriteFault before after h command justified took = done_alone due (one_due words contents due Done h (took.0, took.1))
 later words contents due (ReadFault file) before after h command justified took = tt
 later words contents due Memory before after h command justified took = tt
 

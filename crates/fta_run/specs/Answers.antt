@@ -2,6 +2,8 @@
 use Rattle.std.specs.Prelude.{◌≡◌, ◌≤◌, ◌⊎◌, ℕ, List, drop, length, Option, Some, IsSome, slice_get}
 use Rattle.std.specs.List.{AllByRecursion}
 use Rattle.aadl_syntax.specs.declared.name.Root.{Root}
+use Rattle.aadl_syntax.specs.declared.refusal.Refusal.{Refusal}
+use Rattle.emv2_parser.specs.Grammar.{syntax_error}
 use Rattle.fta_outside.specs.Outside.{Rose, TookPrefix, with_bytes}
 use Rattle.fta_run.specs.declared.status.Status.{Status}
 use Rattle.fta_run.specs.declared.status.Status.TheVariants.{Done, Usage, Refused, ReadFault, WriteFault, Memory, NotYet}
@@ -66,9 +68,19 @@ IsDue words contents (Refused refusal) = IsVerdict words contents refusal
 IsDue words contents NotYet = IsNotServed words contents
 IsDue words contents _ = ⊥
 
+-- Two refusals are the same, or syntax errors of one file: of the place of these only that it is dead is said.
+abbrev pub IsSameRefusal : Refusal → Refusal → Type 0
+IsSameRefusal a b = (a ≡ b) ⊎ ((file : ℕ) × (here : ℕ) × (there : ℕ) × (a ≡ syntax_error file here) × (b ≡ syntax_error file there))
+
+-- Two statuses are the same, but for the place of a syntax error.
+abbrev pub IsSameStatus : Status → Status → Type 0
+IsSameStatus (Refused a) (Refused b) = IsSameRefusal a b
+IsSameStatus (Refused a) b = ⊥
+IsSameStatus a b = a ≡ b
+
 -- What may come where a status is due: that one, want of memory, a fault of a file, and, where the text is due, a fault of the output.
 abbrev pub MayCome : Status → Status → Type 0
 MayCome due Memory = Unit {0}
 MayCome due (ReadFault file) = Unit {0}
 MayCome due WriteFault = due ≡ Done
-MayCome due status = due ≡ status
+MayCome due status = IsSameStatus due status

@@ -1,12 +1,18 @@
--- The contents of the files, and the refusals that stand before a text is read by its grammar.
-use Rattle.std.specs.Prelude.{◌≡◌, ℕ, suc, ◌<◌, nat_lt, if◌then◌else◌, List, [], ◌∷◌, ◌++◌, length, map, sum_by, Option, Some, Contains, slice_get}
+-- The contents of the files, and the refusals of their number, their lengths, their tokens and their grammar.
+use Rattle.std.specs.Prelude.{◌≡◌, ℕ, suc, ◌<◌, nat_lt, if◌then◌else◌, List, [], ◌∷◌, ◌++◌, ◌⊎◌, length, map, sum_by, Option, Some, Contains, slice_get}
 use Rattle.aadl_syntax.specs.declared.refusal.Code.{Code}
 use Rattle.aadl_syntax.specs.declared.refusal.Code.TheVariants.{FileTooLong, TooManyFiles, TooMuchText}
 use Rattle.aadl_syntax.specs.declared.refusal.Place.TheVariants.{Words, Whole}
 use Rattle.aadl_syntax.specs.declared.refusal.Refusal.{Refusal}
 use Rattle.aadl_syntax.specs.declared.refusal.Stop.TheVariants.{Refused}
 use Rattle.aadl_syntax.specs.Order.{IsClear, ◌or_else◌}
-use Rattle.aadl_lexer.specs.Tokens.{IsFault, RefusedAs}
+use Rattle.aadl_syntax.specs.declared.token.Token.{Token}
+use Rattle.aadl_syntax.specs.declared.core_model.Unit.{Unit as FileUnit}
+use Rattle.aadl_lexer.specs.Tokens.{IsFault, RefusedAs, Tokens}
+use Rattle.grammar_rules.specs.Rules.{Reads}
+use Rattle.aadl_parser.specs.Packages.{file_units}
+use Rattle.aadl_parser.specs.Nesting.{IsShallow}
+use Rattle.aadl_parser.specs.Files.{IsSyntaxError, IsTooNested}
 
 -- The files of these names contain these texts, in order.
 abbrev pub AreContents : (List ℕ → Option (List ℕ)) → List (List ℕ) → List (List ℕ) → Type 0
@@ -54,3 +60,30 @@ pub record HaveTokens (files texts : List (List ℕ)) : Type 0 where
   pub short : IsClear (HasTooLong texts)
   pub not_much : IsClear (HasTooMuch texts)
   pub tokens : IsClear (LacksTokens texts)
+
+-- The text of the file of this number has tokens in which nowhere too many brackets are open, and they read as units.
+pub record HasUnits (file : ℕ) (text : List ℕ) : Type 0 where
+  pub tokens : List Token
+  pub tokens_are : Tokens text tokens
+  pub shallow : IsShallow tokens
+  pub units : List FileUnit
+  pub reads : Reads file file_units tokens units []
+
+-- The text of each file has units.
+abbrev pub HaveUnits : List (List ℕ) → Type 0
+HaveUnits texts = (file : ℕ) (text : List ℕ) → slice_get texts file ≡ Some text → HasUnits file text
+
+-- M3, S1: the text of a file is nested too deep, or has no reading, and that of each earlier file has one.
+pub record LacksUnits (texts : List (List ℕ)) (refusal : Refusal) : Type 0 where
+  pub file : ℕ
+  pub text : List ℕ
+  pub there : slice_get texts file ≡ Some text
+  pub tokens : List Token
+  pub tokens_are : Tokens text tokens
+  pub stops : IsTooNested file tokens (length text) refusal ⊎ IsSyntaxError file tokens (length text) refusal
+  pub earlier : (other : ℕ) (other_text : List ℕ) → other < file → slice_get texts other ≡ Some other_text → HasUnits other other_text
+
+-- The refusal of the files' grammar, or, where all of them have units, of what comes later. It is no group of which the first
+-- is taken, since of a syntax error only that its place is dead is said.
+abbrev pub GrammarRefused : List (List ℕ) → (Refusal → Type 0) → Refusal → Type 0
+GrammarRefused texts Later refusal = LacksUnits texts refusal ⊎ (HaveUnits texts × Later refusal)

@@ -16,12 +16,13 @@ use Rattle.fta_run.specs.Served.{IsServed}
 use Rattle.fta_run.specs.Meaning.{system_of}
 use Rattle.fta_run.specs.Text.{listing_text}
 use Rattle.fta_run.specs.Words.{IsCuts}
-use Rattle.fta_run.specs.Files.{AreContents, of_words, InputRefused, LacksTokens, HaveTokens}
+use Rattle.fta_run.specs.Files.{AreContents, of_words, GrammarRefused, HasUnits, HaveTokens, HaveUnits, InputRefused, LacksTokens}
 
--- There is one text, and it is of the first form: its tokens read so, and it is served and not too long.
+-- There is one text, and it is of the first form: it has units, its tokens read so, and it is served and not too long.
 pub record IsFirstForm (texts : List (List ℕ)) (form : FirstForm) : Type 0 where
   pub text : List ℕ
   pub one : texts ≡ text ∷ []
+  pub whole : HasUnits 0 text
   pub tokens : List Token
   pub tokens_are : Tokens text tokens
   pub reads : Reads 0 first_form tokens form []
@@ -97,14 +98,14 @@ pub record IsOutput (words : List (List ℕ)) (contents : List ℕ → Option (L
   pub listing : IsListingText root target texts text
 
 -- The verdict is the first refusal by the phases: the number of the files, their lengths one by one and together, their
--- tokens, and, where the text is of the first form, its root and its target.
+-- tokens, their grammar, and, where the text is of the first form, its root and its target.
 pub record IsVerdict (words : List (List ℕ)) (contents : List ℕ → Option (List ℕ)) (refusal : Refusal) : Type 0 where
   pub root : Root
   pub target : List ℕ
   pub files : List (List ℕ)
   pub texts : List (List ℕ)
   pub asked : IsAsked words contents root target files texts
-  pub first : InputRefused files texts (LacksTokens texts or_else FormRefused root target texts) refusal
+  pub first : InputRefused files texts (LacksTokens texts or_else GrammarRefused texts (FormRefused root target texts)) refusal
 
 -- The text is not of the first form, and no earlier phase refuses it.
 pub record IsNotServed (words : List (List ℕ)) (contents : List ℕ → Option (List ℕ)) : Type 0 where
@@ -114,4 +115,5 @@ pub record IsNotServed (words : List (List ℕ)) (contents : List ℕ → Option
   pub texts : List (List ℕ)
   pub asked : IsAsked words contents root target files texts
   pub have_tokens : HaveTokens files texts
+  pub have_units : HaveUnits texts
   pub other : (form : FirstForm) → IsFirstForm texts form → ⊥

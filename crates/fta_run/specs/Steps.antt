@@ -3,7 +3,7 @@ use Rattle.std.specs.Prelude.{◌≡◌, ◌≤◌, ℕ, List, [], ◌∷◌, le
 use Rattle.std.specs.List.{AllZip}
 use Rattle.aadl_syntax.specs.declared.name.Root.{Root}
 use Rattle.aadl_syntax.specs.declared.token.Token.{Token}
-use Rattle.aadl_syntax.specs.Order.{IsFirst, IsClear, ◌or_else◌}
+use Rattle.aadl_syntax.specs.Order.{IsClear, ◌or_else◌}
 use Rattle.fta_outside.specs.Outside.{Rose}
 use Rattle.aadl_lexer.specs.Tokens.{Tokens}
 use Rattle.grammar_rules.specs.Rules.{Reads}
@@ -12,7 +12,7 @@ use Rattle.fta_run.specs.declared.status.Status.{Status}
 use Rattle.fta_run.specs.declared.status.Status.TheVariants.{Done, Refused, ReadFault, WriteFault, Memory, NotYet}
 use Rattle.fta_run.specs.Productions.{first_form}
 use Rattle.fta_run.specs.Served.{IsServed}
-use Rattle.fta_run.specs.Files.{InputRefused, LacksTokens, NamesTooMany, HasTooLong, HasTooMuch}
+use Rattle.fta_run.specs.Files.{GrammarRefused, HasTooLong, HasTooMuch, HaveUnits, InputRefused, LacksTokens, LacksUnits, NamesTooMany}
 use Rattle.fta_run.specs.Output.{IsFirstForm, FormRefused}
 
 -- What was read of each file is the front of what it contains, where that is told: one byte more than a file may have, at most.
@@ -63,16 +63,16 @@ pub record IsFormOf (lists : List (List Token)) (form : FirstForm) : Type 0 wher
   pub reads : Reads 0 first_form tokens form []
   pub served : IsServed form
 
--- How the reading of the texts may end but well: one has no tokens, or they are not of the first form.
+-- How the reading of the texts may end but well: one has no tokens or no units, or they are not of the first form.
 abbrev pub IsTextEnd : List (List ℕ) → Status → Type 0
-IsTextEnd texts (Refused refusal) = IsFirst (LacksTokens texts) refusal
-IsTextEnd texts NotYet = IsClear (LacksTokens texts) × ((form : FirstForm) → IsFirstForm texts form → ⊥)
+IsTextEnd texts (Refused refusal) = (LacksTokens texts or_else LacksUnits texts) refusal
+IsTextEnd texts NotYet = IsClear (LacksTokens texts) × HaveUnits texts × ((form : FirstForm) → IsFirstForm texts form → ⊥)
 IsTextEnd texts Memory = Unit {0}
 IsTextEnd texts _ = ⊥
 
 -- The same, where a root and a target are asked for.
 abbrev pub IsFormEnd : Root → List ℕ → List (List ℕ) → Status → Type 0
-IsFormEnd root target texts (Refused refusal) = (LacksTokens texts or_else FormRefused root target texts) refusal
+IsFormEnd root target texts (Refused refusal) = (LacksTokens texts or_else GrammarRefused texts (FormRefused root target texts)) refusal
 IsFormEnd root target texts status = IsTextEnd texts status
 
 -- How the writing may end, where the count of faults of the output was and is this.

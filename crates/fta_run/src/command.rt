@@ -9,7 +9,7 @@ ghost use Rattle.fta_run.specs.Answers.{AllTold, AnswersWords, IsCaused, IsDue, 
 ghost use Rattle.fta_run.specs.Steps.{IsFormEnd, IsFormOf, IsTextEnd, IsWriteEnd};
 
 use crate::form::FirstForm;
-use crate::input::{of_words, read_texts, tokens_of_texts};
+use crate::input::{check_units, of_words, read_texts, tokens_of_texts};
 use crate::line::write_line;
 use crate::meaning::system_of;
 use crate::reading::FirstFormText;
@@ -150,6 +150,7 @@ fn form_of_texts(alloc: Global, texts: &[Name]) -> Result<FirstForm, Status>
     ensures { MatchResult result (λ form. IsFirstForm texts.now form) (IsTextEnd texts.now) }
 {
     let lists = tokens_of_texts(alloc, texts)?;
+    check_units(alloc, texts, lists.items())?;
     match form_of_tokens(alloc, lists.items())? {
         Some(form) => Ok(form),
         None => Err(Status::NotYet),

@@ -1,12 +1,15 @@
-ghost use Rattle.std.specs.Prelude.{◌≡◌, ℕ, ◌^◌, ◌<◌, ◌≤◌, List, [], MatchResult, IfOk, IfErr, IfSome, All, length, sum_by, take};
+ghost use Rattle.std.specs.Prelude.{◌≡◌, ℕ, ◌^◌, ◌<◌, ◌≤◌, List, [], MatchResult, IfOk, IfErr, IfSome, OnOk, ◌⊎◌, All, length, sum_by, take};
 ghost use Rattle.aadl_syntax.specs.declared.refusal.Refusal.{Refusal};
 ghost use Rattle.aadl_syntax.specs.declared.refusal.Stop.TheVariants.{Refused};
 ghost use Rattle.aadl_syntax.specs.Order.{IsFirst, least, nearer};
-ghost use Rattle.fta_run.specs.Files.{AreContents, HasTooLong, HasTooMuch, LacksTokens, of_words, too_long, too_long_from};
+ghost use Rattle.aadl_lexer.specs.Tokens.{Tokens};
+ghost use Rattle.aadl_parser.specs.Files.{IsSyntaxError, IsTooNested};
+ghost use Rattle.fta_run.specs.Files.{AreContents, HasTooLong, HasUnits, HaveUnits, HasTooMuch, LacksTokens, LacksUnits, of_words, too_long, too_long_from};
 ghost use Rattle.fta_run.specs.Steps.{AreFronts, AreTokens, IsFileEnd, IsFilesEnd, IsInputEnd, IsReadEnd, PassInput};
 
 use crate::status::Status;
 use aadl_lexer::tokens;
+use aadl_parser::units;
 use aadl_syntax::{Answer, Code, FirstRefusal, List, Name, Place, Refusal, Token, Word};
 use fta_outside::{Files, ReadError};
 use std::alloc::Global;
@@ -144,4 +147,28 @@ pub fn tokens_of_texts(alloc: Global, texts: &[Name]) -> Answer<List<List<Token>
         lists.push(tokens(alloc, file as u32, text.items())?)?;
     }
     Ok(lists)
+}
+
+/// Refuses the first text that is nested too deep or has no reading. Its tokens are given.
+pub fn check_units(alloc: Global, texts: &[Name], lists: &[List<Token>]) -> Answer<()>
+    requires few { length texts.now < 2 ^ 32 }
+    requires short { All (λ text. length text ≤ 4194304) texts.now }
+    requires tokens { AreTokens texts.now lists.now }
+    ensures ok { OnOk result (HaveUnits texts.now) }
+    ensures err { IfErr result (λ stop. (refusal : Refusal) → stop ≡ Refused refusal → LacksUnits texts.now refusal) }
+{
+    for (file, text) in texts.iter().enumerate() {
+        check_text(alloc, file as u32, text.items(), lists[file].items())?;
+    }
+    Ok(())
+}
+
+fn check_text(alloc: Global, file: u32, text: &[u8], tokens: &[Token]) -> Answer<()>
+    requires short { length text.now ≤ 4194304 }
+    requires tokens { Tokens text.now tokens.now }
+    ensures ok { OnOk result (HasUnits file text.now) }
+    ensures err { IfErr result (λ stop. (refusal : Refusal) → stop ≡ Refused refusal → IsTooNested file tokens.now (length text.now) refusal ⊎ IsSyntaxError file tokens.now (length text.now) refusal) }
+{
+    units(alloc, file, tokens, text.len() as u32)?;
+    Ok(())
 }
