@@ -64,6 +64,10 @@ library_block library = chooses (is_word (codes "error") ∷ is_word (codes "typ
 unfoldable pub library : Rule Emv2Library
 library = gathers (is_one_of library_words ∷ []) library_block (record { blocks = []; machines = [] })
 
+-- the library, with further blocks after those that were read before
+unfoldable pub library_after : Emv2Library → Rule Emv2Library
+library_after library = gathers (is_one_of library_words ∷ []) library_block library
+
 unfoldable pub clause_uses : Emv2Clause → Rule Emv2Clause
 clause_uses clause = do
   uses ← use_types_after clause.uses
@@ -145,6 +149,12 @@ clause_parts clause = gathers (is_one_of clause_words ∷ []) clause_part clause
 unfoldable pub clause : ℕ → Rule Emv2Clause
 clause end = do
   at ← spot_or end
+  clause_parts (empty_clause at)
+
+-- clause, inside of other text
+unfoldable pub clause_inside : Rule Emv2Clause
+clause_inside = do
+  at ← spot
   clause_parts (empty_clause at)
 
 -- where the token of this number starts, or the place of the end

@@ -2,7 +2,7 @@ ghost use Rattle.std.specs.Prelude.{◌≡◌, [], ◌∷◌, ◌++◌, codes};
 ghost use Rattle.grammar_rules.specs.Reader.{Gives, Begins};
 ghost use Rattle.grammar_rules.specs.Tokens.{is_one_of};
 ghost use Rattle.emv2_parser.specs.Words.{library_words, clause_words};
-ghost use Rattle.emv2_parser.specs.Grammar.{mapping_word, mapping_end, type_mapping, library_types, library_machine, library_mapping, library_block, library, clause_uses, clause_machine, mapping_kind, clause_mapping, clause_use, clause_properties, clause_other, clause_behavior, clause_part, clause_parts, is_token, spot_or, empty_clause, clause};
+ghost use Rattle.emv2_parser.specs.Grammar.{mapping_word, mapping_end, type_mapping, library_types, library_machine, library_mapping, library_block, library, clause_uses, clause_machine, mapping_kind, clause_mapping, clause_use, clause_properties, clause_other, clause_behavior, clause_part, clause_parts, is_token, spot_or, empty_clause, clause, library_after, clause_inside};
 ghost use Rattle.emv2_parser.specs.Takes.{library_block-takes, clause_part-takes};
 
 use crate::behavior::{clause_component, clause_composites, clause_connection, clause_paths};
@@ -99,6 +99,15 @@ pub(crate) fn library(reader: &mut Reader) -> Result<Emv2Library, ReadError>
         machines: List::new(alloc),
     };
     reader.gather::<LibraryBlocks>(empty)
+}
+
+/// Reads blocks of a library as long as the next tokens begin one, and gives them with those of a library that was read
+/// before: several annexes of a package make one library.
+#[tactic(auto, unfolding(crate::specs::Grammar::library_after))]
+pub fn library_after(reader: &mut Reader, library: Emv2Library) -> Result<Emv2Library, ReadError>
+    ensures { Gives result (library_after library) reader.old reader.new }
+{
+    reader.gather::<LibraryBlocks>(library)
 }
 
 #[tactic(auto, unfolding(crate::specs::Grammar::clause_uses))]
@@ -271,6 +280,16 @@ pub(crate) fn clause(reader: &mut Reader, end: u32) -> Result<Emv2Clause, ReadEr
     ensures { Gives result (clause end) reader.old reader.new }
 {
     let spot = spot_or(reader, end)?;
+    parts_at(reader, spot)
+}
+
+/// Reads parts of a clause as long as the next tokens begin one, inside of other text: a token follows. The place of the
+/// clause is that of its first token, or of the one that follows where it has none.
+#[tactic(auto, unfolding(crate::specs::Grammar::clause_inside))]
+pub fn clause_inside(reader: &mut Reader) -> Result<Emv2Clause, ReadError>
+    ensures { Gives result clause_inside reader.old reader.new }
+{
+    let spot = spot(reader)?;
     parts_at(reader, spot)
 }
 

@@ -12,7 +12,9 @@ mod text;
 mod types;
 mod words;
 
-pub use text::{clause, library, one_clause, one_library};
+pub use grammar::{clause_inside, library_after};
+pub use names::{spot, tail_end};
+pub use text::{clause, library, one_clause, one_library, syntax_error};
 
 #[cfg(test)]
 mod tests;

@@ -12,7 +12,7 @@ use grammar_rules::{Parts, ReadError, Reader, Tail};
 
 /// The place of the next token; refused at the end.
 #[tactic(auto, unfolding(crate::specs::Names::spot))]
-pub(crate) fn spot(reader: &mut Reader) -> Result<Spot, ReadError>
+pub fn spot(reader: &mut Reader) -> Result<Spot, ReadError>
     ensures { Gives result spot reader.old reader.new }
 {
     let file = reader.file();
@@ -86,7 +86,7 @@ pub(crate) fn use_types_after(reader: &mut Reader, uses: List<Ref>) -> Result<Li
 
 /// Reads the rest of an item, up to its semicolon.
 #[tactic(auto, unfolding(crate::specs::Names::tail_end))]
-pub(crate) fn tail_end(reader: &mut Reader) -> Result<(), ReadError>
+pub fn tail_end(reader: &mut Reader) -> Result<(), ReadError>
     ensures { Gives result tail_end reader.old reader.new }
 {
     reader.until::<Tail>()?;

@@ -76,8 +76,9 @@ fn whole_clause(reader: &mut Reader, end: u32) -> Result<Emv2Clause, ReadError>
     Ok(clause)
 }
 
-// The refusal at the last token, or the end, that was looked at: so many of these are unseen.
-fn syntax_error(file: u32, tokens: &[Token], end: u32, unseen: usize) -> Stop
+/// The refusal of text of this file at the last token, or the end, that a reading of the tokens has looked at: `unseen` of the
+/// tokens and the end are behind it. `end` is the place of the end, in bytes.
+pub fn syntax_error(file: u32, tokens: &[Token], end: u32, unseen: usize) -> Stop
     ensures { result ≡ Refused (syntax_error file (place_of tokens.now end (length tokens.now - unseen))) }
 {
     let number = tokens.len().saturating_sub(unseen);

@@ -262,8 +262,9 @@ fn is_identifier(token: &Token, reserved: &[&[u8]]) -> bool
     token.kind == TokenKind::Word && !is_among(token.text.items(), reserved)
 }
 
+/// Whether a token is one of these words, given in lower case.
 #[tactic(auto, unfolding(crate::specs::Tokens::is_one_of))]
-fn is_one_of(token: &Token, words: &[&[u8]]) -> bool
+pub fn is_one_of(token: &Token, words: &[&[u8]]) -> bool
     ensures { result ≡ is_one_of (map (λ w. w.now) words.now) token.now }
 {
     token.kind == TokenKind::Word && is_among(token.text.items(), words)
