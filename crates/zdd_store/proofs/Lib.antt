@@ -1,0 +1,4 @@
+pub mod Branches
+pub mod Orders
+pub mod Growing
+pub mod Making
