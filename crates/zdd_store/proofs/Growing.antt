@@ -122,11 +122,11 @@ last_or_before (z ∷ xs) x y (suc i) e = by (last_or_before xs x y i e)
     by (inr h) = let one : i ≡ length xs = h.0 in inr (omega arith, h.1)
 
 -- numbers whose families are equal lists are one
-one_number : (store : Families) → IsSound store → (a b : ℕ) → a < length store → b < length store → family_at store a ≡ family_at store b → a ≡ b
+pub one_number : (store : Families) → IsSound store → (a b : ℕ) → a < length store → b < length store → family_at store a ≡ family_at store b → a ≡ b
 one_number store sound a b within_a within_b e = sound.canonical a b within_a within_b (λ set. (subst (λ f. Contains f set) e, subst (λ f. Contains f set) (sym e)))
 
 -- a family of a number other than EMPTY has a set
-some_set : (store : Families) (position : ℕ) → IsSound store → 0 < position → position < length store → ¬ (family_at store position ≡ [])
+pub some_set : (store : Families) (position : ℕ) → IsSound store → 0 < position → position < length store → ¬ (family_at store position ≡ [])
 some_set store position sound h within e =
     let some : 1 < length store = sound.some in
     let zero_is : position ≡ 0 = one_number store sound position 0 within (omega arith) (e ∙ sym sound.empty) in

@@ -1,0 +1,11 @@
+//! The operations on the families of a store of shared diagrams.
+//!
+//! Each operation answers a number of the store whose family is exactly the one that its contract states, as a set of
+//! sets. It remembers its answers in the store, and each number of the store keeps its family, also where memory is
+//! refused. A call goes as deep as there are variables on a path of the diagrams.
+#![tactic(auto)]
+
+mod memory;
+mod minimal;
+mod split;
+mod without;
