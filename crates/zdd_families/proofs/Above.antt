@@ -47,10 +47,10 @@ above_within low set = within_from (above low set) set (λ x here. (has_above lo
 pub covers-above : (low : ℕ) (family : Family) (set : List ℕ) → low ≤ least_number family → covers family (above low set) ≡ covers family set
 covers-above low family set h = same_test (covers family (above low set)) (covers family set) (covers_more family (above low set) set (above_within low set))
     (λ k. let c = member_covers family set k in
-      covers_member family c.part (above low set) c.member
-        (within_from c.part (above low set) (λ x here. above_has low set x (within_has c.part set x c.within here)
-          (let low_member : least_number family ≤ least_of c.part = least-member family c.part c.member in
-           let low_number : least_of c.part ≤ x = least-has c.part x here in omega arith))))
+    covers_member family c.part (above low set) c.member
+    (within_from c.part (above low set) (λ x here. above_has low set x (within_has c.part set x c.within here)
+    (let low_member : least_number family ≤ least_of c.part = least-member family c.part c.member in
+    let low_number : least_of c.part ≤ x = least-has c.part x here in omega arith))))
 
 -- a bound of each number is one of the least
 least_from : (low : ℕ) (set : List ℕ) → low ≤ 4294967296 → ((x : ℕ) → has set x ≡ true → low ≤ x) → low ≤ least_of set

@@ -55,7 +55,7 @@ member-greater family set var here h = let low : least_number family ≤ least_o
 pub covers-with : (family : Family) (set : List ℕ) (var : ℕ) → var < least_number family → covers family (var ∷ set) ≡ covers family set
 covers-with family set var h = same_test (covers family (var ∷ set)) (covers family set)
     (λ k. let c = member_covers family (var ∷ set) k in
-      covers_member family c.part set c.member (sym (within-without c.part set var (member-greater family c.part var c.member h)) ∙ c.within))
+    covers_member family c.part set c.member (sym (within-without c.part set var (member-greater family c.part var c.member h)) ∙ c.within))
     (covers_more family set (var ∷ set) (within_more set set var (within_self set)))
 
 covers-with_var : (var : ℕ) (lo hi : Family) (set : List ℕ) → covers (with_var var hi lo) set ≡ (covers lo set || (has set var && covers hi set))

@@ -88,6 +88,7 @@ absorb low high set = same_test (covers low set || covers (sets_without high low
     fewer (inr h) =
         let c = member_covers (filter (λ s. not (covers low s)) high) set h in
         or_right (covers low set) (covers high set) (covers_member high c.part set (member_filter (λ s. not (covers low s)) high c.part c.member).0 c.within)
+
     more : (covers low set ≡ true) ⊎ (covers high set ≡ true) → covers low set || covers (filter (λ s. not (covers low s)) high) set ≡ true
     more (inl h) = or_left (covers low set) (covers (filter (λ s. not (covers low s)) high) set) h
     more (inr h) = by (true_or_false (covers low (member_covers high set h).part))
@@ -96,7 +97,7 @@ absorb low high set = same_test (covers low set || covers (sets_without high low
         by (inl k) = or_left (covers low set) (covers (filter (λ s. not (covers low s)) high) set) (covers_more low (member_covers high set h).part set (member_covers high set h).within k)
         by (inr k) = or_right (covers low set) (covers (filter (λ s. not (covers low s)) high) set)
             (covers_member (filter (λ s. not (covers low s)) high) (member_covers high set h).part set
-              (filter_member (λ s. not (covers low s)) high (member_covers high set h).part (member_covers high set h).member (ap not k)) (member_covers high set h).within)
+            (filter_member (λ s. not (covers low s)) high (member_covers high set h).part (member_covers high set h).member (ap not k)) (member_covers high set h).within)
 
 -- the join of two families under a variable covers what it should
 pub covers-join : (var : ℕ) (low high : Family) (set : List ℕ) → covers (branch var low (sets_without high low)) set ≡ joined var low high set
@@ -131,7 +132,7 @@ antichain-join var low high l r apart_low apart_high part whole here there h =
         let p_high = member_filter (λ s. not (covers low s)) high p.rest p.member in
         let w_high = member_filter (λ s. not (covers low s)) high w.rest w.member in
         let within_rest : is_within p.rest w.rest ≡ true =
-          within_tails p.rest w.rest var (member-greater high p.rest var p_high.0 r) (ap (λ s. is_within s (var ∷ w.rest)) (sym p.is) ∙ ap (is_within part) (sym w.is) ∙ h) in
+        within_tails p.rest w.rest var (member-greater high p.rest var p_high.0 r) (ap (λ s. is_within s (var ∷ w.rest)) (sym p.is) ∙ ap (is_within part) (sym w.is) ∙ h) in
         p.is ∙ ap (λ s. var ∷ s) (apart_high p.rest w.rest p_high.0 w_high.0 within_rest) ∙ sym w.is
 
 -- the least family of a join
@@ -168,7 +169,7 @@ pub same_filter : {A : Type 0} (test other : A → Bool) (xs : List A) → ((x :
 same_filter test other [] h = refl
 same_filter test other (x ∷ xs) h =
     ap (λ b. cond b (x ∷ filter test xs) (filter test xs)) (h x (contains_first x xs))
-      ∙ ap (λ rest. cond (other x) (x ∷ rest) rest) (same_filter test other xs (λ y here. h y (contains_rest x xs y here)))
+    ∙ ap (λ rest. cond (other x) (x ∷ rest) rest) (same_filter test other xs (λ y here. h y (contains_rest x xs y here)))
 
 -- a filter of a branch is the branch of filters
 filter-with_var : (test : List ℕ → Bool) (var : ℕ) (lo hi : Family) → filter test (with_var var hi lo) ≡ with_var var (filter (λ set. test (var ∷ set)) hi) (filter test lo)
@@ -200,9 +201,9 @@ pub without-branch : (var : ℕ) (lo hi other_lo other_hi : Family) → var < le
 unfolding sets_without
 without-branch var lo hi other_lo other_hi l r l' r' =
     filter-branch (λ set. not (covers (branch var other_lo other_hi) set)) var lo hi
-      ∙ ap (λ f. branch var f (filter (λ set. not (covers (branch var other_lo other_hi) (var ∷ set))) hi)) (same_filter _ (λ set. not (covers other_lo set)) lo in_lo)
-      ∙ ap (branch var (filter (λ set. not (covers other_lo set)) lo)) (same_filter _ (λ set. not (covers other_hi set) && not (covers other_lo set)) hi in_hi
-          ∙ sym (filter-filter (λ set. not (covers other_lo set)) (λ set. not (covers other_hi set)) hi))
+    ∙ ap (λ f. branch var f (filter (λ set. not (covers (branch var other_lo other_hi) (var ∷ set))) hi)) (same_filter _ (λ set. not (covers other_lo set)) lo in_lo)
+    ∙ ap (branch var (filter (λ set. not (covers other_lo set)) lo)) (same_filter _ (λ set. not (covers other_hi set) && not (covers other_lo set)) hi in_hi
+    ∙ sym (filter-filter (λ set. not (covers other_lo set)) (λ set. not (covers other_hi set)) hi))
   where
     in_lo : (set : List ℕ) → Contains lo set → not (covers (branch var other_lo other_hi) set) ≡ not (covers other_lo set)
     in_lo set here = ap not (covers-branch var other_lo other_hi set ∙ ap (λ b. covers other_lo set || (b && covers other_hi set)) (member-greater lo set var here l) ∙ none (covers other_lo set))
@@ -210,11 +211,12 @@ without-branch var lo hi other_lo other_hi l r l' r' =
         none : (b : Bool) → (b || false) ≡ b
         none true = refl
         none false = refl
+
     in_hi : (set : List ℕ) → Contains hi set → not (covers (branch var other_lo other_hi) (var ∷ set)) ≡ (not (covers other_hi set) && not (covers other_lo set))
     in_hi set here =
         ap not (covers-branch var other_lo other_hi (var ∷ set) ∙ ap (λ b. covers other_lo (var ∷ set) || (b && covers other_hi (var ∷ set))) (has_first var set)
-          ∙ ap (λ b. b || covers other_hi (var ∷ set)) (covers-with other_lo set var l') ∙ ap (λ b. covers other_lo set || b) (covers-with other_hi set var r'))
-          ∙ both_not (covers other_lo set) (covers other_hi set)
+        ∙ ap (λ b. b || covers other_hi (var ∷ set)) (covers-with other_lo set var l') ∙ ap (λ b. covers other_lo set || b) (covers-with other_hi set var r'))
+        ∙ both_not (covers other_lo set) (covers other_hi set)
       where
         both_not : (a b : Bool) → not (a || b) ≡ (not b && not a)
         both_not true true = refl

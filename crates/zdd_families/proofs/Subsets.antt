@@ -93,17 +93,20 @@ same_rising (n ∷ ns) (m ∷ ms) up_a up_b h k =
         let up_n : n < least_of ns = up_a.0 in
         let up_m : m < least_of ms = up_b.0 in
         omega arith
+
     rest_h : is_within ns ms ≡ true
     rest_h = within_from ns ms (λ x here. by_h x here (has_cases m ms x (within_has (n ∷ ns) (m ∷ ms) x h (has_rest n ns x here))))
       where
         by_h : (x : ℕ) → has ns x ≡ true → (m ≡ x) ⊎ (has ms x ≡ true) → has ms x ≡ true
         by_h x here (inl e) = let up_n : n < least_of ns = up_a.0 in let low : least_of ns ≤ x = least-has ns x here in let one : n ≡ m = first in absurd (omega arith)
         by_h x here (inr there) = there
+
     rest_k : is_within ms ns ≡ true
     rest_k = within_from ms ns (λ x here. by_k x here (has_cases n ns x (within_has (m ∷ ms) (n ∷ ns) x k (has_rest m ms x here))))
       where
         by_k : (x : ℕ) → has ms x ≡ true → (n ≡ x) ⊎ (has ns x ≡ true) → has ns x ≡ true
         by_k x here (inl e) = let up_m : m < least_of ms = up_b.0 in let low : least_of ms ≤ x = least-has ms x here in let one : n ≡ m = first in absurd (omega arith)
         by_k x here (inr there) = there
+
     by : (is_within ns ms ≡ true → is_within ms ns ≡ true → ns ≡ ms) → n ∷ ns ≡ m ∷ ms
     by rest = λ i. first i ∷ rest rest_h rest_k i

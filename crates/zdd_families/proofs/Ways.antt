@@ -54,14 +54,14 @@ pub without_same : (store : Families) (a b : Id) → IsSound store → IsIn stor
 without_same store a b sound here same =
     let some = sound.some in
     answered_without store a b (record { position = 0 }) (omega arith)
-      (sound.empty ∙ sym (without-same (family_of store a)) ∙ ap (λ p. sets_without (family_of store a) (family_at store p)) same)
+    (sound.empty ∙ sym (without-same (family_of store a)) ∙ ap (λ p. sets_without (family_of store a) (family_at store p)) same)
 
 pub without_unit : (store : Families) (a b : Id) → IsSound store → b.position ≡ 1
     → Answered store store (least_number (family_of store a)) (λ family. family ≡ sets_without (family_of store a) (family_of store b)) (Ok (record { position = 0 }))
 without_unit store a b sound one =
     let some = sound.some in
     answered_without store a b (record { position = 0 }) (omega arith)
-      (sound.empty ∙ sym (without-unit (family_of store a)) ∙ ap (sets_without (family_of store a)) (sym (ap (family_at store) one ∙ sound.unit)))
+    (sound.empty ∙ sym (without-unit (family_of store a)) ∙ ap (sets_without (family_of store a)) (sym (ap (family_at store) one ∙ sound.unit)))
 
 -- the branch of what the three calls answered
 pub without_made : (before s1 s2 s3 after : Families) (a b lo beside hi answer : Id) (first second : Parts) (var l1 l2 l3 : ℕ)
@@ -74,18 +74,18 @@ pub without_made : (before s1 s2 s3 after : Families) (a b lo beside hi answer :
     → family_of after answer ≡ sets_without (family_of before a) (family_of before b)
 without_made before s1 s2 s3 after a b lo beside hi answer first second var l1 l2 l3 split_a split_b k1 k2 k3 k4 f1 f2 f3 made =
     let lo_is : family_of s3 lo ≡ sets_without (family_of before first.lo) (family_of before second.lo) =
-      k3.same lo.position (let m = k2.more in let here = f1.found in omega arith) ∙ k2.same lo.position f1.found ∙ f1.right in
+    k3.same lo.position (let m = k2.more in let here = f1.found in omega arith) ∙ k2.same lo.position f1.found ∙ f1.right in
     let hi_1 : family_of s1 first.hi ≡ family_of before first.hi = k1.same first.hi.position split_a.hi_in in
     let hi_2 : family_of s1 second.hi ≡ family_of before second.hi = k1.same second.hi.position split_b.hi_in in
     let lo_2 : family_of s2 second.lo ≡ family_of before second.lo =
-      k2.same second.lo.position (let m = k1.more in let here = split_b.lo_in in omega arith) ∙ k1.same second.lo.position split_b.lo_in in
+    k2.same second.lo.position (let m = k1.more in let here = split_b.lo_in in omega arith) ∙ k1.same second.lo.position split_b.lo_in in
     let beside_is : family_of s2 beside ≡ sets_without (family_of before first.hi) (family_of before second.hi) = f2.right ∙ ap (λ f. sets_without f (family_of s1 second.hi)) hi_1 ∙ ap (sets_without (family_of before first.hi)) hi_2 in
     let hi_is : family_of s3 hi ≡ sets_without (sets_without (family_of before first.hi) (family_of before second.hi)) (family_of before second.lo) =
-      f3.right ∙ ap (λ f. sets_without f (family_of s2 second.lo)) beside_is ∙ ap (sets_without (sets_without (family_of before first.hi) (family_of before second.hi))) lo_2 in
+    f3.right ∙ ap (λ f. sets_without f (family_of s2 second.lo)) beside_is ∙ ap (sets_without (sets_without (family_of before first.hi) (family_of before second.hi))) lo_2 in
     made ∙ ap (λ f. branch var f (family_of s3 hi)) lo_is ∙ ap (branch var (sets_without (family_of before first.lo) (family_of before second.lo))) hi_is
-      ∙ sym (without-branch var (family_of before first.lo) (family_of before first.hi) (family_of before second.lo) (family_of before second.hi)
-          split_a.lo_greater split_a.hi_greater split_b.lo_greater split_b.hi_greater)
-      ∙ sym (ap (sets_without (family_of before a)) split_b.family ∙ ap (λ f. sets_without f (branch var (family_of before second.lo) (family_of before second.hi))) split_a.family)
+    ∙ sym (without-branch var (family_of before first.lo) (family_of before first.hi) (family_of before second.lo) (family_of before second.hi)
+    split_a.lo_greater split_a.hi_greater split_b.lo_greater split_b.hi_greater)
+    ∙ sym (ap (sets_without (family_of before a)) split_b.family ∙ ap (λ f. sets_without f (branch var (family_of before second.lo) (family_of before second.hi))) split_a.family)
 
 -- what each call keeps, all keep
 pub Keeps_trans : (a b c : Families) → Keeps a b → Keeps b c → Keeps a c
@@ -107,7 +107,7 @@ answers_two before after IsRight a b id kept in_a in_b here right =
       second_in = omega arith;
       answer_in = here;
       right = subst (λ f. IsRight f (family_of after b) (family_of after id)) (sym (kept.same a.position in_a))
-        (subst (λ f. IsRight (family_of before a) f (family_of after id)) (sym (kept.same b.position in_b)) right)
+          (subst (λ f. IsRight (family_of before a) f (family_of after id)) (sym (kept.same b.position in_b)) right);
     }
 
 pub answers_one : (before after : Families) (IsRight : Family → Family → Type 0) (a id : Id) → Keeps before after → IsIn before a → IsIn after id
@@ -117,7 +117,7 @@ answers_one before after IsRight a id kept in_a here right =
     record {
       first_in = omega arith;
       answer_in = here;
-      right = subst (λ f. IsRight f (family_of after id)) (sym (kept.same a.position in_a)) right
+      right = subst (λ f. IsRight f (family_of after id)) (sym (kept.same a.position in_a)) right;
     }
 
 -- an answer that is remembered for the families as they are is one for them as they were before
@@ -127,8 +127,8 @@ pub finish_two : (before after : Families) (IsRight : Family → Family → Fami
     → Answered before after low (IsRight (family_of before a) (family_of before b)) result
 finish_two before after IsRight low a b (Ok id) kept in_a in_b least r =
     let right : IsRight (family_of before a) (family_of before b) (family_of after id) =
-      subst (λ f. IsRight f (family_of before b) (family_of after id)) (kept.same a.position in_a)
-        (subst (λ f. IsRight (family_of after a) f (family_of after id)) (kept.same b.position in_b) r.right) in
+    subst (λ f. IsRight f (family_of before b) (family_of after id)) (kept.same a.position in_a)
+    (subst (λ f. IsRight (family_of after a) f (family_of after id)) (kept.same b.position in_b) r.right) in
     record { kept = kept; answer = record { found = r.answer_in; least = least (family_of after id) right; right = right } }
 finish_two before after IsRight low a b (Err e) kept in_a in_b least r = record { kept = kept; answer = tt }
 
@@ -151,18 +151,18 @@ pub joined_finish : (before middle after : Families) (lo hi others : Id) (var lo
 joined_finish before middle after lo hi others var low (Err e) k m in_lo f here is l r apart_lo apart_hi = record { kept = Keeps_trans before middle after k m; answer = tt }
 joined_finish before middle after lo hi others var low (Ok id) k m in_lo f here is l r apart_lo apart_hi =
     let made : family_of after id ≡ branch var (family_of before lo) (sets_without (family_of before hi) (family_of before lo)) =
-      is ∙ ap (λ x. branch var x (family_of middle others)) (k.same lo.position in_lo) ∙ ap (branch var (family_of before lo)) f.right in
+    is ∙ ap (λ x. branch var x (family_of middle others)) (k.same lo.position in_lo) ∙ ap (branch var (family_of before lo)) f.right in
     let fewer : least_number (family_of before hi) ≤ least_number (sets_without (family_of before hi) (family_of before lo)) = least-without (family_of before hi) (family_of before lo) in
     let low_is : var ≤ least_number (branch var (family_of before lo) (sets_without (family_of before hi) (family_of before lo))) =
-      le-least_number-branch var var (family_of before lo) (sets_without (family_of before hi) (family_of before lo)) (omega arith) (omega arith) (omega arith) in
+    le-least_number-branch var var (family_of before lo) (sets_without (family_of before hi) (family_of before lo)) (omega arith) (omega arith) (omega arith) in
     record {
       kept = Keeps_trans before middle after k m;
       answer = record {
         found = here;
         least = subst (λ x. var ≤ least_number x) (sym made) low_is;
         right = subst (IsLeastFamily (joined var (family_of before lo) (family_of before hi))) (sym made)
-          (least-join var (family_of before lo) (family_of before hi) l r apart_lo apart_hi)
-      }
+            (least-join var (family_of before lo) (family_of before hi) l r apart_lo apart_hi);
+      };
     }
 
 -- a least family for a test is one for a test that is equal
@@ -189,6 +189,6 @@ minimal_made before s1 s2 after a lo hi answer parts var l1 l2 l3 split k1 k2 f1
     same : (set : List ℕ) → joined var (family_of s2 lo) (family_of s2 hi) set ≡ covers (family_of before a) set
     same set =
         ap (λ f. covers f set || (has set var && covers (family_of s2 hi) set)) (k2.same lo.position f1.found)
-          ∙ ap (λ b. b || (has set var && covers (family_of s2 hi) set)) (f1.right.covering set)
-          ∙ ap (λ b. covers (family_of before parts.lo) set || (has set var && b)) (f2.right.covering set ∙ ap (λ f. covers f set) (k1.same parts.hi.position split.hi_in))
-          ∙ sym (covers-branch var (family_of before parts.lo) (family_of before parts.hi) set) ∙ ap (λ f. covers f set) (sym split.family)
+        ∙ ap (λ b. b || (has set var && covers (family_of s2 hi) set)) (f1.right.covering set)
+        ∙ ap (λ b. covers (family_of before parts.lo) set || (has set var && b)) (f2.right.covering set ∙ ap (λ f. covers f set) (k1.same parts.hi.position split.hi_in))
+        ∙ sym (covers-branch var (family_of before parts.lo) (family_of before parts.hi) set) ∙ ap (λ f. covers f set) (sym split.family)

@@ -31,4 +31,4 @@ IsUnionOfSome zero families set = set ≡ []
 IsUnionOfSome (suc k) [] set = ⊥
 IsUnionOfSome (suc k) (family ∷ families) set =
     IsUnionOfSome (suc k) families set
-      ⊎ ((part : List ℕ) × (other : List ℕ) × Contains family part × IsUnionOfSome k families other × (set ≡ union_of part other))
+    ⊎ ((part : List ℕ) × (other : List ℕ) × Contains family part × IsUnionOfSome k families other × (set ≡ union_of part other))

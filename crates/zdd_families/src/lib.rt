@@ -7,5 +7,7 @@
 
 mod memory;
 mod minimal;
+mod product;
 mod split;
+mod union;
 mod without;

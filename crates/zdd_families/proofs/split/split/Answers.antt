@@ -1,8 +1,11 @@
 use Rattle.std.proofs.Common.{◌≡◌, ℕ, ◌<◌, ◌≤◌, sym, arith}
 use Rattle.zdd_store.specs.Store.{family_of}
 use Rattle.zdd_store.specs.Family.{least_number}
-use Rattle.zdd_families.proofs.Splits.{least-node, least-terminal, split-greater}
+use Rattle.zdd_families.proofs.Splits.{least-node, least-terminal, split-greater, split-node}
 use Rattle.zdd_families.proofs.split.split.Goals as goal
+
+pub returns-in-Some : goal.returns-in-Some
+returns-in-Some c = split-node c.args.store.now c.args.id c.args.var c.in-Some.node c.in-Some.ensures.fits c.in-Some.ensures.family c.if-node-var.true
 
 pub returns-in_default : goal.returns-in_default
 returns-in_default c =
