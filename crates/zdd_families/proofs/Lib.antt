@@ -6,3 +6,4 @@ pub mod Splits
 pub mod Above
 pub mod Ways
 pub mod Pairs
+pub mod Telling

@@ -56,3 +56,8 @@ split-node store id var node fits is same =
       lo_apart = λ h. antichain-lo var (family_of store node.lo) (family_of store node.hi) (subst IsAntichain at h);
       hi_apart = λ h. antichain-hi var (family_of store node.lo) (family_of store node.hi) (subst IsAntichain at h);
     }
+
+-- the family of the one set that has a number alone
+pub single-family : (store : Families) (var : ℕ) → IsSound store → branch var (family_at store 0) (family_at store 1) ≡ (var ∷ []) ∷ []
+unfolding branch
+single-family store var sound = ap (λ lo. branch var lo (family_at store 1)) sound.empty ∙ ap (branch var []) sound.unit

@@ -5,9 +5,12 @@
 //! refused. A call goes as deep as there are variables on a path of the diagrams.
 #![tactic(auto)]
 
+mod families;
 mod memory;
 mod minimal;
 mod product;
+mod removal;
 mod split;
 mod union;
-mod without;
+
+pub use families::{min_product, min_union, single, without};

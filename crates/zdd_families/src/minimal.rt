@@ -5,8 +5,8 @@ ghost use Rattle.zdd_store.specs.Answers.{IsLeastFamily};
 ghost use Rattle.zdd_families.specs.Steps.{Answered, joined};
 
 use crate::memory::{known, note};
+use crate::removal::without_sets;
 use crate::split::{first_var, split};
-use crate::without::without_sets;
 use aadl_syntax::Mem;
 use zdd_store::{Id, Operation, Store};
 
