@@ -7,3 +7,4 @@ pub mod Above
 pub mod Ways
 pub mod Pairs
 pub mod Telling
+pub mod Tables

@@ -21,11 +21,11 @@ pub found_kept : (before after : Families) (id : Id) → Keeps before after → 
 found_kept before after id kept here = let more : length before ≤ length after = kept.more in omega arith
 
 -- what covers nothing, and what covers all
-covers-empty : (store : Families) (id : Id) (set : List ℕ) → IsSound store → id.position ≡ 0 → covers (family_of store id) set ≡ false
+pub covers-empty : (store : Families) (id : Id) (set : List ℕ) → IsSound store → id.position ≡ 0 → covers (family_of store id) set ≡ false
 unfolding covers
 covers-empty store id set sound e = ap (λ f. covers f set) (ap (family_at store) e ∙ sound.empty)
 
-covers-unit : (store : Families) (id : Id) (set : List ℕ) → IsSound store → id.position ≡ 1 → covers (family_of store id) set ≡ true
+pub covers-unit : (store : Families) (id : Id) (set : List ℕ) → IsSound store → id.position ≡ 1 → covers (family_of store id) set ≡ true
 unfolding covers is_within
 covers-unit store id set sound e = ap (λ f. covers f set) (ap (family_at store) e ∙ sound.unit)
 

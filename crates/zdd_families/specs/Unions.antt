@@ -1,6 +1,6 @@
 -- Unions of sets, and the families that have exactly the minimal sets of a property.
-use Rattle.std.specs.Prelude.{ℕ, zero, suc, ◌+◌, ◌≡◌, ◌⊎◌, ◌↔◌, Bool, List, [], ◌∷◌, Contains, if◌then◌else◌, nat_lt, ◌==◌}
-use Rattle.zdd_store.specs.Family.{Family, IsMinimal}
+use Rattle.std.specs.Prelude.{ℕ, zero, suc, ◌+◌, ◌≡◌, ◌⊎◌, ◌↔◌, Bool, true, false, ◌&&◌, ◌||◌, List, [], ◌∷◌, Contains, if◌then◌else◌, nat_lt, ◌==◌}
+use Rattle.zdd_store.specs.Family.{Family, IsMinimal, covers}
 
 -- a rising list with one more number at its place, where it is not there yet
 abbrev pub with_number : ℕ → List ℕ → List ℕ
@@ -32,3 +32,9 @@ IsUnionOfSome (suc k) [] set = ⊥
 IsUnionOfSome (suc k) (family ∷ families) set =
     IsUnionOfSome (suc k) families set
     ⊎ ((part : List ℕ) × (other : List ℕ) × Contains family part × IsUnionOfSome k families other × (set ≡ union_of part other))
+
+-- whether at least k families at different places of a list cover a set
+abbrev pub some_of : ℕ → List Family → List ℕ → Bool
+some_of zero families set = true
+some_of (suc k) [] set = false
+some_of (suc k) (family ∷ families) set = some_of (suc k) families set || (covers family set && some_of k families set)

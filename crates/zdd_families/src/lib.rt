@@ -5,6 +5,7 @@
 //! refused. A call goes as deep as there are variables on a path of the diagrams.
 #![tactic(auto)]
 
+mod choice;
 mod families;
 mod memory;
 mod minimal;
