@@ -1,11 +1,12 @@
 -- The table of at least so many parts, row by row.
 use Rattle.std.proofs.Common.{◌≡◌, ℕ, zero, suc, ◌+◌, ◌-◌, ◌<◌, ◌≤◌, ◌⊎◌, Bool, true, false, ◌&&◌, ◌||◌, List, [], ◌∷◌, ◌++◌, length, get_or, All, Contains, map, drop, refl, sym, ap, ◌∙◌, subst, inl, inr, arith, length-append}
 use Rattle.std.specs.Prelude.{slice_index_or}
-use Rattle.std.proofs.lemmas.List.{get_or_default}
+use Rattle.std.specs.List.{AllByRecursion}
+use Rattle.std.proofs.lemmas.List.{get_or_default, length-map}
 use Rattle.std.proofs.Math.ListN.{get_or-append}
 use Rattle.std.proofs.Math.Seq.{get_or-append_seam}
 use Rattle.std.proofs.lemmas.Bool.{cases_lt}
-use Rattle.zdd_store.specs.Family.{Family, covers, IsAntichain}
+use Rattle.zdd_store.specs.Family.{Family, covers, IsAntichain, IsRising}
 use Rattle.zdd_store.specs.Store.{Families, IsIn, family_at, family_of, Keeps, IsSound}
 use Rattle.zdd_store.specs.Answers.{IsLeastFamily}
 use Rattle.zdd_store.specs.declared.id.Id.{Id}
@@ -136,3 +137,39 @@ drop_map f (x ∷ xs) (suc i) d h =
 pub drop_none : {A B : Type 0} (f : A → B) (xs : List A) → drop (length xs) (map f xs) ≡ []
 drop_none f [] = refl
 drop_none f (x ∷ xs) = drop_none f xs
+
+-- a row stays one when the store grows, and when a part covers the same
+pub row_kept : (before after : Families) (families : List Family) (row : List Id) → Keeps before after → IsRow before families row → IsRow after families row
+row_kept before after families row kept here k d within = right_kept before after (IsLeastFamily (some_of k families)) (get_or row k d) kept (here k d within)
+
+pub row_same : (store : Families) (family other : Family) (families : List Family) (row : List Id) → ((set : List ℕ) → covers family set ≡ covers other set) → IsRow store (family ∷ families) row → IsRow store (other ∷ families) row
+row_same store family other families row same here zero d within =
+    let f = here zero d within in
+    record { found = f.found; least = omega arith; right = retest (some_of zero (family ∷ families)) (some_of zero (other ∷ families)) _ (λ set. refl) f.right }
+row_same store family other families row same here (suc k) d within =
+    let f = here (suc k) d within in
+    record { found = f.found; least = omega arith; right = retest (some_of (suc k) (family ∷ families)) (some_of (suc k) (other ∷ families)) _ (λ set. ap (λ b. some_of (suc k) families set || (b && some_of k families set)) (same set)) f.right }
+
+-- fewer families than k cover nothing together
+pub some_few : (k : ℕ) (families : List Family) (set : List ℕ) → length families < k → some_of k families set ≡ false
+some_few zero families set h = absurd (omega arith)
+some_few (suc k) [] set h = refl
+some_few (suc k) (family ∷ families) set h =
+    ap (λ b. b || (covers family set && some_of k families set)) (some_few (suc k) families set (omega arith)) ∙ ap (λ b. covers family set && b) (some_few k families set (omega arith)) ∙ none (covers family set)
+  where
+    none : (b : Bool) → (b && false) ≡ false
+    none true = refl
+    none false = refl
+
+-- with fewer parts than k there is no set
+pub few_parts : (store : Families) (k : ℕ) (parts : List Id) → IsSound store → length parts < k → IsLeastFamily (some_of k (map (family_of store) parts)) (family_at store 0)
+few_parts store k parts sound h =
+    record {
+      covering = λ set. covers-empty store (record { position = 0 }) set sound refl ∙ sym (some_few k (map (family_of store) parts) set (omega (arith, length-map parts (family_of store))));
+      apart = subst IsAntichain (sym sound.empty) (λ part whole here there e. absurd (contains_none part here))
+    }
+
+-- the sets of parts of a store rise
+pub parts_rise : (store : Families) (parts : List Id) → IsSound store → All (IsIn store) parts → AllByRecursion (AllByRecursion IsRising) (map (family_of store) parts)
+parts_rise store [] sound all = tt
+parts_rise store (part ∷ parts) sound all = (sound.rising part.position (all 0 part (omega arith)), parts_rise store parts sound (λ k d h. all (suc k) d (omega arith)))

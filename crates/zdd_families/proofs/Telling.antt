@@ -1,12 +1,12 @@
 -- From what a family covers to its sets: a least family has exactly the minimal sets of what its test tells.
-use Rattle.std.proofs.Common.{◌≡◌, ℕ, ◌+◌, ◌<◌, ◌≤◌, ◌⊎◌, ◌↔◌, min, Bool, true, false, eqb, cond, ◌&&◌, ◌||◌, List, [], ◌∷◌, Contains, refl, sym, ap, ◌∙◌, subst, inl, inr, arith, eqb-true}
+use Rattle.std.proofs.Common.{◌≡◌, ℕ, zero, suc, ◌+◌, ◌<◌, ◌≤◌, ◌⊎◌, ◌↔◌, min, Bool, true, false, eqb, cond, ◌&&◌, ◌||◌, List, [], ◌∷◌, Contains, refl, sym, ap, ◌∙◌, subst, inl, inr, arith, eqb-true}
 use Rattle.std.specs.Prelude.{IsTrue, nat_lt, ◌==◌, if◌then◌else◌}
 use Rattle.std.specs.List.{AllByRecursion}
 use Rattle.std.proofs.lemmas.Bool.{false≢true, lt-ltb, ltb-true, cases_lt, eqb-false}
 use Rattle.zdd_store.specs.Family.{Family, least_of, least_number, has, is_within, covers, IsRising, IsAntichain, IsMinimal}
 use Rattle.zdd_store.specs.Answers.{IsLeastFamily}
 use Rattle.zdd_store.proofs.Orders.{all_contained}
-use Rattle.zdd_families.specs.Unions.{with_number, union_of, HasMinimalSets, IsInEither, IsUnionOfBoth}
+use Rattle.zdd_families.specs.Unions.{with_number, union_of, HasMinimalSets, IsInEither, IsUnionOfBoth, IsUnionOfSome, some_of}
 use Rattle.zdd_families.specs.Steps.{either, both}
 use Rattle.zdd_families.proofs.Tests.{or_left, or_right, or_cases, and_made, and_cases}
 use Rattle.zdd_families.proofs.Subsets.{has_first, has_rest, has_cases, has_none, least-has, has-greater, within_has, within_from, within_self, within_trans, same_rising}
@@ -215,3 +215,53 @@ tells_both a b up_a up_b = record { rising = rising; below = below; passes = pas
     passes part set h within =
         let union_is : is_within (union_of h.0 h.1) set ≡ true = ap (λ s. is_within s set) (sym h.4) ∙ within in
         and_made (covers a set) (covers b set) (covers_member a h.0 set h.2 (first_within h.0 h.1 set union_is)) (covers_member b h.1 set h.3 (second_within h.0 h.1 set union_is))
+
+-- what at least k of some families cover is told by the unions of one set each of k of them
+none_within : (set : List ℕ) → is_within [] set ≡ true
+unfolding is_within
+none_within set = refl
+
+rising_none : IsRising []
+unfolding IsRising
+rising_none = tt
+
+some_rising : (k : ℕ) (families : List Family) → AllByRecursion (AllByRecursion IsRising) families → (set : List ℕ) → IsUnionOfSome k families set → IsRising set
+some_rising zero families up set h = subst IsRising (sym h) rising_none
+some_rising (suc k) [] up set h = absurd h
+some_rising (suc k) (family ∷ families) up set h = by h (some_rising (suc k) families up.1 set) (some_rising k families up.1)
+  where
+    by : IsUnionOfSome (suc k) families set ⊎ ((part : List ℕ) × (other : List ℕ) × Contains family part × IsUnionOfSome k families other × (set ≡ union_of part other))
+        → (IsUnionOfSome (suc k) families set → IsRising set) → ((other : List ℕ) → IsUnionOfSome k families other → IsRising other) → IsRising set
+    by (inl l) more fewer = more l
+    by (inr r) more fewer = subst IsRising (sym r.4) (rising_union r.0 r.1 (all_contained IsRising family r.0 up.0 r.2) (fewer r.1 r.3))
+
+some_below : (k : ℕ) (families : List Family) (set : List ℕ) → some_of k families set ≡ true → Below (IsUnionOfSome k families) set
+some_below zero families set h = record { part = []; has_it = refl; within = none_within set }
+some_below (suc k) [] set h = absurd (false≢true h)
+some_below (suc k) (family ∷ families) set h = by (or_cases (some_of (suc k) families set) (covers family set && some_of k families set) h) (some_below (suc k) families set) (some_below k families set)
+  where
+    by : (some_of (suc k) families set ≡ true) ⊎ (covers family set && some_of k families set ≡ true)
+        → (some_of (suc k) families set ≡ true → Below (IsUnionOfSome (suc k) families) set) → (some_of k families set ≡ true → Below (IsUnionOfSome k families) set)
+        → Below (IsUnionOfSome (suc k) (family ∷ families)) set
+    by (inl l) more fewer = let b = more l in record { part = b.part; has_it = inl b.has_it; within = b.within }
+    by (inr r) more fewer =
+        let c = member_covers family set (and_cases (covers family set) (some_of k families set) r).0 in
+        let b = fewer (and_cases (covers family set) (some_of k families set) r).1 in
+        record { part = union_of c.part b.part; has_it = inr (c.part, b.part, c.member, b.has_it, refl); within = union_within c.part b.part set c.within b.within }
+
+some_passes : (k : ℕ) (families : List Family) (part set : List ℕ) → IsUnionOfSome k families part → is_within part set ≡ true → some_of k families set ≡ true
+some_passes zero families part set h within = refl
+some_passes (suc k) [] part set h within = absurd h
+some_passes (suc k) (family ∷ families) part set h within = by h (λ l. some_passes (suc k) families part set l within) (λ other. some_passes k families other set)
+  where
+    by : IsUnionOfSome (suc k) families part ⊎ ((one : List ℕ) × (other : List ℕ) × Contains family one × IsUnionOfSome k families other × (part ≡ union_of one other))
+        → (IsUnionOfSome (suc k) families part → some_of (suc k) families set ≡ true) → ((other : List ℕ) → IsUnionOfSome k families other → is_within other set ≡ true → some_of k families set ≡ true)
+        → some_of (suc k) families set || (covers family set && some_of k families set) ≡ true
+    by (inl l) more fewer = or_left (some_of (suc k) families set) (covers family set && some_of k families set) (more l)
+    by (inr r) more fewer =
+        let union_is : is_within (union_of r.0 r.1) set ≡ true = ap (λ s. is_within s set) (sym r.4) ∙ within in
+        or_right (some_of (suc k) families set) (covers family set && some_of k families set)
+          (and_made (covers family set) (some_of k families set) (covers_member family r.0 set r.2 (first_within r.0 r.1 set union_is)) (fewer r.1 r.3 (second_within r.0 r.1 set union_is)))
+
+pub tells_some : (k : ℕ) (families : List Family) → AllByRecursion (AllByRecursion IsRising) families → Tells (some_of k families) (IsUnionOfSome k families)
+tells_some k families up = record { rising = some_rising k families up; below = some_below k families; passes = some_passes k families }

@@ -3,8 +3,11 @@ ghost use Rattle.zdd_store.specs.Family.{IsAntichain};
 ghost use Rattle.zdd_store.specs.Store.{IsIn, family_of, Keeps};
 ghost use Rattle.zdd_store.specs.Answers.{IsLeastFamily};
 ghost use Rattle.zdd_families.specs.Steps.{Answered};
+ghost use Rattle.zdd_families.specs.Unions.{HasMinimalSets, IsUnionOfSome, some_of};
 ghost use Rattle.zdd_families.specs.Rows.{IsMinimalNumber, IsRow, IsNextRow, with_part};
 
+use crate::families::note_minimal;
+use crate::minimal::minimal_sets;
 use crate::product::product_sets;
 use crate::union::union_sets;
 use aadl_syntax::Mem;
@@ -53,9 +56,9 @@ fn first_row(alloc: Global, store: &Store, k: u32) -> Mem<Vec<Id>>
     Ok(row)
 }
 
-/// The row of all parts, from the last to the first, each of which has minimal sets alone.
+/// The row of all parts, from the last to the first.
 fn last_row(alloc: Global, store: &mut Store, k: u32, parts: &[Id]) -> Mem<Vec<Id>>
-    requires parts_are { All (IsMinimalNumber store.old) parts.now }
+    requires parts_in { All (IsIn store.old) parts.now }
     ensures row { IfOk result (λ row. IsRow store.new (map (family_of store.old) parts.now) row.items) }
     ensures long { IfOk result (λ row. length row.items ≡ k + 1) }
     ensures kept { Keeps store.old store.new }
@@ -64,7 +67,37 @@ fn last_row(alloc: Global, store: &mut Store, k: u32, parts: &[Id]) -> Mem<Vec<I
     let mut at = parts.len();
     while at > 0 {
         at -= 1;
-        row = next_row(alloc, store, row.as_slice(), parts[at])?;
+        let part = minimal_sets(store, parts[at])?;
+        row = next_row(alloc, store, row.as_slice(), part)?;
     }
     Ok(row)
+}
+
+/// The entry at k of the row of all parts; no set where there are fewer parts.
+fn last_entry(alloc: Global, store: &mut Store, k: u32, parts: &[Id]) -> Mem<Id>
+    requires parts_in { All (IsIn store.old) parts.now }
+    ensures { Answered store.old store.new 0 (IsLeastFamily (some_of k (map (family_of store.old) parts.now))) result }
+{
+    store.laws();
+    if k as usize > parts.len() {
+        return Ok(Id::EMPTY);
+    }
+    let row = last_row(alloc, store, k, parts)?;
+    note_minimal(store, row[k as usize])
+}
+
+/// The minimal sets among the unions of one set each of k parts at different places.
+///
+/// It is a table over the parts and k, which takes its memory from the allocator.
+pub fn at_least(alloc: Global, store: &mut Store, k: u32, parts: &[Id]) -> Mem<Id>
+    requires parts_in { All (IsIn store.old) parts.now }
+    ensures found { IfOk result (IsIn store.new) }
+    ensures minimal { IfOk result (λ id. HasMinimalSets (family_of store.new id) (IsUnionOfSome k (map (family_of store.old) parts.now))) }
+    ensures covers { IfOk result (λ id. IsLeastFamily (some_of k (map (family_of store.old) parts.now)) (family_of store.new id)) }
+    ensures kept { Keeps store.old store.new }
+{
+    store.laws();
+    let answer = last_entry(alloc, store, k, parts)?;
+    store.laws();
+    Ok(answer)
 }

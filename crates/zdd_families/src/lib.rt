@@ -14,4 +14,5 @@ mod removal;
 mod split;
 mod union;
 
+pub use choice::at_least;
 pub use families::{min_product, min_union, single, without};

@@ -21,6 +21,14 @@ sets_up_to most family = filter (λ set. nat_le (length set) most) family
 unfoldable pub sets_of : ℕ → Family → Family
 sets_of size family = filter (λ set. length set == size) family
 
+-- each set of the family has at least so many numbers
+abbrev pub HasAtLeast : ℕ → Family → Type 0
+HasAtLeast size family = AllByRecursion (λ set. size ≤ length set) family
+
+-- each set of the family has at most so many numbers; 2 ^ 32 - 1 says nothing
+abbrev pub HasAtMost : ℕ → Family → Type 0
+HasAtMost size family = size < 4294967295 → AllByRecursion (λ set. length set ≤ size) family
+
 -- the three positions are in the store, and the answer is right for their families
 pub record AnswersTwo (store : Families) (IsRight : Family → Family → Family → Type 0) (first second answer : ℕ) : Type 0 where
   pub first_in : first < length store
@@ -47,8 +55,8 @@ IsAnswerOf store MinProduct first second answer = AnswersTwo store (λ a b r. Is
 IsAnswerOf store Without first second answer = AnswersTwo store (λ a b r. r ≡ sets_without a b) first second answer
 IsAnswerOf store UpToSize first second answer = AnswersOne store (λ a r. r ≡ sets_up_to second a) first answer
 IsAnswerOf store OfSize first second answer = AnswersOne store (λ a r. r ≡ sets_of second a) first answer
-IsAnswerOf store LeastSize first second answer = AnswersSize store (λ a. AllByRecursion (λ set. answer ≤ length set) a) first
-IsAnswerOf store GreatestSize first second answer = AnswersSize store (λ a. AllByRecursion (λ set. length set ≤ answer) a) first
+IsAnswerOf store LeastSize first second answer = AnswersSize store (λ a. HasAtLeast answer a) first
+IsAnswerOf store GreatestSize first second answer = AnswersSize store (λ a. HasAtMost answer a) first
 
 -- the answer to a question is right
 abbrev pub IsAnswer : Families → Question → ℕ → Type 0

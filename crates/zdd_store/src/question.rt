@@ -17,7 +17,7 @@ pub enum Operation {
     OfSize,
     /// A number of numbers that each set of the first family has at least.
     LeastSize,
-    /// A number of numbers that each set of the first family has at most.
+    /// A number of numbers that each set of the first family has at most, or 2 ^ 32 - 1.
     GreatestSize,
 }
 
