@@ -8,3 +8,4 @@ pub mod Ways
 pub mod Pairs
 pub mod Telling
 pub mod Tables
+pub mod Sizing

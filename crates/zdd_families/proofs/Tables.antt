@@ -166,7 +166,7 @@ pub few_parts : (store : Families) (k : ℕ) (parts : List Id) → IsSound store
 few_parts store k parts sound h =
     record {
       covering = λ set. covers-empty store (record { position = 0 }) set sound refl ∙ sym (some_few k (map (family_of store) parts) set (omega (arith, length-map parts (family_of store))));
-      apart = subst IsAntichain (sym sound.empty) (λ part whole here there e. absurd (contains_none part here))
+      apart = subst IsAntichain (sym sound.empty) (λ part whole here there e. absurd (contains_none part here));
     }
 
 -- the sets of parts of a store rise

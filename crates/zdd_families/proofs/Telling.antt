@@ -261,7 +261,7 @@ some_passes (suc k) (family ∷ families) part set h within = by h (λ l. some_p
     by (inr r) more fewer =
         let union_is : is_within (union_of r.0 r.1) set ≡ true = ap (λ s. is_within s set) (sym r.4) ∙ within in
         or_right (some_of (suc k) families set) (covers family set && some_of k families set)
-          (and_made (covers family set) (some_of k families set) (covers_member family r.0 set r.2 (first_within r.0 r.1 set union_is)) (fewer r.1 r.3 (second_within r.0 r.1 set union_is)))
+        (and_made (covers family set) (some_of k families set) (covers_member family r.0 set r.2 (first_within r.0 r.1 set union_is)) (fewer r.1 r.3 (second_within r.0 r.1 set union_is)))
 
 pub tells_some : (k : ℕ) (families : List Family) → AllByRecursion (AllByRecursion IsRising) families → Tells (some_of k families) (IsUnionOfSome k families)
 tells_some k families up = record { rising = some_rising k families up; below = some_below k families; passes = some_passes k families }

@@ -11,8 +11,10 @@ mod memory;
 mod minimal;
 mod product;
 mod removal;
+mod sizes;
 mod split;
 mod union;
 
 pub use choice::at_least;
 pub use families::{min_product, min_union, single, without};
+pub use sizes::{of_size, up_to_size};

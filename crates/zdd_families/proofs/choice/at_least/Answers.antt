@@ -9,6 +9,6 @@ pub returns-clause-minimal : goal.returns-clause-minimal
 returns-clause-minimal c =
     let parts = map (family_of c.args.store.now) c.args.parts.now in
     minimal_sets_of (some_of c.args.k parts) (IsUnionOfSome c.args.k parts) (family_of c.last_entry.new.store c.in_ok-answer.answer)
-      (tells_some c.args.k parts (parts_rise c.args.store.now c.args.parts.now c.laws.ensures c.requires.parts_in))
-      c.in_ok-answer.ensures.answer.right
-      (c.laws-2.ensures.rising c.in_ok-answer.answer.position c.in_ok-answer.ensures.answer.found)
+    (tells_some c.args.k parts (parts_rise c.args.store.now c.args.parts.now c.laws.ensures c.requires.parts_in))
+    c.in_ok-answer.ensures.answer.right
+    (c.laws-2.ensures.rising c.in_ok-answer.answer.position c.in_ok-answer.ensures.answer.found)
