@@ -1,16 +1,15 @@
 -- A store to which a node is added: numbers keep their families, answers stay right, and it is a store again.
-use Rattle.std.proofs.Common.{◌≡◌, ℕ, zero, suc, ◌+◌, ◌-◌, ◌<◌, ◌≤◌, ◌⊎◌, Bool, true, false, if◌then◌else◌, ◌||◌, List, [], ◌∷◌, ◌++◌, length, fold, get_or, slice_get, Option, Some, None, Contains, refl, sym, ap, ◌∙◌, subst, inl, inr, arith, length-append}
+use Rattle.std.proofs.Common.{◌≡◌, ℕ, zero, suc, ◌+◌, ◌<◌, ◌≤◌, ◌⊎◌, Bool, true, false, if◌then◌else◌, ◌||◌, List, [], ◌∷◌, ◌++◌, length, fold, get_or, slice_get, Option, Some, Contains, refl, sym, ap, ◌∙◌, subst, inl, inr, arith, length-append}
 use Rattle.std.proofs.Math.ListN.{get_or-append}
 use Rattle.std.proofs.Math.Seq.{get_or-append_seam}
 use Rattle.std.proofs.lemmas.List.Sums.{fold-append}
 use Rattle.std.proofs.lemmas.Bool.{false≢true, cases_lt}
-use Rattle.std.proofs.lemmas.Option.{slice_get_within, slice_get-get_or, get_or_from_slice_get}
+use Rattle.std.proofs.lemmas.Option.{slice_get_within, slice_get-get_or}
 use Rattle.std.specs.List.{list_any, AllByRecursion}
 use Rattle.zdd_store.specs.Family.{Family, branch, least_number, IsRising, IsInOrder, HaveSameSets}
 use Rattle.zdd_store.specs.Store.{Families, family_at, family_with, no_nodes, Keeps, Fits, IsCanonical, IsSound}
 use Rattle.zdd_store.specs.Nodes.{with_node, families, IsNodeAt, IsStore}
 use Rattle.zdd_store.specs.Answers.{IsAnswer, IsAnswerOf, KnowsRight, AnswersOne, AnswersTwo, AnswersSize}
-use Rattle.zdd_store.specs.declared.id.Id.{Id}
 use Rattle.zdd_store.specs.declared.id.Node.{Node}
 use Rattle.zdd_store.specs.declared.question.Operation.{Operation}
 use Rattle.zdd_store.specs.declared.question.Operation.TheVariants.{Minimal, MinUnion, MinProduct, Without, UpToSize, OfSize, LeastSize, GreatestSize}

@@ -2,8 +2,7 @@
 use Rattle.std.proofs.Common.{◌≡◌, ℕ, ◌+◌, ◌-◌, ◌<◌, ◌≤◌, ◌↔◌, Bool, true, if◌then◌else◌, List, [], ◌∷◌, ◌++◌, length, get_or, slice_get, Option, Some, None, IsSome, IfSome, refl, sym, ap, ◌∙◌, subst, arith}
 use Rattle.std.proofs.lemmas.Option.{slice_get_within, slice_get-get_or}
 use Rattle.std.specs.List.{list_any}
-use Rattle.zdd_store.specs.Family.{Family, branch}
-use Rattle.zdd_store.specs.Store.{Families, family_at, family_with, Keeps, Fits, IsSound}
+use Rattle.zdd_store.specs.Store.{Families, family_at, family_with, Keeps, Fits}
 use Rattle.zdd_store.specs.Nodes.{families, IsNodeAt, IsStore}
 use Rattle.zdd_store.specs.Answers.{KnowsRight}
 use Rattle.zdd_store.specs.declared.id.Node.{Node}

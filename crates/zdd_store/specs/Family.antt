@@ -1,5 +1,5 @@
 -- Families of sets of numbers, and the set a family covers.
-use Rattle.std.specs.Prelude.{ℕ, ◌+◌, ◌<◌, ◌≤◌, ◌≡◌, ◌↔◌, Bool, true, false, List, [], ◌∷◌, ◌++◌, map, filter, min, not, Contains, IsTrue, nat_lt, ◌==◌, ◌&&◌, ◌||◌}
+use Rattle.std.specs.Prelude.{ℕ, ◌<◌, ◌≡◌, ◌↔◌, Bool, true, false, List, [], ◌∷◌, ◌++◌, map, filter, min, not, Contains, IsTrue, nat_lt, ◌==◌, ◌&&◌, ◌||◌}
 use Rattle.std.specs.List.{list_all, list_any, AllByRecursion}
 
 -- A family of sets: each set is written as the rising list of its numbers, and the sets stand in one order

@@ -1,8 +1,7 @@
-use Rattle.std.proofs.Common.{◌≡◌, ℕ, zero, suc, ◌<◌, Bool, true, false, eqb, refl, sym, ap, subst, ◌∙◌, arith, rules, eqb-true}
+use Rattle.std.proofs.Common.{◌≡◌, ℕ, zero, suc, ◌<◌, true, false, eqb, sym, ap, subst, ◌∙◌, arith, rules, eqb-true}
 use Rattle.std.specs.HashMap.{get}
-use Rattle.zdd_store.specs.Family.{Family, branch}
+use Rattle.zdd_store.specs.Family.{branch}
 use Rattle.zdd_store.specs.Store.{family_at, IsSound}
-use Rattle.zdd_store.specs.Nodes.{families, IsStore}
 use Rattle.zdd_store.specs.declared.id.Node.{Node}
 use Rattle.zdd_store.proofs.Branches.{branch-empty}
 use Rattle.zdd_store.proofs.Making.{Made, made}

@@ -1,4 +1,4 @@
-use Rattle.std.proofs.Common.{refl, sym, ap, subst}
+use Rattle.std.proofs.Common.{sym, ap, subst}
 use Rattle.zdd_store.specs.Nodes.{families, IsStore}
 use Rattle.zdd_store.proofs.Growing.{no_nodes_store}
 use Rattle.zdd_store.proofs.store.Store.new.Goals as goal

@@ -1,6 +1,5 @@
-use Rattle.std.proofs.Common.{◌≡◌, Option, slice_get, refl, sym, ap, subst, ◌∙◌}
-use Rattle.zdd_store.specs.declared.id.Node.{Node}
-use Rattle.zdd_store.proofs.Making.{Looked, looked}
+use Rattle.std.proofs.Common.{◌∙◌}
+use Rattle.zdd_store.proofs.Making.{looked}
 use Rattle.zdd_store.proofs.store.Store.node.Goals as goal
 
 pub returns-clause-found : goal.returns-clause-found
