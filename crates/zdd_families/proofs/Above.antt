@@ -6,7 +6,7 @@ use Rattle.std.proofs.lemmas.Bool.{false≢true, leb-true, le-leb}
 use Rattle.zdd_store.specs.Family.{Family, least_of, least_number, has, is_within, covers, IsAntichain}
 use Rattle.zdd_store.specs.Answers.{IsLeastFamily}
 use Rattle.zdd_store.proofs.Orders.{first_or_rest, contains_first, contains_rest, contains_none}
-use Rattle.zdd_families.proofs.Tests.{true_or_false, same_test}
+use Rattle.zdd_families.proofs.Booleans.{true_or_false, same_test}
 use Rattle.zdd_families.proofs.Subsets.{has_first, has_rest, has_cases, has_none, least-has, within_has, within_from, within_self, within_trans}
 use Rattle.zdd_families.proofs.Covers.{Covering, covers_member, member_covers, covers_more, least-member}
 

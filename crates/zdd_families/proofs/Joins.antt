@@ -8,7 +8,7 @@ use Rattle.zdd_store.proofs.Branches.{with_var, branch-with_var}
 use Rattle.zdd_store.proofs.Orders.{first_or_rest, contains_first, contains_rest, contains_none}
 use Rattle.zdd_store.specs.Answers.{IsLeastFamily}
 use Rattle.zdd_families.specs.Steps.{joined}
-use Rattle.zdd_families.proofs.Tests.{or_left, or_right, or_cases, and_made, and_cases, not_true, true_or_false, same_test}
+use Rattle.zdd_families.proofs.Booleans.{or_left, or_right, or_cases, and_made, and_cases, not_true, true_or_false, same_test}
 use Rattle.zdd_families.proofs.Subsets.{has_first, has_rest, has_cases, has-greater, within_has, within_from, within_self, within_trans, within_more, within-without}
 use Rattle.zdd_families.proofs.Covers.{Covering, covers_member, member_covers, covers_more, least-member, member-greater, covers-with, covers-branch}
 

@@ -1,4 +1,4 @@
-pub mod Tests
+pub mod Booleans
 pub mod Subsets
 pub mod Covers
 pub mod Joins

@@ -4,11 +4,14 @@ use Rattle.zdd_store.specs.Family.{Family, branch, least_of, least_number, has, 
 use Rattle.zdd_store.specs.Store.{Families, IsIn, family_at, family_of, Keeps, IsSound}
 use Rattle.zdd_store.specs.Answers.{IsLeastFamily}
 use Rattle.zdd_store.specs.declared.id.Id.{Id}
-use Rattle.zdd_families.specs.Steps.{IsFound, Answered, IsSplit, CanCross, joined, either, both, across}
+use Rattle.zdd_families.specs.Steps.{IsFound, Answered, IsSplit, CanCross, AnyFamily, joined, either, both, across}
 use Rattle.zdd_families.specs.declared.split.Parts.{Parts}
 use Rattle.zdd_families.proofs.Covers.{covers-branch}
 use Rattle.zdd_families.proofs.Above.{above, covers-above, least-bound, least_number-most}
-use Rattle.zdd_families.proofs.Ways.{answered, retest}
+use Rattle.std.specs.Prelude.{IfOk}
+use Rattle.std.specs.declared.alloc.AllocError.{AllocError}
+use Rattle.zdd_store.proofs.Branches.{le-least_number-branch}
+use Rattle.zdd_families.proofs.Ways.{answered, retest, Keeps_trans}
 
 -- an antichain stays one
 pub apart_kept : (before after : Families) (id : Id) → Keeps before after → IsIn before id → IsAntichain (family_of before id) → IsAntichain (family_of after id)
@@ -189,3 +192,16 @@ can_cross before after id var parts split apart kept =
       lo_apart = apart_kept before after parts.lo kept split.lo_in (split.lo_apart apart);
       hi_apart = apart_kept before after parts.hi kept split.hi_in (split.hi_apart apart);
     }
+
+-- a branch that was made, and the same from an earlier store on
+pub made_any : (before after : Families) (lo hi : Id) (var low : ℕ) (result : Result Id AllocError) → Keeps before after → IfOk result (IsIn after)
+    → IfOk result (λ id. family_of after id ≡ branch var (family_of before lo) (family_of before hi)) → low ≤ var → var < least_number (family_of before lo) → var < least_number (family_of before hi)
+    → Answered before after low AnyFamily result
+made_any before after lo hi var low (Ok id) kept here is h l r =
+    let bound : low ≤ least_number (branch var (family_of before lo) (family_of before hi)) = le-least_number-branch low var (family_of before lo) (family_of before hi) h (omega arith) (omega arith) in
+    let same : least_number (family_of after id) ≡ least_number (branch var (family_of before lo) (family_of before hi)) = ap least_number is in
+    record { kept = kept; answer = record { found = here; least = omega arith; right = tt } }
+made_any before after lo hi var low (Err e) kept here is h l r = record { kept = kept; answer = tt }
+
+pub answered_since : (before middle after : Families) (low : ℕ) (IsRight : Family → Type 0) (result : Result Id AllocError) → Keeps before middle → Answered middle after low IsRight result → Answered before after low IsRight result
+answered_since before middle after low IsRight result kept a = record { kept = Keeps_trans before middle after kept a.kept; answer = a.answer }

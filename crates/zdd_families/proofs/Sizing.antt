@@ -12,7 +12,7 @@ use Rattle.zdd_store.proofs.Orders.{all_contained}
 use Rattle.zdd_families.specs.Steps.{IsFound, Answered, IsSplit}
 use Rattle.zdd_families.specs.declared.split.Parts.{Parts}
 use Rattle.zdd_families.proofs.Ways.{answered, Keeps_same}
-use Rattle.zdd_families.proofs.Tests.{same_test}
+use Rattle.zdd_families.proofs.Booleans.{same_test}
 use Rattle.zdd_families.proofs.Joins.{least-filter, filter-branch, same_filter, filter_keeps, filter_drops}
 
 all_branch : (P : List ℕ → Type 0) (var : ℕ) (lo hi : Family) → AllByRecursion P lo → AllByRecursion (λ set. P (var ∷ set)) hi → AllByRecursion P (with_var var hi lo)

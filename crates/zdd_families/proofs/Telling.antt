@@ -8,7 +8,7 @@ use Rattle.zdd_store.specs.Answers.{IsLeastFamily}
 use Rattle.zdd_store.proofs.Orders.{all_contained}
 use Rattle.zdd_families.specs.Unions.{with_number, union_of, HasMinimalSets, IsInEither, IsUnionOfBoth, IsUnionOfSome, some_of}
 use Rattle.zdd_families.specs.Steps.{either, both}
-use Rattle.zdd_families.proofs.Tests.{or_left, or_right, or_cases, and_made, and_cases}
+use Rattle.zdd_families.proofs.Booleans.{or_left, or_right, or_cases, and_made, and_cases}
 use Rattle.zdd_families.proofs.Subsets.{has_first, has_rest, has_cases, has_none, least-has, has-greater, within_has, within_from, within_self, within_trans, same_rising}
 use Rattle.zdd_families.proofs.Covers.{Covering, covers_member, member_covers, covers_more}
 
