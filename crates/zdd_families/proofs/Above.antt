@@ -1,14 +1,13 @@
 -- The numbers of a set from a bound on, and that a least family has no smaller numbers than what its test looks at.
-use Rattle.std.proofs.Common.{◌≡◌, ℕ, ◌<◌, ◌≤◌, ◌⊎◌, min, Bool, true, false, eqb, cond, ◌&&◌, ◌||◌, List, [], ◌∷◌, filter, Contains, refl, sym, ap, ◌∙◌, subst, inl, inr, arith}
-use Rattle.std.specs.Prelude.{IsTrue, nat_le}
-use Rattle.std.specs.List.{AllByRecursion}
+use Rattle.std.proofs.Common.{◌≡◌, ℕ, ◌≤◌, ◌⊎◌, Bool, true, false, cond, List, [], ◌∷◌, filter, Contains, refl, sym, ap, ◌∙◌, subst, inl, inr, arith}
+use Rattle.std.specs.Prelude.{nat_le}
 use Rattle.std.proofs.lemmas.Bool.{false≢true, leb-true, le-leb}
-use Rattle.zdd_store.specs.Family.{Family, least_of, least_number, has, is_within, covers, IsAntichain}
+use Rattle.zdd_store.specs.Family.{Family, least_of, least_number, has, is_within, covers}
 use Rattle.zdd_store.specs.Answers.{IsLeastFamily}
-use Rattle.zdd_store.proofs.Orders.{first_or_rest, contains_first, contains_rest, contains_none}
-use Rattle.zdd_families.proofs.Booleans.{true_or_false, same_test}
+use Rattle.zdd_store.proofs.Orders.{contains_first, contains_rest}
+use Rattle.zdd_families.proofs.Booleans.{same_test}
 use Rattle.zdd_families.proofs.Subsets.{has_first, has_rest, has_cases, has_none, least-has, within_has, within_from, within_self, within_trans}
-use Rattle.zdd_families.proofs.Covers.{Covering, covers_member, member_covers, covers_more, least-member}
+use Rattle.zdd_families.proofs.Covers.{covers_member, member_covers, covers_more, least-member}
 
 -- the numbers of a set that are not less than a bound
 unfoldable pub above : ℕ → List ℕ → List ℕ

@@ -1,12 +1,11 @@
 -- What families cover: of branches, of filters, and by their members.
-use Rattle.std.proofs.Common.{◌≡◌, ℕ, zero, suc, ◌<◌, ◌≤◌, ◌⊎◌, ◌↔◌, min, Bool, true, false, not, cond, ◌&&◌, ◌||◌, List, [], ◌∷◌, length, filter, Contains, refl, sym, ap, ◌∙◌, subst, inl, inr, arith}
-use Rattle.std.specs.List.{AllByRecursion}
+use Rattle.std.proofs.Common.{◌≡◌, ℕ, ◌<◌, ◌≤◌, ◌⊎◌, min, Bool, true, false, ◌&&◌, ◌||◌, List, [], ◌∷◌, Contains, refl, sym, ap, ◌∙◌, inl, inr, arith}
 use Rattle.std.proofs.lemmas.Bool.{false≢true}
-use Rattle.zdd_store.specs.Family.{Family, branch, least_of, least_number, has, is_within, covers, IsRising, IsAntichain, sets_without}
+use Rattle.zdd_store.specs.Family.{Family, branch, least_of, least_number, has, is_within, covers}
 use Rattle.zdd_store.proofs.Branches.{with_var, branch-with_var}
 use Rattle.zdd_store.proofs.Orders.{first_or_rest, contains_first, contains_rest, contains_none}
-use Rattle.zdd_families.proofs.Booleans.{or_left, or_right, or_cases, and_made, and_cases, not_true, true_or_false, same_test}
-use Rattle.zdd_families.proofs.Subsets.{has_first, has_rest, has_cases, has-greater, within_has, within_from, within_self, within_trans, within_more, within-without}
+use Rattle.zdd_families.proofs.Booleans.{or_left, or_right, or_cases, same_test}
+use Rattle.zdd_families.proofs.Subsets.{has-greater, within_self, within_trans, within_more, within-without}
 
 -- a family covers what contains one of its sets
 pub covers_member : (family : Family) (part set : List ℕ) → Contains family part → is_within part set ≡ true → covers family set ≡ true

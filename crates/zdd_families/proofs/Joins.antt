@@ -1,16 +1,15 @@
 -- Joining two families under a variable: what it covers, that none of its sets is within another; and what is left without the
 -- sets that contain those of another family, branch by branch.
-use Rattle.std.proofs.Common.{◌≡◌, ℕ, zero, suc, ◌<◌, ◌≤◌, ◌⊎◌, ◌↔◌, min, Bool, true, false, not, cond, ◌&&◌, ◌||◌, List, [], ◌∷◌, ◌++◌, length, map, filter, Contains, refl, sym, ap, ◌∙◌, subst, inl, inr, arith}
-use Rattle.std.specs.Prelude.{IsTrue}
+use Rattle.std.proofs.Common.{◌≡◌, ℕ, ◌<◌, ◌≤◌, ◌⊎◌, min, Bool, true, false, not, cond, ◌&&◌, ◌||◌, List, [], ◌∷◌, filter, Contains, refl, sym, ap, ◌∙◌, subst, inl, inr, arith}
 use Rattle.std.proofs.lemmas.Bool.{false≢true}
-use Rattle.zdd_store.specs.Family.{Family, branch, least_of, least_number, has, is_within, covers, IsRising, IsAntichain, sets_without}
+use Rattle.zdd_store.specs.Family.{Family, branch, least_of, least_number, has, is_within, covers, IsAntichain, sets_without}
 use Rattle.zdd_store.proofs.Branches.{with_var, branch-with_var}
 use Rattle.zdd_store.proofs.Orders.{first_or_rest, contains_first, contains_rest, contains_none}
 use Rattle.zdd_store.specs.Answers.{IsLeastFamily}
 use Rattle.zdd_families.specs.Steps.{joined}
-use Rattle.zdd_families.proofs.Booleans.{or_left, or_right, or_cases, and_made, and_cases, not_true, true_or_false, same_test}
-use Rattle.zdd_families.proofs.Subsets.{has_first, has_rest, has_cases, has-greater, within_has, within_from, within_self, within_trans, within_more, within-without}
-use Rattle.zdd_families.proofs.Covers.{Covering, covers_member, member_covers, covers_more, least-member, member-greater, covers-with, covers-branch}
+use Rattle.zdd_families.proofs.Booleans.{or_left, or_right, or_cases, not_true, true_or_false, same_test}
+use Rattle.zdd_families.proofs.Subsets.{has_first, has_rest, has_cases, within_has, within_from, within_self, within-without}
+use Rattle.zdd_families.proofs.Covers.{covers_member, member_covers, covers_more, member-greater, covers-with, covers-branch}
 
 -- members of a filter
 pub filter_member : {A : Type 0} (test : A → Bool) (xs : List A) (x : A) → Contains xs x → test x ≡ true → Contains (filter test xs) x

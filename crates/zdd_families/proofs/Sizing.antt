@@ -1,11 +1,11 @@
 -- Sizes of the sets of families, and the families of the sets of a size.
-use Rattle.std.proofs.Common.{◌≡◌, ℕ, zero, suc, ◌+◌, ◌-◌, ◌<◌, ◌≤◌, ◌⊎◌, min, Bool, true, false, eqb, cond, List, [], ◌∷◌, length, filter, Contains, Result, Ok, refl, sym, ap, ◌∙◌, subst, inl, inr, arith, eqb-true, eq-eqb}
+use Rattle.std.proofs.Common.{◌≡◌, ℕ, zero, suc, ◌+◌, ◌-◌, ◌<◌, ◌≤◌, Bool, true, false, List, [], ◌∷◌, length, filter, Contains, Ok, refl, sym, ap, ◌∙◌, subst, arith, eqb-true, eq-eqb}
 use Rattle.std.specs.Prelude.{nat_le, ◌==◌}
 use Rattle.std.specs.List.{AllByRecursion}
-use Rattle.std.proofs.lemmas.Bool.{false≢true, leb-true, le-leb, eqb-false, true≢false}
+use Rattle.std.proofs.lemmas.Bool.{leb-true, le-leb}
 use Rattle.zdd_store.specs.Family.{Family, branch, least_number}
 use Rattle.zdd_store.specs.Store.{Families, IsIn, family_at, family_of, Keeps, IsSound}
-use Rattle.zdd_store.specs.Answers.{HasAtLeast, HasAtMost, sets_up_to, sets_of, AnswersOne, AnswersSize}
+use Rattle.zdd_store.specs.Answers.{HasAtLeast, HasAtMost, sets_up_to, sets_of, AnswersSize}
 use Rattle.zdd_store.specs.declared.id.Id.{Id}
 use Rattle.zdd_store.proofs.Branches.{with_var, branch-with_var, branch-empty}
 use Rattle.zdd_store.proofs.Orders.{all_contained}

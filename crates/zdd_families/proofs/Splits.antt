@@ -1,5 +1,5 @@
 -- The least number of a node's family, and the families of EMPTY and UNIT.
-use Rattle.std.proofs.Common.{◌≡◌, ℕ, zero, suc, ◌<◌, ◌≤◌, List, [], ◌∷◌, refl, sym, ap, ◌∙◌, subst, arith}
+use Rattle.std.proofs.Common.{◌≡◌, ℕ, zero, suc, ◌<◌, [], ◌∷◌, refl, sym, ap, ◌∙◌, subst, arith}
 use Rattle.zdd_store.specs.Family.{Family, branch, least_number, IsAntichain}
 use Rattle.zdd_store.specs.Store.{Families, IsIn, family_at, family_of, family_with, Fits, IsSound}
 use Rattle.zdd_store.specs.declared.id.Id.{Id}
@@ -10,7 +10,6 @@ use Rattle.zdd_store.proofs.Terminals.{least-empty, least-unit}
 use Rattle.zdd_store.proofs.Orders.{contains_none}
 use Rattle.zdd_families.specs.Steps.{IsSplit}
 use Rattle.zdd_families.proofs.Joins.{antichain-lo, antichain-hi}
-use Rattle.zdd_families.specs.declared.split.Parts.{Parts}
 
 -- the least number of a node's family is its variable
 pub least-node : (store : Families) (node : Node) (family : Family) → IsSound store → Fits store node → family ≡ family_with store node → least_number family ≡ node.var

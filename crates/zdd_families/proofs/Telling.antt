@@ -1,16 +1,16 @@
 -- From what a family covers to its sets: a least family has exactly the minimal sets of what its test tells.
-use Rattle.std.proofs.Common.{◌≡◌, ℕ, zero, suc, ◌+◌, ◌<◌, ◌≤◌, ◌⊎◌, ◌↔◌, min, Bool, true, false, eqb, cond, ◌&&◌, ◌||◌, List, [], ◌∷◌, Contains, refl, sym, ap, ◌∙◌, subst, inl, inr, arith, eqb-true}
-use Rattle.std.specs.Prelude.{IsTrue, nat_lt, ◌==◌, if◌then◌else◌}
+use Rattle.std.proofs.Common.{◌≡◌, ℕ, zero, suc, ◌+◌, ◌<◌, ◌≤◌, ◌⊎◌, Bool, true, false, ◌&&◌, ◌||◌, List, [], ◌∷◌, Contains, refl, sym, ap, ◌∙◌, subst, inl, inr, arith, eqb-true}
+use Rattle.std.specs.Prelude.{nat_lt, ◌==◌, if◌then◌else◌}
 use Rattle.std.specs.List.{AllByRecursion}
 use Rattle.std.proofs.lemmas.Bool.{false≢true, lt-ltb, ltb-true, cases_lt, eqb-false}
-use Rattle.zdd_store.specs.Family.{Family, least_of, least_number, has, is_within, covers, IsRising, IsAntichain, IsMinimal}
+use Rattle.zdd_store.specs.Family.{Family, least_of, has, is_within, covers, IsRising, IsMinimal}
 use Rattle.zdd_store.specs.Answers.{IsLeastFamily}
 use Rattle.zdd_store.proofs.Orders.{all_contained}
 use Rattle.zdd_families.specs.Unions.{with_number, union_of, HasMinimalSets, IsInEither, IsUnionOfBoth, IsUnionOfSome, some_of}
 use Rattle.zdd_families.specs.Steps.{either, both}
 use Rattle.zdd_families.proofs.Booleans.{or_left, or_right, or_cases, and_made, and_cases}
-use Rattle.zdd_families.proofs.Subsets.{has_first, has_rest, has_cases, has_none, least-has, has-greater, within_has, within_from, within_self, within_trans, same_rising}
-use Rattle.zdd_families.proofs.Covers.{Covering, covers_member, member_covers, covers_more}
+use Rattle.zdd_families.proofs.Subsets.{has_first, has_rest, has_cases, has_none, within_has, within_from, within_self, within_trans, same_rising}
+use Rattle.zdd_families.proofs.Covers.{covers_member, member_covers}
 
 -- a set with a property that is within another
 pub record Below (Property : List ℕ → Type 0) (set : List ℕ) : Type 0 where

@@ -1,17 +1,17 @@
 -- The ways through the operations, from what each call answered to what the operation answers.
-use Rattle.std.proofs.Common.{◌≡◌, ℕ, ◌<◌, ◌≤◌, min, Bool, ◌&&◌, ◌||◌, List, [], ◌∷◌, length, Result, Ok, Err, refl, sym, ap, ◌∙◌, subst, arith}
+use Rattle.std.proofs.Common.{◌≡◌, ℕ, ◌<◌, ◌≤◌, Bool, ◌&&◌, ◌||◌, List, [], length, Result, Ok, Err, refl, sym, ap, ◌∙◌, subst, arith}
 use Rattle.std.specs.Prelude.{IfOk}
 use Rattle.std.specs.declared.alloc.AllocError.{AllocError}
-use Rattle.zdd_store.specs.Family.{Family, branch, least_of, least_number, has, covers, IsAntichain, sets_without}
+use Rattle.zdd_store.specs.Family.{Family, branch, least_number, has, covers, IsAntichain, sets_without}
 use Rattle.zdd_store.specs.Store.{Families, IsIn, family_at, family_of, Keeps, IsSound}
 use Rattle.zdd_store.specs.Answers.{IsLeastFamily, AnswersOne, AnswersTwo}
 use Rattle.zdd_store.specs.declared.id.Id.{Id}
 use Rattle.zdd_store.proofs.Branches.{le-least_number-branch}
-use Rattle.zdd_families.specs.Steps.{IsFound, Answered, IsSplit, joined, either, both}
+use Rattle.zdd_families.specs.Steps.{IsFound, Answered, IsSplit, joined}
 use Rattle.zdd_families.specs.declared.split.Parts.{Parts}
 use Rattle.zdd_families.proofs.Joins.{least-filter, without-branch, without-none, without-unit, without-same, least-join}
 use Rattle.zdd_families.proofs.Covers.{covers-branch}
-use Rattle.zdd_families.proofs.Above.{above, covers-above, least-bound, least_number-most}
+use Rattle.zdd_families.proofs.Above.{covers-above, least-bound, least_number-most}
 
 -- an answer that was there before the call
 pub answered : {store : Families} {low : ℕ} {IsRight : Family → Type 0} (id : Id) → IsIn store id → low ≤ least_number (family_of store id) → IsRight (family_of store id) → Answered store store low IsRight (Ok id)

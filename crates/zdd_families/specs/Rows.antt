@@ -1,5 +1,5 @@
 -- Rows of the table of at least so many of some families: the entry at k has the minimal sets of at least k of them.
-use Rattle.std.specs.Prelude.{ℕ, zero, suc, ◌<◌, ◌≡◌, Bool, ◌&&◌, ◌||◌, List, [], ◌∷◌, length, slice_index_or}
+use Rattle.std.specs.Prelude.{ℕ, zero, suc, ◌<◌, ◌≡◌, Bool, ◌&&◌, ◌||◌, List, length, slice_index_or}
 use Rattle.zdd_store.specs.Family.{Family, covers, IsAntichain}
 use Rattle.zdd_store.specs.Store.{Families, IsIn, family_of}
 use Rattle.zdd_store.specs.Answers.{IsLeastFamily}

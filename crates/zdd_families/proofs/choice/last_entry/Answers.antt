@@ -1,4 +1,4 @@
-use Rattle.std.proofs.Common.{◌≡◌, ◌<◌, length, arith}
+use Rattle.std.proofs.Common.{◌<◌, length, arith}
 use Rattle.zdd_families.proofs.Tables.{few_parts}
 use Rattle.zdd_families.proofs.Ways.{answered}
 use Rattle.zdd_families.proofs.choice.last_entry.Goals as goal

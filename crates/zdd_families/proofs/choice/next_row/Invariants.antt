@@ -1,4 +1,4 @@
-use Rattle.std.proofs.Common.{◌≡◌, ℕ, ◌<◌, ◌≤◌, length}
+use Rattle.std.proofs.Common.{◌≡◌, ℕ, ◌<◌, length}
 use Rattle.std.specs.Prelude.{slice_index_or}
 use Rattle.zdd_store.specs.Store.{Keeps}
 use Rattle.zdd_store.specs.declared.id.Id.{Id}

@@ -1,9 +1,9 @@
-use Rattle.std.proofs.Common.{◌≡◌, ◌≤◌, min, ap, ◌∙◌, sym, subst, Ok, arith, eqb-true}
+use Rattle.std.proofs.Common.{min, ◌∙◌, sym, subst, Ok, arith, eqb-true}
 use Rattle.zdd_store.specs.Family.{least_number}
-use Rattle.zdd_store.specs.Store.{Families, family_of, Keeps}
+use Rattle.zdd_store.specs.Store.{family_of, Keeps}
 use Rattle.zdd_store.specs.Answers.{IsLeastFamily}
-use Rattle.zdd_families.specs.Steps.{Answered, both}
-use Rattle.zdd_families.proofs.Ways.{Keeps_same, Keeps_trans, Keeps_four, answers_two, finish_two}
+use Rattle.zdd_families.specs.Steps.{both}
+use Rattle.zdd_families.proofs.Ways.{Keeps_same, Keeps_trans, answers_two, finish_two}
 use Rattle.zdd_families.proofs.Pairs.{apart_kept, operand, both_same, both_first_empty, both_second_unit, both_second_empty, both_first_unit, least-both, both_made, can_cross}
 use Rattle.zdd_families.proofs.product.+product.Goals as goal
 use Rattle.zdd_families.proofs.product.+product.Goals.{product_sets-then-eq-via-then-eq, product_sets-then-eq-via-else-eq+then-eq-2, product_sets-then-eq-via-else-eq+else-eq-2+then-eq-3, product_sets-then-eq-4-via-then-eq-4, product_sets-then-eq-4-via-else-eq-4+then-eq-5}

@@ -1,5 +1,4 @@
 use Rattle.std.proofs.Common.{◌∙◌}
-use Rattle.zdd_store.specs.Store.{family_of}
 use Rattle.zdd_store.specs.Answers.{HasAtMost}
 use Rattle.zdd_families.proofs.Sizing.{greatest_made, answers_size}
 use Rattle.zdd_families.proofs.sizes.+greatest_size.Goals as goal

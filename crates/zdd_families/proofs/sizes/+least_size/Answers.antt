@@ -1,5 +1,4 @@
 use Rattle.std.proofs.Common.{◌∙◌}
-use Rattle.zdd_store.specs.Store.{family_of}
 use Rattle.zdd_store.specs.Answers.{HasAtLeast}
 use Rattle.zdd_families.proofs.Sizing.{least_made, answers_size}
 use Rattle.zdd_families.proofs.sizes.+least_size.Goals as goal

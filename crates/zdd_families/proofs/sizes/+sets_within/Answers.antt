@@ -1,5 +1,5 @@
-use Rattle.std.proofs.Common.{◌≡◌, ◌≤◌, ◌-◌, ap, ◌∙◌, sym, subst, Ok, arith}
-use Rattle.zdd_store.specs.Family.{Family, branch, least_number}
+use Rattle.std.proofs.Common.{◌≡◌, ◌-◌, sym, subst, Ok, arith}
+use Rattle.zdd_store.specs.Family.{branch, least_number}
 use Rattle.zdd_store.specs.Store.{family_of, Keeps}
 use Rattle.zdd_store.specs.Answers.{sets_up_to}
 use Rattle.zdd_families.proofs.Ways.{Keeps_trans, answers_one, finish_one}

@@ -1,4 +1,4 @@
-use Rattle.std.proofs.Common.{◌≡◌, ◌<◌, ◌∙◌, ap, sym, subst, length, arith, eqb-true}
+use Rattle.std.proofs.Common.{◌≡◌, ◌<◌, ◌∙◌, sym, subst, length, arith, eqb-true}
 use Rattle.zdd_store.specs.Store.{family_of}
 use Rattle.zdd_store.specs.Answers.{HasAtLeast}
 use Rattle.zdd_families.proofs.Sizing.{told_up_to, all_up_to, none_up_to}

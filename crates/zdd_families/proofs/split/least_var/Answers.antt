@@ -1,10 +1,6 @@
-use Rattle.std.proofs.Common.{◌≡◌, sym, arith}
+use Rattle.std.proofs.Common.{sym}
 use Rattle.zdd_store.specs.Store.{family_of}
 use Rattle.zdd_families.proofs.Splits.{least-node, least-terminal}
-use Rattle.zdd_families.proofs.Joins.{without-same}
-use Rattle.zdd_families.proofs.Above.{least-bound}
-use Rattle.zdd_families.proofs.Ways.{answered_without}
-use Rattle.zdd_families.proofs.Telling.{tells_both}
 use Rattle.zdd_families.proofs.split.least_var.Goals as goal
 
 pub returns-in-Some-clause-value : goal.returns-in-Some-clause-value

@@ -1,4 +1,4 @@
-use Rattle.std.proofs.Common.{◌≡◌, ℕ, ◌<◌, ◌≤◌, sym, arith}
+use Rattle.std.proofs.Common.{◌≡◌, ◌<◌, ◌≤◌, arith}
 use Rattle.zdd_store.specs.Store.{family_of}
 use Rattle.zdd_store.specs.Family.{least_number}
 use Rattle.zdd_families.proofs.Splits.{least-node, least-terminal, split-greater, split-node}

@@ -1,6 +1,4 @@
-use Rattle.std.proofs.Common.{◌≡◌, ◌<◌, arith}
-use Rattle.zdd_store.specs.Family.{least_number}
-use Rattle.zdd_store.specs.Store.{family_of}
+use Rattle.std.proofs.Common.{arith}
 use Rattle.zdd_families.proofs.Splits.{least-terminal}
 use Rattle.zdd_families.proofs.Pairs.{made_any}
 use Rattle.zdd_families.proofs.tests.level_two.Goals as goal
