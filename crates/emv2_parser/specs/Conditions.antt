@@ -1,5 +1,5 @@
 -- Conditions of error model text.
-use Rattle.std.specs.Prelude.{ℕ, zero, suc, Bool, true, false, if◌then◌else◌, List, [], ◌∷◌, Option, codes}
+use Rattle.std.specs.Prelude.{ℕ, zero, suc, Bool, true, false, if◌then◌else◌, List, [], ◌∷◌, codes}
 use Rattle.aadl_syntax.specs.declared.error_model.Condition.{Condition}
 use Rattle.aadl_syntax.specs.declared.error_model.Condition.TheVariants as condition
 use Rattle.aadl_syntax.specs.declared.error_model.Atom.{Atom}

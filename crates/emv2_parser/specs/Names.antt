@@ -1,5 +1,5 @@
 -- Names, references, points and type sets of error model text, and what ends an item.
-use Rattle.std.specs.Prelude.{ℕ, Bool, true, false, List, [], ◌∷◌, ◌++◌, Option, Some, None, codes}
+use Rattle.std.specs.Prelude.{ℕ, List, [], ◌∷◌, ◌++◌, Option, Some, None, codes}
 use Rattle.aadl_syntax.specs.declared.place.Spot.{Spot}
 use Rattle.aadl_syntax.specs.declared.place.Ref.{Ref}
 use Rattle.aadl_syntax.specs.declared.error_model.TypeSet.{TypeSet}
@@ -7,7 +7,7 @@ use Rattle.aadl_syntax.specs.declared.error_model.Term.{Term}
 use Rattle.aadl_syntax.specs.declared.error_model.Term.TheVariants as term
 use Rattle.aadl_syntax.specs.declared.error_model.PointRef.{PointRef}
 use Rattle.aadl_syntax.specs.declared.error_model.StateRef.{StateRef}
-use Rattle.grammar_rules.specs.Rules.{Rule, gives, gives_file, chooses, repeats, ◌>>=◌}
+use Rattle.grammar_rules.specs.Rules.{Rule, gives, gives_file, chooses, ◌>>=◌}
 use Rattle.grammar_rules.specs.Parts.{parts_after}
 use Rattle.grammar_rules.specs.Spans.{until, ends_tail}
 use Rattle.grammar_rules.specs.Tokens.{word, sign, identifier, one_of, place, is_word, is_sign, is_one_of}

@@ -1,14 +1,12 @@
 -- Each part of a loop of the grammar takes at least one token.
 use Rattle.std.specs.Prelude.{ℕ, List}
 use Rattle.aadl_syntax.specs.declared.place.Ref.{Ref}
-use Rattle.aadl_syntax.specs.declared.error_model.Term.{Term}
 use Rattle.grammar_rules.specs.Rules.{Rule}
 use Rattle.grammar_rules.specs.Parts.{TakesTokens}
 use Rattle.grammar_rules.proofs.Takes.{takes_first, takes_after, takes_either, word_takes, sign_takes, identifier_takes, one_of_takes}
-use Rattle.emv2_parser.specs.Words.{error_words}
 use Rattle.aadl_syntax.specs.declared.error_model.Condition.{Condition}
 use Rattle.emv2_parser.specs.declared.properties.TargetPath.{TargetPath}
-use Rattle.emv2_parser.specs.Names.{error_name, names, spot, point, point_word, dotted_names, state_reference, optional_set, label, further_name, further_reference, use_types_after, dotted_name, factor, further_term}
+use Rattle.emv2_parser.specs.Names.{error_name, names, point, point_word, dotted_names, state_reference, further_name, further_reference, use_types_after, dotted_name, factor, further_term}
 use Rattle.emv2_parser.specs.Properties.{path_sign, path_step, further_target, association, properties_after}
 use Rattle.aadl_syntax.specs.declared.error_model.StateRef.{StateRef}
 use Rattle.aadl_syntax.specs.declared.error_model.MachineDecl.{MachineDecl}

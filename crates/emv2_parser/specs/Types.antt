@@ -1,5 +1,5 @@
 -- Blocks of error types.
-use Rattle.std.specs.Prelude.{ℕ, List, [], ◌∷◌, Option, Some, None, codes}
+use Rattle.std.specs.Prelude.{List, [], ◌∷◌, Option, Some, None, codes}
 use Rattle.aadl_syntax.specs.declared.place.Ref.{Ref}
 use Rattle.aadl_syntax.specs.declared.error_model.TypesBlock.{TypesBlock}
 use Rattle.aadl_syntax.specs.declared.error_model.TypeItem.{TypeItem}

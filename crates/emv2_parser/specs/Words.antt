@@ -1,7 +1,6 @@
 -- The words of error model text, and its numbers.
-use Rattle.std.specs.Prelude.{ℕ, ◌+◌, ◌-◌, ◌*◌, Bool, ◌&&◌, ◌||◌, nat_le, if◌then◌else◌, List, [], ◌∷◌, length, Option, Some, None, codes}
+use Rattle.std.specs.Prelude.{ℕ, ◌+◌, ◌-◌, ◌*◌, Bool, ◌&&◌, ◌||◌, nat_le, if◌then◌else◌, List, [], ◌∷◌, length, Some, None, codes}
 use Rattle.std.specs.List.{fold, list_all}
-use Rattle.aadl_syntax.specs.declared.token.Token.{Token}
 use Rattle.aadl_syntax.specs.declared.token.TokenKind.TheVariants.{Number}
 use Rattle.grammar_rules.specs.Rules.{Test, Rule, takes}
 use Rattle.grammar_rules.specs.Tokens.{same_kind, is_word, is_sign, is_identifier, is_one_of}

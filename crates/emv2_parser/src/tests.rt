@@ -9,7 +9,8 @@ use std::alloc::{AllocError, Global};
 use std::test::Fail;
 
 /// How a text is read, the text, and `reads` or the byte of its syntax error: that of the first token at which the text
-/// can no longer go on, or its length.
+/// can no longer go on, or its length. The last rows are on what stands after a sign, on counts, and on the most
+/// parentheses that may be open at once.
 const TEXTS: &[u8] = b"\
 library\terror types end types;\treads\n\
 library\terror types t: type; u: type extends t; v: type extends a::t {x => 1} ; s: type set {t, u*v, noerror} applies; r renames type t; q renames type set s; end types;\treads\n\
@@ -186,6 +187,15 @@ clause\tin error x -[y]-> z ; end connection ;\t0\n\
 clause\tuse behavior p :: m ; use behavior p :: n ; error propagations end propagations ; component error behavior end component ; composite error same behavior end composite ; propagation paths end paths ; properties\t139\n\
 clause\tpropagation paths up : propagation point ; x : a.bindings : b.processor ; y : up -> c.d.access ; z : processor -> a ; end paths ;\t58\n\
 clause\tuse type\t8\n\
+library\terror behavior m transitions ok -[e1 and ]-> bad; end behavior;\t41\n\
+library\terror behavior m transitions ok -[1_0 ormore (e)]-> bad; end behavior;\t34\n\
+library\terror behavior m transitions ok -[1234567890 ormore (e)]-> bad; end behavior;\t34\n\
+library\terror behavior m transitions ok -[123456789 ormore (e)]-> bad; end behavior;\treads\n\
+library\terror behavior m transitions ok -[1 (e)]-> bad; end behavior;\t36\n\
+clause\tuse types a::; use behavior b;\t13\n\
+clause\tpropagation paths x: a. -> b; end paths;\t24\n\
+library\terror behavior m transitions ok -[((((((((((((((((((((((((((((((((((((((((((((((((((((((((((((((((e))))))))))))))))))))))))))))))))))))))))))))))))))))))))))))))))]-> bad; end behavior;\treads\n\
+library\terror behavior m transitions ok -[(((((((((((((((((((((((((((((((((((((((((((((((((((((((((((((((((e)))))))))))))))))))))))))))))))))))))))))))))))))))))))))))))))))]-> bad; end behavior;\t98\n\
 ";
 
 /// How a text is read, the text, and its value: fields as the types have them, and a place as `@` and its byte.
@@ -340,7 +350,7 @@ fn texts(rt: HostRuntime) -> Result<(), Fail> {
         }
         count = count.saturating_add(1);
     }
-    assert_eq!(rt; count, 175);
+    assert_eq!(rt; count, 184);
     one_library();
     one_clause();
     Ok(())

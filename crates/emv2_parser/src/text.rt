@@ -18,6 +18,7 @@ use std::alloc::Global;
 /// 0, and `end` is the place of the `**}`, in bytes.
 ///
 /// What is refused only where it is used, as an event of repair, is read. Tokens that have no reading are refused as `Syntax`.
+/// A condition in which more than 64 parentheses are open at once has none.
 pub fn library(alloc: Global, file: u32, tokens: &[Token], end: u32) -> Answer<Emv2Library>
     // What is answered is what the tokens read as.
     ensures found { IfOk result (λ value. Reads file library tokens.now value []) }
@@ -40,6 +41,7 @@ pub fn library(alloc: Global, file: u32, tokens: &[Token], end: u32) -> Answer<E
 /// from 0, and `end` is the place of the `**}`, in bytes; it is the place of a clause without tokens.
 ///
 /// What is refused only where it is used, as a use of mappings, is read. Tokens that have no reading are refused as `Syntax`.
+/// A condition in which more than 64 parentheses are open at once has none.
 pub fn clause(alloc: Global, file: u32, tokens: &[Token], end: u32) -> Answer<Emv2Clause>
     // What is answered is what the tokens read as.
     ensures found { IfOk result (λ value. Reads file (clause end) tokens.now value []) }

@@ -9,11 +9,13 @@ mod disk;
 mod faults;
 mod memory;
 mod outside;
+mod steps;
 mod stream;
 
 pub use disk::DiskFiles;
 pub use memory::{MemoryFiles, MemorySink};
 pub use outside::{Files, ReadError, Sink, SinkFailed, write_all};
+pub use steps::Steps;
 pub use stream::StdSink;
 
 #[cfg(test)]

@@ -1,0 +1,11 @@
+pub mod Booleans
+pub mod Subsets
+pub mod Covers
+pub mod Joins
+pub mod Splits
+pub mod Above
+pub mod Ways
+pub mod Pairs
+pub mod Telling
+pub mod Tables
+pub mod Sizing

@@ -1,0 +1,101 @@
+ghost use Rattle.std.specs.Prelude.{◌≡◌, [], ◌∷◌, IfOk};
+ghost use Rattle.zdd_store.specs.Family.{IsAntichain, sets_without};
+ghost use Rattle.zdd_store.specs.Store.{IsIn, family_of, Keeps};
+ghost use Rattle.zdd_store.specs.Answers.{IsLeastFamily};
+ghost use Rattle.zdd_families.specs.Steps.{Answered, either, both};
+ghost use Rattle.zdd_families.specs.Unions.{HasMinimalSets, IsInEither, IsUnionOfBoth};
+
+use crate::memory::note;
+use crate::minimal::minimal_sets;
+use crate::product::product_sets;
+use crate::removal::without_sets;
+use crate::union::union_sets;
+use aadl_syntax::Mem;
+use zdd_store::{Id, Operation, Store};
+
+/// The family of the one set that has this number alone.
+pub fn single(store: &mut Store, var: u32) -> Mem<Id>
+    ensures found { IfOk result (IsIn store.new) }
+    ensures family { IfOk result (λ id. family_of store.new id ≡ (var ∷ []) ∷ []) }
+    ensures kept { Keeps store.old store.new }
+{
+    store.laws();
+    store.make(var, Id::EMPTY, Id::UNIT)
+}
+
+/// Remembers of a family of minimal sets that it is its own family of minimal sets.
+pub(crate) fn note_minimal(store: &mut Store, id: Id) -> Mem<Id>
+    requires found { IsIn store.old id }
+    requires apart { IsAntichain (family_of store.old id) }
+    ensures same { store.new ≡ store.old }
+    ensures id { IfOk result (λ noted. noted ≡ id) }
+{
+    note(store, Operation::Minimal, id, 0, id)?;
+    Ok(id)
+}
+
+/// The minimal sets of the union of any two families.
+fn union_of_minimal(store: &mut Store, a: Id, b: Id) -> Mem<Id>
+    requires a_in { IsIn store.old a }
+    requires b_in { IsIn store.old b }
+    ensures { Answered store.old store.new 0 (IsLeastFamily (either (family_of store.old a) (family_of store.old b))) result }
+{
+    let first = minimal_sets(store, a)?;
+    let second = minimal_sets(store, b)?;
+    let answer = union_sets(store, first, second)?;
+    note_minimal(store, answer)
+}
+
+/// The minimal sets among the unions of a set of the one and a set of the other of any two families.
+fn product_of_minimal(store: &mut Store, a: Id, b: Id) -> Mem<Id>
+    requires a_in { IsIn store.old a }
+    requires b_in { IsIn store.old b }
+    ensures { Answered store.old store.new 0 (IsLeastFamily (both (family_of store.old a) (family_of store.old b))) result }
+{
+    let first = minimal_sets(store, a)?;
+    let second = minimal_sets(store, b)?;
+    let answer = product_sets(store, first, second)?;
+    note_minimal(store, answer)
+}
+
+/// The minimal sets of the union of two families.
+pub fn min_union(store: &mut Store, a: Id, b: Id) -> Mem<Id>
+    requires a_in { IsIn store.old a }
+    requires b_in { IsIn store.old b }
+    ensures found { IfOk result (IsIn store.new) }
+    ensures minimal { IfOk result (λ id. HasMinimalSets (family_of store.new id) (IsInEither (family_of store.old a) (family_of store.old b))) }
+    ensures covers { IfOk result (λ id. IsLeastFamily (either (family_of store.old a) (family_of store.old b)) (family_of store.new id)) }
+    ensures kept { Keeps store.old store.new }
+{
+    store.laws();
+    let answer = union_of_minimal(store, a, b)?;
+    store.laws();
+    Ok(answer)
+}
+
+/// The minimal sets among the unions of a set of the one family and a set of the other.
+pub fn min_product(store: &mut Store, a: Id, b: Id) -> Mem<Id>
+    requires a_in { IsIn store.old a }
+    requires b_in { IsIn store.old b }
+    ensures found { IfOk result (IsIn store.new) }
+    ensures minimal { IfOk result (λ id. HasMinimalSets (family_of store.new id) (IsUnionOfBoth (family_of store.old a) (family_of store.old b))) }
+    ensures covers { IfOk result (λ id. IsLeastFamily (both (family_of store.old a) (family_of store.old b)) (family_of store.new id)) }
+    ensures kept { Keeps store.old store.new }
+{
+    store.laws();
+    let answer = product_of_minimal(store, a, b)?;
+    store.laws();
+    Ok(answer)
+}
+
+/// The sets of the one family that contain no set of the other.
+pub fn without(store: &mut Store, a: Id, b: Id) -> Mem<Id>
+    requires a_in { IsIn store.old a }
+    requires b_in { IsIn store.old b }
+    ensures found { IfOk result (IsIn store.new) }
+    ensures family { IfOk result (λ id. family_of store.new id ≡ sets_without (family_of store.old a) (family_of store.old b)) }
+    ensures kept { Keeps store.old store.new }
+{
+    let answer = without_sets(store, a, b)?;
+    Ok(answer)
+}

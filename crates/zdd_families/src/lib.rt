@@ -1,0 +1,23 @@
+//! The operations on the families of a store of shared diagrams.
+//!
+//! Each operation answers a number of the store whose family is exactly the one that its contract states, as a set of
+//! sets. It remembers its answers in the store, and each number of the store keeps its family, also where memory is
+//! refused. A call goes as deep as there are variables on a path of the diagrams.
+#![tactic(auto)]
+
+mod choice;
+mod families;
+mod memory;
+mod minimal;
+mod product;
+mod removal;
+mod sizes;
+mod split;
+mod union;
+
+pub use choice::at_least;
+pub use families::{min_product, min_union, single, without};
+pub use sizes::{of_size, up_to_size};
+
+#[cfg(test)]
+mod tests;

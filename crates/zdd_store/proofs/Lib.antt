@@ -1,0 +1,5 @@
+pub mod Branches
+pub mod Orders
+pub mod Growing
+pub mod Making
+pub mod Terminals
