@@ -52,7 +52,8 @@ const WELL: Outside<'static> = Outside {
 /// What is wanted: the status, what `out` took, and what `err` took.
 type Wanted<'a> = (Status, &'a [u8], &'a [u8]);
 
-/// Runs the words over one file `a.aadl` of this text, and tests the status and what was written.
+/// Runs the words over a file `a.aadl` of this text and a file `cut.aadl` that ends too early, and tests the status and what
+/// was written.
 fn expect(
     rt: &impl Abort,
     alloc: Global,
@@ -66,8 +67,12 @@ fn expect(
         list.push(word(alloc, text)?)?;
     }
     let entry = (word(alloc, b"a.aadl")?, Vec::from_slice(alloc, text)?);
+    let cut = (
+        word(alloc, b"cut.aadl")?,
+        Vec::from_slice(alloc, b"package p")?,
+    );
     let mut files = MemoryFiles::new(
-        vec![in alloc; entry]?,
+        vec![in alloc; entry, cut]?,
         Vec::from_slice(alloc, outside.reads)?,
     );
     let writes = Vec::from_slice(alloc, outside.writes)?;
@@ -200,7 +205,7 @@ fn refusals(rt: HostRuntime) -> Result<(), Fail> {
     let t1 = b"aadl_fta: T1 UnknownTarget\n".as_slice();
     let not_yet = b"aadl_fta: not yet\n".as_slice();
     let worse = b"root/state:worse".as_slice();
-    let rows: [(&[&[u8]], &[u8], Status, &[u8]); 19] = [
+    let rows: [(&[&[u8]], &[u8], Status, &[u8]); 18] = [
         (
             &[cuts, root, worse, file],
             a.as_slice(),
@@ -256,7 +261,6 @@ fn refusals(rt: HostRuntime) -> Result<(), Fail> {
             Status::NotYet,
             not_yet,
         ),
-        (WORDS, b"", Status::NotYet, not_yet),
         (WORDS, b"package p end p;", Status::NotYet, not_yet),
         (
             WORDS,
@@ -332,31 +336,150 @@ fn many_files(rt: HostRuntime) -> Result<(), Fail> {
     expect(&rt, alloc, words.as_slice(), b"", failing, wanted)
 }
 
+/// A syntax error of the first file.
+fn syntax(at: u32) -> Status {
+    at_byte(Code::Syntax, at)
+}
+
 #[test]
 fn fronts_of_a_text(rt: HostRuntime) -> Result<(), Fail> {
     let alloc = rt.alloc();
     let text = text_of(alloc, STATES, BOTH)?;
     assert_eq!(rt; text.len(), 244);
     for count in 0..=text.len() {
+        let length = count.min(244) as u32;
         let wanted = match count {
-            31..=179 => (
-                at_byte(Code::OpenAnnex, 28),
-                b"".as_slice(),
-                b"aadl_fta: L3 OpenAnnex a.aadl:28\n".as_slice(),
-            ),
-            205..=227 => (
-                at_byte(Code::OpenAnnex, 202),
-                b"".as_slice(),
-                b"aadl_fta: L3 OpenAnnex a.aadl:202\n".as_slice(),
-            ),
-            243 | 244 => (Status::Done, LISTING, b"".as_slice()),
-            _ => (
-                Status::NotYet,
-                b"".as_slice(),
-                b"aadl_fta: not yet\n".as_slice(),
-            ),
+            0 | 3 => syntax(0),
+            9 | 20 | 180 | 237 | 242 => syntax(length),
+            29 | 30 => syntax(28),
+            31..=179 => at_byte(Code::OpenAnnex, 28),
+            203 | 204 => syntax(202),
+            205..=227 => at_byte(Code::OpenAnnex, 202),
+            243 | 244 => Status::Done,
+            // These are syntax errors somewhere.
+            _ => continue,
         };
-        expect(&rt, alloc, WORDS, &text[..count], WELL, wanted)?;
+        let (status, out) = answer_of(alloc, WORDS, &text[..count])?;
+        assert_eq!(rt; status, wanted);
+        let written = if wanted == Status::Done { LISTING } else { b"" };
+        assert_eq!(rt; out.bytes(), written);
+    }
+    for count in 0..text.len().min(243) {
+        if matches!(count, 31..=179 | 205..=227) {
+            continue;
+        }
+        let (status, _) = answer_of(alloc, WORDS, &text[..count])?;
+        let is_syntax = match status {
+            Status::Refused(refusal) => {
+                refusal.code == Code::Syntax && matches!(refusal.place, Place::At { file: 0, .. })
+            }
+            _ => false,
+        };
+        assert!(rt; is_syntax);
+    }
+    Ok(())
+}
+
+/// What the words answer over a file `a.aadl` of this text, and what `out` took.
+fn answer_of(alloc: Global, words: &[&[u8]], text: &[u8]) -> Result<(Status, MemorySink), Fail> {
+    let mut list = Vec::new(alloc);
+    for text in words {
+        list.push(word(alloc, text)?)?;
+    }
+    let entry = (word(alloc, b"a.aadl")?, Vec::from_slice(alloc, text)?);
+    let mut files = MemoryFiles::new(vec![in alloc; entry]?, Vec::new(alloc));
+    let mut out = MemorySink::new(alloc, Vec::new(alloc), 64, 4096)?;
+    let mut err = MemorySink::new(alloc, Vec::new(alloc), 64, 4096)?;
+    let status = run(alloc, list.as_slice(), &mut files, &mut out, &mut err);
+    Ok((status, out))
+}
+
+/// So many parentheses around an event, as the condition of the one transition.
+fn nested(alloc: Global, count: usize) -> Mem<Vec<u8>> {
+    let mut transitions = Vec::from_slice(alloc, b"transitions ok -[")?;
+    for _ in 0..count {
+        transitions.push(b'(')?;
+    }
+    transitions.extend_from_slice(b"e1")?;
+    for _ in 0..count {
+        transitions.push(b')')?;
+    }
+    transitions.extend_from_slice(b"]-> bad;\n")?;
+    text_of(alloc, STATES, transitions.as_slice())
+}
+
+#[test]
+fn grammar(rt: HostRuntime) -> Result<(), Fail> {
+    let alloc = rt.alloc();
+    let cut = text_of(alloc, STATES, b"transitions ok -[e1 and ]-> bad;\n")?;
+    let whole = text_of(alloc, STATES, BOTH)?;
+    let a = whole.as_slice();
+    let mut no_name = Vec::from_slice(alloc, &a[..188.min(a.len())])?;
+    no_name.extend_from_slice(&a[190.min(a.len())..])?;
+    let mut no_end = Vec::from_slice(alloc, &a[..223.min(a.len())])?;
+    no_end.extend_from_slice(&a[224.min(a.len())..])?;
+    let deep = nested(alloc, 64)?;
+    let shallow = nested(alloc, 63)?;
+    let [cuts, root, bad, file] = [b"cuts".as_slice(), b"p::s", b"root/state:bad", b"a.aadl"];
+    let in_second = Status::Refused(Refusal {
+        code: Code::Syntax,
+        place: Place::At { file: 1, at: 9 },
+        limit: 0,
+    });
+    let too_nested = Status::Refused(Refusal {
+        code: Code::TooNested,
+        place: Place::At { file: 0, at: 208 },
+        limit: 64,
+    });
+    let rows: [(&[&[u8]], &[u8], Status, &[u8]); 8] = [
+        (WORDS, b"", syntax(0), b"aadl_fta: S1 Syntax a.aadl:0\n"),
+        (
+            WORDS,
+            cut.as_slice(),
+            syntax(152),
+            b"aadl_fta: S1 Syntax a.aadl:152\n",
+        ),
+        (
+            WORDS,
+            no_name.as_slice(),
+            syntax(189),
+            b"aadl_fta: S1 Syntax a.aadl:189\n",
+        ),
+        (
+            WORDS,
+            no_end.as_slice(),
+            syntax(224),
+            b"aadl_fta: S1 Syntax a.aadl:224\n",
+        ),
+        (
+            WORDS,
+            deep.as_slice(),
+            too_nested,
+            b"aadl_fta: M3 TooNested a.aadl:208 over 64\n",
+        ),
+        // It is read, and not served yet.
+        (
+            WORDS,
+            shallow.as_slice(),
+            Status::NotYet,
+            b"aadl_fta: not yet\n",
+        ),
+        // The grammar comes before the root, and the first file before the second.
+        (
+            &[cuts, b"q::x", bad, file, b"cut.aadl"],
+            a,
+            in_second,
+            b"aadl_fta: S1 Syntax cut.aadl:9\n",
+        ),
+        (
+            &[cuts, root, bad, file, b"cut.aadl"],
+            cut.as_slice(),
+            syntax(152),
+            b"aadl_fta: S1 Syntax a.aadl:152\n",
+        ),
+    ];
+    for (words, text, status, line) in &rows {
+        expect(&rt, alloc, words, text, WELL, (*status, b"", line))?;
     }
     Ok(())
 }

@@ -14,11 +14,14 @@ returns-in_err-find_root c =
     let p = err_from_is_err_and c.from_residual-in_err-find_root.result c.from_residual-in_err-find_root.ensures.1 in
     rw (p.1, p.2) (inr (
       clear_of_form c.args.texts.now form c.in_ok-form.ensures,
-      inr (units_of_form c.args.texts.now form c.in_ok-form.ensures, record {
-        form = form;
-        form_is = c.in_ok-form.ensures;
-        first = inl (first_alone (LacksRoot form root) refusal c.in_err-find_root.ensures (λ other lacks. lacks_root_once form root other refusal lacks c.in_err-find_root.ensures));
-      }),
+      inr (
+        units_of_form c.args.texts.now form c.in_ok-form.ensures,
+        record {
+          form = form;
+          form_is = c.in_ok-form.ensures;
+          first = inl (first_alone (LacksRoot form root) refusal c.in_err-find_root.ensures (λ other lacks. lacks_root_once form root other refusal lacks c.in_err-find_root.ensures));
+        },
+      ),
     ))
 
 pub returns-in_err-target : goal.returns-in_err-target
@@ -32,9 +35,12 @@ returns-in_err-target c =
     let p = err_from_is_err_and c.from_residual-in_err-target.result c.from_residual-in_err-target.ensures.1 in
     rw (p.1, p.2) (inr (
       clear_of_form c.args.texts.now form c.in_ok-form.ensures,
-      inr (units_of_form c.args.texts.now form c.in_ok-form.ensures, record {
-        form = form;
-        form_is = c.in_ok-form.ensures;
-        first = inr (clear_of_root form root c.in_ok-find_root.ensures, first_alone (LacksTarget (system_of form.machine) target) refusal lacks (λ other also. also.1 ∙ sym lacks.1));
-      }),
+      inr (
+        units_of_form c.args.texts.now form c.in_ok-form.ensures,
+        record {
+          form = form;
+          form_is = c.in_ok-form.ensures;
+          first = inr (clear_of_root form root c.in_ok-find_root.ensures, first_alone (LacksTarget (system_of form.machine) target) refusal lacks (λ other also. also.1 ∙ sym lacks.1));
+        },
+      ),
     ))
