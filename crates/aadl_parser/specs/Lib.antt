@@ -1,0 +1,13 @@
+pub mod Words
+pub mod Names
+pub mod Runs
+pub mod Features
+pub mod Subcomponents
+pub mod Connections
+pub mod Annexes
+pub mod Classifiers
+pub mod Aliases
+pub mod Packages
+pub mod Nesting
+pub mod Files
+pub mod Takes

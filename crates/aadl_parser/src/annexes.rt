@@ -1,0 +1,133 @@
+ghost use Rattle.std.specs.Prelude.{◌∷◌, [], codes};
+ghost use Rattle.grammar_rules.specs.Reader.{Gives};
+ghost use Rattle.aadl_parser.specs.Annexes.{raw_body, other_annex, library_body, library_or_none, library_named, library_annex, clause_body, clause_or_none, clause_named, clause_annex};
+
+use crate::runs::in_modes;
+use crate::words::core_name;
+use aadl_syntax::{Emv2Clause, Emv2Library, List, TokenKind};
+use emv2_parser::{clause_inside, library_after};
+use grammar_rules::{ReadError, Reader};
+
+#[tactic(auto, unfolding(crate::specs::Annexes::raw_body))]
+fn raw_body(reader: &mut Reader) -> Result<(), ReadError>
+    ensures { Gives result raw_body reader.old reader.new }
+{
+    reader.kind(TokenKind::AnnexBegin)?;
+    reader.kind(TokenKind::AnnexRaw)?;
+    reader.kind(TokenKind::AnnexEnd)
+}
+
+#[tactic(auto, unfolding(crate::specs::Annexes::other_annex))]
+fn other_annex(reader: &mut Reader) -> Result<(), ReadError>
+    ensures { Gives result other_annex reader.old reader.new }
+{
+    core_name(reader)?;
+    if reader.kind_at(0, TokenKind::AnnexBegin) {
+        return raw_body(reader);
+    }
+    reader.word(b"none")
+}
+
+#[tactic(auto, unfolding(crate::specs::Annexes::library_body))]
+fn library_body(reader: &mut Reader, library: Emv2Library) -> Result<Emv2Library, ReadError>
+    ensures { Gives result (library_body library) reader.old reader.new }
+{
+    reader.kind(TokenKind::AnnexBegin)?;
+    let library = library_after(reader, library)?;
+    reader.kind(TokenKind::AnnexEnd)?;
+    Ok(library)
+}
+
+#[tactic(auto, unfolding(crate::specs::Annexes::library_or_none))]
+fn library_or_none(reader: &mut Reader, library: Emv2Library) -> Result<Emv2Library, ReadError>
+    ensures { Gives result (library_or_none library) reader.old reader.new }
+{
+    if reader.kind_at(0, TokenKind::AnnexBegin) {
+        return library_body(reader, library);
+    }
+    reader.word(b"none")?;
+    Ok(library)
+}
+
+#[tactic(auto, unfolding(crate::specs::Annexes::library_named))]
+fn library_named(reader: &mut Reader, library: Emv2Library) -> Result<Emv2Library, ReadError>
+    ensures { Gives result (library_named library) reader.old reader.new }
+{
+    if reader.word_at(0, b"emv2") {
+        reader.word(b"emv2")?;
+        return library_or_none(reader, library);
+    }
+    other_annex(reader)?;
+    Ok(library)
+}
+
+/// Reads an annex of a package, and gives what it and those before it make.
+#[tactic(auto, unfolding(crate::specs::Annexes::library_annex))]
+pub(crate) fn library_annex(
+    reader: &mut Reader,
+    library: Emv2Library,
+) -> Result<Emv2Library, ReadError>
+    ensures { Gives result (library_annex library) reader.old reader.new }
+{
+    reader.word(b"annex")?;
+    let library = library_named(reader, library)?;
+    reader.sign(b";")?;
+    Ok(library)
+}
+
+#[tactic(auto, unfolding(crate::specs::Annexes::clause_body))]
+fn clause_body(
+    reader: &mut Reader,
+    mut clauses: List<Emv2Clause>,
+) -> Result<List<Emv2Clause>, ReadError>
+    ensures { Gives result (clause_body clauses) reader.old reader.new }
+{
+    reader.kind(TokenKind::AnnexBegin)?;
+    clauses.push(clause_inside(reader)?)?;
+    reader.kind(TokenKind::AnnexEnd)?;
+    Ok(clauses)
+}
+
+#[tactic(auto, unfolding(crate::specs::Annexes::clause_or_none))]
+fn clause_or_none(
+    reader: &mut Reader,
+    clauses: List<Emv2Clause>,
+) -> Result<List<Emv2Clause>, ReadError>
+    ensures { Gives result (clause_or_none clauses) reader.old reader.new }
+{
+    if reader.kind_at(0, TokenKind::AnnexBegin) {
+        return clause_body(reader, clauses);
+    }
+    reader.word(b"none")?;
+    Ok(clauses)
+}
+
+#[tactic(auto, unfolding(crate::specs::Annexes::clause_named))]
+fn clause_named(
+    reader: &mut Reader,
+    clauses: List<Emv2Clause>,
+) -> Result<List<Emv2Clause>, ReadError>
+    ensures { Gives result (clause_named clauses) reader.old reader.new }
+{
+    if reader.word_at(0, b"emv2") {
+        reader.word(b"emv2")?;
+        return clause_or_none(reader, clauses);
+    }
+    other_annex(reader)?;
+    Ok(clauses)
+}
+
+/// Reads an annex of a classifier, and gives its clause after others.
+#[tactic(auto, unfolding(crate::specs::Annexes::clause_annex))]
+pub(crate) fn clause_annex(
+    reader: &mut Reader,
+    clauses: List<Emv2Clause>,
+) -> Result<List<Emv2Clause>, ReadError>
+    ensures { Gives result (clause_annex clauses) reader.old reader.new }
+{
+    reader.word(b"annex")?;
+    let clauses = clause_named(reader, clauses)?;
+    in_modes(reader)?;
+    reader.sign(b";")?;
+    Ok(clauses)
+}

@@ -1,0 +1,330 @@
+ghost use Rattle.std.specs.Prelude.{◌≡◌, [], ◌∷◌, Some, None, codes};
+ghost use Rattle.grammar_rules.specs.Reader.{Gives};
+ghost use Rattle.grammar_rules.specs.Tokens.{is_one_of};
+ghost use Rattle.aadl_parser.specs.Words.{section_words};
+ghost use Rattle.aadl_parser.specs.Classifiers.{features_section, subcomponents_section, connections_section, annex_section, prototypes_at, prototypes, first_place, prototypes_section, required_modes, inner_features, skipped, skipped_part, skipped_section, other_section, section, sections, extension, optional_extension, bare_decl, decl_of, type_end, component_type, implementation_end, implementation, classifier, group_type};
+ghost use Rattle.aadl_parser.specs.Takes.{section-takes};
+
+use crate::annexes::clause_annex;
+use crate::connections::connections_after;
+use crate::features::features_after;
+use crate::names::{Classifier, category, dotted_name, reference};
+use crate::runs::{bindings, past};
+use crate::subcomponents::subcomponents_after;
+use crate::words::{core_name, ending_at, inner_at, inner_word, section_at, skipped_word};
+use aadl_syntax::{Decl, List, Name, Spot};
+use emv2_parser::spot;
+use grammar_rules::{Gathered, ReadError, Reader, ToEnd};
+use std::alloc::Global;
+
+#[tactic(auto, unfolding(crate::specs::Classifiers::features_section))]
+fn features_section(reader: &mut Reader, decl: Decl) -> Result<Decl, ReadError>
+    ensures { Gives result (features_section decl) reader.old reader.new }
+{
+    let features = features_after(reader, decl.features)?;
+    Ok(Decl { features, ..decl })
+}
+
+#[tactic(auto, unfolding(crate::specs::Classifiers::subcomponents_section))]
+fn subcomponents_section(reader: &mut Reader, decl: Decl) -> Result<Decl, ReadError>
+    ensures { Gives result (subcomponents_section decl) reader.old reader.new }
+{
+    let subcomponents = subcomponents_after(reader, decl.subcomponents)?;
+    Ok(Decl {
+        subcomponents,
+        ..decl
+    })
+}
+
+#[tactic(auto, unfolding(crate::specs::Classifiers::connections_section))]
+fn connections_section(reader: &mut Reader, decl: Decl) -> Result<Decl, ReadError>
+    ensures { Gives result (connections_section decl) reader.old reader.new }
+{
+    let connections = connections_after(reader, decl.connections)?;
+    Ok(Decl {
+        connections,
+        ..decl
+    })
+}
+
+#[tactic(auto, unfolding(crate::specs::Classifiers::annex_section))]
+fn annex_section(reader: &mut Reader, decl: Decl) -> Result<Decl, ReadError>
+    ensures { Gives result (annex_section decl) reader.old reader.new }
+{
+    let clauses = clause_annex(reader, decl.clauses)?;
+    Ok(Decl { clauses, ..decl })
+}
+
+#[tactic(auto, unfolding(crate::specs::Classifiers::prototypes_at))]
+fn prototypes_at(reader: &mut Reader, spot: Spot) -> Result<Option<Spot>, ReadError>
+    ensures { Gives result (prototypes_at spot) reader.old reader.new }
+{
+    if reader.word_at(0, b"none") && reader.sign_at(1, b";") && ending_at(reader, 2) {
+        past(reader)?;
+        return Ok(None);
+    }
+    past(reader)?;
+    Ok(Some(spot))
+}
+
+#[tactic(auto, unfolding(crate::specs::Classifiers::prototypes))]
+fn prototypes(reader: &mut Reader) -> Result<Option<Spot>, ReadError>
+    ensures { Gives result prototypes reader.old reader.new }
+{
+    let spot = spot(reader)?;
+    reader.word(b"prototypes")?;
+    prototypes_at(reader, spot)
+}
+
+fn first_place(first: Option<Spot>, later: Option<Spot>) -> Option<Spot>
+    ensures { result ≡ first_place first later }
+{
+    match first {
+        Some(spot) => Some(spot),
+        None => later,
+    }
+}
+
+#[tactic(auto, unfolding(crate::specs::Classifiers::prototypes_section))]
+fn prototypes_section(reader: &mut Reader, decl: Decl) -> Result<Decl, ReadError>
+    ensures { Gives result (prototypes_section decl) reader.old reader.new }
+{
+    let place = prototypes(reader)?;
+    let prototypes = first_place(decl.prototypes, place);
+    Ok(Decl { prototypes, ..decl })
+}
+
+#[tactic(auto, unfolding(crate::specs::Classifiers::required_modes))]
+fn required_modes(reader: &mut Reader) -> Result<(), ReadError>
+    ensures { Gives result required_modes reader.old reader.new }
+{
+    reader.word(b"requires")?;
+    reader.word(b"modes")?;
+    past(reader)
+}
+
+#[tactic(auto, unfolding(crate::specs::Classifiers::inner_features))]
+fn inner_features(reader: &mut Reader) -> Result<(), ReadError>
+    ensures { Gives result inner_features reader.old reader.new }
+{
+    inner_word(reader)?;
+    reader.word(b"features")?;
+    past(reader)
+}
+
+#[tactic(auto, unfolding(crate::specs::Classifiers::skipped))]
+fn skipped(reader: &mut Reader) -> Result<(), ReadError>
+    ensures { Gives result skipped reader.old reader.new }
+{
+    skipped_word(reader)?;
+    past(reader)
+}
+
+#[tactic(auto, unfolding(crate::specs::Classifiers::skipped_part))]
+fn skipped_part(reader: &mut Reader) -> Result<(), ReadError>
+    ensures { Gives result skipped_part reader.old reader.new }
+{
+    if reader.word_at(0, b"requires") {
+        return required_modes(reader);
+    }
+    if inner_at(reader) {
+        return inner_features(reader);
+    }
+    skipped(reader)
+}
+
+#[tactic(auto, unfolding(crate::specs::Classifiers::skipped_section))]
+fn skipped_section(reader: &mut Reader, decl: Decl) -> Result<Decl, ReadError>
+    ensures { Gives result (skipped_section decl) reader.old reader.new }
+{
+    skipped_part(reader)?;
+    Ok(decl)
+}
+
+#[tactic(auto, unfolding(crate::specs::Classifiers::other_section))]
+fn other_section(reader: &mut Reader, decl: Decl) -> Result<Decl, ReadError>
+    ensures { Gives result (other_section decl) reader.old reader.new }
+{
+    if reader.word_at(0, b"annex") {
+        return annex_section(reader, decl);
+    }
+    if reader.word_at(0, b"prototypes") {
+        return prototypes_section(reader, decl);
+    }
+    skipped_section(reader, decl)
+}
+
+#[tactic(auto, unfolding(crate::specs::Classifiers::section))]
+fn section(reader: &mut Reader, decl: Decl) -> Result<Decl, ReadError>
+    ensures { Gives result (section decl) reader.old reader.new }
+{
+    if reader.word_at(0, b"features") {
+        return features_section(reader, decl);
+    }
+    if reader.word_at(0, b"subcomponents") {
+        return subcomponents_section(reader, decl);
+    }
+    if reader.word_at(0, b"connections") {
+        return connections_section(reader, decl);
+    }
+    other_section(reader, decl)
+}
+
+#[tactic(auto, unfolding(crate::specs::Classifiers::sections))]
+fn sections(reader: &mut Reader, decl: Decl) -> Result<Decl, ReadError>
+    ensures { Gives result (sections decl) reader.old reader.new }
+{
+    reader.gather::<ClassifierSections>(decl)
+}
+
+#[tactic(auto, unfolding(crate::specs::Classifiers::extension))]
+fn extension(reader: &mut Reader) -> Result<Classifier, ReadError>
+    ensures { Gives result extension reader.old reader.new }
+{
+    reader.word(b"extends")?;
+    let reference = reference(reader)?;
+    let binds = bindings(reader)?;
+    Ok(Classifier {
+        reference: Some(reference),
+        binds,
+    })
+}
+
+#[tactic(auto, unfolding(crate::specs::Classifiers::optional_extension))]
+fn optional_extension(reader: &mut Reader) -> Result<Classifier, ReadError>
+    ensures { Gives result optional_extension reader.old reader.new }
+{
+    if reader.word_at(0, b"extends") {
+        return extension(reader);
+    }
+    Ok(Classifier {
+        reference: None,
+        binds: None,
+    })
+}
+
+fn bare_decl(
+    alloc: Global,
+    name: Name,
+    item: Option<Name>,
+    spot: Spot,
+    extended: Classifier,
+) -> Decl
+    ensures { result ≡ bare_decl name item spot extended }
+{
+    Decl {
+        name,
+        item,
+        spot,
+        extends: extended.reference,
+        binds: extended.binds,
+        prototypes: None,
+        features: List::new(alloc),
+        subcomponents: List::new(alloc),
+        connections: List::new(alloc),
+        clauses: List::new(alloc),
+    }
+}
+
+#[tactic(auto, unfolding(crate::specs::Classifiers::decl_of))]
+fn decl_of(
+    reader: &mut Reader,
+    name: Name,
+    item: Option<Name>,
+    spot: Spot,
+) -> Result<Decl, ReadError>
+    ensures { Gives result (decl_of name item spot) reader.old reader.new }
+{
+    let extended = optional_extension(reader)?;
+    let bare = bare_decl(reader.alloc(), name, item, spot, extended);
+    sections(reader, bare)
+}
+
+/// Reads the end of what has one name.
+#[tactic(auto, unfolding(crate::specs::Classifiers::type_end))]
+pub(crate) fn type_end(reader: &mut Reader) -> Result<(), ReadError>
+    ensures { Gives result type_end reader.old reader.new }
+{
+    reader.word(b"end")?;
+    core_name(reader)?;
+    reader.sign(b";")
+}
+
+#[tactic(auto, unfolding(crate::specs::Classifiers::component_type))]
+fn component_type(reader: &mut Reader) -> Result<Decl, ReadError>
+    ensures { Gives result component_type reader.old reader.new }
+{
+    let spot = spot(reader)?;
+    let name = core_name(reader)?;
+    let decl = decl_of(reader, name, None, spot)?;
+    type_end(reader)?;
+    Ok(decl)
+}
+
+#[tactic(auto, unfolding(crate::specs::Classifiers::implementation_end))]
+fn implementation_end(reader: &mut Reader) -> Result<(), ReadError>
+    ensures { Gives result implementation_end reader.old reader.new }
+{
+    reader.word(b"end")?;
+    core_name(reader)?;
+    dotted_name(reader)?;
+    reader.sign(b";")
+}
+
+#[tactic(auto, unfolding(crate::specs::Classifiers::implementation))]
+fn implementation(reader: &mut Reader) -> Result<Decl, ReadError>
+    ensures { Gives result implementation reader.old reader.new }
+{
+    reader.word(b"implementation")?;
+    let spot = spot(reader)?;
+    let name = core_name(reader)?;
+    let item = dotted_name(reader)?;
+    let decl = decl_of(reader, name, Some(item), spot)?;
+    implementation_end(reader)?;
+    Ok(decl)
+}
+
+/// Reads a component type or an implementation.
+#[tactic(auto, unfolding(crate::specs::Classifiers::classifier))]
+pub(crate) fn classifier(reader: &mut Reader) -> Result<Decl, ReadError>
+    ensures { Gives result classifier reader.old reader.new }
+{
+    category(reader)?;
+    if reader.word_at(0, b"implementation") {
+        return implementation(reader);
+    }
+    component_type(reader)
+}
+
+/// Goes past a feature group type.
+#[tactic(auto, unfolding(crate::specs::Classifiers::group_type))]
+pub(crate) fn group_type(reader: &mut Reader) -> Result<(), ReadError>
+    ensures { Gives result group_type reader.old reader.new }
+{
+    reader.word(b"feature")?;
+    reader.word(b"group")?;
+    core_name(reader)?;
+    reader.until::<ToEnd>()?;
+    type_end(reader)
+}
+
+// The sections of a classifier.
+pub(crate) struct ClassifierSections;
+
+impl Gathered for ClassifierSections {
+    type Whole = Decl;
+
+    ghost tests = { is_one_of section_words ∷ [] };
+
+    ghost rule = { section };
+
+    fn begins(reader: &mut Reader) -> bool {
+        section_at(reader)
+    }
+
+    fn part(reader: &mut Reader, whole: Decl) -> Result<Decl, ReadError> {
+        section(reader, whole)
+    }
+
+    ghost takes_tokens = { section-takes };
+}

@@ -1,0 +1,210 @@
+ghost use Rattle.std.specs.Prelude.{◌≡◌, ◌<◌, [], ◌∷◌, codes, length, IfOk};
+ghost use Rattle.grammar_rules.specs.Reader.{Gives};
+ghost use Rattle.grammar_rules.specs.Tokens.{is_sign};
+ghost use Rattle.aadl_parser.specs.Words.{is_name};
+ghost use Rattle.aadl_parser.specs.Names.{further_name, names_after, names, two_names, last_name, dotted_name, optional_item, reference, further_names, with_packages, grouped_category, virtual_category, category};
+ghost use Rattle.aadl_parser.specs.Takes.{further_name-takes, further_names-takes, dotted_name-takes};
+
+use crate::words::{category_word, core_name, either_word, name_at, optional_word};
+use aadl_syntax::{List, Mem, Name, Ref, Spot};
+use emv2_parser::spot;
+use grammar_rules::{Parts, ReadError, Reader};
+use std::alloc::Global;
+
+/// The name of a classifier, where one is written, and the `(` of bindings of prototypes after it, where they stand.
+#[derive(Debug, Drop)]
+pub(crate) struct Classifier {
+    pub(crate) reference: Option<Ref>,
+    pub(crate) binds: Option<Spot>,
+}
+
+#[tactic(auto, unfolding(crate::specs::Names::further_name))]
+fn further_name(reader: &mut Reader) -> Result<Name, ReadError>
+    ensures { Gives result further_name reader.old reader.new }
+{
+    reader.sign(b"::")?;
+    core_name(reader)
+}
+
+#[tactic(auto, unfolding(crate::specs::Names::names_after))]
+fn names_after(reader: &mut Reader, names: List<Name>) -> Result<List<Name>, ReadError>
+    ensures { Gives result (names_after names) reader.old reader.new }
+{
+    reader.more_parts::<FurtherNames>(names)
+}
+
+/// Reads identifiers with `::` between them.
+#[tactic(auto, unfolding(crate::specs::Names::names))]
+pub(crate) fn names(reader: &mut Reader) -> Result<List<Name>, ReadError>
+    ensures { Gives result names reader.old reader.new }
+{
+    let mut names = List::new(reader.alloc());
+    names.push(core_name(reader)?)?;
+    names_after(reader, names)
+}
+
+/// Reads two identifiers or more with `::` between them.
+#[tactic(auto, unfolding(crate::specs::Names::two_names))]
+pub(crate) fn two_names(reader: &mut Reader) -> Result<List<Name>, ReadError>
+    ensures { Gives result two_names reader.old reader.new }
+{
+    let mut names = List::new(reader.alloc());
+    names.push(core_name(reader)?)?;
+    names.push(further_name(reader)?)?;
+    names_after(reader, names)
+}
+
+/// A copy of the last of some names.
+pub(crate) fn last_name(alloc: Global, names: &[Name]) -> Mem<Name>
+    ensures { IfOk result (λ name. name ≡ last_name names.now) }
+{
+    if names.is_empty() {
+        return Ok(List::new(alloc));
+    }
+    List::of(Vec::from_slice(alloc, names[names.len() - 1].items())?)
+}
+
+/// Reads an identifier after a dot.
+#[tactic(auto, unfolding(crate::specs::Names::dotted_name))]
+pub(crate) fn dotted_name(reader: &mut Reader) -> Result<Name, ReadError>
+    ensures { Gives result dotted_name reader.old reader.new }
+{
+    reader.sign(b".")?;
+    core_name(reader)
+}
+
+#[tactic(auto, unfolding(crate::specs::Names::optional_item))]
+fn optional_item(reader: &mut Reader) -> Result<Option<Name>, ReadError>
+    ensures { Gives result optional_item reader.old reader.new }
+{
+    if reader.sign_at(0, b".") {
+        return Ok(Some(dotted_name(reader)?));
+    }
+    Ok(None)
+}
+
+/// Reads a reference: names, and perhaps an item after a dot.
+#[tactic(auto, unfolding(crate::specs::Names::reference))]
+pub(crate) fn reference(reader: &mut Reader) -> Result<Ref, ReadError>
+    ensures { Gives result reference reader.old reader.new }
+{
+    let spot = spot(reader)?;
+    let names = names(reader)?;
+    let item = optional_item(reader)?;
+    Ok(Ref { names, item, spot })
+}
+
+#[tactic(auto, unfolding(crate::specs::Names::further_names))]
+fn further_names(reader: &mut Reader) -> Result<List<Name>, ReadError>
+    ensures { Gives result further_names reader.old reader.new }
+{
+    reader.sign(b",")?;
+    names(reader)
+}
+
+/// Reads a `with` clause.
+#[tactic(auto, unfolding(crate::specs::Names::with_packages))]
+pub(crate) fn with_packages(reader: &mut Reader) -> Result<(), ReadError>
+    ensures { Gives result with_packages reader.old reader.new }
+{
+    reader.word(b"with")?;
+    names(reader)?;
+    reader.parts::<FurtherPackages>()?;
+    reader.sign(b";")
+}
+
+#[tactic(auto, unfolding(crate::specs::Names::grouped_category))]
+fn grouped_category(reader: &mut Reader, first: &[u8]) -> Result<(), ReadError>
+    ensures { Gives result (grouped_category first.now) reader.old reader.new }
+{
+    reader.word(first)?;
+    optional_word(reader, b"group")
+}
+
+#[tactic(auto, unfolding(crate::specs::Names::virtual_category))]
+fn virtual_category(reader: &mut Reader) -> Result<(), ReadError>
+    ensures { Gives result virtual_category reader.old reader.new }
+{
+    reader.word(b"virtual")?;
+    either_word(reader, b"processor", b"bus")
+}
+
+/// Reads the category of a component.
+#[tactic(auto, unfolding(crate::specs::Names::category))]
+pub(crate) fn category(reader: &mut Reader) -> Result<(), ReadError>
+    ensures { Gives result category reader.old reader.new }
+{
+    if reader.word_at(0, b"subprogram") {
+        return grouped_category(reader, b"subprogram");
+    }
+    if reader.word_at(0, b"thread") {
+        return grouped_category(reader, b"thread");
+    }
+    if reader.word_at(0, b"virtual") {
+        return virtual_category(reader);
+    }
+    category_word(reader)
+}
+
+// Names after the first.
+pub(crate) struct FurtherNames;
+
+impl Parts for FurtherNames {
+    type Part = Name;
+
+    ghost tests = { is_sign (codes "::") ∷ is_name ∷ [] };
+
+    ghost rule = { further_name };
+
+    fn begins(reader: &mut Reader) -> bool {
+        reader.sign_at(0, b"::") && name_at(reader, 1)
+    }
+
+    fn part(reader: &mut Reader) -> Result<Name, ReadError> {
+        further_name(reader)
+    }
+
+    ghost takes_tokens = { further_name-takes };
+}
+
+// Packages of a `with` clause after the first.
+pub(crate) struct FurtherPackages;
+
+impl Parts for FurtherPackages {
+    type Part = List<Name>;
+
+    ghost tests = { is_sign (codes ",") ∷ [] };
+
+    ghost rule = { further_names };
+
+    fn begins(reader: &mut Reader) -> bool {
+        reader.sign_at(0, b",")
+    }
+
+    fn part(reader: &mut Reader) -> Result<List<Name>, ReadError> {
+        further_names(reader)
+    }
+
+    ghost takes_tokens = { further_names-takes };
+}
+
+// Names after a dot.
+pub(crate) struct DottedNames;
+
+impl Parts for DottedNames {
+    type Part = Name;
+
+    ghost tests = { is_sign (codes ".") ∷ is_name ∷ [] };
+
+    ghost rule = { dotted_name };
+
+    fn begins(reader: &mut Reader) -> bool {
+        reader.sign_at(0, b".") && name_at(reader, 1)
+    }
+
+    fn part(reader: &mut Reader) -> Result<Name, ReadError> {
+        dotted_name(reader)
+    }
+
+    ghost takes_tokens = { dotted_name-takes };
+}

@@ -1,0 +1,102 @@
+ghost use Rattle.std.specs.Prelude.{[], ◌∷◌, codes};
+ghost use Rattle.grammar_rules.specs.Reader.{Gives};
+ghost use Rattle.aadl_parser.specs.Words.{is_name};
+ghost use Rattle.aadl_parser.specs.Subcomponents.{optional_classifier, subcomponent_of, subcomponent, subcomponents_after};
+ghost use Rattle.aadl_parser.specs.Takes.{subcomponent-takes};
+
+use crate::features::refinement;
+use crate::names::{Classifier, category, reference};
+use crate::runs::{array_tail, bindings_place};
+use crate::words::{core_name, name_at};
+use aadl_syntax::{List, Name, Spot, Subcomponent};
+use emv2_parser::spot;
+use grammar_rules::{Parts, ReadError, Reader};
+
+#[tactic(auto, unfolding(crate::specs::Subcomponents::optional_classifier))]
+fn optional_classifier(reader: &mut Reader) -> Result<Classifier, ReadError>
+    ensures { Gives result optional_classifier reader.old reader.new }
+{
+    if name_at(reader, 0) {
+        let reference = reference(reader)?;
+        let binds = bindings_place(reader)?;
+        return Ok(Classifier {
+            reference: Some(reference),
+            binds,
+        });
+    }
+    Ok(Classifier {
+        reference: None,
+        binds: None,
+    })
+}
+
+#[tactic(auto, unfolding(crate::specs::Subcomponents::subcomponent_of))]
+fn subcomponent_of(
+    reader: &mut Reader,
+    name: Name,
+    spot: Spot,
+    refined: bool,
+) -> Result<Subcomponent, ReadError>
+    ensures { Gives result (subcomponent_of name spot refined) reader.old reader.new }
+{
+    category(reader)?;
+    let classifier = optional_classifier(reader)?;
+    let array = array_tail(reader)?;
+    Ok(Subcomponent {
+        name,
+        spot,
+        refined,
+        classifier: classifier.reference,
+        array,
+        binds: classifier.binds,
+    })
+}
+
+#[tactic(auto, unfolding(crate::specs::Subcomponents::subcomponent))]
+fn subcomponent(reader: &mut Reader) -> Result<Subcomponent, ReadError>
+    ensures { Gives result subcomponent reader.old reader.new }
+{
+    let spot = spot(reader)?;
+    let name = core_name(reader)?;
+    reader.sign(b":")?;
+    let refined = refinement(reader)?;
+    subcomponent_of(reader, name, spot, refined)
+}
+
+/// Reads a section of subcomponents, and gives them after others.
+#[tactic(auto, unfolding(crate::specs::Subcomponents::subcomponents_after))]
+pub(crate) fn subcomponents_after(
+    reader: &mut Reader,
+    subcomponents: List<Subcomponent>,
+) -> Result<List<Subcomponent>, ReadError>
+    ensures { Gives result (subcomponents_after subcomponents) reader.old reader.new }
+{
+    reader.word(b"subcomponents")?;
+    if reader.word_at(0, b"none") {
+        reader.word(b"none")?;
+        reader.sign(b";")?;
+        return Ok(subcomponents);
+    }
+    reader.more_parts::<Subcomponents>(subcomponents)
+}
+
+// The subcomponents of a section.
+pub(crate) struct Subcomponents;
+
+impl Parts for Subcomponents {
+    type Part = Subcomponent;
+
+    ghost tests = { is_name ∷ [] };
+
+    ghost rule = { subcomponent };
+
+    fn begins(reader: &mut Reader) -> bool {
+        name_at(reader, 0)
+    }
+
+    fn part(reader: &mut Reader) -> Result<Subcomponent, ReadError> {
+        subcomponent(reader)
+    }
+
+    ghost takes_tokens = { subcomponent-takes };
+}
