@@ -1,6 +1,5 @@
 -- Two readings, one after the other.
-use Rattle.std.proofs.Common.{◌≡◌, ℕ, Result, Ok, sym, ◌∙◌, subst}
-use Rattle.aadl_syntax.specs.declared.token.Token.{Token}
+use Rattle.std.proofs.Common.{Result, Ok, sym, ◌∙◌, subst}
 use Rattle.grammar_rules.specs.declared.reader.ReadError.{ReadError}
 use Rattle.grammar_rules.specs.declared.reader.Reader.{Reader}
 use Rattle.grammar_rules.specs.Rules.{Rule, joins}

@@ -10,7 +10,7 @@ use Rattle.grammar_rules.specs.Rules.{Rule, gives, chooses, ◌>>=◌}
 use Rattle.grammar_rules.specs.Parts.{parts_after}
 use Rattle.grammar_rules.specs.Tokens.{word, sign, one_of, is_word, is_sign, is_one_of}
 use Rattle.emv2_parser.specs.Names.{spot, tail_end}
-use Rattle.aadl_parser.specs.Words.{is_name, begins_end, processor_words, optional_word, either_word}
+use Rattle.aadl_parser.specs.Words.{is_name, begins_end, processor_words}
 use Rattle.aadl_parser.specs.Names.{core_name, dotted_name}
 use Rattle.aadl_parser.specs.Features.{refinement, accessed}
 

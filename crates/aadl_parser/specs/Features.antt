@@ -1,5 +1,5 @@
 -- Features of component types.
-use Rattle.std.specs.Prelude.{ℕ, Bool, true, false, List, [], ◌∷◌, codes}
+use Rattle.std.specs.Prelude.{Bool, true, false, List, [], ◌∷◌, codes}
 use Rattle.aadl_syntax.specs.declared.core_model.Feature.{Feature}
 use Rattle.aadl_syntax.specs.declared.core_model.FeatureKind.{FeatureKind}
 use Rattle.aadl_syntax.specs.declared.core_model.FeatureKind.TheVariants.{Inward, Outward, Both, Access, Group}

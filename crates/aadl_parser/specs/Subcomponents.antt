@@ -1,5 +1,5 @@
 -- Subcomponents of implementations.
-use Rattle.std.specs.Prelude.{ℕ, Bool, List, [], ◌∷◌, Option, Some, None, codes}
+use Rattle.std.specs.Prelude.{ℕ, Bool, List, [], ◌∷◌, Some, None, codes}
 use Rattle.aadl_syntax.specs.declared.place.Spot.{Spot}
 use Rattle.aadl_syntax.specs.declared.core_model.Subcomponent.{Subcomponent}
 use Rattle.aadl_parser.specs.declared.names.Classifier.{Classifier}

@@ -1,7 +1,6 @@
 -- The words of core text, and what begins its parts.
-use Rattle.std.specs.Prelude.{ℕ, Bool, ◌||◌, if◌then◌else◌, List, [], ◌∷◌, Some, None, codes}
-use Rattle.aadl_syntax.specs.declared.token.Token.{Token}
-use Rattle.grammar_rules.specs.Rules.{Test, Rule, gives, takes, chooses}
+use Rattle.std.specs.Prelude.{ℕ, ◌||◌, List, [], ◌∷◌, codes}
+use Rattle.grammar_rules.specs.Rules.{Test, Rule, gives, chooses}
 use Rattle.grammar_rules.specs.Tokens.{word, is_word, is_identifier, is_one_of, passing}
 
 -- the words that the grammar of core text quotes: they are reserved there

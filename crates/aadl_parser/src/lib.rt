@@ -17,3 +17,6 @@ mod text;
 mod words;
 
 pub use text::{one_file, units};
+
+#[cfg(test)]
+mod tests;

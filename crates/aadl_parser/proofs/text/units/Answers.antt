@@ -1,4 +1,4 @@
-use Rattle.std.proofs.Common.{◌≡◌, ℕ, Err, ap, sym, ◌∙◌}
+use Rattle.std.proofs.Common.{ℕ, Err, ap, ◌∙◌}
 use Rattle.aadl_syntax.specs.declared.refusal.Stop.{Stop}
 use Rattle.aadl_syntax.specs.declared.refusal.Stop.TheVariants.{Refused}
 use Rattle.emv2_parser.specs.Grammar.{place_of}
