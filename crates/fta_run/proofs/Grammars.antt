@@ -1,17 +1,16 @@
 -- The units of texts, and the first text that has none.
-use Rattle.std.proofs.Common.{◌≡◌, ◌<◌, ◌≤◌, ℕ, zero, suc, List, [], ◌∷◌, length, get_or, take, Some, slice_get, refl, sym, ap, subst, ◌∙◌, inl, inr, ◌⊎◌, arith}
+use Rattle.std.proofs.Common.{◌≡◌, ◌<◌, ℕ, suc, List, [], ◌∷◌, length, get_or, Some, slice_get, refl, sym, ap, subst, ◌∙◌, inl, inr, ◌⊎◌, arith}
 use Rattle.std.proofs.lemmas.Bool.{cases_lt}
-use Rattle.std.proofs.lemmas.Option.{slice_get_within, slice_get_read, get_or_from_slice_get}
+use Rattle.std.proofs.lemmas.Option.{slice_get_within, get_or_from_slice_get}
 use Rattle.aadl_syntax.specs.declared.token.Token.{Token}
-use Rattle.aadl_syntax.specs.declared.core_model.Unit.{Unit as FileUnit}
 use Rattle.aadl_syntax.specs.declared.refusal.Refusal.{Refusal}
 use Rattle.aadl_syntax.specs.declared.refusal.Stop.{Stop}
 use Rattle.aadl_syntax.specs.declared.refusal.Stop.TheVariants as stop
 use Rattle.aadl_syntax.specs.Order.{IsClear}
 use Rattle.aadl_lexer.specs.Tokens.{Tokens}
 use Rattle.aadl_lexer.proofs.Single.{one_list}
-use Rattle.grammar_rules.specs.Rules.{Dead, Reads}
-use Rattle.emv2_parser.specs.Grammar.{place_of, syntax_error}
+use Rattle.grammar_rules.specs.Rules.{Reads}
+use Rattle.emv2_parser.specs.Grammar.{place_of}
 use Rattle.aadl_parser.specs.Packages.{file_units}
 use Rattle.aadl_parser.specs.Nesting.{IsShallow, NestedAt}
 use Rattle.aadl_parser.specs.Files.{IsSyntaxError, IsTooNested, too_nested}

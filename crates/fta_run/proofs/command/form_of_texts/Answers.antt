@@ -1,6 +1,6 @@
-use Rattle.std.proofs.Common.{sym, subst, inl, inr}
+use Rattle.std.proofs.Common.{sym, subst}
 use Rattle.std.proofs.lemmas.Result.{err_from_is_err_and}
-use Rattle.fta_run.specs.Steps.{AreTokens, IsFormOf}
+use Rattle.fta_run.specs.Steps.{IsFormOf}
 use Rattle.fta_run.proofs.Grammars.{units_end}
 use Rattle.fta_run.proofs.Lacking.{clear_tokens}
 use Rattle.fta_run.proofs.Forms.{form_is, form_of}
