@@ -1,7 +1,6 @@
-use Rattle.std.proofs.Common.{◌≡◌, ◌≤◌, ◌<◌, ◌++◌, ◌∷◌, [], All, length, sym, subst, arith}
+use Rattle.std.proofs.Common.{◌≤◌, All, length, sym, subst, arith}
 use Rattle.std.proofs.lemmas.List.Elements.{All-push, All-weaker}
 use Rattle.zdd_store.specs.Store.{IsIn}
-use Rattle.zdd_store.specs.declared.id.Id.{Id}
 use Rattle.diagram_counts.proofs.families.choose.Goals as goal
 
 pub loop-var-preserved : goal.loop-var-preserved
