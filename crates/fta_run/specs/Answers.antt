@@ -2,12 +2,14 @@
 use Rattle.std.specs.Prelude.{◌≡◌, ◌≤◌, ◌⊎◌, ℕ, List, drop, length, Option, Some, IsSome, slice_get}
 use Rattle.std.specs.List.{AllByRecursion}
 use Rattle.aadl_syntax.specs.declared.name.Root.{Root}
+use Rattle.aadl_syntax.specs.declared.refusal.Code.TheVariants.{TooManyFiles}
 use Rattle.aadl_syntax.specs.declared.refusal.Refusal.{Refusal}
 use Rattle.emv2_parser.specs.Grammar.{syntax_error}
 use Rattle.fta_outside.specs.Outside.{Rose, TookPrefix, with_bytes}
 use Rattle.fta_run.specs.declared.status.Status.{Status}
 use Rattle.fta_run.specs.declared.status.Status.TheVariants.{Done, Usage, Refused, ReadFault, WriteFault, Memory, NotYet}
 use Rattle.fta_run.specs.Words.{IsCuts}
+use Rattle.fta_run.specs.Files.{of_words}
 use Rattle.fta_run.specs.Output.{IsOutput, IsVerdict, IsNotServed}
 
 -- What each file word names is told.
@@ -84,3 +86,10 @@ MayCome due Memory = Unit {0}
 MayCome due (ReadFault file) = Unit {0}
 MayCome due WriteFault = due ≡ Done
 MayCome due status = IsSameStatus due status
+
+-- What may come where more than 64 files are named: that refusal, no command, or want of memory.
+abbrev pub IsManyAnswer : Status → Type 0
+IsManyAnswer (Refused refusal) = refusal ≡ of_words TooManyFiles 64
+IsManyAnswer Usage = Unit {0}
+IsManyAnswer Memory = Unit {0}
+IsManyAnswer _ = ⊥

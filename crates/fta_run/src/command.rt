@@ -5,7 +5,8 @@ ghost use Rattle.fta_outside.specs.Outside.{Rose, TookPrefix, with_bytes};
 ghost use Rattle.fta_run.specs.declared.form.FirstForm.{FirstForm};
 ghost use Rattle.fta_run.specs.Line.{status_line};
 ghost use Rattle.fta_run.specs.Output.{IsAskedOf, IsFirstForm, IsFactNamed, IsListingText, IsOutput, IsRootOf, LacksRoot, LacksTarget, NamesPackage};
-ghost use Rattle.fta_run.specs.Answers.{AllTold, AnswersWords, IsCaused, IsDue, IsJustified, MayCome, Took, TookNothing};
+ghost use Rattle.fta_run.specs.Answers.{AllTold, AnswersWords, IsCaused, IsDue, IsJustified, IsManyAnswer, MayCome, Took, TookNothing};
+ghost use Rattle.fta_run.specs.Words.{IsCuts};
 ghost use Rattle.fta_run.specs.Steps.{IsFormEnd, IsFormOf, IsTextEnd, IsWriteEnd};
 
 use crate::form::FirstForm;
@@ -53,9 +54,10 @@ pub fn run<F: Files, S: Sink, E: Sink>(
     // What is due for the words and the contents comes, unless memory runs out or a fault comes first.
     ensures complete { (due : Status) → IsDue words.now (F.contents files.old) due → MayCome due result }
 
-    // No file is read where there is no command, or where too many are named.
-    ensures no_command { result ≡ Status.Usage → files.new ≡ files.old }
+    // No file is read where there is no command, or where too many are named; too many are refused, whatever the files tell.
+    ensures no_command { ((root : Root) (target : List ℕ) (named : List (List ℕ)) → IsCuts words.now root target named → ⊥) → files.new ≡ files.old }
     ensures too_many { 64 < length (drop 3 words.now) → files.new ≡ files.old }
+    ensures many { 64 < length (drop 3 words.now) → IsManyAnswer result }
 
     // `err` took exactly the line of the status where its count did not rise, and else at most a front of it.
     ensures line { (Rose (E.faults err.old) (E.faults err.new) → ⊥) → E.taken err.new ≡ with_bytes (E.taken err.old) (status_line (drop 3 words.now) result) }
@@ -91,8 +93,9 @@ fn answer<F: Files, S: Sink>(alloc: Global, words: &[Word], files: &mut F, out: 
     ensures output { AllTold words.now (F.contents files.old) → Took (IsOutput words.now (F.contents files.old)) result (S.taken out.old) (S.taken out.new) }
     ensures nothing { TookNothing result (S.taken out.old) (S.taken out.new) }
     ensures faults { IsCaused result words.now (F.faults files.old) (F.faults files.new) (S.faults out.old) (S.faults out.new) }
-    ensures no_command { result ≡ Status.Usage → files.new ≡ files.old }
+    ensures no_command { ((root : Root) (target : List ℕ) (named : List (List ℕ)) → IsCuts words.now root target named → ⊥) → files.new ≡ files.old }
     ensures too_many { 64 < length (drop 3 words.now) → files.new ≡ files.old }
+    ensures many { 64 < length (drop 3 words.now) → IsManyAnswer result }
 {
     let cuts = match command_of(alloc, words) {
         Ok(Some(cuts)) => cuts,

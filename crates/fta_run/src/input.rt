@@ -1,5 +1,6 @@
-ghost use Rattle.std.specs.Prelude.{◌≡◌, ℕ, ◌^◌, ◌<◌, ◌≤◌, List, [], MatchResult, IfOk, IfErr, IfSome, OnOk, ◌⊎◌, All, length, sum_by, take};
+ghost use Rattle.std.specs.Prelude.{◌≡◌, ℕ, ◌^◌, ◌<◌, ◌≤◌, List, [], MatchResult, IfOk, IfErr, IfSome, OnOk, Err, ◌⊎◌, All, length, sum_by, take};
 ghost use Rattle.aadl_syntax.specs.declared.refusal.Refusal.{Refusal};
+ghost use Rattle.aadl_syntax.specs.declared.refusal.Code.TheVariants.{TooManyFiles};
 ghost use Rattle.aadl_syntax.specs.declared.refusal.Stop.TheVariants.{Refused};
 ghost use Rattle.aadl_syntax.specs.Order.{IsFirst, least, nearer};
 ghost use Rattle.aadl_lexer.specs.Tokens.{Tokens};
@@ -34,8 +35,9 @@ pub fn read_texts<F: Files>(
         → MatchResult result (λ read. PassInput read names.now texts) (IsInputEnd names.now texts) }
     ensures short { IfOk result (λ read. All (λ text. length text ≤ 4194304) read) }
     ensures fault { IfErr result (IsReadEnd names.now (F.faults files.old) (F.faults files.new)) }
-    // Nothing is read where too many are named.
+    // Where too many are named, nothing is read, and that is the refusal.
     ensures unread { 64 < length names.now → files.new ≡ files.old }
+    ensures many { 64 < length names.now → result ≡ Err (Status.Refused (of_words TooManyFiles 64)) }
 {
     if names.len() > MOST_FILES {
         return Err(Status::Refused(of_words(Code::TooManyFiles, 64)));

@@ -190,7 +190,13 @@ fn long_texts(rt: HostRuntime) -> Result<(), Fail> {
     let line = b"aadl_fta: M1 FileTooLong a.aadl over 4194304\n".as_slice();
     let wanted = (long(0), b"".as_slice(), line);
     expect(&rt, alloc, WORDS, text.as_slice(), WELL, wanted)?;
-    expect(&rt, alloc, &five, text.as_slice(), WELL, wanted)
+    expect(&rt, alloc, &five, text.as_slice(), WELL, wanted)?;
+
+    // All files are read before a length is tested.
+    let missing = [cuts, root, bad, a, b"b.aadl"];
+    let line = b"aadl_fta: cannot read b.aadl\n".as_slice();
+    let wanted = (Status::ReadFault(1), b"".as_slice(), line);
+    expect(&rt, alloc, &missing, text.as_slice(), WELL, wanted)
 }
 
 #[test]
