@@ -3,7 +3,7 @@ ghost use Rattle.fault_system.specs.Truth.{in_range};
 ghost use Rattle.fault_system.specs.Systems.{IsSystem, NamesDiffer};
 
 use crate::formula::{EventInfo, FactInfo};
-use aadl_syntax::is_same;
+use aadl_syntax::{EventDecl, StateDecl, is_same};
 
 /// What has a name.
 pub trait Named {
@@ -26,6 +26,22 @@ impl Named for FactInfo {
 
 impl Named for EventInfo {
     ghost name_of = { λ event. event.name };
+
+    fn name(&self) -> &[u8] {
+        self.name.items()
+    }
+}
+
+impl Named for EventDecl {
+    ghost name_of = { λ event. event.name };
+
+    fn name(&self) -> &[u8] {
+        self.name.items()
+    }
+}
+
+impl Named for StateDecl {
+    ghost name_of = { λ state. state.name };
 
     fn name(&self) -> &[u8] {
         self.name.items()

@@ -7,9 +7,11 @@ use Rattle.aadl_syntax.specs.declared.refusal.Refusal.{Refusal}
 use Rattle.aadl_syntax.specs.Order.{◌or_else◌}
 use Rattle.fta_run.specs.declared.status.Status.{Status}
 use Rattle.fta_run.specs.declared.status.Status.TheVariants.{Done, Usage, Refused, ReadFault, WriteFault, Memory, NotYet}
-use Rattle.fta_run.specs.Words.{IsCuts}
+use Rattle.fta_run.specs.declared.words.Task.{Task}
+use Rattle.fta_run.specs.Words.{IsCommand}
+use Rattle.fta_run.proofs.Roots.{files_of}
 use Rattle.fta_run.specs.Files.{AreContents, InputRefused, LacksTokens, GrammarRefused}
-use Rattle.fta_run.specs.Output.{FormRefused, IsAsked, IsListingText, IsOutput}
+use Rattle.fta_run.specs.Output.{FormRefused, IsAsked, IsTextFor, IsOutput}
 use Rattle.fta_run.specs.Answers.{AllTold, IsJustified, Took}
 use Rattle.fta_run.specs.Steps.{IsInputEnd, IsReadEnd, IsWriteEnd, PassInput}
 
@@ -25,9 +27,9 @@ told_texts contents (file ∷ files) told =
     told_text (Some text) some = (text, refl)
 
 -- where all files tell their contents, the command is asked of some texts
-pub asked_of : (words : List (List ℕ)) (contents : List ℕ → Option (List ℕ)) (root : Root) (target : List ℕ) (files : List (List ℕ)) → IsCuts words root target files → AllTold words contents → (texts : List (List ℕ)) × IsAsked words contents root target files texts
-asked_of words contents root target files command told =
-    let its = told_texts contents files (subst (λ w. AllTold w contents) command.words_are told) in
+pub asked_of : (words : List (List ℕ)) (contents : List ℕ → Option (List ℕ)) (root : Root) (task : Task) (files : List (List ℕ)) → IsCommand words root task files → AllTold words contents → (texts : List (List ℕ)) × IsAsked words contents root task files texts
+asked_of words contents root task files command told =
+    let its = told_texts contents files (subst (AllByRecursion (λ file. IsSome (contents file))) (files_of words root task files command) told) in
     (its.0, record { command = command; told = its.1 })
 
 more_phases : (files texts : List (List ℕ)) (Later : Refusal → Type 0) (refusal : Refusal) → InputRefused files texts (λ _. ⊥) refusal → InputRefused files texts Later refusal
@@ -44,38 +46,38 @@ more_phases files texts Later refusal h =
     ]
 
 -- a run that ended at the reading
-pub justified_input : (words : List (List ℕ)) (contents : List ℕ → Option (List ℕ)) (root : Root) (target : List ℕ) (files texts : List (List ℕ)) (before after : List ℕ → ℕ) (status : Status) → IsAsked words contents root target files texts → IsReadEnd files before after status → IsInputEnd files texts status → IsJustified words contents status
-justified_input words contents root target files texts before after (Refused refusal) asked end why =
-    record { root = root; target = target; files = files; texts = texts; asked = asked; first = more_phases files texts (LacksTokens texts or_else GrammarRefused texts (FormRefused root target texts)) refusal why }
-justified_input words contents root target files texts before after Done asked end why = tt
-justified_input words contents root target files texts before after Usage asked end why = tt
-justified_input words contents root target files texts before after (ReadFault file) asked end why = tt
-justified_input words contents root target files texts before after WriteFault asked end why = tt
-justified_input words contents root target files texts before after Memory asked end why = tt
-justified_input words contents root target files texts before after NotYet asked end why = absurd end
+pub justified_input : (words : List (List ℕ)) (contents : List ℕ → Option (List ℕ)) (root : Root) (task : Task) (files texts : List (List ℕ)) (before after : List ℕ → ℕ) (status : Status) → IsAsked words contents root task files texts → IsReadEnd files before after status → IsInputEnd files texts status → IsJustified words contents status
+justified_input words contents root task files texts before after (Refused refusal) asked end why =
+    record { root = root; task = task; files = files; texts = texts; asked = asked; first = more_phases files texts (LacksTokens texts or_else GrammarRefused texts (FormRefused root task texts)) refusal why }
+justified_input words contents root task files texts before after Done asked end why = tt
+justified_input words contents root task files texts before after Usage asked end why = tt
+justified_input words contents root task files texts before after (ReadFault file) asked end why = tt
+justified_input words contents root task files texts before after WriteFault asked end why = tt
+justified_input words contents root task files texts before after Memory asked end why = tt
+justified_input words contents root task files texts before after NotYet asked end why = absurd end
 
 -- a run that ended later
-pub justified_later : (words : List (List ℕ)) (contents : List ℕ → Option (List ℕ)) (root : Root) (target : List ℕ) (files texts read : List (List ℕ)) (before after : ℕ) (status : Status) → IsAsked words contents root target files texts → PassInput read files texts → IsWriteEnd root target read before after status → IsJustified words contents status
-justified_later words contents root target files texts read before after (Refused refusal) asked passed end =
-    let later : (LacksTokens texts or_else GrammarRefused texts (FormRefused root target texts)) refusal = subst (λ ts. (LacksTokens ts or_else GrammarRefused ts (FormRefused root target ts)) refusal) passed.whole end in
-    record { root = root; target = target; files = files; texts = texts; asked = asked; first = inr (passed.few, inr (passed.short, inr (passed.not_much, later))) }
-justified_later words contents root target files texts read before after NotYet asked passed end =
-    let its = subst (λ ts. IsWriteEnd root target ts before after NotYet) passed.whole end in
+pub justified_later : (words : List (List ℕ)) (contents : List ℕ → Option (List ℕ)) (root : Root) (task : Task) (files texts read : List (List ℕ)) (before after : ℕ) (status : Status) → IsAsked words contents root task files texts → PassInput read files texts → IsWriteEnd root task read before after status → IsJustified words contents status
+justified_later words contents root task files texts read before after (Refused refusal) asked passed end =
+    let later : (LacksTokens texts or_else GrammarRefused texts (FormRefused root task texts)) refusal = subst (λ ts. (LacksTokens ts or_else GrammarRefused ts (FormRefused root task ts)) refusal) passed.whole end in
+    record { root = root; task = task; files = files; texts = texts; asked = asked; first = inr (passed.few, inr (passed.short, inr (passed.not_much, later))) }
+justified_later words contents root task files texts read before after NotYet asked passed end =
+    let its = subst (λ ts. IsWriteEnd root task ts before after NotYet) passed.whole end in
     record {
       root = root;
-      target = target;
+      task = task;
       files = files;
       texts = texts;
       asked = asked;
       have_tokens = record { few = passed.few; short = passed.short; not_much = passed.not_much; tokens = its.0 };
       have_units = its.1;
-      other = its.2;
+      no_form = its.2;
     }
-justified_later words contents root target files texts read before after Done asked passed end = tt
-justified_later words contents root target files texts read before after Usage asked passed end = tt
-justified_later words contents root target files texts read before after (ReadFault file) asked passed end = tt
-justified_later words contents root target files texts read before after WriteFault asked passed end = tt
-justified_later words contents root target files texts read before after Memory asked passed end = tt
+justified_later words contents root task files texts read before after Done asked passed end = tt
+justified_later words contents root task files texts read before after Usage asked passed end = tt
+justified_later words contents root task files texts read before after (ReadFault file) asked passed end = tt
+justified_later words contents root task files texts read before after WriteFault asked passed end = tt
+justified_later words contents root task files texts read before after Memory asked passed end = tt
 
 -- what a sink took, where the text is known to be of a further sort
 took_as : (P Q : List ℕ → Type 0) → ((text : List ℕ) → P text → Q text) → (status : Status) (before after : Option (List ℕ)) → Took P status before after → Took Q status before after
@@ -88,6 +90,6 @@ took_as P Q f (ReadFault file) before after took = took
 took_as P Q f NotYet before after took = took
 
 -- what was written is the text of the command
-pub wrote_output : (words : List (List ℕ)) (contents : List ℕ → Option (List ℕ)) (root : Root) (target : List ℕ) (files texts read : List (List ℕ)) (status : Status) (before after : Option (List ℕ)) → IsAsked words contents root target files texts → read ≡ texts → Took (IsListingText root target read) status before after → Took (IsOutput words contents) status before after
-wrote_output words contents root target files texts read status before after asked whole took =
-    took_as (IsListingText root target read) (IsOutput words contents) (λ text listing. record { root = root; target = target; files = files; texts = texts; asked = asked; listing = subst (λ ts. IsListingText root target ts text) whole listing }) status before after took
+pub wrote_output : (words : List (List ℕ)) (contents : List ℕ → Option (List ℕ)) (root : Root) (task : Task) (files texts read : List (List ℕ)) (status : Status) (before after : Option (List ℕ)) → IsAsked words contents root task files texts → read ≡ texts → Took (IsTextFor root task read) status before after → Took (IsOutput words contents) status before after
+wrote_output words contents root task files texts read status before after asked whole took =
+    took_as (IsTextFor root task read) (IsOutput words contents) (λ text written. record { root = root; task = task; files = files; texts = texts; asked = asked; written = subst (λ ts. IsTextFor root task ts text) whole written }) status before after took

@@ -1,12 +1,15 @@
 -- The units of texts, and the first text that has none.
-use Rattle.std.proofs.Common.{◌≡◌, ◌<◌, ℕ, suc, List, [], ◌∷◌, length, get_or, Some, slice_get, refl, sym, ap, subst, ◌∙◌, inl, inr, ◌⊎◌, arith}
+use Rattle.std.proofs.Common.{◌≡◌, ◌<◌, ℕ, suc, List, [], ◌∷◌, ◌++◌, length, get_or, Some, slice_get, refl, sym, ap, subst, ◌∙◌, inl, inr, ◌⊎◌, arith}
 use Rattle.std.proofs.lemmas.Bool.{cases_lt}
+use Rattle.std.proofs.lemmas.List.{get_or_append_left}
+use Rattle.std.proofs.Math.Seq.{get_or-append_seam}
 use Rattle.std.proofs.lemmas.Option.{slice_get_within, get_or_from_slice_get}
 use Rattle.aadl_syntax.specs.declared.token.Token.{Token}
 use Rattle.aadl_syntax.specs.declared.refusal.Refusal.{Refusal}
 use Rattle.aadl_syntax.specs.declared.refusal.Stop.{Stop}
 use Rattle.aadl_syntax.specs.declared.refusal.Stop.TheVariants as stop
-use Rattle.aadl_syntax.specs.Order.{IsClear}
+use Rattle.aadl_syntax.specs.declared.core_model.Unit.{Unit as FileUnit}
+use Rattle.aadl_syntax.specs.Order.{IsClear, IsFirst}
 use Rattle.aadl_lexer.specs.Tokens.{Tokens}
 use Rattle.aadl_lexer.proofs.Single.{one_list}
 use Rattle.grammar_rules.specs.Rules.{Reads}
@@ -14,14 +17,24 @@ use Rattle.emv2_parser.specs.Grammar.{place_of}
 use Rattle.aadl_parser.specs.Packages.{file_units}
 use Rattle.aadl_parser.specs.Nesting.{IsShallow, NestedAt}
 use Rattle.aadl_parser.specs.Files.{IsSyntaxError, IsTooNested, too_nested}
-use Rattle.fta_run.specs.Files.{GrammarRefused, HasUnits, HaveUnits, LacksTokens, LacksUnits}
+use Rattle.fta_run.specs.Files.{AreUnits, GrammarRefused, HasUnits, HaveUnits, LacksTokens, LacksUnits}
 use Rattle.fta_run.specs.Answers.{IsSameRefusal}
-use Rattle.fta_run.specs.Steps.{IsTextEnd}
+use Rattle.fta_run.specs.Steps.{HaveTheseUnits, IsTextEnd}
 use Rattle.fta_run.specs.Stopped.{status_of}
 
--- the text of the file of this number, where it is the next one
-pub next_units : (texts : List (List ℕ)) (file : ℕ) (text : List ℕ) → text ≡ get_or texts file text → HasUnits file text → (other : List ℕ) → slice_get texts file ≡ Some other → HasUnits file other
-next_units texts file text is has other there = subst (HasUnits file) (is ∙ get_or_from_slice_get texts file other text there) has
+-- the units of one more text
+pub more_units : (texts : List (List ℕ)) (files : List (List FileUnit)) (file : ℕ) (text : List ℕ) (units : List FileUnit) → length files ≡ file → file < length texts → text ≡ get_or texts file text → AreUnits file text units
+    → ((k : ℕ) → k < file → (t : List ℕ) → slice_get texts k ≡ Some t → AreUnits k t (get_or files k []))
+    → (k : ℕ) → k < suc file → (t : List ℕ) → slice_get texts k ≡ Some t → AreUnits k t (get_or (files ++ units ∷ []) k [])
+more_units texts files file text units count within is found before k below t there =
+    elim (cases_lt k file) [
+      | inl earlier ↦ subst (AreUnits k t) (sym (get_or_append_left files (units ∷ []) [] k (omega (arith, count, earlier)))) (before k earlier t there)
+      | inr not_earlier ↦
+          let here : k ≡ file = omega arith in
+          let same : text ≡ t = is ∙ ap (λ n. get_or texts n text) (sym here) ∙ get_or_from_slice_get texts k t text there in
+          let last : get_or (files ++ units ∷ []) k [] ≡ units = ap (λ n. get_or (files ++ units ∷ []) n []) (here ∙ sym count) ∙ get_or-append_seam files units [] [] in
+          subst (AreUnits k t) (sym last) (subst (λ n. AreUnits n t units) (sym here) (subst (λ x. AreUnits file x units) same found))
+    ]
 
 -- one text that has units
 pub single_units : (text : List ℕ) → HasUnits 0 text → HaveUnits (text ∷ [])
@@ -34,12 +47,12 @@ single_units text has file other there =
 -- a text that has units is not nested too deep and has no syntax error
 not_stopped : (file : ℕ) (text : List ℕ) (tokens : List Token) (end : ℕ) (refusal : Refusal) → HasUnits file text → Tokens text tokens → IsTooNested file tokens end refusal ⊎ IsSyntaxError file tokens end refusal → ⊥
 not_stopped file text tokens end refusal has its stops =
-    let same : has.tokens ≡ tokens = one_list text has.tokens tokens has.tokens_are its in
-    let shallow = subst IsShallow same has.shallow in
-    let reads = subst (λ ts. Reads file file_units ts has.units []) same has.reads in
+    let same : has.1.tokens ≡ tokens = one_list text has.1.tokens tokens has.1.tokens_are its in
+    let shallow = subst IsShallow same has.1.shallow in
+    let reads = subst (λ ts. Reads file file_units ts has.0 []) same has.1.reads in
     elim stops [
       | inl nested ↦ let over = nested.1.over in let at_most = shallow (suc nested.0) (omega (arith, nested.1.within)) in absurd (omega (arith, over, at_most))
-      | inr wrong ↦ wrong.3 tokens (λ k below. refl) has.units reads
+      | inr wrong ↦ wrong.3 tokens (λ k below. refl) has.0 reads
     ]
 
 -- where a text lacks units, not all texts have them
@@ -99,3 +112,12 @@ grammar_once texts Later once a b h k =
 pub units_end : (texts : List (List ℕ)) (why : Stop) → IsClear (LacksTokens texts) → ((refusal : Refusal) → why ≡ stop.Refused refusal → LacksUnits texts refusal) → IsTextEnd texts (status_of why)
 units_end texts (stop.Refused refusal) clear lacks = inr (clear, lacks refusal refl)
 units_end texts stop.Memory clear lacks = tt
+
+-- and where it stops at their tokens
+pub tokens_end : (texts : List (List ℕ)) (why : Stop) → ((refusal : Refusal) → why ≡ stop.Refused refusal → IsFirst (LacksTokens texts) refusal) → IsTextEnd texts (status_of why)
+tokens_end texts (stop.Refused refusal) lacks = inl (lacks refusal refl)
+tokens_end texts stop.Memory lacks = tt
+
+-- texts of which these are the units have units
+pub have_units : (texts : List (List ℕ)) (files : List (List FileUnit)) → HaveTheseUnits texts files → HaveUnits texts
+have_units texts files these file text there = (get_or files file [], these.each file text there)

@@ -1,9 +1,5 @@
 mod Identifiers
 mod Lines
-mod MadeSystem
-mod NameLists
-mod NamesIn
-mod Room
 mod Roots
 mod Writes
 mod Inputs

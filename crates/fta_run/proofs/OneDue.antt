@@ -9,28 +9,24 @@ use Rattle.aadl_syntax.specs.declared.name.Root.{Root}
 use Rattle.aadl_syntax.specs.declared.refusal.Refusal.{Refusal}
 use Rattle.aadl_syntax.specs.Order.{IsClear, IsFirst, ◌or_else◌}
 use Rattle.aadl_syntax.proofs.OrderLaws.{first_once, or_else_once}
-use Rattle.aadl_lexer.specs.Tokens.{Tokens}
-use Rattle.aadl_lexer.proofs.Single.{one_list}
-use Rattle.grammar_rules.specs.Rules.{Reads}
-use Rattle.grammar_rules.proofs.Texts.{reads_once}
 use Rattle.fault_system.specs.Systems.{System, IsSystem, NamesDiffer}
 use Rattle.fault_system.specs.Listings.{IsListing}
 use Rattle.fault_system.proofs.Elements.{In-contains, contains_In}
 use Rattle.fault_system.proofs.Orders.{one_order}
-use Rattle.fta_run.specs.declared.form.FirstForm.{FirstForm}
+use Rattle.first_form.specs.Meaning.{system_of}
+use Rattle.first_form.proofs.MadeSystem.{system_is_one}
+use Rattle.fta_run.specs.declared.words.Task.{Task}
+use Rattle.fta_run.specs.declared.words.Task.TheVariants.{Check, Cuts}
 use Rattle.fta_run.specs.declared.status.Status.{Status}
 use Rattle.fta_run.specs.declared.status.Status.TheVariants.{Done, Usage, Refused, ReadFault, WriteFault, Memory, NotYet}
-use Rattle.fta_run.specs.Productions.{first_form}
-use Rattle.fta_run.specs.Meaning.{system_of}
 use Rattle.fta_run.specs.Files.{AreContents, HasTooLong, HasTooMuch, InputRefused, LacksTokens, NamesTooMany, too_long_from, GrammarRefused, HaveUnits}
 use Rattle.fta_run.proofs.Grammars.{grammar_once, lacks_or_have}
-use Rattle.fta_run.specs.Output.{FormRefused, IsAsked, IsAskedOf, IsFactNamed, IsFirstForm, IsListingText, IsNotServed, IsOutput, IsVerdict, LacksRoot, LacksTarget}
+use Rattle.fta_run.specs.Output.{FormRefused, HaveForm, IsAsked, IsFactNamed, IsNotServed, IsOutput, IsSystemAt, IsTaskText, IsTextFor, IsVerdict, LacksRoot, LacksTarget}
 use Rattle.fta_run.specs.Answers.{AllTold, IsSameRefusal, IsSameStatus, AnswersWords, IsDue, IsJustified, MayCome, Took}
 use Rattle.fta_run.specs.Text.{listing_text}
-use Rattle.fta_run.proofs.Forms.{clear_of_form, clear_of_root, units_of_form}
+use Rattle.fta_run.proofs.Forms.{clear_of_form, clear_of_root, one_form_of, units_of_form}
 use Rattle.fta_run.proofs.Inputs.{from_short}
-use Rattle.fta_run.proofs.MadeSystem.{system_is_one}
-use Rattle.fta_run.proofs.Roots.{one_command}
+use Rattle.fta_run.proofs.Roots.{files_of, one_command}
 
 -- ---- what is asked
 
@@ -44,31 +40,24 @@ some_same (x ∷ xs) (y ∷ ys) same =
     ap (λ z. z ∷ xs) head ∙ ap (λ zs. y ∷ zs) (some_same xs ys tail)
 
 -- the words and the contents ask one thing
-pub record IsSame (r : Root) (t : List ℕ) (fs ts : List (List ℕ)) (root : Root) (target : List ℕ) (files texts : List (List ℕ)) : Type 0 where
+pub record IsSame (r : Root) (t : Task) (fs ts : List (List ℕ)) (root : Root) (task : Task) (files texts : List (List ℕ)) : Type 0 where
   pub roots : r ≡ root
-  pub targets : t ≡ target
+  pub tasks : t ≡ task
   pub same_files : fs ≡ files
   pub same_texts : ts ≡ texts
 
-asked_once : (words : List (List ℕ)) (contents : List ℕ → Option (List ℕ)) (r : Root) (t : List ℕ) (fs ts : List (List ℕ)) (root : Root) (target : List ℕ) (files texts : List (List ℕ)) → IsAsked words contents r t fs ts → IsAsked words contents root target files texts → IsSame r t fs ts root target files texts
-asked_once words contents r t fs ts root target files texts h k =
-    let command = one_command words r root t target fs files h.command k.command in
+asked_once : (words : List (List ℕ)) (contents : List ℕ → Option (List ℕ)) (r : Root) (t : Task) (fs ts : List (List ℕ)) (root : Root) (task : Task) (files texts : List (List ℕ)) → IsAsked words contents r t fs ts → IsAsked words contents root task files texts → IsSame r t fs ts root task files texts
+asked_once words contents r t fs ts root task files texts h k =
+    let command = one_command words r root t task fs files h.command k.command in
     let same_files : fs ≡ files = command.2 in
     record {
       roots = command.0;
-      targets = command.1;
+      tasks = command.1;
       same_files = same_files;
       same_texts = some_same ts texts (sym h.told ∙ ap (map contents) same_files ∙ k.told);
     }
 
--- ---- one form, one text
-
-one_form : (texts : List (List ℕ)) (a b : FirstForm) → IsFirstForm texts a → IsFirstForm texts b → a ≡ b
-one_form texts a b h k =
-    let both : h.text ∷ [] ≡ k.text ∷ [] = sym h.one ∙ k.one in
-    let text : h.text ≡ k.text = cc (both) in
-    let same = one_list h.text h.tokens k.tokens h.tokens_are (subst (λ t. Tokens t k.tokens) (sym text) k.tokens_are) in
-    (reads_once 0 first_form k.tokens a b [] [] (subst (λ ts. Reads 0 first_form ts a []) same h.reads) k.reads).0
+-- ---- one text
 
 -- two places of one name are one, where names differ
 apart : (names : List (List ℕ)) (m n : ℕ) (name : List ℕ) → NamesDiffer names → get_or names m [] ≡ name → get_or names n [] ≡ name → m < n → n < length names → ⊥
@@ -99,36 +88,52 @@ one_listing system target a b one other =
     one_order a b one.ordered other.ordered (λ set i. In-contains set b ((other.exact set).1 ((one.exact set).0 (contains_In set a i))))
     (λ set i. In-contains set a ((one.exact set).1 ((other.exact set).0 (contains_In set b i))))
 
--- the root and the target on these texts give one text
-one_text : (root : Root) (target : List ℕ) (texts : List (List ℕ)) (a b : List ℕ) → IsListingText root target texts a → IsListingText root target texts b → a ≡ b
-one_text root target texts a b h k =
-    let form : h.asked.form ≡ k.asked.form = one_form texts h.asked.form k.asked.form h.asked.form_is k.asked.form_is in
-    let system : h.system ≡ k.system = h.asked.system_is ∙ ap (λ f. system_of f.machine) form ∙ sym k.asked.system_is in
-    let right : IsSystem k.system = subst IsSystem (sym k.asked.system_is) (system_is_one k.asked.form.machine k.asked.form_is.served.right) in
-    let number : h.number ≡ k.number = one_number k.system h.number k.number target right.facts_named (subst (λ s. IsFactNamed s h.number target) system h.asked.number_is) k.asked.number_is in
-    let sets : h.sets ≡ k.sets = one_listing k.system k.number h.sets k.sets (subst (λ n. IsListing k.system n None h.sets) number (subst (λ s. IsListing s h.number None h.sets) system h.sets_are)) k.sets_are in
-    h.text_is ∙ ap (λ s. listing_text s h.sets) system ∙ ap (listing_text k.system) sets ∙ sym k.text_is
+-- a task on a system that is one has one text
+task_text : (system : System) (task : Task) (a b : List ℕ) → IsSystem system → IsTaskText task system a → IsTaskText task system b → a ≡ b
+task_text system Check a b right h k = h ∙ sym k
+task_text system (Cuts target) a b right h k =
+    let number : h.number ≡ k.number = one_number system h.number k.number target right.facts_named h.number_is k.number_is in
+    let sets : h.sets ≡ k.sets = one_listing system k.number h.sets k.sets (subst (λ n. IsListing system n None h.sets) number h.sets_are) k.sets_are in
+    h.text_is ∙ ap (listing_text system) sets ∙ sym k.text_is
+
+-- texts have one system at a root, which is one
+one_system : (root : Root) (texts : List (List ℕ)) (a b : System) → IsSystemAt root texts a → IsSystemAt root texts b → a ≡ b
+one_system root texts a b h k =
+    let form = one_form_of texts h.package_name k.package_name h.machine k.machine h.classifier k.classifier h.form k.form in
+    h.system_is ∙ ap system_of form.1 ∙ sym k.system_is
+
+system_at_is_one : (root : Root) (texts : List (List ℕ)) (system : System) → IsSystemAt root texts system → IsSystem system
+system_at_is_one root texts system at = subst IsSystem (sym at.system_is) (system_is_one at.machine at.form.form.right)
+
+-- the root and the task on these texts give one text
+one_text : (root : Root) (task : Task) (texts : List (List ℕ)) (a b : List ℕ) → IsTextFor root task texts a → IsTextFor root task texts b → a ≡ b
+one_text root task texts a b h k =
+    let system : h.0 ≡ k.0 = one_system root texts h.0 k.0 h.1 k.1 in
+    task_text k.0 task a b (system_at_is_one root texts k.0 k.1) (subst (λ s. IsTaskText task s a) system h.2) k.2
 
 -- the words and the contents give one text
 pub one_output : (words : List (List ℕ)) (contents : List ℕ → Option (List ℕ)) (a b : List ℕ) → IsOutput words contents a → IsOutput words contents b → a ≡ b
 one_output words contents a b h k =
-    let same = asked_once words contents h.root h.target h.files h.texts k.root k.target k.files k.texts h.asked k.asked in
-    one_text k.root k.target k.texts a b (subst (λ ts. IsListingText k.root k.target ts a) same.same_texts (subst (λ t. IsListingText k.root t h.texts a) same.targets (subst (λ r. IsListingText r h.target h.texts a) same.roots h.listing))) k.listing
+    let same = asked_once words contents h.root h.task h.files h.texts k.root k.task k.files k.texts h.asked k.asked in
+    one_text k.root k.task k.texts a b (subst (λ ts. IsTextFor k.root k.task ts a) same.same_texts (subst (λ t. IsTextFor k.root t h.texts a) same.tasks (subst (λ r. IsTextFor r h.task h.texts a) same.roots h.written))) k.written
 
 -- ---- one verdict
 
 -- the phases of a command
-abbrev Phases : Root → List ℕ → List (List ℕ) → List (List ℕ) → Refusal → Type 0
-Phases root target files texts = InputRefused files texts (LacksTokens texts or_else GrammarRefused texts (FormRefused root target texts))
+abbrev Phases : Root → Task → List (List ℕ) → List (List ℕ) → Refusal → Type 0
+Phases root task files texts = InputRefused files texts (LacksTokens texts or_else GrammarRefused texts (FormRefused root task texts))
 
-moved : (r : Root) (t : List ℕ) (fs ts : List (List ℕ)) (root : Root) (target : List ℕ) (files texts : List (List ℕ)) (refusal : Refusal) → IsSame r t fs ts root target files texts → Phases r t fs ts refusal → Phases root target files texts refusal
-moved r t fs ts root target files texts refusal same h =
-    subst (λ x. Phases root target files x refusal) same.same_texts (subst (λ x. Phases root target x ts refusal) same.same_files (subst (λ x. Phases root x fs ts refusal) same.targets (subst (λ x. Phases x t fs ts refusal) same.roots h)))
+moved : (r : Root) (t : Task) (fs ts : List (List ℕ)) (root : Root) (task : Task) (files texts : List (List ℕ)) (refusal : Refusal) → IsSame r t fs ts root task files texts → Phases r t fs ts refusal → Phases root task files texts refusal
+moved r t fs ts root task files texts refusal same h =
+    subst (λ x. Phases root task files x refusal) same.same_texts (subst (λ x. Phases root task x ts refusal) same.same_files (subst (λ x. Phases root x fs ts refusal) same.tasks (subst (λ x. Phases x t fs ts refusal) same.roots h)))
 
-form_refused_once : (root : Root) (target : List ℕ) (texts : List (List ℕ)) (a b : Refusal) → FormRefused root target texts a → FormRefused root target texts b → a ≡ b
-form_refused_once root target texts a b h k =
-    let form : h.form ≡ k.form = one_form texts h.form k.form h.form_is k.form_is in
-    or_else_once (LacksRoot k.form root) (IsFirst (LacksTarget (system_of k.form.machine) target)) (first_once (LacksTarget (system_of k.form.machine) target)) a b (subst (λ f. (LacksRoot f root or_else IsFirst (LacksTarget (system_of f.machine) target)) a) form h.first) k.first
+form_refused_once : (root : Root) (task : Task) (texts : List (List ℕ)) (a b : Refusal) → FormRefused root task texts a → FormRefused root task texts b → a ≡ b
+form_refused_once root task texts a b h k =
+    let form = one_form_of texts h.package_name k.package_name h.machine k.machine h.classifier k.classifier h.form k.form in
+    let names = subst (λ p. (LacksRoot p h.classifier.name root or_else IsFirst (LacksTarget (system_of h.machine) task)) a) form.0 h.first in
+    let machines = subst (λ m. (LacksRoot k.package_name h.classifier.name root or_else IsFirst (LacksTarget (system_of m) task)) a) form.1 names in
+    let first = subst (λ c. (LacksRoot k.package_name c.name root or_else IsFirst (LacksTarget (system_of k.machine) task)) a) form.2 machines in
+    or_else_once (LacksRoot k.package_name k.classifier.name root) (IsFirst (LacksTarget (system_of k.machine) task)) (first_once (LacksTarget (system_of k.machine) task)) a b first k.first
 
 -- two refusals of phases are the same, where those of the later ones are
 same_or_else : (Earlier Later : Refusal → Type 0) → ((a b : Refusal) → Later a → Later b → IsSameRefusal a b) → (a b : Refusal) → (Earlier or_else Later) a → (Earlier or_else Later) b → IsSameRefusal a b
@@ -138,17 +143,17 @@ same_or_else Earlier Later once a b h k =
       | inr later ↦ elim k [ inl other ↦ absurd (later.0 b other.stands) | inr also ↦ once a b later.1 also.1 ]
     ]
 
-phases_once : (root : Root) (target : List ℕ) (files texts : List (List ℕ)) (a b : Refusal) → Phases root target files texts a → Phases root target files texts b → IsSameRefusal a b
-phases_once root target files texts =
-    let form_phases = FormRefused root target texts in
+phases_once : (root : Root) (task : Task) (files texts : List (List ℕ)) (a b : Refusal) → Phases root task files texts a → Phases root task files texts b → IsSameRefusal a b
+phases_once root task files texts =
+    let form_phases = FormRefused root task texts in
     let text_phases = LacksTokens texts or_else GrammarRefused texts form_phases in
     let length_phases = HasTooMuch texts or_else text_phases in
-    same_or_else (NamesTooMany files) (HasTooLong texts or_else length_phases) (same_or_else (HasTooLong texts) length_phases (same_or_else (HasTooMuch texts) text_phases (same_or_else (LacksTokens texts) (GrammarRefused texts form_phases) (grammar_once texts form_phases (λ a b h k. inl (form_refused_once root target texts a b h k))))))
+    same_or_else (NamesTooMany files) (HasTooLong texts or_else length_phases) (same_or_else (HasTooLong texts) length_phases (same_or_else (HasTooMuch texts) text_phases (same_or_else (LacksTokens texts) (GrammarRefused texts form_phases) (grammar_once texts form_phases (λ a b h k. inl (form_refused_once root task texts a b h k))))))
 
 pub one_verdict : (words : List (List ℕ)) (contents : List ℕ → Option (List ℕ)) (a b : Refusal) → IsVerdict words contents a → IsVerdict words contents b → IsSameRefusal a b
 one_verdict words contents a b h k =
-    let same = asked_once words contents h.root h.target h.files h.texts k.root k.target k.files k.texts h.asked k.asked in
-    phases_once k.root k.target k.files k.texts a b (moved h.root h.target h.files h.texts k.root k.target k.files k.texts a same h.first) k.first
+    let same = asked_once words contents h.root h.task h.files h.texts k.root k.task k.files k.texts h.asked k.asked in
+    phases_once k.root k.task k.files k.texts a b (moved h.root h.task h.files h.texts k.root k.task k.files k.texts a same h.first) k.first
 
 -- ---- where there is a text, or what is not served, there is no verdict
 
@@ -159,63 +164,73 @@ none_of_grammar : (texts : List (List ℕ)) (Later : Refusal → Type 0) (refusa
 none_of_grammar texts Later refusal have none h = elim h [ inl lacks ↦ lacks_or_have texts refusal lacks have | inr later ↦ none later.1 ]
 
 -- no phase refuses where none of the earlier ones does and the text is not refused either
-passes : (root : Root) (target : List ℕ) (files texts : List (List ℕ)) (refusal : Refusal) → IsClear (NamesTooMany files) → IsClear (HasTooLong texts) → IsClear (HasTooMuch texts) → IsClear (LacksTokens texts) → HaveUnits texts → (FormRefused root target texts refusal → ⊥) → Phases root target files texts refusal → ⊥
-passes root target files texts refusal few short little tokens have form =
-    let grammar_phases = GrammarRefused texts (FormRefused root target texts) in
+passes : (root : Root) (task : Task) (files texts : List (List ℕ)) (refusal : Refusal) → IsClear (NamesTooMany files) → IsClear (HasTooLong texts) → IsClear (HasTooMuch texts) → IsClear (LacksTokens texts) → HaveUnits texts → (FormRefused root task texts refusal → ⊥) → Phases root task files texts refusal → ⊥
+passes root task files texts refusal few short little tokens have form =
+    let grammar_phases = GrammarRefused texts (FormRefused root task texts) in
     let text_phases = LacksTokens texts or_else grammar_phases in
     let length_phases = HasTooMuch texts or_else text_phases in
-    none_of (NamesTooMany files) (HasTooLong texts or_else length_phases) refusal few (none_of (HasTooLong texts) length_phases refusal short (none_of (HasTooMuch texts) text_phases refusal little (none_of (LacksTokens texts) grammar_phases refusal tokens (none_of_grammar texts (FormRefused root target texts) refusal have form))))
+    none_of (NamesTooMany files) (HasTooLong texts or_else length_phases) refusal few (none_of (HasTooLong texts) length_phases refusal short (none_of (HasTooMuch texts) text_phases refusal little (none_of (LacksTokens texts) grammar_phases refusal tokens (none_of_grammar texts (FormRefused root task texts) refusal have form))))
 
-not_refused : (root : Root) (target : List ℕ) (texts : List (List ℕ)) (system : System) (number : ℕ) (refusal : Refusal) → IsAskedOf root target texts system number → FormRefused root target texts refusal → ⊥
-not_refused root target texts system number refusal asked refused =
-    let form : refused.form ≡ asked.form = one_form texts refused.form asked.form refused.form_is asked.form_is in
-    let first = subst (λ f. (LacksRoot f root or_else IsFirst (LacksTarget (system_of f.machine) target)) refusal) form refused.first in
-    none_of (LacksRoot asked.form root) (IsFirst (LacksTarget (system_of asked.form.machine) target)) refusal (clear_of_root asked.form root asked.root_is) (λ last. last.stands.0 number (subst (λ s. IsFactNamed s number target) asked.system_is asked.number_is)) first
+-- a target of which there is a text is there
+has_target : (system : System) (task : Task) (text : List ℕ) (refusal : Refusal) → IsTaskText task system text → LacksTarget system task refusal → ⊥
+has_target system Check text refusal written lacks = lacks
+has_target system (Cuts target) text refusal written lacks = lacks.0 written.number written.number_is
+
+not_refused : (root : Root) (task : Task) (texts : List (List ℕ)) (text : List ℕ) (refusal : Refusal) → IsTextFor root task texts text → FormRefused root task texts refusal → ⊥
+not_refused root task texts text refusal written refused =
+    let at = written.1 in
+    let form = one_form_of texts refused.package_name at.package_name refused.machine at.machine refused.classifier at.classifier refused.form at.form in
+    let names = subst (λ p. (LacksRoot p refused.classifier.name root or_else IsFirst (LacksTarget (system_of refused.machine) task)) refusal) form.0 refused.first in
+    let machines = subst (λ m. (LacksRoot at.package_name refused.classifier.name root or_else IsFirst (LacksTarget (system_of m) task)) refusal) form.1 names in
+    let first = subst (λ c. (LacksRoot at.package_name c.name root or_else IsFirst (LacksTarget (system_of at.machine) task)) refusal) form.2 machines in
+    none_of (LacksRoot at.package_name at.classifier.name root) (IsFirst (LacksTarget (system_of at.machine) task)) refusal (clear_of_root at.package_name at.classifier.name root at.root_is)
+    (λ last. has_target written.0 task text refusal written.2 (subst (λ s. LacksTarget s task refusal) (sym at.system_is) last.stands)) first
 
 verdict_or_output : (words : List (List ℕ)) (contents : List ℕ → Option (List ℕ)) (refusal : Refusal) (text : List ℕ) → IsVerdict words contents refusal → IsOutput words contents text → ⊥
 verdict_or_output words contents refusal text h k =
-    let same = asked_once words contents h.root h.target h.files h.texts k.root k.target k.files k.texts h.asked k.asked in
-    let asked = k.listing.asked in
-    let is = asked.form_is in
+    let same = asked_once words contents h.root h.task h.files h.texts k.root k.task k.files k.texts h.asked k.asked in
+    let at = k.written.1 in
+    let is = at.form in
     let one : length k.texts ≡ 1 = ap length is.one in
     let as_many : length k.files ≡ length k.texts = sym (length-map k.files contents) ∙ ap length k.asked.told ∙ length-map k.texts (λ t. Some t) in
     let none : too_long_from 0 k.texts ≡ [] = subst (λ ts. too_long_from 0 ts ≡ []) (sym is.one) (from_short 0 (is.text ∷ []) (is.short, tt)) in
     let total : sum_by length k.texts ≤ 4194304 = subst (λ ts. sum_by length ts ≤ 4194304) (sym is.one) (omega (arith, is.short)) in
-    passes k.root k.target k.files k.texts refusal
+    passes k.root k.task k.files k.texts refusal
     (λ r many. absurd (omega (arith, many.0, as_many, one)))
     (λ r long. let in_none : Contains [] r = subst (λ group. Contains group r) none long in absurd (omega (arith, in_none.1)))
     (λ r much. absurd (omega (arith, much.0, total)))
-    (clear_of_form k.texts asked.form is)
-    (units_of_form k.texts asked.form is)
-    (not_refused k.root k.target k.texts k.listing.system k.listing.number refusal asked)
-    (moved h.root h.target h.files h.texts k.root k.target k.files k.texts refusal same h.first)
+    (clear_of_form k.texts at.package_name at.machine at.classifier is)
+    (units_of_form k.texts at.package_name at.machine at.classifier is)
+    (not_refused k.root k.task k.texts text refusal k.written)
+    (moved h.root h.task h.files h.texts k.root k.task k.files k.texts refusal same h.first)
 
 verdict_or_not_served : (words : List (List ℕ)) (contents : List ℕ → Option (List ℕ)) (refusal : Refusal) → IsVerdict words contents refusal → IsNotServed words contents → ⊥
 verdict_or_not_served words contents refusal h k =
-    let same = asked_once words contents h.root h.target h.files h.texts k.root k.target k.files k.texts h.asked k.asked in
-    passes k.root k.target k.files k.texts refusal k.have_tokens.few k.have_tokens.short k.have_tokens.not_much k.have_tokens.tokens k.have_units (λ refused. k.other refused.form refused.form_is) (moved h.root h.target h.files h.texts k.root k.target k.files k.texts refusal same h.first)
+    let same = asked_once words contents h.root h.task h.files h.texts k.root k.task k.files k.texts h.asked k.asked in
+    passes k.root k.task k.files k.texts refusal k.have_tokens.few k.have_tokens.short k.have_tokens.not_much k.have_tokens.tokens k.have_units (λ refused. k.no_form refused.package_name refused.machine refused.classifier refused.form) (moved h.root h.task h.files h.texts k.root k.task k.files k.texts refusal same h.first)
 
 output_or_not_served : (words : List (List ℕ)) (contents : List ℕ → Option (List ℕ)) (text : List ℕ) → IsOutput words contents text → IsNotServed words contents → ⊥
 output_or_not_served words contents text h k =
-    let same = asked_once words contents h.root h.target h.files h.texts k.root k.target k.files k.texts h.asked k.asked in
-    k.other h.listing.asked.form (subst (λ ts. IsFirstForm ts h.listing.asked.form) same.same_texts h.listing.asked.form_is)
+    let same = asked_once words contents h.root h.task h.files h.texts k.root k.task k.files k.texts h.asked k.asked in
+    let at = h.written.1 in
+    k.no_form at.package_name at.machine at.classifier (subst (λ ts. HaveForm ts at.package_name at.machine at.classifier) same.same_texts at.form)
 
 -- ---- one status is due
 
 pub one_due : (words : List (List ℕ)) (contents : List ℕ → Option (List ℕ)) (a b : Status) → IsDue words contents a → IsDue words contents b → IsSameStatus a b
 one_due words contents Usage Usage h k = refl
-one_due words contents Usage Done h k = absurd (h k.1.root k.1.target k.1.files k.1.asked.command)
-one_due words contents Usage (Refused s) h k = absurd (h k.root k.target k.files k.asked.command)
-one_due words contents Usage NotYet h k = absurd (h k.root k.target k.files k.asked.command)
-one_due words contents Done Usage h k = absurd (k h.1.root h.1.target h.1.files h.1.asked.command)
+one_due words contents Usage Done h k = absurd (h k.1.root k.1.task k.1.files k.1.asked.command)
+one_due words contents Usage (Refused s) h k = absurd (h k.root k.task k.files k.asked.command)
+one_due words contents Usage NotYet h k = absurd (h k.root k.task k.files k.asked.command)
+one_due words contents Done Usage h k = absurd (k h.1.root h.1.task h.1.files h.1.asked.command)
 one_due words contents Done Done h k = refl
 one_due words contents Done (Refused s) h k = absurd (verdict_or_output words contents s h.0 k h.1)
 one_due words contents Done NotYet h k = absurd (output_or_not_served words contents h.0 h.1 k)
-one_due words contents (Refused r) Usage h k = absurd (k h.root h.target h.files h.asked.command)
+one_due words contents (Refused r) Usage h k = absurd (k h.root h.task h.files h.asked.command)
 one_due words contents (Refused r) Done h k = absurd (verdict_or_output words contents r k.0 h k.1)
 one_due words contents (Refused r) (Refused s) h k = one_verdict words contents r s h k
 one_due words contents (Refused r) NotYet h k = absurd (verdict_or_not_served words contents r h k)
-one_due words contents NotYet Usage h k = absurd (k h.root h.target h.files h.asked.command)
+one_due words contents NotYet Usage h k = absurd (k h.root h.task h.files h.asked.command)
 one_due words contents NotYet Done h k = absurd (output_or_not_served words contents k.0 k.1 h)
 one_due words contents NotYet (Refused s) h k = absurd (verdict_or_not_served words contents s k h)
 one_due words contents NotYet NotYet h k = refl
@@ -245,8 +260,8 @@ all_told contents (file ∷ files) (text ∷ texts) told =
     let tail : map contents files ≡ map (λ t. Some t) texts = cc (told) in
     (subst IsSome (sym head) refl, all_told contents files texts tail)
 
-told_of : (words : List (List ℕ)) (contents : List ℕ → Option (List ℕ)) (root : Root) (target : List ℕ) (files texts : List (List ℕ)) → IsAsked words contents root target files texts → AllTold words contents
-told_of words contents root target files texts asked = subst (λ w. AllTold w contents) (sym asked.command.words_are) (all_told contents files texts asked.told)
+told_of : (words : List (List ℕ)) (contents : List ℕ → Option (List ℕ)) (root : Root) (task : Task) (files texts : List (List ℕ)) → IsAsked words contents root task files texts → AllTold words contents
+told_of words contents root task files texts asked = subst (AllByRecursion (λ file. IsSome (contents file))) (sym (files_of words root task files asked.command)) (all_told contents files texts asked.told)
 
 done_alone : (due : Status) → IsSameStatus due Done → due ≡ Done
 done_alone Done same = same
@@ -279,13 +294,13 @@ without_command words contents NotYet h command = absurd (h command.0 command.1 
 pub complete : (words : List (List ℕ)) (contents : List ℕ → Option (List ℕ)) (due result : Status) (before after : Option (List ℕ)) → IsDue words contents due → AnswersWords result words → (AllTold words contents → IsJustified words contents result) → (AllTold words contents → Took (IsOutput words contents) result before after) → MayCome due result
 complete words contents Usage result before after h command justified took = without_command words contents result h command
 complete words contents Done result before after h command justified took =
-    let told = told_of words contents h.1.root h.1.target h.1.files h.1.texts h.1.asked in
+    let told = told_of words contents h.1.root h.1.task h.1.files h.1.texts h.1.asked in
     later words contents Done result before after h command (justified told) (took told)
 complete words contents (Refused r) result before after h command justified took =
-    let told = told_of words contents h.root h.target h.files h.texts h.asked in
+    let told = told_of words contents h.root h.task h.files h.texts h.asked in
     later words contents (Refused r) result before after h command (justified told) (took told)
 complete words contents NotYet result before after h command justified took =
-    let told = told_of words contents h.root h.target h.files h.texts h.asked in
+    let told = told_of words contents h.root h.task h.files h.texts h.asked in
     later words contents NotYet result before after h command (justified told) (took told)
 complete words contents (ReadFault f) result before after h command justified took = absurd h
 complete words contents WriteFault result before after h command justified took = absurd h

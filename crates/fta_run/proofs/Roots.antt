@@ -5,8 +5,10 @@ use Rattle.std.specs.Cmp.{first_so, second_so}
 use Rattle.std.proofs.lemmas.Bool.{false≢true, cases_lt}
 use Rattle.aadl_syntax.specs.declared.name.Root.{Root}
 use Rattle.aadl_lexer.specs.Form.{IsWord, is_letter, is_letter_or_digit}
-use Rattle.aadl_syntax.specs.Name.{folded}
-use Rattle.fta_run.specs.Words.{AreJoined, IsCuts, IsRoot, dotted, follows_well, with_colons}
+use Rattle.aadl_syntax.specs.Name.{folded, is_same_text}
+use Rattle.fta_run.specs.declared.words.Task.{Task}
+use Rattle.fta_run.specs.declared.words.Task.TheVariants.{Check, Cuts}
+use Rattle.fta_run.specs.Words.{AreJoined, AreTaskWords, IsCommand, IsRoot, dotted, file_words, follows_well, with_colons}
 use Rattle.fta_run.proofs.Identifiers.{follows_of}
 
 -- no byte is the sign
@@ -150,15 +152,38 @@ one_root text a b x y =
     let same = same_items a.names b.names a.item b.item x.at_least_two y.at_least_two x.identifiers y.identifiers (sym x.text_is ∙ y.text_is) in
     same_root a.names a.item b same.0 same.1
 
+-- ---- commands
+
+check_is_not_cuts : (xs ys : List (List ℕ)) → codes "check" ∷ xs ≡ codes "cuts" ∷ ys → ⊥
+check_is_not_cuts xs ys same =
+    let names : codes "check" ≡ codes "cuts" = cc (same) in
+    false≢true (ap (λ name. is_same_text name (codes "check")) (sym names))
+
+same_task : (words : List (List ℕ)) (task other : Task) (word word₂ : List ℕ) (files files₂ : List (List ℕ)) → AreTaskWords task word files words → AreTaskWords other word₂ files₂ words
+    → (word ≡ word₂) × (task ≡ other) × (files ≡ files₂)
+same_task words Check Check word word₂ files files₂ x y =
+    let both : codes "check" ∷ word ∷ files ≡ codes "check" ∷ word₂ ∷ files₂ = sym x ∙ y in
+    (cc (both), refl, cc (both))
+same_task words Check (Cuts target) word word₂ files files₂ x y = absurd (check_is_not_cuts (word ∷ files) (word₂ ∷ y.0 ∷ files₂) (sym x ∙ y.2))
+same_task words (Cuts target) Check word word₂ files files₂ x y = absurd (check_is_not_cuts (word₂ ∷ files₂) (word ∷ x.0 ∷ files) (sym y ∙ x.2))
+same_task words (Cuts target) (Cuts target₂) word word₂ files files₂ x y =
+    let both : codes "cuts" ∷ word ∷ x.0 ∷ files ≡ codes "cuts" ∷ word₂ ∷ y.0 ∷ files₂ = sym x.2 ∙ y.2 in
+    let roots : word ≡ word₂ = cc (both) in
+    let targets : x.0 ≡ y.0 = cc (both) in
+    let rest : files ≡ files₂ = cc (both) in
+    (roots, ap Cuts (x.1 ∙ ap folded targets ∙ sym y.1), rest)
+
 -- words are one command at most
-pub one_command : (words : List (List ℕ)) (root other : Root) (target target₂ : List ℕ) (files files₂ : List (List ℕ)) → IsCuts words root target files → IsCuts words other target₂ files₂
-    → (root ≡ other) × (target ≡ target₂) × (files ≡ files₂)
-one_command words root other target target₂ files files₂ x y =
-    let both : codes "cuts" ∷ x.root_word ∷ x.target_word ∷ files ≡ codes "cuts" ∷ y.root_word ∷ y.target_word ∷ files₂ = sym x.words_are ∙ y.words_are in
-    let roots : x.root_word ≡ y.root_word = cc (both) in
-    let targets : x.target_word ≡ y.target_word = cc (both) in
-    let rest : files ≡ files₂ = cc (both) in (
-      one_root (folded y.root_word) root other (subst (λ w. IsRoot (folded w) root) roots x.root_is) y.root_is,
-      x.target_is ∙ ap folded targets ∙ sym y.target_is,
-      rest,
-    )
+pub one_command : (words : List (List ℕ)) (root other : Root) (task task₂ : Task) (files files₂ : List (List ℕ)) → IsCommand words root task files → IsCommand words other task₂ files₂
+    → (root ≡ other) × (task ≡ task₂) × (files ≡ files₂)
+one_command words root other task task₂ files files₂ x y =
+    let same = same_task words task task₂ x.root_word y.root_word files files₂ x.words_are y.words_are in
+    (one_root (folded y.root_word) root other (subst (λ w. IsRoot (folded w) root) same.0 x.root_is) y.root_is, same.1, same.2)
+
+files_after : (words : List (List ℕ)) (task : Task) (word : List ℕ) (files : List (List ℕ)) → AreTaskWords task word files words → file_words words ≡ files
+files_after words Check word files x = ap file_words x
+files_after words (Cuts target) word files x = ap file_words x.2
+
+-- the file words of a command
+pub files_of : (words : List (List ℕ)) (root : Root) (task : Task) (files : List (List ℕ)) → IsCommand words root task files → file_words words ≡ files
+files_of words root task files command = files_after words task command.root_word files command.words_are

@@ -1,5 +1,5 @@
 -- What a run may answer, and what a sink took where it ended so.
-use Rattle.std.specs.Prelude.{◌≡◌, ◌≤◌, ◌⊎◌, ℕ, List, drop, length, Option, Some, IsSome, slice_get}
+use Rattle.std.specs.Prelude.{◌≡◌, ◌≤◌, ◌⊎◌, ℕ, List, length, Option, Some, IsSome, slice_get}
 use Rattle.std.specs.List.{AllByRecursion}
 use Rattle.aadl_syntax.specs.declared.name.Root.{Root}
 use Rattle.aadl_syntax.specs.declared.refusal.Code.TheVariants.{TooManyFiles}
@@ -8,13 +8,14 @@ use Rattle.emv2_parser.specs.Grammar.{syntax_error}
 use Rattle.fta_outside.specs.Outside.{Rose, TookPrefix, with_bytes}
 use Rattle.fta_run.specs.declared.status.Status.{Status}
 use Rattle.fta_run.specs.declared.status.Status.TheVariants.{Done, Usage, Refused, ReadFault, WriteFault, Memory, NotYet}
-use Rattle.fta_run.specs.Words.{IsCuts}
+use Rattle.fta_run.specs.declared.words.Task.{Task}
+use Rattle.fta_run.specs.Words.{GiveNoCommand, IsCommand, file_words}
 use Rattle.fta_run.specs.Files.{of_words}
 use Rattle.fta_run.specs.Output.{IsOutput, IsVerdict, IsNotServed}
 
 -- What each file word names is told.
 abbrev pub AllTold : List (List ℕ) → (List ℕ → Option (List ℕ)) → Type 0
-AllTold words contents = AllByRecursion (λ file. IsSome (contents file)) (drop 3 words)
+AllTold words contents = AllByRecursion (λ file. IsSome (contents file)) (file_words words)
 
 -- A sink took a text of this sort after what it took before.
 abbrev pub TookText : (List ℕ → Type 0) → Option (List ℕ) → Option (List ℕ) → Type 0
@@ -46,15 +47,15 @@ TookNothing _ before after = Unit {0}
 -- A fault comes only where its count rose: that of the name of the file word, of which there are at most 64, or that of the output.
 abbrev pub IsCaused : Status → List (List ℕ) → (List ℕ → ℕ) → (List ℕ → ℕ) → ℕ → ℕ → Type 0
 IsCaused (ReadFault file) words before after out_before out_after =
-    (length (drop 3 words) ≤ 64) × (name : List ℕ) × (slice_get (drop 3 words) file ≡ Some name) × Rose (before name) (after name)
+    (length (file_words words) ≤ 64) × (name : List ℕ) × (slice_get (file_words words) file ≡ Some name) × Rose (before name) (after name)
 IsCaused WriteFault words before after out_before out_after = Rose out_before out_after
 IsCaused _ words before after out_before out_after = Unit {0}
 
 -- Usage comes exactly where the words give no command; want of memory may come at any point.
 abbrev pub AnswersWords : Status → List (List ℕ) → Type 0
-AnswersWords Usage words = (root : Root) (target : List ℕ) (files : List (List ℕ)) → IsCuts words root target files → ⊥
+AnswersWords Usage words = GiveNoCommand words
 AnswersWords Memory words = Unit {0}
-AnswersWords _ words = (root : Root) × (target : List ℕ) × (files : List (List ℕ)) × IsCuts words root target files
+AnswersWords _ words = (root : Root) × (task : Task) × (files : List (List ℕ)) × IsCommand words root task files
 
 -- A refusal is the verdict, and what is not served is of no served form and has no earlier refusal.
 abbrev pub IsJustified : List (List ℕ) → (List ℕ → Option (List ℕ)) → Status → Type 0
@@ -65,7 +66,7 @@ IsJustified words contents _ = Unit {0}
 -- This status is due for the words and the contents, if no fault comes first and memory does not run out.
 abbrev pub IsDue : List (List ℕ) → (List ℕ → Option (List ℕ)) → Status → Type 0
 IsDue words contents Done = (text : List ℕ) × IsOutput words contents text
-IsDue words contents Usage = (root : Root) (target : List ℕ) (files : List (List ℕ)) → IsCuts words root target files → ⊥
+IsDue words contents Usage = GiveNoCommand words
 IsDue words contents (Refused refusal) = IsVerdict words contents refusal
 IsDue words contents NotYet = IsNotServed words contents
 IsDue words contents _ = ⊥

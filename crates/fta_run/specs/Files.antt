@@ -61,13 +61,16 @@ pub record HaveTokens (files texts : List (List ℕ)) : Type 0 where
   pub not_much : IsClear (HasTooMuch texts)
   pub tokens : IsClear (LacksTokens texts)
 
--- The text of the file of this number has tokens in which nowhere too many brackets are open, and they read as units.
-pub record HasUnits (file : ℕ) (text : List ℕ) : Type 0 where
+-- The text of the file of this number has tokens in which nowhere too many brackets are open, and they read as these units.
+pub record AreUnits (file : ℕ) (text : List ℕ) (units : List FileUnit) : Type 0 where
   pub tokens : List Token
   pub tokens_are : Tokens text tokens
   pub shallow : IsShallow tokens
-  pub units : List FileUnit
   pub reads : Reads file file_units tokens units []
+
+-- The text of the file of this number has units.
+abbrev pub HasUnits : ℕ → List ℕ → Type 0
+HasUnits file text = (units : List FileUnit) × AreUnits file text units
 
 -- The text of each file has units.
 abbrev pub HaveUnits : List (List ℕ) → Type 0

@@ -1,14 +1,9 @@
 pub mod Answers
 pub mod Files
 pub mod Line
-pub mod Meaning
-pub mod Names
 pub mod Output
-pub mod Productions
-pub mod Served
 pub mod Status
 pub mod Steps
 pub mod Stopped
-pub mod Takes
 pub mod Text
 pub mod Words

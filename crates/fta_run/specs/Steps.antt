@@ -1,19 +1,20 @@
 -- How the steps of a command end.
-use Rattle.std.specs.Prelude.{◌≡◌, ◌≤◌, ℕ, List, [], ◌∷◌, length, take, Option, Some, IfSome, slice_get}
+use Rattle.std.specs.Prelude.{◌≡◌, ◌≤◌, ℕ, List, [], ◌∷◌, get_or, length, take, Option, Some, IfSome, slice_get}
 use Rattle.std.specs.List.{AllZip}
 use Rattle.aadl_syntax.specs.declared.name.Root.{Root}
 use Rattle.aadl_syntax.specs.declared.token.Token.{Token}
 use Rattle.aadl_syntax.specs.Order.{IsClear, ◌or_else◌}
 use Rattle.fta_outside.specs.Outside.{Rose}
 use Rattle.aadl_lexer.specs.Tokens.{Tokens}
-use Rattle.grammar_rules.specs.Rules.{Reads}
-use Rattle.fta_run.specs.declared.form.FirstForm.{FirstForm}
+use Rattle.aadl_syntax.specs.declared.core_model.Decl.{Decl}
+use Rattle.aadl_syntax.specs.declared.core_model.Unit.{Unit as FileUnit}
+use Rattle.aadl_syntax.specs.declared.error_model.MachineDecl.{MachineDecl}
+use Rattle.first_form.specs.Form.{IsFirstForm}
+use Rattle.fta_run.specs.declared.words.Task.{Task}
 use Rattle.fta_run.specs.declared.status.Status.{Status}
 use Rattle.fta_run.specs.declared.status.Status.TheVariants.{Done, Refused, ReadFault, WriteFault, Memory, NotYet}
-use Rattle.fta_run.specs.Productions.{first_form}
-use Rattle.fta_run.specs.Served.{IsServed}
-use Rattle.fta_run.specs.Files.{GrammarRefused, HasTooLong, HasTooMuch, HaveUnits, InputRefused, LacksTokens, LacksUnits, NamesTooMany}
-use Rattle.fta_run.specs.Output.{IsFirstForm, FormRefused}
+use Rattle.fta_run.specs.Files.{AreUnits, GrammarRefused, HasTooLong, HasTooMuch, HaveUnits, InputRefused, LacksTokens, LacksUnits, NamesTooMany}
+use Rattle.fta_run.specs.Output.{FormRefused, HaveNoForm}
 
 -- What was read of each file is the front of what it contains, where that is told: one byte more than a file may have, at most.
 abbrev pub AreFronts : (List ℕ → Option (List ℕ)) → List (List ℕ) → List (List ℕ) → Type 0
@@ -56,27 +57,37 @@ abbrev pub IsInputEnd : List (List ℕ) → List (List ℕ) → Status → Type 
 IsInputEnd files texts (Refused refusal) = InputRefused files texts (λ _. ⊥) refusal
 IsInputEnd files texts _ = Unit {0}
 
--- There is one list of tokens, and it reads as this form, which is served.
-pub record IsFormOf (lists : List (List Token)) (form : FirstForm) : Type 0 where
-  pub tokens : List Token
-  pub one : lists ≡ tokens ∷ []
-  pub reads : Reads 0 first_form tokens form []
-  pub served : IsServed form
+-- These are the units of each text, in order.
+pub record HaveTheseUnits (texts : List (List ℕ)) (files : List (List FileUnit)) : Type 0 where
+  pub as_many : length files ≡ length texts
+  pub each : (file : ℕ) (text : List ℕ) → slice_get texts file ≡ Some text → AreUnits file text (get_or files file [])
 
--- How the reading of the texts may end but well: one has no tokens or no units, or they are not of the first form.
+-- The units of the files are of the first form: there is one file.
+pub record AreOfForm (files : List (List FileUnit)) (package_name : List ℕ) (machine : MachineDecl) (classifier : Decl) : Type 0 where
+  pub units : List FileUnit
+  pub one : files ≡ units ∷ []
+  pub form : IsFirstForm units package_name machine classifier
+
+-- The units of the files are of no served form.
+abbrev pub AreOfNoForm : List (List FileUnit) → Type 0
+AreOfNoForm files = (package_name : List ℕ) (machine : MachineDecl) (classifier : Decl) → AreOfForm files package_name machine classifier → ⊥
+
+-- How the reading of the texts may end but well: one has no tokens or no units.
 abbrev pub IsTextEnd : List (List ℕ) → Status → Type 0
 IsTextEnd texts (Refused refusal) = (LacksTokens texts or_else LacksUnits texts) refusal
-IsTextEnd texts NotYet = IsClear (LacksTokens texts) × HaveUnits texts × ((form : FirstForm) → IsFirstForm texts form → ⊥)
 IsTextEnd texts Memory = Unit {0}
 IsTextEnd texts _ = ⊥
 
--- The same, where a root and a target are asked for.
-abbrev pub IsFormEnd : Root → List ℕ → List (List ℕ) → Status → Type 0
-IsFormEnd root target texts (Refused refusal) = (LacksTokens texts or_else GrammarRefused texts (FormRefused root target texts)) refusal
-IsFormEnd root target texts status = IsTextEnd texts status
+-- How the making of the system may end but well, where a task is asked for at a root: in these ways, with a later refusal, or
+-- since the texts are of no served form.
+abbrev pub IsFormEnd : Root → Task → List (List ℕ) → Status → Type 0
+IsFormEnd root task texts (Refused refusal) = (LacksTokens texts or_else GrammarRefused texts (FormRefused root task texts)) refusal
+IsFormEnd root task texts NotYet = IsClear (LacksTokens texts) × HaveUnits texts × HaveNoForm texts
+IsFormEnd root task texts Memory = Unit {0}
+IsFormEnd root task texts _ = ⊥
 
 -- How the writing may end, where the count of faults of the output was and is this.
-abbrev pub IsWriteEnd : Root → List ℕ → List (List ℕ) → ℕ → ℕ → Status → Type 0
-IsWriteEnd root target texts before after Done = Unit {0}
-IsWriteEnd root target texts before after WriteFault = Rose before after
-IsWriteEnd root target texts before after status = IsFormEnd root target texts status
+abbrev pub IsWriteEnd : Root → Task → List (List ℕ) → ℕ → ℕ → Status → Type 0
+IsWriteEnd root task texts before after Done = Unit {0}
+IsWriteEnd root task texts before after WriteFault = Rose before after
+IsWriteEnd root task texts before after status = IsFormEnd root task texts status

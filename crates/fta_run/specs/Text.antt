@@ -1,4 +1,4 @@
--- The text of a listing.
+-- The texts of the commands.
 use Rattle.std.specs.Prelude.{ℕ, List, [], ◌∷◌, ◌++◌, length, map, codes, decimal, unwrap_or, slice_get}
 use Rattle.std.specs.Option.{option_map}
 use Rattle.std.specs.List.{flat_map, join_with_byte}
@@ -20,3 +20,12 @@ set_line system set = decimal (length set) ++ (32 ∷ []) ++ set_text system set
 -- the lines of all sets, and the line `end`
 abbrev pub listing_text : System → List (List ℕ) → List ℕ
 listing_text system sets = flat_map (set_line system) sets ++ codes "end\n"
+
+-- a number's line: its name, a blank, it and a line feed
+abbrev pub number_line : List ℕ → ℕ → List ℕ
+number_line name number = name ++ (32 ∷ []) ++ decimal number ++ (10 ∷ [])
+
+-- the lines of the numbers of components, facts and events
+abbrev pub numbers_text : ℕ → ℕ → ℕ → List ℕ
+numbers_text components facts events =
+    number_line (codes "components") components ++ number_line (codes "facts") facts ++ number_line (codes "events") events

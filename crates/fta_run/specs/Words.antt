@@ -1,9 +1,11 @@
 -- The words of the command line.
-use Rattle.std.specs.Prelude.{◌≡◌, ◌≢◌, ◌<◌, ◌≤◌, ℕ, Bool, true, false, not, ◌==◌, ◌&&◌, if◌then◌else◌, List, [], ◌∷◌, ◌++◌, length, codes, Option, Some, None, IfSome, IsUtf8}
+use Rattle.std.specs.Prelude.{◌≡◌, ◌≢◌, ◌<◌, ◌≤◌, ℕ, Bool, true, false, not, ◌==◌, ◌&&◌, if◌then◌else◌, List, [], ◌∷◌, ◌++◌, drop, length, codes, Option, Some, None, IfSome, IsUtf8}
 use Rattle.std.specs.List.{AllByRecursion}
-use Rattle.aadl_syntax.specs.Name.{folded}
+use Rattle.aadl_syntax.specs.Name.{folded, is_same_text}
 use Rattle.aadl_syntax.specs.declared.name.Root.{Root}
 use Rattle.aadl_lexer.specs.Form.{IsWord, is_letter_or_digit}
+use Rattle.fta_run.specs.declared.words.Task.{Task}
+use Rattle.fta_run.specs.declared.words.Task.TheVariants.{Check, Cuts}
 
 -- a word that stands for itself: UTF-8 text, not empty, that does not begin with `-`
 abbrev pub IsPlainWord : List ℕ → Type 0
@@ -34,15 +36,27 @@ pub record IsRoot (text : List ℕ) (root : Root) : Type 0 where
   pub identifiers : AllByRecursion IsWord root.names
   pub item_identifier : IfSome root.item IsWord
 
--- The words are `cuts`, a root, a target and one or more files, all plain; letters of root and target are folded.
-pub record IsCuts (words : List (List ℕ)) (root : Root) (target : List ℕ) (files : List (List ℕ)) : Type 0 where
+-- The words of a task, before its files: `check` and a root, or `cuts`, a root and a target, whose letters are folded.
+abbrev pub AreTaskWords : Task → List ℕ → List (List ℕ) → List (List ℕ) → Type 0
+AreTaskWords Check root_word files words = words ≡ codes "check" ∷ root_word ∷ files
+AreTaskWords (Cuts target) root_word files words = (target_word : List ℕ) × (target ≡ folded target_word) × (words ≡ codes "cuts" ∷ root_word ∷ target_word ∷ files)
+
+-- The words are those of a task for a root, and one or more files, all plain; letters of the root are folded.
+pub record IsCommand (words : List (List ℕ)) (root : Root) (task : Task) (files : List (List ℕ)) : Type 0 where
   pub root_word : List ℕ
-  pub target_word : List ℕ
-  pub words_are : words ≡ codes "cuts" ∷ root_word ∷ target_word ∷ files
+  pub words_are : AreTaskWords task root_word files words
   pub some_file : 0 < length files
   pub plain : AllByRecursion IsPlainWord words
   pub root_is : IsRoot (folded root_word) root
-  pub target_is : target ≡ folded target_word
+
+-- The words give no command.
+abbrev pub GiveNoCommand : List (List ℕ) → Type 0
+GiveNoCommand words = (root : Root) (task : Task) (files : List (List ℕ)) → IsCommand words root task files → ⊥
+
+-- the words that name files: those after the first two of `check`, and after the first three of any other
+abbrev pub file_words : List (List ℕ) → List (List ℕ)
+file_words [] = []
+file_words (name ∷ words) = drop (if is_same_text name (codes "check") then 1 else 2) words
 
 -- whether letters and digits follow, each perhaps after one `_`: it goes along the bytes, and after a
 -- `_` (waiting) a letter or digit must stand

@@ -1,34 +1,30 @@
-ghost use Rattle.std.specs.Prelude.{◌≡◌, ◌<◌, ◌≤◌, ℕ, List, IfErr, IfOk, IsTrue, MatchOption, MatchResult, All, drop, length, ◌^◌, ◌↔◌};
-ghost use Rattle.aadl_syntax.specs.Order.{IsFirst};
-ghost use Rattle.aadl_syntax.specs.declared.name.Root.{Root};
+ghost use Rattle.std.specs.Prelude.{◌≡◌, ◌<◌, ◌≤◌, IsTrue, MatchOption, MatchResult, All, length, ◌^◌, ◌↔◌};
 ghost use Rattle.fta_outside.specs.Outside.{Rose, TookPrefix, with_bytes};
-ghost use Rattle.fta_run.specs.declared.form.FirstForm.{FirstForm};
+ghost use Rattle.fta_run.specs.declared.words.Task.{Task as AnyTask};
+ghost use Rattle.fta_run.specs.declared.words.Task.TheVariants.{Check, Cuts};
 ghost use Rattle.fta_run.specs.Line.{status_line};
-ghost use Rattle.fta_run.specs.Output.{IsAskedOf, IsFirstForm, IsFactNamed, IsListingText, IsOutput, IsRootOf, LacksRoot, LacksTarget, NamesPackage};
+ghost use Rattle.fta_run.specs.Output.{IsFactNamed, IsOutput, IsRootOf, IsSystemAt, IsTextFor, LacksRoot, LacksTarget, NamesPackage};
 ghost use Rattle.fta_run.specs.Answers.{AllTold, AnswersWords, IsCaused, IsDue, IsJustified, IsManyAnswer, MayCome, Took, TookNothing};
-ghost use Rattle.fta_run.specs.Words.{IsCuts};
-ghost use Rattle.fta_run.specs.Steps.{IsFormEnd, IsFormOf, IsTextEnd, IsWriteEnd};
+ghost use Rattle.fta_run.specs.Words.{GiveNoCommand, file_words};
+ghost use Rattle.fta_run.specs.Steps.{AreOfForm, AreOfNoForm, IsFormEnd, IsWriteEnd};
 
-use crate::form::FirstForm;
-use crate::input::{check_units, of_words, read_texts, tokens_of_texts};
+use crate::input::{of_words, read_texts, units_of_texts};
 use crate::line::write_line;
-use crate::meaning::system_of;
-use crate::reading::FirstFormText;
-use crate::served::is_served;
 use crate::status::Status;
-use crate::text::{WriteStop, write_listing};
-use crate::words::{Cuts, command_of};
-use aadl_syntax::{Code, List, Mem, Name, Refusal, Root, Token, Word, is_same};
+use crate::text::{WriteStop, write_listing, write_numbers};
+use crate::words::{Command, Task, command_of, file_words};
+use aadl_syntax::{Code, List, Name, Refusal, Root, Unit, Word, is_same};
 use fault_system::FaultSystem;
+use first_form::{FirstForm, first_form, system_of};
 use fta_outside::{Files, Sink};
-use grammar_rules::{TextError, read_text};
 use plain_listing::plain_listing;
-use std::alloc::{AllocError, Global};
+use std::alloc::Global;
 
 /// Runs the command that the words give, and says how it ended.
 ///
-/// `cuts ROOT TARGET FILE..` writes the minimal cut sets of a fact in the system that the files describe. Under every status
-/// but Done one line is written to `err`; a fault of `err` changes nothing.
+/// `check ROOT FILE..` writes the numbers of components, facts and events of the system that the files describe, and
+/// `cuts ROOT TARGET FILE..` the minimal cut sets of a fact in it. Under every status but Done one line is written to `err`;
+/// a fault of `err` changes nothing.
 pub fn run<F: Files, S: Sink, E: Sink>(
     alloc: Global,
     words: &[Word],
@@ -55,13 +51,13 @@ pub fn run<F: Files, S: Sink, E: Sink>(
     ensures complete { (due : Status) → IsDue words.now (F.contents files.old) due → MayCome due result }
 
     // No file is read where there is no command, or where too many are named; too many are refused, whatever the files tell.
-    ensures no_command { ((root : Root) (target : List ℕ) (named : List (List ℕ)) → IsCuts words.now root target named → ⊥) → files.new ≡ files.old }
-    ensures too_many { 64 < length (drop 3 words.now) → files.new ≡ files.old }
-    ensures many { 64 < length (drop 3 words.now) → IsManyAnswer result }
+    ensures no_command { GiveNoCommand words.now → files.new ≡ files.old }
+    ensures too_many { 64 < length (file_words words.now) → files.new ≡ files.old }
+    ensures many { 64 < length (file_words words.now) → IsManyAnswer result }
 
     // `err` took exactly the line of the status where its count did not rise, and else at most a front of it.
-    ensures line { (Rose (E.faults err.old) (E.faults err.new) → ⊥) → E.taken err.new ≡ with_bytes (E.taken err.old) (status_line (drop 3 words.now) result) }
-    ensures at_most_the_line { TookPrefix (E.taken err.old) (E.taken err.new) (status_line (drop 3 words.now) result) }
+    ensures line { (Rose (E.faults err.old) (E.faults err.new) → ⊥) → E.taken err.new ≡ with_bytes (E.taken err.old) (status_line (file_words words.now) result) }
+    ensures at_most_the_line { TookPrefix (E.taken err.old) (E.taken err.new) (status_line (file_words words.now) result) }
 {
     let status = answer(alloc, words, files, out);
     write_status(words, &status, err);
@@ -70,20 +66,11 @@ pub fn run<F: Files, S: Sink, E: Sink>(
 
 /// Writes the line of a status, and forgets a fault.
 fn write_status<E: Sink>(words: &[Word], status: &Status, err: &mut E)
-    ensures line { (Rose (E.faults err.old) (E.faults err.new) → ⊥) → E.taken err.new ≡ with_bytes (E.taken err.old) (status_line (drop 3 words.now) status.now) }
-    ensures at_most_the_line { TookPrefix (E.taken err.old) (E.taken err.new) (status_line (drop 3 words.now) status.now) }
+    ensures line { (Rose (E.faults err.old) (E.faults err.new) → ⊥) → E.taken err.new ≡ with_bytes (E.taken err.old) (status_line (file_words words.now) status.now) }
+    ensures at_most_the_line { TookPrefix (E.taken err.old) (E.taken err.new) (status_line (file_words words.now) status.now) }
 {
     let files = file_words(words);
     let _written = write_line(err, files, status);
-}
-
-fn file_words(words: &[Word]) -> &[Word]
-    ensures { result.now ≡ drop 3 words.now }
-{
-    match words {
-        [_, _, _, files @ ..] => files,
-        _ => &[],
-    }
 }
 
 /// Runs the command that the words give, but for the line.
@@ -93,33 +80,70 @@ fn answer<F: Files, S: Sink>(alloc: Global, words: &[Word], files: &mut F, out: 
     ensures output { AllTold words.now (F.contents files.old) → Took (IsOutput words.now (F.contents files.old)) result (S.taken out.old) (S.taken out.new) }
     ensures nothing { TookNothing result (S.taken out.old) (S.taken out.new) }
     ensures faults { IsCaused result words.now (F.faults files.old) (F.faults files.new) (S.faults out.old) (S.faults out.new) }
-    ensures no_command { ((root : Root) (target : List ℕ) (named : List (List ℕ)) → IsCuts words.now root target named → ⊥) → files.new ≡ files.old }
-    ensures too_many { 64 < length (drop 3 words.now) → files.new ≡ files.old }
-    ensures many { 64 < length (drop 3 words.now) → IsManyAnswer result }
+    ensures no_command { GiveNoCommand words.now → files.new ≡ files.old }
+    ensures too_many { 64 < length (file_words words.now) → files.new ≡ files.old }
+    ensures many { 64 < length (file_words words.now) → IsManyAnswer result }
 {
-    let cuts = match command_of(alloc, words) {
-        Ok(Some(cuts)) => cuts,
+    let command = match command_of(alloc, words) {
+        Ok(Some(command)) => command,
         Ok(None) => return Status::Usage,
         Err(_) => return Status::Memory,
     };
-    match read_texts(alloc, files, cuts.files) {
-        Ok(texts) => write_cuts(alloc, &cuts, texts.items(), out),
+    match read_texts(alloc, files, command.files) {
+        Ok(texts) => write_task(alloc, &command, texts.items(), out),
         Err(status) => status,
     }
 }
 
-/// Writes the listing, and says how that ended.
-fn write_cuts<S: Sink>(alloc: Global, cuts: &Cuts, texts: &[Name], out: &mut S) -> Status
+/// Writes the text of the task, and says how that ended.
+fn write_task<S: Sink>(alloc: Global, command: &Command, texts: &[Name], out: &mut S) -> Status
     requires few { length texts.now < 2 ^ 32 }
     requires short { All (λ text. length text ≤ 4194304) texts.now }
-    ensures took { Took (IsListingText cuts.now.root cuts.now.target texts.now) result (S.taken out.old) (S.taken out.new) }
-    ensures end { IsWriteEnd cuts.now.root cuts.now.target texts.now (S.faults out.old) (S.faults out.new) result }
+    ensures took { Took (IsTextFor command.now.root command.now.task texts.now) result (S.taken out.old) (S.taken out.new) }
+    ensures end { IsWriteEnd command.now.root command.now.task texts.now (S.faults out.old) (S.faults out.new) result }
 {
-    let (system, target) = match system_and_target(alloc, cuts, texts) {
+    match &command.task {
+        Task::Check => write_check(alloc, &command.root, texts, out),
+        Task::Cuts(target) => write_cuts(alloc, &command.root, target, texts, out),
+    }
+}
+
+/// Writes the numbers of the system.
+fn write_check<S: Sink>(alloc: Global, root: &Root, texts: &[Name], out: &mut S) -> Status
+    requires few { length texts.now < 2 ^ 32 }
+    requires short { All (λ text. length text ≤ 4194304) texts.now }
+    ensures took { Took (IsTextFor root.now Check texts.now) result (S.taken out.old) (S.taken out.new) }
+    ensures end { IsWriteEnd root.now Check texts.now (S.faults out.old) (S.faults out.new) result }
+{
+    let system = match system_at(alloc, root, texts) {
+        Ok(system) => system,
+        Err(status) => return status,
+    };
+    match write_numbers(alloc, 1, &system, out) {
+        Ok(()) => Status::Done,
+        Err(WriteStop::Failed) => Status::WriteFault,
+        Err(WriteStop::Memory) => Status::Memory,
+    }
+}
+
+/// Writes the listing of the target.
+fn write_cuts<S: Sink>(
+    alloc: Global,
+    root: &Root,
+    target: &Name,
+    texts: &[Name],
+    out: &mut S,
+) -> Status
+    requires few { length texts.now < 2 ^ 32 }
+    requires short { All (λ text. length text ≤ 4194304) texts.now }
+    ensures took { Took (IsTextFor root.now (Cuts target.now) texts.now) result (S.taken out.old) (S.taken out.new) }
+    ensures end { IsWriteEnd root.now (Cuts target.now) texts.now (S.faults out.old) (S.faults out.new) result }
+{
+    let (system, number) = match system_and_target(alloc, root, target, texts) {
         Ok(found) => found,
         Err(status) => return status,
     };
-    let Ok(sets) = plain_listing(alloc, &system, target) else {
+    let Ok(sets) = plain_listing(alloc, &system, number) else {
         return Status::Memory;
     };
     match write_listing(alloc, &system, sets.items(), out) {
@@ -129,80 +153,75 @@ fn write_cuts<S: Sink>(alloc: Global, cuts: &Cuts, texts: &[Name], out: &mut S) 
     }
 }
 
-/// The system of the root that the words name, and the number of the target in it.
+/// The system at the root, and the number of the target in it.
 fn system_and_target(
     alloc: Global,
-    cuts: &Cuts,
+    root: &Root,
+    target: &Name,
     texts: &[Name],
 ) -> Result<(FaultSystem, u32), Status>
     requires few { length texts.now < 2 ^ 32 }
     requires short { All (λ text. length text ≤ 4194304) texts.now }
-    ensures { MatchResult result (λ found. IsAskedOf cuts.now.root cuts.now.target texts.now found.0 found.1) (IsFormEnd cuts.now.root cuts.now.target texts.now) }
+    ensures { MatchResult result (λ found. IsSystemAt root.now texts.now found.0 × IsFactNamed found.0 found.1 target.now) (IsFormEnd root.now (Cuts target.now) texts.now) }
 {
-    let form = form_of_texts(alloc, texts)?;
-    find_root(&form, &cuts.root)?;
-    let system = system_of(alloc, &form.machine)?;
-    let target = find_target(&system, cuts.target.items())?;
-    Ok((system, target))
+    let system = system_at(alloc, root, texts)?;
+    let number = find_target(&system, target.items())?;
+    Ok((system, number))
 }
 
-/// The form of the text, where there is one text and it is of the first form.
-fn form_of_texts(alloc: Global, texts: &[Name]) -> Result<FirstForm, Status>
+/// The system at the root, where the texts are of the first form.
+fn system_at(alloc: Global, root: &Root, texts: &[Name]) -> Result<FaultSystem, Status>
     requires few { length texts.now < 2 ^ 32 }
     requires short { All (λ text. length text ≤ 4194304) texts.now }
-    ensures { MatchResult result (λ form. IsFirstForm texts.now form) (IsTextEnd texts.now) }
+    ensures { MatchResult result (IsSystemAt root.now texts.now) (λ status. (task : AnyTask) → IsFormEnd root.now task texts.now status) }
 {
-    let lists = tokens_of_texts(alloc, texts)?;
-    check_units(alloc, texts, lists.items())?;
-    match form_of_tokens(alloc, lists.items())? {
-        Some(form) => Ok(form),
-        None => Err(Status::NotYet),
-    }
-}
-
-/// The form that the tokens of the texts read as, where there is one text and it is served.
-fn form_of_tokens(alloc: Global, lists: &[List<Token>]) -> Mem<Option<FirstForm>>
-    ensures { IfOk result (λ answer. MatchOption answer ((form : FirstForm) → IsFormOf lists.now form → ⊥) (λ form. IsFormOf lists.now form)) }
-{
-    let [tokens] = lists else {
-        return Ok(None);
+    let files = units_of_texts(alloc, texts)?;
+    let Some(form) = form_of_files(files.items()) else {
+        return Err(Status::NotYet);
     };
-    match read_text::<FirstFormText>(alloc, 0, tokens.items()) {
-        Ok(form) if is_served(&form) => Ok(Some(form)),
-        Ok(_) | Err(TextError::Dead(_)) => Ok(None),
-        Err(TextError::Memory) => Err(AllocError),
-    }
+    find_root(form.package_name, form.classifier.name.items(), root)?;
+    let system = system_of(alloc, form.machine)?;
+    Ok(system)
 }
 
-/// Refuses a root that is not the system of the text.
-fn find_root(form: &FirstForm, root: &Root) -> Result<(), Refusal>
-    ensures { MatchResult result (λ _. IsRootOf form.now root.now) (λ refusal. LacksRoot form.now root.now refusal) }
+/// The form of the units of the files, where there is one file and it is of the first form.
+fn form_of_files(files: &[List<Unit>]) -> Option<FirstForm<'_>>
+    ensures { MatchOption result (AreOfNoForm files.now) (λ form. AreOfForm files.now form.package_name.now form.machine.now form.classifier.now) }
 {
-    if !names_package(form, root) {
+    let [units] = files else {
+        return None;
+    };
+    first_form(units.items())
+}
+
+/// Refuses a root that is not the classifier of the package.
+fn find_root(package_name: &[u8], classifier: &[u8], root: &Root) -> Result<(), Refusal>
+    ensures { MatchResult result (λ _. IsRootOf package_name.now classifier.now root.now) (LacksRoot package_name.now classifier.now root.now) }
+{
+    if !names_package(package_name, root) {
         return Err(of_words(Code::UnknownPackage, 0));
     }
-    if !is_root_of(form, root) {
+    if !is_root_of(package_name, classifier, root) {
         return Err(of_words(Code::UnknownClassifier, 0));
     }
     Ok(())
 }
 
-fn names_package(form: &FirstForm, root: &Root) -> bool
-    ensures { IsTrue result ↔ NamesPackage form.now root.now }
+fn names_package(package_name: &[u8], root: &Root) -> bool
+    ensures { IsTrue result ↔ NamesPackage package_name.now root.now }
 {
     match root.names.items() {
-        [library, _] => is_same(library.items(), form.package_name.items()),
+        [library, _] => is_same(library.items(), package_name),
         _ => false,
     }
 }
 
-fn is_root_of(form: &FirstForm, root: &Root) -> bool
-    ensures { IsTrue result ↔ IsRootOf form.now root.now }
+fn is_root_of(package_name: &[u8], classifier: &[u8], root: &Root) -> bool
+    ensures { IsTrue result ↔ IsRootOf package_name.now classifier.now root.now }
 {
     match (root.names.items(), &root.item) {
         ([library, system], None) => {
-            is_same(library.items(), form.package_name.items())
-                && is_same(system.items(), form.system.items())
+            is_same(library.items(), package_name) && is_same(system.items(), classifier)
         }
         _ => false,
     }
@@ -210,7 +229,7 @@ fn is_root_of(form: &FirstForm, root: &Root) -> bool
 
 /// The number of the fact of a name.
 fn find_target(system: &FaultSystem, name: &[u8]) -> Result<u32, Refusal>
-    ensures { MatchResult result (λ number. IsFactNamed system.now number name.now) (λ refusal. LacksTarget system.now name.now refusal) }
+    ensures { MatchResult result (λ number. IsFactNamed system.now number name.now) (LacksTarget system.now (Cuts name.now)) }
 {
     for number in 0..system.facts() {
         if has_name(system, number, name) {

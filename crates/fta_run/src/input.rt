@@ -1,17 +1,17 @@
-ghost use Rattle.std.specs.Prelude.{◌≡◌, ℕ, ◌^◌, ◌<◌, ◌≤◌, List, [], MatchResult, IfOk, IfErr, IfSome, OnOk, Err, ◌⊎◌, All, length, sum_by, take};
+ghost use Rattle.std.specs.Prelude.{◌≡◌, ℕ, ◌^◌, ◌<◌, ◌≤◌, List, [], MatchResult, IfOk, IfErr, IfSome, Err, ◌⊎◌, All, length, sum_by, take};
 ghost use Rattle.aadl_syntax.specs.declared.refusal.Refusal.{Refusal};
 ghost use Rattle.aadl_syntax.specs.declared.refusal.Code.TheVariants.{TooManyFiles};
 ghost use Rattle.aadl_syntax.specs.declared.refusal.Stop.TheVariants.{Refused};
-ghost use Rattle.aadl_syntax.specs.Order.{IsFirst, least, nearer};
+ghost use Rattle.aadl_syntax.specs.Order.{IsClear, IsFirst, least, nearer};
 ghost use Rattle.aadl_lexer.specs.Tokens.{Tokens};
 ghost use Rattle.aadl_parser.specs.Files.{IsSyntaxError, IsTooNested};
-ghost use Rattle.fta_run.specs.Files.{AreContents, HasTooLong, HasUnits, HaveUnits, HasTooMuch, LacksTokens, LacksUnits, of_words, too_long, too_long_from};
-ghost use Rattle.fta_run.specs.Steps.{AreFronts, AreTokens, IsFileEnd, IsFilesEnd, IsInputEnd, IsReadEnd, PassInput};
+ghost use Rattle.fta_run.specs.Files.{AreContents, AreUnits, HasTooLong, HasTooMuch, LacksTokens, LacksUnits, of_words, too_long, too_long_from};
+ghost use Rattle.fta_run.specs.Steps.{AreFronts, AreTokens, HaveTheseUnits, IsFileEnd, IsFilesEnd, IsInputEnd, IsReadEnd, IsTextEnd, PassInput};
 
 use crate::status::Status;
 use aadl_lexer::tokens;
 use aadl_parser::units;
-use aadl_syntax::{Answer, Code, FirstRefusal, List, Name, Place, Refusal, Token, Word};
+use aadl_syntax::{Answer, Code, FirstRefusal, List, Name, Place, Refusal, Token, Unit, Word};
 use fta_outside::{Files, ReadError};
 use std::alloc::Global;
 
@@ -137,8 +137,19 @@ pub fn of_words(code: Code, limit: u64) -> Refusal
     }
 }
 
+/// The units of each text: it has tokens, is not nested too deep, and has a reading.
+pub fn units_of_texts(alloc: Global, texts: &[Name]) -> Result<List<List<Unit>>, Status>
+    requires few { length texts.now < 2 ^ 32 }
+    requires short { All (λ text. length text ≤ 4194304) texts.now }
+    ensures { MatchResult result (λ files. IsClear (LacksTokens texts.now) × HaveTheseUnits texts.now files) (IsTextEnd texts.now) }
+{
+    let lists = tokens_of_texts(alloc, texts)?;
+    let files = units_of_tokens(alloc, texts, lists.items())?;
+    Ok(files)
+}
+
 /// The tokens of each text.
-pub fn tokens_of_texts(alloc: Global, texts: &[Name]) -> Answer<List<List<Token>>>
+fn tokens_of_texts(alloc: Global, texts: &[Name]) -> Answer<List<List<Token>>>
     requires few { length texts.now < 2 ^ 32 }
     requires short { All (λ text. length text ≤ 4194304) texts.now }
     ensures ok { IfOk result (λ lists. AreTokens texts.now lists) }
@@ -151,26 +162,30 @@ pub fn tokens_of_texts(alloc: Global, texts: &[Name]) -> Answer<List<List<Token>
     Ok(lists)
 }
 
-/// Refuses the first text that is nested too deep or has no reading. Its tokens are given.
-pub fn check_units(alloc: Global, texts: &[Name], lists: &[List<Token>]) -> Answer<()>
+/// The units of each text, whose tokens are given.
+fn units_of_tokens(
+    alloc: Global,
+    texts: &[Name],
+    lists: &[List<Token>],
+) -> Answer<List<List<Unit>>>
     requires few { length texts.now < 2 ^ 32 }
     requires short { All (λ text. length text ≤ 4194304) texts.now }
     requires tokens { AreTokens texts.now lists.now }
-    ensures ok { OnOk result (HaveUnits texts.now) }
+    ensures ok { IfOk result (λ files. HaveTheseUnits texts.now files) }
     ensures err { IfErr result (λ stop. (refusal : Refusal) → stop ≡ Refused refusal → LacksUnits texts.now refusal) }
 {
+    let mut files = List::new(alloc);
     for (file, text) in texts.iter().enumerate() {
-        check_text(alloc, file as u32, text.items(), lists[file].items())?;
+        files.push(units_of_text(alloc, file as u32, text.items(), lists[file].items())?)?;
     }
-    Ok(())
+    Ok(files)
 }
 
-fn check_text(alloc: Global, file: u32, text: &[u8], tokens: &[Token]) -> Answer<()>
+fn units_of_text(alloc: Global, file: u32, text: &[u8], tokens: &[Token]) -> Answer<List<Unit>>
     requires short { length text.now ≤ 4194304 }
     requires tokens { Tokens text.now tokens.now }
-    ensures ok { OnOk result (HasUnits file text.now) }
+    ensures ok { IfOk result (λ found. AreUnits file text.now found) }
     ensures err { IfErr result (λ stop. (refusal : Refusal) → stop ≡ Refused refusal → IsTooNested file tokens.now (length text.now) refusal ⊎ IsSyntaxError file tokens.now (length text.now) refusal) }
 {
-    units(alloc, file, tokens, text.len() as u32)?;
-    Ok(())
+    units(alloc, file, tokens, text.len() as u32)
 }

@@ -2,14 +2,9 @@
 #![tactic(auto)]
 
 mod command;
-mod conditions;
-mod form;
 mod input;
 mod laws;
 mod line;
-mod meaning;
-mod reading;
-mod served;
 mod status;
 mod text;
 mod words;

@@ -5,6 +5,8 @@ use std::alloc::Global;
 use std::process::Abort;
 use std::test::Fail;
 
+mod models;
+
 const STATES: &[u8] = b"states ok: initial state; bad: state;\n";
 
 const BOTH: &[u8] = b"transitions ok -[e1 and e2]-> bad;\n";
@@ -365,7 +367,7 @@ fn fronts_of_a_text(rt: HostRuntime) -> Result<(), Fail> {
             // These are syntax errors somewhere.
             _ => continue,
         };
-        let (status, out) = answer_of(alloc, WORDS, &text[..count])?;
+        let (status, out) = answer_of(alloc, WORDS, &[(b"a.aadl", &text[..count])])?;
         assert_eq!(rt; status, wanted);
         let written = if wanted == Status::Done { LISTING } else { b"" };
         assert_eq!(rt; out.bytes(), written);
@@ -374,7 +376,7 @@ fn fronts_of_a_text(rt: HostRuntime) -> Result<(), Fail> {
         if matches!(count, 31..=179 | 205..=227) {
             continue;
         }
-        let (status, _) = answer_of(alloc, WORDS, &text[..count])?;
+        let (status, _) = answer_of(alloc, WORDS, &[(b"a.aadl", &text[..count])])?;
         let is_syntax = match status {
             Status::Refused(refusal) => {
                 refusal.code == Code::Syntax && matches!(refusal.place, Place::At { file: 0, .. })
@@ -386,14 +388,21 @@ fn fronts_of_a_text(rt: HostRuntime) -> Result<(), Fail> {
     Ok(())
 }
 
-/// What the words answer over a file `a.aadl` of this text, and what `out` took.
-fn answer_of(alloc: Global, words: &[&[u8]], text: &[u8]) -> Result<(Status, MemorySink), Fail> {
+/// What the words answer over files of these names and texts, and what `out` took.
+fn answer_of(
+    alloc: Global,
+    words: &[&[u8]],
+    texts: &[(&[u8], &[u8])],
+) -> Result<(Status, MemorySink), Fail> {
     let mut list = Vec::new(alloc);
     for text in words {
         list.push(word(alloc, text)?)?;
     }
-    let entry = (word(alloc, b"a.aadl")?, Vec::from_slice(alloc, text)?);
-    let mut files = MemoryFiles::new(vec![in alloc; entry]?, Vec::new(alloc));
+    let mut entries = Vec::new(alloc);
+    for (name, text) in texts {
+        entries.push((word(alloc, name)?, Vec::from_slice(alloc, text)?))?;
+    }
+    let mut files = MemoryFiles::new(entries, Vec::new(alloc));
     let mut out = MemorySink::new(alloc, Vec::new(alloc), 64, 4096)?;
     let mut err = MemorySink::new(alloc, Vec::new(alloc), 64, 4096)?;
     let status = run(alloc, list.as_slice(), &mut files, &mut out, &mut err);
@@ -426,6 +435,8 @@ fn grammar(rt: HostRuntime) -> Result<(), Fail> {
     no_end.extend_from_slice(&a[224.min(a.len())..])?;
     let deep = nested(alloc, 64)?;
     let shallow = nested(alloc, 63)?;
+    let done = (Status::Done, b"1 root/e1\nend\n".as_slice(), b"".as_slice());
+    expect(&rt, alloc, WORDS, shallow.as_slice(), WELL, done)?;
     let [cuts, root, bad, file] = [b"cuts".as_slice(), b"p::s", b"root/state:bad", b"a.aadl"];
     let in_second = Status::Refused(Refusal {
         code: Code::Syntax,
@@ -437,7 +448,7 @@ fn grammar(rt: HostRuntime) -> Result<(), Fail> {
         place: Place::At { file: 0, at: 208 },
         limit: 64,
     });
-    let rows: [(&[&[u8]], &[u8], Status, &[u8]); 8] = [
+    let rows: [(&[&[u8]], &[u8], Status, &[u8]); 7] = [
         (WORDS, b"", syntax(0), b"aadl_fta: S1 Syntax a.aadl:0\n"),
         (
             WORDS,
@@ -462,13 +473,6 @@ fn grammar(rt: HostRuntime) -> Result<(), Fail> {
             deep.as_slice(),
             too_nested,
             b"aadl_fta: M3 TooNested a.aadl:208 over 64\n",
-        ),
-        // It is read, and not served yet.
-        (
-            WORDS,
-            shallow.as_slice(),
-            Status::NotYet,
-            b"aadl_fta: not yet\n",
         ),
         // The grammar comes before the root, and the first file before the second.
         (
@@ -578,8 +582,12 @@ fn faults(rt: HostRuntime) -> Result<(), Fail> {
 fn words_without_command(rt: HostRuntime) -> Result<(), Fail> {
     let alloc = rt.alloc();
     let [cuts, root, bad, file] = [b"cuts".as_slice(), b"p::s", b"root/state:bad", b"a.aadl"];
-    let rows: [&[&[u8]]; 12] = [
+    let rows: [&[&[u8]]; 16] = [
         &[],
+        &[b"check"],
+        &[b"check", root],
+        &[b"check", b"p", file],
+        &[b"check", root, b"--all", file],
         &[cuts, root],
         &[cuts, root, bad],
         &[b"cut", root, bad, file],
@@ -601,6 +609,388 @@ fn words_without_command(rt: HostRuntime) -> Result<(), Fail> {
         expect(&rt, alloc, words, b"", WELL, wanted)?;
     }
     Ok(())
+}
+
+#[test]
+fn numbers(rt: HostRuntime) -> Result<(), Fail> {
+    let alloc = rt.alloc();
+    let whole = text_of(alloc, STATES, BOTH)?;
+    let a = whole.as_slice();
+    let [check, root, file] = [b"check".as_slice(), b"p::s", b"a.aadl"];
+    let three = b"components 1\nfacts 2\nevents 2\n".as_slice();
+    let n2 = b"aadl_fta: N2 UnknownPackage\n".as_slice();
+    let n3 = b"aadl_fta: N3 UnknownClassifier\n".as_slice();
+    let in_second = Status::Refused(Refusal {
+        code: Code::Syntax,
+        place: Place::At { file: 1, at: 9 },
+        limit: 0,
+    });
+    let rows: [(&[&[u8]], Outside, Wanted); 12] = [
+        (&[check, root, file], WELL, (Status::Done, three, b"")),
+        (&[b"check", b"P::S", file], WELL, (Status::Done, three, b"")),
+        (
+            &[check, b"q::x", file],
+            WELL,
+            (of_words(Code::UnknownPackage, 0), b"", n2),
+        ),
+        (
+            &[check, b"p::x", file],
+            WELL,
+            (of_words(Code::UnknownClassifier, 0), b"", n3),
+        ),
+        (
+            &[check, b"p::s.i", file],
+            WELL,
+            (of_words(Code::UnknownClassifier, 0), b"", n3),
+        ),
+        // A target is no word of it: each word after the root is a file.
+        (
+            &[check, root, b"root/state:bad", file],
+            WELL,
+            (
+                Status::ReadFault(0),
+                b"",
+                b"aadl_fta: cannot read root/state:bad\n",
+            ),
+        ),
+        (
+            &[check, root, file, b"b.aadl"],
+            WELL,
+            (
+                Status::ReadFault(1),
+                b"",
+                b"aadl_fta: cannot read b.aadl\n",
+            ),
+        ),
+        (
+            &[check, root, file, b"cut.aadl"],
+            WELL,
+            (in_second, b"", b"aadl_fta: S1 Syntax cut.aadl:9\n"),
+        ),
+        (
+            &[check, root, file, file],
+            WELL,
+            (Status::NotYet, b"", b"aadl_fta: not yet\n"),
+        ),
+        (
+            &[check, root, file],
+            Outside {
+                writes: &[0],
+                ..WELL
+            },
+            (Status::WriteFault, b"", b"aadl_fta: cannot write\n"),
+        ),
+        (
+            &[check, root, file],
+            Outside { room: 12, ..WELL },
+            (
+                Status::WriteFault,
+                b"components 1",
+                b"aadl_fta: cannot write\n",
+            ),
+        ),
+        (
+            &[check, root, file],
+            Outside { piece: 1, ..WELL },
+            (Status::Done, three, b""),
+        ),
+    ];
+    for (words, outside, wanted) in &rows {
+        expect(&rt, alloc, words, a, *outside, *wanted)?;
+    }
+    Ok(())
+}
+
+/// The parts of a package: what stands before its annex, its library, its classifier, and what stands after it.
+type Parts<'a> = [&'a [u8]; 4];
+
+fn package_of(alloc: Global, parts: &Parts) -> Mem<Vec<u8>> {
+    let [before, library, classifier, after] = parts;
+    let mut text = Vec::from_slice(alloc, b"package p public ")?;
+    text.extend_from_slice(before)?;
+    text.extend_from_slice(b"annex EMV2 {** ")?;
+    text.extend_from_slice(library)?;
+    text.extend_from_slice(b" **}; ")?;
+    text.extend_from_slice(classifier)?;
+    text.extend_from_slice(after)?;
+    text.extend_from_slice(b" end p;")?;
+    Ok(text)
+}
+
+/// A machine with two events and two states, and the classifier that uses it.
+const MACHINE: &[u8] = b"error behavior m events e1: error event; e2: error event; states ok: initial state; bad: state; transitions ok -[e1]-> bad; end behavior;";
+
+const USE: &[u8] = b"system s annex EMV2 {** use behavior p::m; **}; end s;";
+
+/// What the text of these parts is answered.
+fn answer_of_parts(alloc: Global, parts: &Parts) -> Result<(Status, MemorySink), Fail> {
+    let text = package_of(alloc, parts)?;
+    answer_of(alloc, WORDS, &[(b"a.aadl", text.as_slice())])
+}
+
+#[test]
+fn served_forms(rt: HostRuntime) -> Result<(), Fail> {
+    let alloc = rt.alloc();
+    // What has no meaning may stand in a text of the first form: it is read past, or comes to the same units.
+    let rows: [Parts; 12] = [
+        [b"", MACHINE, USE, b""],
+        [b"with q, r::t; ", MACHINE, USE, b""],
+        [b"annex other {** ( **}; ", MACHINE, USE, b""],
+        [b"annex EMV2 {** **}; ", MACHINE, USE, b""],
+        [b"", MACHINE, USE, b"private properties a => 1; "],
+        [b"", MACHINE, b"", b"private system s annex EMV2 {** use behavior p::m; **}; end x; "],
+        [b"", MACHINE, b"device s annex EMV2 {** use behavior p::m; **}; end s;", b""],
+        [
+            b"",
+            MACHINE,
+            b"system s features none; flows none; modes none; prototypes none; properties a => 1; annex EMV2 {** use behavior p::m; **}; end s;",
+            b"",
+        ],
+        [
+            b"",
+            MACHINE,
+            b"system s annex EMV2 {** use behavior q::r; use behavior p::m; **}; end s;",
+            b"",
+        ],
+        [
+            b"",
+            b"error behavior m states bad: state; transitions ok -[e1]-> bad; events e2: error event; states ok: initial state; events e1: error event; end behavior;",
+            USE,
+            b"",
+        ],
+        [
+            b"",
+            b"error behavior m events e1: error event; states ok: initial state; bad: state; transitions end behavior; type mappings x end mappings; ",
+            USE,
+            b"",
+        ],
+        [
+            b"",
+            b"error behavior m events e1: error event; states ok: initial state; bad: state; transitions ok -[e1 or e1 and e1]-> bad; end behavior;",
+            USE,
+            b"",
+        ],
+    ];
+    for (number, parts) in rows.iter().enumerate() {
+        let (status, out) = answer_of_parts(alloc, parts)?;
+        assert_eq!(rt; status, Status::Done);
+        let listing = if number == 10 { b"end\n".as_slice() } else { b"1 root/e1\nend\n" };
+        assert_eq!(rt; out.bytes(), listing);
+    }
+    Ok(())
+}
+
+#[test]
+fn other_packages(rt: HostRuntime) -> Result<(), Fail> {
+    let alloc = rt.alloc();
+    // Each has one thing that the first form does not have.
+    let rows: [Parts; 14] = [
+        [b"x renames system q::t; ", MACHINE, USE, b""],
+        [b"error renames package q; ", MACHINE, USE, b""],
+        [b"annex EMV2 {** error types end types; **}; ", MACHINE, USE, b""],
+        [b"annex EMV2 {** error behavior n end behavior; **}; ", MACHINE, USE, b""],
+        [b"", b"", USE, b""],
+        [b"", MACHINE, b"", b""],
+        [b"", MACHINE, USE, b"system t end t; "],
+        [b"", MACHINE, USE, b"end p; package q"],
+        [b"", MACHINE, USE, b"end p; property set x is end x; package p"],
+        [b"", MACHINE, b"system implementation s.i annex EMV2 {** use behavior p::m; **}; end s.i;", b""],
+        [b"", MACHINE, b"system s extends t annex EMV2 {** use behavior p::m; **}; end s;", b""],
+        [b"", MACHINE, b"system s prototypes x: system; annex EMV2 {** use behavior p::m; **}; end s;", b""],
+        [b"", MACHINE, b"system s features x: in data port; annex EMV2 {** use behavior p::m; **}; end s;", b""],
+        [
+            b"",
+            MACHINE,
+            b"system s annex EMV2 {** use behavior p::m; **}; annex EMV2 {** use behavior p::m; **}; end s;",
+            b"",
+        ],
+    ];
+    for parts in &rows {
+        let (status, out) = answer_of_parts(alloc, parts)?;
+        assert_eq!(rt; status, Status::NotYet);
+        assert_eq!(rt; out.bytes(), b"".as_slice());
+    }
+    Ok(())
+}
+
+#[test]
+fn other_clauses(rt: HostRuntime) -> Result<(), Fail> {
+    let alloc = rt.alloc();
+    let rows: [&[u8]; 19] = [
+        b"",
+        b"use behavior m;",
+        b"use behavior p::n;",
+        b"use behavior q::m;",
+        b"use behavior p::m; use behavior p::n;",
+        b"use types p; use behavior p::m;",
+        b"use behavior p::m; use mappings p::x;",
+        b"use behavior p::m; use type equivalence p::x;",
+        b"use behavior p::m; error propagations o: out propagation {t}; end propagations;",
+        b"use behavior p::m; error propagations flows f: error sink o; end propagations;",
+        b"use behavior p::m; component error behavior use transformations p::x; end component;",
+        b"use behavior p::m; component error behavior events e: error event; end component;",
+        b"use behavior p::m; component error behavior transitions ok -[e1]-> bad; end component;",
+        b"use behavior p::m; component error behavior propagations bad -[]-> o; end component;",
+        b"use behavior p::m; composite error behavior states [others]-> bad; end composite;",
+        b"use behavior p::m; connection error end connection;",
+        b"use behavior p::m; propagation paths x: propagation point; end paths;",
+        b"use behavior p::m; propagation paths x: a -> b; end paths;",
+        b"use behavior p::m; properties a => 1;",
+    ];
+    for clause in &rows {
+        let mut classifier = Vec::from_slice(alloc, b"system s annex EMV2 {** ")?;
+        classifier.extend_from_slice(clause)?;
+        classifier.extend_from_slice(b" **}; end s;")?;
+        let (status, _) = answer_of_parts(alloc, &[b"", MACHINE, classifier.as_slice(), b""])?;
+        assert_eq!(rt; status, Status::NotYet);
+    }
+    Ok(())
+}
+
+#[test]
+fn other_machines(rt: HostRuntime) -> Result<(), Fail> {
+    let alloc = rt.alloc();
+    let states = b"states ok: initial state; bad: state;".as_slice();
+    let events = b"events e1: error event; e2: error event;".as_slice();
+    let step = b"transitions ok -[e1]-> bad;".as_slice();
+    // What stands after the name, the events, the states and the transitions, and how that is answered.
+    let rows: [(Parts, Status); 27] = [
+        ([b"", events, states, step], Status::Done),
+        ([b"extends p::n", events, states, step], Status::NotYet),
+        ([b"use types p;", events, states, step], Status::NotYet),
+        ([b"use transformations p::x;", events, states, step], Status::NotYet),
+        ([b"properties a => 1;", events, states, step], Status::NotYet),
+        ([b"", b"events e1: error event {t};", states, step], Status::NotYet),
+        ([b"", b"events e1: recover event;", states, step], Status::NotYet),
+        ([b"", b"events e1: error event; e1: error event;", states, step], Status::NotYet),
+        ([b"", events, b"states ok: initial state; bad: state {t};", step], Status::NotYet),
+        ([b"", events, b"states ok: initial state; bad: state; bad: state;", step], Status::NotYet),
+        ([b"", events, b"states ok: initial state;", step], Status::NotYet),
+        ([b"", events, b"states bad: state;", step], Status::NotYet),
+        ([b"", events, states, b"transitions t: ok -[e1]-> bad;"], Status::NotYet),
+        ([b"", events, states, b"transitions all -[e1]-> bad;"], Status::NotYet),
+        ([b"", events, states, b"transitions ok{t} -[e1]-> bad;"], Status::NotYet),
+        ([b"", events, states, b"transitions ok -[e1]-> bad{t};"], Status::NotYet),
+        ([b"", events, states, b"transitions ok -[e1]-> same state;"], Status::NotYet),
+        (
+            [b"", events, states, b"transitions ok -[e1]-> (bad with 0.5, ok with 0.5);"],
+            Status::NotYet,
+        ),
+        ([b"", events, states, b"transitions ok -[e1]-> (bad with 1.0);"], Status::Done),
+        ([b"", events, states, b"transitions ok -[in e1]-> bad;"], Status::NotYet),
+        ([b"", events, states, b"transitions ok -[e1.e2]-> bad;"], Status::NotYet),
+        ([b"", events, states, b"transitions ok -[e1{t}]-> bad;"], Status::NotYet),
+        ([b"", events, states, b"transitions ok -[e9]-> bad;"], Status::NotYet),
+        ([b"", events, states, b"transitions ok -[e1 and e9]-> bad;"], Status::NotYet),
+        ([b"", events, states, b"transitions ok -[e1 or (e2 and e9)]-> bad;"], Status::NotYet),
+        ([b"", events, states, b"transitions ok -[2 ormore (e1, e2)]-> bad;"], Status::NotYet),
+        ([b"", events, states, b"transitions ok -[e1 and 1 orless (e1, e2)]-> bad;"], Status::NotYet),
+    ];
+    for (parts, wanted) in &rows {
+        let mut library = Vec::from_slice(alloc, b"error behavior m ")?;
+        for part in parts {
+            library.extend_from_slice(part)?;
+            library.push(b' ')?;
+        }
+        library.extend_from_slice(b"end behavior;")?;
+        let (status, _) = answer_of_parts(alloc, &[b"", library.as_slice(), USE, b""])?;
+        assert_eq!(rt; status, *wanted);
+    }
+    Ok(())
+}
+
+/// A machine with so many events, so many states besides two, and so many names in one condition.
+fn sized(alloc: Global, events: usize, states: usize, names: usize) -> Mem<Vec<u8>> {
+    let mut text = Vec::from_slice(alloc, b"error behavior m events e1: error event;")?;
+    for number in 1..events {
+        push_named(&mut text, b"f", number, b": error event;")?;
+    }
+    text.extend_from_slice(b"states ok: initial state; bad: state;")?;
+    for number in 2..states {
+        push_named(&mut text, b"s", number, b": state;")?;
+    }
+    text.extend_from_slice(b"transitions ok -[e1")?;
+    for _ in 1..names {
+        text.extend_from_slice(b" and e1")?;
+    }
+    text.extend_from_slice(b"]-> bad; end behavior;")?;
+    Ok(text)
+}
+
+fn push_named(text: &mut Vec<u8>, front: &[u8], number: usize, rest: &[u8]) -> Mem<()> {
+    text.push(b' ')?;
+    text.extend_from_slice(front)?;
+    for _ in 0..number {
+        text.push(b'x')?;
+    }
+    text.extend_from_slice(rest)?;
+    Ok(())
+}
+
+#[test]
+fn sizes(rt: HostRuntime) -> Result<(), Fail> {
+    let alloc = rt.alloc();
+    let rows = [
+        (16, 16, 64, Status::Done),
+        (17, 2, 1, Status::NotYet),
+        (1, 17, 1, Status::NotYet),
+        (1, 2, 65, Status::NotYet),
+    ];
+    for (events, states, names, wanted) in &rows {
+        let library = sized(alloc, *events, *states, *names)?;
+        let (status, _) = answer_of_parts(alloc, &[b"", library.as_slice(), USE, b""])?;
+        assert_eq!(rt; status, *wanted);
+    }
+    Ok(())
+}
+
+#[test]
+fn whole_models(rt: HostRuntime) -> Result<(), Fail> {
+    let alloc = rt.alloc();
+    let a = text_of(alloc, STATES, BOTH)?;
+    let a = a.as_slice();
+    let mut other = Vec::from_slice(alloc, &a[..32.min(a.len())])?;
+    other.extend_from_slice(models::OTHER_MACHINE)?;
+    other.extend_from_slice(&a[32.min(a.len())..])?;
+    let mut refined = Vec::from_slice(alloc, models::LOOP)?;
+    refined.truncate(models::LOOP.len() - 7);
+    refined.extend_from_slice(models::REFINED)?;
+    refined.extend_from_slice(b"end q;\n")?;
+    let check = b"check".as_slice();
+    let words = [check, b"p::s", b"a.aadl"];
+    assert!(rt; is_not_served(alloc, &words, &[(b"a.aadl", other.as_slice())])?);
+    let words = [check, b"q::s.i", b"b.aadl"];
+    assert!(rt; is_not_served(alloc, &words, &[(b"b.aadl", models::LOOP)])?);
+    let words = [check, b"q::s.j", b"d.aadl"];
+    assert!(rt; is_not_served(alloc, &words, &[(b"d.aadl", refined.as_slice())])?);
+    let words = [check, b"c::u", b"c.aadl"];
+    assert!(rt; is_not_served(alloc, &words, &[(b"c.aadl", models::PATHS)])?);
+    let words = [check, b"d::s.i", b"f.aadl"];
+    assert!(rt; is_not_served(alloc, &words, &[(b"f.aadl", models::TYPES)])?);
+    let words = [
+        check,
+        b"acs::control.dual",
+        b"errors.aadl",
+        b"devices.aadl",
+        b"acs.aadl",
+    ];
+    let satellite = [
+        (b"errors.aadl".as_slice(), models::SATELLITE_ERRORS),
+        (b"devices.aadl", models::SATELLITE_DEVICES),
+        (b"acs.aadl", models::SATELLITE_CONTROL),
+    ];
+    assert!(rt; is_not_served(alloc, &words, &satellite)?);
+    Ok(())
+}
+
+/// Whether the answer is NotYet, and nothing was written.
+fn is_not_served(
+    alloc: Global,
+    words: &[&[u8]],
+    texts: &[(&[u8], &[u8])],
+) -> Result<bool, Fail> {
+    let (status, out) = answer_of(alloc, words, texts)?;
+    Ok(status == Status::NotYet && out.bytes().is_empty())
 }
 
 #[test]

@@ -1,7 +1,7 @@
-ghost use Rattle.std.specs.Prelude.{◌≡◌, ℕ, ◌++◌, ◌∷◌, IfOk, OnOk, OnErr, IsErrOf, map, take};
+ghost use Rattle.std.specs.Prelude.{◌≡◌, ℕ, ◌++◌, ◌∷◌, IfOk, OnOk, OnErr, IsErrOf, length, map, take};
 ghost use Rattle.std.specs.List.{flat_map};
 ghost use Rattle.fta_outside.specs.Outside.{Rose, with_bytes, TookPrefix};
-ghost use Rattle.fta_run.specs.Text.{event_name, set_text, set_line, listing_text};
+ghost use Rattle.fta_run.specs.Text.{event_name, set_text, set_line, listing_text, number_line, numbers_text};
 ghost use Rattle.fta_run.specs.declared.text.WriteStop.TheVariants.{Failed, Memory};
 
 use aadl_syntax::{List, Mem};
@@ -51,6 +51,43 @@ pub fn write_listing<S: Sink>(
         write_all(out, line.as_slice())?;
     }
     write_all(out, b"end\n")?;
+    Ok(())
+}
+
+/// Writes the lines of the numbers of components, facts and events, all at once.
+pub fn write_numbers<S: Sink>(
+    alloc: Global,
+    components: u32,
+    system: &FaultSystem,
+    out: &mut S,
+) -> Result<(), WriteStop>
+    ensures whole { OnOk result (S.taken out.new ≡ with_bytes (S.taken out.old) (numbers_text components (length system.now.facts) (length system.now.events))) }
+    ensures prefix { OnErr result (TookPrefix (S.taken out.old) (S.taken out.new) (numbers_text components (length system.now.facts) (length system.now.events))) }
+    ensures failed { IsErrOf result WriteStop.Failed → Rose (S.faults out.old) (S.faults out.new) }
+{
+    let text = numbers_text(alloc, components, system.facts(), system.events())?;
+    write_all(out, text.as_slice())?;
+    Ok(())
+}
+
+fn numbers_text(alloc: Global, components: u32, facts: u32, events: u32) -> Mem<Vec<u8>>
+    ensures { IfOk result (λ text. text.items ≡ numbers_text components facts events) }
+{
+    let mut text = Vec::new(alloc);
+    push_number(&mut text, b"components", components)?;
+    push_number(&mut text, b"facts", facts)?;
+    push_number(&mut text, b"events", events)?;
+    Ok(text)
+}
+
+fn push_number(text: &mut Vec<u8>, name: &[u8], number: u32) -> Mem<()>
+    ensures { OnOk result (text.new.items ≡ text.old.items ++ number_line name.now number) }
+{
+    let mut buffer = Buffer::new();
+    text.extend_from_slice(name)?;
+    text.push(b' ')?;
+    text.extend_from_slice(buffer.format(number).as_bytes())?;
+    text.push(b'\n')?;
     Ok(())
 }
 

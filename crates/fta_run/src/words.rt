@@ -1,7 +1,8 @@
 ghost use Rattle.std.specs.Prelude.{◌≡◌, ◌<◌, ◌++◌, ◌∷◌, [], ◌≤◌, ◌↔◌, ℕ, List, Some, IsSome, IsTrue, IfOk, IfSome, IsSomeAnd, MatchOption, length, false};
 ghost use Rattle.std.specs.List.{AllByRecursion};
 ghost use Rattle.aadl_lexer.specs.Form.{IsWord, is_letter, is_letter_or_digit};
-ghost use Rattle.fta_run.specs.Words.{IsCuts, IsRoot, IsPlainWord, AreJoined, follows_well, with_colons};
+ghost use Rattle.fta_run.specs.Words.{IsCommand, IsRoot, IsPlainWord, AreJoined, file_words, follows_well, with_colons};
+ghost use Rattle.fta_run.specs.declared.words.Task.{Task as AnyTask};
 ghost use Rattle.aadl_syntax.specs.declared.name.Root.{Root};
 ghost use Rattle.aadl_syntax.specs.Name.{folded};
 
@@ -9,35 +10,75 @@ use aadl_lexer::{is_letter, is_letter_or_digit};
 use aadl_syntax::{List, Mem, Name, Root, Word, fold, is_same};
 use std::alloc::Global;
 
-/// The command `cuts`: the minimal cut sets of a target in the model of a root, which stands in files.
+/// A command: what is asked of the model of a root, which stands in files.
 #[derive(Drop)]
-pub struct Cuts<'a> {
+pub struct Command<'a> {
     pub root: Root,
-    /// The name of the fact, folded.
-    pub target: Name,
+    pub task: Task,
     /// The names of the files, at least one.
     pub files: &'a [Word],
 }
 
+/// What a command asks for.
+#[derive(Debug, Drop)]
+pub enum Task {
+    /// The numbers of components, facts and events.
+    Check,
+    /// The minimal cut sets of the fact of this name, which is folded.
+    Cuts(Name),
+}
+
 /// The command that the words give, if they give one.
-pub fn command_of<'a>(alloc: Global, words: &'a [Word]) -> Mem<Option<Cuts<'a>>>
-    ensures found { IfOk result (λ answer. IfSome answer (λ cuts. IsCuts words.now cuts.root cuts.target cuts.files.now)) }
-    ensures only { (root : Root) (target : List ℕ) (files : List (List ℕ)) → IsCuts words.now root target files → IfOk result (λ answer. IsSomeAnd answer (λ cuts. (cuts.root ≡ root) × (cuts.target ≡ target) × (cuts.files.now ≡ files))) }
+pub fn command_of<'a>(alloc: Global, words: &'a [Word]) -> Mem<Option<Command<'a>>>
+    ensures found { IfOk result (λ answer. IfSome answer (λ command. IsCommand words.now command.root command.task command.files.now)) }
+    ensures named { IfOk result (λ answer. IfSome answer (λ command. command.files.now ≡ file_words words.now)) }
+    ensures only { (root : Root) (task : AnyTask) (files : List (List ℕ)) → IsCommand words.now root task files
+        → IfOk result (λ answer. IsSomeAnd answer (λ command. (command.root ≡ root) × (command.task ≡ task) × (command.files.now ≡ files))) }
 {
-    let [name, root, target, files @ ..] = words else {
-        return Ok(None);
-    };
-    if files.is_empty() || !is_same(name.items(), b"cuts") || !are_plain(words) {
+    if !are_plain(words) {
         return Ok(None);
     }
-    let Some(root) = root_of(alloc, root.items())? else {
+    match words {
+        [name, root, files @ ..] if is_same(name.items(), b"check") => {
+            with_root(alloc, root.items(), Task::Check, files)
+        }
+        [name, root, target, files @ ..] if is_same(name.items(), b"cuts") => {
+            let target = fold(alloc, target.items())?;
+            with_root(alloc, root.items(), Task::Cuts(target), files)
+        }
+        _ => Ok(None),
+    }
+}
+
+/// The command of a task, if the word stands for a root and there is a file.
+fn with_root<'a>(
+    alloc: Global,
+    word: &[u8],
+    task: Task,
+    files: &'a [Word],
+) -> Mem<Option<Command<'a>>>
+    ensures found { IfOk result (λ answer. IfSome answer (λ command. (0 < length files.now) × IsRoot (folded word.now) command.root × (command.task ≡ task) × (command.files.now ≡ files.now))) }
+    ensures only { (root : Root) → 0 < length files.now → IsRoot (folded word.now) root
+        → IfOk result (λ answer. IsSomeAnd answer (λ command. (command.root ≡ root) × (command.task ≡ task) × (command.files.now ≡ files.now))) }
+{
+    if files.is_empty() {
         return Ok(None);
-    };
-    Ok(Some(Cuts {
-        root,
-        target: fold(alloc, target.items())?,
-        files,
-    }))
+    }
+    match root_of(alloc, word)? {
+        Some(root) => Ok(Some(Command { root, task, files })),
+        None => Ok(None),
+    }
+}
+
+/// The words that name files, where the words give a command.
+pub fn file_words(words: &[Word]) -> &[Word]
+    ensures { result.now ≡ file_words words.now }
+{
+    match words {
+        [name, _, files @ ..] if is_same(name.items(), b"check") => files,
+        [_, _, _, files @ ..] => files,
+        _ => &[],
+    }
 }
 
 fn are_plain(words: &[Word]) -> bool

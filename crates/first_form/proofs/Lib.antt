@@ -1,0 +1,5 @@
+mod AtomsIn
+pub mod MadeSystem
+mod NameLists
+pub mod OneForm
+mod Room
