@@ -29,6 +29,7 @@ state_names machine = map (λ state. state.name) machine.states
 
 -- ---- conditions
 
+-- the atoms of a condition from those of its parts: a part that counts others (`ormore`, `orless`) gives None
 abbrev pub atoms_step : Condition-F (List (Option Atom)) → List (Option Atom)
 atoms_step (condition.Atom atom) = Some atom ∷ []
 atoms_step (All parts) = flat_map (λ atoms. atoms) parts
@@ -36,7 +37,7 @@ atoms_step (Any parts) = flat_map (λ atoms. atoms) parts
 atoms_step (AtLeast least parts) = None ∷ []
 atoms_step (AtMost most parts spot) = None ∷ []
 
--- the atoms in a condition, from left to right, and None for each part that counts others (`ormore`, `orless`)
+-- the atoms in a condition, from left to right, and None for each part that counts others
 abbrev pub atoms_in : Condition → List (Option Atom)
 atoms_in = fold-Condition (List (Option Atom)) atoms_step
 
@@ -76,7 +77,7 @@ pub record IsPlainEvent (event : EventDecl) : Type 0 where
 abbrev pub IsPlainState : StateDecl → Type 0
 IsPlainState state = state.set ≡ None
 
--- The events and the states of a machine are plain, and no two of a sort have one name; so are its transitions.
+-- The events, the states and the transitions of a machine are plain. No two events have one name, and no two states.
 pub record IsPlainMachine (machine : MachineDecl) : Type 0 where
   pub events : AllByRecursion IsPlainEvent machine.events
   pub states : AllByRecursion IsPlainState machine.states
@@ -99,16 +100,17 @@ pub record IsAlone (machine : MachineDecl) : Type 0 where
 
 -- ---- the classifier
 
--- A classifier is a component type that extends no other and has no members.
+-- A classifier is a component type that extends no other and has no prototypes and no members.
 pub record IsPlainClassifier (decl : Decl) : Type 0 where
   pub no_item : decl.item ≡ None
   pub no_extends : decl.extends ≡ None
+  pub no_binds : decl.binds ≡ None
   pub no_prototypes : decl.prototypes ≡ None
   pub no_features : decl.features ≡ []
   pub no_subcomponents : decl.subcomponents ≡ []
   pub no_connections : decl.connections ≡ []
 
--- A clause has no points, flows, paths and composites, ..
+-- A clause has no points, flows and composites, no error behavior of connections, and none of the user's points and paths, ..
 pub record HasNoPoints (clause : Emv2Clause) : Type 0 where
   pub no_points : clause.points ≡ []
   pub no_flows : clause.flows ≡ []
@@ -117,8 +119,8 @@ pub record HasNoPoints (clause : Emv2Clause) : Type 0 where
   pub no_user_points : clause.user_points ≡ []
   pub no_user_paths : clause.user_paths ≡ []
 
--- .. and no types, mappings, associations, and no events, transitions and outgoing conditions of its own.
-pub record HasNoBehavior (clause : Emv2Clause) : Type 0 where
+-- .. and no types, mappings, events, transitions, outgoing conditions and property associations.
+pub record HasNothingOfItsOwn (clause : Emv2Clause) : Type 0 where
   pub no_uses : clause.uses ≡ []
   pub no_mappings : clause.mappings ≡ []
   pub no_events : clause.events ≡ []
@@ -129,12 +131,12 @@ pub record HasNoBehavior (clause : Emv2Clause) : Type 0 where
 -- A clause is a use of the machine of these names and nothing more.
 pub record IsUse (names : List (List ℕ)) (clause : Emv2Clause) : Type 0 where
   pub no_points : HasNoPoints clause
-  pub no_behavior : HasNoBehavior clause
-  pub machine : IsSomeAnd clause.machine (λ used. used.names ≡ names)
+  pub nothing_of_its_own : HasNothingOfItsOwn clause
+  pub machine : IsSomeAnd clause.machine (λ used. (used.names ≡ names) × (used.item ≡ None))
 
 -- ---- the whole
 
--- The units are one package of one name, in which stand one machine and one classifier, and nothing else that has a meaning.
+-- The units are one package of one name, with one machine, one classifier, no types and no aliases.
 pub record AreParts (units : List FileUnit) (package_name : List ℕ) (machine : MachineDecl) (classifier : Decl) : Type 0 where
   pub whole : PackageUnit
   pub one_unit : units ≡ Package whole ∷ []

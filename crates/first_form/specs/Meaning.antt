@@ -18,7 +18,8 @@ use Rattle.fault_system.specs.declared.formula.EventInfo.{EventInfo}
 use Rattle.first_form.specs.Names.{one_name, place_of}
 use Rattle.first_form.specs.Form.{event_names, state_names}
 
--- a condition as a formula: names stand for their events. The first form has no counts; at most so many would be false.
+-- a condition as a formula, from the formulas of its parts: names stand for their events. No condition of the first form has
+-- a part that counts others, so what stands there is the formula of none.
 abbrev pub formula_step : List (List ℕ) → Condition-F Formula → Formula
 formula_step events (condition.Atom atom) = Event (place_of events (one_name atom.names))
 formula_step events (condition.All parts) = And parts
@@ -26,6 +27,7 @@ formula_step events (condition.Any parts) = Or parts
 formula_step events (condition.AtLeast least parts) = AtLeast least parts
 formula_step events (condition.AtMost most parts spot) = Or []
 
+-- a condition of the first form as a formula
 abbrev pub formula_of : List (List ℕ) → Condition → Formula
 formula_of events = fold-Condition Formula (formula_step events)
 

@@ -1,10 +1,10 @@
-ghost use Rattle.std.specs.Prelude.{◌≡◌, ◌↔◌, ℕ, List, [], ◌∷◌, IsSomeAnd, IsTrue, MatchOption, length};
+ghost use Rattle.std.specs.Prelude.{◌≡◌, ◌↔◌, ℕ, List, [], ◌∷◌, None, IsSomeAnd, IsTrue, MatchOption, length};
 ghost use Rattle.std.specs.List.{AllByRecursion};
 ghost use Rattle.aadl_syntax.specs.declared.core_model.Decl.{Decl};
 ghost use Rattle.aadl_syntax.specs.declared.error_model.MachineDecl.{MachineDecl};
-ghost use Rattle.first_form.specs.Form.{AreParts, HasNoBehavior, HasNoPoints, IsFirstForm, IsPlainClassifier, IsUse};
+ghost use Rattle.first_form.specs.Form.{AreParts, HasNothingOfItsOwn, HasNoPoints, IsFirstForm, IsPlainClassifier, IsUse};
 
-use crate::machine::is_served_machine;
+use crate::machine::is_plain_and_small;
 use aadl_syntax::{Decl, Emv2Clause, MachineDecl, Name, Unit, is_same};
 
 /// The parts of a text of the first form: its package's name, its machine, and the classifier that uses it.
@@ -24,7 +24,7 @@ pub fn first_form(units: &[Unit]) -> Option<FirstForm<'_>>
         return None;
     };
     if uses_machine(form.classifier, form.package_name, form.machine)
-        && is_served_machine(form.machine)
+        && is_plain_and_small(form.machine)
     {
         return Some(form);
     }
@@ -76,6 +76,7 @@ fn is_plain(classifier: &Decl) -> bool
 {
     classifier.item.is_none()
         && classifier.extends.is_none()
+        && classifier.binds.is_none()
         && classifier.prototypes.is_none()
         && classifier.features.items().is_empty()
         && classifier.subcomponents.items().is_empty()
@@ -96,7 +97,9 @@ fn are_uses(clauses: &[Emv2Clause], package_name: &[u8], machine: &[u8]) -> bool
 fn is_use(clause: &Emv2Clause, package_name: &[u8], machine: &[u8]) -> bool
     ensures { IsTrue result ↔ IsUse (package_name.now ∷ machine.now ∷ []) clause.now }
 {
-    has_no_points(clause) && has_no_behavior(clause) && names_machine(clause, package_name, machine)
+    has_no_points(clause)
+        && has_nothing_of_its_own(clause)
+        && names_machine(clause, package_name, machine)
 }
 
 fn has_no_points(clause: &Emv2Clause) -> bool
@@ -110,8 +113,8 @@ fn has_no_points(clause: &Emv2Clause) -> bool
         && clause.user_paths.items().is_empty()
 }
 
-fn has_no_behavior(clause: &Emv2Clause) -> bool
-    ensures { IsTrue result ↔ HasNoBehavior clause.now }
+fn has_nothing_of_its_own(clause: &Emv2Clause) -> bool
+    ensures { IsTrue result ↔ HasNothingOfItsOwn clause.now }
 {
     clause.uses.items().is_empty()
         && clause.mappings.items().is_empty()
@@ -121,12 +124,12 @@ fn has_no_behavior(clause: &Emv2Clause) -> bool
         && clause.associations.items().is_empty()
 }
 
-/// Whether the machine that a clause uses has these two names.
+/// Whether the machine that a clause uses has these two names, and no more.
 fn names_machine(clause: &Emv2Clause, package_name: &[u8], machine: &[u8]) -> bool
-    ensures { IsTrue result ↔ IsSomeAnd clause.now.machine (λ used. used.names ≡ package_name.now ∷ machine.now ∷ []) }
+    ensures { IsTrue result ↔ IsSomeAnd clause.now.machine (λ used. (used.names ≡ package_name.now ∷ machine.now ∷ []) × (used.item ≡ None)) }
 {
     match &clause.machine {
-        Some(used) => are_two(used.names.items(), package_name, machine),
+        Some(used) => { used.item.is_none() && are_two(used.names.items(), package_name, machine) }
         None => false,
     }
 }

@@ -14,11 +14,11 @@ const MOST_OF_EACH: usize = 16;
 /// How many names the conditions of a machine of the first form may have.
 const MOST_NAMES: usize = 64;
 
-/// Whether a machine is of the first form.
-pub fn is_served_machine(machine: &MachineDecl) -> bool
+/// Whether a machine stands alone, is plain and is small.
+pub fn is_plain_and_small(machine: &MachineDecl) -> bool
     ensures { IsTrue result ↔ (IsAlone machine.now × IsPlainMachine machine.now × IsSmall machine.now) }
 {
-    is_alone(machine) && is_small_machine(machine)
+    is_alone(machine) && has_few_plain_parts(machine)
 }
 
 fn is_alone(machine: &MachineDecl) -> bool
@@ -30,7 +30,7 @@ fn is_alone(machine: &MachineDecl) -> bool
         && machine.associations.items().is_empty()
 }
 
-fn is_small_machine(machine: &MachineDecl) -> bool
+fn has_few_plain_parts(machine: &MachineDecl) -> bool
     ensures { IsTrue result ↔ (IsPlainMachine machine.now × IsSmall machine.now) }
 {
     machine.events.items().len() <= MOST_OF_EACH
@@ -79,7 +79,7 @@ fn are_plain_transitions(machine: &MachineDecl) -> bool
     true
 }
 
-// What is left of the room for names after a transition, if it is plain and there is room.
+/// What is left of the room for names after a transition, if it is plain and there is room.
 fn room_after(machine: &MachineDecl, transition: &Transition, room: usize) -> Option<usize>
     ensures { MatchOption result (IsPlainTransition machine.now transition.now → length (atoms_in transition.now.condition) ≤ room → ⊥)
         (λ left. IsPlainTransition machine.now transition.now × (length (atoms_in transition.now.condition) + left ≡ room)) }

@@ -125,7 +125,7 @@ pub record IsVerdict (words : List (List ℕ)) (contents : List ℕ → Option (
   pub asked : IsAsked words contents root task files texts
   pub first : InputRefused files texts (LacksTokens texts or_else GrammarRefused texts (FormRefused root task texts)) refusal
 
--- The text is not of the first form, and no earlier phase refuses it.
+-- The texts are of no served form, and no earlier phase refuses them.
 pub record IsNotServed (words : List (List ℕ)) (contents : List ℕ → Option (List ℕ)) : Type 0 where
   pub root : Root
   pub task : Task

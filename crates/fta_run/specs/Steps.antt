@@ -78,8 +78,8 @@ IsTextEnd texts (Refused refusal) = (LacksTokens texts or_else LacksUnits texts)
 IsTextEnd texts Memory = Unit {0}
 IsTextEnd texts _ = ⊥
 
--- How the making of the system may end but well, where a task is asked for at a root: in these ways, with a later refusal, or
--- since the texts are of no served form.
+-- How a task for a root may end before anything is written: with the first refusal of the phases from the tokens on, or since
+-- the texts are of no served form.
 abbrev pub IsFormEnd : Root → Task → List (List ℕ) → Status → Type 0
 IsFormEnd root task texts (Refused refusal) = (LacksTokens texts or_else GrammarRefused texts (FormRefused root task texts)) refusal
 IsFormEnd root task texts NotYet = IsClear (LacksTokens texts) × HaveUnits texts × HaveNoForm texts

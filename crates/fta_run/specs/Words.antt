@@ -36,7 +36,7 @@ pub record IsRoot (text : List ℕ) (root : Root) : Type 0 where
   pub identifiers : AllByRecursion IsWord root.names
   pub item_identifier : IfSome root.item IsWord
 
--- The words of a task, before its files: `check` and a root, or `cuts`, a root and a target, whose letters are folded.
+-- The words of a task: `check`, a root and files, or `cuts`, a root, a target, whose letters are folded, and files.
 abbrev pub AreTaskWords : Task → List ℕ → List (List ℕ) → List (List ℕ) → Type 0
 AreTaskWords Check root_word files words = words ≡ codes "check" ∷ root_word ∷ files
 AreTaskWords (Cuts target) root_word files words = (target_word : List ℕ) × (target ≡ folded target_word) × (words ≡ codes "cuts" ∷ root_word ∷ target_word ∷ files)

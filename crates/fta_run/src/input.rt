@@ -163,11 +163,7 @@ fn tokens_of_texts(alloc: Global, texts: &[Name]) -> Answer<List<List<Token>>>
 }
 
 /// The units of each text, whose tokens are given.
-fn units_of_tokens(
-    alloc: Global,
-    texts: &[Name],
-    lists: &[List<Token>],
-) -> Answer<List<List<Unit>>>
+fn units_of_tokens(alloc: Global, texts: &[Name], lists: &[List<Token>]) -> Answer<List<List<Unit>>>
     requires few { length texts.now < 2 ^ 32 }
     requires short { All (λ text. length text ≤ 4194304) texts.now }
     requires tokens { AreTokens texts.now lists.now }

@@ -316,9 +316,9 @@ fn refusals(rt: HostRuntime) -> Result<(), Fail> {
     Ok(())
 }
 
-/// The words with so many files.
-fn with_files(alloc: Global, count: usize) -> Mem<Vec<&'static [u8]>> {
-    let mut words = Vec::from_slice(alloc, &WORDS[..3])?;
+/// These words, and so many files.
+fn with_files(alloc: Global, front: &[&'static [u8]], count: usize) -> Mem<Vec<&'static [u8]>> {
+    let mut words = Vec::from_slice(alloc, front)?;
     for _ in 0..count {
         words.push(b"a.aadl".as_slice())?;
     }
@@ -332,15 +332,20 @@ fn many_files(rt: HostRuntime) -> Result<(), Fail> {
         reads: &[0],
         ..WELL
     };
-    let words = with_files(alloc, 64)?;
     let unread = b"aadl_fta: cannot read a.aadl\n".as_slice();
     let wanted = (Status::ReadFault(0), b"".as_slice(), unread);
+    let check = [b"check".as_slice(), b"p::s"];
+    let words = with_files(alloc, &WORDS[..3], 64)?;
+    expect(&rt, alloc, words.as_slice(), b"", failing, wanted)?;
+    let words = with_files(alloc, &check, 64)?;
     expect(&rt, alloc, words.as_slice(), b"", failing, wanted)?;
 
     // With one more no file is read.
-    let words = with_files(alloc, 65)?;
     let line = b"aadl_fta: M2 TooManyFiles over 64\n".as_slice();
     let wanted = (of_words(Code::TooManyFiles, 64), b"".as_slice(), line);
+    let words = with_files(alloc, &WORDS[..3], 65)?;
+    expect(&rt, alloc, words.as_slice(), b"", failing, wanted)?;
+    let words = with_files(alloc, &check, 65)?;
     expect(&rt, alloc, words.as_slice(), b"", failing, wanted)
 }
 
@@ -656,11 +661,7 @@ fn numbers(rt: HostRuntime) -> Result<(), Fail> {
         (
             &[check, root, file, b"b.aadl"],
             WELL,
-            (
-                Status::ReadFault(1),
-                b"",
-                b"aadl_fta: cannot read b.aadl\n",
-            ),
+            (Status::ReadFault(1), b"", b"aadl_fta: cannot read b.aadl\n"),
         ),
         (
             &[check, root, file, b"cut.aadl"],
@@ -718,7 +719,8 @@ fn package_of(alloc: Global, parts: &Parts) -> Mem<Vec<u8>> {
 }
 
 /// A machine with two events and two states, and the classifier that uses it.
-const MACHINE: &[u8] = b"error behavior m events e1: error event; e2: error event; states ok: initial state; bad: state; transitions ok -[e1]-> bad; end behavior;";
+const MACHINE: &[u8] =
+    b"error behavior m events e1: error event; e2: error event; states ok: initial state; bad: state; transitions ok -[e1]-> bad; end behavior;";
 
 const USE: &[u8] = b"system s annex EMV2 {** use behavior p::m; **}; end s;";
 
@@ -731,15 +733,25 @@ fn answer_of_parts(alloc: Global, parts: &Parts) -> Result<(Status, MemorySink),
 #[test]
 fn served_forms(rt: HostRuntime) -> Result<(), Fail> {
     let alloc = rt.alloc();
-    // What has no meaning may stand in a text of the first form: it is read past, or comes to the same units.
+    // Ten texts that differ in what has no meaning, and two with other transitions.
     let rows: [Parts; 12] = [
         [b"", MACHINE, USE, b""],
         [b"with q, r::t; ", MACHINE, USE, b""],
         [b"annex other {** ( **}; ", MACHINE, USE, b""],
         [b"annex EMV2 {** **}; ", MACHINE, USE, b""],
         [b"", MACHINE, USE, b"private properties a => 1; "],
-        [b"", MACHINE, b"", b"private system s annex EMV2 {** use behavior p::m; **}; end x; "],
-        [b"", MACHINE, b"device s annex EMV2 {** use behavior p::m; **}; end s;", b""],
+        [
+            b"",
+            MACHINE,
+            b"",
+            b"private system s annex EMV2 {** use behavior p::m; **}; end x; ",
+        ],
+        [
+            b"",
+            MACHINE,
+            b"device s annex EMV2 {** use behavior p::m; **}; end s;",
+            b"",
+        ],
         [
             b"",
             MACHINE,
@@ -774,7 +786,11 @@ fn served_forms(rt: HostRuntime) -> Result<(), Fail> {
     for (number, parts) in rows.iter().enumerate() {
         let (status, out) = answer_of_parts(alloc, parts)?;
         assert_eq!(rt; status, Status::Done);
-        let listing = if number == 10 { b"end\n".as_slice() } else { b"1 root/e1\nend\n" };
+        let listing = if number == 10 {
+            b"end\n".as_slice()
+        } else {
+            b"1 root/e1\nend\n"
+        };
         assert_eq!(rt; out.bytes(), listing);
     }
     Ok(())
@@ -783,21 +799,56 @@ fn served_forms(rt: HostRuntime) -> Result<(), Fail> {
 #[test]
 fn other_packages(rt: HostRuntime) -> Result<(), Fail> {
     let alloc = rt.alloc();
-    // Each has one thing that the first form does not have.
+    // Each has one thing more than the first form has, or one less, or another in its place.
     let rows: [Parts; 14] = [
         [b"x renames system q::t; ", MACHINE, USE, b""],
         [b"error renames package q; ", MACHINE, USE, b""],
-        [b"annex EMV2 {** error types end types; **}; ", MACHINE, USE, b""],
-        [b"annex EMV2 {** error behavior n end behavior; **}; ", MACHINE, USE, b""],
+        [
+            b"annex EMV2 {** error types end types; **}; ",
+            MACHINE,
+            USE,
+            b"",
+        ],
+        [
+            b"annex EMV2 {** error behavior n end behavior; **}; ",
+            MACHINE,
+            USE,
+            b"",
+        ],
         [b"", b"", USE, b""],
         [b"", MACHINE, b"", b""],
         [b"", MACHINE, USE, b"system t end t; "],
         [b"", MACHINE, USE, b"end p; package q"],
-        [b"", MACHINE, USE, b"end p; property set x is end x; package p"],
-        [b"", MACHINE, b"system implementation s.i annex EMV2 {** use behavior p::m; **}; end s.i;", b""],
-        [b"", MACHINE, b"system s extends t annex EMV2 {** use behavior p::m; **}; end s;", b""],
-        [b"", MACHINE, b"system s prototypes x: system; annex EMV2 {** use behavior p::m; **}; end s;", b""],
-        [b"", MACHINE, b"system s features x: in data port; annex EMV2 {** use behavior p::m; **}; end s;", b""],
+        [
+            b"",
+            MACHINE,
+            USE,
+            b"end p; property set x is end x; package p",
+        ],
+        [
+            b"",
+            MACHINE,
+            b"system implementation s.i annex EMV2 {** use behavior p::m; **}; end s.i;",
+            b"",
+        ],
+        [
+            b"",
+            MACHINE,
+            b"system s extends t annex EMV2 {** use behavior p::m; **}; end s;",
+            b"",
+        ],
+        [
+            b"",
+            MACHINE,
+            b"system s prototypes x: system; annex EMV2 {** use behavior p::m; **}; end s;",
+            b"",
+        ],
+        [
+            b"",
+            MACHINE,
+            b"system s features x: in data port; annex EMV2 {** use behavior p::m; **}; end s;",
+            b"",
+        ],
         [
             b"",
             MACHINE,
@@ -858,33 +909,139 @@ fn other_machines(rt: HostRuntime) -> Result<(), Fail> {
         ([b"", events, states, step], Status::Done),
         ([b"extends p::n", events, states, step], Status::NotYet),
         ([b"use types p;", events, states, step], Status::NotYet),
-        ([b"use transformations p::x;", events, states, step], Status::NotYet),
-        ([b"properties a => 1;", events, states, step], Status::NotYet),
-        ([b"", b"events e1: error event {t};", states, step], Status::NotYet),
-        ([b"", b"events e1: recover event;", states, step], Status::NotYet),
-        ([b"", b"events e1: error event; e1: error event;", states, step], Status::NotYet),
-        ([b"", events, b"states ok: initial state; bad: state {t};", step], Status::NotYet),
-        ([b"", events, b"states ok: initial state; bad: state; bad: state;", step], Status::NotYet),
-        ([b"", events, b"states ok: initial state;", step], Status::NotYet),
-        ([b"", events, b"states bad: state;", step], Status::NotYet),
-        ([b"", events, states, b"transitions t: ok -[e1]-> bad;"], Status::NotYet),
-        ([b"", events, states, b"transitions all -[e1]-> bad;"], Status::NotYet),
-        ([b"", events, states, b"transitions ok{t} -[e1]-> bad;"], Status::NotYet),
-        ([b"", events, states, b"transitions ok -[e1]-> bad{t};"], Status::NotYet),
-        ([b"", events, states, b"transitions ok -[e1]-> same state;"], Status::NotYet),
         (
-            [b"", events, states, b"transitions ok -[e1]-> (bad with 0.5, ok with 0.5);"],
+            [b"use transformations p::x;", events, states, step],
             Status::NotYet,
         ),
-        ([b"", events, states, b"transitions ok -[e1]-> (bad with 1.0);"], Status::Done),
-        ([b"", events, states, b"transitions ok -[in e1]-> bad;"], Status::NotYet),
-        ([b"", events, states, b"transitions ok -[e1.e2]-> bad;"], Status::NotYet),
-        ([b"", events, states, b"transitions ok -[e1{t}]-> bad;"], Status::NotYet),
-        ([b"", events, states, b"transitions ok -[e9]-> bad;"], Status::NotYet),
-        ([b"", events, states, b"transitions ok -[e1 and e9]-> bad;"], Status::NotYet),
-        ([b"", events, states, b"transitions ok -[e1 or (e2 and e9)]-> bad;"], Status::NotYet),
-        ([b"", events, states, b"transitions ok -[2 ormore (e1, e2)]-> bad;"], Status::NotYet),
-        ([b"", events, states, b"transitions ok -[e1 and 1 orless (e1, e2)]-> bad;"], Status::NotYet),
+        (
+            [b"properties a => 1;", events, states, step],
+            Status::NotYet,
+        ),
+        (
+            [b"", b"events e1: error event {t};", states, step],
+            Status::NotYet,
+        ),
+        (
+            [b"", b"events e1: recover event;", states, step],
+            Status::NotYet,
+        ),
+        (
+            [
+                b"",
+                b"events e1: error event; e1: error event;",
+                states,
+                step,
+            ],
+            Status::NotYet,
+        ),
+        (
+            [
+                b"",
+                events,
+                b"states ok: initial state; bad: state {t};",
+                step,
+            ],
+            Status::NotYet,
+        ),
+        (
+            [
+                b"",
+                events,
+                b"states ok: initial state; bad: state; bad: state;",
+                step,
+            ],
+            Status::NotYet,
+        ),
+        (
+            [b"", events, b"states ok: initial state;", step],
+            Status::NotYet,
+        ),
+        ([b"", events, b"states bad: state;", step], Status::NotYet),
+        (
+            [b"", events, states, b"transitions t: ok -[e1]-> bad;"],
+            Status::NotYet,
+        ),
+        (
+            [b"", events, states, b"transitions all -[e1]-> bad;"],
+            Status::NotYet,
+        ),
+        (
+            [b"", events, states, b"transitions ok{t} -[e1]-> bad;"],
+            Status::NotYet,
+        ),
+        (
+            [b"", events, states, b"transitions ok -[e1]-> bad{t};"],
+            Status::NotYet,
+        ),
+        (
+            [b"", events, states, b"transitions ok -[e1]-> same state;"],
+            Status::NotYet,
+        ),
+        (
+            [
+                b"",
+                events,
+                states,
+                b"transitions ok -[e1]-> (bad with 0.5, ok with 0.5);",
+            ],
+            Status::NotYet,
+        ),
+        (
+            [
+                b"",
+                events,
+                states,
+                b"transitions ok -[e1]-> (bad with 1.0);",
+            ],
+            Status::Done,
+        ),
+        (
+            [b"", events, states, b"transitions ok -[in e1]-> bad;"],
+            Status::NotYet,
+        ),
+        (
+            [b"", events, states, b"transitions ok -[e1.e2]-> bad;"],
+            Status::NotYet,
+        ),
+        (
+            [b"", events, states, b"transitions ok -[e1{t}]-> bad;"],
+            Status::NotYet,
+        ),
+        (
+            [b"", events, states, b"transitions ok -[e9]-> bad;"],
+            Status::NotYet,
+        ),
+        (
+            [b"", events, states, b"transitions ok -[e1 and e9]-> bad;"],
+            Status::NotYet,
+        ),
+        (
+            [
+                b"",
+                events,
+                states,
+                b"transitions ok -[e1 or (e2 and e9)]-> bad;",
+            ],
+            Status::NotYet,
+        ),
+        (
+            [
+                b"",
+                events,
+                states,
+                b"transitions ok -[2 ormore (e1, e2)]-> bad;",
+            ],
+            Status::NotYet,
+        ),
+        (
+            [
+                b"",
+                events,
+                states,
+                b"transitions ok -[e1 and 1 orless (e1, e2)]-> bad;",
+            ],
+            Status::NotYet,
+        ),
     ];
     for (parts, wanted) in &rows {
         let mut library = Vec::from_slice(alloc, b"error behavior m ")?;
@@ -984,11 +1141,7 @@ fn whole_models(rt: HostRuntime) -> Result<(), Fail> {
 }
 
 /// Whether the answer is NotYet, and nothing was written.
-fn is_not_served(
-    alloc: Global,
-    words: &[&[u8]],
-    texts: &[(&[u8], &[u8])],
-) -> Result<bool, Fail> {
+fn is_not_served(alloc: Global, words: &[&[u8]], texts: &[(&[u8], &[u8])]) -> Result<bool, Fail> {
     let (status, out) = answer_of(alloc, words, texts)?;
     Ok(status == Status::NotYet && out.bytes().is_empty())
 }

@@ -10,7 +10,7 @@ use fta_outside::{Sink, SinkFailed, write_all};
 use itoa::Buffer;
 use std::alloc::{AllocError, Global};
 
-/// Why the text of a listing was not written whole.
+/// Why a text was not written whole.
 #[derive(Clone, Copy, Debug, PartialEq, Eq)]
 pub enum WriteStop {
     /// A write failed.

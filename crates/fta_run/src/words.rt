@@ -70,7 +70,7 @@ fn with_root<'a>(
     }
 }
 
-/// The words that name files, where the words give a command.
+/// The words that name files: those after the first two of `check`, and after the first three of any other.
 pub fn file_words(words: &[Word]) -> &[Word]
     ensures { result.now ≡ file_words words.now }
 {
