@@ -12,7 +12,7 @@ use grammar_rules::{Parts, ReadError, Reader};
 use std::alloc::Global;
 
 /// The name of a classifier, where one is written, and the `(` of bindings of prototypes after it, where they stand.
-#[derive(Debug, Drop)]
+#[derive(Drop)]
 pub(crate) struct Classifier {
     pub(crate) reference: Option<Ref>,
     pub(crate) binds: Option<Spot>,

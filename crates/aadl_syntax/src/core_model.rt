@@ -4,14 +4,14 @@ use crate::name::Name;
 use crate::place::{End, Ref, Spot};
 
 /// A unit of a file: a package, or a property set by its name, which is read past.
-#[derive(Debug, Drop)]
+#[derive(Drop)]
 pub enum Unit {
     Package(PackageUnit),
     PropertySet(Name, Spot),
 }
 
 /// A package (AS5506): its aliases, its classifiers and its error model text, each in order, whether public or private.
-#[derive(Debug, Drop)]
+#[derive(Drop)]
 pub struct PackageUnit {
     pub name: List<Name>,
     pub spot: Spot,
@@ -22,7 +22,7 @@ pub struct PackageUnit {
 
 /// Another name for a package or a classifier, `renames`. The spot is that of the name, or of the target's where the alias
 /// states none.
-#[derive(Debug, Drop)]
+#[derive(Drop)]
 pub struct Alias {
     pub name: Name,
     /// Whether it stands for a package.
@@ -33,7 +33,7 @@ pub struct Alias {
 }
 
 /// A classifier: a component type, or an implementation, which has an item.
-#[derive(Debug, Drop)]
+#[derive(Drop)]
 pub struct Decl {
     pub name: Name,
     /// The identifier after the dot of an implementation.
@@ -51,7 +51,7 @@ pub struct Decl {
 }
 
 /// A feature of a component type.
-#[derive(Debug, Drop)]
+#[derive(Drop)]
 pub struct Feature {
     pub name: Name,
     pub spot: Spot,
@@ -63,7 +63,7 @@ pub struct Feature {
 }
 
 /// The direction of a feature, or that it is an access or a feature group.
-#[derive(Clone, Copy, Debug, PartialEq, Eq)]
+#[derive(Clone, Copy, PartialEq, Eq)]
 pub enum FeatureKind {
     Inward,
     Outward,
@@ -73,7 +73,7 @@ pub enum FeatureKind {
 }
 
 /// A subcomponent of an implementation.
-#[derive(Debug, Drop)]
+#[derive(Drop)]
 pub struct Subcomponent {
     pub name: Name,
     pub spot: Spot,
@@ -87,7 +87,7 @@ pub struct Subcomponent {
 }
 
 /// A connection of an implementation.
-#[derive(Debug, Drop)]
+#[derive(Drop)]
 pub struct Connection {
     pub name: Name,
     pub spot: Spot,
@@ -99,7 +99,7 @@ pub struct Connection {
 }
 
 /// The kind of a connection: of ports, parameters or features, of an access, or of feature groups.
-#[derive(Clone, Copy, Debug, PartialEq, Eq)]
+#[derive(Clone, Copy, PartialEq, Eq)]
 pub enum ConnectionKind {
     Plain,
     Access,
@@ -107,7 +107,7 @@ pub enum ConnectionKind {
 }
 
 /// The ends of a connection; `both` where it goes both ways.
-#[derive(Debug, Drop)]
+#[derive(Drop)]
 pub struct Ends {
     pub from: End,
     pub to: End,

@@ -4,14 +4,14 @@ use crate::place::{End, Ref, Spot};
 use crate::token::Token;
 
 /// The error model text of a package (EMV2 library): its blocks of types and its machines, in order.
-#[derive(Debug, Drop)]
+#[derive(Drop)]
 pub struct Emv2Library {
     pub blocks: List<TypesBlock>,
     pub machines: List<MachineDecl>,
 }
 
 /// A block `error types`: the libraries whose types it uses, those that it extends, and its items.
-#[derive(Debug, Drop)]
+#[derive(Drop)]
 pub struct TypesBlock {
     pub uses: List<Ref>,
     pub extends: List<Ref>,
@@ -19,7 +19,7 @@ pub struct TypesBlock {
 }
 
 /// A declared error type, a type set, or an alias of one.
-#[derive(Debug, Drop)]
+#[derive(Drop)]
 pub struct TypeItem {
     pub name: Name,
     pub spot: Spot,
@@ -27,7 +27,7 @@ pub struct TypeItem {
 }
 
 /// What a type item declares.
-#[derive(Debug, Drop)]
+#[derive(Drop)]
 pub enum TypeKind {
     /// An error type, and the type that it extends.
     Plain(Option<Ref>),
@@ -40,14 +40,14 @@ pub enum TypeKind {
 }
 
 /// A written set of error types; its spot is its `{`.
-#[derive(Debug, Drop)]
+#[derive(Drop)]
 pub struct TypeSet {
     pub terms: List<Term>,
     pub spot: Spot,
 }
 
 /// A term of a written set.
-#[derive(Debug, Drop)]
+#[derive(Drop)]
 pub enum Term {
     /// The word `noerror`.
     NoError(Spot),
@@ -58,7 +58,7 @@ pub enum Term {
 }
 
 /// An error behavior state machine.
-#[derive(Debug, Drop)]
+#[derive(Drop)]
 pub struct MachineDecl {
     pub name: Name,
     pub spot: Spot,
@@ -75,7 +75,7 @@ pub struct MachineDecl {
 }
 
 /// A declared event.
-#[derive(Debug, Drop)]
+#[derive(Drop)]
 pub struct EventDecl {
     pub name: Name,
     pub spot: Spot,
@@ -84,7 +84,7 @@ pub struct EventDecl {
 }
 
 /// The kind of an event.
-#[derive(Clone, Copy, Debug, PartialEq, Eq)]
+#[derive(Clone, Copy, PartialEq, Eq)]
 pub enum EventKind {
     Error,
     Recover,
@@ -92,7 +92,7 @@ pub enum EventKind {
 }
 
 /// A declared state.
-#[derive(Debug, Drop)]
+#[derive(Drop)]
 pub struct StateDecl {
     pub name: Name,
     pub spot: Spot,
@@ -102,7 +102,7 @@ pub struct StateDecl {
 
 /// A transition: from a source, on a condition, to targets. A branch to `same state` gives no target. The spot is that of
 /// its name, or of its first token where it has none.
-#[derive(Debug, Drop)]
+#[derive(Drop)]
 pub struct Transition {
     pub name: Option<Name>,
     pub spot: Spot,
@@ -112,14 +112,14 @@ pub struct Transition {
 }
 
 /// From which state a transition or an outgoing condition goes: `None` for `all`.
-#[derive(Debug, Drop)]
+#[derive(Drop)]
 pub struct Source {
     pub state: Option<StateRef>,
     pub spot: Spot,
 }
 
 /// A state by its name, perhaps with a set of types.
-#[derive(Debug, Drop)]
+#[derive(Drop)]
 pub struct StateRef {
     pub name: Name,
     pub spot: Spot,
@@ -127,7 +127,7 @@ pub struct StateRef {
 }
 
 /// A condition over events, propagations and states.
-#[derive(Debug, Drop)]
+#[derive(Drop)]
 pub enum Condition {
     Atom(Atom),
     /// Parts joined by `and`.
@@ -141,7 +141,7 @@ pub enum Condition {
 }
 
 /// A named part of a condition, after `in` or not. Its spot is the first token of the name.
-#[derive(Debug, Drop)]
+#[derive(Drop)]
 pub struct Atom {
     pub inward: bool,
     pub names: List<Name>,
@@ -150,7 +150,7 @@ pub struct Atom {
 }
 
 /// The error model text of a classifier (EMV2 subclause). The spot is that of its first word.
-#[derive(Debug, Drop)]
+#[derive(Drop)]
 pub struct Emv2Clause {
     pub spot: Spot,
     /// The libraries of its `use types`.
@@ -173,14 +173,14 @@ pub struct Emv2Clause {
 }
 
 /// A point by its names, or by a word as `processor`.
-#[derive(Debug, Drop)]
+#[derive(Drop)]
 pub struct PointRef {
     pub names: List<Name>,
     pub spot: Spot,
 }
 
 /// A declared propagation of a point: inward or outward, of a set of types; `negative` where `not` stands.
-#[derive(Debug, Drop)]
+#[derive(Drop)]
 pub struct PointItem {
     pub point: PointRef,
     pub negative: bool,
@@ -189,7 +189,7 @@ pub struct PointItem {
 }
 
 /// An error flow.
-#[derive(Debug, Drop)]
+#[derive(Drop)]
 pub struct Flow {
     pub name: Name,
     pub spot: Spot,
@@ -197,7 +197,7 @@ pub struct Flow {
 }
 
 /// The kind of an error flow, with its points and their sets.
-#[derive(Debug, Drop)]
+#[derive(Drop)]
 pub enum FlowKind {
     /// An error source, and the state in which it stands where `when` names one.
     Source(PointRef, Option<TypeSet>, Option<StateRef>),
@@ -207,7 +207,7 @@ pub enum FlowKind {
 }
 
 /// An outgoing propagation condition: from a source, on a condition unless its brackets are empty, at a point.
-#[derive(Debug, Drop)]
+#[derive(Drop)]
 pub struct Outgoing {
     pub name: Option<Name>,
     pub spot: Spot,
@@ -218,7 +218,7 @@ pub struct Outgoing {
 }
 
 /// A composite error state: its condition, `None` for `others`, and its target.
-#[derive(Debug, Drop)]
+#[derive(Drop)]
 pub struct Composite {
     pub name: Option<Name>,
     pub spot: Spot,
@@ -227,14 +227,14 @@ pub struct Composite {
 }
 
 /// A propagation point of the user's.
-#[derive(Debug, Drop)]
+#[derive(Drop)]
 pub struct UserPoint {
     pub name: Name,
     pub spot: Spot,
 }
 
 /// A propagation path of the user's.
-#[derive(Debug, Drop)]
+#[derive(Drop)]
 pub struct UserPath {
     pub name: Name,
     pub spot: Spot,
@@ -243,7 +243,7 @@ pub struct UserPath {
 }
 
 /// A property association: the property, the tokens of its value, and the paths to which it applies.
-#[derive(Debug, Drop)]
+#[derive(Drop)]
 pub struct Association {
     pub name: List<Name>,
     pub value: List<Token>,

@@ -30,5 +30,3 @@ pub use place::{End, Ref, Spot};
 pub use refusal::{Answer, Code, Mem, Place, Refusal, Stop};
 pub use token::{Token, TokenKind};
 
-#[cfg(test)]
-mod tests;

@@ -6,7 +6,7 @@ use std::marker::Model;
 /// A `Vec` that contracts see as the list of its items, of which there are at most 4,294,967,295.
 ///
 /// A growth past that number is a refused growth of memory, whatever memory there is.
-#[derive(Debug, Drop)]
+#[derive(Drop)]
 pub struct List<T> {
     items: Vec<T>,
 }

@@ -13,7 +13,7 @@ pub type Word = Name;
 
 /// The classifier from which the instance is made: the identifiers of its package and of its type, and the
 /// identifier after the dot where it is an implementation.
-#[derive(Debug, Drop)]
+#[derive(Drop)]
 pub struct Root {
     pub names: List<Name>,
     pub item: Option<Name>,

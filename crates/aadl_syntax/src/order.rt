@@ -6,7 +6,7 @@ use std::cmp::Ordering;
 use std::marker::Model;
 
 /// The first of the refusals that were noted, by their order: the least place, and at one place the least code.
-#[derive(Debug, Drop)]
+#[derive(Drop)]
 pub struct FirstRefusal {
     noted: Option<Refusal>,
 }

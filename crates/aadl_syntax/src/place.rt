@@ -2,7 +2,7 @@ use crate::list::List;
 use crate::name::Name;
 
 /// A place in a text: byte `at` of a file. Both are numbered from 0.
-#[derive(Clone, Copy, Debug, PartialEq, Eq)]
+#[derive(Clone, Copy, PartialEq, Eq)]
 pub struct Spot {
     pub file: u32,
     pub at: u32,
@@ -10,7 +10,7 @@ pub struct Spot {
 
 /// A name that refers to something declared: identifiers with `::` between them, and perhaps one more after a dot.
 /// The spot is that of the first of them.
-#[derive(Debug, Drop)]
+#[derive(Drop)]
 pub struct Ref {
     pub names: List<Name>,
     pub item: Option<Name>,
@@ -18,7 +18,7 @@ pub struct Ref {
 }
 
 /// An end of a connection or of a path: names with dots between them. The spot is that of the first.
-#[derive(Debug, Drop)]
+#[derive(Drop)]
 pub struct End {
     pub names: List<Name>,
     pub spot: Spot,

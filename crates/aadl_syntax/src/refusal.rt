@@ -6,7 +6,7 @@ use std::alloc::{AllocError, AllocFailed};
 pub type Mem<T> = Result<T, AllocError>;
 
 /// What a refused text breaks. The variants stand in the order in which refusals of one place come.
-#[derive(Clone, Copy, Debug, PartialEq, Eq)]
+#[derive(Clone, Copy, PartialEq, Eq)]
 pub enum Code {
     /// A byte that begins no token.
     BadByte,
@@ -164,7 +164,7 @@ impl Code {
 }
 
 /// Where a refusal stands: in the words, in a whole file, or at a byte of a file. Files and bytes are numbered from 0.
-#[derive(Clone, Copy, Debug, PartialEq, Eq)]
+#[derive(Clone, Copy, PartialEq, Eq)]
 pub enum Place {
     Words,
     Whole(u32),
@@ -172,7 +172,7 @@ pub enum Place {
 }
 
 /// A refusal: what is broken, where, and the limit that was exceeded, or 0 where the code has no limit.
-#[derive(Clone, Copy, Debug, PartialEq, Eq)]
+#[derive(Clone, Copy, PartialEq, Eq)]
 pub struct Refusal {
     pub code: Code,
     pub place: Place,
@@ -180,7 +180,7 @@ pub struct Refusal {
 }
 
 /// Why an answer did not come: the text is refused, or memory was wanting.
-#[derive(Clone, Copy, Debug, PartialEq, Eq)]
+#[derive(Clone, Copy, PartialEq, Eq)]
 pub enum Stop {
     Refused(Refusal),
     Memory,

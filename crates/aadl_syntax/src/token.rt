@@ -1,7 +1,7 @@
 use crate::name::Name;
 
 /// What a token is: a word, a number, a quoted text, a sign, or a part of an annex.
-#[derive(Clone, Copy, Debug, PartialEq, Eq)]
+#[derive(Clone, Copy, PartialEq, Eq)]
 pub enum TokenKind {
     /// A letter, then letters, digits and single underscores; the token's text is folded to lower case.
     Word,
@@ -20,7 +20,7 @@ pub enum TokenKind {
 }
 
 /// A token of a text: its bytes are those from `start` up to and without `end`, numbered from 0.
-#[derive(Debug, Drop)]
+#[derive(Drop)]
 pub struct Token {
     pub kind: TokenKind,
     pub start: u32,

@@ -12,7 +12,7 @@ use aadl_syntax::{Emv2Clause, Flow, FlowKind, List, PointItem, Spot, StateRef, T
 use grammar_rules::{Parts, ReadError, Reader};
 
 /// The declared propagations of points, and the flows.
-#[derive(Debug, Drop)]
+#[derive(Drop)]
 pub(crate) struct Propagations {
     pub(crate) points: List<PointItem>,
     pub(crate) flows: List<Flow>,

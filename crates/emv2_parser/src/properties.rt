@@ -14,7 +14,7 @@ use std::alloc::Global;
 
 /// A path as far as it is read: its names, whether it has been names with single dots between them so far, and whether
 /// its last token is a name.
-#[derive(Debug, Drop)]
+#[derive(Drop)]
 pub(crate) struct TargetPath {
     pub(crate) names: List<Name>,
     pub(crate) is_plain: bool,

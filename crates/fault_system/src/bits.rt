@@ -6,7 +6,7 @@ use std::alloc::Global;
 use std::marker::Model;
 
 /// A set of numbers below its size.
-#[derive(Debug, Drop)]
+#[derive(Drop)]
 pub struct Bits {
     bits: Vec<bool>,
 }

@@ -6,7 +6,7 @@ use crate::bits::Bits;
 use aadl_syntax::{List, Name};
 
 /// What makes a fact hold, over events and facts by their numbers.
-#[derive(Debug, Drop)]
+#[derive(Drop)]
 pub enum Formula {
     /// Always true.
     True,
@@ -88,7 +88,7 @@ fn are_in_range(parts: &[Formula], facts: usize, events: usize) -> bool
 }
 
 /// A fact: its name, the number of the component that owns it, and the formula that makes it hold.
-#[derive(Debug, Drop)]
+#[derive(Drop)]
 pub struct FactInfo {
     pub name: Name,
     pub owner: u32,
@@ -96,7 +96,7 @@ pub struct FactInfo {
 }
 
 /// An event: its name, the number of the component that owns it, and the names by which rates are found.
-#[derive(Debug, Drop)]
+#[derive(Drop)]
 pub struct EventInfo {
     pub name: Name,
     pub owner: u32,

@@ -9,7 +9,7 @@ use std::alloc::Global;
 use std::marker::Model;
 
 /// The facts and the events of a model. A fact is named by its place, from 0, and so is an event.
-#[derive(Debug, Drop)]
+#[derive(Drop)]
 pub struct FaultSystem {
     facts: List<FactInfo>,
     events: List<EventInfo>,

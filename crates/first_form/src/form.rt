@@ -8,7 +8,7 @@ use crate::machine::is_plain_and_small;
 use aadl_syntax::{Decl, Emv2Clause, MachineDecl, Name, Unit, is_same};
 
 /// The parts of a text of the first form: its package's name, its machine, and the classifier that uses it.
-#[derive(Debug, Drop)]
+#[derive(Drop)]
 pub struct FirstForm<'a> {
     pub package_name: &'a [u8],
     pub machine: &'a MachineDecl,

@@ -12,7 +12,7 @@ use std::marker::Model;
 /// Files in memory, for tests: each with its name and its bytes, and the numbers of the reads that fail.
 ///
 /// Reads are numbered from 0. A read fails exactly if its number is listed or no file has the name; it is then counted.
-#[derive(Debug, Drop)]
+#[derive(Drop)]
 pub struct MemoryFiles {
     entries: Vec<(Word, Vec<u8>)>,
     failing: Vec<u64>,
@@ -93,7 +93,7 @@ fn contents_of<'a>(entries: &'a [(Word, Vec<u8>)], name: &[u8]) -> Option<&'a [u
 ///
 /// Writes are numbered from 0. One takes at most `piece` bytes, and at most what is left of the room. It fails exactly
 /// if its number is listed, or if it can take no byte of a piece that has one; it is then counted.
-#[derive(Debug, Drop)]
+#[derive(Drop)]
 pub struct MemorySink {
     taken: Vec<u8>,
     failing: Vec<u64>,

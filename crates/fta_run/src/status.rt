@@ -4,7 +4,7 @@ use aadl_syntax::{Refusal, Stop};
 use std::alloc::{AllocError, AllocFailed};
 
 /// How a run ended.
-#[derive(Clone, Copy, Debug, PartialEq, Eq)]
+#[derive(Clone, Copy, PartialEq, Eq)]
 pub enum Status {
     /// All input was read and all output was taken.
     Done,

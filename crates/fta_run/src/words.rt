@@ -20,7 +20,7 @@ pub struct Command<'a> {
 }
 
 /// What a command asks for.
-#[derive(Debug, Drop)]
+#[derive(Drop)]
 pub enum Task {
     /// The numbers of components, facts and events.
     Check,

@@ -1,20 +1,22 @@
 -- A loop over a run of tokens.
-use Rattle.std.proofs.Common.{◌≡◌, ℕ, suc, ◌+◌, ◌-◌, ◌<◌, ◌≤◌, Bool, true, false, List, [], ◌∷◌, ◌++◌, length, take, drop, get_or, Option, Some, count_by, cond, ◌&&◌, eq-eqb, ne_eqb, refl, sym, ◌∙◌, ap, arith, length-drop, length-append, add-one, take-suc, drop-cons}
-use Rattle.std.specs.Prelude.{slice_get, if◌then◌else◌}
+use Rattle.std.proofs.Common.{◌≡◌, ℕ, suc, ◌+◌, ◌-◌, ◌<◌, ◌≤◌, Bool, true, false, List, [], ◌∷◌, ◌++◌, length, take, drop, get_or, Option, Some, count_by, cond, ◌&&◌, refl, sym, ◌∙◌, ap, arith, length-drop, length-append, add-one, take-suc, drop-cons}
+use Rattle.std.specs.Prelude.{slice_get, ◌==◌, ◌||◌, if◌then◌else◌}
 use Rattle.std.proofs.lemmas.List.Sums.{count_by_more_yes, count_by_more_no}
 use Rattle.aadl_syntax.specs.declared.token.Token.{Token}
+use Rattle.aadl_syntax.specs.declared.token.TokenKind.TheVariants.{AnnexEnd}
+use Rattle.grammar_rules.specs.Tokens.{is_kind}
 use Rattle.grammar_rules.specs.Running.{read, seen, spanned}
 use Rattle.grammar_rules.specs.Spans.{opens, closes, is_even, last, stopping}
 
 -- What a loop has passed of a run: k tokens, none of which stops it.
-pub record Passed (stops : Option Token → Token → Bool) (tokens : List Token) (k opened closed : ℕ) (before : Option Token) : Type 0 where
+pub record Passed (inside : Bool) (stops : Option Token → Token → Bool) (tokens : List Token) (k opened closed : ℕ) (before : Option Token) : Type 0 where
   pub within : k ≤ length tokens
   pub opened_is : opened ≡ count_by opens (take k tokens)
   pub closed_is : closed ≡ count_by closes (take k tokens)
   pub opened_few : opened ≤ k
   pub closed_few : closed ≤ k
   pub before_is : before ≡ last (take k tokens)
-  pub so_far : (unseen : ℕ) → spanned (stopping stops) [] tokens unseen ≡ spanned (stopping stops) (take k tokens) (drop k tokens) unseen
+  pub so_far : (unseen : ℕ) → spanned (stopping inside stops) [] tokens unseen ≡ spanned (stopping inside stops) (take k tokens) (drop k tokens) unseen
 
 slice_get-last : (passed : List Token) (t : Token) → last (passed ++ t ∷ []) ≡ Some t
 slice_get-last passed t = let e : length (passed ++ t ∷ []) - 1 ≡ length passed = omega (arith, length-append passed (t ∷ [])) in ap (slice_get (passed ++ t ∷ [])) e ∙ at passed where
@@ -47,26 +49,17 @@ module _ (tokens : List Token) (k : ℕ) (t : Token) (lt : k < length tokens) (i
         one_more ∙ ap (λ (c : Bool). if c then read (take k tokens) (t ∷ drop (k + 1) tokens) (seen 0 (t ∷ drop (k + 1) tokens) unseen) else spanned stops (take k tokens ++ t ∷ []) (drop (k + 1) tokens) unseen) e
         ∙ ap (λ (ts : List Token). spanned stops ts (drop (k + 1) tokens) unseen) (sym take_more)
 
-and_false : (a : Bool) → (a && false) ≡ false
-and_false true = refl
-and_false false = refl
-
-pub is_deep : {stops : Option Token → Token → Bool} {tokens : List Token} {k opened closed : ℕ} {before : Option Token} (t : Token) → Passed stops tokens k opened closed before → (opened ≡ closed → ⊥) → stopping stops (take k tokens) t ≡ false
-unfolding is_even
-is_deep {stops} {tokens} {k} t p e = ap (λ b. b && stops (last (take k tokens)) t) (ne_eqb _ _ (λ g. e (p.opened_is ∙ g ∙ sym p.closed_is)))
-
-module _ {stops : Option Token → Token → Bool} {tokens : List Token} {k opened closed : ℕ} {before : Option Token} {t : Token} (p : Passed stops tokens k opened closed before) where
-  pub does_stop : opened ≡ closed → stops before t ≡ true → stopping stops (take k tokens) t ≡ true
+module _ {inside : Bool} {stops : Option Token → Token → Bool} {tokens : List Token} {k opened closed : ℕ} {before : Option Token} (p : Passed inside stops tokens k opened closed before) (t : Token) where
+  -- what the loop tests is whether the run stops
+  pub tested : ((inside && is_kind AnnexEnd t) || ((opened == closed) && stops before t)) ≡ stopping inside stops (take k tokens) t
   unfolding is_even
-  does_stop e f =
-      let g : count_by opens (take k tokens) ≡ count_by closes (take k tokens) = sym p.opened_is ∙ e ∙ p.closed_is in
-      ap (λ b. b && stops (last (take k tokens)) t) (eq-eqb _ _ g) ∙ ap (λ (o : Option Token). stops o t) (sym p.before_is) ∙ f
+  tested =
+      ap (λ n. (inside && is_kind AnnexEnd t) || ((n == closed) && stops before t)) p.opened_is
+      ∙ ap (λ n. (inside && is_kind AnnexEnd t) || ((count_by opens (take k tokens) == n) && stops before t)) p.closed_is
+      ∙ ap (λ (o : Option Token). (inside && is_kind AnnexEnd t) || (is_even (take k tokens) && stops o t)) p.before_is
 
-  pub does_not_stop : stops before t ≡ false → stopping stops (take k tokens) t ≡ false
-  does_not_stop f = ap (λ b. is_even (take k tokens) && b) (ap (λ (o : Option Token). stops o t) (sym p.before_is) ∙ f) ∙ and_false _
-
-  pub passes : (lt : k < length tokens) → (is : t ≡ get_or tokens k t) → stopping stops (take k tokens) t ≡ false → (o c : ℕ) → o ≡ cond (opens t) (opened + 1) opened → c ≡ cond (closes t) (closed + 1) closed
-      → Passed stops tokens (k + 1) o c (Some t)
+  pub passes : (lt : k < length tokens) → (is : t ≡ get_or tokens k t) → stopping inside stops (take k tokens) t ≡ false → (o c : ℕ) → o ≡ cond (opens t) (opened + 1) opened → c ≡ cond (closes t) (closed + 1) closed
+      → Passed inside stops tokens (k + 1) o c (Some t)
   passes lt is f o c e g = record {
     within = omega arith;
     opened_is = e ∙ counted opens opened p.opened_is;
@@ -74,7 +67,7 @@ module _ {stops : Option Token → Token → Bool} {tokens : List Token} {k open
     opened_few = few (opens t) opened o p.opened_few e;
     closed_few = few (closes t) closed c p.closed_few g;
     before_is = last_more tokens k t lt is;
-    so_far = λ unseen. p.so_far unseen ∙ goes_past tokens k t lt is (stopping stops) unseen f;
+    so_far = λ unseen. p.so_far unseen ∙ goes_past tokens k t lt is (stopping inside stops) unseen f;
   } where
     few : (b : Bool) (n m : ℕ) → n ≤ k → m ≡ cond b (n + 1) n → m ≤ k + 1
     few true n m h e = omega arith

@@ -4,5 +4,3 @@ pub mod Tokens
 pub mod Reader
 pub mod Parts
 pub mod Spans
-pub mod Sample
-pub mod SampleExamples

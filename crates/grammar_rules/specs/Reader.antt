@@ -13,6 +13,11 @@ Answers (Ok value) outcome rest unseen = outcome ≡ read value rest unseen
 Answers (Err Refused) outcome rest unseen = outcome ≡ dead unseen
 Answers (Err Memory) outcome rest unseen = Unit {0}
 
+-- what a function that changes a value in place gives: the value as it is then
+abbrev pub given : {A : Type 0} → Result (Unit {0}) ReadError → A → Result A ReadError
+given (Ok _) value = Ok value
+given (Err error) value = Err error
+
 -- The result is what the tokens of the reader read as by the rule, and the reader has gone on so far.
 pub record Gives {A : Type 0} (result : Result A ReadError) (rule : Rule A) (old new : Reader) : Type 0 where
   pub same_file : new.file ≡ old.file

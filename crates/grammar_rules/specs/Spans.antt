@@ -1,5 +1,5 @@
 -- Runs of tokens that are read without a look at what they say but for brackets.
-use Rattle.std.specs.Prelude.{◌-◌, Bool, ◌==◌, ◌&&◌, ◌||◌, List, length, Option, count_by, slice_get, codes, Result, Ok, Err}
+use Rattle.std.specs.Prelude.{◌-◌, Bool, true, false, ◌==◌, ◌&&◌, ◌||◌, List, length, Option, count_by, slice_get, codes, Result, Ok, Err}
 use Rattle.aadl_syntax.specs.declared.token.Token.{Token}
 use Rattle.aadl_syntax.specs.declared.token.TokenKind.TheVariants.{AnnexBegin, AnnexEnd}
 use Rattle.grammar_rules.specs.Rules.{Test, Rule, spans}
@@ -20,13 +20,19 @@ is_even passed = count_by opens passed == count_by closes passed
 abbrev pub last : List Token → Option Token
 last tokens = slice_get tokens (length tokens - 1)
 
--- whether a run stops at a token: at depth 0, where the token before it may matter
-abbrev pub stopping : (Option Token → Token → Bool) → List Token → Token → Bool
-stopping stops passed token = is_even passed && stops (last passed) token
+-- whether a run stops at a token: at depth 0, where the token before it may matter; and inside of an annex also at its end,
+-- whatever is open there
+abbrev pub stopping : Bool → (Option Token → Token → Bool) → List Token → Token → Bool
+stopping inside stops passed token = (inside && is_kind AnnexEnd token) || (is_even passed && stops (last passed) token)
 
--- the tokens up to the first at which the run stops
+-- the tokens up to the first at which the run stops, in core text: the tokens of an annex count there as any others
 unfoldable pub until : (Option Token → Token → Bool) → Rule (List Token)
-until stops = spans (stopping stops)
+until stops = spans (stopping false stops)
+
+-- the tokens up to the first at which the run stops, in the text of an annex, which is a text of its own: no run goes past
+-- the end of the annex
+unfoldable pub until_inside : (Option Token → Token → Bool) → Rule (List Token)
+until_inside stops = spans (stopping true stops)
 
 -- `balanced` stops at the bracket that closes what was open before
 unfoldable pub ends_balanced : Option Token → Token → Bool

@@ -31,36 +31,35 @@ pub trait Parts {
 impl<'a> Reader<'a> {
     ghost use Rattle.std.specs.Prelude.{[], ◌∷◌};
     ghost use Rattle.grammar_rules.specs.Parts.{parts_after};
-    ghost use Rattle.grammar_rules.specs.Reader.{Gives};
+    ghost use Rattle.grammar_rules.specs.Reader.{Gives, given};
 
     /// Reads parts as long as the next tokens begin one, perhaps none.
     pub fn parts<P: Parts>(&mut self) -> Result<List<P::Part>, ReadError>
         ensures { Gives result (parts_after [] P.tests P.rule) self.old self.new }
     {
-        let none = List::new(self.alloc());
-        self.more_parts::<P>(none)
+        let mut parts = List::new(self.alloc());
+        self.more_parts::<P>(&mut parts)?;
+        Ok(parts)
     }
 
     /// Reads parts as long as the next tokens begin one, and gives them after the first, which was read before.
     pub fn parts_after<P: Parts>(&mut self, first: P::Part) -> Result<List<P::Part>, ReadError>
         ensures { Gives result (parts_after (first ∷ []) P.tests P.rule) self.old self.new }
     {
-        let mut one = List::new(self.alloc());
-        one.push(first)?;
-        self.more_parts::<P>(one)
+        let mut parts = List::new(self.alloc());
+        parts.push(first)?;
+        self.more_parts::<P>(&mut parts)?;
+        Ok(parts)
     }
 
-    /// Reads parts as long as the next tokens begin one, perhaps none, and gives them after those that were read before.
-    pub fn more_parts<P: Parts>(
-        &mut self,
-        mut parts: List<P::Part>,
-    ) -> Result<List<P::Part>, ReadError>
-        ensures { Gives result (parts_after parts P.tests P.rule) self.old self.new }
+    /// Reads parts as long as the next tokens begin one, perhaps none, and adds them to those that were read before.
+    pub fn more_parts<P: Parts>(&mut self, parts: &mut List<P::Part>) -> Result<(), ReadError>
+        ensures { Gives (given result parts.new) (parts_after parts.old P.tests P.rule) self.old self.new }
     {
         while P::begins(self) {
             parts.push(P::part(self)?)?;
         }
-        Ok(parts)
+        Ok(())
     }
 }
 
@@ -72,7 +71,7 @@ pub trait Gathered {
     ghost use Rattle.std.specs.Prelude.{List as Items};
     ghost use Rattle.grammar_rules.specs.Rules.{Rule, Test};
     ghost use Rattle.grammar_rules.specs.Parts.{TakesTokens};
-    ghost use Rattle.grammar_rules.specs.Reader.{Gives, Begins};
+    ghost use Rattle.grammar_rules.specs.Reader.{Gives, Begins, given};
 
     /// What the parts give together.
     type Whole: Drop;
@@ -85,24 +84,24 @@ pub trait Gathered {
     fn begins(reader: &mut Reader) -> bool
         ensures { Begins result 0 tests reader.old reader.new };
 
-    /// Reads a part, after what those before it give.
-    fn part(reader: &mut Reader, whole: Self::Whole) -> Result<Self::Whole, ReadError>
-        ensures { Gives result (rule whole) reader.old reader.new };
+    /// Reads a part, and makes what those before it give into what they give with it.
+    fn part(reader: &mut Reader, whole: &mut Self::Whole) -> Result<(), ReadError>
+        ensures { Gives (given result whole.new) (rule whole.old) reader.old reader.new };
 
     ghost takes_tokens: { (whole : Self.Whole) → TakesTokens (rule whole) };
 }
 
 impl<'a> Reader<'a> {
     ghost use Rattle.grammar_rules.specs.Rules.{gathers};
-    ghost use Rattle.grammar_rules.specs.Reader.{Gives};
+    ghost use Rattle.grammar_rules.specs.Reader.{Gives, given};
 
-    /// Reads parts as long as the next tokens begin one, perhaps none, and gives what they make of `whole`.
-    pub fn gather<G: Gathered>(&mut self, mut whole: G::Whole) -> Result<G::Whole, ReadError>
-        ensures { Gives result (gathers G.tests G.rule whole) self.old self.new }
+    /// Reads parts as long as the next tokens begin one, perhaps none, and makes `whole` into what it is with them.
+    pub fn gather<G: Gathered>(&mut self, whole: &mut G::Whole) -> Result<(), ReadError>
+        ensures { Gives (given result whole.new) (gathers G.tests G.rule whole.old) self.old self.new }
     {
         while G::begins(self) {
-            whole = G::part(self, whole)?;
+            G::part(self, whole)?;
         }
-        Ok(whole)
+        Ok(())
     }
 }

@@ -6,7 +6,7 @@ use aadl_syntax::{List, Name, Token, TokenKind};
 use std::alloc::{AllocError, Global};
 
 /// Why a reading stopped.
-#[derive(Clone, Copy, Debug, PartialEq, Eq)]
+#[derive(Clone, Copy, PartialEq, Eq)]
 pub enum ReadError {
     /// The tokens do not read so.
     Refused,

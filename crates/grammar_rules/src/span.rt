@@ -1,4 +1,6 @@
-ghost use Rattle.std.specs.Prelude.{◌≡◌, ℕ, [], ◌<◌, length, take, drop, IfSome, MatchOption};
+ghost use Rattle.std.specs.Prelude.{◌≡◌, ℕ, [], ◌<◌, ◌&&◌, ◌||◌, length, take, drop, option_copied, IfSome, MatchOption};
+ghost use Rattle.aadl_syntax.specs.declared.token.TokenKind.TheVariants.{AnnexEnd};
+ghost use Rattle.grammar_rules.specs.Tokens.{is_kind};
 ghost use Rattle.grammar_rules.specs.Running.{spanned, read, dead, seen};
 ghost use Rattle.grammar_rules.specs.Spans.{opens, closes, stopping};
 
@@ -61,16 +63,33 @@ impl Span for ToEnd {
 }
 
 impl<'a> Reader<'a> {
-    ghost use Rattle.grammar_rules.specs.Spans.{until, viewed};
+    ghost use Rattle.std.specs.Prelude.{true, false};
+    ghost use Rattle.grammar_rules.specs.Spans.{until, until_inside, stopping, viewed};
+    ghost use Rattle.grammar_rules.specs.Rules.{spans};
     ghost use Rattle.grammar_rules.specs.Reader.{Gives};
 
-    /// Takes the tokens of a run, perhaps none. Without a token that ends it, the run is refused at the end.
+    /// Takes the tokens of a run of core text, perhaps none. Without a token that ends it, the run is refused at the end.
     #[tactic(auto, unfolding(crate::specs::Spans::until))]
     pub fn until<S: Span>(&mut self) -> Result<&'a [Token], ReadError>
         ensures { Gives (viewed (λ s. s.now) result) (until S.stops) self.old self.new }
     {
+        self.run_of::<S>(false)
+    }
+
+    /// Takes the tokens of a run inside of an annex, perhaps none: the end of the annex ends it, whatever is open. Without
+    /// a token that ends it, the run is refused at the end.
+    #[tactic(auto, unfolding(crate::specs::Spans::until_inside))]
+    pub fn until_inside<S: Span>(&mut self) -> Result<&'a [Token], ReadError>
+        ensures { Gives (viewed (λ s. s.now) result) (until_inside S.stops) self.old self.new }
+    {
+        self.run_of::<S>(true)
+    }
+
+    fn run_of<S: Span>(&mut self, inside: bool) -> Result<&'a [Token], ReadError>
+        ensures { Gives (viewed (λ s. s.now) result) (spans (stopping inside S.stops)) self.old self.new }
+    {
         let tokens = self.tokens;
-        match length_until::<S>(tokens) {
+        match length_until::<S>(tokens, inside) {
             Some(length) => {
                 self.look(length);
                 self.tokens = &tokens[length..];
@@ -84,18 +103,18 @@ impl<'a> Reader<'a> {
     }
 }
 
-fn length_until<S: Span>(tokens: &[Token]) -> Option<usize>
+fn length_until<S: Span>(tokens: &[Token], inside: bool) -> Option<usize>
     ensures within { IfSome result (λ n. n < length tokens.now) }
     ensures run { MatchOption result
-        ((unseen : ℕ) → spanned (stopping S.stops) [] tokens.now unseen ≡ dead 0)
-        (λ n. (unseen : ℕ) → spanned (stopping S.stops) [] tokens.now unseen
+        ((unseen : ℕ) → spanned (stopping inside S.stops) [] tokens.now unseen ≡ dead 0)
+        (λ n. (unseen : ℕ) → spanned (stopping inside S.stops) [] tokens.now unseen
         ≡ read (take n tokens.now) (drop n tokens.now) (seen n tokens.now unseen)) }
 {
     let mut opened: usize = 0;
     let mut closed: usize = 0;
     let mut before: Option<&Token> = None;
     for (k, token) in tokens.iter().enumerate() {
-        if opened == closed && S::stops_at(before, token) {
+        if stops::<S>(inside, opened == closed, before, token) {
             return Some(k);
         }
         if opens(token) {
@@ -107,6 +126,13 @@ fn length_until<S: Span>(tokens: &[Token]) -> Option<usize>
         before = Some(token);
     }
     None
+}
+
+/// Whether a run ends before this token, where as many brackets were opened as closed or not.
+fn stops<S: Span>(inside: bool, even: bool, before: Option<&Token>, token: &Token) -> bool
+    ensures { result ≡ ((inside && is_kind AnnexEnd token.now) || (even && S.stops (option_copied before.entry) token.now)) }
+{
+    (inside && is_kind(token, TokenKind::AnnexEnd)) || (even && S::stops_at(before, token))
 }
 
 #[tactic(auto, unfolding(crate::specs::Spans::opens))]

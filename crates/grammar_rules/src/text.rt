@@ -23,7 +23,7 @@ pub trait Grammar {
 }
 
 /// Why a text was not read.
-#[derive(Clone, Copy, Debug, PartialEq, Eq)]
+#[derive(Clone, Copy, PartialEq, Eq)]
 pub enum TextError {
     /// No text that has the same tokens up to and with the token of this number reads by the grammar. Tokens are numbered
     /// from 0, and the number of all tokens stands for the end.

@@ -1,21 +1,20 @@
 use Rattle.std.proofs.Common.{◌∙◌, ◌+◌, ◌≡◌, Bool, false, cond, ap, sym, take}
 use Rattle.grammar_rules.specs.Spans.{stopping}
-use Rattle.grammar_rules.proofs.Runs.{stops_here, does_stop, is_deep, does_not_stop, passes}
+use Rattle.grammar_rules.proofs.Runs.{stops_here, tested, passes}
 use Rattle.grammar_rules.proofs.span.length_until.Goals as goal
-use Rattle.grammar_rules.proofs.span.length_until.Goals.{else-opened-closed-via-then-opened-closed+else-stops_at, else-opened-closed-via-else-opened-closed, then-opens, else-opens, then-closes, else-closes}
+use Rattle.grammar_rules.proofs.span.length_until.Goals.{then-opens, else-opens, then-closes, else-closes}
 
-pub returns-then-stops_at-clause-run : goal.returns-then-stops_at-clause-run
-returns-then-stops_at-clause-run g c = λ unseen.
+pub returns-then-stops-clause-run : goal.returns-then-stops-clause-run
+returns-then-stops-clause-run g c = λ unseen.
     let p = c.loop-k.invariant in
-    p.so_far unseen ∙ stops_here c.args.tokens.now c.loop-k.k c.index-tokens-k.result c.loop-k-test.true c.index-tokens-k.is (stopping g.S.Span.stops) unseen (does_stop p c.if-opened-closed.true (sym c.if-stops_at.ensures))
+    p.so_far unseen ∙ stops_here c.args.tokens.now c.loop-k.k c.index-tokens-k.result c.loop-k-test.true c.index-tokens-k.is (stopping c.args.inside g.S.Span.stops) unseen (sym (tested p c.index-tokens-k.result) ∙ sym c.if-stops.ensures)
 
 pub loop-k-preserved : goal.loop-k-preserved
 loop-k-preserved g c =
     let p = c.loop-k.invariant in
-    let f : stopping g.S.Span.stops (take c.loop-k.k c.args.tokens.now) c.index-tokens-k.result ≡ false =
-    elim c.else-opened-closed.branch [ else-opened-closed-via-then-opened-closed+else-stops_at w ↦ does_not_stop p (sym w.if-stops_at.ensures) | else-opened-closed-via-else-opened-closed w ↦ is_deep c.index-tokens-k.result p w.if-opened-closed.false ] in
+    let f : stopping c.args.inside g.S.Span.stops (take c.loop-k.k c.args.tokens.now) c.index-tokens-k.result ≡ false = sym (tested p c.index-tokens-k.result) ∙ sym c.if-stops.ensures in
     let opened = λ (b : Bool). cond b (c.loop-k.opened + 1) c.loop-k.opened in
     let closed = λ (b : Bool). cond b (c.loop-k.closed + 1) c.loop-k.closed in
-    passes p c.loop-k-test.true c.index-tokens-k.is f c.if-opens.opened c.if-closes.closed
+    passes p c.index-tokens-k.result c.loop-k-test.true c.index-tokens-k.is f c.if-opens.opened c.if-closes.closed
     (elim c.if-opens.branch [ then-opens w ↦ w.opened-is ∙ ap opened w.if-opens.ensures | else-opens w ↦ w.opened-is ∙ ap opened w.if-opens.ensures ])
     (elim c.if-closes.branch [ then-closes w ↦ w.closed-is ∙ ap closed w.if-closes.ensures | else-closes w ↦ w.closed-is ∙ ap closed w.if-closes.ensures ])
