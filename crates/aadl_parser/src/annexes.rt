@@ -1,5 +1,5 @@
 ghost use Rattle.std.specs.Prelude.{◌∷◌, [], codes};
-ghost use Rattle.grammar_rules.specs.Reader.{Gives};
+ghost use Rattle.grammar_rules.specs.Reader.{Gives, given};
 ghost use Rattle.aadl_parser.specs.Annexes.{raw_body, other_annex, library_body, library_or_none, library_named, library_annex, clause_body, clause_or_none, clause_named, clause_annex};
 
 use crate::runs::in_modes;
@@ -29,105 +29,83 @@ fn other_annex(reader: &mut Reader) -> Result<(), ReadError>
 }
 
 #[tactic(auto, unfolding(crate::specs::Annexes::library_body))]
-fn library_body(reader: &mut Reader, library: Emv2Library) -> Result<Emv2Library, ReadError>
-    ensures { Gives result (library_body library) reader.old reader.new }
+fn library_body(reader: &mut Reader, library: &mut Emv2Library) -> Result<(), ReadError>
+    ensures { Gives (given result library.new) (library_body library.old) reader.old reader.new }
 {
     reader.kind(TokenKind::AnnexBegin)?;
-    let library = library_after(reader, library)?;
-    reader.kind(TokenKind::AnnexEnd)?;
-    Ok(library)
+    library_after(reader, library)?;
+    reader.kind(TokenKind::AnnexEnd)
 }
 
 #[tactic(auto, unfolding(crate::specs::Annexes::library_or_none))]
-fn library_or_none(reader: &mut Reader, library: Emv2Library) -> Result<Emv2Library, ReadError>
-    ensures { Gives result (library_or_none library) reader.old reader.new }
+fn library_or_none(reader: &mut Reader, library: &mut Emv2Library) -> Result<(), ReadError>
+    ensures { Gives (given result library.new) (library_or_none library.old) reader.old reader.new }
 {
     if reader.kind_at(0, TokenKind::AnnexBegin) {
         return library_body(reader, library);
     }
-    reader.word(b"none")?;
-    Ok(library)
+    reader.word(b"none")
 }
 
 #[tactic(auto, unfolding(crate::specs::Annexes::library_named))]
-fn library_named(reader: &mut Reader, library: Emv2Library) -> Result<Emv2Library, ReadError>
-    ensures { Gives result (library_named library) reader.old reader.new }
+fn library_named(reader: &mut Reader, library: &mut Emv2Library) -> Result<(), ReadError>
+    ensures { Gives (given result library.new) (library_named library.old) reader.old reader.new }
 {
     if reader.word_at(0, b"emv2") {
         reader.word(b"emv2")?;
         return library_or_none(reader, library);
     }
-    other_annex(reader)?;
-    Ok(library)
+    other_annex(reader)
 }
 
 /// Reads an annex of a package, and gives what it and those before it make.
 #[tactic(auto, unfolding(crate::specs::Annexes::library_annex))]
-pub(crate) fn library_annex(
-    reader: &mut Reader,
-    library: Emv2Library,
-) -> Result<Emv2Library, ReadError>
-    ensures { Gives result (library_annex library) reader.old reader.new }
+pub(crate) fn library_annex(reader: &mut Reader, library: &mut Emv2Library) -> Result<(), ReadError>
+    ensures { Gives (given result library.new) (library_annex library.old) reader.old reader.new }
 {
     reader.word(b"annex")?;
-    let library = library_named(reader, library)?;
-    reader.sign(b";")?;
-    Ok(library)
+    library_named(reader, library)?;
+    reader.sign(b";")
 }
 
 #[tactic(auto, unfolding(crate::specs::Annexes::clause_body))]
-fn clause_body(
-    reader: &mut Reader,
-    mut clauses: List<Emv2Clause>,
-) -> Result<List<Emv2Clause>, ReadError>
-    ensures { Gives result (clause_body clauses) reader.old reader.new }
+fn clause_body(reader: &mut Reader, clauses: &mut List<Emv2Clause>) -> Result<(), ReadError>
+    ensures { Gives (given result clauses.new) (clause_body clauses.old) reader.old reader.new }
 {
     reader.kind(TokenKind::AnnexBegin)?;
-    clauses.push(clause_inside(reader)?)?;
+    let clause = clause_inside(reader)?;
     reader.kind(TokenKind::AnnexEnd)?;
-    Ok(clauses)
+    Ok(clauses.push(clause)?)
 }
 
 #[tactic(auto, unfolding(crate::specs::Annexes::clause_or_none))]
-fn clause_or_none(
-    reader: &mut Reader,
-    clauses: List<Emv2Clause>,
-) -> Result<List<Emv2Clause>, ReadError>
-    ensures { Gives result (clause_or_none clauses) reader.old reader.new }
+fn clause_or_none(reader: &mut Reader, clauses: &mut List<Emv2Clause>) -> Result<(), ReadError>
+    ensures { Gives (given result clauses.new) (clause_or_none clauses.old) reader.old reader.new }
 {
     if reader.kind_at(0, TokenKind::AnnexBegin) {
         return clause_body(reader, clauses);
     }
-    reader.word(b"none")?;
-    Ok(clauses)
+    reader.word(b"none")
 }
 
 #[tactic(auto, unfolding(crate::specs::Annexes::clause_named))]
-fn clause_named(
-    reader: &mut Reader,
-    clauses: List<Emv2Clause>,
-) -> Result<List<Emv2Clause>, ReadError>
-    ensures { Gives result (clause_named clauses) reader.old reader.new }
+fn clause_named(reader: &mut Reader, clauses: &mut List<Emv2Clause>) -> Result<(), ReadError>
+    ensures { Gives (given result clauses.new) (clause_named clauses.old) reader.old reader.new }
 {
     if reader.word_at(0, b"emv2") {
         reader.word(b"emv2")?;
         return clause_or_none(reader, clauses);
     }
-    other_annex(reader)?;
-    Ok(clauses)
+    other_annex(reader)
 }
 
 /// Reads an annex of a classifier, and gives its clause after others.
 #[tactic(auto, unfolding(crate::specs::Annexes::clause_annex))]
-pub(crate) fn clause_annex(
-    reader: &mut Reader,
-    clauses: List<Emv2Clause>,
-) -> Result<List<Emv2Clause>, ReadError>
-    ensures { Gives result (clause_annex clauses) reader.old reader.new }
+pub(crate) fn clause_annex(reader: &mut Reader, clauses: &mut List<Emv2Clause>) -> Result<(), ReadError>
+    ensures { Gives (given result clauses.new) (clause_annex clauses.old) reader.old reader.new }
 {
     reader.word(b"annex")?;
-    let clauses = clause_named(reader, clauses)?;
+    clause_named(reader, clauses)?;
     in_modes(reader)?;
-    reader.sign(b";")?;
-    Ok(clauses)
+    reader.sign(b";")
 }

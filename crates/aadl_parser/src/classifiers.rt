@@ -1,5 +1,5 @@
 ghost use Rattle.std.specs.Prelude.{◌≡◌, [], ◌∷◌, Some, None, codes};
-ghost use Rattle.grammar_rules.specs.Reader.{Gives};
+ghost use Rattle.grammar_rules.specs.Reader.{Gives, given};
 ghost use Rattle.grammar_rules.specs.Tokens.{is_one_of};
 ghost use Rattle.aadl_parser.specs.Words.{section_words};
 ghost use Rattle.aadl_parser.specs.Classifiers.{features_section, subcomponents_section, connections_section, annex_section, prototypes_at, prototypes, first_place, prototypes_section, required_modes, inner_features, skipped, skipped_part, skipped_section, other_section, section, sections, extension, optional_extension, bare_decl, decl_of, type_end, component_type, implementation_end, implementation, classifier, group_type};
@@ -18,41 +18,31 @@ use grammar_rules::{Gathered, ReadError, Reader, ToEnd};
 use std::alloc::Global;
 
 #[tactic(auto, unfolding(crate::specs::Classifiers::features_section))]
-fn features_section(reader: &mut Reader, decl: Decl) -> Result<Decl, ReadError>
-    ensures { Gives result (features_section decl) reader.old reader.new }
+fn features_section(reader: &mut Reader, decl: &mut Decl) -> Result<(), ReadError>
+    ensures { Gives (given result decl.new) (features_section decl.old) reader.old reader.new }
 {
-    let features = features_after(reader, decl.features)?;
-    Ok(Decl { features, ..decl })
+    features_after(reader, &mut decl.features)
 }
 
 #[tactic(auto, unfolding(crate::specs::Classifiers::subcomponents_section))]
-fn subcomponents_section(reader: &mut Reader, decl: Decl) -> Result<Decl, ReadError>
-    ensures { Gives result (subcomponents_section decl) reader.old reader.new }
+fn subcomponents_section(reader: &mut Reader, decl: &mut Decl) -> Result<(), ReadError>
+    ensures { Gives (given result decl.new) (subcomponents_section decl.old) reader.old reader.new }
 {
-    let subcomponents = subcomponents_after(reader, decl.subcomponents)?;
-    Ok(Decl {
-        subcomponents,
-        ..decl
-    })
+    subcomponents_after(reader, &mut decl.subcomponents)
 }
 
 #[tactic(auto, unfolding(crate::specs::Classifiers::connections_section))]
-fn connections_section(reader: &mut Reader, decl: Decl) -> Result<Decl, ReadError>
-    ensures { Gives result (connections_section decl) reader.old reader.new }
+fn connections_section(reader: &mut Reader, decl: &mut Decl) -> Result<(), ReadError>
+    ensures { Gives (given result decl.new) (connections_section decl.old) reader.old reader.new }
 {
-    let connections = connections_after(reader, decl.connections)?;
-    Ok(Decl {
-        connections,
-        ..decl
-    })
+    connections_after(reader, &mut decl.connections)
 }
 
 #[tactic(auto, unfolding(crate::specs::Classifiers::annex_section))]
-fn annex_section(reader: &mut Reader, decl: Decl) -> Result<Decl, ReadError>
-    ensures { Gives result (annex_section decl) reader.old reader.new }
+fn annex_section(reader: &mut Reader, decl: &mut Decl) -> Result<(), ReadError>
+    ensures { Gives (given result decl.new) (annex_section decl.old) reader.old reader.new }
 {
-    let clauses = clause_annex(reader, decl.clauses)?;
-    Ok(Decl { clauses, ..decl })
+    clause_annex(reader, &mut decl.clauses)
 }
 
 #[tactic(auto, unfolding(crate::specs::Classifiers::prototypes_at))]
@@ -86,12 +76,12 @@ fn first_place(first: Option<Spot>, later: Option<Spot>) -> Option<Spot>
 }
 
 #[tactic(auto, unfolding(crate::specs::Classifiers::prototypes_section))]
-fn prototypes_section(reader: &mut Reader, decl: Decl) -> Result<Decl, ReadError>
-    ensures { Gives result (prototypes_section decl) reader.old reader.new }
+fn prototypes_section(reader: &mut Reader, decl: &mut Decl) -> Result<(), ReadError>
+    ensures { Gives (given result decl.new) (prototypes_section decl.old) reader.old reader.new }
 {
     let place = prototypes(reader)?;
-    let prototypes = first_place(decl.prototypes, place);
-    Ok(Decl { prototypes, ..decl })
+    decl.prototypes = first_place(decl.prototypes, place);
+    Ok(())
 }
 
 #[tactic(auto, unfolding(crate::specs::Classifiers::required_modes))]
@@ -133,17 +123,9 @@ fn skipped_part(reader: &mut Reader) -> Result<(), ReadError>
     skipped(reader)
 }
 
-#[tactic(auto, unfolding(crate::specs::Classifiers::skipped_section))]
-fn skipped_section(reader: &mut Reader, decl: Decl) -> Result<Decl, ReadError>
-    ensures { Gives result (skipped_section decl) reader.old reader.new }
-{
-    skipped_part(reader)?;
-    Ok(decl)
-}
-
-#[tactic(auto, unfolding(crate::specs::Classifiers::other_section))]
-fn other_section(reader: &mut Reader, decl: Decl) -> Result<Decl, ReadError>
-    ensures { Gives result (other_section decl) reader.old reader.new }
+#[tactic(auto, unfolding(crate::specs::Classifiers::other_section, crate::specs::Classifiers::skipped_section))]
+fn other_section(reader: &mut Reader, decl: &mut Decl) -> Result<(), ReadError>
+    ensures { Gives (given result decl.new) (other_section decl.old) reader.old reader.new }
 {
     if reader.word_at(0, b"annex") {
         return annex_section(reader, decl);
@@ -151,12 +133,12 @@ fn other_section(reader: &mut Reader, decl: Decl) -> Result<Decl, ReadError>
     if reader.word_at(0, b"prototypes") {
         return prototypes_section(reader, decl);
     }
-    skipped_section(reader, decl)
+    skipped_part(reader)
 }
 
 #[tactic(auto, unfolding(crate::specs::Classifiers::section))]
-fn section(reader: &mut Reader, decl: Decl) -> Result<Decl, ReadError>
-    ensures { Gives result (section decl) reader.old reader.new }
+fn section(reader: &mut Reader, decl: &mut Decl) -> Result<(), ReadError>
+    ensures { Gives (given result decl.new) (section decl.old) reader.old reader.new }
 {
     if reader.word_at(0, b"features") {
         return features_section(reader, decl);
@@ -171,8 +153,8 @@ fn section(reader: &mut Reader, decl: Decl) -> Result<Decl, ReadError>
 }
 
 #[tactic(auto, unfolding(crate::specs::Classifiers::sections))]
-fn sections(reader: &mut Reader, decl: Decl) -> Result<Decl, ReadError>
-    ensures { Gives result (sections decl) reader.old reader.new }
+fn sections(reader: &mut Reader, decl: &mut Decl) -> Result<(), ReadError>
+    ensures { Gives (given result decl.new) (sections decl.old) reader.old reader.new }
 {
     reader.gather::<ClassifierSections>(decl)
 }
@@ -236,8 +218,9 @@ fn decl_of(
     ensures { Gives result (decl_of name item spot) reader.old reader.new }
 {
     let extended = optional_extension(reader)?;
-    let bare = bare_decl(reader.alloc(), name, item, spot, extended);
-    sections(reader, bare)
+    let mut decl = bare_decl(reader.alloc(), name, item, spot, extended);
+    sections(reader, &mut decl)?;
+    Ok(decl)
 }
 
 /// Reads the end of what has one name.
@@ -322,7 +305,7 @@ impl Gathered for ClassifierSections {
         section_at(reader)
     }
 
-    fn part(reader: &mut Reader, whole: Decl) -> Result<Decl, ReadError> {
+    fn part(reader: &mut Reader, whole: &mut Decl) -> Result<(), ReadError> {
         section(reader, whole)
     }
 

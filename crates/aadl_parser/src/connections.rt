@@ -1,5 +1,5 @@
 ghost use Rattle.std.specs.Prelude.{[], ◌∷◌, codes};
-ghost use Rattle.grammar_rules.specs.Reader.{Gives};
+ghost use Rattle.grammar_rules.specs.Reader.{Gives, given};
 ghost use Rattle.grammar_rules.specs.Rules.{gives, joins, chooses};
 ghost use Rattle.grammar_rules.specs.Parts.{parts_after};
 ghost use Rattle.grammar_rules.specs.Tokens.{word, sign, is_word};
@@ -9,9 +9,10 @@ ghost use Rattle.aadl_parser.specs.Takes.{connection-takes};
 
 use crate::features::{accessed, refinement};
 use crate::names::DottedNames;
+use crate::runs::tail_end;
 use crate::words::{core_name, end_at, name_at, processor_at, processor_name};
 use aadl_syntax::{Connection, ConnectionKind, End, Ends, List, Name, Spot};
-use emv2_parser::{spot, tail_end};
+use emv2_parser::spot;
 use grammar_rules::{Parts, ReadError, Reader};
 
 #[tactic(auto, unfolding(crate::specs::Connections::feature_connection))]
@@ -150,13 +151,13 @@ fn connection(reader: &mut Reader) -> Result<Connection, ReadError>
     connection_of(reader, name, spot, refined)
 }
 
-/// Reads a section of connections, and gives them after others.
+/// Reads a section of connections, and adds them to others.
 #[tactic(auto, unfolding(crate::specs::Connections::connections_after))]
 pub(crate) fn connections_after(
     reader: &mut Reader,
-    connections: List<Connection>,
-) -> Result<List<Connection>, ReadError>
-    ensures { Gives result (connections_after connections) reader.old reader.new }
+    connections: &mut List<Connection>,
+) -> Result<(), ReadError>
+    ensures { Gives (given result connections.new) (connections_after connections.old) reader.old reader.new }
 {
     reader.word(b"connections")?;
     connections_or_none(reader, connections)
@@ -165,17 +166,16 @@ pub(crate) fn connections_after(
 // The connections of a section, or `none`.
 fn connections_or_none(
     reader: &mut Reader,
-    connections: List<Connection>,
-) -> Result<List<Connection>, ReadError>
-    ensures { Gives result
+    connections: &mut List<Connection>,
+) -> Result<(), ReadError>
+    ensures { Gives (given result connections.new)
         (chooses (is_word (codes "none") ∷ [])
-        (joins (word (codes "none")) (λ _. joins (sign (codes ";")) (λ _. gives connections)))
-        (parts_after connections (is_name ∷ []) connection)) reader.old reader.new }
+        (joins (word (codes "none")) (λ _. joins (sign (codes ";")) (λ _. gives connections.old)))
+        (parts_after connections.old (is_name ∷ []) connection)) reader.old reader.new }
 {
     if reader.word_at(0, b"none") {
         reader.word(b"none")?;
-        reader.sign(b";")?;
-        return Ok(connections);
+        return reader.sign(b";");
     }
     reader.more_parts::<Connections>(connections)
 }

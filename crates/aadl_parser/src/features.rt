@@ -1,5 +1,5 @@
 ghost use Rattle.std.specs.Prelude.{[], ◌∷◌, codes};
-ghost use Rattle.grammar_rules.specs.Reader.{Gives};
+ghost use Rattle.grammar_rules.specs.Reader.{Gives, given};
 ghost use Rattle.aadl_parser.specs.Words.{is_name};
 ghost use Rattle.aadl_parser.specs.Features.{refinement, inward, direction, event_port, port, plain_feature, directed, accessed, access, feature_kind, feature, features_after};
 ghost use Rattle.aadl_parser.specs.Takes.{feature-takes};
@@ -151,19 +151,18 @@ fn feature(reader: &mut Reader) -> Result<Feature, ReadError>
     })
 }
 
-/// Reads a section of features, and gives them after others.
+/// Reads a section of features, and adds them to others.
 #[tactic(auto, unfolding(crate::specs::Features::features_after))]
 pub(crate) fn features_after(
     reader: &mut Reader,
-    features: List<Feature>,
-) -> Result<List<Feature>, ReadError>
-    ensures { Gives result (features_after features) reader.old reader.new }
+    features: &mut List<Feature>,
+) -> Result<(), ReadError>
+    ensures { Gives (given result features.new) (features_after features.old) reader.old reader.new }
 {
     reader.word(b"features")?;
     if reader.word_at(0, b"none") {
         reader.word(b"none")?;
-        reader.sign(b";")?;
-        return Ok(features);
+        return reader.sign(b";");
     }
     reader.more_parts::<Features>(features)
 }

@@ -18,5 +18,3 @@ mod words;
 
 pub use text::{one_file, units};
 
-#[cfg(test)]
-mod tests;

@@ -1,5 +1,5 @@
 ghost use Rattle.std.specs.Prelude.{◌≡◌, ◌<◌, [], ◌∷◌, codes, length, IfOk};
-ghost use Rattle.grammar_rules.specs.Reader.{Gives};
+ghost use Rattle.grammar_rules.specs.Reader.{Gives, given};
 ghost use Rattle.grammar_rules.specs.Tokens.{is_sign};
 ghost use Rattle.aadl_parser.specs.Words.{is_name};
 ghost use Rattle.aadl_parser.specs.Names.{further_name, names_after, names, two_names, last_name, dotted_name, optional_item, reference, further_names, with_packages, grouped_category, virtual_category, category};
@@ -27,8 +27,8 @@ fn further_name(reader: &mut Reader) -> Result<Name, ReadError>
 }
 
 #[tactic(auto, unfolding(crate::specs::Names::names_after))]
-fn names_after(reader: &mut Reader, names: List<Name>) -> Result<List<Name>, ReadError>
-    ensures { Gives result (names_after names) reader.old reader.new }
+fn names_after(reader: &mut Reader, names: &mut List<Name>) -> Result<(), ReadError>
+    ensures { Gives (given result names.new) (names_after names.old) reader.old reader.new }
 {
     reader.more_parts::<FurtherNames>(names)
 }
@@ -40,7 +40,8 @@ pub(crate) fn names(reader: &mut Reader) -> Result<List<Name>, ReadError>
 {
     let mut names = List::new(reader.alloc());
     names.push(core_name(reader)?)?;
-    names_after(reader, names)
+    names_after(reader, &mut names)?;
+    Ok(names)
 }
 
 /// Reads two identifiers or more with `::` between them.
@@ -51,7 +52,8 @@ pub(crate) fn two_names(reader: &mut Reader) -> Result<List<Name>, ReadError>
     let mut names = List::new(reader.alloc());
     names.push(core_name(reader)?)?;
     names.push(further_name(reader)?)?;
-    names_after(reader, names)
+    names_after(reader, &mut names)?;
+    Ok(names)
 }
 
 /// A copy of the last of some names.

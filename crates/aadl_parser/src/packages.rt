@@ -1,5 +1,5 @@
-ghost use Rattle.std.specs.Prelude.{◌≡◌, [], ◌∷◌, codes, IfOk};
-ghost use Rattle.grammar_rules.specs.Reader.{Gives};
+ghost use Rattle.std.specs.Prelude.{◌≡◌, [], ◌∷◌, codes, OnOk};
+ghost use Rattle.grammar_rules.specs.Reader.{Gives, given};
 ghost use Rattle.grammar_rules.specs.Tokens.{is_one_of};
 ghost use Rattle.aadl_parser.specs.Words.{unit_words, begins_declaration};
 ghost use Rattle.aadl_parser.specs.Packages.{with_alias, named_alias_part, unnamed_alias_part, classifier_part, annex_part, with_part, group_part, other_declaration, declaration, declarations, package_part, package_properties, package_end, empty_package, package_body, package_unit, property_set_head, property_set, unit, file_units};
@@ -16,72 +16,52 @@ use emv2_parser::spot;
 use grammar_rules::{Gathered, Parts, ReadError, Reader, ToEnd};
 use std::alloc::Global;
 
-fn with_alias(mut aliases: List<Alias>, alias: Option<Alias>) -> Mem<List<Alias>>
-    ensures { IfOk result (λ more. more ≡ with_alias aliases alias) }
+fn with_alias(aliases: &mut List<Alias>, alias: Option<Alias>) -> Mem<()>
+    ensures { OnOk result (aliases.new ≡ with_alias aliases.old alias) }
 {
     if let Some(alias) = alias {
         aliases.push(alias)?;
     }
-    Ok(aliases)
+    Ok(())
 }
 
 #[tactic(auto, unfolding(crate::specs::Packages::named_alias_part))]
-fn named_alias_part(reader: &mut Reader, whole: PackageUnit) -> Result<PackageUnit, ReadError>
-    ensures { Gives result (named_alias_part whole) reader.old reader.new }
+fn named_alias_part(reader: &mut Reader, whole: &mut PackageUnit) -> Result<(), ReadError>
+    ensures { Gives (given result whole.new) (named_alias_part whole.old) reader.old reader.new }
 {
     let alias = named_alias(reader)?;
-    let aliases = with_alias(whole.aliases, alias)?;
-    Ok(PackageUnit { aliases, ..whole })
+    Ok(with_alias(&mut whole.aliases, alias)?)
 }
 
 #[tactic(auto, unfolding(crate::specs::Packages::unnamed_alias_part))]
-fn unnamed_alias_part(reader: &mut Reader, whole: PackageUnit) -> Result<PackageUnit, ReadError>
-    ensures { Gives result (unnamed_alias_part whole) reader.old reader.new }
+fn unnamed_alias_part(reader: &mut Reader, whole: &mut PackageUnit) -> Result<(), ReadError>
+    ensures { Gives (given result whole.new) (unnamed_alias_part whole.old) reader.old reader.new }
 {
     let alias = unnamed_alias(reader)?;
-    let aliases = with_alias(whole.aliases, alias)?;
-    Ok(PackageUnit { aliases, ..whole })
+    Ok(with_alias(&mut whole.aliases, alias)?)
 }
 
 #[tactic(auto, unfolding(crate::specs::Packages::classifier_part))]
-fn classifier_part(reader: &mut Reader, whole: PackageUnit) -> Result<PackageUnit, ReadError>
-    ensures { Gives result (classifier_part whole) reader.old reader.new }
+fn classifier_part(reader: &mut Reader, whole: &mut PackageUnit) -> Result<(), ReadError>
+    ensures { Gives (given result whole.new) (classifier_part whole.old) reader.old reader.new }
 {
-    let mut decls = whole.decls;
-    decls.push(classifier(reader)?)?;
-    Ok(PackageUnit { decls, ..whole })
+    let decl = classifier(reader)?;
+    Ok(whole.decls.push(decl)?)
 }
 
 #[tactic(auto, unfolding(crate::specs::Packages::annex_part))]
-fn annex_part(reader: &mut Reader, whole: PackageUnit) -> Result<PackageUnit, ReadError>
-    ensures { Gives result (annex_part whole) reader.old reader.new }
+fn annex_part(reader: &mut Reader, whole: &mut PackageUnit) -> Result<(), ReadError>
+    ensures { Gives (given result whole.new) (annex_part whole.old) reader.old reader.new }
 {
-    let library = library_annex(reader, whole.library)?;
-    Ok(PackageUnit { library, ..whole })
+    library_annex(reader, &mut whole.library)
 }
 
-#[tactic(auto, unfolding(crate::specs::Packages::with_part))]
-fn with_part(reader: &mut Reader, whole: PackageUnit) -> Result<PackageUnit, ReadError>
-    ensures { Gives result (with_part whole) reader.old reader.new }
-{
-    with_packages(reader)?;
-    Ok(whole)
-}
-
-#[tactic(auto, unfolding(crate::specs::Packages::group_part))]
-fn group_part(reader: &mut Reader, whole: PackageUnit) -> Result<PackageUnit, ReadError>
-    ensures { Gives result (group_part whole) reader.old reader.new }
-{
-    group_type(reader)?;
-    Ok(whole)
-}
-
-#[tactic(auto, unfolding(crate::specs::Packages::other_declaration))]
-fn other_declaration(reader: &mut Reader, whole: PackageUnit) -> Result<PackageUnit, ReadError>
-    ensures { Gives result (other_declaration whole) reader.old reader.new }
+#[tactic(auto, unfolding(crate::specs::Packages::other_declaration, crate::specs::Packages::group_part))]
+fn other_declaration(reader: &mut Reader, whole: &mut PackageUnit) -> Result<(), ReadError>
+    ensures { Gives (given result whole.new) (other_declaration whole.old) reader.old reader.new }
 {
     if reader.word_at(0, b"feature") {
-        return group_part(reader, whole);
+        return group_type(reader);
     }
     if reader.word_at(0, b"annex") {
         return annex_part(reader, whole);
@@ -89,9 +69,9 @@ fn other_declaration(reader: &mut Reader, whole: PackageUnit) -> Result<PackageU
     classifier_part(reader, whole)
 }
 
-#[tactic(auto, unfolding(crate::specs::Packages::declaration))]
-fn declaration(reader: &mut Reader, whole: PackageUnit) -> Result<PackageUnit, ReadError>
-    ensures { Gives result (declaration whole) reader.old reader.new }
+#[tactic(auto, unfolding(crate::specs::Packages::declaration, crate::specs::Packages::with_part))]
+fn declaration(reader: &mut Reader, whole: &mut PackageUnit) -> Result<(), ReadError>
+    ensures { Gives (given result whole.new) (declaration whole.old) reader.old reader.new }
 {
     if name_at(reader, 0) {
         return named_alias_part(reader, whole);
@@ -100,14 +80,14 @@ fn declaration(reader: &mut Reader, whole: PackageUnit) -> Result<PackageUnit, R
         return unnamed_alias_part(reader, whole);
     }
     if reader.word_at(0, b"with") {
-        return with_part(reader, whole);
+        return with_packages(reader);
     }
     other_declaration(reader, whole)
 }
 
 #[tactic(auto, unfolding(crate::specs::Packages::declarations))]
-fn declarations(reader: &mut Reader, whole: PackageUnit) -> Result<PackageUnit, ReadError>
-    ensures { Gives result (declarations whole) reader.old reader.new }
+fn declarations(reader: &mut Reader, whole: &mut PackageUnit) -> Result<(), ReadError>
+    ensures { Gives (given result whole.new) (declarations whole.old) reader.old reader.new }
 {
     reader.gather::<PackageDeclarations>(whole)
 }
@@ -116,15 +96,15 @@ fn declarations(reader: &mut Reader, whole: PackageUnit) -> Result<PackageUnit, 
 fn package_part(
     reader: &mut Reader,
     name: &[u8],
-    whole: PackageUnit,
-) -> Result<PackageUnit, ReadError>
-    ensures { Gives result (package_part name.now whole) reader.old reader.new }
+    whole: &mut PackageUnit,
+) -> Result<(), ReadError>
+    ensures { Gives (given result whole.new) (package_part name.now whole.old) reader.old reader.new }
 {
     if reader.word_at(0, name) {
         reader.word(name)?;
         return declarations(reader, whole);
     }
-    Ok(whole)
+    Ok(())
 }
 
 #[tactic(auto, unfolding(crate::specs::Packages::package_properties))]
@@ -163,11 +143,11 @@ fn empty_package(alloc: Global, name: List<Name>, spot: Spot) -> PackageUnit
 }
 
 #[tactic(auto, unfolding(crate::specs::Packages::package_body))]
-fn package_body(reader: &mut Reader, whole: PackageUnit) -> Result<Unit, ReadError>
+fn package_body(reader: &mut Reader, mut whole: PackageUnit) -> Result<Unit, ReadError>
     ensures { Gives result (package_body whole) reader.old reader.new }
 {
-    let whole = package_part(reader, b"public", whole)?;
-    let whole = package_part(reader, b"private", whole)?;
+    package_part(reader, b"public", &mut whole)?;
+    package_part(reader, b"private", &mut whole)?;
     package_properties(reader)?;
     package_end(reader)?;
     Ok(Unit::Package(whole))
@@ -238,7 +218,7 @@ impl Gathered for PackageDeclarations {
         declaration_at(reader)
     }
 
-    fn part(reader: &mut Reader, whole: PackageUnit) -> Result<PackageUnit, ReadError> {
+    fn part(reader: &mut Reader, whole: &mut PackageUnit) -> Result<(), ReadError> {
         declaration(reader, whole)
     }
 

@@ -1,11 +1,11 @@
 ghost use Rattle.std.specs.Prelude.{◌≡◌, ◌∷◌, [], ◌||◌, codes, option_copied};
 ghost use Rattle.grammar_rules.specs.Reader.{Gives};
-ghost use Rattle.aadl_parser.specs.Runs.{begins_item, past, array_place, array_tail, bindings_place, parenthesised, bindings, in_modes};
+ghost use Rattle.aadl_parser.specs.Runs.{begins_item, tail_end, past, array_place, array_tail, bindings_place, parenthesised, bindings, in_modes};
 
 use crate::words::is_ending;
 use aadl_syntax::{Spot, Token};
-use emv2_parser::{spot, tail_end};
-use grammar_rules::{Balanced, ReadError, Reader, Span, closes, is_sign};
+use emv2_parser::spot;
+use grammar_rules::{Balanced, ReadError, Reader, Span, Tail, closes, is_sign};
 
 // The tokens of a section that are read past.
 struct SkippedTokens;
@@ -42,6 +42,15 @@ impl Span for Front {
     fn stops_at(_before: Option<&Token>, token: &Token) -> bool {
         closes(token) || is_sign(token, b";") || is_sign(token, b"[")
     }
+}
+
+/// Goes past the rest of an item, up to its semicolon.
+#[tactic(auto, unfolding(crate::specs::Runs::tail_end))]
+pub(crate) fn tail_end(reader: &mut Reader) -> Result<(), ReadError>
+    ensures { Gives result tail_end reader.old reader.new }
+{
+    reader.until::<Tail>()?;
+    reader.sign(b";")
 }
 
 /// Goes past the rest of a section.

@@ -1,5 +1,5 @@
 ghost use Rattle.std.specs.Prelude.{[], ◌∷◌, codes};
-ghost use Rattle.grammar_rules.specs.Reader.{Gives};
+ghost use Rattle.grammar_rules.specs.Reader.{Gives, given};
 ghost use Rattle.aadl_parser.specs.Words.{is_name};
 ghost use Rattle.aadl_parser.specs.Subcomponents.{optional_classifier, subcomponent_of, subcomponent, subcomponents_after};
 ghost use Rattle.aadl_parser.specs.Takes.{subcomponent-takes};
@@ -63,19 +63,18 @@ fn subcomponent(reader: &mut Reader) -> Result<Subcomponent, ReadError>
     subcomponent_of(reader, name, spot, refined)
 }
 
-/// Reads a section of subcomponents, and gives them after others.
+/// Reads a section of subcomponents, and adds them to others.
 #[tactic(auto, unfolding(crate::specs::Subcomponents::subcomponents_after))]
 pub(crate) fn subcomponents_after(
     reader: &mut Reader,
-    subcomponents: List<Subcomponent>,
-) -> Result<List<Subcomponent>, ReadError>
-    ensures { Gives result (subcomponents_after subcomponents) reader.old reader.new }
+    subcomponents: &mut List<Subcomponent>,
+) -> Result<(), ReadError>
+    ensures { Gives (given result subcomponents.new) (subcomponents_after subcomponents.old) reader.old reader.new }
 {
     reader.word(b"subcomponents")?;
     if reader.word_at(0, b"none") {
         reader.word(b"none")?;
-        reader.sign(b";")?;
-        return Ok(subcomponents);
+        return reader.sign(b";");
     }
     reader.more_parts::<Subcomponents>(subcomponents)
 }
