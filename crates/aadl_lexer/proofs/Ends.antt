@@ -5,7 +5,8 @@ use Rattle.std.proofs.lemmas.Bool.{eqb-true, and_parts, false≢true, cases_Bool
 use Rattle.std.proofs.lemmas.List.{length-append, length-drop, length-take-le, take-append-drop, drop-drop, take_at}
 use Rattle.aadl_syntax.specs.declared.token.Token.{Token}
 use Rattle.aadl_syntax.specs.declared.token.TokenKind.TheVariants.{AnnexBegin, AnnexEnd}
-use Rattle.aadl_lexer.specs.Tokens.{IsBody, IsAnnex, IsFirstEnd, AfterEmv2, annex_begin, annex_end, token_of}
+use Rattle.aadl_syntax.specs.Token.{token_of}
+use Rattle.aadl_lexer.specs.Tokens.{IsBody, IsAnnex, IsFirstEnd, AfterEmv2, annex_begin, annex_end}
 use Rattle.aadl_lexer.specs.Steps.{EndsAt, TakesBody, Takes, begins_end}
 
 end_at : (text : List ℕ) → begins_end text ≡ true → text ≡ annex_end ++ drop 3 text

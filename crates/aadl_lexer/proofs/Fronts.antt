@@ -9,7 +9,7 @@ use Rattle.std.proofs.lemmas.List.{length-take-le, take-append-drop}
 use Rattle.aadl_syntax.specs.declared.token.TokenKind.{TokenKind}
 use Rattle.aadl_syntax.specs.declared.token.TokenKind.TheVariants.{Word, Number, Text, Sign, AnnexBegin, AnnexRaw, AnnexEnd}
 use Rattle.aadl_syntax.specs.declared.refusal.Code.TheVariants.{BadByte, OpenString}
-use Rattle.aadl_lexer.specs.Form.{One, Byte, ◌followed_by◌, Repeated, Digits, IsComment, IsWord, IsNumber, IsText, IsSign, is_blank, is_letter, is_digit, is_sign}
+use Rattle.aadl_syntax.specs.Form.{One, Byte, ◌followed_by◌, Repeated, Digits, IsComment, IsWord, IsNumber, IsText, IsSign, is_blank, is_letter, is_digit, is_sign}
 use Rattle.aadl_lexer.specs.Tokens.{IsForm, NothingBegins, IsStuck, annex_begin}
 use Rattle.aadl_lexer.specs.Scan.{IsFront, IsOther, begins_comment, begins_annex, line_len, word_rest_len, text_rest_len, digits_len, number_len, sign_len}
 use Rattle.aadl_lexer.proofs.Runs.{one_byte}

@@ -7,3 +7,4 @@ pub mod Cuts
 pub mod Ends
 pub mod Single
 pub mod Examples
+pub mod Folding

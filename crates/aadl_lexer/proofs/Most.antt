@@ -3,7 +3,7 @@ use Rattle.std.proofs.Common.{◌≡◌, ℕ, zero, suc, ◌+◌, ◌<◌, ◌�
 use Rattle.std.proofs.lemmas.Bool.{cases_Bool, cases_lt, cond-true, cond-false, false≢true, eqb-true, ne_eqb}
 use Rattle.std.proofs.lemmas.List.{length-append, drop_at}
 use Rattle.std.proofs.Math.Seq.{take-add}
-use Rattle.aadl_lexer.specs.Form.{One, ◌followed_by◌, Perhaps}
+use Rattle.aadl_syntax.specs.Form.{One, ◌followed_by◌, Perhaps}
 use Rattle.aadl_lexer.specs.Scan.{after_one}
 use Rattle.aadl_lexer.proofs.Runs.{one_byte}
 

@@ -6,7 +6,7 @@ use Rattle.std.proofs.lemmas.Bool.{cases_Bool, cases_lt, cond-true, cond-false, 
 use Rattle.std.proofs.lemmas.List.{length-append, length-drop, drop_at}
 use Rattle.std.proofs.Math.Numerals.{add-one}
 use Rattle.std.proofs.lemmas.List.Sums.{prefix_len-le-length}
-use Rattle.aadl_lexer.specs.Form.{One, Byte, ◌followed_by◌, Perhaps, Either, Digits, IsFraction, IsExponent, IsBased, IsNumber, is_digit, is_hexadecimal}
+use Rattle.aadl_syntax.specs.Form.{One, Byte, ◌followed_by◌, Perhaps, Either, Digits, IsFraction, IsExponent, IsBased, IsNumber, is_digit, is_hexadecimal}
 use Rattle.aadl_lexer.specs.Scan.{after_one, digits_len, fraction_len, signed_len, exponent_len, decimals_len, begins, closed_len, based_len, tail_len, number_len}
 use Rattle.aadl_lexer.proofs.Runs.{run_is, run_within}
 use Rattle.aadl_lexer.proofs.Most.{IsMost, none_most, most_none, no_such, lead, lead_nil, led, lead_most, joined_most, joined_is, same_most, perhaps_is, perhaps_most}

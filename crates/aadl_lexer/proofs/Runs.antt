@@ -3,7 +3,7 @@ use Rattle.std.proofs.Common.{◌≡◌, ℕ, ◌+◌, ◌<◌, ◌≤◌, Bool,
 use Rattle.std.specs.List.{concat, AllByRecursion, prefix_len}
 use Rattle.std.proofs.lemmas.Bool.{cases_Bool, cond-true, cond-false}
 use Rattle.std.proofs.Math.Numerals.{one-add}
-use Rattle.aadl_lexer.specs.Form.{One, Repeated}
+use Rattle.aadl_syntax.specs.Form.{One, Repeated}
 
 -- no part at all
 pub rep_none : (P : List ℕ → Type 0) → Repeated P []

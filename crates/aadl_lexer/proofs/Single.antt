@@ -7,7 +7,8 @@ use Rattle.aadl_syntax.specs.declared.token.TokenKind.TheVariants.{AnnexBegin, A
 use Rattle.aadl_syntax.specs.declared.refusal.Code.{Code}
 use Rattle.aadl_syntax.specs.declared.refusal.Stop.{Stop}
 use Rattle.aadl_syntax.specs.declared.refusal.Stop.TheVariants.{Refused, Memory}
-use Rattle.aadl_lexer.specs.Tokens.{Piece, AreCut, IsRead, Stops, IsForm, IsLongest, IsPlain, NothingBegins, IsBadByte, IsOpenString, IsOpenAnnex, IsStuck, IsAnnex, IsBody, IsFirstEnd, InAnnex, InCore, StuckInAnnex, StopsInside, StuckInCore, Tokens, IsFault, RefusedAs, annex_begin, annex_end, token_of, tokens_of}
+use Rattle.aadl_syntax.specs.Token.{token_of}
+use Rattle.aadl_lexer.specs.Tokens.{Piece, AreCut, IsRead, Stops, IsForm, IsLongest, IsPlain, NothingBegins, IsBadByte, IsOpenString, IsOpenAnnex, IsStuck, IsAnnex, IsBody, IsFirstEnd, InAnnex, InCore, StuckInAnnex, StopsInside, StuckInCore, Tokens, IsFault, RefusedAs, annex_begin, annex_end, tokens_of}
 use Rattle.aadl_lexer.proofs.Cuts.{bytes_of, tokens_in}
 use Rattle.aadl_lexer.proofs.Fronts.{form_nil, one_kind, annex_front}
 

@@ -6,7 +6,7 @@ use Rattle.std.specs.Option.{option_map}
 use Rattle.std.proofs.lemmas.Bool.{cases_Bool, cases_lt, cond-true, cond-false, false≢true, eqb-true, eq-eqb, ne_eqb, or_cases, or_parts, or_from, and_parts, and_from, not-true, not_from_false, false_from_ne_true}
 use Rattle.std.proofs.lemmas.List.{length-append, drop_more, drop_all, drop-drop}
 use Rattle.std.proofs.lemmas.List.Sums.{prefix_len-le-length}
-use Rattle.aadl_lexer.specs.Form.{One, Byte, ◌followed_by◌, Repeated, Perhaps, Either, IsWord, IsText, IsSign, IsComment, is_letter, is_letter_or_digit, is_sign}
+use Rattle.aadl_syntax.specs.Form.{One, Byte, ◌followed_by◌, Repeated, Perhaps, Either, IsWord, IsText, IsSign, IsComment, is_letter, is_letter_or_digit, is_sign}
 use Rattle.aadl_lexer.specs.Scan.{line_len, word_rest_len, text_rest_len, is_pair, is_triple, sign_len}
 use Rattle.aadl_lexer.proofs.Runs.{rep_none, rep_more, rep_first, FirstPart, one_byte, run_is, run_within}
 use Rattle.aadl_lexer.proofs.Most.{IsMost, none_most, no_such, lead, lead_nil, led}

@@ -1,4 +1,3 @@
-pub mod Form
 pub mod Tokens
 pub mod Scan
 pub mod Steps

@@ -2,7 +2,7 @@
 use Rattle.std.specs.Prelude.{◌≡◌, ◌≢◌, ℕ, suc, ◌+◌, Bool, false, ◌==◌, ◌&&◌, ◌||◌, not, ◌<◌, ◌≤◌, List, [], ◌∷◌, length, take, drop, Option, Some, None, if◌then◌else◌}
 use Rattle.std.specs.List.{prefix_len}
 use Rattle.std.specs.Option.{option_map}
-use Rattle.aadl_lexer.specs.Form.{is_blank, is_letter, is_digit, is_letter_or_digit, is_hexadecimal, is_sign}
+use Rattle.aadl_syntax.specs.Form.{is_blank, is_letter, is_digit, is_letter_or_digit, is_hexadecimal, is_sign}
 use Rattle.aadl_lexer.specs.Tokens.{IsLongest}
 use Rattle.aadl_lexer.specs.declared.form.Front.{Front}
 

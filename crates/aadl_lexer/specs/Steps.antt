@@ -1,9 +1,11 @@
 -- What one step of the code does to the tokens so far.
-use Rattle.std.specs.Prelude.{◌≡◌, ℕ, ◌+◌, ◌<◌, ◌≤◌, Bool, true, false, ◌==◌, ◌&&◌, List, [], ◌∷◌, ◌++◌, length, take, drop}
+use Rattle.std.specs.Prelude.{◌≡◌, ℕ, ◌+◌, ◌<◌, ◌≤◌, Bool, true, false, ◌==◌, ◌&&◌, List, [], ◌∷◌, ◌++◌, length, take, drop, Option, Some, None}
 use Rattle.aadl_syntax.specs.declared.token.Token.{Token}
+use Rattle.aadl_syntax.specs.declared.token.TokenKind.{TokenKind}
 use Rattle.aadl_syntax.specs.declared.token.TokenKind.TheVariants.{AnnexRaw}
 use Rattle.aadl_syntax.specs.declared.refusal.Code.{Code}
-use Rattle.aadl_lexer.specs.Tokens.{Piece, IsRead, InAnnex, IsStuck, IsFirstEnd, token_of, annex_end}
+use Rattle.aadl_lexer.specs.Tokens.{Piece, IsRead, InAnnex, IsStuck, IsFirstEnd, annex_end}
+use Rattle.aadl_syntax.specs.Token.{IsTokenText, text_of, token_of}
 
 -- The first bytes of the text, so many, are a piece by the rule, and its tokens are added.
 pub record Takes (Rule : Piece → List ℕ → Type 0) (text : List ℕ) (old new : List Token) (len : ℕ) : Type 0 where
@@ -42,3 +44,8 @@ begins_end [] = false
 begins_end (a ∷ []) = false
 begins_end (a ∷ b ∷ []) = false
 begins_end (a ∷ b ∷ c ∷ rest) = a == 42 && b == 42 && c == 125
+
+-- The bytes of a token have its text, where they are one.
+abbrev pub HasTokenText : Option TokenKind → List ℕ → Type 0
+HasTokenText None bytes = Unit {0}
+HasTokenText (Some kind) bytes = IsTokenText kind (text_of kind bytes)

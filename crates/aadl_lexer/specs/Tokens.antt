@@ -2,7 +2,7 @@
 -- token, tokens, and in core text whole annexes.
 use Rattle.std.specs.Prelude.{◌≡◌, ◌≢◌, ℕ, ◌+◌, ◌≤◌, Bool, true, false, IsTrue, List, [], ◌∷◌, ◌++◌, length, codes, Option, Some, None, ◌⊎◌}
 use Rattle.std.specs.List.{flat_map}
-use Rattle.aadl_syntax.specs.Name.{folded}
+use Rattle.aadl_syntax.specs.Token.{token_of}
 use Rattle.aadl_syntax.specs.declared.token.Token.{Token}
 use Rattle.aadl_syntax.specs.declared.token.TokenKind.{TokenKind}
 use Rattle.aadl_syntax.specs.declared.token.TokenKind.TheVariants.{Word, Number, Text, Sign, AnnexBegin, AnnexRaw, AnnexEnd}
@@ -11,7 +11,7 @@ use Rattle.aadl_syntax.specs.declared.refusal.Code.TheVariants.{BadByte, OpenStr
 use Rattle.aadl_syntax.specs.declared.refusal.Place.TheVariants.{At}
 use Rattle.aadl_syntax.specs.declared.refusal.Stop.{Stop}
 use Rattle.aadl_syntax.specs.declared.refusal.Stop.TheVariants.{Refused, Memory}
-use Rattle.aadl_lexer.specs.Form.{IsBlank, IsComment, IsWord, IsNumber, IsText, IsSign}
+use Rattle.aadl_syntax.specs.Form.{IsBlank, IsComment, IsWord, IsNumber, IsText, IsSign}
 
 -- `{**`, which begins an annex, and `**}`, which ends it
 abbrev pub annex_begin : List ℕ
@@ -35,15 +35,6 @@ IsForm annexes (Some AnnexEnd) bytes = ⊥
 pub record IsLongest (annexes : Bool) (kind : Option TokenKind) (bytes rest : List ℕ) : Type 0 where
   pub form : IsForm annexes kind bytes
   pub longest : (other : Option TokenKind) (front back : List ℕ) → bytes ++ rest ≡ front ++ back → IsForm annexes other front → length front ≤ length bytes
-
--- the text of a token: a word is folded, and any other token is as it was written
-abbrev pub text_of : TokenKind → List ℕ → List ℕ
-text_of Word bytes = folded bytes
-text_of _ bytes = bytes
-
--- the token of these bytes, the first of which is byte `at` of the file
-abbrev pub token_of : TokenKind → ℕ → List ℕ → Token
-token_of kind at bytes = record { kind = kind; start = at; end = at + length bytes; text = text_of kind bytes }
 
 -- what a form gives: a blank or a comment no token, and any other form its own
 abbrev pub tokens_of : Option TokenKind → ℕ → List ℕ → List Token

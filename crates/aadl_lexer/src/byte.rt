@@ -1,7 +1,7 @@
 //! Classes of bytes.
 
 ghost use Rattle.std.specs.Prelude.{◌≡◌};
-ghost use Rattle.aadl_lexer.specs.Form.{is_blank, is_letter, is_digit, is_letter_or_digit, is_hexadecimal, is_sign};
+ghost use Rattle.aadl_syntax.specs.Form.{is_blank, is_letter, is_digit, is_letter_or_digit, is_hexadecimal, is_sign};
 
 /// Whether a byte is a tab, a line feed, a carriage return or a space.
 pub fn is_blank(b: u8) -> bool

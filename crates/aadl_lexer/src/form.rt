@@ -1,7 +1,7 @@
 //! The longest form at the front of a text.
 
 ghost use Rattle.std.specs.Prelude.{◌≡◌, ◌<◌, ◌≤◌, length, not, ◌||◌, ◌==◌, slice_index, IsTrue, IfOk, IfErr, IfSome};
-ghost use Rattle.aadl_lexer.specs.Form.{is_digit, is_hexadecimal};
+ghost use Rattle.aadl_syntax.specs.Form.{is_digit, is_hexadecimal};
 ghost use Rattle.std.specs.List.{prefix_len};
 ghost use Rattle.aadl_lexer.specs.Scan.{after_one, line_len, word_rest_len, text_rest_len, digits_len, fraction_len, signed_len, exponent_len, decimals_len, closed_len, based_len, tail_len, number_len, sign_len, is_pair, is_triple, begins_comment, begins_annex, IsOther, IsFront};
 ghost use Rattle.aadl_lexer.specs.Tokens.{IsStuck};

@@ -1,22 +1,23 @@
 //! The tokens of a whole file.
 
 ghost use Rattle.std.specs.Prelude.{◌≡◌, ℕ, List, ◌<◌, ◌≤◌, ◌+◌, ◌++◌, ◌∷◌, [], ◌↔◌, length, take, true, false, IsTrue, IfOk, IfErr, IfSome, IfNone, OnOk, MatchResult};
-ghost use Rattle.aadl_lexer.specs.Tokens.{Tokens, IsFault, RefusedAs, InCore, InAnnex, StuckInCore, StuckInAnnex, IsPlain, IsAnnex, Stops, StopsInside, AfterEmv2, IsStuck, token_of, tokens_of, annex_begin, annex_end};
+ghost use Rattle.aadl_lexer.specs.Tokens.{Tokens, IsFault, RefusedAs, InCore, InAnnex, StuckInCore, StuckInAnnex, IsPlain, IsAnnex, Stops, StopsInside, AfterEmv2, IsStuck, tokens_of, annex_begin, annex_end};
 ghost use Rattle.aadl_syntax.specs.declared.token.Token.{Token};
 ghost use Rattle.aadl_syntax.specs.declared.refusal.Stop.TheVariants.{Refused, Memory};
 ghost use Rattle.aadl_syntax.specs.declared.refusal.Place.TheVariants.{At};
 ghost use Rattle.aadl_lexer.specs.Scan.{IsFront};
-ghost use Rattle.aadl_lexer.specs.Steps.{Takes, TakesAll, TakesBody, EndsAt, StuckAt, begins_end};
+ghost use Rattle.aadl_syntax.specs.Token.{IsTokenText, text_of, token_of};
+ghost use Rattle.aadl_lexer.specs.Steps.{Takes, TakesAll, TakesBody, EndsAt, StuckAt, HasTokenText, begins_end};
 
 use crate::form::{Front, front_of};
-use aadl_syntax::{Answer, Code, List, Mem, Place, Refusal, Stop, Token, TokenKind, fold, is_same};
+use aadl_syntax::{Answer, Code, Place, Refusal, Stop, TokenKind, TokenList, is_same};
 use std::alloc::Global;
 
 /// The tokens of the file of this number, in order. Places are in bytes, from 0.
 ///
 /// A byte that begins no token is refused as `BadByte`, a quoted text that does not end as `OpenString` at its quote, and an
 /// annex that does not end as `OpenAnnex` at its `{**`; the first of these places in the file is named.
-pub fn tokens(alloc: Global, file: u32, bytes: &[u8]) -> Answer<List<Token>>
+pub fn tokens(alloc: Global, file: u32, bytes: &[u8]) -> Answer<TokenList>
     requires { length bytes.now ≤ 4194304 }
 
     // What is answered are the file's tokens.
@@ -28,21 +29,20 @@ pub fn tokens(alloc: Global, file: u32, bytes: &[u8]) -> Answer<List<Token>>
     // Tokens that the bytes have are answered, unless memory runs out.
     ensures only { (list : List Token) → Tokens bytes.now list → MatchResult result (λ found. found ≡ list) (λ stop. stop ≡ Memory) }
 {
-    let mut list = List::new(alloc);
+    let mut list = TokenList::new(alloc);
     let mut at = 0;
     while at < bytes.len() {
-        at += core_piece(alloc, file, at, &bytes[at..], &mut list)?;
+        at += core_piece(file, at, &bytes[at..], &mut list)?;
     }
     Ok(list)
 }
 
 /// Takes the piece of core text at the front, and says how long it is.
 fn core_piece(
-    alloc: Global,
     file: u32,
     at: usize,
     text: &[u8],
-    list: &mut List<Token>,
+    list: &mut TokenList,
 ) -> Answer<usize>
     requires some { 0 < length text.now }
     requires fits { at + length text.now ≤ 4194304 }
@@ -51,14 +51,14 @@ fn core_piece(
 {
     let front = front_at(file, at, true, text)?;
     if let Some(TokenKind::AnnexBegin) = front.kind {
-        return annex(alloc, file, at, text, list);
+        return annex(file, at, text, list);
     }
-    take_front(alloc, at, text, front, list)?;
+    take_front(at, text, front, list)?;
     Ok(front.len)
 }
 
 /// Takes the annex at the front, and says how long it is.
-fn annex(alloc: Global, file: u32, at: usize, text: &[u8], list: &mut List<Token>) -> Answer<usize>
+fn annex(file: u32, at: usize, text: &[u8], list: &mut TokenList) -> Answer<usize>
     requires long { 3 ≤ length text.now }
     requires opens { take 3 text.now ≡ annex_begin }
     requires fits { at + length text.now ≤ 4194304 }
@@ -69,40 +69,38 @@ fn annex(alloc: Global, file: u32, at: usize, text: &[u8], list: &mut List<Token
     let Some(len) = end_of(after) else {
         return Err(refused(file, at, Code::OpenAnnex));
     };
-    let is_emv2 = ends_in_emv2(list.items());
-    add(alloc, list, TokenKind::AnnexBegin, at, b"{**")?;
-    annex_body(alloc, file, at + 3, &after[..len], is_emv2, list)?;
-    add(alloc, list, TokenKind::AnnexEnd, at + 3 + len, b"**}")?;
+    let is_emv2 = ends_in_emv2(list);
+    add(list, TokenKind::AnnexBegin, at, b"{**")?;
+    annex_body(file, at + 3, &after[..len], is_emv2, list)?;
+    add(list, TokenKind::AnnexEnd, at + 3 + len, b"**}")?;
     Ok(len + 6)
 }
 
 /// Takes the body of an annex: the tokens of the text of an error model annex, or one raw token.
 fn annex_body(
-    alloc: Global,
     file: u32,
     at: usize,
     body: &[u8],
     is_emv2: bool,
-    list: &mut List<Token>,
+    list: &mut TokenList,
 ) -> Answer<()>
     requires { at + length body.now ≤ 4194304 }
     ensures ok { OnOk result (TakesBody is_emv2 at body.now list.old list.new) }
     ensures err { IfErr result (λ stop. RefusedAs file (λ code place. IsTrue is_emv2 × Stops InAnnex StuckInAnnex at body.now code place) stop) }
 {
     if is_emv2 {
-        annex_tokens(alloc, file, at, body, list)
+        annex_tokens(file, at, body, list)
     } else {
-        add(alloc, list, TokenKind::AnnexRaw, at, body)
+        add(list, TokenKind::AnnexRaw, at, body)
     }
 }
 
 /// Takes the tokens of the text of an error model annex.
 fn annex_tokens(
-    alloc: Global,
     file: u32,
     at: usize,
     text: &[u8],
-    list: &mut List<Token>,
+    list: &mut TokenList,
 ) -> Answer<()>
     requires { at + length text.now ≤ 4194304 }
     ensures ok { OnOk result (TakesAll InAnnex at text.now list.old list.new) }
@@ -110,18 +108,17 @@ fn annex_tokens(
 {
     let mut done = 0;
     while done < text.len() {
-        done += annex_piece(alloc, file, at + done, &text[done..], list)?;
+        done += annex_piece(file, at + done, &text[done..], list)?;
     }
     Ok(())
 }
 
 /// Takes the piece at the front of the text of an error model annex, and says how long it is.
 fn annex_piece(
-    alloc: Global,
     file: u32,
     at: usize,
     text: &[u8],
-    list: &mut List<Token>,
+    list: &mut TokenList,
 ) -> Answer<usize>
     requires some { 0 < length text.now }
     requires fits { at + length text.now ≤ 4194304 }
@@ -129,7 +126,7 @@ fn annex_piece(
     ensures err { IfErr result (λ stop. RefusedAs file (StuckAt false at text.now) stop) }
 {
     let front = front_at(file, at, false, text)?;
-    take_front(alloc, at, text, front, list)?;
+    take_front(at, text, front, list)?;
     Ok(front.len)
 }
 
@@ -147,62 +144,30 @@ fn front_at(file: u32, at: usize, annexes: bool, text: &[u8]) -> Answer<Front>
 }
 
 /// Adds the token of what stands at the front, where it is no blank and no comment.
-fn take_front(
-    alloc: Global,
-    at: usize,
-    text: &[u8],
-    front: Front,
-    list: &mut List<Token>,
-) -> Answer<()>
+fn take_front(at: usize, text: &[u8], front: Front, list: &mut TokenList) -> Answer<()>
     requires within { front.len ≤ length text.now }
     requires fits { at + length text.now ≤ 4194304 }
+    requires form { HasTokenText front.kind (take front.len text.now) }
     ensures ok { OnOk result (list.new ≡ list.old ++ tokens_of front.kind at (take front.len text.now)) }
     ensures err { IfErr result (λ stop. stop ≡ Memory) }
 {
     match front.kind {
         None => Ok(()),
-        Some(kind) => add(alloc, list, kind, at, &text[..front.len]),
+        Some(kind) => add(list, kind, at, &text[..front.len]),
     }
 }
 
 /// Adds the token of these bytes, the first of which is byte `at` of the file.
-fn add(
-    alloc: Global,
-    list: &mut List<Token>,
-    kind: TokenKind,
-    at: usize,
-    bytes: &[u8],
-) -> Answer<()>
-    requires { at + length bytes.now ≤ 4194304 }
+fn add(list: &mut TokenList, kind: TokenKind, at: usize, bytes: &[u8]) -> Answer<()>
+    requires fits { at + length bytes.now ≤ 4194304 }
+    requires form { IsTokenText kind (text_of kind bytes.now) }
     ensures ok { OnOk result (list.new ≡ list.old ++ token_of kind at bytes.now ∷ []) }
     ensures err { IfErr result (λ stop. stop ≡ Memory) }
 {
-    match pushed(alloc, list, kind, at, bytes) {
+    match list.push(kind, at as u32, bytes) {
         Ok(()) => Ok(()),
         Err(_) => Err(Stop::Memory),
     }
-}
-
-fn pushed(
-    alloc: Global,
-    list: &mut List<Token>,
-    kind: TokenKind,
-    at: usize,
-    bytes: &[u8],
-) -> Mem<()>
-    requires { at + length bytes.now ≤ 4194304 }
-    ensures { OnOk result (list.new ≡ list.old ++ token_of kind at bytes.now ∷ []) }
-{
-    let text = match kind {
-        TokenKind::Word => fold(alloc, bytes)?,
-        _ => List::of(Vec::from_slice(alloc, bytes)?)?,
-    };
-    list.push(Token {
-        kind,
-        start: at as u32,
-        end: (at + bytes.len()) as u32,
-        text,
-    })
 }
 
 /// Where the first `**}` stands.
@@ -228,13 +193,13 @@ fn begins_end(text: &[u8]) -> bool
 }
 
 /// Whether the last token is the word `emv2`.
-fn ends_in_emv2(tokens: &[Token]) -> bool
+fn ends_in_emv2(tokens: &TokenList) -> bool
     ensures yes { IsTrue result → AfterEmv2 tokens.now }
     ensures no { AfterEmv2 tokens.now → IsTrue result }
 {
-    match tokens {
-        [.., last] => last.kind == TokenKind::Word && is_same(last.text.items(), b"emv2"),
-        [] => false,
+    match tokens.last() {
+        Some(last) => last.kind == TokenKind::Word && is_same(last.text, b"emv2"),
+        None => false,
     }
 }
 

@@ -5,6 +5,7 @@
 
 mod core_model;
 mod error_model;
+mod identifier;
 mod laws;
 mod list;
 mod name;
@@ -12,6 +13,7 @@ mod order;
 mod place;
 mod refusal;
 mod token;
+mod tokens;
 
 pub use core_model::{
     Alias, Connection, ConnectionKind, Decl, Ends, Feature, FeatureKind, PackageUnit, Subcomponent,
@@ -22,11 +24,13 @@ pub use error_model::{
     FlowKind, MachineDecl, Outgoing, PointItem, PointRef, Source, StateDecl, StateRef, Term,
     Transition, TypeItem, TypeKind, TypeSet, TypesBlock, UserPath, UserPoint,
 };
+pub use identifier::Identifier;
 pub use laws::{least_is_first, one_first};
 pub use list::List;
 pub use name::{Name, Root, Word, fold, is_same};
 pub use order::FirstRefusal;
 pub use place::{End, Ref, Spot};
 pub use refusal::{Answer, Code, Mem, Place, Refusal, Stop};
-pub use token::{Token, TokenKind};
+pub use token::{Token, TokenKind, TokenRef};
+pub use tokens::TokenList;
 

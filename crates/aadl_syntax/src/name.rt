@@ -27,7 +27,7 @@ pub fn fold(alloc: Global, bytes: &[u8]) -> Mem<Name>
     List::of(letters)
 }
 
-fn lower(byte: u8) -> u8
+pub(crate) fn lower(byte: u8) -> u8
     ensures { result ≡ lower byte }
 {
     if byte >= b'A' && byte <= b'Z' {

@@ -27,3 +27,12 @@ pub struct Token {
     pub end: u32,
     pub text: Name,
 }
+
+/// A token as a look at a list of tokens shows it.
+#[derive(Clone, Copy)]
+pub struct TokenRef<'a> {
+    pub kind: TokenKind,
+    pub start: u32,
+    pub end: u32,
+    pub text: &'a [u8],
+}

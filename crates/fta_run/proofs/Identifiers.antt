@@ -9,7 +9,7 @@ use Rattle.std.proofs.lemmas.Slice.Eq.{starts_is}
 use Rattle.std.proofs.lemmas.Bool.Decides.{Decides-eqb}
 use Rattle.std.proofs.Math.Seq.{drop-append_seam}
 use Rattle.std.proofs.Math.Nat.{eq-or-lt_of_le}
-use Rattle.aadl_lexer.specs.Form.{Repeated, Perhaps, Byte, One, ◌followed_by◌, IsWord, is_letter, is_letter_or_digit}
+use Rattle.aadl_syntax.specs.Form.{Repeated, Perhaps, Byte, One, ◌followed_by◌, IsWord, is_letter, is_letter_or_digit}
 use Rattle.fta_run.specs.Words.{follows_well, with_colons}
 
 -- a letter or digit, perhaps after one `_`

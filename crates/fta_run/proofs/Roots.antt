@@ -4,7 +4,7 @@ use Rattle.std.specs.List.{AllByRecursion}
 use Rattle.std.specs.Cmp.{first_so, second_so}
 use Rattle.std.proofs.lemmas.Bool.{false≢true, cases_lt}
 use Rattle.aadl_syntax.specs.declared.name.Root.{Root}
-use Rattle.aadl_lexer.specs.Form.{IsWord, is_letter, is_letter_or_digit}
+use Rattle.aadl_syntax.specs.Form.{IsWord, is_letter, is_letter_or_digit}
 use Rattle.aadl_syntax.specs.Name.{folded, is_same_text}
 use Rattle.fta_run.specs.declared.words.Task.{Task}
 use Rattle.fta_run.specs.declared.words.Task.TheVariants.{Check, Cuts}

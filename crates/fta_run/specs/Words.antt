@@ -3,7 +3,7 @@ use Rattle.std.specs.Prelude.{◌≡◌, ◌≢◌, ◌<◌, ◌≤◌, ℕ, Boo
 use Rattle.std.specs.List.{AllByRecursion}
 use Rattle.aadl_syntax.specs.Name.{folded, is_same_text}
 use Rattle.aadl_syntax.specs.declared.name.Root.{Root}
-use Rattle.aadl_lexer.specs.Form.{IsWord, is_letter_or_digit}
+use Rattle.aadl_syntax.specs.Form.{IsWord, is_letter_or_digit}
 use Rattle.fta_run.specs.declared.words.Task.{Task}
 use Rattle.fta_run.specs.declared.words.Task.TheVariants.{Check, Cuts}
 

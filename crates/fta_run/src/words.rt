@@ -1,6 +1,6 @@
 ghost use Rattle.std.specs.Prelude.{◌≡◌, ◌<◌, ◌++◌, ◌∷◌, [], ◌≤◌, ◌↔◌, ℕ, List, Some, IsSome, IsTrue, IfOk, IfSome, IsSomeAnd, MatchOption, length, false};
 ghost use Rattle.std.specs.List.{AllByRecursion};
-ghost use Rattle.aadl_lexer.specs.Form.{IsWord, is_letter, is_letter_or_digit};
+ghost use Rattle.aadl_syntax.specs.Form.{IsWord, is_letter, is_letter_or_digit};
 ghost use Rattle.fta_run.specs.Words.{IsCommand, IsRoot, IsPlainWord, AreJoined, file_words, follows_well, with_colons};
 ghost use Rattle.fta_run.specs.declared.words.Task.{Task as AnyTask};
 ghost use Rattle.aadl_syntax.specs.declared.name.Root.{Root};

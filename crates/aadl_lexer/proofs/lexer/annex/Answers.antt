@@ -16,8 +16,8 @@ returns-clause-ok c =
     let body : TakesBody is_emv2 (c.args.at + 3) (take len (drop 3 text)) c.add.new.list c.annex_body.new.list =
     subst (λ (x : List ℕ). TakesBody is_emv2 (c.args.at + 3) x c.add.new.list c.annex_body.new.list) body_is c.in_ok-annex_body.ensures.ok in
     annex_takes text c.args.list.now c.add.new.list c.annex_body.new.list c.add-2.new.list c.args.at len is_emv2 c.requires.long c.requires.opens end
-    (λ t. subst AfterEmv2 c.items.ensures.items (c.ends_in_emv2-is_emv2.ensures.yes t))
-    (λ a. c.ends_in_emv2-is_emv2.ensures.no (subst AfterEmv2 (sym c.items.ensures.items) a))
+    (λ t. c.ends_in_emv2-is_emv2.ensures.yes t)
+    (λ a. c.ends_in_emv2-is_emv2.ensures.no a)
     c.in_ok-add.ensures.ok
     body
     c.in_ok-add-2.ensures.ok

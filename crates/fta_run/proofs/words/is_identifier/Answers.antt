@@ -1,5 +1,5 @@
 use Rattle.std.proofs.Common.{◌≡◌, ◌∷◌, sym, ◌∙◌, subst, rules}
-use Rattle.aadl_lexer.specs.Form.{IsWord}
+use Rattle.aadl_syntax.specs.Form.{IsWord}
 use Rattle.fta_run.proofs.Identifiers.{follows_of, word_of}
 use Rattle.fta_run.proofs.words.is_identifier.Goals as goal
 

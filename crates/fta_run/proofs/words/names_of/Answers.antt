@@ -2,7 +2,7 @@ use Rattle.std.proofs.Common.{◌≡◌, ℕ, List, Bor, Some, arith, append_ass
 use Rattle.std.proofs.lemmas.Bool.{false≢true}
 use Rattle.std.proofs.lemmas.Grind.{common_steps}
 use Rattle.std.specs.List.{AllByRecursion, flat_map}
-use Rattle.aadl_lexer.specs.Form.{IsWord}
+use Rattle.aadl_syntax.specs.Form.{IsWord}
 use Rattle.fta_run.specs.Words.{with_colons}
 use Rattle.fta_run.proofs.Roots.{next_name}
 use Rattle.fta_run.proofs.Identifiers.{with_colons-more, names-more}

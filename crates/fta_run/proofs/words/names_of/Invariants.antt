@@ -1,6 +1,6 @@
 use Rattle.std.proofs.Common.{◌≡◌, ◌++◌, ◌∷◌, [], ℕ, List, length}
 use Rattle.std.specs.List.{AllByRecursion, flat_map}
-use Rattle.aadl_lexer.specs.Form.{IsWord}
+use Rattle.aadl_syntax.specs.Form.{IsWord}
 use Rattle.fta_run.specs.Words.{AreJoined}
 use Rattle.fta_run.proofs.words.names_of.Given as goal
 
