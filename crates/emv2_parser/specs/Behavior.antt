@@ -10,7 +10,7 @@ use Rattle.aadl_syntax.specs.declared.error_model.UserPoint.{UserPoint}
 use Rattle.aadl_syntax.specs.declared.error_model.UserPath.{UserPath}
 use Rattle.grammar_rules.specs.Rules.{Rule, gives, chooses, gathers, ◌>>=◌}
 use Rattle.grammar_rules.specs.Parts.{parts_after}
-use Rattle.grammar_rules.specs.Spans.{until, ends_to_end}
+use Rattle.grammar_rules.specs.Spans.{until_inside, ends_to_end}
 use Rattle.grammar_rules.specs.Tokens.{word, sign, one_of, is_word, is_sign, is_one_of}
 use Rattle.emv2_parser.specs.Words.{is_name, point_words, begins_source, begins_composite, begins_transitions, begins_propagations, component_words}
 use Rattle.emv2_parser.specs.Names.{error_name, spot, point, point_word, dotted_names, optional_set, state_reference, label, tail_end, block_end}
@@ -83,7 +83,7 @@ component_outgoing clause = do
 unfoldable pub detections : Emv2Clause → Rule Emv2Clause
 detections clause = do
   _ ← word (codes "detections")
-  _ ← until ends_to_end
+  _ ← until_inside ends_to_end
   gives clause
 
 -- "mode" "mappings" to-end
@@ -91,7 +91,7 @@ unfoldable pub mode_mappings : Emv2Clause → Rule Emv2Clause
 mode_mappings clause = do
   _ ← word (codes "mode")
   _ ← word (codes "mappings")
-  _ ← until ends_to_end
+  _ ← until_inside ends_to_end
   gives clause
 
 -- the blocks of outgoing conditions, of detections and of mode mappings
@@ -173,7 +173,7 @@ clause_connection clause = do
   at ← spot
   _ ← word (codes "connection")
   _ ← word (codes "error")
-  _ ← until ends_to_end
+  _ ← until_inside ends_to_end
   _ ← block_end (codes "connection")
   gives (record clause { connection_errors = clause.connection_errors ++ at ∷ [] })
 

@@ -10,7 +10,7 @@ use Rattle.aadl_syntax.specs.declared.refusal.Refusal.{Refusal}
 use Rattle.aadl_syntax.specs.declared.error_model.Emv2Library.{Emv2Library}
 use Rattle.aadl_syntax.specs.declared.error_model.Emv2Clause.{Emv2Clause}
 use Rattle.grammar_rules.specs.Rules.{Test, Rule, gives, gives_file, chooses, gathers, Dead, ◌>>=◌}
-use Rattle.grammar_rules.specs.Spans.{until, ends_to_end}
+use Rattle.grammar_rules.specs.Spans.{until_inside, ends_to_end}
 use Rattle.grammar_rules.specs.Tokens.{word, sign, is_word, is_one_of}
 use Rattle.emv2_parser.specs.Words.{library_words, clause_words, begins_paths}
 use Rattle.emv2_parser.specs.Names.{error_name, names, spot, reference, use_types_after}
@@ -37,7 +37,7 @@ type_mapping = do
   _ ← word (codes "type")
   _ ← mapping_word
   _ ← error_name
-  _ ← until ends_to_end
+  _ ← until_inside ends_to_end
   mapping_end
 
 unfoldable pub library_types : Emv2Library → Rule Emv2Library

@@ -4,13 +4,14 @@ use Rattle.aadl_syntax.specs.declared.token.Token.{Token}
 use Rattle.aadl_syntax.specs.declared.error_model.Association.{Association}
 use Rattle.grammar_rules.specs.Rules.{Test, Rule, gives, refuses, chooses, gathers, ◌>>=◌}
 use Rattle.grammar_rules.specs.Parts.{parts_after}
-use Rattle.grammar_rules.specs.Spans.{until, closes}
+use Rattle.grammar_rules.specs.Spans.{until_inside, closes}
 use Rattle.grammar_rules.specs.Tokens.{word, sign, one_of, is_word, is_sign, is_one_of}
 use Rattle.emv2_parser.specs.declared.properties.TargetPath.{TargetPath}
 use Rattle.emv2_parser.specs.Words.{point_words, is_name, begins_point}
 use Rattle.emv2_parser.specs.Names.{error_name, names}
 
--- a value ends, at depth 0, at a semicolon, at `applies` and at a bracket that closes what was open before
+-- a value ends, at depth 0, at a semicolon, at `applies` and at a bracket that closes what was open before; and as any run of an
+-- annex at its `**}`, whatever is open
 unfoldable pub ends_value : Option Token → Token → Bool
 ends_value before token = closes token || is_sign (codes ";") token || is_word (codes "applies") token
 
@@ -20,7 +21,7 @@ begins_value token = not (closes token || is_sign (codes ";") token || is_word (
 
 -- value: balanced tokens, at least one, without ";" and "applies" at depth 0
 unfoldable pub value : Rule (List Token)
-value = chooses (begins_value ∷ []) (until ends_value) refuses
+value = chooses (begins_value ∷ []) (until_inside ends_value) refuses
 
 -- "=>" | "+=>"
 unfoldable pub arrow : Rule (Unit {0})

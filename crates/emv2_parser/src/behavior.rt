@@ -134,7 +134,7 @@ fn detections(reader: &mut Reader, clause: Emv2Clause) -> Result<Emv2Clause, Rea
     ensures { Gives result (detections clause) reader.old reader.new }
 {
     reader.word(b"detections")?;
-    reader.until::<ToEnd>()?;
+    reader.until_inside::<ToEnd>()?;
     Ok(clause)
 }
 
@@ -144,7 +144,7 @@ fn mode_mappings(reader: &mut Reader, clause: Emv2Clause) -> Result<Emv2Clause, 
 {
     reader.word(b"mode")?;
     reader.word(b"mappings")?;
-    reader.until::<ToEnd>()?;
+    reader.until_inside::<ToEnd>()?;
     Ok(clause)
 }
 
@@ -287,7 +287,7 @@ pub(crate) fn clause_connection(
     let spot = spot(reader)?;
     reader.word(b"connection")?;
     reader.word(b"error")?;
-    reader.until::<ToEnd>()?;
+    reader.until_inside::<ToEnd>()?;
     block_end(reader, b"connection")?;
     let mut connection_errors = clause.connection_errors;
     connection_errors.push(spot)?;

@@ -1,5 +1,5 @@
 ghost use Rattle.std.specs.Prelude.{◌≡◌, [], ◌∷◌, ◌++◌, codes};
-ghost use Rattle.grammar_rules.specs.Reader.{Gives, Begins};
+ghost use Rattle.grammar_rules.specs.Reader.{Gives, Begins, given};
 ghost use Rattle.grammar_rules.specs.Tokens.{is_one_of};
 ghost use Rattle.emv2_parser.specs.Words.{library_words, clause_words};
 ghost use Rattle.emv2_parser.specs.Grammar.{mapping_word, mapping_end, type_mapping, library_types, library_machine, library_mapping, library_block, library, clause_uses, clause_machine, mapping_kind, clause_mapping, clause_use, clause_properties, clause_other, clause_behavior, clause_part, clause_parts, is_token, spot_or, empty_clause, clause, library_after, clause_inside};
@@ -42,7 +42,7 @@ fn type_mapping(reader: &mut Reader) -> Result<(), ReadError>
     reader.word(b"type")?;
     mapping_word(reader)?;
     error_name(reader)?;
-    reader.until::<ToEnd>()?;
+    reader.until_inside::<ToEnd>()?;
     mapping_end(reader)
 }
 
@@ -104,8 +104,8 @@ pub(crate) fn library(reader: &mut Reader) -> Result<Emv2Library, ReadError>
 /// Reads blocks of a library as long as the next tokens begin one, and gives them with those of a library that was read
 /// before: several annexes of a package make one library.
 #[tactic(auto, unfolding(crate::specs::Grammar::library_after))]
-pub fn library_after(reader: &mut Reader, library: Emv2Library) -> Result<Emv2Library, ReadError>
-    ensures { Gives result (library_after library) reader.old reader.new }
+pub fn library_after(reader: &mut Reader, library: &mut Emv2Library) -> Result<(), ReadError>
+    ensures { Gives (given result library.new) (library_after library.old) reader.old reader.new }
 {
     reader.gather::<LibraryBlocks>(library)
 }

@@ -86,10 +86,10 @@ pub(crate) fn use_types_after(reader: &mut Reader, uses: List<Ref>) -> Result<Li
 
 /// Reads the rest of an item, up to its semicolon.
 #[tactic(auto, unfolding(crate::specs::Names::tail_end))]
-pub fn tail_end(reader: &mut Reader) -> Result<(), ReadError>
+pub(crate) fn tail_end(reader: &mut Reader) -> Result<(), ReadError>
     ensures { Gives result tail_end reader.old reader.new }
 {
-    reader.until::<Tail>()?;
+    reader.until_inside::<Tail>()?;
     reader.sign(b";")
 }
 

@@ -132,7 +132,7 @@ fn value(reader: &mut Reader) -> Result<List<Token>, ReadError>
     if !value_at(reader) {
         return Err(ReadError::Refused);
     }
-    let tokens = reader.until::<ValueTokens>()?;
+    let tokens = reader.until_inside::<ValueTokens>()?;
     Ok(copies_of(reader.alloc(), tokens)?)
 }
 

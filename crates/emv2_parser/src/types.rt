@@ -20,7 +20,7 @@ fn set_kind(reader: &mut Reader) -> Result<TypeKind, ReadError>
     reader.word(b"type")?;
     reader.word(b"set")?;
     let set = type_set(reader)?;
-    reader.until::<Tail>()?;
+    reader.until_inside::<Tail>()?;
     Ok(TypeKind::Set(set))
 }
 
@@ -42,7 +42,7 @@ fn plain_kind(reader: &mut Reader) -> Result<TypeKind, ReadError>
     reader.sign(b":")?;
     reader.word(b"type")?;
     let extended = extended_type(reader)?;
-    reader.until::<Tail>()?;
+    reader.until_inside::<Tail>()?;
     Ok(TypeKind::Plain(extended))
 }
 
