@@ -11,6 +11,7 @@ use Rattle.grammar_rules.specs.Rules.{Rule, gives, gives_file, chooses, ◌>>=�
 use Rattle.grammar_rules.specs.Parts.{parts_after}
 use Rattle.grammar_rules.specs.Spans.{until_inside, ends_tail}
 use Rattle.grammar_rules.specs.Tokens.{word, sign, identifier, one_of, place, is_word, is_sign, is_one_of}
+use Rattle.emv2_parser.specs.declared.names.FlowEnd.{FlowEnd}
 use Rattle.emv2_parser.specs.Words.{error_words, point_words, is_name}
 
 -- ID
@@ -152,6 +153,13 @@ optional_set = chooses (is_sign (codes "{") ∷ [])
       set ← type_set
       gives (Some set))
     (gives None)
+
+-- point [ tset ]
+unfoldable pub flow_end : Rule FlowEnd
+flow_end = do
+  its_point ← point
+  set ← optional_set
+  gives (record { point = its_point; set = set })
 
 -- ID [ tset ], a state
 unfoldable pub state_reference : Rule StateRef

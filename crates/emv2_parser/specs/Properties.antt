@@ -6,6 +6,7 @@ use Rattle.grammar_rules.specs.Rules.{Test, Rule, gives, refuses, chooses, gathe
 use Rattle.grammar_rules.specs.Parts.{parts_after}
 use Rattle.grammar_rules.specs.Spans.{until_inside, closes}
 use Rattle.grammar_rules.specs.Tokens.{word, sign, one_of, is_word, is_sign, is_one_of}
+use Rattle.emv2_parser.specs.declared.properties.AssignedValue.{AssignedValue}
 use Rattle.emv2_parser.specs.declared.properties.TargetPath.{TargetPath}
 use Rattle.emv2_parser.specs.Words.{point_words, is_name, begins_point}
 use Rattle.emv2_parser.specs.Names.{error_name, names}
@@ -77,11 +78,16 @@ path_steps path = gathers (begins_step ∷ []) path_step path
 abbrev pub with_target : List (List (List ℕ)) → TargetPath → List (List (List ℕ))
 with_target targets path = if path.is_plain && path.after_name then targets ++ path.names ∷ [] else targets
 
--- tpath: one or more steps, which count as a target only if they are a name, then a dot and a name, and so on
+-- tpath: one or more steps
+unfoldable pub whole_path : Rule TargetPath
+whole_path = do
+  first ← path_step no_path
+  path_steps first
+
+-- tpath, which counts as a target only if its steps are a name, then a dot and a name, and so on
 unfoldable pub target_after : List (List (List ℕ)) → Rule (List (List (List ℕ)))
 target_after targets = do
-  first ← path_step no_path
-  path ← path_steps first
+  path ← whole_path
   gives (with_target targets path)
 
 -- "," tpath
@@ -94,25 +100,33 @@ further_target targets = do
 unfoldable pub further_targets : List (List (List ℕ)) → Rule (List (List (List ℕ)))
 further_targets targets = gathers (is_sign (codes ",") ∷ []) further_target targets
 
+-- "applies" "to" tpath { "," tpath }, after other targets
+unfoldable pub applied_targets : List (List (List ℕ)) → Rule (List (List (List ℕ)))
+applied_targets targets = do
+  _ ← word (codes "applies")
+  _ ← word (codes "to")
+  more ← target_after targets
+  further_targets more
+
 -- [ "applies" "to" tpath { "," tpath } ]
 unfoldable pub targets : Rule (List (List (List ℕ)))
-targets = chooses (is_word (codes "applies") ∷ [])
-    (do
-      _ ← word (codes "applies")
-      _ ← word (codes "to")
-      first ← target_after []
-      further_targets first)
-    (gives [])
+targets = chooses (is_word (codes "applies") ∷ []) (applied_targets []) (gives [])
+
+-- ( "=>" | "+=>" ) value [ "applies" "to" tpath { "," tpath } ] ";"
+unfoldable pub assigned_value : Rule AssignedValue
+assigned_value = do
+  _ ← arrow
+  its_value ← value
+  its_targets ← targets
+  _ ← sign (codes ";")
+  gives (record { value = its_value; targets = its_targets })
 
 -- assoc = names ( "=>" | "+=>" ) value [ "applies" "to" tpath { "," tpath } ] ";"
 unfoldable pub association : Rule Association
 association = do
   name ← names
-  _ ← arrow
-  its_value ← value
-  its_targets ← targets
-  _ ← sign (codes ";")
-  gives (record { name = name; value = its_value; targets = its_targets })
+  what ← assigned_value
+  gives (record { name = name; value = what.value; targets = what.targets })
 
 -- "properties" { assoc }, after other associations
 unfoldable pub properties_after : List Association → Rule (List Association)
