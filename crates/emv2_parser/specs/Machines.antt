@@ -1,5 +1,5 @@
 -- Error behavior state machines: events, states and transitions.
-use Rattle.std.specs.Prelude.{ℕ, Bool, true, false, List, [], ◌∷◌, ◌++◌, Option, Some, None, codes}
+use Rattle.std.specs.Prelude.{Bool, true, false, List, [], ◌∷◌, ◌++◌, Option, Some, None, codes}
 use Rattle.aadl_syntax.specs.declared.token.TokenKind.TheVariants.{Number}
 use Rattle.aadl_syntax.specs.declared.place.Spot.{Spot}
 use Rattle.aadl_syntax.specs.declared.error_model.EventDecl.{EventDecl}
