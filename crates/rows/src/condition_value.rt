@@ -2,9 +2,7 @@
 
 use crate::text::Text;
 use crate::value::{put_name, put_names, put_ref, put_spot};
-use aadl_syntax::{
-    Atom, Condition, List, Name, Source, Spot, StateRef, Term, Transition, TypeSet,
-};
+use aadl_syntax::{Atom, Condition, List, Name, Source, Spot, StateRef, Term, Transition, TypeSet};
 
 /// Writes a set of types, and the place of its `{`.
 pub fn put_written_set(set: &TypeSet, out: &mut Text) {

@@ -34,7 +34,8 @@ impl Texts {
 
     /// Names the bytes of a text.
     pub fn name_bytes(&mut self, name: &[u8], bytes: Vec<u8>) -> Mem<()> {
-        self.entries.push((Vec::from_slice(self.alloc, name)?, bytes))?;
+        self.entries
+            .push((Vec::from_slice(self.alloc, name)?, bytes))?;
         Ok(())
     }
 

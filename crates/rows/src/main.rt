@@ -50,7 +50,13 @@ fn run_file(rt: &HostRuntime, texts: &mut Texts, name: &str) -> io::Result<Repor
     let bytes = fs::read(rt, name)?;
     let mut report = Report::new(rt.alloc());
     if name.ends_with(".rows") {
-        run_sheet(rt.alloc(), texts, name.as_bytes(), bytes.as_slice(), &mut report)?;
+        run_sheet(
+            rt.alloc(),
+            texts,
+            name.as_bytes(),
+            bytes.as_slice(),
+            &mut report,
+        )?;
         print_report(rt, name, &report)?;
     } else {
         texts.name_bytes(name.as_bytes(), bytes)?;

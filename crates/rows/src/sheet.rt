@@ -106,13 +106,7 @@ fn trial_of(word: &[u8]) -> Option<Trial> {
     }
 }
 
-fn run_item(
-    texts: &mut Texts,
-    line: Line,
-    scene: &[&[u8]],
-    item: &[&[u8]],
-    report: &mut Report,
-) {
+fn run_item(texts: &mut Texts, line: Line, scene: &[&[u8]], item: &[&[u8]], report: &mut Report) {
     check_lines(line, item, report);
     if begins_with(item, b"text") {
         return name_text(texts, line, item, report);
@@ -184,7 +178,11 @@ fn name_text(texts: &mut Texts, line: Line, item: &[&[u8]], report: &mut Report)
         return report.fail_to_read(line_behind(line, 0), name, why);
     }
     if !texts.name(name, text) {
-        report.fail_to_read(line_behind(line, 0), name, "the name is taken, or memory is wanting");
+        report.fail_to_read(
+            line_behind(line, 0),
+            name,
+            "the name is taken, or memory is wanting",
+        );
     }
 }
 
@@ -270,7 +268,13 @@ fn holds_in_reading(row: &Row, reading: Reading, wanted: &mut Text, found: &mut 
     let mut text = row.text(body);
     row.put_text_lines(&mut text);
     found.refuse_as(&text);
-    put_reading(row.texts.alloc(), reading, text.bytes(), answer.is_empty(), found);
+    put_reading(
+        row.texts.alloc(),
+        reading,
+        text.bytes(),
+        answer.is_empty(),
+        found,
+    );
     is_answer(wanted.bytes(), found.bytes())
 }
 
