@@ -13,6 +13,3 @@ mod lexer;
 pub use byte::{is_letter, is_letter_or_digit};
 pub use laws::{one_fault, one_list};
 pub use lexer::tokens;
-
-#[cfg(test)]
-mod tests;

@@ -1,7 +1,9 @@
-use super::{
+//! Files and sinks, in memory and real ones.
+
+use aadl_syntax::{Mem, Word};
+use fta_outside::{
     DiskFiles, Files, MemoryFiles, MemorySink, ReadError, Sink, SinkFailed, StdSink, write_all,
 };
-use aadl_syntax::{Mem, Word};
 use std::alloc::Global;
 use std::fs;
 use std::io::{self, Write};
@@ -44,11 +46,11 @@ fn sink_in_memory(rt: HostRuntime) -> Result<(), Fail> {
 #[test]
 fn files_on_disk(rt: HostRuntime) -> Result<(), Fail> {
     let alloc = rt.alloc();
-    let path = "fta_outside_files_on_disk.txt";
+    let path = "text_tests_files_on_disk.txt";
     fs::write(&rt, path, "some bytes")?;
     let mut files = DiskFiles::new(&rt);
     let name = word(alloc, path.as_bytes())?;
-    let missing = word(alloc, b"fta_outside_no_such_file")?;
+    let missing = word(alloc, b"text_tests_no_such_file")?;
     assert_eq!(rt; files.read(alloc, &name, 4)?.as_slice(), b"some".as_slice());
     assert_eq!(rt;
         files.read(alloc, &name, 99)?.as_slice(),
@@ -75,7 +77,7 @@ impl Write for Full {
 
 #[test]
 fn sink_on_a_stream(rt: HostRuntime) -> Result<(), Fail> {
-    let path = "fta_outside_sink_on_a_stream.txt";
+    let path = "text_tests_sink_on_a_stream.txt";
     let mut sink = StdSink::new(fs::create(&rt, path)?);
     assert!(rt; write_all(&mut sink, b"1 root/e1\nend\n").is_ok());
     let written = fs::read(&rt, path)?;
