@@ -10,10 +10,13 @@ use Rattle.aadl_syntax.specs.declared.error_model.UserPoint.{UserPoint}
 use Rattle.aadl_syntax.specs.declared.error_model.UserPath.{UserPath}
 use Rattle.grammar_rules.specs.Rules.{Rule, gives, chooses, gathers, ◌>>=◌}
 use Rattle.grammar_rules.specs.Parts.{parts_after}
-use Rattle.grammar_rules.specs.Spans.{until, ends_to_end}
+use Rattle.grammar_rules.specs.Spans.{until_inside, ends_to_end}
 use Rattle.grammar_rules.specs.Tokens.{word, sign, one_of, is_word, is_sign, is_one_of}
+use Rattle.emv2_parser.specs.declared.behavior.OutgoingEffect.{OutgoingEffect}
+use Rattle.emv2_parser.specs.declared.behavior.CompositeRule.{CompositeRule}
+use Rattle.emv2_parser.specs.declared.behavior.PathEnds.{PathEnds}
 use Rattle.emv2_parser.specs.Words.{is_name, point_words, begins_source, begins_composite, begins_transitions, begins_propagations, component_words}
-use Rattle.emv2_parser.specs.Names.{error_name, spot, point, point_word, dotted_names, optional_set, state_reference, label, tail_end, block_end}
+use Rattle.emv2_parser.specs.Names.{error_name, spot, point_word, dotted_names, flow_end, state_reference, label, tail_end, block_end}
 use Rattle.emv2_parser.specs.Conditions.{whole_condition}
 use Rattle.emv2_parser.specs.Machines.{source, use_transformations, events_after, transitions_after}
 
@@ -37,17 +40,22 @@ outgoing_condition = do
   _ ← sign (codes "->")
   gives condition
 
+-- "-" "[" [ cond ] "]" "->" point [ tset ] tail ";"
+unfoldable pub outgoing_effect : Rule OutgoingEffect
+outgoing_effect = do
+  condition ← outgoing_condition
+  its_end ← flow_end
+  _ ← tail_end
+  gives (record { condition = condition; point = its_end.point; set = its_end.set })
+
 -- outg = [ ID ":" ] source "-" "[" [ cond ] "]" "->" point [ tset ] tail ";"
 unfoldable pub outgoing : Rule Outgoing
 outgoing = do
   at ← spot
   name ← label
   its_source ← source
-  condition ← outgoing_condition
-  its_point ← point
-  set ← optional_set
-  _ ← tail_end
-  gives (record { name = name; spot = at; source = its_source; condition = condition; point = its_point; set = set })
+  effect ← outgoing_effect
+  gives (record { name = name; spot = at; source = its_source; condition = effect.condition; point = effect.point; set = effect.set })
 
 unfoldable pub component_transforms : Emv2Clause → Rule Emv2Clause
 component_transforms clause = do
@@ -83,7 +91,7 @@ component_outgoing clause = do
 unfoldable pub detections : Emv2Clause → Rule Emv2Clause
 detections clause = do
   _ ← word (codes "detections")
-  _ ← until ends_to_end
+  _ ← until_inside ends_to_end
   gives clause
 
 -- "mode" "mappings" to-end
@@ -91,7 +99,7 @@ unfoldable pub mode_mappings : Emv2Clause → Rule Emv2Clause
 mode_mappings clause = do
   _ ← word (codes "mode")
   _ ← word (codes "mappings")
-  _ ← until ends_to_end
+  _ ← until_inside ends_to_end
   gives clause
 
 -- the blocks of outgoing conditions, of detections and of mode mappings
@@ -110,12 +118,17 @@ component_block clause = chooses (is_word (codes "use") ∷ []) (component_trans
 unfoldable pub component_blocks : Emv2Clause → Rule Emv2Clause
 component_blocks clause = gathers (is_one_of component_words ∷ []) component_block clause
 
+-- "component" "error" "behavior"
+unfoldable pub component_head : Rule (Unit {0})
+component_head = do
+  _ ← word (codes "component")
+  _ ← word (codes "error")
+  word (codes "behavior")
+
 -- "component" "error" "behavior" { cblock } "end" "component" ";", as a part of the clause
 unfoldable pub clause_component : Emv2Clause → Rule Emv2Clause
 clause_component clause = do
-  _ ← word (codes "component")
-  _ ← word (codes "error")
-  _ ← word (codes "behavior")
+  _ ← component_head
   whole ← component_blocks clause
   _ ← block_end (codes "component")
   gives whole
@@ -137,15 +150,21 @@ composite_condition = do
   _ ← sign (codes "->")
   gives condition
 
+-- "[" ( cond | "others" ) "]" "->" ID [ tset ] ";"
+unfoldable pub composite_rule : Rule CompositeRule
+composite_rule = do
+  condition ← composite_condition
+  target ← state_reference
+  _ ← sign (codes ";")
+  gives (record { condition = condition; target = target })
+
 -- comp = [ ID ":" ] "[" ( cond | "others" ) "]" "->" ID [ tset ] ";"
 unfoldable pub composite : Rule Composite
 composite = do
   at ← spot
   name ← label
-  condition ← composite_condition
-  target ← state_reference
-  _ ← sign (codes ";")
-  gives (record { name = name; spot = at; condition = condition; target = target })
+  what ← composite_rule
+  gives (record { name = name; spot = at; condition = what.condition; target = what.target })
 
 -- [ "states" ]
 unfoldable pub states_word : Rule (Unit {0})
@@ -167,14 +186,19 @@ clause_composites clause = do
   _ ← block_end (codes "composite")
   gives (record clause { composites = composites })
 
--- "connection" "error" to-end "end" "connection" ";", as a part of the clause
-unfoldable pub clause_connection : Emv2Clause → Rule Emv2Clause
-clause_connection clause = do
+-- "connection" "error" to-end "end" "connection" ";": the place of the first word
+unfoldable pub connection_errors : Rule Spot
+connection_errors = do
   at ← spot
   _ ← word (codes "connection")
   _ ← word (codes "error")
-  _ ← until ends_to_end
+  _ ← until_inside ends_to_end
   _ ← block_end (codes "connection")
+  gives at
+
+unfoldable pub clause_connection : Emv2Clause → Rule Emv2Clause
+clause_connection clause = do
+  at ← connection_errors
   gives (record clause { connection_errors = clause.connection_errors ++ at ∷ [] })
 
 -- [ "." bword ], which is read where both stand, after names
@@ -207,14 +231,20 @@ user_point name at = do
   _ ← sign (codes ";")
   gives (record { name = name; spot = at })
 
--- pend "->" pend ";", of the path of this name and place
-unfoldable pub user_path : List ℕ → Spot → Rule UserPath
-user_path name at = do
+-- pend "->" pend ";"
+unfoldable pub path_ends : Rule PathEnds
+path_ends = do
   from ← path_end
   _ ← sign (codes "->")
   to ← path_end
   _ ← sign (codes ";")
-  gives (record { name = name; spot = at; from = from; to = to })
+  gives (record { from = from; to = to })
+
+-- pend "->" pend ";", of the path of this name and place
+unfoldable pub user_path : List ℕ → Spot → Rule UserPath
+user_path name at = do
+  both ← path_ends
+  gives (record { name = name; spot = at; from = both.from; to = both.to })
 
 unfoldable pub clause_user_point : Emv2Clause → List ℕ → Spot → Rule Emv2Clause
 clause_user_point clause name at = do

@@ -2,6 +2,7 @@
 use Rattle.std.specs.Prelude.{◌≡◌, ℕ, true, List, [], ◌∷◌, ◌++◌, Option, Some, None, slice_get, codes}
 use Rattle.aadl_syntax.specs.declared.token.Token.{Token}
 use Rattle.aadl_syntax.specs.declared.place.Spot.{Spot}
+use Rattle.aadl_syntax.specs.declared.place.Ref.{Ref}
 use Rattle.aadl_syntax.specs.declared.refusal.Stop.{Stop}
 use Rattle.aadl_syntax.specs.declared.refusal.Stop.TheVariants.{Refused, Memory}
 use Rattle.aadl_syntax.specs.declared.refusal.Code.TheVariants.{Syntax}
@@ -10,7 +11,7 @@ use Rattle.aadl_syntax.specs.declared.refusal.Refusal.{Refusal}
 use Rattle.aadl_syntax.specs.declared.error_model.Emv2Library.{Emv2Library}
 use Rattle.aadl_syntax.specs.declared.error_model.Emv2Clause.{Emv2Clause}
 use Rattle.grammar_rules.specs.Rules.{Test, Rule, gives, gives_file, chooses, gathers, Dead, ◌>>=◌}
-use Rattle.grammar_rules.specs.Spans.{until, ends_to_end}
+use Rattle.grammar_rules.specs.Spans.{until_inside, ends_to_end}
 use Rattle.grammar_rules.specs.Tokens.{word, sign, is_word, is_one_of}
 use Rattle.emv2_parser.specs.Words.{library_words, clause_words, begins_paths}
 use Rattle.emv2_parser.specs.Names.{error_name, names, spot, reference, use_types_after}
@@ -37,7 +38,7 @@ type_mapping = do
   _ ← word (codes "type")
   _ ← mapping_word
   _ ← error_name
-  _ ← until ends_to_end
+  _ ← until_inside ends_to_end
   mapping_end
 
 unfoldable pub library_types : Emv2Library → Rule Emv2Library
@@ -73,13 +74,19 @@ clause_uses clause = do
   uses ← use_types_after clause.uses
   gives (record clause { uses = uses })
 
--- "use" "behavior" names ";": the last one counts
-unfoldable pub clause_machine : Emv2Clause → Rule Emv2Clause
-clause_machine clause = do
+-- "use" "behavior" names ";"
+unfoldable pub used_machine : Rule Ref
+used_machine = do
   _ ← word (codes "use")
   _ ← word (codes "behavior")
   its_machine ← reference
   _ ← sign (codes ";")
+  gives its_machine
+
+-- a machine that is used: the last one counts
+unfoldable pub clause_machine : Emv2Clause → Rule Emv2Clause
+clause_machine clause = do
+  its_machine ← used_machine
   gives (record clause { machine = Some its_machine })
 
 -- "type" "equivalence" | "mappings"
@@ -90,14 +97,19 @@ mapping_kind = chooses (is_word (codes "type") ∷ [])
       word (codes "equivalence"))
     (word (codes "mappings"))
 
--- "use" "type" "equivalence" names ";" | "use" "mappings" names ";"
-unfoldable pub clause_mapping : Emv2Clause → Rule Emv2Clause
-clause_mapping clause = do
+-- "use" "type" "equivalence" names ";" | "use" "mappings" names ";": the place of the word `use`
+unfoldable pub used_mapping : Rule Spot
+used_mapping = do
   at ← spot
   _ ← word (codes "use")
   _ ← mapping_kind
   _ ← names
   _ ← sign (codes ";")
+  gives at
+
+unfoldable pub clause_mapping : Emv2Clause → Rule Emv2Clause
+clause_mapping clause = do
+  at ← used_mapping
   gives (record clause { mappings = clause.mappings ++ at ∷ [] })
 
 -- the parts of a clause that begin with `use`

@@ -1,5 +1,5 @@
 -- Error behavior state machines: events, states and transitions.
-use Rattle.std.specs.Prelude.{ℕ, Bool, true, false, List, [], ◌∷◌, ◌++◌, Option, Some, None, codes}
+use Rattle.std.specs.Prelude.{Bool, true, false, List, [], ◌∷◌, ◌++◌, Option, Some, None, codes}
 use Rattle.aadl_syntax.specs.declared.token.TokenKind.TheVariants.{Number}
 use Rattle.aadl_syntax.specs.declared.place.Spot.{Spot}
 use Rattle.aadl_syntax.specs.declared.error_model.EventDecl.{EventDecl}
@@ -14,19 +14,22 @@ use Rattle.aadl_syntax.specs.declared.error_model.MachineDecl.{MachineDecl}
 use Rattle.grammar_rules.specs.Rules.{Rule, gives, chooses, gathers, ◌>>=◌}
 use Rattle.grammar_rules.specs.Parts.{parts_after}
 use Rattle.grammar_rules.specs.Tokens.{kind, word, sign, is_kind, is_word, is_sign, is_one_of}
+use Rattle.emv2_parser.specs.declared.machines.EventWords.{EventWords}
+use Rattle.emv2_parser.specs.declared.machines.StateKind.{StateKind}
+use Rattle.emv2_parser.specs.declared.machines.TransitionEffect.{TransitionEffect}
 use Rattle.emv2_parser.specs.Words.{is_name, begins_source, machine_words}
 use Rattle.emv2_parser.specs.Names.{error_name, names, spot, use_types_after, optional_set, state_reference, label, tail_end, block_end}
 use Rattle.emv2_parser.specs.Properties.{properties_after}
 use Rattle.emv2_parser.specs.Conditions.{whole_condition}
 
--- "error" "event" [ tset ] tail ";", of the event of this name and place
-unfoldable pub error_event : List ℕ → Spot → Rule EventDecl
-error_event name at = do
+-- "error" "event" [ tset ] tail ";"
+unfoldable pub error_event : Rule EventWords
+error_event = do
   _ ← word (codes "error")
   _ ← word (codes "event")
   set ← optional_set
   _ ← tail_end
-  gives (record { name = name; spot = at; kind = Error; set = set })
+  gives (record { kind = Error; set = set })
 
 -- "recover" | "repair"
 unfoldable pub recovery_kind : Rule EventKind
@@ -38,13 +41,17 @@ recovery_kind = chooses (is_word (codes "recover") ∷ [])
       _ ← word (codes "repair")
       gives Repair)
 
--- ( "recover" | "repair" ) "event" tail ";", of the event of this name and place
-unfoldable pub recovery_event : List ℕ → Spot → Rule EventDecl
-recovery_event name at = do
+-- ( "recover" | "repair" ) "event" tail ";"
+unfoldable pub recovery_event : Rule EventWords
+recovery_event = do
   its_kind ← recovery_kind
   _ ← word (codes "event")
   _ ← tail_end
-  gives (record { name = name; spot = at; kind = its_kind; set = None })
+  gives (record { kind = its_kind; set = None })
+
+-- "error" "event" [ tset ] tail ";" | ( "recover" | "repair" ) "event" tail ";"
+unfoldable pub event_words : Rule EventWords
+event_words = chooses (is_word (codes "error") ∷ []) error_event recovery_event
 
 -- event = ID ":" "error" "event" [ tset ] tail ";" | ID ":" ( "recover" | "repair" ) "event" tail ";"
 unfoldable pub event : Rule EventDecl
@@ -52,7 +59,8 @@ event = do
   at ← spot
   name ← error_name
   _ ← sign (codes ":")
-  chooses (is_word (codes "error") ∷ []) (error_event name at) (recovery_event name at)
+  what ← event_words
+  gives (record { name = name; spot = at; kind = what.kind; set = what.set })
 
 -- "events" { event }, after other events
 unfoldable pub events_after : List EventDecl → Rule (List EventDecl)
@@ -68,17 +76,23 @@ initial = chooses (is_word (codes "initial") ∷ [])
       gives true)
     (gives false)
 
+-- [ "initial" ] "state" [ tset ] ";"
+unfoldable pub state_kind : Rule StateKind
+state_kind = do
+  is_initial ← initial
+  _ ← word (codes "state")
+  set ← optional_set
+  _ ← sign (codes ";")
+  gives (record { initial = is_initial; set = set })
+
 -- state = ID ":" [ "initial" ] "state" [ tset ] ";"
 unfoldable pub state : Rule StateDecl
 state = do
   at ← spot
   name ← error_name
   _ ← sign (codes ":")
-  is_initial ← initial
-  _ ← word (codes "state")
-  set ← optional_set
-  _ ← sign (codes ";")
-  gives (record { name = name; spot = at; initial = is_initial; set = set })
+  what ← state_kind
+  gives (record { name = name; spot = at; initial = what.initial; set = what.set })
 
 -- "states" { state }, after other states
 unfoldable pub states_after : List StateDecl → Rule (List StateDecl)
@@ -158,16 +172,22 @@ transition_condition = do
   _ ← sign (codes "->")
   gives condition
 
+-- "-" "[" cond "]" "->" target ";"
+unfoldable pub transition_effect : Rule TransitionEffect
+transition_effect = do
+  condition ← transition_condition
+  targets ← transition_targets
+  _ ← sign (codes ";")
+  gives (record { condition = condition; targets = targets })
+
 -- trans = [ ID ":" ] source "-" "[" cond "]" "->" target ";"
 unfoldable pub transition : Rule Transition
 transition = do
   at ← spot
   name ← label
   its_source ← source
-  condition ← transition_condition
-  targets ← transition_targets
-  _ ← sign (codes ";")
-  gives (record { name = name; spot = at; source = its_source; condition = condition; targets = targets })
+  effect ← transition_effect
+  gives (record { name = name; spot = at; source = its_source; condition = effect.condition; targets = effect.targets })
 
 -- "transitions" { trans }, after other transitions
 unfoldable pub transitions_after : List Transition → Rule (List Transition)

@@ -9,8 +9,9 @@ use Rattle.aadl_syntax.specs.declared.error_model.PointRef.{PointRef}
 use Rattle.aadl_syntax.specs.declared.error_model.StateRef.{StateRef}
 use Rattle.grammar_rules.specs.Rules.{Rule, gives, gives_file, chooses, ◌>>=◌}
 use Rattle.grammar_rules.specs.Parts.{parts_after}
-use Rattle.grammar_rules.specs.Spans.{until, ends_tail}
+use Rattle.grammar_rules.specs.Spans.{until_inside, ends_tail}
 use Rattle.grammar_rules.specs.Tokens.{word, sign, identifier, one_of, place, is_word, is_sign, is_one_of}
+use Rattle.emv2_parser.specs.declared.names.FlowEnd.{FlowEnd}
 use Rattle.emv2_parser.specs.Words.{error_words, point_words, is_name}
 
 -- ID
@@ -64,10 +65,11 @@ use_types_after uses = do
   _ ← sign (codes ";")
   gives all_uses
 
--- tail ";"
+-- tail ";"; the text of an annex is a text of its own: no run of it goes past its `**}`, whatever is open, and a bracket that is
+-- open there makes the `**}` the dead place
 unfoldable pub tail_end : Rule (Unit {0})
 tail_end = do
-  _ ← until ends_tail
+  _ ← until_inside ends_tail
   sign (codes ";")
 
 -- "end", this word and ";"
@@ -151,6 +153,13 @@ optional_set = chooses (is_sign (codes "{") ∷ [])
       set ← type_set
       gives (Some set))
     (gives None)
+
+-- point [ tset ]
+unfoldable pub flow_end : Rule FlowEnd
+flow_end = do
+  its_point ← point
+  set ← optional_set
+  gives (record { point = its_point; set = set })
 
 -- ID [ tset ], a state
 unfoldable pub state_reference : Rule StateRef

@@ -8,13 +8,14 @@ use Rattle.aadl_syntax.specs.declared.error_model.Flow.{Flow}
 use Rattle.aadl_syntax.specs.declared.error_model.FlowKind.{FlowKind}
 use Rattle.aadl_syntax.specs.declared.error_model.FlowKind.TheVariants as kind
 use Rattle.aadl_syntax.specs.declared.error_model.Emv2Clause.{Emv2Clause}
-use Rattle.emv2_parser.specs.declared.propagations.Propagations.{Propagations}
+use Rattle.emv2_parser.specs.declared.propagations.PropagationWords.{PropagationWords}
+use Rattle.emv2_parser.specs.declared.propagations.PathTarget.{PathTarget}
 use Rattle.grammar_rules.specs.Rules.{Rule, gives, chooses, ◌>>=◌}
 use Rattle.grammar_rules.specs.Parts.{parts_after}
 use Rattle.grammar_rules.specs.Tokens as token
 use Rattle.grammar_rules.specs.Tokens.{word, sign, is_kind, is_word, is_sign}
 use Rattle.emv2_parser.specs.Words.{is_name, begins_point}
-use Rattle.emv2_parser.specs.Names.{error_name, names, spot, point, type_set, optional_set, state_reference, tail_end, block_end}
+use Rattle.emv2_parser.specs.Names.{error_name, names, spot, point, type_set, flow_end, state_reference, tail_end, block_end}
 
 -- [ "not" ]
 unfoldable pub negation : Rule Bool
@@ -36,16 +37,22 @@ direction = chooses (is_word (codes "in") ∷ [])
       _ ← word (codes "propagation")
       gives true)
 
+-- [ "not" ] ( "in" | "out" ) "propagation" tset tail ";"
+unfoldable pub propagation_words : Rule PropagationWords
+propagation_words = do
+  negative ← negation
+  outward ← direction
+  set ← type_set
+  _ ← tail_end
+  gives (record { negative = negative; outward = outward; set = set })
+
 -- pitem = point ":" [ "not" ] ( "in" | "out" ) "propagation" tset tail ";"
 unfoldable pub point_item : Rule PointItem
 point_item = do
   its_point ← point
   _ ← sign (codes ":")
-  negative ← negation
-  outward ← direction
-  set ← type_set
-  _ ← tail_end
-  gives (record { point = its_point; negative = negative; outward = outward; set = set })
+  what ← propagation_words
+  gives (record { point = its_point; negative = what.negative; outward = what.outward; set = what.set })
 
 -- ID [ tset ] | tset | Text: the state, where it is one
 unfoldable pub when_part : Rule (Option StateRef)
@@ -73,18 +80,16 @@ source_state = chooses (is_word (codes "when") ∷ [])
 unfoldable pub source_flow : Rule FlowKind
 source_flow = do
   _ ← word (codes "source")
-  its_point ← point
-  set ← optional_set
+  its_end ← flow_end
   its_state ← source_state
-  gives (kind.Source its_point set its_state)
+  gives (kind.Source its_end.point its_end.set its_state)
 
 -- "sink" point [ tset ]
 unfoldable pub sink_flow : Rule FlowKind
 sink_flow = do
   _ ← word (codes "sink")
-  its_point ← point
-  set ← optional_set
-  gives (kind.Sink its_point set)
+  its_end ← flow_end
+  gives (kind.Sink its_end.point its_end.set)
 
 -- [ "use" "mappings" names ]: the place of the word `use`
 unfoldable pub flow_mappings : Rule (Option Spot)
@@ -97,22 +102,34 @@ flow_mappings = chooses (is_word (codes "use") ∷ [])
       gives (Some at))
     (gives None)
 
+-- "->" point [ tset ] [ "use" "mappings" names ]
+unfoldable pub path_target : Rule PathTarget
+path_target = do
+  _ ← sign (codes "->")
+  to ← flow_end
+  mappings ← flow_mappings
+  gives (record { to = to; mappings = mappings })
+
 -- "path" point [ tset ] "->" point [ tset ] [ "use" "mappings" names ]
 unfoldable pub path_flow : Rule FlowKind
 path_flow = do
   _ ← word (codes "path")
-  from ← point
-  from_set ← optional_set
-  _ ← sign (codes "->")
-  to ← point
-  to_set ← optional_set
-  mappings ← flow_mappings
-  gives (kind.Path from from_set to to_set mappings)
+  from ← flow_end
+  target ← path_target
+  gives (kind.Path from.point from.set target.to.point target.to.set target.mappings)
 
 -- a source, a sink or a path
 unfoldable pub flow_kind : Rule FlowKind
 flow_kind = chooses (is_word (codes "source") ∷ []) source_flow
     (chooses (is_word (codes "sink") ∷ []) sink_flow path_flow)
+
+-- "error", a source, a sink or a path, and tail ";"
+unfoldable pub flow_words : Rule FlowKind
+flow_words = do
+  _ ← word (codes "error")
+  its_kind ← flow_kind
+  _ ← tail_end
+  gives its_kind
 
 -- flow = ID ":" "error" "source" point [ tset ] [ "when" ( ID [ tset ] | tset | Text ) ] tail ";"
 --      | ID ":" "error" "sink" point [ tset ] tail ";"
@@ -122,9 +139,7 @@ flow = do
   at ← spot
   name ← error_name
   _ ← sign (codes ":")
-  _ ← word (codes "error")
-  its_kind ← flow_kind
-  _ ← tail_end
+  its_kind ← flow_words
   gives (record { name = name; spot = at; kind = its_kind })
 
 -- [ "flows" { flow } ], after other flows
@@ -145,16 +160,11 @@ propagations_head = do
   _ ← word (codes "error")
   word (codes "propagations")
 
--- "error" "propagations" { pitem } [ "flows" { flow } ] "end" "propagations" ";", after other points and flows
-unfoldable pub propagations_after : List PointItem → List Flow → Rule Propagations
-propagations_after points flows = do
-  _ ← propagations_head
-  all_points ← points_after points
-  all_flows ← flows_after flows
-  _ ← block_end (codes "propagations")
-  gives (record { points = all_points; flows = all_flows })
-
+-- "error" "propagations" { pitem } [ "flows" { flow } ] "end" "propagations" ";", as a part of the clause
 unfoldable pub clause_propagations : Emv2Clause → Rule Emv2Clause
 clause_propagations clause = do
-  all ← propagations_after clause.points clause.flows
-  gives (record clause { points = all.points; flows = all.flows })
+  _ ← propagations_head
+  points ← points_after clause.points
+  flows ← flows_after clause.flows
+  _ ← block_end (codes "propagations")
+  gives (record clause { points = points; flows = flows })

@@ -4,13 +4,15 @@ use Rattle.aadl_syntax.specs.declared.token.Token.{Token}
 use Rattle.aadl_syntax.specs.declared.error_model.Association.{Association}
 use Rattle.grammar_rules.specs.Rules.{Test, Rule, gives, refuses, chooses, gathers, ◌>>=◌}
 use Rattle.grammar_rules.specs.Parts.{parts_after}
-use Rattle.grammar_rules.specs.Spans.{until, closes}
+use Rattle.grammar_rules.specs.Spans.{until_inside, closes}
 use Rattle.grammar_rules.specs.Tokens.{word, sign, one_of, is_word, is_sign, is_one_of}
+use Rattle.emv2_parser.specs.declared.properties.AssignedValue.{AssignedValue}
 use Rattle.emv2_parser.specs.declared.properties.TargetPath.{TargetPath}
 use Rattle.emv2_parser.specs.Words.{point_words, is_name, begins_point}
 use Rattle.emv2_parser.specs.Names.{error_name, names}
 
--- a value ends, at depth 0, at a semicolon, at `applies` and at a bracket that closes what was open before
+-- a value ends, at depth 0, at a semicolon, at `applies` and at a bracket that closes what was open before; and as any run of an
+-- annex at its `**}`, whatever is open
 unfoldable pub ends_value : Option Token → Token → Bool
 ends_value before token = closes token || is_sign (codes ";") token || is_word (codes "applies") token
 
@@ -20,7 +22,7 @@ begins_value token = not (closes token || is_sign (codes ";") token || is_word (
 
 -- value: balanced tokens, at least one, without ";" and "applies" at depth 0
 unfoldable pub value : Rule (List Token)
-value = chooses (begins_value ∷ []) (until ends_value) refuses
+value = chooses (begins_value ∷ []) (until_inside ends_value) refuses
 
 -- "=>" | "+=>"
 unfoldable pub arrow : Rule (Unit {0})
@@ -76,11 +78,16 @@ path_steps path = gathers (begins_step ∷ []) path_step path
 abbrev pub with_target : List (List (List ℕ)) → TargetPath → List (List (List ℕ))
 with_target targets path = if path.is_plain && path.after_name then targets ++ path.names ∷ [] else targets
 
--- tpath: one or more steps, which count as a target only if they are a name, then a dot and a name, and so on
+-- tpath: one or more steps
+unfoldable pub whole_path : Rule TargetPath
+whole_path = do
+  first ← path_step no_path
+  path_steps first
+
+-- tpath, which counts as a target only if its steps are a name, then a dot and a name, and so on
 unfoldable pub target_after : List (List (List ℕ)) → Rule (List (List (List ℕ)))
 target_after targets = do
-  first ← path_step no_path
-  path ← path_steps first
+  path ← whole_path
   gives (with_target targets path)
 
 -- "," tpath
@@ -93,25 +100,33 @@ further_target targets = do
 unfoldable pub further_targets : List (List (List ℕ)) → Rule (List (List (List ℕ)))
 further_targets targets = gathers (is_sign (codes ",") ∷ []) further_target targets
 
+-- "applies" "to" tpath { "," tpath }, after other targets
+unfoldable pub applied_targets : List (List (List ℕ)) → Rule (List (List (List ℕ)))
+applied_targets targets = do
+  _ ← word (codes "applies")
+  _ ← word (codes "to")
+  more ← target_after targets
+  further_targets more
+
 -- [ "applies" "to" tpath { "," tpath } ]
 unfoldable pub targets : Rule (List (List (List ℕ)))
-targets = chooses (is_word (codes "applies") ∷ [])
-    (do
-      _ ← word (codes "applies")
-      _ ← word (codes "to")
-      first ← target_after []
-      further_targets first)
-    (gives [])
+targets = chooses (is_word (codes "applies") ∷ []) (applied_targets []) (gives [])
+
+-- ( "=>" | "+=>" ) value [ "applies" "to" tpath { "," tpath } ] ";"
+unfoldable pub assigned_value : Rule AssignedValue
+assigned_value = do
+  _ ← arrow
+  its_value ← value
+  its_targets ← targets
+  _ ← sign (codes ";")
+  gives (record { value = its_value; targets = its_targets })
 
 -- assoc = names ( "=>" | "+=>" ) value [ "applies" "to" tpath { "," tpath } ] ";"
 unfoldable pub association : Rule Association
 association = do
   name ← names
-  _ ← arrow
-  its_value ← value
-  its_targets ← targets
-  _ ← sign (codes ";")
-  gives (record { name = name; value = its_value; targets = its_targets })
+  what ← assigned_value
+  gives (record { name = name; value = what.value; targets = what.targets })
 
 -- "properties" { assoc }, after other associations
 unfoldable pub properties_after : List Association → Rule (List Association)

@@ -13,9 +13,9 @@ use Rattle.aadl_syntax.specs.declared.error_model.MachineDecl.{MachineDecl}
 use Rattle.aadl_syntax.specs.declared.error_model.Association.{Association}
 use Rattle.emv2_parser.specs.Types.{type_item, types_block}
 use Rattle.emv2_parser.specs.Machines.{event, events_after, state, states_after, source, transition, transitions_after, further_branch, use_transformations, machine_uses, machine_transforms, machine_events, machine_states, machine_transitions, machine_properties, machine_use, machine_other, machine_block, machine}
-use Rattle.emv2_parser.specs.Propagations.{point_item, flow, propagations_head, propagations_after, clause_propagations}
-use Rattle.emv2_parser.specs.Behavior.{outgoing, composite, composite_condition, component_transforms, component_events, component_transitions, outgoing_after, component_outgoing, detections, mode_mappings, component_other, component_block, clause_component, composite_head, clause_composites, clause_connection, user_item, paths_head, clause_paths}
-use Rattle.emv2_parser.specs.Grammar.{type_mapping, library_types, library_machine, library_mapping, library_block, clause_uses, clause_machine, clause_mapping, clause_use, clause_properties, clause_other, clause_behavior, clause_part}
+use Rattle.emv2_parser.specs.Propagations.{point_item, flow, propagations_head, clause_propagations}
+use Rattle.emv2_parser.specs.Behavior.{outgoing, composite, composite_rule, composite_condition, component_transforms, component_events, component_transitions, outgoing_after, component_outgoing, detections, mode_mappings, component_other, component_block, component_head, clause_component, composite_head, clause_composites, connection_errors, clause_connection, user_item, paths_head, clause_paths}
+use Rattle.emv2_parser.specs.Grammar.{type_mapping, library_types, library_machine, library_mapping, library_block, clause_uses, used_machine, clause_machine, used_mapping, clause_mapping, clause_use, clause_properties, clause_other, clause_behavior, clause_part}
 use Rattle.aadl_syntax.specs.declared.error_model.Emv2Clause.{Emv2Clause}
 use Rattle.aadl_syntax.specs.declared.error_model.Emv2Library.{Emv2Library}
 use Rattle.emv2_parser.specs.Conditions.{and_primary, or_conjunction, further_condition}
@@ -129,8 +129,8 @@ unfolding outgoing
 outgoing-takes = takes_after (λ at. takes_after (λ name. takes_first source-takes))
 
 pub composite-takes : TakesTokens composite
-unfolding composite composite_condition
-composite-takes = takes_after (λ at. takes_after (λ name. takes_first (takes_first (sign_takes _))))
+unfolding composite composite_rule composite_condition
+composite-takes = takes_after (λ at. takes_after (λ name. takes_first (takes_first (takes_first (sign_takes _)))))
 
 pub component_block-takes : (clause : Emv2Clause) → TakesTokens (component_block clause)
 unfolding component_block component_other component_transforms component_events component_transitions component_outgoing outgoing_after detections mode_mappings events_after transitions_after
@@ -145,17 +145,17 @@ unfolding library_block library_types library_machine library_mapping types_bloc
 library_block-takes library = takes_either _ (takes_first (takes_first (word_takes _))) (takes_either _ (takes_first (takes_first (word_takes _))) (takes_first (takes_first (word_takes _))))
 
 clause_use-takes : (clause : Emv2Clause) → TakesTokens (clause_use clause)
-unfolding clause_use clause_uses clause_machine clause_mapping
-clause_use-takes clause = takes_either _ (takes_first (use_types-takes _)) (takes_either _ (takes_first (word_takes _)) (takes_after (λ at. takes_first (word_takes _))))
+unfolding clause_use clause_uses clause_machine used_machine clause_mapping used_mapping
+clause_use-takes clause = takes_either _ (takes_first (use_types-takes _)) (takes_either _ (takes_first (takes_first (word_takes _))) (takes_first (takes_after (λ at. takes_first (word_takes _)))))
 
 clause_other-takes : (clause : Emv2Clause) → TakesTokens (clause_other clause)
-unfolding clause_other clause_connection clause_paths paths_head clause_properties
-clause_other-takes clause = takes_either _ (takes_after (λ at. takes_first (word_takes _))) (takes_either _ (takes_first (takes_first (word_takes _))) (takes_first (properties-takes _)))
+unfolding clause_other clause_connection connection_errors clause_paths paths_head clause_properties
+clause_other-takes clause = takes_either _ (takes_first (takes_after (λ at. takes_first (word_takes _)))) (takes_either _ (takes_first (takes_first (word_takes _))) (takes_first (properties-takes _)))
 
 clause_behavior-takes : (clause : Emv2Clause) → TakesTokens (clause_behavior clause)
-unfolding clause_behavior clause_component clause_composites composite_head
-clause_behavior-takes clause = takes_either _ (takes_first (word_takes _)) (takes_either _ (takes_first (takes_first (word_takes _))) (clause_other-takes clause))
+unfolding clause_behavior clause_component component_head clause_composites composite_head
+clause_behavior-takes clause = takes_either _ (takes_first (takes_first (word_takes _))) (takes_either _ (takes_first (takes_first (word_takes _))) (clause_other-takes clause))
 
 pub clause_part-takes : (clause : Emv2Clause) → TakesTokens (clause_part clause)
-unfolding clause_part clause_propagations propagations_after propagations_head
-clause_part-takes clause = takes_either _ (clause_use-takes clause) (takes_either _ (takes_first (takes_first (takes_first (word_takes _)))) (clause_behavior-takes clause))
+unfolding clause_part clause_propagations propagations_head
+clause_part-takes clause = takes_either _ (clause_use-takes clause) (takes_either _ (takes_first (takes_first (word_takes _))) (clause_behavior-takes clause))

@@ -8,7 +8,7 @@ use Rattle.aadl_syntax.specs.declared.error_model.TypeKind.TheVariants as kind
 use Rattle.aadl_syntax.specs.declared.error_model.Association.{Association}
 use Rattle.grammar_rules.specs.Rules.{Rule, gives, chooses, gathers, ◌>>=◌}
 use Rattle.grammar_rules.specs.Parts.{parts_after}
-use Rattle.grammar_rules.specs.Spans.{until, ends_tail}
+use Rattle.grammar_rules.specs.Spans.{until_inside, ends_tail}
 use Rattle.grammar_rules.specs.Tokens.{word, sign, is_word, is_sign}
 use Rattle.emv2_parser.specs.Words.{is_name}
 use Rattle.emv2_parser.specs.Names.{error_name, spot, reference, references_after, use_types_after, type_set, block_end}
@@ -21,7 +21,7 @@ set_kind = do
   _ ← word (codes "type")
   _ ← word (codes "set")
   set ← type_set
-  _ ← until ends_tail
+  _ ← until_inside ends_tail
   gives (kind.Set set)
 
 -- [ "extends" names ]
@@ -39,7 +39,7 @@ plain_kind = do
   _ ← sign (codes ":")
   _ ← word (codes "type")
   extended ← extended_type
-  _ ← until ends_tail
+  _ ← until_inside ends_tail
   gives (kind.Plain extended)
 
 -- [ "set" ] names

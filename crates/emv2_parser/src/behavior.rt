@@ -1,26 +1,48 @@
 ghost use Rattle.std.specs.Prelude.{◌≡◌, [], ◌∷◌, ◌++◌, codes};
-ghost use Rattle.grammar_rules.specs.Reader.{Gives};
+ghost use Rattle.grammar_rules.specs.Reader.{Gives, given};
 ghost use Rattle.grammar_rules.specs.Rules.{chooses};
 ghost use Rattle.grammar_rules.specs.Tokens.{is_one_of};
 ghost use Rattle.emv2_parser.specs.Words.{is_name, point_words, begins_source, begins_composite, component_words};
 ghost use Rattle.emv2_parser.specs.Names.{point_word};
-ghost use Rattle.emv2_parser.specs.Behavior.{some_condition, optional_condition, outgoing_condition, outgoing, component_transforms, component_events, component_transitions, further_outgoing, outgoing_after, component_outgoing, detections, mode_mappings, component_other, component_block, component_blocks, clause_component, others_or_condition, composite_condition, composite, states_word, composite_head, clause_composites, clause_connection, last_word, end_names, path_end, user_point, user_path, clause_user_point, clause_user_path, user_item, user_items, paths_head, clause_paths};
+ghost use Rattle.emv2_parser.specs.Behavior.{some_condition, optional_condition, outgoing_condition, outgoing_effect, outgoing, component_transforms, component_events, component_transitions, further_outgoing, outgoing_after, component_outgoing, detections, mode_mappings, component_other, component_block, component_blocks, component_head, clause_component, others_or_condition, composite_condition, composite_rule, composite, states_word, composite_head, clause_composites, connection_errors, clause_connection, last_word, end_names, path_end, user_point, path_ends, user_path, clause_user_point, clause_user_path, user_item, user_items, paths_head, clause_paths};
 ghost use Rattle.emv2_parser.specs.Takes.{outgoing-takes, composite-takes, component_block-takes, user_item-takes};
 
 use crate::conditions::whole_condition;
 use crate::machines::{events_after, source, transitions_after, use_transformations};
 use crate::names::{
-    block_end, dotted_names, label, optional_set, point, point_word, spot, state_reference,
-    tail_end,
+    block_end, dotted_names, flow_end, label, point_word, spot, state_reference, tail_end,
 };
 use crate::words::{
     component_block_at, composite_at, error_name, name_at, point_name, point_word_at,
     propagations_at, source_at, transitions_at,
 };
 use aadl_syntax::{
-    Composite, Condition, Emv2Clause, End, List, Name, Outgoing, Spot, UserPath, UserPoint,
+    Composite, Condition, Emv2Clause, End, List, Name, Outgoing, PointRef, Spot, StateRef, TypeSet,
+    UserPath, UserPoint,
 };
 use grammar_rules::{Gathered, Parts, ReadError, Reader, ToEnd};
+
+/// What follows the source of an outgoing condition.
+#[derive(Drop)]
+pub(crate) struct OutgoingEffect {
+    pub(crate) condition: Option<Condition>,
+    pub(crate) point: PointRef,
+    pub(crate) set: Option<TypeSet>,
+}
+
+/// What follows the name of a composite state.
+#[derive(Drop)]
+pub(crate) struct CompositeRule {
+    pub(crate) condition: Option<Condition>,
+    pub(crate) target: StateRef,
+}
+
+/// Both ends of a path.
+#[derive(Drop)]
+pub(crate) struct PathEnds {
+    pub(crate) from: End,
+    pub(crate) to: End,
+}
 
 #[tactic(auto, unfolding(crate::specs::Behavior::some_condition))]
 fn some_condition(reader: &mut Reader) -> Result<Option<Condition>, ReadError>
@@ -51,6 +73,20 @@ fn outgoing_condition(reader: &mut Reader) -> Result<Option<Condition>, ReadErro
     Ok(condition)
 }
 
+#[tactic(auto, unfolding(crate::specs::Behavior::outgoing_effect))]
+fn outgoing_effect(reader: &mut Reader) -> Result<OutgoingEffect, ReadError>
+    ensures { Gives result outgoing_effect reader.old reader.new }
+{
+    let condition = outgoing_condition(reader)?;
+    let end = flow_end(reader)?;
+    tail_end(reader)?;
+    Ok(OutgoingEffect {
+        condition,
+        point: end.point,
+        set: end.set,
+    })
+}
+
 #[tactic(auto, unfolding(crate::specs::Behavior::outgoing))]
 fn outgoing(reader: &mut Reader) -> Result<Outgoing, ReadError>
     ensures { Gives result outgoing reader.old reader.new }
@@ -58,99 +94,87 @@ fn outgoing(reader: &mut Reader) -> Result<Outgoing, ReadError>
     let spot = spot(reader)?;
     let name = label(reader)?;
     let source = source(reader)?;
-    let condition = outgoing_condition(reader)?;
-    let point = point(reader)?;
-    let set = optional_set(reader)?;
-    tail_end(reader)?;
+    let effect = outgoing_effect(reader)?;
     Ok(Outgoing {
         name,
         spot,
         source,
-        condition,
-        point,
-        set,
+        condition: effect.condition,
+        point: effect.point,
+        set: effect.set,
     })
 }
 
 #[tactic(auto, unfolding(crate::specs::Behavior::component_transforms))]
-fn component_transforms(reader: &mut Reader, clause: Emv2Clause) -> Result<Emv2Clause, ReadError>
-    ensures { Gives result (component_transforms clause) reader.old reader.new }
+fn component_transforms(reader: &mut Reader, clause: &mut Emv2Clause) -> Result<(), ReadError>
+    ensures { Gives (given result clause.new) (component_transforms clause.old) reader.old reader.new }
 {
-    let mut mappings = clause.mappings;
-    mappings.push(use_transformations(reader)?)?;
-    Ok(Emv2Clause { mappings, ..clause })
+    let spot = use_transformations(reader)?;
+    clause.mappings.push(spot)?;
+    Ok(())
 }
 
 #[tactic(auto, unfolding(crate::specs::Behavior::component_events))]
-fn component_events(reader: &mut Reader, clause: Emv2Clause) -> Result<Emv2Clause, ReadError>
-    ensures { Gives result (component_events clause) reader.old reader.new }
+fn component_events(reader: &mut Reader, clause: &mut Emv2Clause) -> Result<(), ReadError>
+    ensures { Gives (given result clause.new) (component_events clause.old) reader.old reader.new }
 {
-    let events = events_after(reader, clause.events)?;
-    Ok(Emv2Clause { events, ..clause })
+    events_after(reader, &mut clause.events)?;
+    Ok(())
 }
 
 #[tactic(auto, unfolding(crate::specs::Behavior::component_transitions))]
-fn component_transitions(reader: &mut Reader, clause: Emv2Clause) -> Result<Emv2Clause, ReadError>
-    ensures { Gives result (component_transitions clause) reader.old reader.new }
+fn component_transitions(reader: &mut Reader, clause: &mut Emv2Clause) -> Result<(), ReadError>
+    ensures { Gives (given result clause.new) (component_transitions clause.old) reader.old reader.new }
 {
-    let transitions = transitions_after(reader, clause.transitions)?;
-    Ok(Emv2Clause {
-        transitions,
-        ..clause
-    })
+    transitions_after(reader, &mut clause.transitions)?;
+    Ok(())
 }
 
 #[tactic(auto, unfolding(crate::specs::Behavior::further_outgoing))]
-fn further_outgoing(
-    reader: &mut Reader,
-    conditions: List<Outgoing>,
-) -> Result<List<Outgoing>, ReadError>
-    ensures { Gives result (further_outgoing conditions) reader.old reader.new }
+fn further_outgoing(reader: &mut Reader, conditions: &mut List<Outgoing>) -> Result<(), ReadError>
+    ensures { Gives (given result conditions.new) (further_outgoing conditions.old) reader.old reader.new }
 {
     reader.more_parts::<OutgoingConditions>(conditions)
 }
 
 #[tactic(auto, unfolding(crate::specs::Behavior::outgoing_after))]
-fn outgoing_after(
-    reader: &mut Reader,
-    conditions: List<Outgoing>,
-) -> Result<List<Outgoing>, ReadError>
-    ensures { Gives result (outgoing_after conditions) reader.old reader.new }
+fn outgoing_after(reader: &mut Reader, conditions: &mut List<Outgoing>) -> Result<(), ReadError>
+    ensures { Gives (given result conditions.new) (outgoing_after conditions.old) reader.old reader.new }
 {
     reader.word(b"propagations")?;
     further_outgoing(reader, conditions)
 }
 
 #[tactic(auto, unfolding(crate::specs::Behavior::component_outgoing))]
-fn component_outgoing(reader: &mut Reader, clause: Emv2Clause) -> Result<Emv2Clause, ReadError>
-    ensures { Gives result (component_outgoing clause) reader.old reader.new }
+fn component_outgoing(reader: &mut Reader, clause: &mut Emv2Clause) -> Result<(), ReadError>
+    ensures { Gives (given result clause.new) (component_outgoing clause.old) reader.old reader.new }
 {
-    let outgoing = outgoing_after(reader, clause.outgoing)?;
-    Ok(Emv2Clause { outgoing, ..clause })
+    outgoing_after(reader, &mut clause.outgoing)?;
+    Ok(())
 }
 
 #[tactic(auto, unfolding(crate::specs::Behavior::detections))]
-fn detections(reader: &mut Reader, clause: Emv2Clause) -> Result<Emv2Clause, ReadError>
-    ensures { Gives result (detections clause) reader.old reader.new }
+fn detections(reader: &mut Reader, clause: &mut Emv2Clause) -> Result<(), ReadError>
+    ensures { Gives (given result clause.new) (detections clause.old) reader.old reader.new }
 {
     reader.word(b"detections")?;
-    reader.until::<ToEnd>()?;
-    Ok(clause)
+    reader.until_inside::<ToEnd>()?;
+    Ok(())
 }
 
 #[tactic(auto, unfolding(crate::specs::Behavior::mode_mappings))]
-fn mode_mappings(reader: &mut Reader, clause: Emv2Clause) -> Result<Emv2Clause, ReadError>
-    ensures { Gives result (mode_mappings clause) reader.old reader.new }
+fn mode_mappings(reader: &mut Reader, clause: &mut Emv2Clause) -> Result<(), ReadError>
+    ensures { Gives (given result clause.new) (mode_mappings clause.old) reader.old reader.new }
 {
     reader.word(b"mode")?;
     reader.word(b"mappings")?;
-    reader.until::<ToEnd>()?;
-    Ok(clause)
+    reader.until_inside::<ToEnd>()?;
+    Ok(())
 }
 
 #[tactic(auto, unfolding(crate::specs::Behavior::component_other))]
-fn component_other(reader: &mut Reader, clause: Emv2Clause) -> Result<Emv2Clause, ReadError>
-    ensures { Gives result (component_other clause) reader.old reader.new }
+fn component_other(reader: &mut Reader, clause: &mut Emv2Clause) -> Result<(), ReadError>
+    ensures { Gives (given result clause.new) (component_other clause.old) reader.old reader.new }
 {
     if propagations_at(reader) {
         return component_outgoing(reader, clause);
@@ -162,8 +186,8 @@ fn component_other(reader: &mut Reader, clause: Emv2Clause) -> Result<Emv2Clause
 }
 
 #[tactic(auto, unfolding(crate::specs::Behavior::component_block))]
-fn component_block(reader: &mut Reader, clause: Emv2Clause) -> Result<Emv2Clause, ReadError>
-    ensures { Gives result (component_block clause) reader.old reader.new }
+fn component_block(reader: &mut Reader, clause: &mut Emv2Clause) -> Result<(), ReadError>
+    ensures { Gives (given result clause.new) (component_block clause.old) reader.old reader.new }
 {
     if reader.word_at(0, b"use") {
         return component_transforms(reader, clause);
@@ -178,26 +202,33 @@ fn component_block(reader: &mut Reader, clause: Emv2Clause) -> Result<Emv2Clause
 }
 
 #[tactic(auto, unfolding(crate::specs::Behavior::component_blocks))]
-fn component_blocks(reader: &mut Reader, clause: Emv2Clause) -> Result<Emv2Clause, ReadError>
-    ensures { Gives result (component_blocks clause) reader.old reader.new }
+fn component_blocks(reader: &mut Reader, clause: &mut Emv2Clause) -> Result<(), ReadError>
+    ensures { Gives (given result clause.new) (component_blocks clause.old) reader.old reader.new }
 {
     reader.gather::<ComponentBlocks>(clause)
+}
+
+#[tactic(auto, unfolding(crate::specs::Behavior::component_head))]
+fn component_head(reader: &mut Reader) -> Result<(), ReadError>
+    ensures { Gives result component_head reader.old reader.new }
+{
+    reader.word(b"component")?;
+    reader.word(b"error")?;
+    reader.word(b"behavior")
 }
 
 /// Reads the error behavior of a component, as a part of its clause.
 #[tactic(auto, unfolding(crate::specs::Behavior::clause_component))]
 pub(crate) fn clause_component(
     reader: &mut Reader,
-    clause: Emv2Clause,
-) -> Result<Emv2Clause, ReadError>
-    ensures { Gives result (clause_component clause) reader.old reader.new }
+    clause: &mut Emv2Clause,
+) -> Result<(), ReadError>
+    ensures { Gives (given result clause.new) (clause_component clause.old) reader.old reader.new }
 {
-    reader.word(b"component")?;
-    reader.word(b"error")?;
-    reader.word(b"behavior")?;
-    let clause = component_blocks(reader, clause)?;
+    component_head(reader)?;
+    component_blocks(reader, clause)?;
     block_end(reader, b"component")?;
-    Ok(clause)
+    Ok(())
 }
 
 #[tactic(auto, unfolding(crate::specs::Behavior::others_or_condition))]
@@ -222,20 +253,28 @@ fn composite_condition(reader: &mut Reader) -> Result<Option<Condition>, ReadErr
     Ok(condition)
 }
 
+#[tactic(auto, unfolding(crate::specs::Behavior::composite_rule))]
+fn composite_rule(reader: &mut Reader) -> Result<CompositeRule, ReadError>
+    ensures { Gives result composite_rule reader.old reader.new }
+{
+    let condition = composite_condition(reader)?;
+    let target = state_reference(reader)?;
+    reader.sign(b";")?;
+    Ok(CompositeRule { condition, target })
+}
+
 #[tactic(auto, unfolding(crate::specs::Behavior::composite))]
 fn composite(reader: &mut Reader) -> Result<Composite, ReadError>
     ensures { Gives result composite reader.old reader.new }
 {
     let spot = spot(reader)?;
     let name = label(reader)?;
-    let condition = composite_condition(reader)?;
-    let target = state_reference(reader)?;
-    reader.sign(b";")?;
+    let rule = composite_rule(reader)?;
     Ok(Composite {
         name,
         spot,
-        condition,
-        target,
+        condition: rule.condition,
+        target: rule.target,
     })
 }
 
@@ -263,57 +302,60 @@ fn composite_head(reader: &mut Reader) -> Result<(), ReadError>
 #[tactic(auto, unfolding(crate::specs::Behavior::clause_composites))]
 pub(crate) fn clause_composites(
     reader: &mut Reader,
-    clause: Emv2Clause,
-) -> Result<Emv2Clause, ReadError>
-    ensures { Gives result (clause_composites clause) reader.old reader.new }
+    clause: &mut Emv2Clause,
+) -> Result<(), ReadError>
+    ensures { Gives (given result clause.new) (clause_composites clause.old) reader.old reader.new }
 {
     composite_head(reader)?;
-    let composites = reader.more_parts::<Composites>(clause.composites)?;
+    reader.more_parts::<Composites>(&mut clause.composites)?;
     block_end(reader, b"composite")?;
-    Ok(Emv2Clause {
-        composites,
-        ..clause
-    })
+    Ok(())
+}
+
+#[tactic(auto, unfolding(crate::specs::Behavior::connection_errors))]
+fn connection_errors(reader: &mut Reader) -> Result<Spot, ReadError>
+    ensures { Gives result connection_errors reader.old reader.new }
+{
+    let spot = spot(reader)?;
+    reader.word(b"connection")?;
+    reader.word(b"error")?;
+    reader.until_inside::<ToEnd>()?;
+    block_end(reader, b"connection")?;
+    Ok(spot)
 }
 
 /// Reads the error behavior of connections, as a part of a clause, which keeps its place.
 #[tactic(auto, unfolding(crate::specs::Behavior::clause_connection))]
 pub(crate) fn clause_connection(
     reader: &mut Reader,
-    clause: Emv2Clause,
-) -> Result<Emv2Clause, ReadError>
-    ensures { Gives result (clause_connection clause) reader.old reader.new }
+    clause: &mut Emv2Clause,
+) -> Result<(), ReadError>
+    ensures { Gives (given result clause.new) (clause_connection clause.old) reader.old reader.new }
 {
-    let spot = spot(reader)?;
-    reader.word(b"connection")?;
-    reader.word(b"error")?;
-    reader.until::<ToEnd>()?;
-    block_end(reader, b"connection")?;
-    let mut connection_errors = clause.connection_errors;
-    connection_errors.push(spot)?;
-    Ok(Emv2Clause {
-        connection_errors,
-        ..clause
-    })
+    let spot = connection_errors(reader)?;
+    clause.connection_errors.push(spot)?;
+    Ok(())
 }
 
 #[tactic(auto, unfolding(crate::specs::Behavior::last_word))]
-fn last_word(reader: &mut Reader, mut names: List<Name>) -> Result<List<Name>, ReadError>
-    ensures { Gives result (last_word names) reader.old reader.new }
+fn last_word(reader: &mut Reader, names: &mut List<Name>) -> Result<(), ReadError>
+    ensures { Gives (given result names.new) (last_word names.old) reader.old reader.new }
 {
     if reader.sign_at(0, b".") && point_word_at(reader, 1) {
         reader.sign(b".")?;
-        names.push(point_name(reader)?)?;
+        let name = point_name(reader)?;
+        names.push(name)?;
     }
-    Ok(names)
+    Ok(())
 }
 
 #[tactic(auto, unfolding(crate::specs::Behavior::end_names))]
 fn end_names(reader: &mut Reader) -> Result<List<Name>, ReadError>
     ensures { Gives result end_names reader.old reader.new }
 {
-    let names = dotted_names(reader)?;
-    last_word(reader, names)
+    let mut names = dotted_names(reader)?;
+    last_word(reader, &mut names)?;
+    Ok(names)
 }
 
 // The names of an end.
@@ -345,59 +387,61 @@ fn user_point(reader: &mut Reader, name: Name, spot: Spot) -> Result<UserPoint, 
     Ok(UserPoint { name, spot })
 }
 
-#[tactic(auto, unfolding(crate::specs::Behavior::user_path))]
-fn user_path(reader: &mut Reader, name: Name, spot: Spot) -> Result<UserPath, ReadError>
-    ensures { Gives result (user_path name spot) reader.old reader.new }
+#[tactic(auto, unfolding(crate::specs::Behavior::path_ends))]
+fn path_ends(reader: &mut Reader) -> Result<PathEnds, ReadError>
+    ensures { Gives result path_ends reader.old reader.new }
 {
     let from = path_end(reader)?;
     reader.sign(b"->")?;
     let to = path_end(reader)?;
     reader.sign(b";")?;
+    Ok(PathEnds { from, to })
+}
+
+#[tactic(auto, unfolding(crate::specs::Behavior::user_path))]
+fn user_path(reader: &mut Reader, name: Name, spot: Spot) -> Result<UserPath, ReadError>
+    ensures { Gives result (user_path name spot) reader.old reader.new }
+{
+    let ends = path_ends(reader)?;
     Ok(UserPath {
         name,
         spot,
-        from,
-        to,
+        from: ends.from,
+        to: ends.to,
     })
 }
 
 #[tactic(auto, unfolding(crate::specs::Behavior::clause_user_point))]
 fn clause_user_point(
     reader: &mut Reader,
-    clause: Emv2Clause,
+    clause: &mut Emv2Clause,
     name: Name,
     spot: Spot,
-) -> Result<Emv2Clause, ReadError>
-    ensures { Gives result (clause_user_point clause name spot) reader.old reader.new }
+) -> Result<(), ReadError>
+    ensures { Gives (given result clause.new) (clause_user_point clause.old name spot) reader.old reader.new }
 {
-    let mut user_points = clause.user_points;
-    user_points.push(user_point(reader, name, spot)?)?;
-    Ok(Emv2Clause {
-        user_points,
-        ..clause
-    })
+    let item = user_point(reader, name, spot)?;
+    clause.user_points.push(item)?;
+    Ok(())
 }
 
 #[tactic(auto, unfolding(crate::specs::Behavior::clause_user_path))]
 fn clause_user_path(
     reader: &mut Reader,
-    clause: Emv2Clause,
+    clause: &mut Emv2Clause,
     name: Name,
     spot: Spot,
-) -> Result<Emv2Clause, ReadError>
-    ensures { Gives result (clause_user_path clause name spot) reader.old reader.new }
+) -> Result<(), ReadError>
+    ensures { Gives (given result clause.new) (clause_user_path clause.old name spot) reader.old reader.new }
 {
-    let mut user_paths = clause.user_paths;
-    user_paths.push(user_path(reader, name, spot)?)?;
-    Ok(Emv2Clause {
-        user_paths,
-        ..clause
-    })
+    let item = user_path(reader, name, spot)?;
+    clause.user_paths.push(item)?;
+    Ok(())
 }
 
 #[tactic(auto, unfolding(crate::specs::Behavior::user_item))]
-fn user_item(reader: &mut Reader, clause: Emv2Clause) -> Result<Emv2Clause, ReadError>
-    ensures { Gives result (user_item clause) reader.old reader.new }
+fn user_item(reader: &mut Reader, clause: &mut Emv2Clause) -> Result<(), ReadError>
+    ensures { Gives (given result clause.new) (user_item clause.old) reader.old reader.new }
 {
     let spot = spot(reader)?;
     let name = error_name(reader)?;
@@ -409,8 +453,8 @@ fn user_item(reader: &mut Reader, clause: Emv2Clause) -> Result<Emv2Clause, Read
 }
 
 #[tactic(auto, unfolding(crate::specs::Behavior::user_items))]
-fn user_items(reader: &mut Reader, clause: Emv2Clause) -> Result<Emv2Clause, ReadError>
-    ensures { Gives result (user_items clause) reader.old reader.new }
+fn user_items(reader: &mut Reader, clause: &mut Emv2Clause) -> Result<(), ReadError>
+    ensures { Gives (given result clause.new) (user_items clause.old) reader.old reader.new }
 {
     reader.gather::<UserItems>(clause)
 }
@@ -425,13 +469,13 @@ fn paths_head(reader: &mut Reader) -> Result<(), ReadError>
 
 /// Reads the propagation points and paths of the user's, as a part of a clause.
 #[tactic(auto, unfolding(crate::specs::Behavior::clause_paths))]
-pub(crate) fn clause_paths(reader: &mut Reader, clause: Emv2Clause) -> Result<Emv2Clause, ReadError>
-    ensures { Gives result (clause_paths clause) reader.old reader.new }
+pub(crate) fn clause_paths(reader: &mut Reader, clause: &mut Emv2Clause) -> Result<(), ReadError>
+    ensures { Gives (given result clause.new) (clause_paths clause.old) reader.old reader.new }
 {
     paths_head(reader)?;
-    let clause = user_items(reader, clause)?;
+    user_items(reader, clause)?;
     block_end(reader, b"paths")?;
-    Ok(clause)
+    Ok(())
 }
 
 // The outgoing conditions of a block.
@@ -490,7 +534,7 @@ impl Gathered for ComponentBlocks {
         component_block_at(reader)
     }
 
-    fn part(reader: &mut Reader, whole: Emv2Clause) -> Result<Emv2Clause, ReadError> {
+    fn part(reader: &mut Reader, whole: &mut Emv2Clause) -> Result<(), ReadError> {
         component_block(reader, whole)
     }
 
@@ -511,7 +555,7 @@ impl Gathered for UserItems {
         name_at(reader, 0)
     }
 
-    fn part(reader: &mut Reader, whole: Emv2Clause) -> Result<Emv2Clause, ReadError> {
+    fn part(reader: &mut Reader, whole: &mut Emv2Clause) -> Result<(), ReadError> {
         user_item(reader, whole)
     }
 

@@ -1,8 +1,8 @@
 ghost use Rattle.std.specs.Prelude.{◌≡◌, [], ◌∷◌, ◌++◌, codes};
-ghost use Rattle.grammar_rules.specs.Reader.{Gives, Begins};
+ghost use Rattle.grammar_rules.specs.Reader.{Gives, Begins, given};
 ghost use Rattle.grammar_rules.specs.Tokens.{is_one_of};
 ghost use Rattle.emv2_parser.specs.Words.{library_words, clause_words};
-ghost use Rattle.emv2_parser.specs.Grammar.{mapping_word, mapping_end, type_mapping, library_types, library_machine, library_mapping, library_block, library, clause_uses, clause_machine, mapping_kind, clause_mapping, clause_use, clause_properties, clause_other, clause_behavior, clause_part, clause_parts, is_token, spot_or, empty_clause, clause, library_after, clause_inside};
+ghost use Rattle.emv2_parser.specs.Grammar.{mapping_word, mapping_end, type_mapping, library_types, library_machine, library_mapping, library_block, library, clause_uses, used_machine, clause_machine, mapping_kind, used_mapping, clause_mapping, clause_use, clause_properties, clause_other, clause_behavior, clause_part, clause_parts, is_token, spot_or, empty_clause, clause, library_after, clause_inside};
 ghost use Rattle.emv2_parser.specs.Takes.{library_block-takes, clause_part-takes};
 
 use crate::behavior::{clause_component, clause_composites, clause_connection, clause_paths};
@@ -12,7 +12,7 @@ use crate::propagations::clause_propagations;
 use crate::properties::properties_after;
 use crate::types::types_block;
 use crate::words::{clause_part_at, error_name, library_block_at, paths_at};
-use aadl_syntax::{Emv2Clause, Emv2Library, List, Spot};
+use aadl_syntax::{Emv2Clause, Emv2Library, List, Ref, Spot};
 use grammar_rules::{Gathered, ReadError, Reader, ToEnd};
 use std::alloc::Global;
 
@@ -42,42 +42,39 @@ fn type_mapping(reader: &mut Reader) -> Result<(), ReadError>
     reader.word(b"type")?;
     mapping_word(reader)?;
     error_name(reader)?;
-    reader.until::<ToEnd>()?;
+    reader.until_inside::<ToEnd>()?;
     mapping_end(reader)
 }
 
 #[tactic(auto, unfolding(crate::specs::Grammar::library_types))]
-fn library_types(reader: &mut Reader, library: Emv2Library) -> Result<Emv2Library, ReadError>
-    ensures { Gives result (library_types library) reader.old reader.new }
+fn library_types(reader: &mut Reader, library: &mut Emv2Library) -> Result<(), ReadError>
+    ensures { Gives (given result library.new) (library_types library.old) reader.old reader.new }
 {
-    let mut blocks = library.blocks;
-    blocks.push(types_block(reader)?)?;
-    Ok(Emv2Library { blocks, ..library })
+    let block = types_block(reader)?;
+    library.blocks.push(block)?;
+    Ok(())
 }
 
 #[tactic(auto, unfolding(crate::specs::Grammar::library_machine))]
-fn library_machine(reader: &mut Reader, library: Emv2Library) -> Result<Emv2Library, ReadError>
-    ensures { Gives result (library_machine library) reader.old reader.new }
+fn library_machine(reader: &mut Reader, library: &mut Emv2Library) -> Result<(), ReadError>
+    ensures { Gives (given result library.new) (library_machine library.old) reader.old reader.new }
 {
-    let mut machines = library.machines;
-    machines.push(machine(reader)?)?;
-    Ok(Emv2Library {
-        machines,
-        ..library
-    })
+    let machine = machine(reader)?;
+    library.machines.push(machine)?;
+    Ok(())
 }
 
 #[tactic(auto, unfolding(crate::specs::Grammar::library_mapping))]
-fn library_mapping(reader: &mut Reader, library: Emv2Library) -> Result<Emv2Library, ReadError>
-    ensures { Gives result (library_mapping library) reader.old reader.new }
+fn library_mapping(reader: &mut Reader, library: &mut Emv2Library) -> Result<(), ReadError>
+    ensures { Gives (given result library.new) (library_mapping library.old) reader.old reader.new }
 {
     type_mapping(reader)?;
-    Ok(library)
+    Ok(())
 }
 
 #[tactic(auto, unfolding(crate::specs::Grammar::library_block))]
-fn library_block(reader: &mut Reader, library: Emv2Library) -> Result<Emv2Library, ReadError>
-    ensures { Gives result (library_block library) reader.old reader.new }
+fn library_block(reader: &mut Reader, library: &mut Emv2Library) -> Result<(), ReadError>
+    ensures { Gives (given result library.new) (library_block library.old) reader.old reader.new }
 {
     if reader.word_at(0, b"error") && reader.word_at(1, b"types") {
         return library_types(reader, library);
@@ -94,39 +91,49 @@ pub(crate) fn library(reader: &mut Reader) -> Result<Emv2Library, ReadError>
     ensures { Gives result library reader.old reader.new }
 {
     let alloc = reader.alloc();
-    let empty = Emv2Library {
+    let mut library = Emv2Library {
         blocks: List::new(alloc),
         machines: List::new(alloc),
     };
-    reader.gather::<LibraryBlocks>(empty)
+    reader.gather::<LibraryBlocks>(&mut library)?;
+    Ok(library)
 }
 
 /// Reads blocks of a library as long as the next tokens begin one, and gives them with those of a library that was read
 /// before: several annexes of a package make one library.
 #[tactic(auto, unfolding(crate::specs::Grammar::library_after))]
-pub fn library_after(reader: &mut Reader, library: Emv2Library) -> Result<Emv2Library, ReadError>
-    ensures { Gives result (library_after library) reader.old reader.new }
+pub fn library_after(reader: &mut Reader, library: &mut Emv2Library) -> Result<(), ReadError>
+    ensures { Gives (given result library.new) (library_after library.old) reader.old reader.new }
 {
     reader.gather::<LibraryBlocks>(library)
 }
 
 #[tactic(auto, unfolding(crate::specs::Grammar::clause_uses))]
-fn clause_uses(reader: &mut Reader, clause: Emv2Clause) -> Result<Emv2Clause, ReadError>
-    ensures { Gives result (clause_uses clause) reader.old reader.new }
+fn clause_uses(reader: &mut Reader, clause: &mut Emv2Clause) -> Result<(), ReadError>
+    ensures { Gives (given result clause.new) (clause_uses clause.old) reader.old reader.new }
 {
-    let uses = use_types_after(reader, clause.uses)?;
-    Ok(Emv2Clause { uses, ..clause })
+    use_types_after(reader, &mut clause.uses)?;
+    Ok(())
 }
 
-#[tactic(auto, unfolding(crate::specs::Grammar::clause_machine))]
-fn clause_machine(reader: &mut Reader, clause: Emv2Clause) -> Result<Emv2Clause, ReadError>
-    ensures { Gives result (clause_machine clause) reader.old reader.new }
+#[tactic(auto, unfolding(crate::specs::Grammar::used_machine))]
+fn used_machine(reader: &mut Reader) -> Result<Ref, ReadError>
+    ensures { Gives result used_machine reader.old reader.new }
 {
     reader.word(b"use")?;
     reader.word(b"behavior")?;
-    let machine = Some(reference(reader)?);
+    let machine = reference(reader)?;
     reader.sign(b";")?;
-    Ok(Emv2Clause { machine, ..clause })
+    Ok(machine)
+}
+
+#[tactic(auto, unfolding(crate::specs::Grammar::clause_machine))]
+fn clause_machine(reader: &mut Reader, clause: &mut Emv2Clause) -> Result<(), ReadError>
+    ensures { Gives (given result clause.new) (clause_machine clause.old) reader.old reader.new }
+{
+    let machine = used_machine(reader)?;
+    clause.machine = Some(machine);
+    Ok(())
 }
 
 #[tactic(auto, unfolding(crate::specs::Grammar::mapping_kind))]
@@ -140,23 +147,30 @@ fn mapping_kind(reader: &mut Reader) -> Result<(), ReadError>
     reader.word(b"mappings")
 }
 
-#[tactic(auto, unfolding(crate::specs::Grammar::clause_mapping))]
-fn clause_mapping(reader: &mut Reader, clause: Emv2Clause) -> Result<Emv2Clause, ReadError>
-    ensures { Gives result (clause_mapping clause) reader.old reader.new }
+#[tactic(auto, unfolding(crate::specs::Grammar::used_mapping))]
+fn used_mapping(reader: &mut Reader) -> Result<Spot, ReadError>
+    ensures { Gives result used_mapping reader.old reader.new }
 {
     let spot = spot(reader)?;
     reader.word(b"use")?;
     mapping_kind(reader)?;
     names(reader)?;
     reader.sign(b";")?;
-    let mut mappings = clause.mappings;
-    mappings.push(spot)?;
-    Ok(Emv2Clause { mappings, ..clause })
+    Ok(spot)
+}
+
+#[tactic(auto, unfolding(crate::specs::Grammar::clause_mapping))]
+fn clause_mapping(reader: &mut Reader, clause: &mut Emv2Clause) -> Result<(), ReadError>
+    ensures { Gives (given result clause.new) (clause_mapping clause.old) reader.old reader.new }
+{
+    let spot = used_mapping(reader)?;
+    clause.mappings.push(spot)?;
+    Ok(())
 }
 
 #[tactic(auto, unfolding(crate::specs::Grammar::clause_use))]
-fn clause_use(reader: &mut Reader, clause: Emv2Clause) -> Result<Emv2Clause, ReadError>
-    ensures { Gives result (clause_use clause) reader.old reader.new }
+fn clause_use(reader: &mut Reader, clause: &mut Emv2Clause) -> Result<(), ReadError>
+    ensures { Gives (given result clause.new) (clause_use clause.old) reader.old reader.new }
 {
     if reader.word_at(0, b"use") && reader.word_at(1, b"types") {
         return clause_uses(reader, clause);
@@ -168,19 +182,16 @@ fn clause_use(reader: &mut Reader, clause: Emv2Clause) -> Result<Emv2Clause, Rea
 }
 
 #[tactic(auto, unfolding(crate::specs::Grammar::clause_properties))]
-fn clause_properties(reader: &mut Reader, clause: Emv2Clause) -> Result<Emv2Clause, ReadError>
-    ensures { Gives result (clause_properties clause) reader.old reader.new }
+fn clause_properties(reader: &mut Reader, clause: &mut Emv2Clause) -> Result<(), ReadError>
+    ensures { Gives (given result clause.new) (clause_properties clause.old) reader.old reader.new }
 {
-    let associations = properties_after(reader, clause.associations)?;
-    Ok(Emv2Clause {
-        associations,
-        ..clause
-    })
+    properties_after(reader, &mut clause.associations)?;
+    Ok(())
 }
 
 #[tactic(auto, unfolding(crate::specs::Grammar::clause_other))]
-fn clause_other(reader: &mut Reader, clause: Emv2Clause) -> Result<Emv2Clause, ReadError>
-    ensures { Gives result (clause_other clause) reader.old reader.new }
+fn clause_other(reader: &mut Reader, clause: &mut Emv2Clause) -> Result<(), ReadError>
+    ensures { Gives (given result clause.new) (clause_other clause.old) reader.old reader.new }
 {
     if reader.word_at(0, b"connection") {
         return clause_connection(reader, clause);
@@ -192,8 +203,8 @@ fn clause_other(reader: &mut Reader, clause: Emv2Clause) -> Result<Emv2Clause, R
 }
 
 #[tactic(auto, unfolding(crate::specs::Grammar::clause_behavior))]
-fn clause_behavior(reader: &mut Reader, clause: Emv2Clause) -> Result<Emv2Clause, ReadError>
-    ensures { Gives result (clause_behavior clause) reader.old reader.new }
+fn clause_behavior(reader: &mut Reader, clause: &mut Emv2Clause) -> Result<(), ReadError>
+    ensures { Gives (given result clause.new) (clause_behavior clause.old) reader.old reader.new }
 {
     if reader.word_at(0, b"component") {
         return clause_component(reader, clause);
@@ -205,8 +216,8 @@ fn clause_behavior(reader: &mut Reader, clause: Emv2Clause) -> Result<Emv2Clause
 }
 
 #[tactic(auto, unfolding(crate::specs::Grammar::clause_part))]
-fn clause_part(reader: &mut Reader, clause: Emv2Clause) -> Result<Emv2Clause, ReadError>
-    ensures { Gives result (clause_part clause) reader.old reader.new }
+fn clause_part(reader: &mut Reader, clause: &mut Emv2Clause) -> Result<(), ReadError>
+    ensures { Gives (given result clause.new) (clause_part clause.old) reader.old reader.new }
 {
     if reader.word_at(0, b"use") {
         return clause_use(reader, clause);
@@ -218,8 +229,8 @@ fn clause_part(reader: &mut Reader, clause: Emv2Clause) -> Result<Emv2Clause, Re
 }
 
 #[tactic(auto, unfolding(crate::specs::Grammar::clause_parts))]
-fn clause_parts(reader: &mut Reader, clause: Emv2Clause) -> Result<Emv2Clause, ReadError>
-    ensures { Gives result (clause_parts clause) reader.old reader.new }
+fn clause_parts(reader: &mut Reader, clause: &mut Emv2Clause) -> Result<(), ReadError>
+    ensures { Gives (given result clause.new) (clause_parts clause.old) reader.old reader.new }
 {
     reader.gather::<ClauseParts>(clause)
 }
@@ -270,8 +281,9 @@ fn empty_clause(alloc: Global, spot: Spot) -> Emv2Clause
 fn parts_at(reader: &mut Reader, spot: Spot) -> Result<Emv2Clause, ReadError>
     ensures { Gives result (clause_parts (empty_clause spot)) reader.old reader.new }
 {
-    let empty = empty_clause(reader.alloc(), spot);
-    clause_parts(reader, empty)
+    let mut clause = empty_clause(reader.alloc(), spot);
+    clause_parts(reader, &mut clause)?;
+    Ok(clause)
 }
 
 /// Reads parts of a clause as long as the next tokens begin one, in text that ends at this byte.
@@ -307,7 +319,7 @@ impl Gathered for LibraryBlocks {
         library_block_at(reader)
     }
 
-    fn part(reader: &mut Reader, whole: Emv2Library) -> Result<Emv2Library, ReadError> {
+    fn part(reader: &mut Reader, whole: &mut Emv2Library) -> Result<(), ReadError> {
         library_block(reader, whole)
     }
 
@@ -328,7 +340,7 @@ impl Gathered for ClauseParts {
         clause_part_at(reader)
     }
 
-    fn part(reader: &mut Reader, whole: Emv2Clause) -> Result<Emv2Clause, ReadError> {
+    fn part(reader: &mut Reader, whole: &mut Emv2Clause) -> Result<(), ReadError> {
         clause_part(reader, whole)
     }
 

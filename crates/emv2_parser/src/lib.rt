@@ -13,8 +13,5 @@ mod types;
 mod words;
 
 pub use grammar::{clause_inside, library_after};
-pub use names::{spot, tail_end};
+pub use names::spot;
 pub use text::{clause, library, one_clause, one_library, syntax_error};
-
-#[cfg(test)]
-mod tests;

@@ -1,8 +1,8 @@
 ghost use Rattle.std.specs.Prelude.{◌≡◌, [], ◌∷◌, codes};
-ghost use Rattle.grammar_rules.specs.Reader.{Gives};
+ghost use Rattle.grammar_rules.specs.Reader.{Gives, given};
 ghost use Rattle.grammar_rules.specs.Tokens.{is_sign, is_one_of};
 ghost use Rattle.emv2_parser.specs.Words.{is_name, begins_source, machine_words};
-ghost use Rattle.emv2_parser.specs.Machines.{error_event, recovery_kind, recovery_event, event, events_after, initial, state, states_after, source, target_state_after, chance, branch_after, further_branch, further_branches, branches, transition_targets, transition_condition, transition, transitions_after, use_transformations, first_place, machine_uses, machine_transforms, machine_events, machine_states, machine_transitions, machine_properties, machine_use, machine_other, machine_block, machine_blocks, machine_extends, machine_head, machine};
+ghost use Rattle.emv2_parser.specs.Machines.{error_event, recovery_kind, recovery_event, event_words, event, events_after, initial, state_kind, state, states_after, source, target_state_after, chance, branch_after, further_branch, further_branches, branches, transition_targets, transition_condition, transition_effect, transition, transitions_after, use_transformations, first_place, machine_uses, machine_transforms, machine_events, machine_states, machine_transitions, machine_properties, machine_use, machine_other, machine_block, machine_blocks, machine_extends, machine_head, machine};
 ghost use Rattle.emv2_parser.specs.Takes.{event-takes, state-takes, transition-takes, further_branch-takes, machine_block-takes};
 
 use crate::conditions::whole_condition;
@@ -13,21 +13,40 @@ use crate::properties::properties_after;
 use crate::words::{error_name, machine_block_at, name_at, source_at};
 use aadl_syntax::{
     Condition, EventDecl, EventKind, List, MachineDecl, Name, Source, Spot, StateDecl, StateRef,
-    TokenKind, Transition,
+    TokenKind, Transition, TypeSet,
 };
 use grammar_rules::{Gathered, Parts, ReadError, Reader};
 
+/// What follows the name of an event.
+#[derive(Drop)]
+pub(crate) struct EventWords {
+    pub(crate) kind: EventKind,
+    pub(crate) set: Option<TypeSet>,
+}
+
+/// What follows the name of a state.
+#[derive(Drop)]
+pub(crate) struct StateKind {
+    pub(crate) initial: bool,
+    pub(crate) set: Option<TypeSet>,
+}
+
+/// What follows the source of a transition.
+#[derive(Drop)]
+pub(crate) struct TransitionEffect {
+    pub(crate) condition: Condition,
+    pub(crate) targets: List<StateRef>,
+}
+
 #[tactic(auto, unfolding(crate::specs::Machines::error_event))]
-fn error_event(reader: &mut Reader, name: Name, spot: Spot) -> Result<EventDecl, ReadError>
-    ensures { Gives result (error_event name spot) reader.old reader.new }
+fn error_event(reader: &mut Reader) -> Result<EventWords, ReadError>
+    ensures { Gives result error_event reader.old reader.new }
 {
     reader.word(b"error")?;
     reader.word(b"event")?;
     let set = optional_set(reader)?;
     tail_end(reader)?;
-    Ok(EventDecl {
-        name,
-        spot,
+    Ok(EventWords {
         kind: EventKind::Error,
         set,
     })
@@ -46,18 +65,23 @@ fn recovery_kind(reader: &mut Reader) -> Result<EventKind, ReadError>
 }
 
 #[tactic(auto, unfolding(crate::specs::Machines::recovery_event))]
-fn recovery_event(reader: &mut Reader, name: Name, spot: Spot) -> Result<EventDecl, ReadError>
-    ensures { Gives result (recovery_event name spot) reader.old reader.new }
+fn recovery_event(reader: &mut Reader) -> Result<EventWords, ReadError>
+    ensures { Gives result recovery_event reader.old reader.new }
 {
     let kind = recovery_kind(reader)?;
     reader.word(b"event")?;
     tail_end(reader)?;
-    Ok(EventDecl {
-        name,
-        spot,
-        kind,
-        set: None,
-    })
+    Ok(EventWords { kind, set: None })
+}
+
+#[tactic(auto, unfolding(crate::specs::Machines::event_words))]
+fn event_words(reader: &mut Reader) -> Result<EventWords, ReadError>
+    ensures { Gives result event_words reader.old reader.new }
+{
+    if reader.word_at(0, b"error") {
+        return error_event(reader);
+    }
+    recovery_event(reader)
 }
 
 #[tactic(auto, unfolding(crate::specs::Machines::event))]
@@ -67,19 +91,22 @@ fn event(reader: &mut Reader) -> Result<EventDecl, ReadError>
     let spot = spot(reader)?;
     let name = error_name(reader)?;
     reader.sign(b":")?;
-    if reader.word_at(0, b"error") {
-        return error_event(reader, name, spot);
-    }
-    recovery_event(reader, name, spot)
+    let words = event_words(reader)?;
+    Ok(EventDecl {
+        name,
+        spot,
+        kind: words.kind,
+        set: words.set,
+    })
 }
 
 /// Reads a block of events, and gives them after others.
 #[tactic(auto, unfolding(crate::specs::Machines::events_after))]
 pub(crate) fn events_after(
     reader: &mut Reader,
-    events: List<EventDecl>,
-) -> Result<List<EventDecl>, ReadError>
-    ensures { Gives result (events_after events) reader.old reader.new }
+    events: &mut List<EventDecl>,
+) -> Result<(), ReadError>
+    ensures { Gives (given result events.new) (events_after events.old) reader.old reader.new }
 {
     reader.word(b"events")?;
     reader.more_parts::<Events>(events)
@@ -96,6 +123,17 @@ fn initial(reader: &mut Reader) -> Result<bool, ReadError>
     Ok(false)
 }
 
+#[tactic(auto, unfolding(crate::specs::Machines::state_kind))]
+fn state_kind(reader: &mut Reader) -> Result<StateKind, ReadError>
+    ensures { Gives result state_kind reader.old reader.new }
+{
+    let initial = initial(reader)?;
+    reader.word(b"state")?;
+    let set = optional_set(reader)?;
+    reader.sign(b";")?;
+    Ok(StateKind { initial, set })
+}
+
 #[tactic(auto, unfolding(crate::specs::Machines::state))]
 fn state(reader: &mut Reader) -> Result<StateDecl, ReadError>
     ensures { Gives result state reader.old reader.new }
@@ -103,21 +141,18 @@ fn state(reader: &mut Reader) -> Result<StateDecl, ReadError>
     let spot = spot(reader)?;
     let name = error_name(reader)?;
     reader.sign(b":")?;
-    let initial = initial(reader)?;
-    reader.word(b"state")?;
-    let set = optional_set(reader)?;
-    reader.sign(b";")?;
+    let kind = state_kind(reader)?;
     Ok(StateDecl {
         name,
         spot,
-        initial,
-        set,
+        initial: kind.initial,
+        set: kind.set,
     })
 }
 
 #[tactic(auto, unfolding(crate::specs::Machines::states_after))]
-fn states_after(reader: &mut Reader, states: List<StateDecl>) -> Result<List<StateDecl>, ReadError>
-    ensures { Gives result (states_after states) reader.old reader.new }
+fn states_after(reader: &mut Reader, states: &mut List<StateDecl>) -> Result<(), ReadError>
+    ensures { Gives (given result states.new) (states_after states.old) reader.old reader.new }
 {
     reader.word(b"states")?;
     reader.more_parts::<States>(states)
@@ -138,19 +173,17 @@ pub(crate) fn source(reader: &mut Reader) -> Result<Source, ReadError>
 }
 
 #[tactic(auto, unfolding(crate::specs::Machines::target_state_after))]
-fn target_state_after(
-    reader: &mut Reader,
-    mut targets: List<StateRef>,
-) -> Result<List<StateRef>, ReadError>
-    ensures { Gives result (target_state_after targets) reader.old reader.new }
+fn target_state_after(reader: &mut Reader, targets: &mut List<StateRef>) -> Result<(), ReadError>
+    ensures { Gives (given result targets.new) (target_state_after targets.old) reader.old reader.new }
 {
     if reader.word_at(0, b"same") {
         reader.word(b"same")?;
         reader.word(b"state")?;
-        return Ok(targets);
+        return Ok(());
     }
-    targets.push(state_reference(reader)?)?;
-    Ok(targets)
+    let state = state_reference(reader)?;
+    targets.push(state)?;
+    Ok(())
 }
 
 #[tactic(auto, unfolding(crate::specs::Machines::chance))]
@@ -168,29 +201,26 @@ fn chance(reader: &mut Reader) -> Result<(), ReadError>
 }
 
 #[tactic(auto, unfolding(crate::specs::Machines::branch_after))]
-fn branch_after(reader: &mut Reader, targets: List<StateRef>) -> Result<List<StateRef>, ReadError>
-    ensures { Gives result (branch_after targets) reader.old reader.new }
+fn branch_after(reader: &mut Reader, targets: &mut List<StateRef>) -> Result<(), ReadError>
+    ensures { Gives (given result targets.new) (branch_after targets.old) reader.old reader.new }
 {
-    let targets = target_state_after(reader, targets)?;
+    target_state_after(reader, targets)?;
     reader.word(b"with")?;
     chance(reader)?;
-    Ok(targets)
+    Ok(())
 }
 
 #[tactic(auto, unfolding(crate::specs::Machines::further_branch))]
-fn further_branch(reader: &mut Reader, targets: List<StateRef>) -> Result<List<StateRef>, ReadError>
-    ensures { Gives result (further_branch targets) reader.old reader.new }
+fn further_branch(reader: &mut Reader, targets: &mut List<StateRef>) -> Result<(), ReadError>
+    ensures { Gives (given result targets.new) (further_branch targets.old) reader.old reader.new }
 {
     reader.sign(b",")?;
     branch_after(reader, targets)
 }
 
 #[tactic(auto, unfolding(crate::specs::Machines::further_branches))]
-fn further_branches(
-    reader: &mut Reader,
-    targets: List<StateRef>,
-) -> Result<List<StateRef>, ReadError>
-    ensures { Gives result (further_branches targets) reader.old reader.new }
+fn further_branches(reader: &mut Reader, targets: &mut List<StateRef>) -> Result<(), ReadError>
+    ensures { Gives (given result targets.new) (further_branches targets.old) reader.old reader.new }
 {
     reader.gather::<FurtherBranches>(targets)
 }
@@ -199,10 +229,10 @@ fn further_branches(
 fn branches(reader: &mut Reader) -> Result<List<StateRef>, ReadError>
     ensures { Gives result branches reader.old reader.new }
 {
-    let none = List::new(reader.alloc());
+    let mut targets = List::new(reader.alloc());
     reader.sign(b"(")?;
-    let first = branch_after(reader, none)?;
-    let targets = further_branches(reader, first)?;
+    branch_after(reader, &mut targets)?;
+    further_branches(reader, &mut targets)?;
     reader.sign(b")")?;
     Ok(targets)
 }
@@ -214,8 +244,9 @@ fn transition_targets(reader: &mut Reader) -> Result<List<StateRef>, ReadError>
     if reader.sign_at(0, b"(") {
         return branches(reader);
     }
-    let none = List::new(reader.alloc());
-    target_state_after(reader, none)
+    let mut targets = List::new(reader.alloc());
+    target_state_after(reader, &mut targets)?;
+    Ok(targets)
 }
 
 #[tactic(auto, unfolding(crate::specs::Machines::transition_condition))]
@@ -230,6 +261,16 @@ fn transition_condition(reader: &mut Reader) -> Result<Condition, ReadError>
     Ok(condition)
 }
 
+#[tactic(auto, unfolding(crate::specs::Machines::transition_effect))]
+fn transition_effect(reader: &mut Reader) -> Result<TransitionEffect, ReadError>
+    ensures { Gives result transition_effect reader.old reader.new }
+{
+    let condition = transition_condition(reader)?;
+    let targets = transition_targets(reader)?;
+    reader.sign(b";")?;
+    Ok(TransitionEffect { condition, targets })
+}
+
 #[tactic(auto, unfolding(crate::specs::Machines::transition))]
 fn transition(reader: &mut Reader) -> Result<Transition, ReadError>
     ensures { Gives result transition reader.old reader.new }
@@ -237,15 +278,13 @@ fn transition(reader: &mut Reader) -> Result<Transition, ReadError>
     let spot = spot(reader)?;
     let name = label(reader)?;
     let source = source(reader)?;
-    let condition = transition_condition(reader)?;
-    let targets = transition_targets(reader)?;
-    reader.sign(b";")?;
+    let effect = transition_effect(reader)?;
     Ok(Transition {
         name,
         spot,
         source,
-        condition,
-        targets,
+        condition: effect.condition,
+        targets: effect.targets,
     })
 }
 
@@ -253,9 +292,9 @@ fn transition(reader: &mut Reader) -> Result<Transition, ReadError>
 #[tactic(auto, unfolding(crate::specs::Machines::transitions_after))]
 pub(crate) fn transitions_after(
     reader: &mut Reader,
-    transitions: List<Transition>,
-) -> Result<List<Transition>, ReadError>
-    ensures { Gives result (transitions_after transitions) reader.old reader.new }
+    transitions: &mut List<Transition>,
+) -> Result<(), ReadError>
+    ensures { Gives (given result transitions.new) (transitions_after transitions.old) reader.old reader.new }
 {
     reader.word(b"transitions")?;
     reader.more_parts::<Transitions>(transitions)
@@ -284,66 +323,57 @@ fn first_place(earlier: Option<Spot>, spot: Spot) -> Option<Spot>
 }
 
 #[tactic(auto, unfolding(crate::specs::Machines::machine_uses))]
-fn machine_uses(reader: &mut Reader, machine: MachineDecl) -> Result<MachineDecl, ReadError>
-    ensures { Gives result (machine_uses machine) reader.old reader.new }
+fn machine_uses(reader: &mut Reader, machine: &mut MachineDecl) -> Result<(), ReadError>
+    ensures { Gives (given result machine.new) (machine_uses machine.old) reader.old reader.new }
 {
-    let uses = use_types_after(reader, machine.uses)?;
-    Ok(MachineDecl { uses, ..machine })
+    use_types_after(reader, &mut machine.uses)?;
+    Ok(())
 }
 
 #[tactic(auto, unfolding(crate::specs::Machines::machine_transforms))]
-fn machine_transforms(reader: &mut Reader, machine: MachineDecl) -> Result<MachineDecl, ReadError>
-    ensures { Gives result (machine_transforms machine) reader.old reader.new }
+fn machine_transforms(reader: &mut Reader, machine: &mut MachineDecl) -> Result<(), ReadError>
+    ensures { Gives (given result machine.new) (machine_transforms machine.old) reader.old reader.new }
 {
     let spot = use_transformations(reader)?;
-    let transforms = first_place(machine.transforms, spot);
-    Ok(MachineDecl {
-        transforms,
-        ..machine
-    })
+    machine.transforms = first_place(machine.transforms, spot);
+    Ok(())
 }
 
 #[tactic(auto, unfolding(crate::specs::Machines::machine_events))]
-fn machine_events(reader: &mut Reader, machine: MachineDecl) -> Result<MachineDecl, ReadError>
-    ensures { Gives result (machine_events machine) reader.old reader.new }
+fn machine_events(reader: &mut Reader, machine: &mut MachineDecl) -> Result<(), ReadError>
+    ensures { Gives (given result machine.new) (machine_events machine.old) reader.old reader.new }
 {
-    let events = events_after(reader, machine.events)?;
-    Ok(MachineDecl { events, ..machine })
+    events_after(reader, &mut machine.events)?;
+    Ok(())
 }
 
 #[tactic(auto, unfolding(crate::specs::Machines::machine_states))]
-fn machine_states(reader: &mut Reader, machine: MachineDecl) -> Result<MachineDecl, ReadError>
-    ensures { Gives result (machine_states machine) reader.old reader.new }
+fn machine_states(reader: &mut Reader, machine: &mut MachineDecl) -> Result<(), ReadError>
+    ensures { Gives (given result machine.new) (machine_states machine.old) reader.old reader.new }
 {
-    let states = states_after(reader, machine.states)?;
-    Ok(MachineDecl { states, ..machine })
+    states_after(reader, &mut machine.states)?;
+    Ok(())
 }
 
 #[tactic(auto, unfolding(crate::specs::Machines::machine_transitions))]
-fn machine_transitions(reader: &mut Reader, machine: MachineDecl) -> Result<MachineDecl, ReadError>
-    ensures { Gives result (machine_transitions machine) reader.old reader.new }
+fn machine_transitions(reader: &mut Reader, machine: &mut MachineDecl) -> Result<(), ReadError>
+    ensures { Gives (given result machine.new) (machine_transitions machine.old) reader.old reader.new }
 {
-    let transitions = transitions_after(reader, machine.transitions)?;
-    Ok(MachineDecl {
-        transitions,
-        ..machine
-    })
+    transitions_after(reader, &mut machine.transitions)?;
+    Ok(())
 }
 
 #[tactic(auto, unfolding(crate::specs::Machines::machine_properties))]
-fn machine_properties(reader: &mut Reader, machine: MachineDecl) -> Result<MachineDecl, ReadError>
-    ensures { Gives result (machine_properties machine) reader.old reader.new }
+fn machine_properties(reader: &mut Reader, machine: &mut MachineDecl) -> Result<(), ReadError>
+    ensures { Gives (given result machine.new) (machine_properties machine.old) reader.old reader.new }
 {
-    let associations = properties_after(reader, machine.associations)?;
-    Ok(MachineDecl {
-        associations,
-        ..machine
-    })
+    properties_after(reader, &mut machine.associations)?;
+    Ok(())
 }
 
 #[tactic(auto, unfolding(crate::specs::Machines::machine_use))]
-fn machine_use(reader: &mut Reader, machine: MachineDecl) -> Result<MachineDecl, ReadError>
-    ensures { Gives result (machine_use machine) reader.old reader.new }
+fn machine_use(reader: &mut Reader, machine: &mut MachineDecl) -> Result<(), ReadError>
+    ensures { Gives (given result machine.new) (machine_use machine.old) reader.old reader.new }
 {
     if reader.word_at(0, b"use") && reader.word_at(1, b"types") {
         return machine_uses(reader, machine);
@@ -352,8 +382,8 @@ fn machine_use(reader: &mut Reader, machine: MachineDecl) -> Result<MachineDecl,
 }
 
 #[tactic(auto, unfolding(crate::specs::Machines::machine_other))]
-fn machine_other(reader: &mut Reader, machine: MachineDecl) -> Result<MachineDecl, ReadError>
-    ensures { Gives result (machine_other machine) reader.old reader.new }
+fn machine_other(reader: &mut Reader, machine: &mut MachineDecl) -> Result<(), ReadError>
+    ensures { Gives (given result machine.new) (machine_other machine.old) reader.old reader.new }
 {
     if reader.word_at(0, b"states") {
         return machine_states(reader, machine);
@@ -365,8 +395,8 @@ fn machine_other(reader: &mut Reader, machine: MachineDecl) -> Result<MachineDec
 }
 
 #[tactic(auto, unfolding(crate::specs::Machines::machine_block))]
-fn machine_block(reader: &mut Reader, machine: MachineDecl) -> Result<MachineDecl, ReadError>
-    ensures { Gives result (machine_block machine) reader.old reader.new }
+fn machine_block(reader: &mut Reader, machine: &mut MachineDecl) -> Result<(), ReadError>
+    ensures { Gives (given result machine.new) (machine_block machine.old) reader.old reader.new }
 {
     if reader.word_at(0, b"use") {
         return machine_use(reader, machine);
@@ -378,8 +408,8 @@ fn machine_block(reader: &mut Reader, machine: MachineDecl) -> Result<MachineDec
 }
 
 #[tactic(auto, unfolding(crate::specs::Machines::machine_blocks))]
-fn machine_blocks(reader: &mut Reader, machine: MachineDecl) -> Result<MachineDecl, ReadError>
-    ensures { Gives result (machine_blocks machine) reader.old reader.new }
+fn machine_blocks(reader: &mut Reader, machine: &mut MachineDecl) -> Result<(), ReadError>
+    ensures { Gives (given result machine.new) (machine_blocks machine.old) reader.old reader.new }
 {
     reader.gather::<MachineBlocks>(machine)
 }
@@ -425,8 +455,8 @@ pub(crate) fn machine(reader: &mut Reader) -> Result<MachineDecl, ReadError>
 {
     reader.word(b"error")?;
     reader.word(b"behavior")?;
-    let head = machine_head(reader)?;
-    let machine = machine_blocks(reader, head)?;
+    let mut machine = machine_head(reader)?;
+    machine_blocks(reader, &mut machine)?;
     block_end(reader, b"behavior")?;
     Ok(machine)
 }
@@ -508,7 +538,7 @@ impl Gathered for FurtherBranches {
         reader.sign_at(0, b",")
     }
 
-    fn part(reader: &mut Reader, whole: List<StateRef>) -> Result<List<StateRef>, ReadError> {
+    fn part(reader: &mut Reader, whole: &mut List<StateRef>) -> Result<(), ReadError> {
         further_branch(reader, whole)
     }
 
@@ -529,7 +559,7 @@ impl Gathered for MachineBlocks {
         machine_block_at(reader)
     }
 
-    fn part(reader: &mut Reader, whole: MachineDecl) -> Result<MachineDecl, ReadError> {
+    fn part(reader: &mut Reader, whole: &mut MachineDecl) -> Result<(), ReadError> {
         machine_block(reader, whole)
     }
 

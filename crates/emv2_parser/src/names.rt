@@ -1,14 +1,21 @@
 ghost use Rattle.std.specs.Prelude.{◌≡◌, [], ◌∷◌, ◌++◌, codes};
-ghost use Rattle.grammar_rules.specs.Reader.{Gives};
+ghost use Rattle.grammar_rules.specs.Reader.{Gives, given};
 ghost use Rattle.grammar_rules.specs.Rules.{chooses};
 ghost use Rattle.grammar_rules.specs.Tokens.{is_sign, is_word, is_one_of};
 ghost use Rattle.emv2_parser.specs.Words.{is_name, point_words};
-ghost use Rattle.emv2_parser.specs.Names.{spot, further_name, names, reference, further_reference, references_after, use_types_after, tail_end, block_end, dotted_name, dotted_names, point_word, point, factor, product, set_term, further_term, type_set, optional_set, state_reference, label};
+ghost use Rattle.emv2_parser.specs.Names.{spot, further_name, names, reference, further_reference, references_after, use_types_after, tail_end, block_end, dotted_name, dotted_names, point_word, point, factor, product, set_term, further_term, type_set, optional_set, flow_end, state_reference, label};
 ghost use Rattle.emv2_parser.specs.Takes.{further_name-takes, further_reference-takes, dotted_name-takes, factor-takes, further_term-takes};
 
 use crate::words::{error_name, name_at, point_name, point_word_at};
 use aadl_syntax::{List, Name, PointRef, Ref, Spot, StateRef, Term, TypeSet};
 use grammar_rules::{Parts, ReadError, Reader, Tail};
+
+/// A point, perhaps with a set of types.
+#[derive(Drop)]
+pub(crate) struct FlowEnd {
+    pub(crate) point: PointRef,
+    pub(crate) set: Option<TypeSet>,
+}
 
 /// The place of the next token; refused at the end.
 #[tactic(auto, unfolding(crate::specs::Names::spot))]
@@ -61,11 +68,8 @@ fn further_reference(reader: &mut Reader) -> Result<Ref, ReadError>
 
 /// Reads references with commas between them, and gives them after others.
 #[tactic(auto, unfolding(crate::specs::Names::references_after))]
-pub(crate) fn references_after(
-    reader: &mut Reader,
-    mut refs: List<Ref>,
-) -> Result<List<Ref>, ReadError>
-    ensures { Gives result (references_after refs) reader.old reader.new }
+pub(crate) fn references_after(reader: &mut Reader, refs: &mut List<Ref>) -> Result<(), ReadError>
+    ensures { Gives (given result refs.new) (references_after refs.old) reader.old reader.new }
 {
     let first = reference(reader)?;
     refs.push(first)?;
@@ -74,22 +78,22 @@ pub(crate) fn references_after(
 
 /// Reads a `use types`, and gives its libraries after others.
 #[tactic(auto, unfolding(crate::specs::Names::use_types_after))]
-pub(crate) fn use_types_after(reader: &mut Reader, uses: List<Ref>) -> Result<List<Ref>, ReadError>
-    ensures { Gives result (use_types_after uses) reader.old reader.new }
+pub(crate) fn use_types_after(reader: &mut Reader, uses: &mut List<Ref>) -> Result<(), ReadError>
+    ensures { Gives (given result uses.new) (use_types_after uses.old) reader.old reader.new }
 {
     reader.word(b"use")?;
     reader.word(b"types")?;
-    let uses = references_after(reader, uses)?;
+    references_after(reader, uses)?;
     reader.sign(b";")?;
-    Ok(uses)
+    Ok(())
 }
 
 /// Reads the rest of an item, up to its semicolon.
 #[tactic(auto, unfolding(crate::specs::Names::tail_end))]
-pub fn tail_end(reader: &mut Reader) -> Result<(), ReadError>
+pub(crate) fn tail_end(reader: &mut Reader) -> Result<(), ReadError>
     ensures { Gives result tail_end reader.old reader.new }
 {
-    reader.until::<Tail>()?;
+    reader.until_inside::<Tail>()?;
     reader.sign(b";")
 }
 
@@ -216,6 +220,16 @@ pub(crate) fn optional_set(reader: &mut Reader) -> Result<Option<TypeSet>, ReadE
         return Ok(Some(type_set(reader)?));
     }
     Ok(None)
+}
+
+/// Reads a point, perhaps with a set of types.
+#[tactic(auto, unfolding(crate::specs::Names::flow_end))]
+pub(crate) fn flow_end(reader: &mut Reader) -> Result<FlowEnd, ReadError>
+    ensures { Gives result flow_end reader.old reader.new }
+{
+    let point = point(reader)?;
+    let set = optional_set(reader)?;
+    Ok(FlowEnd { point, set })
 }
 
 /// Reads a state, perhaps with a set of types.

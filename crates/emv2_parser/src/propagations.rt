@@ -1,21 +1,31 @@
 ghost use Rattle.std.specs.Prelude.{◌≡◌, [], ◌∷◌, codes};
-ghost use Rattle.grammar_rules.specs.Reader.{Gives};
+ghost use Rattle.grammar_rules.specs.Reader.{Gives, given};
 ghost use Rattle.emv2_parser.specs.Words.{is_name, begins_point};
-ghost use Rattle.emv2_parser.specs.Propagations.{negation, direction, point_item, when_part, source_state, source_flow, sink_flow, flow_mappings, path_flow, flow_kind, flow, flows_after, points_after, propagations_head, propagations_after, clause_propagations};
+ghost use Rattle.emv2_parser.specs.Propagations.{negation, direction, propagation_words, point_item, when_part, source_state, source_flow, sink_flow, flow_mappings, path_target, path_flow, flow_kind, flow_words, flow, flows_after, points_after, propagations_head, clause_propagations};
 ghost use Rattle.emv2_parser.specs.Takes.{point_item-takes, flow-takes};
 
 use crate::names::{
-    block_end, names, optional_set, point, spot, state_reference, tail_end, type_set,
+    FlowEnd, block_end, flow_end, names, point, spot, state_reference, tail_end, type_set,
 };
 use crate::words::{error_name, name_at, point_at};
-use aadl_syntax::{Emv2Clause, Flow, FlowKind, List, PointItem, Spot, StateRef, TokenKind};
+use aadl_syntax::{
+    Emv2Clause, Flow, FlowKind, List, PointItem, Spot, StateRef, TokenKind, TypeSet,
+};
 use grammar_rules::{Parts, ReadError, Reader};
 
-/// The declared propagations of points, and the flows.
+/// What follows the point of a propagation.
 #[derive(Drop)]
-pub(crate) struct Propagations {
-    pub(crate) points: List<PointItem>,
-    pub(crate) flows: List<Flow>,
+pub(crate) struct PropagationWords {
+    pub(crate) negative: bool,
+    pub(crate) outward: bool,
+    pub(crate) set: TypeSet,
+}
+
+/// What follows the first end of a path.
+#[derive(Drop)]
+pub(crate) struct PathTarget {
+    pub(crate) to: FlowEnd,
+    pub(crate) mappings: Option<Spot>,
 }
 
 #[tactic(auto, unfolding(crate::specs::Propagations::negation))]
@@ -43,21 +53,33 @@ fn direction(reader: &mut Reader) -> Result<bool, ReadError>
     Ok(true)
 }
 
+#[tactic(auto, unfolding(crate::specs::Propagations::propagation_words))]
+fn propagation_words(reader: &mut Reader) -> Result<PropagationWords, ReadError>
+    ensures { Gives result propagation_words reader.old reader.new }
+{
+    let negative = negation(reader)?;
+    let outward = direction(reader)?;
+    let set = type_set(reader)?;
+    tail_end(reader)?;
+    Ok(PropagationWords {
+        negative,
+        outward,
+        set,
+    })
+}
+
 #[tactic(auto, unfolding(crate::specs::Propagations::point_item))]
 fn point_item(reader: &mut Reader) -> Result<PointItem, ReadError>
     ensures { Gives result point_item reader.old reader.new }
 {
     let point = point(reader)?;
     reader.sign(b":")?;
-    let negative = negation(reader)?;
-    let outward = direction(reader)?;
-    let set = type_set(reader)?;
-    tail_end(reader)?;
+    let propagation_words = propagation_words(reader)?;
     Ok(PointItem {
         point,
-        negative,
-        outward,
-        set,
+        negative: propagation_words.negative,
+        outward: propagation_words.outward,
+        set: propagation_words.set,
     })
 }
 
@@ -92,10 +114,9 @@ fn source_flow(reader: &mut Reader) -> Result<FlowKind, ReadError>
     ensures { Gives result source_flow reader.old reader.new }
 {
     reader.word(b"source")?;
-    let point = point(reader)?;
-    let set = optional_set(reader)?;
+    let end = flow_end(reader)?;
     let state = source_state(reader)?;
-    Ok(FlowKind::Source(point, set, state))
+    Ok(FlowKind::Source(end.point, end.set, state))
 }
 
 #[tactic(auto, unfolding(crate::specs::Propagations::sink_flow))]
@@ -103,9 +124,8 @@ fn sink_flow(reader: &mut Reader) -> Result<FlowKind, ReadError>
     ensures { Gives result sink_flow reader.old reader.new }
 {
     reader.word(b"sink")?;
-    let point = point(reader)?;
-    let set = optional_set(reader)?;
-    Ok(FlowKind::Sink(point, set))
+    let end = flow_end(reader)?;
+    Ok(FlowKind::Sink(end.point, end.set))
 }
 
 #[tactic(auto, unfolding(crate::specs::Propagations::flow_mappings))]
@@ -122,18 +142,25 @@ fn flow_mappings(reader: &mut Reader) -> Result<Option<Spot>, ReadError>
     Ok(Some(spot))
 }
 
+#[tactic(auto, unfolding(crate::specs::Propagations::path_target))]
+fn path_target(reader: &mut Reader) -> Result<PathTarget, ReadError>
+    ensures { Gives result path_target reader.old reader.new }
+{
+    reader.sign(b"->")?;
+    let to = flow_end(reader)?;
+    let mappings = flow_mappings(reader)?;
+    Ok(PathTarget { to, mappings })
+}
+
 #[tactic(auto, unfolding(crate::specs::Propagations::path_flow))]
 fn path_flow(reader: &mut Reader) -> Result<FlowKind, ReadError>
     ensures { Gives result path_flow reader.old reader.new }
 {
     reader.word(b"path")?;
-    let from = point(reader)?;
-    let from_set = optional_set(reader)?;
-    reader.sign(b"->")?;
-    let to = point(reader)?;
-    let to_set = optional_set(reader)?;
-    let mappings = flow_mappings(reader)?;
-    Ok(FlowKind::Path(from, from_set, to, to_set, mappings))
+    let from = flow_end(reader)?;
+    let target = path_target(reader)?;
+    let to = target.to;
+    Ok(FlowKind::Path(from.point, from.set, to.point, to.set, target.mappings))
 }
 
 #[tactic(auto, unfolding(crate::specs::Propagations::flow_kind))]
@@ -149,6 +176,16 @@ fn flow_kind(reader: &mut Reader) -> Result<FlowKind, ReadError>
     path_flow(reader)
 }
 
+#[tactic(auto, unfolding(crate::specs::Propagations::flow_words))]
+fn flow_words(reader: &mut Reader) -> Result<FlowKind, ReadError>
+    ensures { Gives result flow_words reader.old reader.new }
+{
+    reader.word(b"error")?;
+    let kind = flow_kind(reader)?;
+    tail_end(reader)?;
+    Ok(kind)
+}
+
 #[tactic(auto, unfolding(crate::specs::Propagations::flow))]
 fn flow(reader: &mut Reader) -> Result<Flow, ReadError>
     ensures { Gives result flow reader.old reader.new }
@@ -156,26 +193,24 @@ fn flow(reader: &mut Reader) -> Result<Flow, ReadError>
     let spot = spot(reader)?;
     let name = error_name(reader)?;
     reader.sign(b":")?;
-    reader.word(b"error")?;
-    let kind = flow_kind(reader)?;
-    tail_end(reader)?;
+    let kind = flow_words(reader)?;
     Ok(Flow { name, spot, kind })
 }
 
 #[tactic(auto, unfolding(crate::specs::Propagations::flows_after))]
-fn flows_after(reader: &mut Reader, flows: List<Flow>) -> Result<List<Flow>, ReadError>
-    ensures { Gives result (flows_after flows) reader.old reader.new }
+fn flows_after(reader: &mut Reader, flows: &mut List<Flow>) -> Result<(), ReadError>
+    ensures { Gives (given result flows.new) (flows_after flows.old) reader.old reader.new }
 {
     if !reader.word_at(0, b"flows") {
-        return Ok(flows);
+        return Ok(());
     }
     reader.word(b"flows")?;
     reader.more_parts::<Flows>(flows)
 }
 
 #[tactic(auto, unfolding(crate::specs::Propagations::points_after))]
-fn points_after(reader: &mut Reader, points: List<PointItem>) -> Result<List<PointItem>, ReadError>
-    ensures { Gives result (points_after points) reader.old reader.new }
+fn points_after(reader: &mut Reader, points: &mut List<PointItem>) -> Result<(), ReadError>
+    ensures { Gives (given result points.new) (points_after points.old) reader.old reader.new }
 {
     reader.more_parts::<PointItems>(points)
 }
@@ -188,35 +223,19 @@ fn propagations_head(reader: &mut Reader) -> Result<(), ReadError>
     reader.word(b"propagations")
 }
 
-#[tactic(auto, unfolding(crate::specs::Propagations::propagations_after))]
-fn propagations_after(
-    reader: &mut Reader,
-    points: List<PointItem>,
-    flows: List<Flow>,
-) -> Result<Propagations, ReadError>
-    ensures { Gives result (propagations_after points flows) reader.old reader.new }
-{
-    propagations_head(reader)?;
-    let points = points_after(reader, points)?;
-    let flows = flows_after(reader, flows)?;
-    block_end(reader, b"propagations")?;
-    Ok(Propagations { points, flows })
-}
-
 /// Reads the propagations and flows of a clause, as a part of it.
 #[tactic(auto, unfolding(crate::specs::Propagations::clause_propagations))]
 pub(crate) fn clause_propagations(
     reader: &mut Reader,
-    clause: Emv2Clause,
-) -> Result<Emv2Clause, ReadError>
-    ensures { Gives result (clause_propagations clause) reader.old reader.new }
+    clause: &mut Emv2Clause,
+) -> Result<(), ReadError>
+    ensures { Gives (given result clause.new) (clause_propagations clause.old) reader.old reader.new }
 {
-    let all = propagations_after(reader, clause.points, clause.flows)?;
-    Ok(Emv2Clause {
-        points: all.points,
-        flows: all.flows,
-        ..clause
-    })
+    propagations_head(reader)?;
+    points_after(reader, &mut clause.points)?;
+    flows_after(reader, &mut clause.flows)?;
+    block_end(reader, b"propagations")?;
+    Ok(())
 }
 
 // The propagations of a block.

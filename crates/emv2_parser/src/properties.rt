@@ -1,9 +1,9 @@
 ghost use Rattle.std.specs.Prelude.{◌≡◌, [], ◌∷◌, ◌||◌, IfOk, codes};
-ghost use Rattle.grammar_rules.specs.Reader.{Gives, Begins};
+ghost use Rattle.grammar_rules.specs.Reader.{Gives, Begins, given};
 ghost use Rattle.grammar_rules.specs.Spans.{closes};
 ghost use Rattle.grammar_rules.specs.Tokens.{is_sign, is_word};
 ghost use Rattle.emv2_parser.specs.Words.{is_name};
-ghost use Rattle.emv2_parser.specs.Properties.{begins_value, value, arrow, begins_step, path_sign, path_step, path_steps, further_targets, no_path, with_name, with_dot, with_sign, with_target, target_after, further_target, targets, association, properties_after};
+ghost use Rattle.emv2_parser.specs.Properties.{begins_value, value, arrow, begins_step, path_sign, path_step, path_steps, further_targets, no_path, with_name, with_dot, with_sign, with_target, whole_path, target_after, further_target, applied_targets, targets, assigned_value, association, properties_after};
 ghost use Rattle.emv2_parser.specs.Takes.{path_step-takes, further_target-takes, association-takes};
 
 use crate::names::names;
@@ -21,45 +21,43 @@ pub(crate) struct TargetPath {
     pub(crate) after_name: bool,
 }
 
-fn with_name(path: TargetPath, name: Name) -> Mem<TargetPath>
-    ensures { IfOk result (λ longer. longer ≡ with_name path name) }
-{
-    let mut names = path.names;
-    names.push(name)?;
-    Ok(TargetPath {
-        names,
-        is_plain: path.is_plain && !path.after_name,
-        after_name: true,
-    })
+/// What follows the name of an association.
+#[derive(Drop)]
+pub(crate) struct AssignedValue {
+    pub(crate) value: List<Token>,
+    pub(crate) targets: List<List<Name>>,
 }
 
-fn with_dot(path: TargetPath) -> TargetPath
-    ensures { result ≡ with_dot path }
+fn with_name(path: &mut TargetPath, name: Name) -> Mem<()>
+    ensures { IfOk result (λ _. path.new ≡ with_name path.old name) }
 {
-    TargetPath {
-        names: path.names,
-        is_plain: path.is_plain && path.after_name,
-        after_name: false,
-    }
+    path.names.push(name)?;
+    path.is_plain = path.is_plain && !path.after_name;
+    path.after_name = true;
+    Ok(())
 }
 
-fn with_sign(path: TargetPath) -> TargetPath
-    ensures { result ≡ with_sign path }
+fn with_dot(path: &mut TargetPath)
+    ensures { path.new ≡ with_dot path.old }
 {
-    TargetPath {
-        names: path.names,
-        is_plain: false,
-        after_name: false,
-    }
+    path.is_plain = path.is_plain && path.after_name;
+    path.after_name = false;
 }
 
-fn with_target(mut targets: List<List<Name>>, path: TargetPath) -> Mem<List<List<Name>>>
-    ensures { IfOk result (λ more. more ≡ with_target targets path) }
+fn with_sign(path: &mut TargetPath)
+    ensures { path.new ≡ with_sign path.old }
+{
+    path.is_plain = false;
+    path.after_name = false;
+}
+
+fn with_target(targets: &mut List<List<Name>>, path: TargetPath) -> Mem<()>
+    ensures { IfOk result (λ _. targets.new ≡ with_target targets.old path) }
 {
     if path.is_plain && path.after_name {
         targets.push(path.names)?;
     }
-    Ok(targets)
+    Ok(())
 }
 
 // The tokens of a value.
@@ -132,7 +130,7 @@ fn value(reader: &mut Reader) -> Result<List<Token>, ReadError>
     if !value_at(reader) {
         return Err(ReadError::Refused);
     }
-    let tokens = reader.until::<ValueTokens>()?;
+    let tokens = reader.until_inside::<ValueTokens>()?;
     Ok(copies_of(reader.alloc(), tokens)?)
 }
 
@@ -157,8 +155,8 @@ fn path_sign(reader: &mut Reader) -> Result<(), ReadError>
 }
 
 #[tactic(auto, unfolding(crate::specs::Properties::path_step))]
-fn path_step(reader: &mut Reader, path: TargetPath) -> Result<TargetPath, ReadError>
-    ensures { Gives result (path_step path) reader.old reader.new }
+fn path_step(reader: &mut Reader, path: &mut TargetPath) -> Result<(), ReadError>
+    ensures { Gives (given result path.new) (path_step path.old) reader.old reader.new }
 {
     if name_at(reader, 0) {
         let name = error_name(reader)?;
@@ -170,77 +168,97 @@ fn path_step(reader: &mut Reader, path: TargetPath) -> Result<TargetPath, ReadEr
     }
     if reader.sign_at(0, b".") {
         reader.sign(b".")?;
-        return Ok(with_dot(path));
+        with_dot(path);
+        return Ok(());
     }
     path_sign(reader)?;
-    Ok(with_sign(path))
+    with_sign(path);
+    Ok(())
 }
 
 // The first step of a path.
 fn first_step(reader: &mut Reader) -> Result<TargetPath, ReadError>
     ensures { Gives result (path_step no_path) reader.old reader.new }
 {
-    let path = TargetPath {
+    let mut path = TargetPath {
         names: List::new(reader.alloc()),
         is_plain: true,
         after_name: false,
     };
-    path_step(reader, path)
+    path_step(reader, &mut path)?;
+    Ok(path)
 }
 
 #[tactic(auto, unfolding(crate::specs::Properties::path_steps))]
-fn path_steps(reader: &mut Reader, path: TargetPath) -> Result<TargetPath, ReadError>
-    ensures { Gives result (path_steps path) reader.old reader.new }
+fn path_steps(reader: &mut Reader, path: &mut TargetPath) -> Result<(), ReadError>
+    ensures { Gives (given result path.new) (path_steps path.old) reader.old reader.new }
 {
     reader.gather::<PathSteps>(path)
 }
 
+#[tactic(auto, unfolding(crate::specs::Properties::whole_path))]
+fn whole_path(reader: &mut Reader) -> Result<TargetPath, ReadError>
+    ensures { Gives result whole_path reader.old reader.new }
+{
+    let mut path = first_step(reader)?;
+    path_steps(reader, &mut path)?;
+    Ok(path)
+}
+
 #[tactic(auto, unfolding(crate::specs::Properties::further_targets))]
-fn further_targets(
-    reader: &mut Reader,
-    targets: List<List<Name>>,
-) -> Result<List<List<Name>>, ReadError>
-    ensures { Gives result (further_targets targets) reader.old reader.new }
+fn further_targets(reader: &mut Reader, targets: &mut List<List<Name>>) -> Result<(), ReadError>
+    ensures { Gives (given result targets.new) (further_targets targets.old) reader.old reader.new }
 {
     reader.gather::<FurtherTargets>(targets)
 }
 
 /// Reads a path, and gives the targets with it if it is one.
 #[tactic(auto, unfolding(crate::specs::Properties::target_after))]
-fn target_after(
-    reader: &mut Reader,
-    targets: List<List<Name>>,
-) -> Result<List<List<Name>>, ReadError>
-    ensures { Gives result (target_after targets) reader.old reader.new }
+fn target_after(reader: &mut Reader, targets: &mut List<List<Name>>) -> Result<(), ReadError>
+    ensures { Gives (given result targets.new) (target_after targets.old) reader.old reader.new }
 {
-    let first = first_step(reader)?;
-    let path = path_steps(reader, first)?;
+    let path = whole_path(reader)?;
     Ok(with_target(targets, path)?)
 }
 
 #[tactic(auto, unfolding(crate::specs::Properties::further_target))]
-fn further_target(
-    reader: &mut Reader,
-    targets: List<List<Name>>,
-) -> Result<List<List<Name>>, ReadError>
-    ensures { Gives result (further_target targets) reader.old reader.new }
+fn further_target(reader: &mut Reader, targets: &mut List<List<Name>>) -> Result<(), ReadError>
+    ensures { Gives (given result targets.new) (further_target targets.old) reader.old reader.new }
 {
     reader.sign(b",")?;
     target_after(reader, targets)
+}
+
+#[tactic(auto, unfolding(crate::specs::Properties::applied_targets))]
+fn applied_targets(reader: &mut Reader, targets: &mut List<List<Name>>) -> Result<(), ReadError>
+    ensures { Gives (given result targets.new) (applied_targets targets.old) reader.old reader.new }
+{
+    reader.word(b"applies")?;
+    reader.word(b"to")?;
+    target_after(reader, targets)?;
+    further_targets(reader, targets)
 }
 
 #[tactic(auto, unfolding(crate::specs::Properties::targets))]
 fn targets(reader: &mut Reader) -> Result<List<List<Name>>, ReadError>
     ensures { Gives result targets reader.old reader.new }
 {
-    let none = List::new(reader.alloc());
-    if !reader.word_at(0, b"applies") {
-        return Ok(none);
+    let mut targets = List::new(reader.alloc());
+    if reader.word_at(0, b"applies") {
+        applied_targets(reader, &mut targets)?;
     }
-    reader.word(b"applies")?;
-    reader.word(b"to")?;
-    let first = target_after(reader, none)?;
-    further_targets(reader, first)
+    Ok(targets)
+}
+
+#[tactic(auto, unfolding(crate::specs::Properties::assigned_value))]
+fn assigned_value(reader: &mut Reader) -> Result<AssignedValue, ReadError>
+    ensures { Gives result assigned_value reader.old reader.new }
+{
+    arrow(reader)?;
+    let value = value(reader)?;
+    let targets = targets(reader)?;
+    reader.sign(b";")?;
+    Ok(AssignedValue { value, targets })
 }
 
 #[tactic(auto, unfolding(crate::specs::Properties::association))]
@@ -248,14 +266,11 @@ fn association(reader: &mut Reader) -> Result<Association, ReadError>
     ensures { Gives result association reader.old reader.new }
 {
     let name = names(reader)?;
-    arrow(reader)?;
-    let value = value(reader)?;
-    let targets = targets(reader)?;
-    reader.sign(b";")?;
+    let assigned_value = assigned_value(reader)?;
     Ok(Association {
         name,
-        value,
-        targets,
+        value: assigned_value.value,
+        targets: assigned_value.targets,
     })
 }
 
@@ -263,9 +278,9 @@ fn association(reader: &mut Reader) -> Result<Association, ReadError>
 #[tactic(auto, unfolding(crate::specs::Properties::properties_after))]
 pub(crate) fn properties_after(
     reader: &mut Reader,
-    associations: List<Association>,
-) -> Result<List<Association>, ReadError>
-    ensures { Gives result (properties_after associations) reader.old reader.new }
+    associations: &mut List<Association>,
+) -> Result<(), ReadError>
+    ensures { Gives (given result associations.new) (properties_after associations.old) reader.old reader.new }
 {
     reader.word(b"properties")?;
     reader.more_parts::<Associations>(associations)
@@ -285,7 +300,7 @@ impl Gathered for PathSteps {
         step_at(reader)
     }
 
-    fn part(reader: &mut Reader, whole: TargetPath) -> Result<TargetPath, ReadError> {
+    fn part(reader: &mut Reader, whole: &mut TargetPath) -> Result<(), ReadError> {
         path_step(reader, whole)
     }
 
@@ -306,7 +321,7 @@ impl Gathered for FurtherTargets {
         reader.sign_at(0, b",")
     }
 
-    fn part(reader: &mut Reader, whole: List<List<Name>>) -> Result<List<List<Name>>, ReadError> {
+    fn part(reader: &mut Reader, whole: &mut List<List<Name>>) -> Result<(), ReadError> {
         further_target(reader, whole)
     }
 

@@ -1,5 +1,5 @@
 ghost use Rattle.std.specs.Prelude.{◌≡◌, [], ◌∷◌, codes};
-ghost use Rattle.grammar_rules.specs.Reader.{Gives};
+ghost use Rattle.grammar_rules.specs.Reader.{Gives, given};
 ghost use Rattle.grammar_rules.specs.Tokens.{is_word};
 ghost use Rattle.emv2_parser.specs.Words.{is_name};
 ghost use Rattle.emv2_parser.specs.Names.{use_types_after};
@@ -20,7 +20,7 @@ fn set_kind(reader: &mut Reader) -> Result<TypeKind, ReadError>
     reader.word(b"type")?;
     reader.word(b"set")?;
     let set = type_set(reader)?;
-    reader.until::<Tail>()?;
+    reader.until_inside::<Tail>()?;
     Ok(TypeKind::Set(set))
 }
 
@@ -42,7 +42,7 @@ fn plain_kind(reader: &mut Reader) -> Result<TypeKind, ReadError>
     reader.sign(b":")?;
     reader.word(b"type")?;
     let extended = extended_type(reader)?;
-    reader.until::<Tail>()?;
+    reader.until_inside::<Tail>()?;
     Ok(TypeKind::Plain(extended))
 }
 
@@ -94,21 +94,21 @@ fn type_item(reader: &mut Reader) -> Result<TypeItem, ReadError>
 fn used_types(reader: &mut Reader) -> Result<List<Ref>, ReadError>
     ensures { Gives result used_types reader.old reader.new }
 {
-    let none = List::new(reader.alloc());
-    reader.gather::<UsedTypes>(none)
+    let mut uses = List::new(reader.alloc());
+    reader.gather::<UsedTypes>(&mut uses)?;
+    Ok(uses)
 }
 
 #[tactic(auto, unfolding(crate::specs::Types::types_extends))]
 fn types_extends(reader: &mut Reader) -> Result<List<Ref>, ReadError>
     ensures { Gives result types_extends reader.old reader.new }
 {
-    let none = List::new(reader.alloc());
-    if !reader.word_at(0, b"extends") {
-        return Ok(none);
+    let mut refs = List::new(reader.alloc());
+    if reader.word_at(0, b"extends") {
+        reader.word(b"extends")?;
+        references_after(reader, &mut refs)?;
+        reader.word(b"with")?;
     }
-    reader.word(b"extends")?;
-    let refs = references_after(reader, none)?;
-    reader.word(b"with")?;
     Ok(refs)
 }
 
@@ -116,11 +116,11 @@ fn types_extends(reader: &mut Reader) -> Result<List<Ref>, ReadError>
 fn types_properties(reader: &mut Reader) -> Result<List<Association>, ReadError>
     ensures { Gives result types_properties reader.old reader.new }
 {
-    let none = List::new(reader.alloc());
+    let mut associations = List::new(reader.alloc());
     if reader.word_at(0, b"properties") {
-        return properties_after(reader, none);
+        properties_after(reader, &mut associations)?;
     }
-    Ok(none)
+    Ok(associations)
 }
 
 #[tactic(auto, unfolding(crate::specs::Types::types_body))]
@@ -164,7 +164,7 @@ impl Gathered for UsedTypes {
         reader.word_at(0, b"use")
     }
 
-    fn part(reader: &mut Reader, whole: List<Ref>) -> Result<List<Ref>, ReadError> {
+    fn part(reader: &mut Reader, whole: &mut List<Ref>) -> Result<(), ReadError> {
         use_types_after(reader, whole)
     }
 

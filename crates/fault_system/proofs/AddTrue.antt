@@ -1,5 +1,5 @@
 -- What a pass over the facts keeps.
-use Rattle.std.proofs.Common.{ℕ, zero, suc, ◌+◌, ◌≡◌, ◌<◌, ◌≤◌, ◌⊎◌, Bool, true, false, List, [], ◌∷◌, length, set, map, slice_index_or, inl, inr, ⊎_elim, ap, ◌∙◌, sym, refl, subst, arith, below_more, length-set}
+use Rattle.std.proofs.Common.{ℕ, zero, suc, ◌+◌, ◌≡◌, ◌<◌, ◌≤◌, ◌⊎◌, Bool, true, false, List, [], ◌∷◌, length, set, map, slice_index_or, replicate, inl, inr, ⊎_elim, ap, ◌∙◌, sym, refl, subst, arith, below_more, length-set}
 use Rattle.std.proofs.lemmas.Bool.{false≢true}
 use Rattle.fault_system.specs.Truth.{NumberSet, Has, member, count_true, truth}
 use Rattle.fault_system.specs.Systems.{System, applied, IsClosed}
@@ -75,3 +75,18 @@ module _ (system : System) (es : NumberSet) (old now : List Bool) where
   pub Adding-true : (added : Bool) (number : ℕ) (fact : FactInfo) → Adding system es old now added number → length old ≡ length system.facts → number < length system.facts → fact ≡ slice_index_or system.facts number fact → member now number ≡ false → truth es (member now) fact.formula ≡ true → Adding system es old (set now number true) true (number + 1)
   Adding-true added number fact a sized fits is absent e =
       Adding-put added number a (omega (arith, a.size)) absent (member-map _ system.facts number fact fits is ∙ e)
+
+-- a set into which a number of a true fact was put is in each closed set that has the old one
+pub least-put : (system : System) (es : NumberSet) (old : List Bool) (number : ℕ) (fact : FactInfo) → number < length system.facts → fact ≡ slice_index_or system.facts number fact → truth es (member old) fact.formula ≡ true
+    → (closed : NumberSet) → IsClosed system es closed → ((n : ℕ) → Has (member old) n → Has closed n) → (n : ℕ) → Has (member (set old number true)) n → Has closed n
+least-put system es old number fact fits is e closed is_closed has n put =
+    let here : Has (member (applied system es (member old))) number = member-map _ system.facts number fact fits is ∙ e in
+    ⊎_elim (λ same. subst (Has closed) (sym same) (is_closed number (Below-member _ _ (applied-grows es es (member old) closed (λ m h. h) has system) number here)))
+    (λ before. has n before)
+    (member-put old number n put)
+
+-- no number is in a set of false marks
+pub none-replicate : (size n : ℕ) → Has (member (replicate size false)) n → ⊥
+none-replicate zero n e = false≢true e
+none-replicate (suc size) zero e = false≢true e
+none-replicate (suc size) (suc n) e = none-replicate size n e

@@ -5,6 +5,7 @@ mod bits;
 mod checks;
 mod formula;
 mod laws;
+mod places;
 mod system;
 
 pub use bits::Bits;
@@ -12,6 +13,3 @@ pub use checks::{Named, is_system, names_differ};
 pub use formula::{EventInfo, FactInfo, Formula};
 pub use laws::{computed_listing, cover, join, one_listing};
 pub use system::FaultSystem;
-
-#[cfg(test)]
-mod tests;

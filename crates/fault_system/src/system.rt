@@ -3,7 +3,8 @@ ghost use Rattle.std.specs.List.{list_all};
 ghost use Rattle.fault_system.specs.Truth.{NumberSet, Has, member, count_true, set_of};
 
 use crate::bits::Bits;
-use crate::formula::{EventInfo, FactInfo, Formula};
+use crate::formula::{EventInfo, FactInfo};
+use crate::places::order_of;
 use aadl_syntax::{List, Mem};
 use std::alloc::Global;
 use std::marker::Model;
@@ -80,9 +81,40 @@ impl FaultSystem {
             (λ facts. (n : ℕ) → Has (member facts) n ↔ Holds self.now (member events.now) n) }
         ensures computed { IfOk result (λ facts. facts ≡ holds_of self.now (member events.now)) }
     {
+        let order = order_of(alloc, &self.facts, events)?;
         let mut facts = Bits::new(alloc, self.facts())?;
+        self.add_in_order(events, order.as_slice(), &mut facts);
         while self.add_true(events, &mut facts) {}
         Ok(facts)
+    }
+
+    // Adds those of some facts whose formula is true when their turn comes.
+    fn add_in_order(&self, events: &Bits, order: &[u32], facts: &mut Bits)
+        requires { length facts.old ≡ length self.now.facts }
+        ensures size { length facts.new ≡ length facts.old }
+        ensures least { (closed : NumberSet) → IsClosed self.now (member events.now) closed
+            → ((n : ℕ) → Has (member facts.old) n → Has closed n)
+            → (n : ℕ) → Has (member facts.new) n → Has closed n }
+    {
+        for number in order {
+            self.add_if_true(events, *number, facts);
+        }
+    }
+
+    // Adds a fact if its formula is true.
+    fn add_if_true(&self, events: &Bits, number: u32, facts: &mut Bits)
+        requires { length facts.old ≡ length self.now.facts }
+        ensures size { length facts.new ≡ length facts.old }
+        ensures least { (closed : NumberSet) → IsClosed self.now (member events.now) closed
+            → ((n : ℕ) → Has (member facts.old) n → Has closed n)
+            → (n : ℕ) → Has (member facts.new) n → Has closed n }
+    {
+        let items = self.facts.items();
+        if (number as usize) < items.len()
+            && items[number as usize].formula.is_true(events, facts)
+        {
+            facts.put(number);
+        }
     }
 
     // Adds each fact whose formula is true, one after another; whether a fact was added.

@@ -17,6 +17,3 @@ pub use memory::{MemoryFiles, MemorySink};
 pub use outside::{Files, ReadError, Sink, SinkFailed, write_all};
 pub use steps::Steps;
 pub use stream::StdSink;
-
-#[cfg(test)]
-mod tests;

@@ -13,6 +13,3 @@ pub use command::run;
 pub use laws::{one_due, one_output};
 pub use line::write_line;
 pub use status::Status;
-
-#[cfg(test)]
-mod tests;

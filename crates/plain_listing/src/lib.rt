@@ -75,6 +75,3 @@ fn list_if_minimal(
     }
     Ok(())
 }
-
-#[cfg(test)]
-mod tests;

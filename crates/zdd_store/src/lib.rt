@@ -11,6 +11,3 @@ mod store;
 pub use id::{Id, Node};
 pub use question::{Operation, Question};
 pub use store::Store;
-
-#[cfg(test)]
-mod tests;

@@ -1,0 +1,7 @@
+//! Tests of the crates from systems to diagrams, over their public calls, on small cases worked out by hand.
+#![tactic(auto)]
+
+#[cfg(test)]
+mod diagrams;
+#[cfg(test)]
+mod systems;

@@ -1,0 +1,168 @@
+//! Rows that run the tool, with files and sinks in memory.
+
+use crate::expand::number_of;
+use crate::row::{Row, head_and_body};
+use crate::text::Text;
+use aadl_syntax::{List, Mem, Word};
+use fta_outside::{MemoryFiles, MemorySink};
+use fta_run::run;
+use std::alloc::Global;
+
+/// Writes what the row wants: the exit status, the output, and what stands on the error stream.
+pub fn put_wanted(row: &Row, out: &mut Text) {
+    out.put(b"exit ");
+    match row.first(b"exit:") {
+        Some(text) => {
+            out.put(text.bytes());
+            out.refuse_as(&text);
+        }
+        None => out.refuse("the row has no line `exit:`"),
+    }
+    out.put(b"\nout:\n");
+    put_stream(row, b"out", out);
+    out.put(b"err:\n");
+    put_stream(row, b"err", out);
+}
+
+/// Whether the row wants no more than a front of what stands on the error stream.
+pub fn wants_front(row: &Row) -> bool {
+    row.first(b"err begins:").is_some()
+}
+
+fn put_stream(row: &Row, key: &[u8], out: &mut Text) {
+    for line in row.lines(key) {
+        if line.starts_with(key) {
+            let (head, body) = head_and_body(line);
+            row.put(body, out);
+            if head == key {
+                out.put(b"\n");
+            }
+        }
+    }
+}
+
+/// Runs the words of the row, and writes what came.
+pub fn put_found(alloc: Global, row: &Row, found: &mut Text) -> Mem<()> {
+    let words = words_of(alloc, row, found)?;
+    let mut files = MemoryFiles::new(
+        files_of(alloc, row, found)?,
+        numbers_of(alloc, row, b"failing reads:", found)?,
+    );
+    put_run(alloc, row, words.as_slice(), &mut files, found)
+}
+
+fn put_run(
+    alloc: Global,
+    row: &Row,
+    words: &[Word],
+    files: &mut MemoryFiles,
+    found: &mut Text,
+) -> Mem<()> {
+    let writes = numbers_of(alloc, row, b"failing writes:", found)?;
+    let piece = size_of(row, b"piece:", 64, found);
+    let room = size_of(row, b"room:", 65536, found);
+    let mut out = MemorySink::new(alloc, writes, piece, room)?;
+    let lines = numbers_of(alloc, row, b"failing lines:", found)?;
+    let mut err = MemorySink::new(alloc, lines, 5, 4096)?;
+    let status = run(alloc, words, files, &mut out, &mut err);
+    found.put(b"exit ");
+    found.put_number(u64::from(status.exit()));
+    found.put(b"\nout:\n");
+    found.put(out.bytes());
+    found.put(b"err:\n");
+    found.put(err.bytes());
+    Ok(())
+}
+
+/// A word, or the name of a file, of these bytes.
+fn word_of(alloc: Global, bytes: &[u8]) -> Mem<Word> {
+    List::of(Vec::from_slice(alloc, bytes)?)
+}
+
+/// The words of the lines `words:`, which blanks part, and of the lines `word:`, of which each gives one.
+fn words_of(alloc: Global, row: &Row, trouble: &mut Text) -> Mem<Vec<Word>> {
+    let mut words = Vec::new(alloc);
+    for line in row.lines(b"word") {
+        if line.starts_with(b"word") {
+            add_words(alloc, row, line, &mut words, trouble)?;
+        }
+    }
+    Ok(words)
+}
+
+fn add_words(
+    alloc: Global,
+    row: &Row,
+    line: &[u8],
+    words: &mut Vec<Word>,
+    trouble: &mut Text,
+) -> Mem<()> {
+    let (head, body) = head_and_body(line);
+    let text = row.text(body);
+    trouble.refuse_as(&text);
+    if head == b"word".as_slice() {
+        words.push(word_of(alloc, text.bytes())?)?;
+        return Ok(());
+    }
+    for piece in text.bytes().split(|b| *b == b' ') {
+        if !piece.is_empty() {
+            words.push(word_of(alloc, piece)?)?;
+        }
+    }
+    Ok(())
+}
+
+/// The files of the row and of its scene; of two of one name the first counts, which is the row's.
+fn files_of(alloc: Global, row: &Row, trouble: &mut Text) -> Mem<Vec<(Word, Vec<u8>)>> {
+    let mut files = Vec::new(alloc);
+    add_files(alloc, row, row.own, &mut files, trouble)?;
+    add_files(alloc, row, row.scene, &mut files, trouble)?;
+    Ok(files)
+}
+
+fn add_files(
+    alloc: Global,
+    row: &Row,
+    lines: &[&[u8]],
+    files: &mut Vec<(Word, Vec<u8>)>,
+    trouble: &mut Text,
+) -> Mem<()> {
+    for line in lines {
+        let (head, body) = head_and_body(line);
+        if let Some(name) = head.strip_prefix(b"file ") {
+            let text = row.text(body);
+            trouble.refuse_as(&text);
+            files.push((word_of(alloc, name)?, text.into_bytes()))?;
+        }
+    }
+    Ok(())
+}
+
+/// The numbers in the first line of a key.
+fn numbers_of(alloc: Global, row: &Row, key: &[u8], trouble: &mut Text) -> Mem<Vec<u64>> {
+    let mut numbers = Vec::new(alloc);
+    let Some(text) = row.first(key) else {
+        return Ok(numbers);
+    };
+    for word in text.bytes().split(|b| *b == b' ') {
+        match number_of(word) {
+            Some(number) => numbers.push(number)?,
+            None => trouble.refuse("a call that fails is no number"),
+        }
+    }
+    Ok(numbers)
+}
+
+/// The number in the first line of a key, or another one where there is no such line.
+fn size_of(row: &Row, key: &[u8], default: usize, trouble: &mut Text) -> usize {
+    let Some(text) = row.first(key) else {
+        return default;
+    };
+    match number_of(text.bytes()) {
+        Some(number) => number as usize,
+        None => {
+            trouble.refuse("a size is no number");
+            default
+        }
+    }
+}

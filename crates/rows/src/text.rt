@@ -1,0 +1,61 @@
+use itoa::Buffer;
+use std::alloc::Global;
+
+/// A text that is put together piece by piece. It keeps in mind the first thing that went wrong, and goes on.
+#[derive(Drop)]
+pub struct Text {
+    bytes: Vec<u8>,
+    trouble: Option<&'static str>,
+}
+
+impl Text {
+    /// An empty text.
+    pub fn new(alloc: Global) -> Text {
+        Text {
+            bytes: Vec::new(alloc),
+            trouble: None,
+        }
+    }
+
+    /// Adds these bytes.
+    pub fn put(&mut self, piece: &[u8]) {
+        if self.bytes.extend_from_slice(piece).is_err() {
+            self.refuse("memory is wanting");
+        }
+    }
+
+    /// Adds a number in decimal digits.
+    pub fn put_number(&mut self, number: u64) {
+        let mut digits = Buffer::new();
+        self.put(digits.format(number).as_bytes());
+    }
+
+    /// Notes what went wrong, unless something did before.
+    pub fn refuse(&mut self, why: &'static str) {
+        if self.trouble.is_none() {
+            self.trouble = Some(why);
+        }
+    }
+
+    /// What went wrong first.
+    pub fn trouble(&self) -> Option<&'static str> {
+        self.trouble
+    }
+
+    /// Notes what went wrong in another text.
+    pub fn refuse_as(&mut self, other: &Text) {
+        if let Some(why) = other.trouble {
+            self.refuse(why);
+        }
+    }
+
+    /// The bytes so far.
+    pub fn bytes(&self) -> &[u8] {
+        self.bytes.as_slice()
+    }
+
+    /// The bytes, where nothing went wrong.
+    pub fn into_bytes(self) -> Vec<u8> {
+        self.bytes
+    }
+}

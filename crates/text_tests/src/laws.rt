@@ -1,0 +1,41 @@
+//! Each law of the definitions called once, and the numbers with which the program ends.
+
+use aadl_lexer::{one_fault, one_list};
+use aadl_parser::one_file;
+use aadl_syntax::{Code, Place, Refusal, least_is_first, one_first};
+use emv2_parser::{one_clause, one_library};
+use fta_run::{Status, one_due, one_output};
+
+#[test]
+fn laws(_rt: HostRuntime) {
+    least_is_first();
+    one_first();
+    one_list();
+    one_fault();
+    one_library();
+    one_clause();
+    one_file();
+    one_output();
+    one_due();
+}
+
+#[test]
+fn exit_numbers(rt: HostRuntime) {
+    let refusal = Refusal {
+        code: Code::UnknownTarget,
+        place: Place::Words,
+        limit: 0,
+    };
+    let rows = [
+        (Status::Done, 0),
+        (Status::Usage, 1),
+        (Status::Refused(refusal), 2),
+        (Status::ReadFault(3), 4),
+        (Status::WriteFault, 5),
+        (Status::Memory, 7),
+        (Status::NotYet, 8),
+    ];
+    for (status, number) in &rows {
+        assert!(rt; status.exit() == *number);
+    }
+}
