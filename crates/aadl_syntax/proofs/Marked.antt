@@ -1,7 +1,7 @@
 -- Marks in a text that grows.
 use Rattle.std.proofs.Common.{◌≡◌, ℕ, zero, suc, ◌+◌, ◌-◌, ◌<◌, ◌≤◌, ◌^◌, List, [], ◌∷◌, ◌++◌, length, map, take, drop, Option, Some, None, Result, Ok, Err, refl, sym, ◌∙◌, ap, subst, arith, length-append, length-drop}
 use Rattle.std.proofs.lemmas.List.{length-map}
-use Rattle.std.proofs.lemmas.List.{take-append-drop, take-append-le, drop-append-le, map-append}
+use Rattle.std.proofs.lemmas.List.{take-append-drop, take-append-le, drop-append-le, drop-take, length-take, map-append}
 use Rattle.std.proofs.Math.Seq.{drop-append_seam, take-length}
 use Rattle.std.specs.Prelude.{slice_get, MatchOption}
 use Rattle.std.specs.Option.{option_map}
@@ -127,3 +127,34 @@ last_of tokens n found e f = either found (subst (λ (o : Option Token). MatchOp
   either : (o : Option TokenRef) → MatchOption (option_map shown o) (tokens ≡ []) (λ token. EndsWith tokens token) → MatchOption o (tokens ≡ []) (λ token. EndsWith tokens (shown token))
   either None p = p
   either (Some token) p = p
+
+abbrev no_items : (X : Type 0) → List X
+no_items X = []
+
+drop-none : (X : Type 0) (k : ℕ) → drop k (no_items X) ≡ no_items X
+drop-none X zero = refl
+drop-none X (suc k) = refl
+
+drop-drop : {X : Type 0} (n m : ℕ) (xs : List X) → drop m (drop n xs) ≡ drop (n + m) xs
+drop-drop zero m xs = ap (λ k. drop k xs) (let e : m ≡ 0 + m = omega arith in e)
+drop-drop {X = X} (suc n) m [] = drop-none X m ∙ sym (drop-none X (suc n + m))
+drop-drop (suc n) m (x ∷ xs) = drop-drop n m xs ∙ ap (λ k. drop k (x ∷ xs)) (let e : suc (n + m) ≡ suc n + m = omega arith in e)
+
+pub between-rest : {X : Type 0} (xs : List X) (from to count : ℕ) → count ≤ length (between from to xs) → between (from + count) to xs ≡ drop count (between from to xs)
+between-rest xs from to count h =
+    let l = length-take (to - from) (drop from xs) in
+    let within : count ≤ to - from = omega arith in
+    let left : to - (from + count) ≡ (to - from) - count = omega arith in
+    let whole : count + ((to - from) - count) ≡ to - from = omega arith in
+    ap (λ n. take n (drop (from + count) xs)) left ∙ ap (take ((to - from) - count)) (sym (drop-drop from count xs))
+    ∙ sym (drop-take count ((to - from) - count) (drop from xs)) ∙ ap (λ n. drop count (take n (drop from xs))) whole
+
+pub take-more : {X : Type 0} (xs : List X) (n : ℕ) (x : X) → slice_get xs n ≡ Some x → take (n + 1) xs ≡ take n xs ++ x ∷ []
+take-more [] n x e = absurd cc
+take-more (y ∷ xs) zero x e = ap (λ (z : _). z ∷ []) (let f : y ≡ x = cc in f)
+take-more (y ∷ xs) (suc n) x e = ap (λ k. take k (y ∷ xs)) (let f : suc n + 1 ≡ suc (n + 1) = omega arith in f) ∙ ap (λ (zs : List _). y ∷ zs) (take-more xs n x e)
+
+pub none-there : {X : Type 0} (xs : List X) (n : ℕ) → n < length xs → slice_get xs n ≡ None → ⊥
+none-there [] n h e = omega arith
+none-there (x ∷ xs) zero h e = absurd cc
+none-there (x ∷ xs) (suc n) h e = none-there xs n (omega arith) e

@@ -13,6 +13,7 @@ mod order;
 mod place;
 mod refusal;
 mod token;
+mod token_slice;
 mod tokens;
 
 pub use core_model::{
@@ -32,5 +33,6 @@ pub use order::FirstRefusal;
 pub use place::{End, Ref, Spot};
 pub use refusal::{Answer, Code, Mem, Place, Refusal, Stop};
 pub use token::{Token, TokenKind, TokenRef};
+pub use token_slice::TokenSlice;
 pub use tokens::TokenList;
 

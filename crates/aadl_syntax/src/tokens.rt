@@ -54,7 +54,8 @@ impl TokenList {
 
     /// How many tokens there are.
     pub fn len(&self) -> usize
-        ensures { result ≡ length self.now }
+        ensures count { result ≡ length self.now }
+        ensures few { length self.now < 2 ^ 32 }
     {
         self.marks.len()
     }

@@ -55,19 +55,19 @@ turn {A} file tests part start tokens unseen x middle left b e lt = begins ∙ r
 -- What is gathered from now on, after the value so far, is what is gathered from start on.
 pub record Carries {A : Type 0} (tests : List Test) (part : A → Rule A) (before value : A) (start now : Reader) : Type 0 where
   pub same_file : now.file ≡ start.file
-  pub so_far : run start.file (gathers tests part value) now.tokens.now now.unseen ≡ run start.file (gathers tests part before) start.tokens.now start.unseen
+  pub so_far : run start.file (gathers tests part value) now.tokens now.unseen ≡ run start.file (gathers tests part before) start.tokens start.unseen
 
 module _ {A : Type 0} {tests : List Test} {part : A → Rule A} {before value : A} {start now next : Reader} where
   -- what the part is read as, after the look at its beginning
   part-same : (b : Bool) → Carries tests part before value start now → Begins b 0 tests now next
-      → run start.file (part value) now.tokens.now (looked tests now.tokens.now now.unseen) ≡ run next.file (part value) next.tokens.now next.unseen
+      → run start.file (part value) now.tokens (looked tests now.tokens now.unseen) ≡ run next.file (part value) next.tokens next.unseen
   part-same b so looks = run-same (part value) _ _ _ _ _ _ (sym so.same_file ∙ sym looks.same_file) (sym looks.same_tokens) (sym looks.looked)
 
   pub carries_on : {after : Reader} {x : A} → TakesTokens (part value) → Carries tests part before value start now → Begins true 0 tests now next → Gives (Ok x) (part value) next after → Carries tests part before x start after
   carries_on {after} {x} takes so looks gave =
       let e = part-same true so looks ∙ gave.answer in
-      let lt = takes.fewer start.file now.tokens.now x after.tokens.now (reads_so _ (part value) _ _ _ _ _ e) in
-      let t = turn start.file tests part value now.tokens.now now.unseen x after.tokens.now after.unseen (sym looks.answer) e lt in
+      let lt = takes.fewer start.file now.tokens x after.tokens (reads_so _ (part value) _ _ _ _ _ e) in
+      let t = turn start.file tests part value now.tokens now.unseen x after.tokens after.unseen (sym looks.answer) e lt in
       record {
         same_file = gave.same_file ∙ looks.same_file ∙ so.same_file;
         so_far = sym t ∙ so.so_far;

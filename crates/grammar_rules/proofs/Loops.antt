@@ -66,7 +66,7 @@ with_front-with_front front x (read values rest left) = ap (λ (vs : List _). re
 -- What was read from start to now, after the parts before, is the front of what the parts from start on read as.
 pub record Collects {A : Type 0} (tests : List Test) (part : Rule A) (before parts : List A) (start now : Reader) : Type 0 where
   pub same_file : now.file ≡ start.file
-  pub so_far : run start.file (parts_after parts tests part) now.tokens.now now.unseen ≡ run start.file (parts_after before tests part) start.tokens.now start.unseen
+  pub so_far : run start.file (parts_after parts tests part) now.tokens now.unseen ≡ run start.file (parts_after before tests part) start.tokens start.unseen
 
 pub run-same : {A : Type 0} (rule : Rule A) (f g : ℕ) (ts us : List Token) (m n : ℕ) → f ≡ g → ts ≡ us → m ≡ n → run f rule ts m ≡ run g rule us n
 run-same rule f g ts us m n p q r = ap (λ f. run f rule ts m) p ∙ ap (λ (ts : List Token). run g rule ts m) q ∙ ap (λ n. run g rule us n) r
@@ -78,21 +78,21 @@ reads_so file rule tokens unseen value rest left e = let h = subst (λ o. IsOutc
 module _ {A : Type 0} {tests : List Test} {part : Rule A} {before parts : List A} {start now next : Reader} where
   -- what the part is read as, after the look at its beginning
   part-same : (b : Bool) → Collects tests part before parts start now → Begins b 0 tests now next
-      → run start.file part now.tokens.now (looked tests now.tokens.now now.unseen) ≡ run next.file part next.tokens.now next.unseen
+      → run start.file part now.tokens (looked tests now.tokens now.unseen) ≡ run next.file part next.tokens next.unseen
   part-same b so looks = run-same part _ _ _ _ _ _ (sym so.same_file ∙ sym looks.same_file) (sym looks.same_tokens) (sym looks.looked)
 
   pub goes_on : {after : Reader} {x : A} → TakesTokens part → Collects tests part before parts start now → Begins true 0 tests now next → Gives (Ok x) part next after → Collects tests part before (parts ++ x ∷ []) start after
   goes_on {after} {x} takes so looks gave =
       let e = part-same true so looks ∙ gave.answer in
-      let lt = takes.fewer start.file now.tokens.now x after.tokens.now (reads_so _ part _ _ _ _ _ e) in
-      let t = turn start.file tests part now.tokens.now now.unseen x after.tokens.now after.unseen (sym looks.answer) e lt in
+      let lt = takes.fewer start.file now.tokens x after.tokens (reads_so _ part _ _ _ _ _ e) in
+      let t = turn start.file tests part now.tokens now.unseen x after.tokens after.unseen (sym looks.answer) e lt in
       record {
         same_file = gave.same_file ∙ looks.same_file ∙ so.same_file;
         so_far = sym (with_front-with_front parts x _) ∙ ap (with_front parts) (sym t) ∙ so.so_far;
       }
 
 -- a part that is read leaves fewer tokens
-pub smaller : {A : Type 0} {tests : List Test} {part : Rule A} {now next after : Reader} {x : A} → TakesTokens part → Begins true 0 tests now next → Gives (Ok x) part next after → length after.tokens.now < length now.tokens.now
+pub smaller : {A : Type 0} {tests : List Test} {part : Rule A} {now next after : Reader} {x : A} → TakesTokens part → Begins true 0 tests now next → Gives (Ok x) part next after → length after.tokens < length now.tokens
 smaller {part = part} {next = next} {after = after} {x = x} takes looks gave =
-    let lt = takes.fewer next.file next.tokens.now x after.tokens.now (reads_so _ part _ _ _ _ _ gave.answer) in
+    let lt = takes.fewer next.file next.tokens x after.tokens (reads_so _ part _ _ _ _ _ gave.answer) in
     omega (arith, ap length looks.same_tokens)

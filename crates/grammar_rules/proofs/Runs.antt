@@ -1,5 +1,5 @@
 -- A loop over a run of tokens.
-use Rattle.std.proofs.Common.{◌≡◌, ℕ, suc, ◌+◌, ◌-◌, ◌<◌, ◌≤◌, Bool, true, false, List, [], ◌∷◌, ◌++◌, length, take, drop, get_or, Option, Some, count_by, cond, ◌&&◌, refl, sym, ◌∙◌, ap, arith, length-drop, length-append, add-one, take-suc, drop-cons}
+use Rattle.std.proofs.Common.{◌≡◌, ℕ, zero, suc, ◌+◌, ◌-◌, ◌<◌, ◌≤◌, Bool, true, false, List, [], ◌∷◌, ◌++◌, length, take, drop, get_or, Option, Some, None, count_by, cond, ◌&&◌, refl, sym, ◌∙◌, ap, arith, length-drop, length-append, add-one, take-suc, drop-cons}
 use Rattle.std.specs.Prelude.{slice_get, ◌==◌, ◌||◌, if◌then◌else◌}
 use Rattle.std.proofs.lemmas.List.Sums.{count_by_more_yes, count_by_more_no}
 use Rattle.aadl_syntax.specs.declared.token.Token.{Token}
@@ -78,3 +78,14 @@ module _ {inside : Bool} {stops : Option Token → Token → Bool} {tokens : Lis
       either : (b : Bool) → test t ≡ b → cond b (n + 1) n ≡ count_by test (take (k + 1) tokens)
       either true q = ap (λ n. n + 1) h ∙ sym (count_by_more_yes test tokens k t lt (ap test (sym is) ∙ q))
       either false q = h ∙ sym (count_by_more_no test tokens k t lt (ap test (sym is) ∙ q))
+
+-- the token at a place, as an item of the list
+pub item_there : (tokens : List Token) (k : ℕ) (t : Token) → Some t ≡ slice_get tokens k → t ≡ get_or tokens k t
+item_there [] k t e = absurd cc
+item_there (x ∷ tokens) zero t e = let f : x ≡ t = cc in sym f
+item_there (x ∷ tokens) (suc k) t e = item_there tokens k t e
+
+pub is_there : (tokens : List Token) (k : ℕ) → k < length tokens → None ≡ slice_get tokens k → ⊥
+is_there [] k h e = omega arith
+is_there (x ∷ tokens) zero h e = absurd cc
+is_there (x ∷ tokens) (suc k) h e = is_there tokens k (omega arith) e

@@ -16,28 +16,28 @@ whole rule = joins rule (λ value. joins ends (λ _. gives value))
 -- A reader before these tokens of a file.
 pub record Before (file : ℕ) (tokens : List Token) (start : Reader) : Type 0 where
   pub file_is : start.file ≡ file
-  pub tokens_are : start.tokens.now ≡ tokens
+  pub tokens_are : start.tokens ≡ tokens
 
-at_start : {file : ℕ} {tokens : List Token} {start : Reader} → Before file tokens start → (P : ℕ → List Token → Type 0) → P start.file start.tokens.now → P file tokens
-at_start {file} {tokens} {start} before P p = subst (λ (ts : List Token). P file ts) before.tokens_are (subst (λ f. P f start.tokens.now) before.file_is p)
+at_start : {file : ℕ} {tokens : List Token} {start : Reader} → Before file tokens start → (P : ℕ → List Token → Type 0) → P start.file start.tokens → P file tokens
+at_start {file} {tokens} {start} before P p = subst (λ (ts : List Token). P file ts) before.tokens_are (subst (λ f. P f start.tokens) before.file_is p)
 
 module _ {A : Type 0} {rule : Rule A} {file : ℕ} {tokens : List Token} {start new : Reader} (before : Before file tokens start) where
   pub is_found : {value : A} → Gives (Ok value) (whole rule) start new → Reads file rule tokens value []
   is_found {value} gave =
-      let h = subst (λ o. IsOutcome start.file (whole rule) start.tokens.now start.unseen o) gave.answer (is_outcome start.file (whole rule) start.tokens.now start.unseen) in
+      let h = subst (λ o. IsOutcome start.file (whole rule) start.tokens start.unseen o) gave.answer (is_outcome start.file (whole rule) start.tokens start.unseen) in
       let r = h.reads in
-      let s = subst (λ (ts : List Token). Reads start.file rule start.tokens.now r.0 ts) r.3.2.0 r.2 in
-      at_start before (λ f ts. Reads f rule ts value []) (subst (λ (v : A). Reads start.file rule start.tokens.now v []) (sym r.3.3.0) s)
+      let s = subst (λ (ts : List Token). Reads start.file rule start.tokens r.0 ts) r.3.2.0 r.2 in
+      at_start before (λ f ts. Reads f rule ts value []) (subst (λ (v : A). Reads start.file rule start.tokens v []) (sym r.3.3.0) s)
 
   pub is_only : {value : A} → Gives (Ok value) (whole rule) start new → (other : A) → Reads file rule tokens other [] → value ≡ other
   is_only {value} gave other r =
-      let h = subst (λ o. IsOutcome start.file (whole rule) start.tokens.now start.unseen o) gave.answer (is_outcome start.file (whole rule) start.tokens.now start.unseen) in
-      let g = at_start before (λ f ts. Reads f (whole rule) ts other [] → other ≡ value) (λ s. (h.alone start.tokens.now (record { same = λ k w. refl }) other [] s).0) in
+      let h = subst (λ o. IsOutcome start.file (whole rule) start.tokens start.unseen o) gave.answer (is_outcome start.file (whole rule) start.tokens start.unseen) in
+      let g = at_start before (λ f ts. Reads f (whole rule) ts other [] → other ≡ value) (λ s. (h.alone start.tokens (record { same = λ k w. refl }) other [] s).0) in
       sym (g (other, [], r, (tt, [], (refl, refl), (refl, refl))))
 
   pub is_dead : Gives (Err Refused) (whole rule) start new → Dead file rule tokens (length tokens - new.unseen)
   is_dead gave others agree value r =
-      let h = subst (λ o. IsOutcome start.file (whole rule) start.tokens.now start.unseen o) gave.answer (is_outcome start.file (whole rule) start.tokens.now start.unseen) in
+      let h = subst (λ o. IsOutcome start.file (whole rule) start.tokens start.unseen o) gave.answer (is_outcome start.file (whole rule) start.tokens start.unseen) in
       let s : SameSeen new.unseen tokens others = record { same = λ k w. agree k (omega arith) } in
       let g = at_start before (λ f ts. SameSeen new.unseen ts others → Reads f (whole rule) others value [] → ⊥) (λ same q. h.none others same value [] q) in
       g s (value, [], r, (tt, [], (refl, refl), (refl, refl)))

@@ -21,23 +21,23 @@ given (Err error) value = Err error
 -- The result is what the tokens of the reader read as by the rule, and the reader has gone on so far.
 pub record Gives {A : Type 0} (result : Result A ReadError) (rule : Rule A) (old new : Reader) : Type 0 where
   pub same_file : new.file ≡ old.file
-  pub answer : Answers result (run old.file rule old.tokens.now old.unseen) new.tokens.now new.unseen
+  pub answer : Answers result (run old.file rule old.tokens old.unseen) new.tokens new.unseen
 
 -- The result says whether the tokens from place k on pass the tests, and the reader has looked at no others.
 pub record Begins (result : Bool) (k : ℕ) (tests : List Test) (old new : Reader) : Type 0 where
   pub same_file : new.file ≡ old.file
-  pub same_tokens : new.tokens.now ≡ old.tokens.now
-  pub answer : result ≡ begin_at k tests old.tokens.now
-  pub looked : new.unseen ≡ looked_at k tests old.tokens.now old.unseen
+  pub same_tokens : new.tokens ≡ old.tokens
+  pub answer : result ≡ begin_at k tests old.tokens
+  pub looked : new.unseen ≡ looked_at k tests old.tokens old.unseen
 
 -- The reader has looked at the token at place k.
 pub record LooksAt (k : ℕ) (old new : Reader) : Type 0 where
   pub same_file : new.file ≡ old.file
-  pub same_tokens : new.tokens.now ≡ old.tokens.now
-  pub looked : new.unseen ≡ seen k old.tokens.now old.unseen
+  pub same_tokens : new.tokens ≡ old.tokens
+  pub looked : new.unseen ≡ seen k old.tokens old.unseen
 
 -- The reader has gone past the next token, if there is one.
 pub record Steps (old new : Reader) : Type 0 where
   pub same_file : new.file ≡ old.file
-  pub tokens : new.tokens.now ≡ drop 1 old.tokens.now
+  pub tokens : new.tokens ≡ drop 1 old.tokens
   pub same_unseen : new.unseen ≡ old.unseen

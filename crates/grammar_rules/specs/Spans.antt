@@ -1,5 +1,5 @@
 -- Runs of tokens that are read without a look at what they say but for brackets.
-use Rattle.std.specs.Prelude.{◌-◌, Bool, true, false, ◌==◌, ◌&&◌, ◌||◌, List, length, Option, count_by, slice_get, codes, Result, Ok, Err}
+use Rattle.std.specs.Prelude.{◌-◌, Bool, true, false, ◌==◌, ◌&&◌, ◌||◌, List, length, Option, count_by, slice_get, codes}
 use Rattle.aadl_syntax.specs.declared.token.Token.{Token}
 use Rattle.aadl_syntax.specs.declared.token.TokenKind.TheVariants.{AnnexBegin, AnnexEnd}
 use Rattle.grammar_rules.specs.Rules.{Test, Rule, spans}
@@ -45,8 +45,3 @@ ends_tail before token = closes token || is_sign (codes ";") token
 -- `to-end` stops at the word `end`
 unfoldable pub ends_to_end : Option Token → Token → Bool
 ends_to_end before token = is_word (codes "end") token
-
--- the result seen by `view`
-abbrev pub viewed : {X Y E : Type 0} → (X → Y) → Result X E → Result Y E
-viewed view (Ok x) = Ok (view x)
-viewed view (Err e) = Err e

@@ -1,8 +1,11 @@
-ghost use Rattle.std.specs.Prelude.{◌≡◌, ◌+◌, length, slice_get, option_copied, map, bytes_eq};
+ghost use Rattle.std.specs.Prelude.{◌≡◌, ◌+◌, length, slice_get, IfOk, IfSome, IsTrue, map, bytes_eq};
+ghost use Rattle.std.specs.Option.{option_map};
+ghost use Rattle.aadl_syntax.specs.declared.token.TokenKind.TheVariants.{Word};
+ghost use Rattle.aadl_syntax.specs.Token.{IsTokenText, shown};
 ghost use Rattle.std.specs.List.{list_any};
 ghost use Rattle.grammar_rules.specs.Tokens.{is_kind, is_word, is_sign, is_identifier, is_one_of};
 
-use aadl_syntax::{List, Name, Token, TokenKind};
+use aadl_syntax::{Identifier, Mem, TokenKind, TokenList, TokenRef, TokenSlice};
 use std::alloc::{AllocError, Global};
 
 /// Why a reading stopped.
@@ -31,7 +34,7 @@ impl From<AllocError> for ReadError {
 pub struct Reader<'a> {
     alloc: Global,
     file: u32,
-    pub(crate) tokens: &'a [Token],
+    pub(crate) tokens: TokenSlice<'a>,
     unseen: usize,
 }
 
@@ -42,15 +45,15 @@ impl<'a> Reader<'a> {
     ghost use Rattle.grammar_rules.specs.Tokens.{kind, word, sign, identifier, one_of, place};
 
     /// A reader before the first of these tokens, none of which it has looked at; files are numbered from 0.
-    pub fn new(alloc: Global, file: u32, tokens: &'a [Token]) -> Reader<'a>
+    pub fn new(alloc: Global, file: u32, tokens: &'a TokenList) -> Reader<'a>
         ensures file { result.file ≡ file }
-        ensures tokens { result.tokens.now ≡ tokens.now }
+        ensures tokens { result.tokens ≡ tokens.now }
         ensures unseen { result.unseen ≡ length tokens.now + 1 }
     {
         Reader {
             alloc,
             file,
-            tokens,
+            tokens: TokenSlice::of(tokens),
             unseen: tokens.len() + 1,
         }
     }
@@ -77,9 +80,10 @@ impl<'a> Reader<'a> {
     }
 
     /// Looks at the token `k` places ahead; `None` is the end. Call it for a place only once those before it are looked at.
-    pub fn look(&mut self, k: usize) -> Option<&'a Token>
+    pub fn look(&mut self, k: usize) -> Option<TokenRef<'a>>
         ensures looks { LooksAt k self.old self.new }
-        ensures value { option_copied result ≡ slice_get self.old.tokens.now k }
+        ensures value { option_map shown result ≡ slice_get self.old.tokens k }
+        ensures form { IfSome result (λ token. IsTokenText token.kind token.text.now) }
     {
         self.unseen = self.unseen.min(self.tokens.len().saturating_sub(k));
         self.tokens.get(k)
@@ -89,8 +93,8 @@ impl<'a> Reader<'a> {
     pub fn step(&mut self)
         ensures { Steps self.old self.new }
     {
-        if !self.tokens.is_empty() {
-            self.tokens = &self.tokens[1..];
+        if self.tokens.len() > 0 {
+            self.tokens = self.tokens.rest(1);
         }
     }
 
@@ -99,7 +103,7 @@ impl<'a> Reader<'a> {
         ensures { Begins result k (is_kind expected ∷ []) self.old self.new }
     {
         match self.look(k) {
-            Some(token) => is_kind(token, expected),
+            Some(token) => is_kind(&token, expected),
             None => false,
         }
     }
@@ -109,7 +113,7 @@ impl<'a> Reader<'a> {
         ensures { Begins result k (is_word text.now ∷ []) self.old self.new }
     {
         match self.look(k) {
-            Some(token) => is_word(token, text),
+            Some(token) => is_word(&token, text),
             None => false,
         }
     }
@@ -119,7 +123,7 @@ impl<'a> Reader<'a> {
         ensures { Begins result k (is_sign text.now ∷ []) self.old self.new }
     {
         match self.look(k) {
-            Some(token) => is_sign(token, text),
+            Some(token) => is_sign(&token, text),
             None => false,
         }
     }
@@ -129,7 +133,7 @@ impl<'a> Reader<'a> {
         ensures { Begins result k (is_identifier (map (λ w. w.now) reserved.now) ∷ []) self.old self.new }
     {
         match self.look(k) {
-            Some(token) => is_identifier(token, reserved),
+            Some(token) => is_identifier(&token, reserved),
             None => false,
         }
     }
@@ -139,7 +143,7 @@ impl<'a> Reader<'a> {
         ensures { Begins result k (is_one_of (map (λ w. w.now) words.now) ∷ []) self.old self.new }
     {
         match self.look(k) {
-            Some(token) => is_one_of(token, words),
+            Some(token) => is_one_of(&token, words),
             None => false,
         }
     }
@@ -182,14 +186,13 @@ impl<'a> Reader<'a> {
 
     /// Takes a word that is none of the reserved ones, and gives a copy of its text.
     #[tactic(auto, unfolding(crate::specs::Tokens::identifier))]
-    pub fn identifier(&mut self, reserved: &[&[u8]]) -> Result<Name, ReadError>
+    pub fn identifier(&mut self, reserved: &[&[u8]]) -> Result<Identifier, ReadError>
         ensures { Gives result (identifier (map (λ w. w.now) reserved.now)) self.old self.new }
     {
         match self.look(0) {
-            Some(token) if is_identifier(token, reserved) => {
+            Some(token) if is_identifier(&token, reserved) => {
                 self.step();
-                let text = Vec::from_slice(self.alloc, token.text.items())?;
-                Ok(List::of(text)?)
+                Ok(copy_of(self.alloc, &token)?)
             }
             _ => Err(ReadError::Refused),
         }
@@ -197,14 +200,13 @@ impl<'a> Reader<'a> {
 
     /// Takes one of these words, given in lower case, and gives a copy of it.
     #[tactic(auto, unfolding(crate::specs::Tokens::one_of))]
-    pub fn one_of(&mut self, words: &[&[u8]]) -> Result<Name, ReadError>
+    pub fn one_of(&mut self, words: &[&[u8]]) -> Result<Identifier, ReadError>
         ensures { Gives result (one_of (map (λ w. w.now) words.now)) self.old self.new }
     {
         match self.look(0) {
-            Some(token) if is_one_of(token, words) => {
+            Some(token) if is_one_of(&token, words) => {
                 self.step();
-                let text = Vec::from_slice(self.alloc, token.text.items())?;
-                Ok(List::of(text)?)
+                Ok(copy_of(self.alloc, &token)?)
             }
             _ => Err(ReadError::Refused),
         }
@@ -233,41 +235,52 @@ impl<'a> Reader<'a> {
 }
 
 #[tactic(auto, unfolding(crate::specs::Tokens::is_kind))]
-pub(crate) fn is_kind(token: &Token, kind: TokenKind) -> bool
-    ensures { result ≡ is_kind kind token.now }
+pub(crate) fn is_kind(token: &TokenRef, kind: TokenKind) -> bool
+    ensures { result ≡ is_kind kind (shown token.now) }
 {
     token.kind == kind
 }
 
 /// Whether a token is this word, given in lower case.
 #[tactic(auto, unfolding(crate::specs::Tokens::is_word))]
-pub fn is_word(token: &Token, text: &[u8]) -> bool
-    ensures { result ≡ is_word text.now token.now }
+pub fn is_word(token: &TokenRef, text: &[u8]) -> bool
+    ensures { result ≡ is_word text.now (shown token.now) }
 {
-    token.kind == TokenKind::Word && token.text.items() == text
+    token.kind == TokenKind::Word && token.text == text
 }
 
 /// Whether a token is this sign.
 #[tactic(auto, unfolding(crate::specs::Tokens::is_sign))]
-pub fn is_sign(token: &Token, text: &[u8]) -> bool
-    ensures { result ≡ is_sign text.now token.now }
+pub fn is_sign(token: &TokenRef, text: &[u8]) -> bool
+    ensures { result ≡ is_sign text.now (shown token.now) }
 {
-    token.kind == TokenKind::Sign && token.text.items() == text
+    token.kind == TokenKind::Sign && token.text == text
 }
 
 #[tactic(auto, unfolding(crate::specs::Tokens::is_identifier))]
-fn is_identifier(token: &Token, reserved: &[&[u8]]) -> bool
-    ensures { result ≡ is_identifier (map (λ w. w.now) reserved.now) token.now }
+fn is_identifier(token: &TokenRef, reserved: &[&[u8]]) -> bool
+    ensures value { result ≡ is_identifier (map (λ w. w.now) reserved.now) (shown token.now) }
+    ensures word { IsTrue result → token.now.kind ≡ Word }
 {
-    token.kind == TokenKind::Word && !is_among(token.text.items(), reserved)
+    token.kind == TokenKind::Word && !is_among(token.text, reserved)
 }
 
 /// Whether a token is one of these words, given in lower case.
 #[tactic(auto, unfolding(crate::specs::Tokens::is_one_of))]
-pub fn is_one_of(token: &Token, words: &[&[u8]]) -> bool
-    ensures { result ≡ is_one_of (map (λ w. w.now) words.now) token.now }
+pub fn is_one_of(token: &TokenRef, words: &[&[u8]]) -> bool
+    ensures value { result ≡ is_one_of (map (λ w. w.now) words.now) (shown token.now) }
+    ensures word { IsTrue result → token.now.kind ≡ Word }
 {
-    token.kind == TokenKind::Word && is_among(token.text.items(), words)
+    token.kind == TokenKind::Word && is_among(token.text, words)
+}
+
+/// A copy of the text of a word.
+fn copy_of(alloc: Global, token: &TokenRef) -> Mem<Identifier>
+    requires word { token.now.kind ≡ Word }
+    requires form { IsTokenText token.now.kind token.now.text.now }
+    ensures { IfOk result (λ identifier. identifier ≡ token.now.text.now) }
+{
+    Identifier::of(alloc, token.text)
 }
 
 fn is_among(text: &[u8], words: &[&[u8]]) -> bool

@@ -1,23 +1,27 @@
-ghost use Rattle.std.specs.Prelude.{◌≡◌, ℕ, [], ◌<◌, ◌&&◌, ◌||◌, length, take, drop, option_copied, IfSome, MatchOption};
+ghost use Rattle.std.specs.Prelude.{◌≡◌, ℕ, [], ◌<◌, ◌&&◌, ◌||◌, length, take, drop, IfSome, MatchOption};
 ghost use Rattle.aadl_syntax.specs.declared.token.TokenKind.TheVariants.{AnnexEnd};
+ghost use Rattle.std.specs.Option.{option_map};
+ghost use Rattle.aadl_syntax.specs.Token.{shown};
 ghost use Rattle.grammar_rules.specs.Tokens.{is_kind};
 ghost use Rattle.grammar_rules.specs.Running.{spanned, read, dead, seen};
 ghost use Rattle.grammar_rules.specs.Spans.{opens, closes, stopping};
 
 use crate::reader::{ReadError, Reader, is_kind, is_sign, is_word};
-use aadl_syntax::{Token, TokenKind};
+use aadl_syntax::{TokenKind, TokenRef, TokenSlice};
 
 /// Where a run of tokens ends whose text does not matter: at a token at depth 0, that is where as many brackets were
 /// opened as closed in the run. Round, square and curly brackets and the marks of an annex count alike.
 pub trait Span {
-    ghost use Rattle.std.specs.Prelude.{Option, Bool, option_copied};
+    ghost use Rattle.std.specs.Prelude.{Option, Bool};
+    ghost use Rattle.std.specs.Option.{option_map};
+    ghost use Rattle.aadl_syntax.specs.Token.{shown};
     ghost use Rattle.aadl_syntax.specs.declared.token.Token.{Token};
 
     ghost stops: { Option Token → Token → Bool };
 
     /// Whether the run ends before this token at depth 0; `before` is the last token of the run, if it has any.
-    fn stops_at(before: Option<&Token>, token: &Token) -> bool
-        ensures { result ≡ stops (option_copied before.entry) token.now };
+    fn stops_at(before: Option<TokenRef>, token: &TokenRef) -> bool
+        ensures { result ≡ stops (option_map shown before.entry) (shown token.now) };
 }
 
 /// Tokens with matching counts of brackets: up to the bracket that closes one opened before them.
@@ -29,7 +33,7 @@ impl Span for Balanced {
     ghost stops = { ends_balanced };
 
     #[tactic(auto, unfolding(crate::specs::Spans::ends_balanced))]
-    fn stops_at(_before: Option<&Token>, token: &Token) -> bool {
+    fn stops_at(_before: Option<TokenRef>, token: &TokenRef) -> bool {
         closes(token)
     }
 }
@@ -43,7 +47,7 @@ impl Span for Tail {
     ghost stops = { ends_tail };
 
     #[tactic(auto, unfolding(crate::specs::Spans::ends_tail))]
-    fn stops_at(_before: Option<&Token>, token: &Token) -> bool {
+    fn stops_at(_before: Option<TokenRef>, token: &TokenRef) -> bool {
         closes(token) || is_sign(token, b";")
     }
 }
@@ -57,21 +61,21 @@ impl Span for ToEnd {
     ghost stops = { ends_to_end };
 
     #[tactic(auto, unfolding(crate::specs::Spans::ends_to_end))]
-    fn stops_at(_before: Option<&Token>, token: &Token) -> bool {
+    fn stops_at(_before: Option<TokenRef>, token: &TokenRef) -> bool {
         is_word(token, b"end")
     }
 }
 
 impl<'a> Reader<'a> {
     ghost use Rattle.std.specs.Prelude.{true, false};
-    ghost use Rattle.grammar_rules.specs.Spans.{until, until_inside, stopping, viewed};
+    ghost use Rattle.grammar_rules.specs.Spans.{until, until_inside, stopping};
     ghost use Rattle.grammar_rules.specs.Rules.{spans};
     ghost use Rattle.grammar_rules.specs.Reader.{Gives};
 
     /// Takes the tokens of a run of core text, perhaps none. Without a token that ends it, the run is refused at the end.
     #[tactic(auto, unfolding(crate::specs::Spans::until))]
-    pub fn until<S: Span>(&mut self) -> Result<&'a [Token], ReadError>
-        ensures { Gives (viewed (λ s. s.now) result) (until S.stops) self.old self.new }
+    pub fn until<S: Span>(&mut self) -> Result<TokenSlice<'a>, ReadError>
+        ensures { Gives result (until S.stops) self.old self.new }
     {
         self.run_of::<S>(false)
     }
@@ -79,31 +83,32 @@ impl<'a> Reader<'a> {
     /// Takes the tokens of a run inside of an annex, perhaps none: the end of the annex ends it, whatever is open. Without
     /// a token that ends it, the run is refused at the end.
     #[tactic(auto, unfolding(crate::specs::Spans::until_inside))]
-    pub fn until_inside<S: Span>(&mut self) -> Result<&'a [Token], ReadError>
-        ensures { Gives (viewed (λ s. s.now) result) (until_inside S.stops) self.old self.new }
+    pub fn until_inside<S: Span>(&mut self) -> Result<TokenSlice<'a>, ReadError>
+        ensures { Gives result (until_inside S.stops) self.old self.new }
     {
         self.run_of::<S>(true)
     }
 
-    fn run_of<S: Span>(&mut self, inside: bool) -> Result<&'a [Token], ReadError>
-        ensures { Gives (viewed (λ s. s.now) result) (spans (stopping inside S.stops)) self.old self.new }
+    fn run_of<S: Span>(&mut self, inside: bool) -> Result<TokenSlice<'a>, ReadError>
+        ensures { Gives result (spans (stopping inside S.stops)) self.old self.new }
     {
-        let tokens = self.tokens;
-        match length_until::<S>(tokens, inside) {
+        match length_until::<S>(&self.tokens, inside) {
             Some(length) => {
                 self.look(length);
-                self.tokens = &tokens[length..];
-                Ok(&tokens[..length])
+                let passed = self.tokens.front(length);
+                self.tokens = self.tokens.rest(length);
+                Ok(passed)
             }
             None => {
-                self.look(tokens.len());
+                let all = self.tokens.len();
+                self.look(all);
                 Err(ReadError::Refused)
             }
         }
     }
 }
 
-fn length_until<S: Span>(tokens: &[Token], inside: bool) -> Option<usize>
+fn length_until<S: Span>(tokens: &TokenSlice, inside: bool) -> Option<usize>
     ensures within { IfSome result (λ n. n < length tokens.now) }
     ensures run { MatchOption result
         ((unseen : ℕ) → spanned (stopping inside S.stops) [] tokens.now unseen ≡ dead 0)
@@ -112,15 +117,18 @@ fn length_until<S: Span>(tokens: &[Token], inside: bool) -> Option<usize>
 {
     let mut opened: usize = 0;
     let mut closed: usize = 0;
-    let mut before: Option<&Token> = None;
-    for (k, token) in tokens.iter().enumerate() {
-        if stops::<S>(inside, opened == closed, before, token) {
+    let mut before: Option<TokenRef> = None;
+    for k in 0..tokens.len() {
+        let Some(token) = tokens.get(k) else {
+            return None;
+        };
+        if stops::<S>(inside, opened == closed, before, &token) {
             return Some(k);
         }
-        if opens(token) {
+        if opens(&token) {
             opened += 1;
         }
-        if closes(token) {
+        if closes(&token) {
             closed += 1;
         }
         before = Some(token);
@@ -129,15 +137,15 @@ fn length_until<S: Span>(tokens: &[Token], inside: bool) -> Option<usize>
 }
 
 /// Whether a run ends before this token, where as many brackets were opened as closed or not.
-fn stops<S: Span>(inside: bool, even: bool, before: Option<&Token>, token: &Token) -> bool
-    ensures { result ≡ ((inside && is_kind AnnexEnd token.now) || (even && S.stops (option_copied before.entry) token.now)) }
+fn stops<S: Span>(inside: bool, even: bool, before: Option<TokenRef>, token: &TokenRef) -> bool
+    ensures { result ≡ ((inside && is_kind AnnexEnd (shown token.now)) || (even && S.stops (option_map shown before.entry) (shown token.now))) }
 {
     (inside && is_kind(token, TokenKind::AnnexEnd)) || (even && S::stops_at(before, token))
 }
 
 #[tactic(auto, unfolding(crate::specs::Spans::opens))]
-fn opens(token: &Token) -> bool
-    ensures { result ≡ opens token.now }
+fn opens(token: &TokenRef) -> bool
+    ensures { result ≡ opens (shown token.now) }
 {
     is_sign(token, b"(")
         || is_sign(token, b"[")
@@ -147,8 +155,8 @@ fn opens(token: &Token) -> bool
 
 /// Whether a token is a closing bracket.
 #[tactic(auto, unfolding(crate::specs::Spans::closes))]
-pub fn closes(token: &Token) -> bool
-    ensures { result ≡ closes token.now }
+pub fn closes(token: &TokenRef) -> bool
+    ensures { result ≡ closes (shown token.now) }
 {
     is_sign(token, b")")
         || is_sign(token, b"]")

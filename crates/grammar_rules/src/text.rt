@@ -4,7 +4,7 @@ ghost use Rattle.grammar_rules.specs.Rules.{Reads, Dead, joins, ends, gives};
 ghost use Rattle.grammar_rules.specs.Reader.{Gives};
 
 use crate::reader::{ReadError, Reader};
-use aadl_syntax::Token;
+use aadl_syntax::TokenList;
 use std::alloc::Global;
 
 /// A grammar of whole texts.
@@ -36,7 +36,7 @@ pub enum TextError {
 pub fn read_text<G: Grammar>(
     alloc: Global,
     file: u32,
-    tokens: &[Token],
+    tokens: &TokenList,
 ) -> Result<G::Value, TextError>
     // What is answered is what the text reads as.
     ensures found { IfOk result (λ value. Reads file G.rule tokens.now value []) }

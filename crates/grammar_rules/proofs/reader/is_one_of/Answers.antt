@@ -4,6 +4,6 @@ use Rattle.grammar_rules.specs.Tokens.{is_one_of}
 use Rattle.grammar_rules.proofs.Words.{among_map}
 use Rattle.grammar_rules.proofs.reader.is_one_of.Goals as goal
 
-pub returns-then-eq : goal.returns-then-eq
+pub returns-then-eq-clause-value : goal.returns-then-eq-clause-value
 unfolding is_one_of
-returns-then-eq c = rw (← among_map c.args.token.now.text c.args.words.now) (grind (arith, common_steps))
+returns-then-eq-clause-value c = rw (← among_map c.args.token.now.text.now c.args.words.now) (grind (arith, common_steps))

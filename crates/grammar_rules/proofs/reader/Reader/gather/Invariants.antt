@@ -6,4 +6,4 @@ abbrev pub invariant-loop-self : goal.invariant-loop-self
 invariant-loop-self g l = Carries g.G.Gathered.tests g.G.Gathered.rule l.initial.whole l.whole l.initial.self l.self
 
 abbrev pub decreases-loop-self : goal.decreases-loop-self
-decreases-loop-self g l = length l.self.tokens.now
+decreases-loop-self g l = length l.self.tokens

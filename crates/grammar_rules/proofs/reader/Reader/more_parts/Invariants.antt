@@ -6,4 +6,4 @@ abbrev pub invariant-loop-parts : goal.invariant-loop-parts
 invariant-loop-parts g l = Collects g.P.Parts.tests g.P.Parts.rule l.initial.parts l.parts l.initial.self l.self
 
 abbrev pub decreases-loop-parts : goal.decreases-loop-parts
-decreases-loop-parts g l = length l.self.tokens.now
+decreases-loop-parts g l = length l.self.tokens
