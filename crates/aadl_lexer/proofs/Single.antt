@@ -1,6 +1,6 @@
 -- A text has at most one list of tokens or one fault.
-use Rattle.std.proofs.Common.{◌≡◌, ℕ, ◌+◌, ◌<◌, Bool, true, false, List, [], ◌∷◌, ◌++◌, length, take, Option, Some, refl, sym, ap, subst, ◌∙◌, inl, inr, append_assoc, add_assoc, add-zero, append-nil, arith}
-use Rattle.std.proofs.lemmas.List.{length-append, append_cancel_left, take_at}
+use Rattle.std.proofs.Common.{◌≡◌, ℕ, ◌+◌, ◌<◌, Bool, true, false, List, [], ◌∷◌, ◌++◌, length, take, drop, ◌-◌, Option, Some, refl, sym, ap, subst, ◌∙◌, inl, inr, append_assoc, add_assoc, add-zero, zero-add, append-nil, arith}
+use Rattle.std.proofs.lemmas.List.{length-append, append_cancel_left, take_at, take_rest}
 use Rattle.aadl_syntax.specs.declared.token.Token.{Token}
 use Rattle.aadl_syntax.specs.declared.token.TokenKind.{TokenKind}
 use Rattle.aadl_syntax.specs.declared.token.TokenKind.TheVariants.{AnnexBegin, AnnexEnd}
@@ -9,7 +9,7 @@ use Rattle.aadl_syntax.specs.declared.refusal.Stop.{Stop}
 use Rattle.aadl_syntax.specs.declared.refusal.Stop.TheVariants.{Refused, Memory}
 use Rattle.aadl_syntax.specs.Token.{token_of}
 use Rattle.aadl_lexer.specs.Tokens.{Piece, AreCut, IsRead, Stops, IsForm, IsLongest, IsPlain, NothingBegins, IsBadByte, IsOpenString, IsOpenAnnex, IsStuck, IsAnnex, IsBody, IsFirstEnd, InAnnex, InCore, StuckInAnnex, StopsInside, StuckInCore, Tokens, IsFault, RefusedAs, annex_begin, annex_end, tokens_of}
-use Rattle.aadl_lexer.proofs.Cuts.{bytes_of, tokens_in}
+use Rattle.aadl_lexer.proofs.Cuts.{bytes_of, tokens_in, IsSoFar, stops_so_far}
 use Rattle.aadl_lexer.proofs.Fronts.{form_nil, one_kind, annex_front}
 
 -- two fronts of one length are the same
@@ -253,3 +253,14 @@ refused_more file P Q more (Refused refusal) r = (r.0, r.1, r.2, more refusal.co
 pub no_refusal : (file : ℕ) (bytes : List ℕ) (stop : Stop) → RefusedAs file (IsFault bytes) stop → (list : List Token) → Tokens bytes list → stop ≡ Memory
 no_refusal file bytes Memory r list h = refl
 no_refusal file bytes (Refused refusal) r list h = absurd (list_or_fault bytes list refusal.code r.0 h r.3)
+
+-- where the pieces so far end, the rest is stuck, and so is the whole
+pub refused_there : (file : ℕ) (bytes : List ℕ) (list : List Token) (at : ℕ) → IsSoFar InCore 0 bytes [] list at → (stop : Stop)
+    → RefusedAs file (StuckInCore list at (take (length bytes - at) (drop at bytes))) stop → RefusedAs file (IsFault bytes) stop
+refused_there file bytes list at so_far stop h = refused_more file _ (IsFault bytes) stuck stop h where
+  stuck : (code : Code) (place : ℕ) → StuckInCore list at (take (length bytes - at) (drop at bytes)) code place → IsFault bytes code place
+  stuck code place k =
+      stops_so_far InCore StuckInCore 0 bytes [] list at so_far code place
+      (subst (λ (n : ℕ). StuckInCore so_far.tokens n (drop at bytes) code place) (sym (zero-add at))
+      (subst (λ (b : List Token). StuckInCore b at (drop at bytes) code place) so_far.added
+      (subst (λ (x : List ℕ). StuckInCore list at x code place) (take_rest bytes at) k)))

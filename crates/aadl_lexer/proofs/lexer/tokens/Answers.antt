@@ -2,11 +2,10 @@ use Rattle.std.proofs.Common.{List, [], ℕ, ◌-◌, length, take, drop, sym, s
 use Rattle.std.proofs.lemmas.Result.{err_from_is_err_and}
 use Rattle.std.proofs.lemmas.List.{take_rest}
 use Rattle.aadl_syntax.specs.declared.token.Token.{Token}
-use Rattle.aadl_syntax.specs.declared.refusal.Code.{Code}
-use Rattle.aadl_lexer.specs.Tokens.{InCore, StuckInCore, Tokens, IsFault}
+use Rattle.aadl_lexer.specs.Tokens.{InCore, Tokens}
 use Rattle.aadl_lexer.specs.Steps.{Takes}
-use Rattle.aadl_lexer.proofs.Cuts.{more_so_far, all_so_far, stops_so_far}
-use Rattle.aadl_lexer.proofs.Single.{one_list, refused_more, no_refusal}
+use Rattle.aadl_lexer.proofs.Cuts.{more_so_far, all_so_far}
+use Rattle.aadl_lexer.proofs.Single.{one_list, no_refusal, refused_there}
 use Rattle.aadl_lexer.proofs.lexer.tokens.Goals as goal
 
 pub loop-at-preserved : goal.loop-at-preserved
@@ -22,16 +21,12 @@ returns-clause-only c = λ list h.
     let all = all_so_far InCore 0 c.args.bytes.now [] c.loop-at.list c.loop-at.at c.loop-at.invariant c.loop-at-test.false in
     one_list c.args.bytes.now c.loop-at.list list (subst (Tokens c.args.bytes.now) (sym all.added) all.read) h
 
+pub returns-in_err-at-clause-refused : goal.returns-in_err-at-clause-refused
+returns-in_err-at-clause-refused c =
+    let p = err_from_is_err_and c.from_residual.result c.from_residual.ensures.1 in
+    rw (p.1, p.2) (refused_there c.args.file c.args.bytes.now c.loop-at.list c.loop-at.at c.loop-at.invariant _ c.in_err-at.ensures.err)
+
 pub returns-in_err-at-clause-only : goal.returns-in_err-at-clause-only
 returns-in_err-at-clause-only c = λ list h.
-    let bytes = c.args.bytes.now in
-    let so_far = c.loop-at.invariant in
-    let at = c.loop-at.at in
-    let stuck : (code : Code) (place : ℕ) → StuckInCore c.loop-at.list at (take (length bytes - at) (drop at bytes)) code place → IsFault bytes code place =
-    λ code place k. stops_so_far InCore StuckInCore 0 bytes [] c.loop-at.list at so_far code place
-    (subst (λ (n : ℕ). StuckInCore so_far.tokens n (drop at bytes) code place) (sym (zero-add at))
-    (subst (λ (b : List Token). StuckInCore b at (drop at bytes) code place) so_far.added
-    (subst (λ (x : List ℕ). StuckInCore c.loop-at.list at x code place) (take_rest bytes at) k))) in
-    let fault = refused_more c.args.file (StuckInCore c.loop-at.list at (take (length bytes - at) (drop at bytes))) (IsFault bytes) stuck _ c.in_err-at.ensures.err in
     let p = err_from_is_err_and c.from_residual.result c.from_residual.ensures.1 in
-    rw (p.1, p.2) (no_refusal c.args.file bytes _ fault list h)
+    rw (p.1, p.2) (no_refusal c.args.file c.args.bytes.now _ (refused_there c.args.file c.args.bytes.now c.loop-at.list c.loop-at.at c.loop-at.invariant _ c.in_err-at.ensures.err) list h)
