@@ -1,19 +1,19 @@
 use crate::error_model::{Emv2Clause, Emv2Library};
 use crate::list::List;
-use crate::name::Name;
+use crate::identifier::Identifier;
 use crate::place::{End, Ref, Spot};
 
 /// A unit of a file: a package, or a property set by its name, which is read past.
 #[derive(Drop)]
 pub enum Unit {
     Package(PackageUnit),
-    PropertySet(Name, Spot),
+    PropertySet(Identifier, Spot),
 }
 
 /// A package (AS5506): its aliases, its classifiers and its error model text, each in order, whether public or private.
 #[derive(Drop)]
 pub struct PackageUnit {
-    pub name: List<Name>,
+    pub name: List<Identifier>,
     pub spot: Spot,
     pub aliases: List<Alias>,
     pub decls: List<Decl>,
@@ -24,20 +24,20 @@ pub struct PackageUnit {
 /// states none.
 #[derive(Drop)]
 pub struct Alias {
-    pub name: Name,
+    pub name: Identifier,
     /// Whether it stands for a package.
     pub package: bool,
     /// The names of the target.
-    pub names: List<Name>,
+    pub names: List<Identifier>,
     pub spot: Spot,
 }
 
 /// A classifier: a component type, or an implementation, which has an item.
 #[derive(Drop)]
 pub struct Decl {
-    pub name: Name,
+    pub name: Identifier,
     /// The identifier after the dot of an implementation.
-    pub item: Option<Name>,
+    pub item: Option<Identifier>,
     pub spot: Spot,
     pub extends: Option<Ref>,
     /// Where bindings of prototypes follow the extended name: their `(`.
@@ -53,7 +53,7 @@ pub struct Decl {
 /// A feature of a component type.
 #[derive(Drop)]
 pub struct Feature {
-    pub name: Name,
+    pub name: Identifier,
     pub spot: Spot,
     /// Whether it is `refined to`.
     pub refined: bool,
@@ -75,7 +75,7 @@ pub enum FeatureKind {
 /// A subcomponent of an implementation.
 #[derive(Drop)]
 pub struct Subcomponent {
-    pub name: Name,
+    pub name: Identifier,
     pub spot: Spot,
     /// Whether it is `refined to`.
     pub refined: bool,
@@ -89,7 +89,7 @@ pub struct Subcomponent {
 /// A connection of an implementation.
 #[derive(Drop)]
 pub struct Connection {
-    pub name: Name,
+    pub name: Identifier,
     pub spot: Spot,
     /// Whether it is `refined to`.
     pub refined: bool,

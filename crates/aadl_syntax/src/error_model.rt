@@ -1,5 +1,5 @@
 use crate::list::List;
-use crate::name::Name;
+use crate::identifier::Identifier;
 use crate::place::{End, Ref, Spot};
 use crate::token::Token;
 
@@ -21,7 +21,7 @@ pub struct TypesBlock {
 /// A declared error type, a type set, or an alias of one.
 #[derive(Drop)]
 pub struct TypeItem {
-    pub name: Name,
+    pub name: Identifier,
     pub spot: Spot,
     pub kind: TypeKind,
 }
@@ -60,7 +60,7 @@ pub enum Term {
 /// An error behavior state machine.
 #[derive(Drop)]
 pub struct MachineDecl {
-    pub name: Name,
+    pub name: Identifier,
     pub spot: Spot,
     /// Where it extends another machine: the word `extends`.
     pub extends: Option<Spot>,
@@ -77,7 +77,7 @@ pub struct MachineDecl {
 /// A declared event.
 #[derive(Drop)]
 pub struct EventDecl {
-    pub name: Name,
+    pub name: Identifier,
     pub spot: Spot,
     pub kind: EventKind,
     pub set: Option<TypeSet>,
@@ -94,7 +94,7 @@ pub enum EventKind {
 /// A declared state.
 #[derive(Drop)]
 pub struct StateDecl {
-    pub name: Name,
+    pub name: Identifier,
     pub spot: Spot,
     pub initial: bool,
     pub set: Option<TypeSet>,
@@ -104,7 +104,7 @@ pub struct StateDecl {
 /// its name, or of its first token where it has none.
 #[derive(Drop)]
 pub struct Transition {
-    pub name: Option<Name>,
+    pub name: Option<Identifier>,
     pub spot: Spot,
     pub source: Source,
     pub condition: Condition,
@@ -121,7 +121,7 @@ pub struct Source {
 /// A state by its name, perhaps with a set of types.
 #[derive(Drop)]
 pub struct StateRef {
-    pub name: Name,
+    pub name: Identifier,
     pub spot: Spot,
     pub set: Option<TypeSet>,
 }
@@ -144,7 +144,7 @@ pub enum Condition {
 #[derive(Drop)]
 pub struct Atom {
     pub inward: bool,
-    pub names: List<Name>,
+    pub names: List<Identifier>,
     pub spot: Spot,
     pub set: Option<TypeSet>,
 }
@@ -175,7 +175,7 @@ pub struct Emv2Clause {
 /// A point by its names, or by a word as `processor`.
 #[derive(Drop)]
 pub struct PointRef {
-    pub names: List<Name>,
+    pub names: List<Identifier>,
     pub spot: Spot,
 }
 
@@ -191,7 +191,7 @@ pub struct PointItem {
 /// An error flow.
 #[derive(Drop)]
 pub struct Flow {
-    pub name: Name,
+    pub name: Identifier,
     pub spot: Spot,
     pub kind: FlowKind,
 }
@@ -209,7 +209,7 @@ pub enum FlowKind {
 /// An outgoing propagation condition: from a source, on a condition unless its brackets are empty, at a point.
 #[derive(Drop)]
 pub struct Outgoing {
-    pub name: Option<Name>,
+    pub name: Option<Identifier>,
     pub spot: Spot,
     pub source: Source,
     pub condition: Option<Condition>,
@@ -220,7 +220,7 @@ pub struct Outgoing {
 /// A composite error state: its condition, `None` for `others`, and its target.
 #[derive(Drop)]
 pub struct Composite {
-    pub name: Option<Name>,
+    pub name: Option<Identifier>,
     pub spot: Spot,
     pub condition: Option<Condition>,
     pub target: StateRef,
@@ -229,14 +229,14 @@ pub struct Composite {
 /// A propagation point of the user's.
 #[derive(Drop)]
 pub struct UserPoint {
-    pub name: Name,
+    pub name: Identifier,
     pub spot: Spot,
 }
 
 /// A propagation path of the user's.
 #[derive(Drop)]
 pub struct UserPath {
-    pub name: Name,
+    pub name: Identifier,
     pub spot: Spot,
     pub from: End,
     pub to: End,
@@ -245,7 +245,7 @@ pub struct UserPath {
 /// A property association: the property, the tokens of its value, and the paths to which it applies.
 #[derive(Drop)]
 pub struct Association {
-    pub name: List<Name>,
+    pub name: List<Identifier>,
     pub value: List<Token>,
-    pub targets: List<List<Name>>,
+    pub targets: List<List<Identifier>>,
 }

@@ -1,5 +1,5 @@
 use crate::list::List;
-use crate::name::Name;
+use crate::identifier::Identifier;
 
 /// A place in a text: byte `at` of a file. Both are numbered from 0.
 #[derive(Clone, Copy, PartialEq, Eq)]
@@ -12,14 +12,14 @@ pub struct Spot {
 /// The spot is that of the first of them.
 #[derive(Drop)]
 pub struct Ref {
-    pub names: List<Name>,
-    pub item: Option<Name>,
+    pub names: List<Identifier>,
+    pub item: Option<Identifier>,
     pub spot: Spot,
 }
 
 /// An end of a connection or of a path: names with dots between them. The spot is that of the first.
 #[derive(Drop)]
 pub struct End {
-    pub names: List<Name>,
+    pub names: List<Identifier>,
     pub spot: Spot,
 }
