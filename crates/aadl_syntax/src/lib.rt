@@ -29,4 +29,3 @@ pub use order::FirstRefusal;
 pub use place::{End, Ref, Spot};
 pub use refusal::{Answer, Code, Mem, Place, Refusal, Stop};
 pub use token::{Token, TokenKind};
-
