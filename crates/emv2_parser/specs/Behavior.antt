@@ -16,7 +16,7 @@ use Rattle.emv2_parser.specs.declared.behavior.OutgoingEffect.{OutgoingEffect}
 use Rattle.emv2_parser.specs.declared.behavior.CompositeRule.{CompositeRule}
 use Rattle.emv2_parser.specs.declared.behavior.PathEnds.{PathEnds}
 use Rattle.emv2_parser.specs.Words.{is_name, point_words, begins_source, begins_composite, begins_transitions, begins_propagations, component_words}
-use Rattle.emv2_parser.specs.Names.{error_name, spot, point_word, dotted_names, flow_end, state_reference, label, tail_end, block_end}
+use Rattle.emv2_parser.specs.Names.{error_name, spot, point_word, dotted_names, flow_end, state_reference, label, tail_end, block_end, condition_open, condition_close}
 use Rattle.emv2_parser.specs.Conditions.{whole_condition}
 use Rattle.emv2_parser.specs.Machines.{source, use_transformations, events_after, transitions_after}
 
@@ -33,11 +33,9 @@ optional_condition = chooses (is_sign (codes "]") ∷ []) (gives None) some_cond
 -- "-" "[" [ cond ] "]" "->"
 unfoldable pub outgoing_condition : Rule (Option Condition)
 outgoing_condition = do
-  _ ← sign (codes "-")
-  _ ← sign (codes "[")
+  _ ← condition_open
   condition ← optional_condition
-  _ ← sign (codes "]")
-  _ ← sign (codes "->")
+  _ ← condition_close
   gives condition
 
 -- "-" "[" [ cond ] "]" "->" point [ tset ] tail ";"
@@ -146,8 +144,7 @@ unfoldable pub composite_condition : Rule (Option Condition)
 composite_condition = do
   _ ← sign (codes "[")
   condition ← others_or_condition
-  _ ← sign (codes "]")
-  _ ← sign (codes "->")
+  _ ← condition_close
   gives condition
 
 -- "[" ( cond | "others" ) "]" "->" ID [ tset ] ";"

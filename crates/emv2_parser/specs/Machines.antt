@@ -18,7 +18,7 @@ use Rattle.emv2_parser.specs.declared.machines.EventWords.{EventWords}
 use Rattle.emv2_parser.specs.declared.machines.StateKind.{StateKind}
 use Rattle.emv2_parser.specs.declared.machines.TransitionEffect.{TransitionEffect}
 use Rattle.emv2_parser.specs.Words.{is_name, begins_source, machine_words}
-use Rattle.emv2_parser.specs.Names.{error_name, names, spot, use_types_after, optional_set, state_reference, label, tail_end, block_end}
+use Rattle.emv2_parser.specs.Names.{error_name, names, spot, use_types_after, optional_set, state_reference, label, tail_end, block_end, condition_open, condition_close}
 use Rattle.emv2_parser.specs.Properties.{properties_after}
 use Rattle.emv2_parser.specs.Conditions.{whole_condition}
 
@@ -165,11 +165,9 @@ transition_targets = chooses (is_sign (codes "(") ∷ []) branches (target_state
 -- "-" "[" cond "]" "->"
 unfoldable pub transition_condition : Rule Condition
 transition_condition = do
-  _ ← sign (codes "-")
-  _ ← sign (codes "[")
+  _ ← condition_open
   condition ← whole_condition
-  _ ← sign (codes "]")
-  _ ← sign (codes "->")
+  _ ← condition_close
   gives condition
 
 -- "-" "[" cond "]" "->" target ";"

@@ -79,6 +79,18 @@ block_end name = do
   _ ← word name
   sign (codes ";")
 
+-- "-" "["
+unfoldable pub condition_open : Rule (Unit {0})
+condition_open = do
+  _ ← sign (codes "-")
+  sign (codes "[")
+
+-- "]" "->"
+unfoldable pub condition_close : Rule (Unit {0})
+condition_close = do
+  _ ← sign (codes "]")
+  sign (codes "->")
+
 -- "." ID
 unfoldable pub dotted_name : Rule (List ℕ)
 dotted_name = do

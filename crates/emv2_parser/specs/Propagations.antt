@@ -25,26 +25,31 @@ negation = chooses (is_word (codes "not") ∷ [])
       gives true)
     (gives false)
 
--- ( "in" | "out" ) "propagation": whether it is outward
-unfoldable pub direction : Rule Bool
-direction = chooses (is_word (codes "in") ∷ [])
+-- "in" | "out": whether it is outward
+unfoldable pub outward : Rule Bool
+outward = chooses (is_word (codes "in") ∷ [])
     (do
       _ ← word (codes "in")
-      _ ← word (codes "propagation")
       gives false)
     (do
       _ ← word (codes "out")
-      _ ← word (codes "propagation")
       gives true)
+
+-- ( "in" | "out" ) "propagation": whether it is outward
+unfoldable pub direction : Rule Bool
+direction = do
+  is_outward ← outward
+  _ ← word (codes "propagation")
+  gives is_outward
 
 -- [ "not" ] ( "in" | "out" ) "propagation" tset tail ";"
 unfoldable pub propagation_words : Rule PropagationWords
 propagation_words = do
   negative ← negation
-  outward ← direction
+  is_outward ← direction
   set ← type_set
   _ ← tail_end
-  gives (record { negative = negative; outward = outward; set = set })
+  gives (record { negative = negative; outward = is_outward; set = set })
 
 -- pitem = point ":" [ "not" ] ( "in" | "out" ) "propagation" tset tail ";"
 unfoldable pub point_item : Rule PointItem

@@ -10,7 +10,8 @@ ghost use Rattle.emv2_parser.specs.Takes.{outgoing-takes, composite-takes, compo
 use crate::conditions::whole_condition;
 use crate::machines::{events_after, source, transitions_after, use_transformations};
 use crate::names::{
-    block_end, dotted_names, flow_end, label, point_word, spot, state_reference, tail_end,
+    block_end, condition_close, condition_open, dotted_names, flow_end, label, point_word, spot,
+    state_reference, tail_end,
 };
 use crate::words::{
     component_block_at, composite_at, error_name, name_at, point_name, point_word_at,
@@ -65,11 +66,9 @@ fn optional_condition(reader: &mut Reader) -> Result<Option<Condition>, ReadErro
 fn outgoing_condition(reader: &mut Reader) -> Result<Option<Condition>, ReadError>
     ensures { Gives result outgoing_condition reader.old reader.new }
 {
-    reader.sign(b"-")?;
-    reader.sign(b"[")?;
+    condition_open(reader)?;
     let condition = optional_condition(reader)?;
-    reader.sign(b"]")?;
-    reader.sign(b"->")?;
+    condition_close(reader)?;
     Ok(condition)
 }
 
@@ -248,8 +247,7 @@ fn composite_condition(reader: &mut Reader) -> Result<Option<Condition>, ReadErr
 {
     reader.sign(b"[")?;
     let condition = others_or_condition(reader)?;
-    reader.sign(b"]")?;
-    reader.sign(b"->")?;
+    condition_close(reader)?;
     Ok(condition)
 }
 

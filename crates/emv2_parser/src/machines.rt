@@ -7,7 +7,8 @@ ghost use Rattle.emv2_parser.specs.Takes.{event-takes, state-takes, transition-t
 
 use crate::conditions::whole_condition;
 use crate::names::{
-    block_end, label, names, optional_set, spot, state_reference, tail_end, use_types_after,
+    block_end, condition_close, condition_open, label, names, optional_set, spot, state_reference,
+    tail_end, use_types_after,
 };
 use crate::properties::properties_after;
 use crate::words::{error_name, machine_block_at, name_at, source_at};
@@ -253,11 +254,9 @@ fn transition_targets(reader: &mut Reader) -> Result<List<StateRef>, ReadError>
 fn transition_condition(reader: &mut Reader) -> Result<Condition, ReadError>
     ensures { Gives result transition_condition reader.old reader.new }
 {
-    reader.sign(b"-")?;
-    reader.sign(b"[")?;
+    condition_open(reader)?;
     let condition = whole_condition(reader)?;
-    reader.sign(b"]")?;
-    reader.sign(b"->")?;
+    condition_close(reader)?;
     Ok(condition)
 }
 

@@ -3,7 +3,7 @@ ghost use Rattle.grammar_rules.specs.Reader.{Gives, given};
 ghost use Rattle.grammar_rules.specs.Rules.{chooses};
 ghost use Rattle.grammar_rules.specs.Tokens.{is_sign, is_word, is_one_of};
 ghost use Rattle.emv2_parser.specs.Words.{is_name, point_words};
-ghost use Rattle.emv2_parser.specs.Names.{spot, further_name, names, reference, further_reference, references_after, use_types_after, tail_end, block_end, dotted_name, dotted_names, point_word, point, factor, product, set_term, further_term, type_set, optional_set, flow_end, state_reference, label};
+ghost use Rattle.emv2_parser.specs.Names.{spot, further_name, names, reference, further_reference, references_after, use_types_after, tail_end, block_end, condition_open, condition_close, dotted_name, dotted_names, point_word, point, factor, product, set_term, further_term, type_set, optional_set, flow_end, state_reference, label};
 ghost use Rattle.emv2_parser.specs.Takes.{further_name-takes, further_reference-takes, dotted_name-takes, factor-takes, further_term-takes};
 
 use crate::words::{error_name, name_at, point_name, point_word_at};
@@ -105,6 +105,24 @@ pub(crate) fn block_end(reader: &mut Reader, name: &[u8]) -> Result<(), ReadErro
     reader.word(b"end")?;
     reader.word(name)?;
     reader.sign(b";")
+}
+
+/// Reads what stands before the condition of a transition or of an outgoing condition.
+#[tactic(auto, unfolding(crate::specs::Names::condition_open))]
+pub(crate) fn condition_open(reader: &mut Reader) -> Result<(), ReadError>
+    ensures { Gives result condition_open reader.old reader.new }
+{
+    reader.sign(b"-")?;
+    reader.sign(b"[")
+}
+
+/// Reads what stands after a condition that leads to something.
+#[tactic(auto, unfolding(crate::specs::Names::condition_close))]
+pub(crate) fn condition_close(reader: &mut Reader) -> Result<(), ReadError>
+    ensures { Gives result condition_close reader.old reader.new }
+{
+    reader.sign(b"]")?;
+    reader.sign(b"->")
 }
 
 #[tactic(auto, unfolding(crate::specs::Names::dotted_name))]

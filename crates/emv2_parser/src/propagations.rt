@@ -1,7 +1,7 @@
 ghost use Rattle.std.specs.Prelude.{◌≡◌, [], ◌∷◌, codes};
 ghost use Rattle.grammar_rules.specs.Reader.{Gives, given};
 ghost use Rattle.emv2_parser.specs.Words.{is_name, begins_point};
-ghost use Rattle.emv2_parser.specs.Propagations.{negation, direction, propagation_words, point_item, when_part, source_state, source_flow, sink_flow, flow_mappings, path_target, path_flow, flow_kind, flow_words, flow, flows_after, points_after, propagations_head, clause_propagations};
+ghost use Rattle.emv2_parser.specs.Propagations.{negation, outward, direction, propagation_words, point_item, when_part, source_state, source_flow, sink_flow, flow_mappings, path_target, path_flow, flow_kind, flow_words, flow, flows_after, points_after, propagations_head, clause_propagations};
 ghost use Rattle.emv2_parser.specs.Takes.{point_item-takes, flow-takes};
 
 use crate::names::{
@@ -39,18 +39,25 @@ fn negation(reader: &mut Reader) -> Result<bool, ReadError>
     Ok(false)
 }
 
+#[tactic(auto, unfolding(crate::specs::Propagations::outward))]
+fn outward(reader: &mut Reader) -> Result<bool, ReadError>
+    ensures { Gives result outward reader.old reader.new }
+{
+    if reader.word_at(0, b"in") {
+        reader.word(b"in")?;
+        return Ok(false);
+    }
+    reader.word(b"out")?;
+    Ok(true)
+}
+
 #[tactic(auto, unfolding(crate::specs::Propagations::direction))]
 fn direction(reader: &mut Reader) -> Result<bool, ReadError>
     ensures { Gives result direction reader.old reader.new }
 {
-    if reader.word_at(0, b"in") {
-        reader.word(b"in")?;
-        reader.word(b"propagation")?;
-        return Ok(false);
-    }
-    reader.word(b"out")?;
+    let outward = outward(reader)?;
     reader.word(b"propagation")?;
-    Ok(true)
+    Ok(outward)
 }
 
 #[tactic(auto, unfolding(crate::specs::Propagations::propagation_words))]

@@ -1,8 +1,9 @@
 ghost use Rattle.std.specs.Prelude.{◌≡◌, [], ◌∷◌, codes};
-ghost use Rattle.grammar_rules.specs.Reader.{Gives, given};
+ghost use Rattle.grammar_rules.specs.Reader.{Gives};
 ghost use Rattle.grammar_rules.specs.Tokens.{is_word};
 ghost use Rattle.emv2_parser.specs.Words.{is_name};
 ghost use Rattle.emv2_parser.specs.Names.{use_types_after};
+ghost use Rattle.emv2_parser.specs.Properties.{properties_after};
 ghost use Rattle.emv2_parser.specs.Types.{set_kind, extended_type, plain_kind, renamed, alias_kind, type_kind, type_item, used_types, types_extends, types_properties, types_body, types_block};
 ghost use Rattle.emv2_parser.specs.Takes.{use_types-takes, type_item-takes};
 
@@ -112,15 +113,23 @@ fn types_extends(reader: &mut Reader) -> Result<List<Ref>, ReadError>
     Ok(refs)
 }
 
+// A block of property associations.
+fn some_properties(reader: &mut Reader) -> Result<List<Association>, ReadError>
+    ensures { Gives result (properties_after []) reader.old reader.new }
+{
+    let mut associations = List::new(reader.alloc());
+    properties_after(reader, &mut associations)?;
+    Ok(associations)
+}
+
 #[tactic(auto, unfolding(crate::specs::Types::types_properties))]
 fn types_properties(reader: &mut Reader) -> Result<List<Association>, ReadError>
     ensures { Gives result types_properties reader.old reader.new }
 {
-    let mut associations = List::new(reader.alloc());
     if reader.word_at(0, b"properties") {
-        properties_after(reader, &mut associations)?;
+        return some_properties(reader);
     }
-    Ok(associations)
+    Ok(List::new(reader.alloc()))
 }
 
 #[tactic(auto, unfolding(crate::specs::Types::types_body))]
