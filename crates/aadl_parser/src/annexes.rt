@@ -101,7 +101,10 @@ fn clause_named(reader: &mut Reader, clauses: &mut List<Emv2Clause>) -> Result<(
 
 /// Reads an annex of a classifier, and gives its clause after others.
 #[tactic(auto, unfolding(crate::specs::Annexes::clause_annex))]
-pub(crate) fn clause_annex(reader: &mut Reader, clauses: &mut List<Emv2Clause>) -> Result<(), ReadError>
+pub(crate) fn clause_annex(
+    reader: &mut Reader,
+    clauses: &mut List<Emv2Clause>,
+) -> Result<(), ReadError>
     ensures { Gives (given result clauses.new) (clause_annex clauses.old) reader.old reader.new }
 {
     reader.word(b"annex")?;

@@ -17,4 +17,3 @@ mod text;
 mod words;
 
 pub use text::{one_file, units};
-

@@ -93,11 +93,7 @@ fn declarations(reader: &mut Reader, whole: &mut PackageUnit) -> Result<(), Read
 }
 
 #[tactic(auto, unfolding(crate::specs::Packages::package_part))]
-fn package_part(
-    reader: &mut Reader,
-    name: &[u8],
-    whole: &mut PackageUnit,
-) -> Result<(), ReadError>
+fn package_part(reader: &mut Reader, name: &[u8], whole: &mut PackageUnit) -> Result<(), ReadError>
     ensures { Gives (given result whole.new) (package_part name.now whole.old) reader.old reader.new }
 {
     if reader.word_at(0, name) {

@@ -35,4 +35,3 @@ pub use refusal::{Answer, Code, Mem, Place, Refusal, Stop};
 pub use token::{Token, TokenKind, TokenRef};
 pub use token_slice::TokenSlice;
 pub use tokens::TokenList;
-

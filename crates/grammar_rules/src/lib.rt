@@ -14,4 +14,3 @@ pub use part::{Gathered, Parts};
 pub use reader::{ReadError, Reader, is_one_of, is_sign, is_word};
 pub use span::{Balanced, Span, Tail, ToEnd, closes};
 pub use text::{Grammar, TextError, one_reading, read_text};
-

@@ -1,7 +1,7 @@
 //! Rows that run the tool, with files and sinks in memory.
 
-use crate::expand::number_of;
-use crate::row::{Row, head_and_body};
+use crate::expand::{cut, number_of};
+use crate::row::{Row, has_key, head_and_body};
 use crate::text::Text;
 use aadl_syntax::{List, Mem, Word};
 use fta_outside::{MemoryFiles, MemorySink};
@@ -10,13 +10,8 @@ use std::alloc::Global;
 
 /// Writes what the row wants: the exit status, the output, and what stands on the error stream.
 pub fn put_wanted(row: &Row, out: &mut Text) {
-    out.put(b"exit ");
-    match row.first(b"exit:") {
-        Some(text) => {
-            out.put(text.bytes());
-            out.refuse_as(&text);
-        }
-        None => out.refuse("the row has no line `exit:`"),
+    if !row.put_first(b"exit:", out) {
+        out.refuse("the row has no line `exit:`");
     }
     out.put(b"\nout:\n");
     put_stream(row, b"out", out);
@@ -26,7 +21,7 @@ pub fn put_wanted(row: &Row, out: &mut Text) {
 
 /// Whether the row wants no more than a front of what stands on the error stream.
 pub fn wants_front(row: &Row) -> bool {
-    row.first(b"err begins:").is_some()
+    has_key(row.lines(b"err"), b"err begins:")
 }
 
 fn put_stream(row: &Row, key: &[u8], out: &mut Text) {
@@ -41,14 +36,11 @@ fn put_stream(row: &Row, key: &[u8], out: &mut Text) {
     }
 }
 
-/// Runs the words of the row, and writes what came.
-pub fn put_found(alloc: Global, row: &Row, found: &mut Text) -> Mem<()> {
-    let words = words_of(alloc, row, found)?;
-    let mut files = MemoryFiles::new(
-        files_of(alloc, row, found)?,
-        numbers_of(alloc, row, b"failing reads:", found)?,
-    );
-    put_run(alloc, row, words.as_slice(), &mut files, found)
+/// Runs the words of the row, and writes what came. What goes wrong in its lines is kept in mind in `scratch`.
+pub fn put_found(alloc: Global, row: &Row, scratch: &mut Text, found: &mut Text) -> Mem<()> {
+    let words = words_of(alloc, row, scratch)?;
+    let mut files = files_of(alloc, row, scratch)?;
+    put_run(alloc, row, words.as_slice(), &mut files, scratch, found)
 }
 
 fn put_run(
@@ -56,16 +48,17 @@ fn put_run(
     row: &Row,
     words: &[Word],
     files: &mut MemoryFiles,
+    scratch: &mut Text,
     found: &mut Text,
 ) -> Mem<()> {
-    let writes = numbers_of(alloc, row, b"failing writes:", found)?;
-    let piece = size_of(row, b"piece:", 64, found);
-    let room = size_of(row, b"room:", 65536, found);
-    let mut out = MemorySink::new(alloc, writes, piece, room)?;
-    let lines = numbers_of(alloc, row, b"failing lines:", found)?;
-    let mut err = MemorySink::new(alloc, lines, 5, 4096)?;
+    let mut out = sink_of(alloc, row, scratch)?;
+    let mut err = MemorySink::new(
+        alloc,
+        numbers_of(alloc, row, b"failing lines:", scratch)?,
+        5,
+        4096,
+    )?;
     let status = run(alloc, words, files, &mut out, &mut err);
-    found.put(b"exit ");
     found.put_number(u64::from(status.exit()));
     found.put(b"\nout:\n");
     found.put(out.bytes());
@@ -74,17 +67,25 @@ fn put_run(
     Ok(())
 }
 
+/// The sink of the output.
+fn sink_of(alloc: Global, row: &Row, scratch: &mut Text) -> Mem<MemorySink> {
+    let piece = size_of(row, b"piece:", 64, scratch);
+    let room = size_of(row, b"room:", 65536, scratch);
+    let writes = numbers_of(alloc, row, b"failing writes:", scratch)?;
+    MemorySink::new(alloc, writes, piece, room)
+}
+
 /// A word, or the name of a file, of these bytes.
 fn word_of(alloc: Global, bytes: &[u8]) -> Mem<Word> {
     List::of(Vec::from_slice(alloc, bytes)?)
 }
 
 /// The words of the lines `words:`, which blanks part, and of the lines `word:`, of which each gives one.
-fn words_of(alloc: Global, row: &Row, trouble: &mut Text) -> Mem<Vec<Word>> {
+fn words_of(alloc: Global, row: &Row, scratch: &mut Text) -> Mem<Vec<Word>> {
     let mut words = Vec::new(alloc);
     for line in row.lines(b"word") {
         if line.starts_with(b"word") {
-            add_words(alloc, row, line, &mut words, trouble)?;
+            add_words(alloc, row, line, &mut words, scratch)?;
         }
     }
     Ok(words)
@@ -95,16 +96,16 @@ fn add_words(
     row: &Row,
     line: &[u8],
     words: &mut Vec<Word>,
-    trouble: &mut Text,
+    scratch: &mut Text,
 ) -> Mem<()> {
     let (head, body) = head_and_body(line);
-    let text = row.text(body);
-    trouble.refuse_as(&text);
+    scratch.clear();
+    row.put(body, scratch);
     if head == b"word".as_slice() {
-        words.push(word_of(alloc, text.bytes())?)?;
+        words.push(word_of(alloc, scratch.bytes())?)?;
         return Ok(());
     }
-    for piece in text.bytes().split(|b| *b == b' ') {
+    for piece in scratch.bytes().split(|b| *b == b' ') {
         if !piece.is_empty() {
             words.push(word_of(alloc, piece)?)?;
         }
@@ -113,11 +114,12 @@ fn add_words(
 }
 
 /// The files of the row and of its scene; of two of one name the first counts, which is the row's.
-fn files_of(alloc: Global, row: &Row, trouble: &mut Text) -> Mem<Vec<(Word, Vec<u8>)>> {
+fn files_of(alloc: Global, row: &Row, scratch: &mut Text) -> Mem<MemoryFiles> {
     let mut files = Vec::new(alloc);
-    add_files(alloc, row, row.own, &mut files, trouble)?;
-    add_files(alloc, row, row.scene, &mut files, trouble)?;
-    Ok(files)
+    add_files(alloc, row, row.own, &mut files, scratch)?;
+    add_files(alloc, row, row.scene, &mut files, scratch)?;
+    let failing = numbers_of(alloc, row, b"failing reads:", scratch)?;
+    Ok(MemoryFiles::new(files, failing))
 }
 
 fn add_files(
@@ -139,29 +141,34 @@ fn add_files(
 }
 
 /// The numbers in the first line of a key.
-fn numbers_of(alloc: Global, row: &Row, key: &[u8], trouble: &mut Text) -> Mem<Vec<u64>> {
+fn numbers_of(alloc: Global, row: &Row, key: &[u8], scratch: &mut Text) -> Mem<Vec<u64>> {
     let mut numbers = Vec::new(alloc);
-    let Some(text) = row.first(key) else {
-        return Ok(numbers);
-    };
-    for word in text.bytes().split(|b| *b == b' ') {
-        match number_of(word) {
-            Some(number) => numbers.push(number)?,
-            None => trouble.refuse("a call that fails is no number"),
+    if row.put_first(key, scratch) {
+        let mut rest = scratch.bytes();
+        for _ in 0..scratch.bytes().len() {
+            let (word, more) = cut(rest, b" ");
+            match number_of(word) {
+                Some(number) => numbers.push(number)?,
+                None => break,
+            }
+            rest = more;
+        }
+        if !rest.is_empty() {
+            scratch.refuse("a call that fails is no number");
         }
     }
     Ok(numbers)
 }
 
 /// The number in the first line of a key, or another one where there is no such line.
-fn size_of(row: &Row, key: &[u8], default: usize, trouble: &mut Text) -> usize {
-    let Some(text) = row.first(key) else {
+fn size_of(row: &Row, key: &[u8], default: usize, scratch: &mut Text) -> usize {
+    if !row.put_first(key, scratch) {
         return default;
-    };
-    match number_of(text.bytes()) {
+    }
+    match number_of(scratch.bytes()) {
         Some(number) => number as usize,
         None => {
-            trouble.refuse("a size is no number");
+            scratch.refuse("a size is no number");
             default
         }
     }

@@ -1,7 +1,7 @@
 //! Runs rows of files: what the tool, and what each parser, is to answer to a text.
 //!
 //! The words of the program name files, which are read in this order. One whose name ends in `.rows` has rows, as README.md
-//! says; any other is a text of its name, for the rows after it.
+//! says; any other is a text of its name, without the folders before it, for the rows after it.
 #![tactic(auto)]
 
 mod command;
@@ -59,9 +59,17 @@ fn run_file(rt: &HostRuntime, texts: &mut Texts, name: &str) -> io::Result<Repor
         )?;
         print_report(rt, name, &report)?;
     } else {
-        texts.name_bytes(name.as_bytes(), bytes)?;
+        texts.name_bytes(last_part(name).as_bytes(), bytes)?;
     }
     Ok(report)
+}
+
+/// The name of a file without the folders before it.
+fn last_part(path: &str) -> &str {
+    match path.rsplit_once('/') {
+        Some((_, last)) => last,
+        None => path,
+    }
 }
 
 fn print_report(rt: &HostRuntime, name: &str, report: &Report) -> io::Result<()> {

@@ -11,7 +11,7 @@ use emv2_parser::{clause, library};
 use std::alloc::Global;
 
 /// How a text is read.
-#[derive(Clone, Copy, PartialEq, Eq)]
+#[derive(Clone, Copy)]
 pub enum Reading {
     /// As tokens.
     Tokens,

@@ -21,7 +21,8 @@ pub fn head_and_body<'a>(line: &'a [u8]) -> (&'a [u8], &'a [u8]) {
     (head, body.strip_prefix(b" ").unwrap_or(body))
 }
 
-fn have_key(lines: &[&[u8]], key: &[u8]) -> bool {
+/// Whether one of these lines begins with a key.
+pub fn has_key(lines: &[&[u8]], key: &[u8]) -> bool {
     for line in lines {
         if line.starts_with(key) {
             return true;
@@ -33,7 +34,7 @@ fn have_key(lines: &[&[u8]], key: &[u8]) -> bool {
 impl<'a> Row<'a> {
     /// The lines to look at for a key: its own where one of them begins with it, and else those of the scene.
     pub fn lines(&self, key: &[u8]) -> &'a [&'a [u8]] {
-        if have_key(self.own, key) {
+        if has_key(self.own, key) {
             self.own
         } else {
             self.scene
@@ -55,15 +56,17 @@ impl<'a> Row<'a> {
         out
     }
 
-    /// The first line that begins with a key, without it.
-    pub fn first(&self, key: &[u8]) -> Option<Text> {
+    /// Writes the body of the first line that begins with a key over another text; false where there is none.
+    pub fn put_first(&self, key: &[u8], over: &mut Text) -> bool {
         for line in self.lines(key) {
             if line.starts_with(key) {
                 let (_, body) = head_and_body(line);
-                return Some(self.text(body));
+                over.clear();
+                self.put(body, over);
+                return true;
             }
         }
-        None
+        false
     }
 
     /// Writes what the own lines stand for that begin with `|`, each with a line feed, without one blank before it.

@@ -52,7 +52,7 @@ pub fn run_sheet(
 
 /// Runs the items, each of which goes on until the next begins.
 fn run_lines(texts: &mut Texts, file: &[u8], lines: &[&[u8]], report: &mut Report) {
-    let mut scene: &[&[u8]] = &[];
+    let mut scene = (0usize, 0usize);
     let mut start = 0usize;
     for end in 1..=lines.len() {
         if ends_item(lines, end) {
@@ -62,9 +62,10 @@ fn run_lines(texts: &mut Texts, file: &[u8], lines: &[&[u8]], report: &mut Repor
                 number: start as u64,
             };
             if begins_with(item, b"scene") {
-                scene = item;
+                scene = (start, end);
             }
-            run_item(texts, line, scene, item, report);
+            let shared = lines.get(scene.0..scene.1).unwrap_or(&[]);
+            run_item(texts, line, shared, item, report);
             start = end;
         }
     }
@@ -246,9 +247,11 @@ fn run_with(row: &Row, trial: Trial, line: Line, hole: &[u8], report: &mut Repor
 
 fn holds_in_run(row: &Row, wanted: &mut Text, found: &mut Text) -> bool {
     put_wanted(row, wanted);
-    if put_found(row.texts.alloc(), row, found).is_err() {
+    let mut scratch = Text::new(row.texts.alloc());
+    if put_found(row.texts.alloc(), row, &mut scratch, found).is_err() {
         found.refuse("memory is wanting");
     }
+    found.refuse_as(&scratch);
     if wants_front(row) {
         return found.bytes().starts_with(wanted.bytes());
     }

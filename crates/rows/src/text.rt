@@ -54,6 +54,11 @@ impl Text {
         self.bytes.as_slice()
     }
 
+    /// Begins anew, and keeps in mind what went wrong.
+    pub fn clear(&mut self) {
+        self.bytes.clear();
+    }
+
     /// The bytes, where nothing went wrong.
     pub fn into_bytes(self) -> Vec<u8> {
         self.bytes

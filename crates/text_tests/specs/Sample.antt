@@ -3,7 +3,7 @@
 --     sample = "use" ID { "::" ID } ";"
 --            | "item" ID [ "." ID ] tail ";"
 --            | "skip" to-end "end" ";"
---            | AnnexBegin balanced AnnexEnd
+--            | "emv2" AnnexBegin balanced AnnexEnd
 use Rattle.std.specs.Prelude.{ℕ, List, [], ◌∷◌, length, codes}
 use Rattle.std.proofs.Common.{ap, arith}
 use Rattle.aadl_syntax.specs.declared.token.TokenKind.TheVariants.{AnnexBegin, AnnexEnd}
@@ -66,9 +66,10 @@ skipped = do
   _ ← sign (codes ";")
   gives []
 
--- AnnexBegin balanced AnnexEnd
+-- "emv2" AnnexBegin balanced AnnexEnd
 unfoldable pub annexed : Rule (List (List ℕ))
 annexed = do
+  _ ← word (codes "emv2")
   _ ← kind AnnexBegin
   _ ← until ends_balanced
   _ ← kind AnnexEnd
