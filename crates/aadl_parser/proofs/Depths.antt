@@ -1,5 +1,5 @@
 -- The count of open brackets, as a loop over the tokens makes it.
-use Rattle.std.proofs.Common.{◌≡◌, ℕ, suc, ◌+◌, ◌<◌, ◌≤◌, Bool, true, false, List, length, take, get_or, nat_lt, refl, sym, ◌∙◌, ap, subst, arith, ltb-true, ltb-false, add-one}
+use Rattle.std.proofs.Common.{◌≡◌, ℕ, suc, ◌+◌, ◌<◌, ◌≤◌, Bool, true, false, List, length, take, get_or, nat_lt, nat_le, refl, sym, ◌∙◌, ap, subst, arith, ltb-true, ltb-false, leb-true, leb-false, add-one}
 use Rattle.std.proofs.lemmas.List.Sums.{fold_more}
 use Rattle.aadl_syntax.specs.declared.token.Token.{Token}
 use Rattle.aadl_parser.specs.Nesting.{after_token, open_after, nesting_limit, IsShallow, NestedAt}
@@ -20,6 +20,15 @@ module _ {tokens : List Token} {k count after : ℕ} {t : Token} (p : Counted to
     over = subst (λ n. nesting_limit < open_after (take n tokens)) (add-one k) (subst (λ n. nesting_limit < n) one_more over);
     first = p.shallow;
   }
+
+  pub one_on : after ≤ nesting_limit → Counted tokens (k + 1) after
+  one_on few = record { within = omega arith; count_is = one_more; shallow = λ j h. either j h (nat_le j k) refl } where
+    either : (j : ℕ) → j ≤ k + 1 → (b : Bool) → nat_le j k ≡ b → open_after (take j tokens) ≤ nesting_limit
+    either j h true l = p.shallow j (leb-true j k l)
+    either j h false l =
+        let g = leb-false j k l in
+        let e : k + 1 ≡ j = omega arith in
+        subst (λ n. open_after (take n tokens) ≤ nesting_limit) e (subst (λ n. n ≤ nesting_limit) one_more few)
 
 pub not_nested : {tokens : List Token} {number : ℕ} → IsShallow tokens → NestedAt tokens number → ⊥
 not_nested {tokens} {number} shallow n = let h = shallow (suc number) (let l = n.within in omega arith) in let o = n.over in omega arith

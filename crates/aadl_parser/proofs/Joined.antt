@@ -10,6 +10,6 @@ pub joined : {A B : Type 0} {first : Rule A} {next : A → Rule B} {old middle n
     → Gives (Ok x) first old middle → Gives result (next x) middle new → Gives result (joins first next) old new
 joined {A} {B} {first} {next} {old} {middle} {new} {x} {result} gave rest = record {
   same_file = rest.same_file ∙ gave.same_file;
-  answer = subst (λ (o : Outcome A). Answers result (followed o (λ v left unseen. run old.file (next v) left unseen)) new.tokens.now new.unseen) (sym gave.answer)
-      (subst (λ f. Answers result (run f (next x) middle.tokens.now middle.unseen) new.tokens.now new.unseen) gave.same_file rest.answer);
+  answer = subst (λ (o : Outcome A). Answers result (followed o (λ v left unseen. run old.file (next v) left unseen)) new.tokens new.unseen) (sym gave.answer)
+      (subst (λ f. Answers result (run f (next x) middle.tokens middle.unseen) new.tokens new.unseen) gave.same_file rest.answer);
 }

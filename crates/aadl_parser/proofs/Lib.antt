@@ -1,3 +1,4 @@
 mod Depths
 mod Joined
 mod Stops
+mod TwoNames

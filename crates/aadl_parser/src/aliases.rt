@@ -4,12 +4,12 @@ ghost use Rattle.aadl_parser.specs.Aliases.{package_alias, group_alias, classifi
 
 use crate::names::{category, last_name, names, two_names};
 use crate::words::{core_name, name_at};
-use aadl_syntax::{Alias, Name, Spot};
+use aadl_syntax::{Alias, Identifier, Spot};
 use emv2_parser::spot;
 use grammar_rules::{ReadError, Reader};
 
 #[tactic(auto, unfolding(crate::specs::Aliases::package_alias))]
-fn package_alias(reader: &mut Reader, name: Name, spot: Spot) -> Result<Option<Alias>, ReadError>
+fn package_alias(reader: &mut Reader, name: Identifier, spot: Spot) -> Result<Option<Alias>, ReadError>
     ensures { Gives result (package_alias name spot) reader.old reader.new }
 {
     reader.word(b"package")?;
@@ -33,7 +33,7 @@ fn group_alias(reader: &mut Reader) -> Result<Option<Alias>, ReadError>
 }
 
 #[tactic(auto, unfolding(crate::specs::Aliases::classifier_alias))]
-fn classifier_alias(reader: &mut Reader, name: Name, spot: Spot) -> Result<Option<Alias>, ReadError>
+fn classifier_alias(reader: &mut Reader, name: Identifier, spot: Spot) -> Result<Option<Alias>, ReadError>
     ensures { Gives result (classifier_alias name spot) reader.old reader.new }
 {
     category(reader)?;
@@ -47,7 +47,7 @@ fn classifier_alias(reader: &mut Reader, name: Name, spot: Spot) -> Result<Optio
 }
 
 #[tactic(auto, unfolding(crate::specs::Aliases::alias_of))]
-fn alias_of(reader: &mut Reader, name: Name, spot: Spot) -> Result<Option<Alias>, ReadError>
+fn alias_of(reader: &mut Reader, name: Identifier, spot: Spot) -> Result<Option<Alias>, ReadError>
     ensures { Gives result (alias_of name spot) reader.old reader.new }
 {
     if reader.word_at(0, b"package") {
@@ -89,7 +89,9 @@ fn last_alias(reader: &mut Reader) -> Result<Option<Alias>, ReadError>
     category(reader)?;
     let spot = spot(reader)?;
     let names = two_names(reader)?;
-    let name = last_name(reader.alloc(), names.items())?;
+    let Some(name) = last_name(reader.alloc(), names.items())? else {
+        return Err(ReadError::Refused);
+    };
     Ok(Some(Alias {
         name,
         package: false,

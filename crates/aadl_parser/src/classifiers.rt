@@ -12,7 +12,7 @@ use crate::names::{Classifier, category, dotted_name, reference};
 use crate::runs::{bindings, past};
 use crate::subcomponents::subcomponents_after;
 use crate::words::{core_name, ending_at, inner_at, inner_word, section_at, skipped_word};
-use aadl_syntax::{Decl, List, Name, Spot};
+use aadl_syntax::{Decl, List, Identifier, Spot};
 use emv2_parser::spot;
 use grammar_rules::{Gathered, ReadError, Reader, ToEnd};
 use std::alloc::Global;
@@ -187,8 +187,8 @@ fn optional_extension(reader: &mut Reader) -> Result<Classifier, ReadError>
 
 fn bare_decl(
     alloc: Global,
-    name: Name,
-    item: Option<Name>,
+    name: Identifier,
+    item: Option<Identifier>,
     spot: Spot,
     extended: Classifier,
 ) -> Decl
@@ -211,8 +211,8 @@ fn bare_decl(
 #[tactic(auto, unfolding(crate::specs::Classifiers::decl_of))]
 fn decl_of(
     reader: &mut Reader,
-    name: Name,
-    item: Option<Name>,
+    name: Identifier,
+    item: Option<Identifier>,
     spot: Spot,
 ) -> Result<Decl, ReadError>
     ensures { Gives result (decl_of name item spot) reader.old reader.new }

@@ -11,7 +11,7 @@ use crate::features::{accessed, refinement};
 use crate::names::DottedNames;
 use crate::runs::tail_end;
 use crate::words::{core_name, end_at, name_at, processor_at, processor_name};
-use aadl_syntax::{Connection, ConnectionKind, End, Ends, List, Name, Spot};
+use aadl_syntax::{Connection, ConnectionKind, End, Ends, List, Identifier, Spot};
 use emv2_parser::spot;
 use grammar_rules::{Parts, ReadError, Reader};
 
@@ -65,7 +65,7 @@ fn connection_kind(reader: &mut Reader) -> Result<ConnectionKind, ReadError>
 }
 
 #[tactic(auto, unfolding(crate::specs::Connections::end_name))]
-fn end_name(reader: &mut Reader) -> Result<Name, ReadError>
+fn end_name(reader: &mut Reader) -> Result<Identifier, ReadError>
     ensures { Gives result end_name reader.old reader.new }
 {
     if processor_at(reader) {
@@ -122,7 +122,7 @@ fn ends_of(reader: &mut Reader, refined: bool) -> Result<Option<Ends>, ReadError
 #[tactic(auto, unfolding(crate::specs::Connections::connection_of))]
 fn connection_of(
     reader: &mut Reader,
-    name: Name,
+    name: Identifier,
     spot: Spot,
     refined: bool,
 ) -> Result<Connection, ReadError>

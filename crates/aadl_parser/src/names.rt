@@ -1,4 +1,4 @@
-ghost use Rattle.std.specs.Prelude.{◌≡◌, ◌<◌, [], ◌∷◌, codes, length, IfOk};
+ghost use Rattle.std.specs.Prelude.{◌≡◌, ◌<◌, [], ◌∷◌, codes, IfOk, MatchOption};
 ghost use Rattle.grammar_rules.specs.Reader.{Gives, given};
 ghost use Rattle.grammar_rules.specs.Tokens.{is_sign};
 ghost use Rattle.aadl_parser.specs.Words.{is_name};
@@ -6,7 +6,7 @@ ghost use Rattle.aadl_parser.specs.Names.{further_name, names_after, names, two_
 ghost use Rattle.aadl_parser.specs.Takes.{further_name-takes, further_names-takes, dotted_name-takes};
 
 use crate::words::{category_word, core_name, either_word, name_at, optional_word};
-use aadl_syntax::{List, Mem, Name, Ref, Spot};
+use aadl_syntax::{List, Mem, Identifier, Ref, Spot};
 use emv2_parser::spot;
 use grammar_rules::{Parts, ReadError, Reader};
 use std::alloc::Global;
@@ -19,7 +19,7 @@ pub(crate) struct Classifier {
 }
 
 #[tactic(auto, unfolding(crate::specs::Names::further_name))]
-fn further_name(reader: &mut Reader) -> Result<Name, ReadError>
+fn further_name(reader: &mut Reader) -> Result<Identifier, ReadError>
     ensures { Gives result further_name reader.old reader.new }
 {
     reader.sign(b"::")?;
@@ -27,7 +27,7 @@ fn further_name(reader: &mut Reader) -> Result<Name, ReadError>
 }
 
 #[tactic(auto, unfolding(crate::specs::Names::names_after))]
-fn names_after(reader: &mut Reader, names: &mut List<Name>) -> Result<(), ReadError>
+fn names_after(reader: &mut Reader, names: &mut List<Identifier>) -> Result<(), ReadError>
     ensures { Gives (given result names.new) (names_after names.old) reader.old reader.new }
 {
     reader.more_parts::<FurtherNames>(names)
@@ -35,7 +35,7 @@ fn names_after(reader: &mut Reader, names: &mut List<Name>) -> Result<(), ReadEr
 
 /// Reads identifiers with `::` between them.
 #[tactic(auto, unfolding(crate::specs::Names::names))]
-pub(crate) fn names(reader: &mut Reader) -> Result<List<Name>, ReadError>
+pub(crate) fn names(reader: &mut Reader) -> Result<List<Identifier>, ReadError>
     ensures { Gives result names reader.old reader.new }
 {
     let mut names = List::new(reader.alloc());
@@ -46,7 +46,7 @@ pub(crate) fn names(reader: &mut Reader) -> Result<List<Name>, ReadError>
 
 /// Reads two identifiers or more with `::` between them.
 #[tactic(auto, unfolding(crate::specs::Names::two_names))]
-pub(crate) fn two_names(reader: &mut Reader) -> Result<List<Name>, ReadError>
+pub(crate) fn two_names(reader: &mut Reader) -> Result<List<Identifier>, ReadError>
     ensures { Gives result two_names reader.old reader.new }
 {
     let mut names = List::new(reader.alloc());
@@ -56,19 +56,19 @@ pub(crate) fn two_names(reader: &mut Reader) -> Result<List<Name>, ReadError>
     Ok(names)
 }
 
-/// A copy of the last of some names.
-pub(crate) fn last_name(alloc: Global, names: &[Name]) -> Mem<Name>
-    ensures { IfOk result (λ name. name ≡ last_name names.now) }
+/// A copy of the last of some names, where there is one.
+pub(crate) fn last_name(alloc: Global, names: &[Identifier]) -> Mem<Option<Identifier>>
+    ensures { IfOk result (λ last. MatchOption last (names.now ≡ []) (λ name. name ≡ last_name names.now)) }
 {
-    if names.is_empty() {
-        return Ok(List::new(alloc));
+    match names {
+        [.., last] => Ok(Some(Identifier::of(alloc, last.text())?)),
+        [] => Ok(None),
     }
-    List::of(Vec::from_slice(alloc, names[names.len() - 1].items())?)
 }
 
 /// Reads an identifier after a dot.
 #[tactic(auto, unfolding(crate::specs::Names::dotted_name))]
-pub(crate) fn dotted_name(reader: &mut Reader) -> Result<Name, ReadError>
+pub(crate) fn dotted_name(reader: &mut Reader) -> Result<Identifier, ReadError>
     ensures { Gives result dotted_name reader.old reader.new }
 {
     reader.sign(b".")?;
@@ -76,7 +76,7 @@ pub(crate) fn dotted_name(reader: &mut Reader) -> Result<Name, ReadError>
 }
 
 #[tactic(auto, unfolding(crate::specs::Names::optional_item))]
-fn optional_item(reader: &mut Reader) -> Result<Option<Name>, ReadError>
+fn optional_item(reader: &mut Reader) -> Result<Option<Identifier>, ReadError>
     ensures { Gives result optional_item reader.old reader.new }
 {
     if reader.sign_at(0, b".") {
@@ -97,7 +97,7 @@ pub(crate) fn reference(reader: &mut Reader) -> Result<Ref, ReadError>
 }
 
 #[tactic(auto, unfolding(crate::specs::Names::further_names))]
-fn further_names(reader: &mut Reader) -> Result<List<Name>, ReadError>
+fn further_names(reader: &mut Reader) -> Result<List<Identifier>, ReadError>
     ensures { Gives result further_names reader.old reader.new }
 {
     reader.sign(b",")?;
@@ -152,7 +152,7 @@ pub(crate) fn category(reader: &mut Reader) -> Result<(), ReadError>
 pub(crate) struct FurtherNames;
 
 impl Parts for FurtherNames {
-    type Part = Name;
+    type Part = Identifier;
 
     ghost tests = { is_sign (codes "::") ∷ is_name ∷ [] };
 
@@ -162,7 +162,7 @@ impl Parts for FurtherNames {
         reader.sign_at(0, b"::") && name_at(reader, 1)
     }
 
-    fn part(reader: &mut Reader) -> Result<Name, ReadError> {
+    fn part(reader: &mut Reader) -> Result<Identifier, ReadError> {
         further_name(reader)
     }
 
@@ -173,7 +173,7 @@ impl Parts for FurtherNames {
 pub(crate) struct FurtherPackages;
 
 impl Parts for FurtherPackages {
-    type Part = List<Name>;
+    type Part = List<Identifier>;
 
     ghost tests = { is_sign (codes ",") ∷ [] };
 
@@ -183,7 +183,7 @@ impl Parts for FurtherPackages {
         reader.sign_at(0, b",")
     }
 
-    fn part(reader: &mut Reader) -> Result<List<Name>, ReadError> {
+    fn part(reader: &mut Reader) -> Result<List<Identifier>, ReadError> {
         further_names(reader)
     }
 
@@ -194,7 +194,7 @@ impl Parts for FurtherPackages {
 pub(crate) struct DottedNames;
 
 impl Parts for DottedNames {
-    type Part = Name;
+    type Part = Identifier;
 
     ghost tests = { is_sign (codes ".") ∷ is_name ∷ [] };
 
@@ -204,7 +204,7 @@ impl Parts for DottedNames {
         reader.sign_at(0, b".") && name_at(reader, 1)
     }
 
-    fn part(reader: &mut Reader) -> Result<Name, ReadError> {
+    fn part(reader: &mut Reader) -> Result<Identifier, ReadError> {
         dotted_name(reader)
     }
 

@@ -11,7 +11,7 @@ use crate::classifiers::{classifier, group_type, type_end};
 use crate::names::{names, with_packages};
 use crate::runs::past;
 use crate::words::{core_name, declaration_at, name_at, unit_at};
-use aadl_syntax::{Alias, Emv2Library, List, Mem, Name, PackageUnit, Spot, Unit};
+use aadl_syntax::{Alias, Emv2Library, List, Mem, Identifier, PackageUnit, Spot, Unit};
 use emv2_parser::spot;
 use grammar_rules::{Gathered, Parts, ReadError, Reader, ToEnd};
 use std::alloc::Global;
@@ -123,7 +123,7 @@ fn package_end(reader: &mut Reader) -> Result<(), ReadError>
     reader.sign(b";")
 }
 
-fn empty_package(alloc: Global, name: List<Name>, spot: Spot) -> PackageUnit
+fn empty_package(alloc: Global, name: List<Identifier>, spot: Spot) -> PackageUnit
     ensures { result ≡ empty_package name spot }
 {
     PackageUnit {

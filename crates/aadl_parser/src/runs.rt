@@ -1,9 +1,11 @@
-ghost use Rattle.std.specs.Prelude.{◌≡◌, ◌∷◌, [], ◌||◌, codes, option_copied};
+ghost use Rattle.std.specs.Prelude.{◌≡◌, ◌∷◌, [], ◌||◌, codes};
+ghost use Rattle.std.specs.Option.{option_map};
+ghost use Rattle.aadl_syntax.specs.Token.{shown};
 ghost use Rattle.grammar_rules.specs.Reader.{Gives};
 ghost use Rattle.aadl_parser.specs.Runs.{begins_item, tail_end, past, array_place, array_tail, bindings_place, parenthesised, bindings, in_modes};
 
 use crate::words::is_ending;
-use aadl_syntax::{Spot, Token};
+use aadl_syntax::{Spot, TokenRef};
 use emv2_parser::spot;
 use grammar_rules::{Balanced, ReadError, Reader, Span, Tail, closes, is_sign};
 
@@ -16,16 +18,16 @@ impl Span for SkippedTokens {
     ghost stops = { ends_past };
 
     #[tactic(auto, unfolding(crate::specs::Runs::ends_past))]
-    fn stops_at(before: Option<&Token>, token: &Token) -> bool {
+    fn stops_at(before: Option<TokenRef>, token: &TokenRef) -> bool {
         item_begins(before) && is_ending(token)
     }
 }
 
-fn item_begins(before: Option<&Token>) -> bool
-    ensures { result ≡ begins_item (option_copied before.entry) }
+fn item_begins(before: Option<TokenRef>) -> bool
+    ensures { result ≡ begins_item (option_map shown before.entry) }
 {
     match before {
-        Some(token) => is_sign(token, b";"),
+        Some(token) => is_sign(&token, b";"),
         None => true,
     }
 }
@@ -39,7 +41,7 @@ impl Span for Front {
     ghost stops = { ends_front };
 
     #[tactic(auto, unfolding(crate::specs::Runs::ends_front))]
-    fn stops_at(_before: Option<&Token>, token: &Token) -> bool {
+    fn stops_at(_before: Option<TokenRef>, token: &TokenRef) -> bool {
         closes(token) || is_sign(token, b";") || is_sign(token, b"[")
     }
 }

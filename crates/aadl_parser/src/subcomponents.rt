@@ -8,7 +8,7 @@ use crate::features::refinement;
 use crate::names::{Classifier, category, reference};
 use crate::runs::{array_tail, bindings_place};
 use crate::words::{core_name, name_at};
-use aadl_syntax::{List, Name, Spot, Subcomponent};
+use aadl_syntax::{List, Identifier, Spot, Subcomponent};
 use emv2_parser::spot;
 use grammar_rules::{Parts, ReadError, Reader};
 
@@ -33,7 +33,7 @@ fn optional_classifier(reader: &mut Reader) -> Result<Classifier, ReadError>
 #[tactic(auto, unfolding(crate::specs::Subcomponents::subcomponent_of))]
 fn subcomponent_of(
     reader: &mut Reader,
-    name: Name,
+    name: Identifier,
     spot: Spot,
     refined: bool,
 ) -> Result<Subcomponent, ReadError>

@@ -13,7 +13,7 @@ ghost use Rattle.aadl_parser.specs.Files.{too_nested, StopsAt};
 
 use crate::nesting::too_nested_at;
 use crate::packages::file_units;
-use aadl_syntax::{Answer, Code, List, Place, Refusal, Stop, Token, Unit};
+use aadl_syntax::{Answer, Code, List, Place, Refusal, Stop, TokenList, Unit};
 use emv2_parser::syntax_error;
 use grammar_rules::{ReadError, Reader};
 use std::alloc::Global;
@@ -23,7 +23,7 @@ use std::alloc::Global;
 ///
 /// A file with more than 64 open brackets is refused as `TooNested` at the first bracket at which more are open, whatever else
 /// is wrong in it. Tokens that have no reading are refused as `Syntax`.
-pub fn units(alloc: Global, file: u32, tokens: &[Token], end: u32) -> Answer<List<Unit>>
+pub fn units(alloc: Global, file: u32, tokens: &TokenList, end: u32) -> Answer<List<Unit>>
     // What is answered is what the tokens read as; nowhere are too many brackets open in them.
     ensures found { IfOk result (λ value. IsShallow tokens.now × Reads file file_units tokens.now value []) }
 
@@ -43,7 +43,7 @@ pub fn units(alloc: Global, file: u32, tokens: &[Token], end: u32) -> Answer<Lis
 }
 
 /// Reads a file, however many brackets are open in it.
-fn shallow_units(alloc: Global, file: u32, tokens: &[Token], end: u32) -> Answer<List<Unit>>
+fn shallow_units(alloc: Global, file: u32, tokens: &TokenList, end: u32) -> Answer<List<Unit>>
     ensures found { IfOk result (λ value. Reads file file_units tokens.now value []) }
     ensures only { (value : _) → Reads file file_units tokens.now value [] → MatchResult result (λ answer. answer ≡ value) (λ stop. stop ≡ Memory) }
     ensures dead { IfErr result (λ stop. DeadAt file file_units tokens.now end stop) }
@@ -65,7 +65,7 @@ fn whole_file(reader: &mut Reader) -> Result<List<Unit>, ReadError>
 }
 
 /// The refusal of the bracket of this number, at which too many are open.
-fn nesting_error(file: u32, tokens: &[Token], end: u32, number: usize) -> Stop
+fn nesting_error(file: u32, tokens: &TokenList, end: u32, number: usize) -> Stop
     ensures { result ≡ Refused (too_nested file (place_of tokens.now end number)) }
 {
     let at = match tokens.get(number) {

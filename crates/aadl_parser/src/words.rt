@@ -1,10 +1,11 @@
 ghost use Rattle.std.specs.Prelude.{◌≡◌, [], ◌∷◌, map};
 ghost use Rattle.grammar_rules.specs.Reader.{Gives, Begins};
+ghost use Rattle.aadl_syntax.specs.Token.{shown};
 ghost use Rattle.grammar_rules.specs.Tokens.{is_one_of, one_of};
 ghost use Rattle.aadl_parser.specs.Words.{unit_words, declaration_words, category_words, section_words, skipped_words, inner_words, ending_words, direction_words, processor_words, is_name, begins_declaration, begins_end, any_of, optional_word, either_word};
 ghost use Rattle.aadl_parser.specs.Names.{core_name};
 
-use aadl_syntax::{Name, Token};
+use aadl_syntax::{Identifier, TokenRef};
 use grammar_rules::{ReadError, Reader, is_one_of};
 
 /// The words that the grammar of core text quotes.
@@ -218,15 +219,15 @@ pub(crate) fn end_at(reader: &mut Reader) -> bool
 
 /// Whether a token is a word that ends a section that is read past.
 #[tactic(auto, unfolding(crate::specs::Words::ending_words))]
-pub(crate) fn is_ending(token: &Token) -> bool
-    ensures { result ≡ is_one_of ending_words token.now }
+pub(crate) fn is_ending(token: &TokenRef) -> bool
+    ensures { result ≡ is_one_of ending_words (shown token.now) }
 {
     is_one_of(token, &ENDING_WORDS)
 }
 
 /// Reads an identifier.
 #[tactic(auto, unfolding(crate::specs::Names::core_name, crate::specs::Words::core_words))]
-pub(crate) fn core_name(reader: &mut Reader) -> Result<Name, ReadError>
+pub(crate) fn core_name(reader: &mut Reader) -> Result<Identifier, ReadError>
     ensures { Gives result core_name reader.old reader.new }
 {
     reader.identifier(&CORE_WORDS)
@@ -234,7 +235,7 @@ pub(crate) fn core_name(reader: &mut Reader) -> Result<Name, ReadError>
 
 /// Reads the word `processor`.
 #[tactic(auto, unfolding(crate::specs::Words::processor_words))]
-pub(crate) fn processor_name(reader: &mut Reader) -> Result<Name, ReadError>
+pub(crate) fn processor_name(reader: &mut Reader) -> Result<Identifier, ReadError>
     ensures { Gives result (one_of processor_words) reader.old reader.new }
 {
     reader.one_of(&PROCESSOR_WORDS)
@@ -270,7 +271,7 @@ fn any_of(reader: &mut Reader, words: &[&[u8]]) -> Result<(), ReadError>
     ensures { Gives result (any_of (map (λ w. w.now) words.now)) reader.old reader.new }
 {
     match reader.look(0) {
-        Some(token) if is_one_of(token, words) => {
+        Some(token) if is_one_of(&token, words) => {
             reader.step();
             Ok(())
         }

@@ -18,7 +18,7 @@ use crate::words::{
     propagations_at, source_at, transitions_at,
 };
 use aadl_syntax::{
-    Composite, Condition, Emv2Clause, End, List, Name, Outgoing, PointRef, Spot, StateRef, TypeSet,
+    Composite, Condition, Emv2Clause, End, List, Identifier, Outgoing, PointRef, Spot, StateRef, TypeSet,
     UserPath, UserPoint,
 };
 use grammar_rules::{Gathered, Parts, ReadError, Reader, ToEnd};
@@ -336,7 +336,7 @@ pub(crate) fn clause_connection(
 }
 
 #[tactic(auto, unfolding(crate::specs::Behavior::last_word))]
-fn last_word(reader: &mut Reader, names: &mut List<Name>) -> Result<(), ReadError>
+fn last_word(reader: &mut Reader, names: &mut List<Identifier>) -> Result<(), ReadError>
     ensures { Gives (given result names.new) (last_word names.old) reader.old reader.new }
 {
     if reader.sign_at(0, b".") && point_word_at(reader, 1) {
@@ -348,7 +348,7 @@ fn last_word(reader: &mut Reader, names: &mut List<Name>) -> Result<(), ReadErro
 }
 
 #[tactic(auto, unfolding(crate::specs::Behavior::end_names))]
-fn end_names(reader: &mut Reader) -> Result<List<Name>, ReadError>
+fn end_names(reader: &mut Reader) -> Result<List<Identifier>, ReadError>
     ensures { Gives result end_names reader.old reader.new }
 {
     let mut names = dotted_names(reader)?;
@@ -357,7 +357,7 @@ fn end_names(reader: &mut Reader) -> Result<List<Name>, ReadError>
 }
 
 // The names of an end.
-fn any_end_names(reader: &mut Reader) -> Result<List<Name>, ReadError>
+fn any_end_names(reader: &mut Reader) -> Result<List<Identifier>, ReadError>
     ensures { Gives result (chooses (is_one_of point_words ∷ []) point_word end_names) reader.old reader.new }
 {
     if point_word_at(reader, 0) {
@@ -376,7 +376,7 @@ fn path_end(reader: &mut Reader) -> Result<End, ReadError>
 }
 
 #[tactic(auto, unfolding(crate::specs::Behavior::user_point))]
-fn user_point(reader: &mut Reader, name: Name, spot: Spot) -> Result<UserPoint, ReadError>
+fn user_point(reader: &mut Reader, name: Identifier, spot: Spot) -> Result<UserPoint, ReadError>
     ensures { Gives result (user_point name spot) reader.old reader.new }
 {
     reader.word(b"propagation")?;
@@ -397,7 +397,7 @@ fn path_ends(reader: &mut Reader) -> Result<PathEnds, ReadError>
 }
 
 #[tactic(auto, unfolding(crate::specs::Behavior::user_path))]
-fn user_path(reader: &mut Reader, name: Name, spot: Spot) -> Result<UserPath, ReadError>
+fn user_path(reader: &mut Reader, name: Identifier, spot: Spot) -> Result<UserPath, ReadError>
     ensures { Gives result (user_path name spot) reader.old reader.new }
 {
     let ends = path_ends(reader)?;
@@ -413,7 +413,7 @@ fn user_path(reader: &mut Reader, name: Name, spot: Spot) -> Result<UserPath, Re
 fn clause_user_point(
     reader: &mut Reader,
     clause: &mut Emv2Clause,
-    name: Name,
+    name: Identifier,
     spot: Spot,
 ) -> Result<(), ReadError>
     ensures { Gives (given result clause.new) (clause_user_point clause.old name spot) reader.old reader.new }
@@ -427,7 +427,7 @@ fn clause_user_point(
 fn clause_user_path(
     reader: &mut Reader,
     clause: &mut Emv2Clause,
-    name: Name,
+    name: Identifier,
     spot: Spot,
 ) -> Result<(), ReadError>
     ensures { Gives (given result clause.new) (clause_user_path clause.old name spot) reader.old reader.new }

@@ -13,7 +13,7 @@ use crate::names::{
 use crate::properties::properties_after;
 use crate::words::{error_name, machine_block_at, name_at, source_at};
 use aadl_syntax::{
-    Condition, EventDecl, EventKind, List, MachineDecl, Name, Source, Spot, StateDecl, StateRef,
+    Condition, EventDecl, EventKind, List, MachineDecl, Identifier, Source, Spot, StateDecl, StateRef,
     TokenKind, Transition, TypeSet,
 };
 use grammar_rules::{Gathered, Parts, ReadError, Reader};

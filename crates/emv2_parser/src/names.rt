@@ -7,7 +7,7 @@ ghost use Rattle.emv2_parser.specs.Names.{spot, further_name, names, reference, 
 ghost use Rattle.emv2_parser.specs.Takes.{further_name-takes, further_reference-takes, dotted_name-takes, factor-takes, further_term-takes};
 
 use crate::words::{error_name, name_at, point_name, point_word_at};
-use aadl_syntax::{List, Name, PointRef, Ref, Spot, StateRef, Term, TypeSet};
+use aadl_syntax::{List, Identifier, PointRef, Ref, Spot, StateRef, Term, TypeSet};
 use grammar_rules::{Parts, ReadError, Reader, Tail};
 
 /// A point, perhaps with a set of types.
@@ -29,7 +29,7 @@ pub fn spot(reader: &mut Reader) -> Result<Spot, ReadError>
 
 /// Reads identifiers with `::` between them.
 #[tactic(auto, unfolding(crate::specs::Names::names))]
-pub(crate) fn names(reader: &mut Reader) -> Result<List<Name>, ReadError>
+pub(crate) fn names(reader: &mut Reader) -> Result<List<Identifier>, ReadError>
     ensures { Gives result names reader.old reader.new }
 {
     let first = error_name(reader)?;
@@ -37,7 +37,7 @@ pub(crate) fn names(reader: &mut Reader) -> Result<List<Name>, ReadError>
 }
 
 #[tactic(auto, unfolding(crate::specs::Names::further_name))]
-fn further_name(reader: &mut Reader) -> Result<Name, ReadError>
+fn further_name(reader: &mut Reader) -> Result<Identifier, ReadError>
     ensures { Gives result further_name reader.old reader.new }
 {
     reader.sign(b"::")?;
@@ -126,7 +126,7 @@ pub(crate) fn condition_close(reader: &mut Reader) -> Result<(), ReadError>
 }
 
 #[tactic(auto, unfolding(crate::specs::Names::dotted_name))]
-fn dotted_name(reader: &mut Reader) -> Result<Name, ReadError>
+fn dotted_name(reader: &mut Reader) -> Result<Identifier, ReadError>
     ensures { Gives result dotted_name reader.old reader.new }
 {
     reader.sign(b".")?;
@@ -135,7 +135,7 @@ fn dotted_name(reader: &mut Reader) -> Result<Name, ReadError>
 
 /// Reads identifiers with dots between them.
 #[tactic(auto, unfolding(crate::specs::Names::dotted_names))]
-pub(crate) fn dotted_names(reader: &mut Reader) -> Result<List<Name>, ReadError>
+pub(crate) fn dotted_names(reader: &mut Reader) -> Result<List<Identifier>, ReadError>
     ensures { Gives result dotted_names reader.old reader.new }
 {
     let first = error_name(reader)?;
@@ -144,7 +144,7 @@ pub(crate) fn dotted_names(reader: &mut Reader) -> Result<List<Name>, ReadError>
 
 /// Reads a word that names a point.
 #[tactic(auto, unfolding(crate::specs::Names::point_word))]
-pub(crate) fn point_word(reader: &mut Reader) -> Result<List<Name>, ReadError>
+pub(crate) fn point_word(reader: &mut Reader) -> Result<List<Identifier>, ReadError>
     ensures { Gives result point_word reader.old reader.new }
 {
     let mut names = List::new(reader.alloc());
@@ -153,7 +153,7 @@ pub(crate) fn point_word(reader: &mut Reader) -> Result<List<Name>, ReadError>
 }
 
 // The names of a point.
-fn point_names(reader: &mut Reader) -> Result<List<Name>, ReadError>
+fn point_names(reader: &mut Reader) -> Result<List<Identifier>, ReadError>
     ensures { Gives result (chooses (is_one_of point_words ∷ []) point_word dotted_names) reader.old reader.new }
 {
     if point_word_at(reader, 0) {
@@ -173,7 +173,7 @@ pub(crate) fn point(reader: &mut Reader) -> Result<PointRef, ReadError>
 }
 
 #[tactic(auto, unfolding(crate::specs::Names::factor))]
-fn factor(reader: &mut Reader) -> Result<List<Name>, ReadError>
+fn factor(reader: &mut Reader) -> Result<List<Identifier>, ReadError>
     ensures { Gives result factor reader.old reader.new }
 {
     reader.sign(b"*")?;
@@ -263,7 +263,7 @@ pub(crate) fn state_reference(reader: &mut Reader) -> Result<StateRef, ReadError
 
 /// Reads a name and a colon where both stand.
 #[tactic(auto, unfolding(crate::specs::Names::label))]
-pub(crate) fn label(reader: &mut Reader) -> Result<Option<Name>, ReadError>
+pub(crate) fn label(reader: &mut Reader) -> Result<Option<Identifier>, ReadError>
     ensures { Gives result label reader.old reader.new }
 {
     if name_at(reader, 0) && reader.sign_at(1, b":") {
@@ -278,7 +278,7 @@ pub(crate) fn label(reader: &mut Reader) -> Result<Option<Name>, ReadError>
 pub(crate) struct FurtherNames;
 
 impl Parts for FurtherNames {
-    type Part = Name;
+    type Part = Identifier;
 
     ghost tests = { is_sign (codes "::") ∷ is_name ∷ [] };
 
@@ -288,7 +288,7 @@ impl Parts for FurtherNames {
         reader.sign_at(0, b"::") && name_at(reader, 1)
     }
 
-    fn part(reader: &mut Reader) -> Result<Name, ReadError> {
+    fn part(reader: &mut Reader) -> Result<Identifier, ReadError> {
         further_name(reader)
     }
 
@@ -320,7 +320,7 @@ impl Parts for FurtherReferences {
 pub(crate) struct DottedNames;
 
 impl Parts for DottedNames {
-    type Part = Name;
+    type Part = Identifier;
 
     ghost tests = { is_sign (codes ".") ∷ is_name ∷ [] };
 
@@ -330,7 +330,7 @@ impl Parts for DottedNames {
         reader.sign_at(0, b".") && name_at(reader, 1)
     }
 
-    fn part(reader: &mut Reader) -> Result<Name, ReadError> {
+    fn part(reader: &mut Reader) -> Result<Identifier, ReadError> {
         dotted_name(reader)
     }
 
@@ -341,7 +341,7 @@ impl Parts for DottedNames {
 pub(crate) struct Factors;
 
 impl Parts for Factors {
-    type Part = List<Name>;
+    type Part = List<Identifier>;
 
     ghost tests = { is_sign (codes "*") ∷ [] };
 
@@ -351,7 +351,7 @@ impl Parts for Factors {
         reader.sign_at(0, b"*")
     }
 
-    fn part(reader: &mut Reader) -> Result<List<Name>, ReadError> {
+    fn part(reader: &mut Reader) -> Result<List<Identifier>, ReadError> {
         factor(reader)
     }
 

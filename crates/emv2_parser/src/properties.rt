@@ -1,6 +1,7 @@
 ghost use Rattle.std.specs.Prelude.{◌≡◌, [], ◌∷◌, ◌||◌, IfOk, codes};
 ghost use Rattle.grammar_rules.specs.Reader.{Gives, Begins, given};
 ghost use Rattle.grammar_rules.specs.Spans.{closes};
+ghost use Rattle.aadl_syntax.specs.Token.{shown};
 ghost use Rattle.grammar_rules.specs.Tokens.{is_sign, is_word};
 ghost use Rattle.emv2_parser.specs.Words.{is_name};
 ghost use Rattle.emv2_parser.specs.Properties.{begins_value, value, arrow, begins_step, path_sign, path_step, path_steps, further_targets, no_path, with_name, with_dot, with_sign, with_target, whole_path, target_after, further_target, applied_targets, targets, assigned_value, association, properties_after};
@@ -8,7 +9,7 @@ ghost use Rattle.emv2_parser.specs.Takes.{path_step-takes, further_target-takes,
 
 use crate::names::names;
 use crate::words::{error_name, name_at, point_at, point_name, point_word_at};
-use aadl_syntax::{Association, List, Mem, Name, Token};
+use aadl_syntax::{Association, Identifier, List, Mem, Token, TokenRef};
 use grammar_rules::{Gathered, Parts, ReadError, Reader, Span, closes, is_sign, is_word};
 use std::alloc::Global;
 
@@ -16,7 +17,7 @@ use std::alloc::Global;
 /// its last token is a name.
 #[derive(Drop)]
 pub(crate) struct TargetPath {
-    pub(crate) names: List<Name>,
+    pub(crate) names: List<Identifier>,
     pub(crate) is_plain: bool,
     pub(crate) after_name: bool,
 }
@@ -25,10 +26,10 @@ pub(crate) struct TargetPath {
 #[derive(Drop)]
 pub(crate) struct AssignedValue {
     pub(crate) value: List<Token>,
-    pub(crate) targets: List<List<Name>>,
+    pub(crate) targets: List<List<Identifier>>,
 }
 
-fn with_name(path: &mut TargetPath, name: Name) -> Mem<()>
+fn with_name(path: &mut TargetPath, name: Identifier) -> Mem<()>
     ensures { IfOk result (λ _. path.new ≡ with_name path.old name) }
 {
     path.names.push(name)?;
@@ -51,7 +52,7 @@ fn with_sign(path: &mut TargetPath)
     path.after_name = false;
 }
 
-fn with_target(targets: &mut List<List<Name>>, path: TargetPath) -> Mem<()>
+fn with_target(targets: &mut List<List<Identifier>>, path: TargetPath) -> Mem<()>
     ensures { IfOk result (λ _. targets.new ≡ with_target targets.old path) }
 {
     if path.is_plain && path.after_name {
@@ -69,13 +70,13 @@ impl Span for ValueTokens {
     ghost stops = { ends_value };
 
     #[tactic(auto, unfolding(crate::specs::Properties::ends_value))]
-    fn stops_at(_before: Option<&Token>, token: &Token) -> bool {
+    fn stops_at(_before: Option<TokenRef>, token: &TokenRef) -> bool {
         is_value_end(token)
     }
 }
 
-fn is_value_end(token: &Token) -> bool
-    ensures { result ≡ (closes token.now || is_sign (codes ";") token.now || is_word (codes "applies") token.now) }
+fn is_value_end(token: &TokenRef) -> bool
+    ensures { result ≡ (closes (shown token.now) || is_sign (codes ";") (shown token.now) || is_word (codes "applies") (shown token.now)) }
 {
     closes(token) || is_sign(token, b";") || is_word(token, b"applies")
 }
@@ -85,31 +86,9 @@ fn value_at(reader: &mut Reader) -> bool
     ensures { Begins result 0 (begins_value ∷ []) reader.old reader.new }
 {
     match reader.look(0) {
-        Some(token) => !is_value_end(token),
+        Some(token) => !is_value_end(&token),
         None => false,
     }
-}
-
-fn copy_of(alloc: Global, token: &Token) -> Mem<Token>
-    ensures { IfOk result (λ copy. copy ≡ token.now) }
-{
-    let text = List::of(Vec::from_slice(alloc, token.text.items())?)?;
-    Ok(Token {
-        kind: token.kind,
-        start: token.start,
-        end: token.end,
-        text,
-    })
-}
-
-fn copies_of(alloc: Global, tokens: &[Token]) -> Mem<List<Token>>
-    ensures { IfOk result (λ copies. copies ≡ tokens.now) }
-{
-    let mut copies = List::new(alloc);
-    for token in tokens {
-        copies.push(copy_of(alloc, token)?)?;
-    }
-    Ok(copies)
 }
 
 #[tactic(auto, unfolding(crate::specs::Properties::begins_step))]
@@ -131,7 +110,7 @@ fn value(reader: &mut Reader) -> Result<List<Token>, ReadError>
         return Err(ReadError::Refused);
     }
     let tokens = reader.until_inside::<ValueTokens>()?;
-    Ok(copies_of(reader.alloc(), tokens)?)
+    Ok(tokens.copied(reader.alloc())?)
 }
 
 #[tactic(auto, unfolding(crate::specs::Properties::arrow))]
@@ -206,7 +185,7 @@ fn whole_path(reader: &mut Reader) -> Result<TargetPath, ReadError>
 }
 
 #[tactic(auto, unfolding(crate::specs::Properties::further_targets))]
-fn further_targets(reader: &mut Reader, targets: &mut List<List<Name>>) -> Result<(), ReadError>
+fn further_targets(reader: &mut Reader, targets: &mut List<List<Identifier>>) -> Result<(), ReadError>
     ensures { Gives (given result targets.new) (further_targets targets.old) reader.old reader.new }
 {
     reader.gather::<FurtherTargets>(targets)
@@ -214,7 +193,7 @@ fn further_targets(reader: &mut Reader, targets: &mut List<List<Name>>) -> Resul
 
 /// Reads a path, and gives the targets with it if it is one.
 #[tactic(auto, unfolding(crate::specs::Properties::target_after))]
-fn target_after(reader: &mut Reader, targets: &mut List<List<Name>>) -> Result<(), ReadError>
+fn target_after(reader: &mut Reader, targets: &mut List<List<Identifier>>) -> Result<(), ReadError>
     ensures { Gives (given result targets.new) (target_after targets.old) reader.old reader.new }
 {
     let path = whole_path(reader)?;
@@ -222,7 +201,7 @@ fn target_after(reader: &mut Reader, targets: &mut List<List<Name>>) -> Result<(
 }
 
 #[tactic(auto, unfolding(crate::specs::Properties::further_target))]
-fn further_target(reader: &mut Reader, targets: &mut List<List<Name>>) -> Result<(), ReadError>
+fn further_target(reader: &mut Reader, targets: &mut List<List<Identifier>>) -> Result<(), ReadError>
     ensures { Gives (given result targets.new) (further_target targets.old) reader.old reader.new }
 {
     reader.sign(b",")?;
@@ -230,7 +209,7 @@ fn further_target(reader: &mut Reader, targets: &mut List<List<Name>>) -> Result
 }
 
 #[tactic(auto, unfolding(crate::specs::Properties::applied_targets))]
-fn applied_targets(reader: &mut Reader, targets: &mut List<List<Name>>) -> Result<(), ReadError>
+fn applied_targets(reader: &mut Reader, targets: &mut List<List<Identifier>>) -> Result<(), ReadError>
     ensures { Gives (given result targets.new) (applied_targets targets.old) reader.old reader.new }
 {
     reader.word(b"applies")?;
@@ -240,7 +219,7 @@ fn applied_targets(reader: &mut Reader, targets: &mut List<List<Name>>) -> Resul
 }
 
 #[tactic(auto, unfolding(crate::specs::Properties::targets))]
-fn targets(reader: &mut Reader) -> Result<List<List<Name>>, ReadError>
+fn targets(reader: &mut Reader) -> Result<List<List<Identifier>>, ReadError>
     ensures { Gives result targets reader.old reader.new }
 {
     let mut targets = List::new(reader.alloc());
@@ -311,7 +290,7 @@ impl Gathered for PathSteps {
 pub(crate) struct FurtherTargets;
 
 impl Gathered for FurtherTargets {
-    type Whole = List<List<Name>>;
+    type Whole = List<List<Identifier>>;
 
     ghost tests = { is_sign (codes ",") ∷ [] };
 
@@ -321,7 +300,7 @@ impl Gathered for FurtherTargets {
         reader.sign_at(0, b",")
     }
 
-    fn part(reader: &mut Reader, whole: &mut List<List<Name>>) -> Result<(), ReadError> {
+    fn part(reader: &mut Reader, whole: &mut List<List<Identifier>>) -> Result<(), ReadError> {
         further_target(reader, whole)
     }
 

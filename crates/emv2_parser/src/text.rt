@@ -10,7 +10,7 @@ ghost use Rattle.grammar_rules.specs.Rules.{Reads, joins, ends, gives};
 ghost use Rattle.emv2_parser.specs.Grammar.{library, clause, place_of, syntax_error, StopsAt};
 
 use crate::grammar;
-use aadl_syntax::{Answer, Code, Emv2Clause, Emv2Library, Place, Refusal, Stop, Token};
+use aadl_syntax::{Answer, Code, Emv2Clause, Emv2Library, Place, Refusal, Stop, TokenList};
 use grammar_rules::{ReadError, Reader};
 use std::alloc::Global;
 
@@ -19,7 +19,7 @@ use std::alloc::Global;
 ///
 /// What is refused only where it is used, as an event of repair, is read. Tokens that have no reading are refused as `Syntax`.
 /// A condition in which more than 64 parentheses are open at once has none.
-pub fn library(alloc: Global, file: u32, tokens: &[Token], end: u32) -> Answer<Emv2Library>
+pub fn library(alloc: Global, file: u32, tokens: &TokenList, end: u32) -> Answer<Emv2Library>
     // What is answered is what the tokens read as.
     ensures found { IfOk result (λ value. Reads file library tokens.now value []) }
 
@@ -42,7 +42,7 @@ pub fn library(alloc: Global, file: u32, tokens: &[Token], end: u32) -> Answer<E
 ///
 /// What is refused only where it is used, as a use of mappings, is read. Tokens that have no reading are refused as `Syntax`.
 /// A condition in which more than 64 parentheses are open at once has none.
-pub fn clause(alloc: Global, file: u32, tokens: &[Token], end: u32) -> Answer<Emv2Clause>
+pub fn clause(alloc: Global, file: u32, tokens: &TokenList, end: u32) -> Answer<Emv2Clause>
     // What is answered is what the tokens read as.
     ensures found { IfOk result (λ value. Reads file (clause end) tokens.now value []) }
 
@@ -72,13 +72,20 @@ fn whole_clause(reader: &mut Reader, end: u32) -> Result<Emv2Clause, ReadError>
     ensures { Gives result (joins (clause end) (λ value. joins ends (λ _. gives value))) reader.old reader.new }
 {
     let clause = grammar::clause(reader, end)?;
+    at_end(reader, clause)
+}
+
+/// The clause, where no token is left.
+fn at_end(reader: &mut Reader, clause: Emv2Clause) -> Result<Emv2Clause, ReadError>
+    ensures { Gives result (joins ends (λ _. gives clause)) reader.old reader.new }
+{
     reader.end()?;
     Ok(clause)
 }
 
 /// The refusal of text of this file at the last token, or the end, that a reading of the tokens has looked at: `unseen` of the
 /// tokens and the end are behind it. `end` is the place of the end, in bytes.
-pub fn syntax_error(file: u32, tokens: &[Token], end: u32, unseen: usize) -> Stop
+pub fn syntax_error(file: u32, tokens: &TokenList, end: u32, unseen: usize) -> Stop
     ensures { result ≡ Refused (syntax_error file (place_of tokens.now end (length tokens.now - unseen))) }
 {
     let number = tokens.len().saturating_sub(unseen);

@@ -1,11 +1,12 @@
 ghost use Rattle.std.specs.Prelude.{◌≡◌, ◌<◌, ◌≤◌, ◌^◌, IsTrue, [], ◌∷◌, length, codes};
 ghost use Rattle.std.specs.List.{list_all};
 ghost use Rattle.grammar_rules.specs.Reader.{Gives, Begins};
+ghost use Rattle.aadl_syntax.specs.Token.{shown};
 ghost use Rattle.grammar_rules.specs.Tokens.{is_identifier, is_one_of, one_of};
 ghost use Rattle.emv2_parser.specs.Words.{error_words, point_words, library_words, machine_words, clause_words, component_words, is_name, begins_point, begins_source, begins_composite, begins_transitions, begins_propagations, begins_paths, is_digit, decimal, is_count, count};
 ghost use Rattle.emv2_parser.specs.Names.{error_name};
 
-use aadl_syntax::{Name, Token, TokenKind};
+use aadl_syntax::{Identifier, TokenKind, TokenRef};
 use grammar_rules::{ReadError, Reader};
 
 /// The words that the grammar of error model text quotes.
@@ -201,7 +202,7 @@ pub(crate) fn paths_at(reader: &mut Reader) -> bool
 
 /// Reads an identifier.
 #[tactic(auto, unfolding(crate::specs::Names::error_name, crate::specs::Words::error_words))]
-pub(crate) fn error_name(reader: &mut Reader) -> Result<Name, ReadError>
+pub(crate) fn error_name(reader: &mut Reader) -> Result<Identifier, ReadError>
     ensures { Gives result error_name reader.old reader.new }
 {
     reader.identifier(&ERROR_WORDS)
@@ -209,7 +210,7 @@ pub(crate) fn error_name(reader: &mut Reader) -> Result<Name, ReadError>
 
 /// Reads a word that names a point.
 #[tactic(auto, unfolding(crate::specs::Words::point_words))]
-pub(crate) fn point_name(reader: &mut Reader) -> Result<Name, ReadError>
+pub(crate) fn point_name(reader: &mut Reader) -> Result<Identifier, ReadError>
     ensures { Gives result (one_of point_words) reader.old reader.new }
 {
     reader.one_of(&POINT_WORDS)
@@ -220,7 +221,7 @@ pub(crate) fn count_at(reader: &mut Reader) -> bool
     ensures { Begins result 0 (is_count ∷ []) reader.old reader.new }
 {
     match reader.look(0) {
-        Some(token) => is_count(token),
+        Some(token) => is_count(&token),
         None => false,
     }
 }
@@ -231,21 +232,21 @@ pub(crate) fn count(reader: &mut Reader) -> Result<u32, ReadError>
     ensures { Gives result count reader.old reader.new }
 {
     match reader.look(0) {
-        Some(token) if is_count(token) => {
+        Some(token) if is_count(&token) => {
             reader.step();
-            Ok(decimal(token.text.items()))
+            Ok(decimal(token.text))
         }
         _ => Err(ReadError::Refused),
     }
 }
 
 #[tactic(auto, unfolding(crate::specs::Words::is_count))]
-fn is_count(token: &Token) -> bool
-    ensures value { result ≡ is_count token.now }
-    ensures digits { IsTrue result → IsTrue (list_all is_digit token.now.text) }
-    ensures few { IsTrue result → length token.now.text ≤ 9 }
+fn is_count(token: &TokenRef) -> bool
+    ensures value { result ≡ is_count (shown token.now) }
+    ensures digits { IsTrue result → IsTrue (list_all is_digit token.now.text.now) }
+    ensures few { IsTrue result → length token.now.text.now ≤ 9 }
 {
-    let text = token.text.items();
+    let text = token.text;
     token.kind == TokenKind::Number && 1 <= text.len() && text.len() <= 9 && are_digits(text)
 }
 

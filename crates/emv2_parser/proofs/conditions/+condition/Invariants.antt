@@ -47,16 +47,16 @@ abbrev pub invariant-and_parts-loop-parts : goal.invariant-and_parts-loop-parts
 invariant-and_parts-loop-parts l = Collects (is_word (codes "and") ∷ []) (and_primary (condition_within l.levels)) (l.fn.first ∷ []) l.parts l.initial.reader l.reader
 
 abbrev pub decreases-and_parts-loop-parts : goal.decreases-and_parts-loop-parts
-decreases-and_parts-loop-parts l = length l.reader.tokens.now
+decreases-and_parts-loop-parts l = length l.reader.tokens
 
 abbrev pub invariant-or_parts-loop-parts : goal.invariant-or_parts-loop-parts
 invariant-or_parts-loop-parts l = Collects (is_word (codes "or") ∷ []) (or_conjunction (condition_within l.levels)) (l.fn.first ∷ []) l.parts l.initial.reader l.reader
 
 abbrev pub decreases-or_parts-loop-parts : goal.decreases-or_parts-loop-parts
-decreases-or_parts-loop-parts l = length l.reader.tokens.now
+decreases-or_parts-loop-parts l = length l.reader.tokens
 
 abbrev pub invariant-further_parts-loop-parts : goal.invariant-further_parts-loop-parts
 invariant-further_parts-loop-parts l = Collects (is_sign (codes ",") ∷ []) (further_condition (condition_within l.levels)) (l.fn.first ∷ []) l.parts l.initial.reader l.reader
 
 abbrev pub decreases-further_parts-loop-parts : goal.decreases-further_parts-loop-parts
-decreases-further_parts-loop-parts l = length l.reader.tokens.now
+decreases-further_parts-loop-parts l = length l.reader.tokens
