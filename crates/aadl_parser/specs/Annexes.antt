@@ -55,12 +55,18 @@ library_annex library = do
   _ ← sign (codes ";")
   gives whole
 
+-- clause AnnexEnd
+unfoldable pub ended_clause : Rule Emv2Clause
+ended_clause = do
+  its_clause ← clause_inside
+  _ ← kind AnnexEnd
+  gives its_clause
+
 -- AnnexBegin clause AnnexEnd, after the clauses of earlier annexes
 unfoldable pub clause_body : List Emv2Clause → Rule (List Emv2Clause)
 clause_body clauses = do
   _ ← kind AnnexBegin
-  its_clause ← clause_inside
-  _ ← kind AnnexEnd
+  its_clause ← ended_clause
   gives (clauses ++ its_clause ∷ [])
 
 -- AnnexBegin clause AnnexEnd | "none"

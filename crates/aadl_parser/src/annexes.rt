@@ -1,6 +1,9 @@
 ghost use Rattle.std.specs.Prelude.{◌∷◌, [], codes};
+ghost use Rattle.aadl_syntax.specs.declared.token.TokenKind.TheVariants.{AnnexEnd};
+ghost use Rattle.grammar_rules.specs.Rules.{gives, joins};
+ghost use Rattle.grammar_rules.specs.Tokens.{kind};
 ghost use Rattle.grammar_rules.specs.Reader.{Gives, given};
-ghost use Rattle.aadl_parser.specs.Annexes.{raw_body, other_annex, library_body, library_or_none, library_named, library_annex, clause_body, clause_or_none, clause_named, clause_annex};
+ghost use Rattle.aadl_parser.specs.Annexes.{raw_body, other_annex, library_body, library_or_none, library_named, library_annex, ended_clause, clause_body, clause_or_none, clause_named, clause_annex};
 
 use crate::runs::in_modes;
 use crate::words::core_name;
@@ -68,13 +71,28 @@ pub(crate) fn library_annex(reader: &mut Reader, library: &mut Emv2Library) -> R
     reader.sign(b";")
 }
 
+#[tactic(auto, unfolding(crate::specs::Annexes::ended_clause))]
+fn ended_clause(reader: &mut Reader) -> Result<Emv2Clause, ReadError>
+    ensures { Gives result ended_clause reader.old reader.new }
+{
+    let clause = clause_inside(reader)?;
+    ended(reader, clause)
+}
+
+/// The clause, at the end of its annex.
+fn ended(reader: &mut Reader, clause: Emv2Clause) -> Result<Emv2Clause, ReadError>
+    ensures { Gives result (joins (kind AnnexEnd) (λ _. gives clause)) reader.old reader.new }
+{
+    reader.kind(TokenKind::AnnexEnd)?;
+    Ok(clause)
+}
+
 #[tactic(auto, unfolding(crate::specs::Annexes::clause_body))]
 fn clause_body(reader: &mut Reader, clauses: &mut List<Emv2Clause>) -> Result<(), ReadError>
     ensures { Gives (given result clauses.new) (clause_body clauses.old) reader.old reader.new }
 {
     reader.kind(TokenKind::AnnexBegin)?;
-    let clause = clause_inside(reader)?;
-    reader.kind(TokenKind::AnnexEnd)?;
+    let clause = ended_clause(reader)?;
     Ok(clauses.push(clause)?)
 }
 

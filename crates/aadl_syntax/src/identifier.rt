@@ -1,8 +1,9 @@
-ghost use Rattle.std.specs.Prelude.{◌≡◌, IfOk};
+ghost use Rattle.std.specs.Prelude.{◌≡◌, ◌↔◌, IfOk, IsTrue};
+ghost use Rattle.aadl_syntax.specs.Name.{is_same_text};
 ghost use Rattle.aadl_syntax.specs.Token.{IsIdentifier};
 
 use crate::list::List;
-use crate::name::Name;
+use crate::name::{Name, is_same};
 use crate::refusal::Mem;
 use std::alloc::Global;
 use std::marker::Model;
@@ -41,5 +42,13 @@ impl Identifier {
         ensures form { IsIdentifier self.now }
     {
         self.text.items()
+    }
+
+    /// Whether it is the same as another.
+    pub fn is(&self, other: &Identifier) -> bool
+        ensures value { result ≡ is_same_text self.now other.now }
+        ensures means { IsTrue result ↔ (self.now ≡ other.now) }
+    {
+        is_same(self.text.items(), other.text.items())
     }
 }

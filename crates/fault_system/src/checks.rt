@@ -36,7 +36,7 @@ impl Named for EventDecl {
     ghost name_of = { λ event. event.name };
 
     fn name(&self) -> &[u8] {
-        self.name.items()
+        self.name.text()
     }
 }
 
@@ -44,7 +44,7 @@ impl Named for StateDecl {
     ghost name_of = { λ state. state.name };
 
     fn name(&self) -> &[u8] {
-        self.name.items()
+        self.name.text()
     }
 }
 

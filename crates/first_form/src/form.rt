@@ -5,12 +5,12 @@ ghost use Rattle.aadl_syntax.specs.declared.error_model.MachineDecl.{MachineDecl
 ghost use Rattle.first_form.specs.Form.{AreParts, HasNothingOfItsOwn, HasNoPoints, IsFirstForm, IsPlainClassifier, IsUse};
 
 use crate::machine::is_plain_and_small;
-use aadl_syntax::{Decl, Emv2Clause, MachineDecl, Name, Unit, is_same};
+use aadl_syntax::{Decl, Emv2Clause, Identifier, MachineDecl, Unit};
 
 /// The parts of a text of the first form: its package's name, its machine, and the classifier that uses it.
 #[derive(Drop)]
 pub struct FirstForm<'a> {
-    pub package_name: &'a [u8],
+    pub package_name: &'a Identifier,
     pub machine: &'a MachineDecl,
     pub classifier: &'a Decl,
 }
@@ -48,7 +48,7 @@ fn parts_of(units: &[Unit]) -> Option<FirstForm<'_>>
         package.decls.items(),
     ) {
         ([name], [machine], [classifier]) => Some(FirstForm {
-            package_name: name.items(),
+            package_name: name,
             machine,
             classifier,
         }),
@@ -57,7 +57,7 @@ fn parts_of(units: &[Unit]) -> Option<FirstForm<'_>>
 }
 
 /// Whether a classifier is plain, and its one clause is the use of the machine.
-fn uses_machine(classifier: &Decl, package_name: &[u8], machine: &MachineDecl) -> bool
+fn uses_machine(classifier: &Decl, package_name: &Identifier, machine: &MachineDecl) -> bool
     ensures { IsTrue result ↔ (IsPlainClassifier classifier.now
         × (length classifier.now.clauses ≡ 1)
         × AllByRecursion (IsUse (package_name.now ∷ machine.now.name ∷ [])) classifier.now.clauses) }
@@ -67,7 +67,7 @@ fn uses_machine(classifier: &Decl, package_name: &[u8], machine: &MachineDecl) -
         && are_uses(
             classifier.clauses.items(),
             package_name,
-            machine.name.items(),
+            &machine.name,
         )
 }
 
@@ -83,7 +83,7 @@ fn is_plain(classifier: &Decl) -> bool
         && classifier.connections.items().is_empty()
 }
 
-fn are_uses(clauses: &[Emv2Clause], package_name: &[u8], machine: &[u8]) -> bool
+fn are_uses(clauses: &[Emv2Clause], package_name: &Identifier, machine: &Identifier) -> bool
     ensures { IsTrue result ↔ AllByRecursion (IsUse (package_name.now ∷ machine.now ∷ [])) clauses.now }
 {
     for clause in clauses {
@@ -94,7 +94,7 @@ fn are_uses(clauses: &[Emv2Clause], package_name: &[u8], machine: &[u8]) -> bool
     true
 }
 
-fn is_use(clause: &Emv2Clause, package_name: &[u8], machine: &[u8]) -> bool
+fn is_use(clause: &Emv2Clause, package_name: &Identifier, machine: &Identifier) -> bool
     ensures { IsTrue result ↔ IsUse (package_name.now ∷ machine.now ∷ []) clause.now }
 {
     has_no_points(clause)
@@ -125,7 +125,7 @@ fn has_nothing_of_its_own(clause: &Emv2Clause) -> bool
 }
 
 /// Whether the machine that a clause uses has these two names, and no more.
-fn names_machine(clause: &Emv2Clause, package_name: &[u8], machine: &[u8]) -> bool
+fn names_machine(clause: &Emv2Clause, package_name: &Identifier, machine: &Identifier) -> bool
     ensures { IsTrue result ↔ IsSomeAnd clause.now.machine (λ used. (used.names ≡ package_name.now ∷ machine.now ∷ []) × (used.item ≡ None)) }
 {
     match &clause.machine {
@@ -134,11 +134,11 @@ fn names_machine(clause: &Emv2Clause, package_name: &[u8], machine: &[u8]) -> bo
     }
 }
 
-fn are_two(names: &[Name], first: &[u8], second: &[u8]) -> bool
+fn are_two(names: &[Identifier], first: &Identifier, second: &Identifier) -> bool
     ensures { IsTrue result ↔ (names.now ≡ first.now ∷ second.now ∷ []) }
 {
     match names {
-        [a, b] => is_same(a.items(), first) && is_same(b.items(), second),
+        [a, b] => a.is(first) && b.is(second),
         _ => false,
     }
 }

@@ -118,7 +118,7 @@ fn are_known_states(states: &[StateDecl], named: &[StateRef]) -> bool
 fn is_known_state(states: &[StateDecl], state: &StateRef) -> bool
     ensures { IsTrue result ↔ IsKnownState (map (λ state. state.name) states.now) state.now }
 {
-    state.set.is_none() && is_among(states, state.name.items())
+    state.set.is_none() && is_among(states, state.name.text())
 }
 
 #[cycle(room)]

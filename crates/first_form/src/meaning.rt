@@ -4,7 +4,7 @@ ghost use Rattle.first_form.specs.Meaning.{event_of, fact_of, formula_of, leads_
 
 use crate::names::{one_name, place_of};
 use aadl_syntax::{
-    Condition, EventDecl, List, MachineDecl, Mem, Name, StateDecl, Transition, is_same,
+    Condition, EventDecl, Identifier, List, MachineDecl, Mem, Name, StateDecl, Transition,
 };
 use fault_system::{EventInfo, FactInfo, FaultSystem, Formula};
 use std::alloc::Global;
@@ -26,7 +26,7 @@ fn facts_of(alloc: Global, machine: &MachineDecl) -> Mem<List<FactInfo>>
     let mut facts = List::new(alloc);
     for state in machine.states.items() {
         facts.push(FactInfo {
-            name: joined(alloc, b"root/state:", state.name.items())?,
+            name: joined(alloc, b"root/state:", state.name.text())?,
             owner: 0,
             formula: state_formula(alloc, machine, state)?,
         })?;
@@ -48,7 +48,7 @@ fn events_of(alloc: Global, machine: &MachineDecl) -> Mem<List<EventInfo>>
 fn event_of(alloc: Global, event: &EventDecl) -> Mem<EventInfo>
     ensures { IfOk result (λ info. info ≡ event_of event.now) }
 {
-    let name = event.name.items();
+    let name = event.name.text();
     let mut key = List::new(alloc);
     key.push(joined(alloc, b"", name)?)?;
     Ok(EventInfo {
@@ -80,18 +80,18 @@ fn steps_to(alloc: Global, machine: &MachineDecl, state: &StateDecl) -> Mem<List
 {
     let mut steps = List::new(alloc);
     for transition in machine.transitions.items() {
-        if leads_to(transition, state.name.items()) {
+        if leads_to(transition, &state.name) {
             steps.push(step_of(alloc, machine, transition)?)?;
         }
     }
     Ok(steps)
 }
 
-fn leads_to(transition: &Transition, name: &[u8]) -> bool
+fn leads_to(transition: &Transition, name: &Identifier) -> bool
     ensures { result ≡ leads_to name.now transition.now }
 {
     for target in transition.targets.items() {
-        if is_same(target.name.items(), name) {
+        if target.name.is(name) {
             return true;
         }
     }
@@ -112,7 +112,7 @@ fn source_name(transition: &Transition) -> &[u8]
     ensures { result.now ≡ source_name transition.now.source.state }
 {
     match &transition.source.state {
-        Some(state) => state.name.items(),
+        Some(state) => state.name.text(),
         None => &[],
     }
 }

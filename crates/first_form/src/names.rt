@@ -1,7 +1,7 @@
 ghost use Rattle.std.specs.Prelude.{◌≡◌, ◌<◌, ◌^◌, map, length};
 ghost use Rattle.first_form.specs.Names.{is_among, one_name, place_of};
 
-use aadl_syntax::{Name, is_same};
+use aadl_syntax::{Identifier, is_same};
 use fault_system::Named;
 
 /// The number of a name: how many items stand before the first that has it.
@@ -30,11 +30,11 @@ pub fn is_among<T: Named>(items: &[T], name: &[u8]) -> bool
 }
 
 /// The one name of a list that has one.
-pub fn one_name(names: &[Name]) -> &[u8]
+pub fn one_name(names: &[Identifier]) -> &[u8]
     ensures { result.now ≡ one_name names.now }
 {
     match names {
-        [name] => name.items(),
+        [name] => name.text(),
         _ => &[],
     }
 }

@@ -179,7 +179,7 @@ fn system_at(alloc: Global, root: &Root, texts: &[Name]) -> Result<FaultSystem, 
     let Some(form) = form_of_files(files.items()) else {
         return Err(Status::NotYet);
     };
-    find_root(form.package_name, form.classifier.name.items(), root)?;
+    find_root(form.package_name.text(), form.classifier.name.text(), root)?;
     let system = system_of(alloc, form.machine)?;
     Ok(system)
 }

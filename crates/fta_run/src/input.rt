@@ -11,7 +11,7 @@ ghost use Rattle.fta_run.specs.Steps.{AreFronts, AreTokens, HaveTheseUnits, IsFi
 use crate::status::Status;
 use aadl_lexer::tokens;
 use aadl_parser::units;
-use aadl_syntax::{Answer, Code, FirstRefusal, List, Name, Place, Refusal, Token, Unit, Word};
+use aadl_syntax::{Answer, Code, FirstRefusal, List, Name, Place, Refusal, TokenList, Unit, Word};
 use fta_outside::{Files, ReadError};
 use std::alloc::Global;
 
@@ -149,7 +149,7 @@ pub fn units_of_texts(alloc: Global, texts: &[Name]) -> Result<List<List<Unit>>,
 }
 
 /// The tokens of each text.
-fn tokens_of_texts(alloc: Global, texts: &[Name]) -> Answer<List<List<Token>>>
+fn tokens_of_texts(alloc: Global, texts: &[Name]) -> Answer<List<TokenList>>
     requires few { length texts.now < 2 ^ 32 }
     requires short { All (λ text. length text ≤ 4194304) texts.now }
     ensures ok { IfOk result (λ lists. AreTokens texts.now lists) }
@@ -163,7 +163,7 @@ fn tokens_of_texts(alloc: Global, texts: &[Name]) -> Answer<List<List<Token>>>
 }
 
 /// The units of each text, whose tokens are given.
-fn units_of_tokens(alloc: Global, texts: &[Name], lists: &[List<Token>]) -> Answer<List<List<Unit>>>
+fn units_of_tokens(alloc: Global, texts: &[Name], lists: &[TokenList]) -> Answer<List<List<Unit>>>
     requires few { length texts.now < 2 ^ 32 }
     requires short { All (λ text. length text ≤ 4194304) texts.now }
     requires tokens { AreTokens texts.now lists.now }
@@ -172,12 +172,12 @@ fn units_of_tokens(alloc: Global, texts: &[Name], lists: &[List<Token>]) -> Answ
 {
     let mut files = List::new(alloc);
     for (file, text) in texts.iter().enumerate() {
-        files.push(units_of_text(alloc, file as u32, text.items(), lists[file].items())?)?;
+        files.push(units_of_text(alloc, file as u32, text.items(), &lists[file])?)?;
     }
     Ok(files)
 }
 
-fn units_of_text(alloc: Global, file: u32, text: &[u8], tokens: &[Token]) -> Answer<List<Unit>>
+fn units_of_text(alloc: Global, file: u32, text: &[u8], tokens: &TokenList) -> Answer<List<Unit>>
     requires short { length text.now ≤ 4194304 }
     requires tokens { Tokens text.now tokens.now }
     ensures ok { IfOk result (λ found. AreUnits file text.now found) }

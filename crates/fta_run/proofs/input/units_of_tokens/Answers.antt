@@ -11,7 +11,7 @@ bounds-lists-file c = omega (arith, length-zip c.args.texts.now c.args.lists.now
 
 pub units_of_text-requires-clause-tokens : goal.units_of_text-requires-clause-tokens
 units_of_text-requires-clause-tokens c =
-    tokens_here c.args.texts.now c.args.lists.now c.loop-file.file c.index-texts-file.result c.index-lists-file.result c.items.result.now c.items-in-loop-file.result.now c.requires.tokens c.loop-file-test.true c.index-texts-file.is c.index-lists-file.is c.items.ensures.items c.items-in-loop-file.ensures.items
+    tokens_here c.args.texts.now c.args.lists.now c.loop-file.file c.index-texts-file.result c.index-lists-file.result c.items.result.now c.index-lists-file.result c.requires.tokens c.loop-file-test.true c.index-texts-file.is c.index-lists-file.is c.items.ensures.items refl
 
 pub returns-in_err-units_of_text-clause-err : goal.returns-in_err-units_of_text-clause-err
 returns-in_err-units_of_text-clause-err c =
@@ -23,8 +23,8 @@ returns-in_err-units_of_text-clause-err c =
       file = file;
       text = c.items.result.now;
       there = subst (λ t. slice_get texts file ≡ Some t) (sym c.items.ensures.items) there;
-      tokens = c.items-in-loop-file.result.now;
-      tokens_are = tokens_here texts c.args.lists.now file c.index-texts-file.result c.index-lists-file.result c.items.result.now c.items-in-loop-file.result.now c.requires.tokens c.loop-file-test.true c.index-texts-file.is c.index-lists-file.is c.items.ensures.items c.items-in-loop-file.ensures.items;
+      tokens = c.index-lists-file.result;
+      tokens_are = tokens_here texts c.args.lists.now file c.index-texts-file.result c.index-lists-file.result c.items.result.now c.index-lists-file.result c.requires.tokens c.loop-file-test.true c.index-texts-file.is c.index-lists-file.is c.items.ensures.items refl;
       stops = c.in_err-units_of_text.ensures.err refusal is;
       earlier = λ other text below at. (get_or c.loop-file.files other [], c.loop-file.invariant.each other below text at);
     })
