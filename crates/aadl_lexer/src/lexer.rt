@@ -38,12 +38,7 @@ pub fn tokens(alloc: Global, file: u32, bytes: &[u8]) -> Answer<TokenList>
 }
 
 /// Takes the piece of core text at the front, and says how long it is.
-fn core_piece(
-    file: u32,
-    at: usize,
-    text: &[u8],
-    list: &mut TokenList,
-) -> Answer<usize>
+fn core_piece(file: u32, at: usize, text: &[u8], list: &mut TokenList) -> Answer<usize>
     requires some { 0 < length text.now }
     requires fits { at + length text.now ≤ 4194304 }
     ensures ok { IfOk result (λ len. Takes (InCore list.old at) text.now list.old list.new len) }
@@ -77,13 +72,7 @@ fn annex(file: u32, at: usize, text: &[u8], list: &mut TokenList) -> Answer<usiz
 }
 
 /// Takes the body of an annex: the tokens of the text of an error model annex, or one raw token.
-fn annex_body(
-    file: u32,
-    at: usize,
-    body: &[u8],
-    is_emv2: bool,
-    list: &mut TokenList,
-) -> Answer<()>
+fn annex_body(file: u32, at: usize, body: &[u8], is_emv2: bool, list: &mut TokenList) -> Answer<()>
     requires { at + length body.now ≤ 4194304 }
     ensures ok { OnOk result (TakesBody is_emv2 at body.now list.old list.new) }
     ensures err { IfErr result (λ stop. RefusedAs file (λ code place. IsTrue is_emv2 × Stops InAnnex StuckInAnnex at body.now code place) stop) }
@@ -96,12 +85,7 @@ fn annex_body(
 }
 
 /// Takes the tokens of the text of an error model annex.
-fn annex_tokens(
-    file: u32,
-    at: usize,
-    text: &[u8],
-    list: &mut TokenList,
-) -> Answer<()>
+fn annex_tokens(file: u32, at: usize, text: &[u8], list: &mut TokenList) -> Answer<()>
     requires { at + length text.now ≤ 4194304 }
     ensures ok { OnOk result (TakesAll InAnnex at text.now list.old list.new) }
     ensures err { IfErr result (λ stop. RefusedAs file (Stops InAnnex StuckInAnnex at text.now) stop) }
@@ -114,12 +98,7 @@ fn annex_tokens(
 }
 
 /// Takes the piece at the front of the text of an error model annex, and says how long it is.
-fn annex_piece(
-    file: u32,
-    at: usize,
-    text: &[u8],
-    list: &mut TokenList,
-) -> Answer<usize>
+fn annex_piece(file: u32, at: usize, text: &[u8], list: &mut TokenList) -> Answer<usize>
     requires some { 0 < length text.now }
     requires fits { at + length text.now ≤ 4194304 }
     ensures ok { IfOk result (λ len. Takes (IsPlain false at) text.now list.old list.new len) }

@@ -9,7 +9,11 @@ use emv2_parser::spot;
 use grammar_rules::{ReadError, Reader};
 
 #[tactic(auto, unfolding(crate::specs::Aliases::package_alias))]
-fn package_alias(reader: &mut Reader, name: Identifier, spot: Spot) -> Result<Option<Alias>, ReadError>
+fn package_alias(
+    reader: &mut Reader,
+    name: Identifier,
+    spot: Spot,
+) -> Result<Option<Alias>, ReadError>
     ensures { Gives result (package_alias name spot) reader.old reader.new }
 {
     reader.word(b"package")?;
@@ -33,7 +37,11 @@ fn group_alias(reader: &mut Reader) -> Result<Option<Alias>, ReadError>
 }
 
 #[tactic(auto, unfolding(crate::specs::Aliases::classifier_alias))]
-fn classifier_alias(reader: &mut Reader, name: Identifier, spot: Spot) -> Result<Option<Alias>, ReadError>
+fn classifier_alias(
+    reader: &mut Reader,
+    name: Identifier,
+    spot: Spot,
+) -> Result<Option<Alias>, ReadError>
     ensures { Gives result (classifier_alias name spot) reader.old reader.new }
 {
     category(reader)?;

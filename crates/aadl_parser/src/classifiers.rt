@@ -12,7 +12,7 @@ use crate::names::{Classifier, category, dotted_name, reference};
 use crate::runs::{bindings, past};
 use crate::subcomponents::subcomponents_after;
 use crate::words::{core_name, ending_at, inner_at, inner_word, section_at, skipped_word};
-use aadl_syntax::{Decl, List, Identifier, Spot};
+use aadl_syntax::{Decl, Identifier, List, Spot};
 use emv2_parser::spot;
 use grammar_rules::{Gathered, ReadError, Reader, ToEnd};
 use std::alloc::Global;

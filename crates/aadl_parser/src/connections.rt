@@ -11,7 +11,7 @@ use crate::features::{accessed, refinement};
 use crate::names::DottedNames;
 use crate::runs::tail_end;
 use crate::words::{core_name, end_at, name_at, processor_at, processor_name};
-use aadl_syntax::{Connection, ConnectionKind, End, Ends, List, Identifier, Spot};
+use aadl_syntax::{Connection, ConnectionKind, End, Ends, Identifier, List, Spot};
 use emv2_parser::spot;
 use grammar_rules::{Parts, ReadError, Reader};
 

@@ -6,7 +6,7 @@ ghost use Rattle.aadl_parser.specs.Names.{further_name, names_after, names, two_
 ghost use Rattle.aadl_parser.specs.Takes.{further_name-takes, further_names-takes, dotted_name-takes};
 
 use crate::words::{category_word, core_name, either_word, name_at, optional_word};
-use aadl_syntax::{List, Mem, Identifier, Ref, Spot};
+use aadl_syntax::{Identifier, List, Mem, Ref, Spot};
 use emv2_parser::spot;
 use grammar_rules::{Parts, ReadError, Reader};
 use std::alloc::Global;

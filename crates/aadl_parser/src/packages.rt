@@ -11,7 +11,7 @@ use crate::classifiers::{classifier, group_type, type_end};
 use crate::names::{names, with_packages};
 use crate::runs::past;
 use crate::words::{core_name, declaration_at, name_at, unit_at};
-use aadl_syntax::{Alias, Emv2Library, List, Mem, Identifier, PackageUnit, Spot, Unit};
+use aadl_syntax::{Alias, Emv2Library, Identifier, List, Mem, PackageUnit, Spot, Unit};
 use emv2_parser::spot;
 use grammar_rules::{Gathered, Parts, ReadError, Reader, ToEnd};
 use std::alloc::Global;

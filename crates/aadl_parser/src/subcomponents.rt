@@ -8,7 +8,7 @@ use crate::features::refinement;
 use crate::names::{Classifier, category, reference};
 use crate::runs::{array_tail, bindings_place};
 use crate::words::{core_name, name_at};
-use aadl_syntax::{List, Identifier, Spot, Subcomponent};
+use aadl_syntax::{Identifier, List, Spot, Subcomponent};
 use emv2_parser::spot;
 use grammar_rules::{Parts, ReadError, Reader};
 

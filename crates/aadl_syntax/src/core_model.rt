@@ -1,6 +1,6 @@
 use crate::error_model::{Emv2Clause, Emv2Library};
-use crate::list::List;
 use crate::identifier::Identifier;
+use crate::list::List;
 use crate::place::{End, Ref, Spot};
 
 /// A unit of a file: a package, or a property set by its name, which is read past.

@@ -1,5 +1,5 @@
-use crate::list::List;
 use crate::identifier::Identifier;
+use crate::list::List;
 use crate::place::{End, Ref, Spot};
 use crate::token::Token;
 

@@ -1,5 +1,5 @@
-use crate::list::List;
 use crate::identifier::Identifier;
+use crate::list::List;
 
 /// A place in a text: byte `at` of a file. Both are numbered from 0.
 #[derive(Clone, Copy, PartialEq, Eq)]

@@ -18,8 +18,8 @@ use crate::words::{
     propagations_at, source_at, transitions_at,
 };
 use aadl_syntax::{
-    Composite, Condition, Emv2Clause, End, List, Identifier, Outgoing, PointRef, Spot, StateRef, TypeSet,
-    UserPath, UserPoint,
+    Composite, Condition, Emv2Clause, End, Identifier, List, Outgoing, PointRef, Spot, StateRef,
+    TypeSet, UserPath, UserPoint,
 };
 use grammar_rules::{Gathered, Parts, ReadError, Reader, ToEnd};
 

@@ -7,7 +7,7 @@ ghost use Rattle.emv2_parser.specs.Names.{spot, further_name, names, reference, 
 ghost use Rattle.emv2_parser.specs.Takes.{further_name-takes, further_reference-takes, dotted_name-takes, factor-takes, further_term-takes};
 
 use crate::words::{error_name, name_at, point_name, point_word_at};
-use aadl_syntax::{List, Identifier, PointRef, Ref, Spot, StateRef, Term, TypeSet};
+use aadl_syntax::{Identifier, List, PointRef, Ref, Spot, StateRef, Term, TypeSet};
 use grammar_rules::{Parts, ReadError, Reader, Tail};
 
 /// A point, perhaps with a set of types.

@@ -185,7 +185,10 @@ fn whole_path(reader: &mut Reader) -> Result<TargetPath, ReadError>
 }
 
 #[tactic(auto, unfolding(crate::specs::Properties::further_targets))]
-fn further_targets(reader: &mut Reader, targets: &mut List<List<Identifier>>) -> Result<(), ReadError>
+fn further_targets(
+    reader: &mut Reader,
+    targets: &mut List<List<Identifier>>,
+) -> Result<(), ReadError>
     ensures { Gives (given result targets.new) (further_targets targets.old) reader.old reader.new }
 {
     reader.gather::<FurtherTargets>(targets)
@@ -201,7 +204,10 @@ fn target_after(reader: &mut Reader, targets: &mut List<List<Identifier>>) -> Re
 }
 
 #[tactic(auto, unfolding(crate::specs::Properties::further_target))]
-fn further_target(reader: &mut Reader, targets: &mut List<List<Identifier>>) -> Result<(), ReadError>
+fn further_target(
+    reader: &mut Reader,
+    targets: &mut List<List<Identifier>>,
+) -> Result<(), ReadError>
     ensures { Gives (given result targets.new) (further_target targets.old) reader.old reader.new }
 {
     reader.sign(b",")?;
@@ -209,7 +215,10 @@ fn further_target(reader: &mut Reader, targets: &mut List<List<Identifier>>) -> 
 }
 
 #[tactic(auto, unfolding(crate::specs::Properties::applied_targets))]
-fn applied_targets(reader: &mut Reader, targets: &mut List<List<Identifier>>) -> Result<(), ReadError>
+fn applied_targets(
+    reader: &mut Reader,
+    targets: &mut List<List<Identifier>>,
+) -> Result<(), ReadError>
     ensures { Gives (given result targets.new) (applied_targets targets.old) reader.old reader.new }
 {
     reader.word(b"applies")?;

@@ -64,11 +64,7 @@ fn uses_machine(classifier: &Decl, package_name: &Identifier, machine: &MachineD
 {
     is_plain(classifier)
         && classifier.clauses.items().len() == 1
-        && are_uses(
-            classifier.clauses.items(),
-            package_name,
-            &machine.name,
-        )
+        && are_uses(classifier.clauses.items(), package_name, &machine.name)
 }
 
 fn is_plain(classifier: &Decl) -> bool

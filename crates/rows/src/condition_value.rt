@@ -2,7 +2,9 @@
 
 use crate::text::Text;
 use crate::value::{put_name, put_names, put_ref, put_spot};
-use aadl_syntax::{Atom, Condition, List, Name, Source, Spot, StateRef, Term, Transition, TypeSet};
+use aadl_syntax::{
+    Atom, Condition, Identifier, List, Source, Spot, StateRef, Term, Transition, TypeSet,
+};
 
 /// Writes a set of types, and the place of its `{`.
 pub fn put_written_set(set: &TypeSet, out: &mut Text) {
@@ -45,9 +47,9 @@ pub fn put_state(state: &StateRef, out: &mut Text) {
 }
 
 /// Writes the name, the place and the source of a transition.
-pub fn put_sourced(name: &Option<Name>, spot: &Spot, source: &Source, out: &mut Text) {
+pub fn put_sourced(name: &Option<Identifier>, spot: &Spot, source: &Source, out: &mut Text) {
     if let Some(name) = name {
-        out.put(name.items());
+        out.put(name.text());
     }
     put_spot(spot, out);
     out.put(b" from");

@@ -46,10 +46,10 @@ fn put_alias(alias: &Alias, out: &mut Text) {
 
 fn put_decl(decl: &Decl, out: &mut Text) {
     out.put(b"classifier ");
-    out.put(decl.name.items());
+    out.put(decl.name.text());
     if let Some(item) = &decl.item {
         out.put(b".");
-        out.put(item.items());
+        out.put(item.text());
     }
     put_spot(&decl.spot, out);
     put_optional_ref(b" extends ", &decl.extends, out);

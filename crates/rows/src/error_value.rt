@@ -9,9 +9,9 @@ use crate::value::{
     put_refs, put_spot, put_token,
 };
 use aadl_syntax::{
-    Association, Composite, Emv2Clause, Emv2Library, EventDecl, EventKind, Flow, FlowKind, List,
-    MachineDecl, Name, Outgoing, PointItem, Spot, StateDecl, TypeItem, TypeKind, TypesBlock,
-    UserPath,
+    Association, Composite, Emv2Clause, Emv2Library, EventDecl, EventKind, Flow, FlowKind,
+    Identifier, List, MachineDecl, Outgoing, PointItem, Spot, StateDecl, TypeItem, TypeKind,
+    TypesBlock, UserPath,
 };
 
 /// Writes the error model text of a package.
@@ -213,7 +213,7 @@ fn put_outgoing(outgoing: &Outgoing, out: &mut Text) {
 fn put_composite(composite: &Composite, out: &mut Text) {
     out.put(b"composite ");
     if let Some(name) = &composite.name {
-        out.put(name.items());
+        out.put(name.text());
     }
     put_spot(&composite.spot, out);
     out.put(b" [");
@@ -242,14 +242,14 @@ fn put_associations(associations: &List<Association>, out: &mut Text) {
         put_names(&association.name, b"::", out);
         for token in association.value.items() {
             out.put(b" | ");
-            put_token(token, out);
+            put_token(token.kind, token.start, token.end, token.text.items(), out);
         }
         put_targets(&association.targets, out);
         out.put(b"\n");
     }
 }
 
-fn put_targets(targets: &List<List<Name>>, out: &mut Text) {
+fn put_targets(targets: &List<List<Identifier>>, out: &mut Text) {
     for names in targets.items() {
         out.put(b" applies to ");
         put_names(names, b".", out);

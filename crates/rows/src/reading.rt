@@ -6,7 +6,7 @@ use crate::text::Text;
 use crate::value::{FILE, put_token};
 use aadl_lexer::tokens;
 use aadl_parser::units;
-use aadl_syntax::{Code, Place, Refusal, Stop, Token};
+use aadl_syntax::{Code, Place, Refusal, Stop, TokenList};
 use emv2_parser::{clause, library};
 use std::alloc::Global;
 
@@ -29,7 +29,7 @@ pub fn put_reading(alloc: Global, reading: Reading, text: &[u8], whole: bool, ou
         return out.refuse("a text of more than 4194304 bytes has no tokens");
     }
     match tokens(alloc, FILE, text) {
-        Ok(list) => put_read(alloc, reading, list.items(), text.len() as u32, whole, out),
+        Ok(list) => put_read(alloc, reading, &list, text.len() as u32, whole, out),
         Err(stop) => put_stop(stop, out),
     }
 }
@@ -37,7 +37,7 @@ pub fn put_reading(alloc: Global, reading: Reading, text: &[u8], whole: bool, ou
 fn put_read(
     alloc: Global,
     reading: Reading,
-    list: &[Token],
+    list: &TokenList,
     end: u32,
     whole: bool,
     out: &mut Text,
@@ -50,17 +50,19 @@ fn put_read(
     }
 }
 
-fn put_tokens(list: &[Token], out: &mut Text) {
-    for (k, token) in list.iter().enumerate() {
+fn put_tokens(list: &TokenList, out: &mut Text) {
+    for k in 0..list.len() {
         if k > 0 {
             out.put(b" | ");
         }
-        put_token(token, out);
+        if let Some(token) = list.get(k) {
+            put_token(token.kind, token.start, token.end, token.text, out);
+        }
     }
     out.put(b"\n");
 }
 
-fn put_library(alloc: Global, list: &[Token], end: u32, whole: bool, out: &mut Text) {
+fn put_library(alloc: Global, list: &TokenList, end: u32, whole: bool, out: &mut Text) {
     match library(alloc, FILE, list, end) {
         Ok(value) if whole => put_library_value(&value, out),
         Ok(_) => out.put(b"reads"),
@@ -68,7 +70,7 @@ fn put_library(alloc: Global, list: &[Token], end: u32, whole: bool, out: &mut T
     }
 }
 
-fn put_clause(alloc: Global, list: &[Token], end: u32, whole: bool, out: &mut Text) {
+fn put_clause(alloc: Global, list: &TokenList, end: u32, whole: bool, out: &mut Text) {
     match clause(alloc, FILE, list, end) {
         Ok(value) if whole => put_clause_value(&value, out),
         Ok(_) => out.put(b"reads"),
@@ -76,7 +78,7 @@ fn put_clause(alloc: Global, list: &[Token], end: u32, whole: bool, out: &mut Te
     }
 }
 
-fn put_core(alloc: Global, list: &[Token], end: u32, whole: bool, out: &mut Text) {
+fn put_core(alloc: Global, list: &TokenList, end: u32, whole: bool, out: &mut Text) {
     match units(alloc, FILE, list, end) {
         Ok(value) if whole => put_units(value.items(), out),
         Ok(_) => out.put(b"reads"),

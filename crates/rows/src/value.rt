@@ -1,7 +1,7 @@
 //! What stands in a value of any kind: names, places and tokens.
 
 use crate::text::Text;
-use aadl_syntax::{End, List, Name, PointRef, Ref, Spot, Token, TokenKind};
+use aadl_syntax::{End, Identifier, List, PointRef, Ref, Spot, TokenKind};
 
 /// The number of the file that is read.
 pub const FILE: u32 = 7;
@@ -24,18 +24,18 @@ pub fn put_optional_spot(word: &[u8], spot: &Option<Spot>, out: &mut Text) {
 }
 
 /// Writes a name and its place.
-pub fn put_name(name: &Name, spot: &Spot, out: &mut Text) {
-    out.put(name.items());
+pub fn put_name(name: &Identifier, spot: &Spot, out: &mut Text) {
+    out.put(name.text());
     put_spot(spot, out);
 }
 
 /// Writes names with a sign between them.
-pub fn put_names(names: &List<Name>, sign: &[u8], out: &mut Text) {
+pub fn put_names(names: &List<Identifier>, sign: &[u8], out: &mut Text) {
     for (k, name) in names.items().iter().enumerate() {
         if k > 0 {
             out.put(sign);
         }
-        out.put(name.items());
+        out.put(name.text());
     }
 }
 
@@ -44,7 +44,7 @@ pub fn put_ref(reference: &Ref, out: &mut Text) {
     put_names(&reference.names, b"::", out);
     if let Some(item) = &reference.item {
         out.put(b".");
-        out.put(item.items());
+        out.put(item.text());
     }
     put_spot(&reference.spot, out);
 }
@@ -95,12 +95,12 @@ fn kind_name(kind: TokenKind) -> &'static [u8] {
 }
 
 /// Writes a token: its kind, its places and its text.
-pub fn put_token(token: &Token, out: &mut Text) {
-    out.put(kind_name(token.kind));
+pub fn put_token(kind: TokenKind, start: u32, end: u32, text: &[u8], out: &mut Text) {
+    out.put(kind_name(kind));
     out.put(b" ");
-    out.put_number(u64::from(token.start));
+    out.put_number(u64::from(start));
     out.put(b"-");
-    out.put_number(u64::from(token.end));
+    out.put_number(u64::from(end));
     out.put(b" ");
-    out.put(token.text.items());
+    out.put(text);
 }

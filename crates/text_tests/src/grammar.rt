@@ -6,7 +6,7 @@ ghost use Rattle.grammar_rules.specs.Tokens.{is_identifier, is_sign};
 ghost use Rattle.text_tests.specs.Sample.{reserved, name, further_name, further_name-takes, uses, dotted, item, skipped, annexed, sample};
 
 use aadl_lexer::tokens;
-use aadl_syntax::{List, Name, TokenKind};
+use aadl_syntax::{Identifier, List, TokenKind, TokenList};
 use grammar_rules::{
     Balanced, Grammar, Parts, ReadError, Reader, Tail, TextError, ToEnd, read_text,
 };
@@ -15,7 +15,7 @@ use std::alloc::Global;
 const RESERVED: [&[u8]; 4] = [b"use", b"item", b"skip", b"end"];
 
 #[tactic(auto, unfolding(crate::specs::Sample::name, crate::specs::Sample::reserved))]
-fn name(reader: &mut Reader) -> Result<Name, ReadError>
+fn name(reader: &mut Reader) -> Result<Identifier, ReadError>
     ensures { Gives result name reader.old reader.new }
 {
     reader.identifier(&RESERVED)
@@ -31,7 +31,7 @@ fn name_at(reader: &mut Reader, k: usize) -> bool
 struct FurtherNames;
 
 impl Parts for FurtherNames {
-    type Part = Name;
+    type Part = Identifier;
 
     ghost tests = { is_sign (codes "::") ∷ is_identifier reserved ∷ [] };
 
@@ -42,7 +42,7 @@ impl Parts for FurtherNames {
     }
 
     #[tactic(auto, unfolding(crate::specs::Sample::further_name))]
-    fn part(reader: &mut Reader) -> Result<Name, ReadError> {
+    fn part(reader: &mut Reader) -> Result<Identifier, ReadError> {
         reader.sign(b"::")?;
         name(reader)
     }
@@ -51,7 +51,7 @@ impl Parts for FurtherNames {
 }
 
 #[tactic(auto, unfolding(crate::specs::Sample::uses))]
-fn uses(reader: &mut Reader) -> Result<List<Name>, ReadError>
+fn uses(reader: &mut Reader) -> Result<List<Identifier>, ReadError>
     ensures { Gives result uses reader.old reader.new }
 {
     reader.word(b"use")?;
@@ -62,7 +62,7 @@ fn uses(reader: &mut Reader) -> Result<List<Name>, ReadError>
 }
 
 #[tactic(auto, unfolding(crate::specs::Sample::dotted))]
-fn dotted(reader: &mut Reader, first: Name) -> Result<List<Name>, ReadError>
+fn dotted(reader: &mut Reader, first: Identifier) -> Result<List<Identifier>, ReadError>
     ensures { Gives result (dotted first) reader.old reader.new }
 {
     let mut names = List::new(reader.alloc());
@@ -75,7 +75,7 @@ fn dotted(reader: &mut Reader, first: Name) -> Result<List<Name>, ReadError>
 }
 
 #[tactic(auto, unfolding(crate::specs::Sample::item))]
-fn item(reader: &mut Reader) -> Result<List<Name>, ReadError>
+fn item(reader: &mut Reader) -> Result<List<Identifier>, ReadError>
     ensures { Gives result item reader.old reader.new }
 {
     reader.word(b"item")?;
@@ -87,7 +87,7 @@ fn item(reader: &mut Reader) -> Result<List<Name>, ReadError>
 }
 
 #[tactic(auto, unfolding(crate::specs::Sample::skipped))]
-fn skipped(reader: &mut Reader) -> Result<List<Name>, ReadError>
+fn skipped(reader: &mut Reader) -> Result<List<Identifier>, ReadError>
     ensures { Gives result skipped reader.old reader.new }
 {
     reader.word(b"skip")?;
@@ -98,7 +98,7 @@ fn skipped(reader: &mut Reader) -> Result<List<Name>, ReadError>
 }
 
 #[tactic(auto, unfolding(crate::specs::Sample::annexed))]
-fn annexed(reader: &mut Reader) -> Result<List<Name>, ReadError>
+fn annexed(reader: &mut Reader) -> Result<List<Identifier>, ReadError>
     ensures { Gives result annexed reader.old reader.new }
 {
     reader.word(b"emv2")?;
@@ -111,12 +111,12 @@ fn annexed(reader: &mut Reader) -> Result<List<Name>, ReadError>
 struct Sample;
 
 impl Grammar for Sample {
-    type Value = List<Name>;
+    type Value = List<Identifier>;
 
     ghost rule = { sample };
 
     #[tactic(auto, unfolding(crate::specs::Sample::sample))]
-    fn read(reader: &mut Reader) -> Result<List<Name>, ReadError> {
+    fn read(reader: &mut Reader) -> Result<List<Identifier>, ReadError> {
         if reader.word_at(0, b"use") {
             return uses(reader);
         }
@@ -137,7 +137,7 @@ fn outcome(alloc: Global, text: &str) -> Option<Result<usize, usize>> {
         return None;
     }
     let list = tokens(alloc, 0, bytes).ok()?;
-    match read_text::<Sample>(alloc, 0, list.items()) {
+    match read_text::<Sample>(alloc, 0, &list) {
         Ok(names) => Some(Ok(names.items().len())),
         Err(TextError::Dead(place)) => Some(Err(place)),
         Err(TextError::Memory) => None,
@@ -187,8 +187,8 @@ fn texts(rt: HostRuntime) {
 
 #[test]
 fn looks(rt: HostRuntime) {
-    let list = tokens(rt.alloc(), 7, b"a :: b").unwrap_or(List::new(rt.alloc()));
-    let mut reader = Reader::new(rt.alloc(), 7, list.items());
+    let list = tokens(rt.alloc(), 7, b"a :: b").unwrap_or(TokenList::new(rt.alloc()));
+    let mut reader = Reader::new(rt.alloc(), 7, &list);
     assert_eq!(rt; reader.file(), 7);
     assert_eq!(rt; reader.unseen(), 4);
     assert!(rt; reader.word_at(0, b"a"));

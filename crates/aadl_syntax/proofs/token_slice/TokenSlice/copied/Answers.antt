@@ -8,9 +8,9 @@ use Rattle.aadl_syntax.proofs.token_slice.TokenSlice.copied.Goals.{in-Some+in_ok
 pub loop-number-preserved : goal.loop-number-preserved
 loop-number-preserved c = elim c.match-get.branch [
   | in-Some+in_ok-copy_of+in_ok-push w ↦
-    let n = c.loop-number.number in
-    let token : Token = shown w.in-Some.token in
-    w.list-is ∙ w.in_ok-push.ensures.ok ∙ ap (λ (t : Token). c.loop-number.list ++ t ∷ []) w.in_ok-copy_of.ensures ∙ ap (λ (ts : List Token). ts ++ token ∷ []) c.loop-number.invariant
-    ∙ sym (take-more c.args.self.now n token (sym w.in-Some.ensures.value))
+      let n = c.loop-number.number in
+      let token : Token = shown w.in-Some.token in
+      w.list-is ∙ w.in_ok-push.ensures.ok ∙ ap (λ (t : Token). c.loop-number.list ++ t ∷ []) w.in_ok-copy_of.ensures ∙ ap (λ (ts : List Token). ts ++ token ∷ []) c.loop-number.invariant
+      ∙ sym (take-more c.args.self.now n token (sym w.in-Some.ensures.value))
   | in_default w ↦ absurd (none-there c.args.self.now c.loop-number.number (let h = c.loop-number-test.true in omega arith) (sym w.in_default.ensures.value))
 ]
