@@ -1,22 +1,21 @@
 -- What families cover when they are kept, cut and joined.
-use Rattle.std.proofs.Common.{ℕ, zero, suc, ◌+◌, ◌≡◌, ◌<◌, ◌≤◌, ◌⊎◌, Bool, true, false, cond, ◌&&◌, ◌||◌, nat_le, List, [], ◌∷◌, ◌++◌, map, filter, length, All, Contains, IsTrue, Option, Some, None, Result, Ok, Err, IfOk, inl, inr, ⊎_elim, ap, ◌∙◌, sym, subst, refl, arith, leb-true, le-leb}
-use Rattle.std.proofs.lemmas.Bool.{false≢true, lt-leb, leb-false, cases_lt, eqb-true, eq-eqb, and_parts, and_from, or_cases}
+use Rattle.std.proofs.Common.{ℕ, zero, suc, ◌+◌, ◌≡◌, ◌<◌, ◌≤◌, ◌⊎◌, Bool, true, false, cond, ◌&&◌, ◌||◌, nat_le, List, [], ◌∷◌, ◌++◌, map, filter, length, All, Option, Some, Result, Ok, Err, IfOk, inl, inr, ⊎_elim, ap, ◌∙◌, sym, subst, refl, arith, leb-true, le-leb}
+use Rattle.std.proofs.lemmas.Bool.{lt-leb, leb-false, cases_lt, or_cases}
 use Rattle.std.proofs.lemmas.List.Elements.{All-weaker}
 use Rattle.std.specs.List.{list_all, list_any, AllByRecursion}
 use Rattle.std.specs.declared.alloc.AllocError.{AllocError}
-use Rattle.fault_system.specs.Truth.{count_true, member}
+use Rattle.fault_system.specs.Truth.{count_true}
 use Rattle.fault_system.specs.Listings.{IsWithinOrder}
 use Rattle.fault_system.proofs.TruthLaws.{same_answer}
-use Rattle.zdd_store.specs.Family.{Family, covers, has, is_within, least_of, IsRising}
-use Rattle.zdd_store.specs.Store.{Families, IsIn, family_at, family_of, Keeps, IsSound}
+use Rattle.zdd_store.specs.Family.{Family, covers, has, is_within, IsRising}
+use Rattle.zdd_store.specs.Store.{Families, IsIn, family_of, Keeps, IsSound}
 use Rattle.zdd_store.specs.Answers.{sets_up_to, IsLeastFamily}
 use Rattle.zdd_store.specs.declared.id.Id.{Id}
-use Rattle.zdd_families.specs.Steps.{either, both}
 use Rattle.zdd_families.specs.Unions.{some_of}
 use Rattle.zdd_families.proofs.Ways.{Keeps_trans, Keeps_same}
 use Rattle.zdd_families.proofs.Pairs.{covers-empty, covers-unit}
 use Rattle.zdd_families.proofs.Subsets.{has_first, has_rest, has_cases, has_none, least-has, within_has, within_from}
-use Rattle.cutset_engine.specs.Gates.{covers_each, Stands, StandEach, Made}
+use Rattle.cutset_engine.specs.Gates.{covers_each, Stands, Made}
 
 -- what is kept covers as before
 pub kept_covers : (before after : Families) (id : Id) (set : List ℕ) → Keeps before after → IsIn before id → covers (family_of after id) set ≡ covers (family_of before id) set
@@ -111,9 +110,9 @@ module _ (f : List Bool → Bool) (op : Bool → Bool → Bool) (append : (xs ys
       → Made before after most (λ set. f (covers_each before parts set)) result
   halves before s1 s2 after most front back parts a b result k1 first k2 second made found is =
       made_then before s2 after most _ _ result (Keeps_trans before s1 s2 k1 k2) made (λ set h.
-          let one : covers (family_of s2 a) set ≡ f (covers_each before front set) = kept_covers s1 s2 a set k2 first.found ∙ first.right set h in
-          let two : covers (family_of s2 b) set ≡ f (covers_each before back set) = second.right set h ∙ ap f (kept_each before s1 back set k1 (all_back (IsIn before) front back (subst (All (IsIn before)) is found))) in
-          rw (one, two, is, each_append before front back set) (sym (append _ _)))
+      let one : covers (family_of s2 a) set ≡ f (covers_each before front set) = kept_covers s1 s2 a set k2 first.found ∙ first.right set h in
+      let two : covers (family_of s2 b) set ≡ f (covers_each before back set) = second.right set h ∙ ap f (kept_each before s1 back set k1 (all_back (IsIn before) front back (subst (All (IsIn before)) is found))) in
+      rw (one, two, is, each_append before front back set) (sym (append _ _)))
 
 pub made_cut : (before after : Families) (k : ℕ) (most : Option ℕ) (id : Id) (result : Result Id AllocError) → IsSound before → IsIn before id → most ≡ Some k → Keeps before after → IfOk result (IsIn after) → IfOk result (λ answer. family_of after answer ≡ sets_up_to k (family_of before id)) → Made before after most (covers (family_of before id)) result
 made_cut before after k most id (Ok answer) sound found is kept here family =

@@ -1,5 +1,5 @@
 -- The families of the parts of a formula, and of the formula.
-use Rattle.std.proofs.Common.{ℕ, zero, suc, ◌+◌, ◌≡◌, ◌<◌, ◌≤◌, Bool, true, false, ◌&&◌, ◌||◌, List, [], ◌∷◌, ◌++◌, map, take, length, All, Option, Some, None, Result, Ok, Err, IfOk, slice_index_or, nat_le, ap, ◌∙◌, sym, subst, refl, arith, add-one}
+use Rattle.std.proofs.Common.{ℕ, ◌+◌, ◌≡◌, ◌<◌, ◌≤◌, Bool, true, false, ◌&&◌, ◌||◌, List, [], ◌∷◌, ◌++◌, map, take, length, All, Option, Some, Result, Ok, Err, IfOk, slice_index_or, nat_le, ap, ◌∙◌, sym, subst, refl, arith, add-one}
 use Rattle.std.proofs.Math.Seq.{take-suc}
 use Rattle.std.proofs.lemmas.List.{get_or-map, map-append, get_or_past}
 use Rattle.std.proofs.lemmas.List.Elements.{All-push, All-get_or}
@@ -10,15 +10,14 @@ use lib.ListN.{length-map}
 use Rattle.fault_system.specs.Truth.{NumberSet, member, truth, count_true}
 use Rattle.fault_system.specs.declared.formula.Formula.TheVariants.{And, Or, AtLeast}
 use Rattle.fault_system.proofs.TruthLaws.{truth-And, truth-Or, truth-AtLeast}
-use Rattle.fault_system.specs.Listings.{IsWithinOrder}
 use Rattle.fault_system.specs.declared.formula.Formula.{Formula}
 use Rattle.zdd_store.specs.Family.{covers, has, is_within}
 use Rattle.zdd_store.specs.Store.{Families, IsIn, family_of, Keeps, IsSound}
 use Rattle.zdd_store.specs.declared.id.Id.{Id}
-use Rattle.zdd_families.proofs.Ways.{Keeps_trans, Keeps_same}
+use Rattle.zdd_families.proofs.Ways.{Keeps_same}
 use Rattle.zdd_families.proofs.Pairs.{covers-empty, covers-unit}
-use Rattle.cutset_engine.specs.Gates.{covers_each, events_of, is_true_under, Stands, StandEach, Made}
-use Rattle.cutset_engine.proofs.Covering.{kept_covers, kept_each, kept_in, made_then}
+use Rattle.cutset_engine.specs.Gates.{covers_each, events_of, is_true_under, StandEach, Made}
+use Rattle.cutset_engine.proofs.Covering.{kept_each, kept_in, made_then}
 
 -- the parts so far
 abbrev pub PartsStand : List ℕ → Families → Families → List Id → Option ℕ → List Formula → List Id → Type 0

@@ -1,4 +1,4 @@
-use Rattle.std.proofs.Common.{ℕ, ap, sym}
+use Rattle.std.proofs.Common.{ap}
 use Rattle.zdd_store.specs.Family.{has}
 use Rattle.cutset_engine.specs.Gates.{events_of}
 use Rattle.cutset_engine.proofs.Parts.{event_made}

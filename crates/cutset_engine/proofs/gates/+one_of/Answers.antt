@@ -1,4 +1,4 @@
-use Rattle.std.proofs.Common.{◌≡◌, Bool, List, ◌||◌, ◌++◌, ap, ◌∙◌, sym, rules, length}
+use Rattle.std.proofs.Common.{◌≡◌, ◌||◌, ◌++◌, sym, rules}
 use Rattle.std.proofs.lemmas.List.{take-append-drop}
 use Rattle.std.proofs.lemmas.List.Folds.{list_any-append}
 use Rattle.std.specs.List.{list_any}

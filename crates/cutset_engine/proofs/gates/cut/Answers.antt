@@ -1,5 +1,3 @@
-use Rattle.std.proofs.Common.{ℕ, sym, subst, ap, ◌∙◌, ◌≤◌, length}
-use Rattle.fault_system.specs.Listings.{IsWithinOrder}
 use Rattle.cutset_engine.proofs.Covering.{made_cut}
 use Rattle.cutset_engine.proofs.gates.cut.Goals as goal
 
