@@ -2,6 +2,8 @@
 #![tactic(auto)]
 
 #[cfg(test)]
+mod cut_sets;
+#[cfg(test)]
 mod diagrams;
 #[cfg(test)]
 mod systems;

@@ -42,7 +42,12 @@ fn events_of(alloc: Global, count: u8) -> Mem<List<EventInfo>> {
 }
 
 // The system of these formulas and of so many events, with names of one letter each.
-fn system(rt: &impl Abort, alloc: Global, formulas: Vec<Formula>, count: u8) -> Mem<FaultSystem>
+pub(crate) fn system(
+    rt: &impl Abort,
+    alloc: Global,
+    formulas: Vec<Formula>,
+    count: u8,
+) -> Mem<FaultSystem>
     ensures { IfOk result (λ system. length system.events ≡ count) }
 {
     let facts = facts_of(alloc, formulas)?;

@@ -29,7 +29,7 @@ member-put (b ∷ bs) zero (suc m) e = inr e
 member-put (b ∷ bs) (suc n) zero e = inr e
 member-put (b ∷ bs) (suc n) (suc m) e = ⊎_elim (λ s. inl (ap suc s)) (λ h. inr h) (member-put bs n m e)
 
-count-put : (bs : List Bool) (n : ℕ) → n < length bs → member bs n ≡ false → count_true (set bs n true) ≡ count_true bs + 1
+pub count-put : (bs : List Bool) (n : ℕ) → n < length bs → member bs n ≡ false → count_true (set bs n true) ≡ count_true bs + 1
 count-put [] n h e = absurd (omega arith)
 count-put (true ∷ bs) zero h e = absurd (false≢true (sym e))
 count-put (false ∷ bs) zero h e = refl

@@ -1,0 +1,4 @@
+pub mod Occurrences
+pub mod Adding
+pub mod Reached
+pub mod Rising

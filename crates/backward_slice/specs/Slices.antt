@@ -1,0 +1,72 @@
+-- The slice of a target: all facts and events that it depends on.
+use Rattle.std.specs.Prelude.{ℕ, ◌<◌, ◌≤◌, ◌≡◌, ◌⊎◌, ◌↔◌, Bool, true, false, ◌==◌, length, Contains, slice_get, Some}
+use Rattle.std.specs.List.{list_any}
+use Rattle.aadl_syntax.specs.declared.refusal.Refusal.{Refusal}
+use Rattle.aadl_syntax.specs.declared.refusal.Stop.{Stop}
+use Rattle.aadl_syntax.specs.declared.refusal.Stop.TheVariants.{Refused, Memory}
+use Rattle.aadl_syntax.specs.declared.refusal.Code.TheVariants.{SliceTooLarge, TooManySliceEvents}
+use Rattle.aadl_syntax.specs.declared.refusal.Place.TheVariants.{Words}
+use Rattle.fault_system.specs.Truth.{NumberSet, Has, occurs}
+use Rattle.fault_system.specs.Systems.{System}
+use Rattle.fault_system.specs.CutSets.{RisesWithin}
+use Rattle.fault_system.specs.declared.formula.FactInfo.{FactInfo}
+use Rattle.fault_system.specs.declared.formula.Formula.{Formula, fold-Formula}
+use Rattle.fault_system.specs.declared.formula.Formula.TheOpen.{Formula-F, True, Event, Fact, And, Or, AtLeast}
+use Rattle.backward_slice.specs.declared.parts.Slice.{Slice}
+
+-- one formula, with whether the event of a number occurs in each part in its place
+abbrev pub occurs_event_step : ℕ → Formula-F Bool → Bool
+occurs_event_step number True = false
+occurs_event_step number (Event n) = n == number
+occurs_event_step number (Fact n) = false
+occurs_event_step number (And parts) = list_any (λ part. part) parts
+occurs_event_step number (Or parts) = list_any (λ part. part) parts
+occurs_event_step number (AtLeast k parts) = list_any (λ part. part) parts
+
+-- whether the event of a number occurs in a formula
+abbrev pub occurs_event : ℕ → Formula → Bool
+occurs_event number = fold-Formula Bool (occurs_event_step number)
+
+-- the fact of a number
+abbrev pub IsFact : System → ℕ → FactInfo → Type 0
+IsFact system number fact = slice_get system.facts number ≡ Some fact
+
+-- with each fact, the set has all facts that occur in its formula
+abbrev pub HasItsCauses : System → NumberSet → Type 0
+HasItsCauses system facts =
+    (n m : ℕ) (fact : FactInfo) → Has facts n → IsFact system n fact → occurs m fact.formula ≡ true → Has facts m
+
+-- One fact depends on another: it is the same, or it can be gone to the other by "occurs in the formula of". Each set
+-- that has the one and, with each fact, all facts that occur in its formula, has the other.
+abbrev pub DependsOn : System → ℕ → ℕ → Type 0
+DependsOn system from to = (facts : NumberSet) → HasItsCauses system facts → Has facts from → Has facts to
+
+-- a fact depends on an event if the event occurs in the formula of a fact on which it depends
+abbrev pub DependsOnEvent : System → ℕ → ℕ → Type 0
+DependsOnEvent system from event =
+    (n : ℕ) × (fact : FactInfo) × DependsOn system from n × IsFact system n fact × (occurs_event event fact.formula ≡ true)
+
+-- the slice of a target has exactly the facts and the events on which the target depends, each in rising order
+pub record IsSlice (system : System) (target : ℕ) (slice : Slice) : Type 0 where
+  pub target_is : slice.target ≡ target
+  pub facts : (n : ℕ) → Contains slice.facts n ↔ DependsOn system target n
+  pub events : (n : ℕ) → Contains slice.events n ↔ DependsOnEvent system target n
+  pub facts_rise : RisesWithin 0 (length system.facts) slice.facts
+  pub events_rise : RisesWithin 0 (length system.events) slice.events
+
+-- a slice that is served: at most 16,384 facts and 1,024 events
+pub record IsServed (system : System) (target : ℕ) (slice : Slice) : Type 0 where
+  pub is_slice : IsSlice system target slice
+  pub few_facts : length slice.facts ≤ 16384
+  pub few_events : length slice.events ≤ 1024
+
+-- the refusal that is due for a slice: too many facts come before too many events
+abbrev pub IsDue : Slice → Refusal → Type 0
+IsDue slice refusal =
+    ((16384 < length slice.facts) × (refusal ≡ record { code = SliceTooLarge; place = Words; limit = 16384 }))
+    ⊎ ((length slice.facts ≤ 16384) × (1024 < length slice.events) × (refusal ≡ record { code = TooManySliceEvents; place = Words; limit = 1024 }))
+
+-- a slice is refused as its size says; want of memory says nothing
+abbrev pub IsRefused : System → ℕ → Stop → Type 0
+IsRefused system target Memory = Unit {0}
+IsRefused system target (Refused refusal) = (slice : Slice) × IsSlice system target slice × IsDue slice refusal

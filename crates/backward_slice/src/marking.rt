@@ -1,0 +1,68 @@
+ghost use Rattle.std.specs.Prelude.{◌≡◌, ◌<◌, ◌+◌, ℕ, OnOk, length, map, true, false, ◌==◌};
+ghost use Rattle.std.specs.List.{list_any};
+ghost use Rattle.fault_system.specs.Truth.{Has, member, occurs};
+ghost use Rattle.backward_slice.specs.Slices.{occurs_event};
+ghost use Rattle.backward_slice.specs.Marks.{Adds};
+
+use aadl_syntax::Mem;
+use fault_system::{Bits, Formula};
+
+/// What is marked so far: facts, events, and of the facts those that still wait for their formula to be looked at.
+#[derive(Drop)]
+pub(crate) struct Marking {
+    pub facts: Bits,
+    pub events: Bits,
+    pub waiting: Vec<u32>,
+}
+
+impl Marking {
+    /// Marks a fact; a fact that was not marked waits.
+    pub fn mark_fact(&mut self, number: u32) -> Mem<()>
+        ensures { OnOk result (Adds (λ n. number == n) (λ n. false) self.old self.new) }
+    {
+        if number < self.facts.size() && !self.facts.has(number) {
+            self.waiting.push(number)?;
+            self.facts.put(number);
+        }
+        Ok(())
+    }
+
+    /// Marks an event.
+    pub fn mark_event(&mut self, number: u32)
+        ensures { Adds (λ n. false) (λ n. number == n) self.old self.new }
+    {
+        if number < self.events.size() {
+            self.events.put(number);
+        }
+    }
+}
+
+/// Marks all facts and events of a formula.
+#[cycle(visit)]
+pub(crate) fn visit(marking: &mut Marking, formula: &Formula) -> Mem<()>
+    ensures { OnOk result (Adds (λ n. occurs n formula.now) (λ n. occurs_event n formula.now) marking.old marking.new) }
+{
+    match formula {
+        Formula::True => Ok(()),
+        Formula::Event(number) => {
+            marking.mark_event(*number);
+            Ok(())
+        }
+        Formula::Fact(number) => marking.mark_fact(*number),
+        Formula::And(parts) | Formula::Or(parts) | Formula::AtLeast(_, parts) => {
+            visit_parts(marking, parts.items())
+        }
+    }
+}
+
+#[cycle(visit)]
+fn visit_parts(marking: &mut Marking, parts: &[Formula]) -> Mem<()>
+    ensures { OnOk result (Adds
+        (λ n. list_any (λ part. part) (map (occurs n) parts.now))
+        (λ n. list_any (λ part. part) (map (occurs_event n) parts.now)) marking.old marking.new) }
+{
+    for part in parts {
+        visit(marking, part)?;
+    }
+    Ok(())
+}

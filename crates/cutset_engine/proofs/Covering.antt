@@ -1,0 +1,143 @@
+-- What families cover when they are kept, cut and joined.
+use Rattle.std.proofs.Common.{ℕ, zero, suc, ◌+◌, ◌≡◌, ◌<◌, ◌≤◌, ◌⊎◌, Bool, true, false, cond, ◌&&◌, ◌||◌, nat_le, List, [], ◌∷◌, ◌++◌, map, filter, length, All, Option, Some, Result, Ok, Err, IfOk, inl, inr, ⊎_elim, ap, ◌∙◌, sym, subst, refl, arith, leb-true, le-leb}
+use Rattle.std.proofs.lemmas.Bool.{lt-leb, leb-false, cases_lt, or_cases}
+use Rattle.std.proofs.lemmas.List.Elements.{All-weaker}
+use Rattle.std.specs.List.{list_all, list_any, AllByRecursion}
+use Rattle.std.specs.declared.alloc.AllocError.{AllocError}
+use Rattle.fault_system.specs.Truth.{count_true}
+use Rattle.fault_system.specs.Listings.{IsWithinOrder}
+use Rattle.fault_system.proofs.TruthLaws.{same_answer}
+use Rattle.zdd_store.specs.Family.{Family, covers, has, is_within, IsRising}
+use Rattle.zdd_store.specs.Store.{Families, IsIn, family_of, Keeps, IsSound}
+use Rattle.zdd_store.specs.Answers.{sets_up_to, IsLeastFamily}
+use Rattle.zdd_store.specs.declared.id.Id.{Id}
+use Rattle.zdd_families.specs.Unions.{some_of}
+use Rattle.zdd_families.proofs.Ways.{Keeps_trans, Keeps_same}
+use Rattle.zdd_families.proofs.Pairs.{covers-empty, covers-unit}
+use Rattle.zdd_families.proofs.Subsets.{has_first, has_rest, has_cases, has_none, least-has, within_has, within_from}
+use Rattle.cutset_engine.specs.Gates.{covers_each, Stands, Made}
+
+-- what is kept covers as before
+pub kept_covers : (before after : Families) (id : Id) (set : List ℕ) → Keeps before after → IsIn before id → covers (family_of after id) set ≡ covers (family_of before id) set
+kept_covers before after id set kept found = ap (λ family. covers family set) (kept.same id.position found)
+
+pub kept_each : (before after : Families) (ids : List Id) (set : List ℕ) → Keeps before after → All (IsIn before) ids → covers_each after ids set ≡ covers_each before ids set
+kept_each before after [] set kept found = refl
+kept_each before after (id ∷ ids) set kept found =
+    let head : covers (family_of after id) set ≡ covers (family_of before id) set = kept_covers before after id set kept (found 0 id (omega arith)) in
+    let tail = kept_each before after ids set kept (λ k d h. found (suc k) d (omega arith)) in
+    λ i. head i ∷ tail i
+
+pub kept_in : (before after : Families) (ids : List Id) → Keeps before after → All (IsIn before) ids → All (IsIn after) ids
+kept_in before after ids kept found = All-weaker (IsIn before) (IsIn after) (λ id h. omega (arith, kept.more)) ids found
+
+-- a step whose operands were made before
+pub made_then : (before middle after : Families) (most : Option ℕ) (test other : List ℕ → Bool) (result : Result Id AllocError) → Keeps before middle → Made middle after most test result → ((set : List ℕ) → IsWithinOrder most set → test set ≡ other set) → Made before after most other result
+made_then before middle after most test other (Ok id) kept made same =
+    record { kept = Keeps_trans before middle after kept made.kept; made = record { found = made.made.found; right = λ set h. made.made.right set h ∙ same set h } }
+made_then before middle after most test other (Err e) kept made same = record { kept = Keeps_trans before middle after kept made.kept; made = tt }
+
+some_step : (k : ℕ) (b : Bool) (n : ℕ) → nat_le (suc k) (cond b (n + 1) n) ≡ nat_le (suc k) n || (b && nat_le k n)
+some_step k true n = same_answer _ _ (λ h. go (cases_lt k n) (leb-true _ _ h)) back where
+  go : (k < n) ⊎ (n ≤ k) → suc k ≤ n + 1 → nat_le (suc k) n || nat_le k n ≡ true
+  go (inl l) h = rw (le-leb (suc k) n (omega arith)) refl
+  go (inr g) h = rw (le-leb k n (omega arith)) (or_true (nat_le (suc k) n)) where
+    or_true : (b : Bool) → b || true ≡ true
+    or_true true = refl
+    or_true false = refl
+
+  back : nat_le (suc k) n || nat_le k n ≡ true → nat_le (suc k) (n + 1) ≡ true
+  back h = ⊎_elim (λ e. let l : suc k ≤ n = leb-true _ _ e in le-leb _ _ (omega arith)) (λ e. let l : k ≤ n = leb-true _ _ e in le-leb _ _ (omega arith)) (or_cases _ _ h)
+some_step k false n = or_none (nat_le (suc k) n) where
+  or_none : (b : Bool) → b ≡ b || false
+  or_none true = refl
+  or_none false = refl
+
+-- at least k families cover a set if the count of those that do is at least k
+pub some_of-count : (k : ℕ) (store : Families) (ids : List Id) (set : List ℕ) → some_of k (map (family_of store) ids) set ≡ nat_le k (count_true (covers_each store ids set))
+some_of-count zero store ids set = sym (le-leb 0 _ (omega arith))
+some_of-count (suc k) store [] set = sym (lt-leb (suc k) 0 (omega arith))
+some_of-count (suc k) store (id ∷ ids) set =
+    (λ i. some_of-count (suc k) store ids set i || (covers (family_of store id) set && some_of-count k store ids set i))
+    ∙ sym (some_step k (covers (family_of store id) set) (count_true (covers_each store ids set)))
+
+-- a set without one of its numbers: all others are left
+remove_one : (set : List ℕ) (n : ℕ) → has set n ≡ true → (rest : List ℕ) × (length set ≡ length rest + 1) × ((x : ℕ) → (x ≡ n → ⊥) → has set x ≡ true → has rest x ≡ true)
+remove_one [] n h = absurd (has_none n h)
+remove_one (m ∷ ms) n h =
+    ⊎_elim (λ e. (ms, omega arith, λ x differ here. ⊎_elim (λ same. absurd (differ (sym same ∙ e))) (λ r. r) (has_cases m ms x here)))
+    (λ k. let r = remove_one ms n k in (m ∷ r.0, omega (arith, r.1), λ x differ here. ⊎_elim (λ same. subst (λ y. has (m ∷ r.0) y ≡ true) same (has_first m r.0)) (λ there. has_rest m r.0 x (r.2 x differ there)) (has_cases m ms x here)))
+    (has_cases m ms n h)
+
+-- a rising set within another is no longer
+pub within-shorter : (part set : List ℕ) → IsRising part → is_within part set ≡ true → length part ≤ length set
+unfolding IsRising
+within-shorter [] set rising within = omega arith
+within-shorter (n ∷ ns) set rising within =
+    let r = remove_one set n (within_has (n ∷ ns) set n within (has_first n ns)) in
+    let rest : is_within ns r.0 ≡ true = within_from ns r.0 (λ x h. r.2 x (λ same. absurd (omega (arith, rising.0, least-has ns x h))) (within_has (n ∷ ns) set x within (has_rest n ns x h))) in
+    omega (arith, r.1, within-shorter ns r.0 rising.1 rest)
+
+-- the sets of at most so many numbers cover what all cover, where no more are asked
+pub covers_cut : (most : ℕ) (family : Family) (set : List ℕ) → AllByRecursion IsRising family → length set ≤ most → covers (sets_up_to most family) set ≡ covers family set
+unfolding covers sets_up_to
+covers_cut most [] set rising few = refl
+covers_cut most (part ∷ family) set rising few = by (nat_le (length part) most) refl (covers_cut most family set rising.1 few) where
+  by : (b : Bool) → nat_le (length part) most ≡ b → list_any (λ p. is_within p set) (filter (λ s. nat_le (length s) most) family) ≡ list_any (λ p. is_within p set) family
+      → list_any (λ p. is_within p set) (cond b (part ∷ filter (λ s. nat_le (length s) most) family) (filter (λ s. nat_le (length s) most) family)) ≡ is_within part set || list_any (λ p. is_within p set) family
+  by true e rest = ap (λ b. is_within part set || b) rest
+  by false e rest = out (is_within part set) refl where
+    out : (b : Bool) → is_within part set ≡ b → list_any (λ p. is_within p set) (filter (λ s. nat_le (length s) most) family) ≡ b || list_any (λ p. is_within p set) family
+    out true w = let l : most < length part = leb-false _ _ e in absurd (omega (arith, within-shorter part set rising.0 w))
+    out false w = rest
+
+pub sound_rising : (store : Families) (id : Id) → IsSound store → IsIn store id → AllByRecursion IsRising (family_of store id)
+sound_rising store id sound found = sound.rising id.position found
+
+all_back : {X : Type 0} (P : X → Type 0) (xs ys : List X) → All P (xs ++ ys) → All P ys
+all_back P [] ys h = h
+all_back P (x ∷ xs) ys h = all_back P xs ys (λ k d l. h (suc k) d (omega arith))
+
+-- of two halves
+module _ (f : List Bool → Bool) (op : Bool → Bool → Bool) (append : (xs ys : List Bool) → f (xs ++ ys) ≡ op (f xs) (f ys)) where
+  each_append : (store : Families) (front back : List Id) (set : List ℕ) → covers_each store (front ++ back) set ≡ covers_each store front set ++ covers_each store back set
+  each_append store [] back set = refl
+  each_append store (id ∷ front) back set = ap (λ bs. covers (family_of store id) set ∷ bs) (each_append store front back set)
+
+  pub halves : (before s1 s2 after : Families) (most : Option ℕ) (front back parts : List Id) (a b : Id) (result : Result Id AllocError)
+      → Keeps before s1 → Stands s1 most (λ set. f (covers_each before front set)) a → Keeps s1 s2 → Stands s2 most (λ set. f (covers_each s1 back set)) b
+      → Made s2 after most (λ set. op (covers (family_of s2 a) set) (covers (family_of s2 b) set)) result → All (IsIn before) parts → parts ≡ front ++ back
+      → Made before after most (λ set. f (covers_each before parts set)) result
+  halves before s1 s2 after most front back parts a b result k1 first k2 second made found is =
+      made_then before s2 after most _ _ result (Keeps_trans before s1 s2 k1 k2) made (λ set h.
+      let one : covers (family_of s2 a) set ≡ f (covers_each before front set) = kept_covers s1 s2 a set k2 first.found ∙ first.right set h in
+      let two : covers (family_of s2 b) set ≡ f (covers_each before back set) = second.right set h ∙ ap f (kept_each before s1 back set k1 (all_back (IsIn before) front back (subst (All (IsIn before)) is found))) in
+      rw (one, two, is, each_append before front back set) (sym (append _ _)))
+
+pub made_cut : (before after : Families) (k : ℕ) (most : Option ℕ) (id : Id) (result : Result Id AllocError) → IsSound before → IsIn before id → most ≡ Some k → Keeps before after → IfOk result (IsIn after) → IfOk result (λ answer. family_of after answer ≡ sets_up_to k (family_of before id)) → Made before after most (covers (family_of before id)) result
+made_cut before after k most id (Ok answer) sound found is kept here family =
+    record {
+      kept = kept;
+      made = record {
+        found = here;
+        right = λ set h. ap (λ fam. covers fam set) family ∙ covers_cut k (family_of before id) set (sound_rising before id sound found) (subst (λ m. IsWithinOrder m set) is h);
+      };
+    }
+made_cut before after k most id (Err e) sound found is kept here family = record { kept = kept; made = tt }
+
+pub made_some : (before middle after : Families) (most : Option ℕ) (k : ℕ) (parts : List Id) (choice : Id) (result : Result Id AllocError) → Keeps before middle → IsLeastFamily (some_of k (map (family_of before) parts)) (family_of middle choice) → Made middle after most (covers (family_of middle choice)) result
+    → Made before after most (λ set. nat_le k (count_true (covers_each before parts set))) result
+made_some before middle after most k parts choice result kept least made =
+    made_then before middle after most _ _ result kept made (λ set h. least.covering set ∙ some_of-count k before parts set)
+
+-- of no part
+pub none_of_one : (store : Families) (most : Option ℕ) (parts : List Id) → IsSound store → length parts ≡ 0 → Made store store most (λ set. list_any (λ b. b) (covers_each store parts set)) (Ok (record { position = 0 }))
+none_of_one store most [] sound none = record { kept = Keeps_same store; made = record { found = omega (arith, sound.some); right = λ set h. covers-empty store (record { position = 0 }) set sound refl } }
+none_of_one store most (id ∷ ids) sound none = absurd (omega arith)
+
+pub none_of_all : (store : Families) (most : Option ℕ) (parts : List Id) → IsSound store → length parts ≡ 0 → Made store store most (λ set. list_all (λ b. b) (covers_each store parts set)) (Ok (record { position = 1 }))
+none_of_all store most [] sound none = record { kept = Keeps_same store; made = record { found = sound.some; right = λ set h. covers-unit store (record { position = 1 }) set sound refl } }
+none_of_all store most (id ∷ ids) sound none = absurd (omega arith)
+
+pub keeps_then : (before middle after : Families) → Keeps before middle → Keeps middle after → Keeps before after
+keeps_then = Keeps_trans

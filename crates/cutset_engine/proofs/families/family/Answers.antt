@@ -1,0 +1,25 @@
+use Rattle.std.proofs.Common.{◌≡◌, ◌<◌, List, length, slice_index_or, All, ap, sym, subst, arith}
+use Rattle.std.proofs.lemmas.List.Elements.{All-get_or}
+use Rattle.zdd_store.specs.Store.{IsIn}
+use Rattle.zdd_store.specs.declared.id.Id.{Id}
+use Rattle.cutset_engine.proofs.Ending.{exact-made, target-fact}
+use Rattle.cutset_engine.proofs.families.family.Goals as goal
+
+pub number_at-target-requires : goal.number_at-target-requires
+number_at-target-requires c =
+    let fits = target-fact c.args.system.now c.args.slice.now.target c.args.slice.now c.requires in
+    let long = ap length c.as_slice.ensures.value in
+    omega (arith, fits, long, c.in_ok-now.ensures.filled.filling.size)
+
+pub least_family-requires : goal.least_family-requires
+least_family-requires c =
+    let fits : c.args.slice.now.target < length c.as_slice.result.now = omega (arith, target-fact c.args.system.now c.args.slice.now.target c.args.slice.now c.requires, ap length c.as_slice.ensures.value, c.in_ok-now.ensures.filled.filling.size) in
+    let all : All (IsIn c.families.new.store) c.as_slice.result.now = subst (All (IsIn c.families.new.store)) (sym c.as_slice.ensures.value) c.in_ok-now.ensures.filled.filling.found in
+    subst (IsIn c.families.new.store) (sym c.number_at-target.ensures) (All-get_or (IsIn c.families.new.store) c.as_slice.result.now c.args.slice.now.target c.number_at-target.result fits all)
+
+pub returns-clause-exact : goal.returns-clause-exact
+returns-clause-exact c =
+    let fits : c.args.slice.now.target < length c.in_ok-now.now.items = omega (arith, target-fact c.args.system.now c.args.slice.now.target c.args.slice.now c.requires, c.in_ok-now.ensures.filled.filling.size) in
+    exact-made c.args.system.now c.args.slice.now.target c.args.slice.now c.args.most c.families.new.store c.least_family.new.store c.in_ok-now.now.items c.number_at-target.result c.least_family.result c.events-events.ensures.system (omega (arith, c.events-events.ensures.count)) c.requires
+    c.in_ok-now.ensures.filled fits
+    (subst (λ (ids : List Id). c.number_at-target.result ≡ slice_index_or ids c.args.slice.now.target c.number_at-target.result) c.as_slice.ensures.value c.number_at-target.ensures) c.least_family.ensures.least

@@ -1,0 +1,155 @@
+ghost use Rattle.std.specs.Prelude.{◌≡◌, ◌<◌, All, IfOk, OnOk, Contains, length, slice_index_or};
+ghost use Rattle.fault_system.specs.Systems.{IsSystem};
+ghost use Rattle.zdd_store.specs.Family.{covers, IsAntichain};
+ghost use Rattle.zdd_store.specs.Store.{IsIn, family_of, Keeps};
+ghost use Rattle.backward_slice.specs.Slices.{IsSlice};
+ghost use Rattle.cutset_engine.specs.Filling.{IsFilling, IsFilled};
+ghost use Rattle.cutset_engine.specs.Families.{HasMinimalCutSets, IsLeast, no_order, sets_to};
+
+use crate::filling::{fill, sweep};
+use crate::finishing::finishing_order;
+use aadl_syntax::Mem;
+use backward_slice::Slice;
+use fault_system::FaultSystem;
+use std::alloc::Global;
+use zdd_families::{min_union, up_to_size};
+use zdd_store::{Id, Store};
+
+/// The minimal cut sets of the target of a slice, of at most so many events where a greatest order is given, as a family
+/// of sets of event numbers.
+///
+/// Each number of the store keeps its family, also where memory is refused.
+pub fn family(
+    alloc: Global,
+    system: &FaultSystem,
+    slice: &Slice,
+    most: Option<u32>,
+    store: &mut Store,
+) -> Mem<Id>
+    requires { IsSlice system.now slice.now.target slice.now }
+    ensures found { IfOk result (IsIn store.new) }
+    ensures exact { IfOk result (λ id. HasMinimalCutSets system.now slice.now.target most (family_of store.new id)) }
+    ensures kept { Keeps store.old store.new }
+{
+    let _events = system.events();
+    let now = families(alloc, store, system, slice, most)?;
+    let target = number_at(now.as_slice(), slice.target);
+    least_family(store, most, target)
+}
+
+fn number_at(numbers: &[Id], at: u32) -> Id
+    requires { at < length numbers.now }
+    ensures { result ≡ slice_index_or numbers.now at result }
+{
+    numbers[at as usize]
+}
+
+/// The families of all facts of a slice, for the sets of at most so many events.
+fn families(
+    alloc: Global,
+    store: &mut Store,
+    system: &FaultSystem,
+    slice: &Slice,
+    most: Option<u32>,
+) -> Mem<Vec<Id>>
+    requires { IsSlice system.now slice.now.target slice.now }
+    ensures kept { Keeps store.old store.new }
+    ensures filled { IfOk result (λ now.
+        IsFilled (record { system = system.now; order = no_order; most = most }) slice.now.facts store.new now.items) }
+{
+    let order = finishing_order(alloc, system, slice.target)?;
+    let mut now = no_families(alloc, store, system.facts())?;
+    fill_in_order(
+        alloc,
+        store,
+        system,
+        most,
+        order.as_slice(),
+        slice,
+        now.as_mut_slice(),
+    )?;
+    Ok(now)
+}
+
+/// No family for each fact.
+fn no_families(alloc: Global, store: &Store, count: u32) -> Mem<Vec<Id>>
+    ensures long { IfOk result (λ now. length now.items ≡ count) }
+    ensures none { IfOk result (λ now. All (λ id. id.position ≡ 0) now.items) }
+{
+    let mut now = Vec::new(alloc);
+    for filled in 0..count {
+        now.push(Id::EMPTY)?;
+    }
+    Ok(now)
+}
+
+/// Makes the families of all facts of a slice: first in an order in which few sweeps are needed, and then until nothing
+/// changes, whatever that order was.
+fn fill_in_order(
+    alloc: Global,
+    store: &mut Store,
+    system: &FaultSystem,
+    most: Option<u32>,
+    order: &[u32],
+    slice: &Slice,
+    now: &mut [Id],
+) -> Mem<()>
+    requires slice { IsSlice system.now slice.now.target slice.now }
+    requires long { length now.old ≡ length system.now.facts }
+    requires none { All (λ id. id.position ≡ 0) now.old }
+    ensures kept { Keeps store.old store.new }
+    ensures filled { OnOk result
+        (IsFilled (record { system = system.now; order = no_order; most = most }) slice.now.facts store.new now.new) }
+{
+    store.laws();
+    settle(alloc, store, system, most, order, now)?;
+    fill(alloc, store, system, &[], most, slice.facts.items(), now)
+}
+
+/// Sweeps over some facts in their order until nothing changes, at most as often as there are facts.
+fn settle(
+    alloc: Global,
+    store: &mut Store,
+    system: &FaultSystem,
+    most: Option<u32>,
+    order: &[u32],
+    now: &mut [Id],
+) -> Mem<()>
+    requires { IsFilling (record { system = system.now; order = no_order; most = most }) store.old now.old }
+    ensures kept { Keeps store.old store.new }
+    ensures filling { OnOk result (IsFilling (record { system = system.now; order = no_order; most = most }) store.new now.new) }
+{
+    for round in 0..system.facts() {
+        if !sweep(alloc, store, system, &[], most, order, now)? {
+            return Ok(());
+        }
+    }
+    Ok(())
+}
+
+/// The minimal sets of a family, of at most so many events where a greatest order is given.
+fn least_family(store: &mut Store, most: Option<u32>, id: Id) -> Mem<Id>
+    requires { IsIn store.old id }
+    ensures kept { Keeps store.old store.new }
+    ensures least { IfOk result (IsLeast store.old store.new most id) }
+{
+    store.laws();
+    let minimal = min_union(store, id, Id::EMPTY)?;
+    store.laws();
+    let answer = sets_within(store, most, minimal)?;
+    store.laws();
+    Ok(answer)
+}
+
+/// The sets of a family of at most so many events; all where there is no greatest order.
+fn sets_within(store: &mut Store, most: Option<u32>, id: Id) -> Mem<Id>
+    requires { IsIn store.old id }
+    ensures found { IfOk result (IsIn store.new) }
+    ensures family { IfOk result (λ answer. family_of store.new answer ≡ sets_to most (family_of store.old id)) }
+    ensures kept { Keeps store.old store.new }
+{
+    match most {
+        Some(most) => up_to_size(store, id, most),
+        None => Ok(id),
+    }
+}

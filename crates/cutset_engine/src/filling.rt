@@ -1,0 +1,85 @@
+ghost use Rattle.std.specs.Prelude.{◌≡◌, ◌<◌, ◌||◌, All, Contains, IfOk, OnOk, length};
+ghost use Rattle.zdd_store.specs.Store.{IsIn, Keeps};
+ghost use Rattle.cutset_engine.specs.Filling.{IsFilling, IsFilled, Steps, HaveTheirCauses};
+
+use crate::formulas::formula_family;
+use aadl_syntax::Mem;
+use fault_system::FaultSystem;
+use std::alloc::Global;
+use zdd_store::{Id, Store};
+
+/// Makes the family of a fact anew from those that all facts have now; whether it is another one.
+fn fill_fact(
+    alloc: Global,
+    store: &mut Store,
+    system: &FaultSystem,
+    order: &[u32],
+    most: Option<u32>,
+    now: &mut [Id],
+    number: u32,
+) -> Mem<bool>
+    requires { IsFilling (record { system = system.now; order = order.now; most = most }) store.old now.old }
+    ensures { Steps (record { system = system.now; order = order.now; most = most }) store.old store.new now.old now.new
+        (λ n. n ≡ number) result }
+{
+    let at = number as usize;
+    let Some(fact) = system.fact(number) else {
+        return Ok(false);
+    };
+    let family = formula_family(alloc, store, order, most, now, &fact.formula)?;
+    let changed = family != now[at];
+    now[at] = family;
+    Ok(changed)
+}
+
+/// Makes the families of some facts anew, one after another; whether one is another than before.
+pub(crate) fn sweep(
+    alloc: Global,
+    store: &mut Store,
+    system: &FaultSystem,
+    order: &[u32],
+    most: Option<u32>,
+    numbers: &[u32],
+    now: &mut [Id],
+) -> Mem<bool>
+    requires { IsFilling (record { system = system.now; order = order.now; most = most }) store.old now.old }
+    ensures { Steps (record { system = system.now; order = order.now; most = most }) store.old store.new now.old now.new
+        (Contains numbers.now) result }
+{
+    let mut changed = false;
+    for number in numbers {
+        let here = fill_fact(alloc, store, system, order, most, now, *number)?;
+        changed = either(changed, here);
+    }
+    Ok(changed)
+}
+
+fn either(a: bool, b: bool) -> bool
+    ensures { result ≡ (a || b) }
+{
+    a || b
+}
+
+/// Sweeps over some facts until nothing changes, at most as often as there are facts: then all is covered that holds.
+pub(crate) fn fill(
+    alloc: Global,
+    store: &mut Store,
+    system: &FaultSystem,
+    order: &[u32],
+    most: Option<u32>,
+    numbers: &[u32],
+    now: &mut [Id],
+) -> Mem<()>
+    requires filling { IsFilling (record { system = system.now; order = order.now; most = most }) store.old now.old }
+    requires causes { HaveTheirCauses system.now numbers.now }
+    ensures kept { Keeps store.old store.new }
+    ensures filled { OnOk result
+        (IsFilled (record { system = system.now; order = order.now; most = most }) numbers.now store.new now.new) }
+{
+    for round in 0..system.facts() {
+        if !sweep(alloc, store, system, order, most, numbers, now)? {
+            return Ok(());
+        }
+    }
+    Ok(())
+}

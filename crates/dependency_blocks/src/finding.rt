@@ -1,0 +1,98 @@
+ghost use Rattle.std.specs.Prelude.{◌≡◌, ◌<◌, ◌⊎◌, ◌^◌, ℕ, Contains, IfOk, IsTrue, length};
+ghost use Rattle.backward_slice.specs.Slices.{IsSlice};
+ghost use Rattle.dependency_blocks.specs.Blocks.{IsBlocks, number_of};
+ghost use Rattle.dependency_blocks.specs.Checks.{IsTable};
+ghost use Rattle.dependency_blocks.specs.Sizes.{AreSmall};
+
+use crate::block_table::Blocks;
+use crate::checks::{all_marked, coming, fall, leading, number_at};
+use crate::finder::{Proposal, propose};
+use aadl_syntax::Mem;
+use backward_slice::Slice;
+use fault_system::FaultSystem;
+use std::alloc::{AllocError, Global};
+
+/// The blocks of a slice.
+///
+/// They are proposed by a search along paths and then tested, both in a time that goes with the facts of the system and
+/// the formulas of the slice. What does not pass the tests is not answered: then the answer is want of memory, and no
+/// system is known for which it is.
+pub fn blocks(alloc: Global, system: &FaultSystem, slice: &Slice) -> Mem<Blocks>
+    requires { IsSlice system.now slice.now.target slice.now }
+    ensures { IfOk result (IsBlocks system.now slice.now.facts) }
+{
+    let facts = slice.facts.items();
+    let proposal = propose(alloc, system, facts, slice.target)?;
+    let numbers = table(alloc, system.facts(), facts, proposal.numbers.as_slice())?;
+    if are_right(alloc, system, facts, numbers.as_slice(), &proposal)? {
+        return Blocks::of(alloc, numbers);
+    }
+    Err(AllocError)
+}
+
+/// Whether the tests show that the numbers are those of blocks.
+fn are_right(
+    alloc: Global,
+    system: &FaultSystem,
+    facts: &[u32],
+    numbers: &[u32],
+    proposal: &Proposal,
+) -> Mem<bool>
+    requires { IsTable facts.now numbers.now }
+    ensures { IfOk result (λ yes. IsTrue yes → IsBlocks system.now facts.now numbers.now) }
+{
+    if !fall(system, numbers, facts) || !all_numbered(numbers, facts) {
+        return Ok(false);
+    }
+    let leaders = proposal.leaders.as_slice();
+    let leads = leading(alloc, system, numbers, leaders, proposal.towards.as_slice())?;
+    let comes = coming(alloc, system, numbers, leaders, proposal.onward.as_slice())?;
+    if !all_marked(&leads, facts) {
+        return Ok(false);
+    }
+    Ok(all_marked(&comes, facts))
+}
+
+/// Whether each of some facts has a number.
+fn all_numbered(numbers: &[u32], facts: &[u32]) -> bool
+    ensures { IsTrue result → (n : ℕ) → Contains facts.now n → number_of numbers.now n < 4294967295 }
+{
+    for fact in facts {
+        if number_at(numbers, *fact) == 4_294_967_295 {
+            return false;
+        }
+    }
+    true
+}
+
+/// The proposed numbers of the facts of a slice, and none for all other facts.
+fn table(alloc: Global, count: u32, facts: &[u32], proposed: &[u32]) -> Mem<Vec<u32>>
+    ensures table { IfOk result (λ numbers. IsTable facts.now numbers.items) }
+    ensures small { IfOk result (λ numbers. AreSmall numbers.items) }
+    ensures few { IfOk result (λ numbers. length numbers.items < 2 ^ 32) }
+{
+    let mut numbers = vec![in alloc; 4_294_967_295u32; count as usize]?;
+    write_all(numbers.as_mut_slice(), facts, proposed);
+    Ok(numbers)
+}
+
+fn write_all(numbers: &mut [u32], facts: &[u32], proposed: &[u32])
+    requires { (n : ℕ) → number_of numbers.old n ≡ 4294967295 }
+    ensures long { length numbers.new ≡ length numbers.old }
+    ensures table { IsTable facts.now numbers.new }
+    ensures small { AreSmall numbers.new }
+{
+    for fact in facts {
+        write(numbers, *fact, number_at(proposed, *fact));
+    }
+}
+
+fn write(numbers: &mut [u32], fact: u32, number: u32)
+    ensures long { length numbers.new ≡ length numbers.old }
+    ensures others { (n : ℕ) → (n ≡ fact) ⊎ (number_of numbers.new n ≡ number_of numbers.old n) }
+    ensures small { AreSmall numbers.old → AreSmall numbers.new }
+{
+    if (fact as usize) < numbers.len() && (number as usize) < numbers.len() {
+        numbers[fact as usize] = number;
+    }
+}
