@@ -1,5 +1,5 @@
 -- Marks in a text that grows.
-use Rattle.std.proofs.Common.{◌≡◌, ℕ, zero, suc, ◌+◌, ◌-◌, ◌<◌, ◌≤◌, ◌^◌, List, [], ◌∷◌, ◌++◌, length, map, take, drop, Option, Some, None, Result, Ok, Err, refl, sym, ◌∙◌, ap, subst, arith, length-append, length-drop}
+use Rattle.std.proofs.Common.{◌≡◌, ℕ, zero, suc, ◌+◌, ◌-◌, ◌<◌, ◌≤◌, ◌^◌, List, [], ◌∷◌, ◌++◌, length, take, drop, Option, Some, None, Result, Ok, Err, refl, sym, ◌∙◌, ap, subst, arith, length-append, length-drop}
 use Rattle.std.proofs.lemmas.List.{length-map}
 use Rattle.std.proofs.lemmas.List.{take-append-drop, take-append-le, drop-append-le, drop-take, length-take, map-append}
 use Rattle.std.proofs.Math.Seq.{drop-append_seam, take-length}
@@ -7,7 +7,6 @@ use Rattle.std.specs.Prelude.{slice_get, MatchOption}
 use Rattle.std.specs.Option.{option_map}
 use Rattle.std.specs.Result.{OnErr}
 use Rattle.std.specs.List.{AllByRecursion, between}
-use Rattle.aadl_syntax.specs.Name.{folded}
 use Rattle.aadl_syntax.specs.Token.{EndsWith, IsTokenText, shown, text_of, token_of}
 use Rattle.aadl_syntax.specs.declared.token.TokenRef.{TokenRef}
 use Rattle.aadl_syntax.specs.Marks.{text_at, token_at, tokens_at, IsMark, AreMarks, Grows}

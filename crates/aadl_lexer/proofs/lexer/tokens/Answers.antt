@@ -1,4 +1,4 @@
-use Rattle.std.proofs.Common.{List, [], ℕ, ◌-◌, length, take, drop, sym, subst, zero-add}
+use Rattle.std.proofs.Common.{List, [], ℕ, drop, sym, subst, zero-add}
 use Rattle.std.proofs.lemmas.Result.{err_from_is_err_and}
 use Rattle.std.proofs.lemmas.List.{take_rest}
 use Rattle.aadl_syntax.specs.declared.token.Token.{Token}

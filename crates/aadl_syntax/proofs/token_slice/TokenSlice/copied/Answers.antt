@@ -1,4 +1,4 @@
-use Rattle.std.proofs.Common.{List, ◌≡◌, ◌∷◌, ◌++◌, ◌+◌, [], ◌∙◌, ap, sym, take, arith}
+use Rattle.std.proofs.Common.{List, ◌∷◌, ◌++◌, [], ◌∙◌, ap, sym, arith}
 use Rattle.aadl_syntax.specs.declared.token.Token.{Token}
 use Rattle.aadl_syntax.specs.Token.{shown}
 use Rattle.aadl_syntax.proofs.Marked.{take-more, none-there}

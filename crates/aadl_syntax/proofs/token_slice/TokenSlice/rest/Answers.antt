@@ -1,4 +1,4 @@
-use Rattle.std.proofs.Common.{List, ◌≡◌, ◌≤◌, ◌∙◌, ap, sym, subst, length, drop}
+use Rattle.std.proofs.Common.{List, ◌≤◌, ◌∙◌, ap, sym, subst, length, drop}
 use Rattle.aadl_syntax.specs.declared.token.Token.{Token}
 use Rattle.aadl_syntax.proofs.Marked.{between-rest}
 use Rattle.aadl_syntax.proofs.token_slice.TokenSlice.rest.Goals as goal
