@@ -1,7 +1,6 @@
 -- Two names or more are some.
-use Rattle.std.proofs.Common.{◌≡◌, ℕ, List, [], ◌∷◌, Ok, sym, ◌∙◌}
+use Rattle.std.proofs.Common.{◌≡◌, ℕ, List, [], ◌∷◌, Ok}
 use Rattle.grammar_rules.specs.declared.reader.Reader.{Reader}
-use Rattle.grammar_rules.specs.Rules.{Reads}
 use Rattle.grammar_rules.specs.Reader.{Gives}
 use Rattle.grammar_rules.proofs.Loops.{reads_so}
 use Rattle.aadl_parser.specs.Names.{two_names, names_after}
