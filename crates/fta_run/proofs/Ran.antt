@@ -15,9 +15,9 @@ use Rattle.fault_system.specs.Systems.{System}
 use Rattle.fta_run.specs.Words.{Command, GiveCommand, GiveNoCommand, IsCommand, file_words}
 use Rattle.fta_run.specs.Files.{HasTooLong, HasTooMuch, LacksTokens, LacksUnits, NamesTooMany, most_files, of_words}
 use Rattle.fta_run.specs.Model.{LacksRoot, LacksTarget}
-use Rattle.fta_run.specs.Due.{due, texts_of, text_of}
+use Rattle.fta_run.specs.Due.{due, texts_of, text_of, text_on}
 use Rattle.fta_run.specs.Answers.{AllTold, AnswersWords, IsJustified, IsManyAnswer, IsSameStatus, MayCome}
-use Rattle.fta_run.specs.Steps.{IsReadEnd, Prints, Runs, ended, text_on}
+use Rattle.fta_run.specs.Steps.{IsReadEnd, Prints, Runs, ended}
 use Rattle.fta_run.proofs.Prints.{prints_on}
 use Rattle.fta_run.proofs.Roots.{files_of}
 use Rattle.fta_run.proofs.OneDue.{one_due}

@@ -2,11 +2,11 @@
 use Rattle.std.specs.Prelude.{◌≡◌, ◌≤◌, ◌⊎◌, ℕ, List, length, take, suc, Option, Some, IfSome, Result, Ok, Err, MatchResult, slice_get}
 use Rattle.std.specs.List.{AllZip}
 use Rattle.fta_outside.specs.Outside.{Rose}
-use Rattle.phases.specs.Phases.{Phase, Passes, Stops, ◌>>=◌}
+use Rattle.phases.specs.Phases.{Phase, Passes, Stops}
 use Rattle.phases.specs.declared.status.Status.{Status}
 use Rattle.phases.specs.declared.status.Status.TheVariants.{Done, ReadFault, WriteFault, Memory}
-use Rattle.fta_run.specs.Words.{Command, GiveCommand, file_words}
-use Rattle.fta_run.specs.Due.{due, units_of, system_at, text_of}
+use Rattle.fta_run.specs.Words.{GiveCommand, file_words}
+use Rattle.fta_run.specs.Due.{due}
 use Rattle.fta_run.specs.Files.{most_bytes, most_files}
 use Rattle.fta_run.specs.Answers.{TookFront, TookText}
 
@@ -34,13 +34,6 @@ IsWriteEnd phase before after faults_before faults_after status =
 abbrev pub Prints : {T : Type 0} → Phase (List ℕ) → Result T Status → Option (List ℕ) → Option (List ℕ) → ℕ → ℕ → Type 0
 Prints phase result before after faults_before faults_after =
     MatchResult result (λ _. TookText (Passes phase) before after) (λ status. (Stops phase status × (after ≡ before)) ⊎ IsWriteEnd phase before after faults_before faults_after status)
-
--- the text of a command on these texts: what is left of what is due, once the files are read
-abbrev pub text_on : Command → List (List ℕ) → Phase (List ℕ)
-text_on command texts = do
-  files ← units_of texts
-  system ← system_at command.root files
-  text_of command.task system
 
 -- A sink took the text that is due; or the phases stop, and it took nothing; or memory was wanting, or a write failed; or a read
 -- of a file of the command failed.

@@ -5,11 +5,11 @@ ghost use Rattle.phases.specs.declared.status.Status.{Status as AnyStatus};
 ghost use Rattle.fta_run.specs.declared.words.Task.TheVariants.{Check, Cuts};
 ghost use Rattle.fta_run.specs.Line.{status_line};
 ghost use Rattle.fta_run.specs.Answers.{AllTold, AnswersWords, IsCaused, IsJustified, IsManyAnswer, IsOutput, MayCome, Took};
-ghost use Rattle.fta_run.specs.Due.{due, text_of};
+ghost use Rattle.fta_run.specs.Due.{due, text_of, text_on};
 ghost use Rattle.fta_run.specs.Files.{most_files};
 ghost use Rattle.fta_run.specs.Words.{GiveNoCommand, file_words};
 ghost use Rattle.fta_run.specs.Shown.{command_shown};
-ghost use Rattle.fta_run.specs.Steps.{Prints, Runs, ended, text_on};
+ghost use Rattle.fta_run.specs.Steps.{Prints, Runs, ended};
 
 use crate::input::{Texts, read_texts, units_of_texts};
 use crate::line::write_line;
@@ -38,7 +38,8 @@ pub fn run<F: Files, S: Sink, E: Sink>(
     // Usage comes exactly where the words give no command.
     ensures words { AnswersWords result words.now }
 
-    // A refusal is the verdict on texts that the files may contain, and NotYet comes only where such texts are not served and no earlier phase stops.
+    // A refusal is the verdict on texts that the files may contain, and NotYet comes only where such texts are not served and
+    // no earlier phase stops.
     ensures verdict { IsJustified words.now (F.contents files.old) result }
 
     // Under Done `out` took the text of the command on texts that the files may contain, and else at most a front of it.
@@ -47,8 +48,10 @@ pub fn run<F: Files, S: Sink, E: Sink>(
     // A fault comes only where its count rose.
     ensures faults { IsCaused result words.now (F.faults files.old) (F.faults files.new) (S.faults out.old) (S.faults out.new) }
 
-    // Where the files of the command tell their contents, what is due for the words and the contents comes, unless memory runs out or a fault comes first.
-    ensures complete { AllTold words.now (F.contents files.old) → (its_due : Result (List ℕ) AnyStatus) → IsDue (due words.now (F.contents files.old)) its_due → MayCome its_due result }
+    // Where the files of the command tell their contents, what is due for the words and the contents comes, unless memory runs
+    // out or a fault comes first.
+    ensures complete { AllTold words.now (F.contents files.old)
+        → (its_due : Result (List ℕ) AnyStatus) → IsDue (due words.now (F.contents files.old)) its_due → MayCome its_due result }
 
     // No file is read where there is no command, or where too many are named; too many are refused, whatever the files tell.
     ensures no_command { GiveNoCommand words.now → files.new ≡ files.old }
@@ -59,7 +62,7 @@ pub fn run<F: Files, S: Sink, E: Sink>(
     ensures line { (Rose (E.faults err.old) (E.faults err.new) → ⊥) → E.taken err.new ≡ with_bytes (E.taken err.old) (status_line (file_words words.now) result) }
     ensures at_most_the_line { TookPrefix (E.taken err.old) (E.taken err.new) (status_line (file_words words.now) result) }
 {
-    let status = status_of(answer(alloc, words, files, out));
+    let status = ended(answer(alloc, words, files, out));
     write_status(words, &status, err);
     status
 }
@@ -74,7 +77,7 @@ fn write_status<E: Sink>(words: &[Word], status: &Status, err: &mut E)
 }
 
 /// How a run ended that answered this.
-fn status_of(answer: Result<(), Status>) -> Status
+fn ended(answer: Result<(), Status>) -> Status
     ensures { result ≡ ended answer }
 {
     match answer {

@@ -98,13 +98,13 @@ fn read_file<F: Files>(
     ensures never_falls { (other : List ℕ) → F.faults files.old other ≤ F.faults files.new other }
 {
     match files.read(alloc, name, MOST_BYTES + 1) {
-        Ok(bytes) => text_of(bytes),
+        Ok(bytes) => whole_text(bytes),
         Err(ReadError::Failed) => Err(Status::ReadFault(number)),
         Err(ReadError::Memory) => Err(Status::Memory),
     }
 }
 
-fn text_of(bytes: Vec<u8>) -> Result<Name, Status>
+fn whole_text(bytes: Vec<u8>) -> Result<Name, Status>
     ensures { MatchResult result (λ text. text ≡ bytes.items) (λ status. status ≡ Status.Memory) }
 {
     match List::of(bytes) {

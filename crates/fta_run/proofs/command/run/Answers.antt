@@ -5,14 +5,14 @@ use Rattle.fta_run.proofs.command.run.Goals as goal
 
 pub returns-clause-words : goal.returns-clause-words
 returns-clause-words g c =
-    subst (λ status. AnswersWords status c.args.words.now) (sym c.status_of-status.ensures) (ran_words c.args.words.now (g.F.Files.contents c.args.files.now) _ _ _ _ _ _ c.answer.result c.answer.ensures.end)
+    subst (λ status. AnswersWords status c.args.words.now) (sym c.ended-status.ensures) (ran_words c.args.words.now (g.F.Files.contents c.args.files.now) _ _ _ _ _ _ c.answer.result c.answer.ensures.end)
 
 pub returns-clause-verdict : goal.returns-clause-verdict
 returns-clause-verdict g c =
     let contents = g.F.Files.contents c.args.files.now in
-    subst (IsJustified c.args.words.now contents) (sym c.status_of-status.ensures) (ran_verdict c.args.words.now contents _ _ _ _ _ _ c.answer.result c.answer.ensures.end)
+    subst (IsJustified c.args.words.now contents) (sym c.ended-status.ensures) (ran_verdict c.args.words.now contents _ _ _ _ _ _ c.answer.result c.answer.ensures.end)
 
 pub returns-clause-complete : goal.returns-clause-complete
 returns-clause-complete g c told its_due is_due =
     let contents = g.F.Files.contents c.args.files.now in
-    subst (MayCome its_due) (sym c.status_of-status.ensures) (ran_complete c.args.words.now contents _ _ _ _ _ _ c.answer.result c.answer.ensures.end told its_due is_due)
+    subst (MayCome its_due) (sym c.ended-status.ensures) (ran_complete c.args.words.now contents _ _ _ _ _ _ c.answer.result c.answer.ensures.end told its_due is_due)

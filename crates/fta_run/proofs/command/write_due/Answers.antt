@@ -1,8 +1,7 @@
 use Rattle.phases.proofs.Steps.{◌beyond◌, ends}
 use Rattle.phases.specs.Phases.{joins}
-use Rattle.fta_run.specs.Due.{units_of, system_at, text_of}
+use Rattle.fta_run.specs.Due.{units_of, system_at, text_of, text_on}
 use Rattle.fta_run.specs.Shown.{command_shown}
-use Rattle.fta_run.specs.Steps.{text_on}
 use Rattle.fta_run.proofs.Prints.{prints_exit, prints_on}
 use Rattle.fta_run.proofs.command.write_due.Goals as goal
 
