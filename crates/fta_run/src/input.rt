@@ -28,6 +28,9 @@ const MOST_BYTES: usize = 4_194_304;
 /// The greatest length of all files together, in bytes.
 const MOST_TEXT: u64 = 16_777_216;
 
+/// The tokens of one text.
+type TokenList = List<Token>;
+
 /// The texts of files, which are not too many, and none too long.
 #[derive(Drop)]
 pub struct Texts {
@@ -171,7 +174,7 @@ pub fn units_of_texts(alloc: Global, texts: &Texts) -> Result<List<List<Unit>>, 
 }
 
 /// The tokens of each text.
-fn tokens_of_texts(alloc: Global, texts: &Texts) -> Result<List<List<Token>>, Status>
+fn tokens_of_texts(alloc: Global, texts: &Texts) -> Result<List<TokenList>, Status>
     ensures { Meets (answers (AreTokens texts.now) (LacksTokens texts.now)) result }
 {
     let mut lists = List::new(alloc);
@@ -183,7 +186,7 @@ fn tokens_of_texts(alloc: Global, texts: &Texts) -> Result<List<List<Token>>, St
 }
 
 /// The tokens of one text.
-fn tokens_of_text(alloc: Global, file: u32, text: &Name) -> Answer<List<Token>>
+fn tokens_of_text(alloc: Global, file: u32, text: &Name) -> Answer<TokenList>
     requires { length text.now ≤ most_bytes }
     ensures found { IfOk result (λ list. Tokens text.now list) }
     ensures refused { IfErr result (λ stop. RefusedAs file (IsFault text.now) stop) }
@@ -195,7 +198,7 @@ fn tokens_of_text(alloc: Global, file: u32, text: &Name) -> Answer<List<Token>>
 fn units_of_tokens(
     alloc: Global,
     texts: &Texts,
-    lists: &List<List<Token>>,
+    lists: &List<TokenList>,
 ) -> Result<List<List<Unit>>, Status>
     requires { AreTokens texts.now lists.now }
     ensures { Meets (refuses (AreUnits lists.now) (LacksUnits texts.now lists.now)) result }
@@ -210,7 +213,7 @@ fn units_of_tokens(
 }
 
 /// The units of one text, whose tokens are given.
-fn units_of_text(alloc: Global, file: u32, text: &Name, tokens: &List<Token>) -> Answer<List<Unit>>
+fn units_of_text(alloc: Global, file: u32, text: &Name, tokens: &TokenList) -> Answer<List<Unit>>
     requires { length text.now ≤ most_bytes }
     ensures ok { IfOk result (λ found. AreUnitsOf file tokens.now found) }
     ensures err { IfErr result (λ stop. StopsAt file tokens.now (length text.now) stop) }
