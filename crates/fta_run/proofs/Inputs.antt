@@ -1,17 +1,20 @@
 -- The texts of the files, and the first refusal of their number, their lengths and their tokens.
-use Rattle.std.proofs.Common.{◌≡◌, ◌<◌, ◌≤◌, ◌+◌, ℕ, suc, Bool, true, false, if◌then◌else◌, nat_lt, min, List, [], ◌∷◌, ◌++◌, length, get_or, map, take, drop, sum_by, Option, Some, IfSome, Contains, MatchOption, refl, sym, ap, subst, ◌∙◌, inl, inr, arith, length-take, add-one, drop-cons}
+use Rattle.std.proofs.Common.{◌≡◌, ◌<◌, ◌≤◌, ◌+◌, ℕ, suc, Bool, true, false, if◌then◌else◌, nat_lt, min, List, [], ◌∷◌, ◌++◌, length, get_or, take, drop, sum_by, Option, Some, None, IfSome, Contains, MatchOption, refl, sym, ap, subst, ◌∙◌, inl, inr, arith, length-take, add-one, drop-cons}
 use Rattle.std.specs.List.{AllByRecursion}
 use Rattle.std.proofs.lemmas.Bool.{cases_lt}
 use Rattle.std.proofs.lemmas.Bool.Decides.{nat_tests}
 use Rattle.std.proofs.lemmas.List.{drop_all, take_all}
 use borrow.Author.Tests.{le-ltb, lt-ltb}
-use Rattle.aadl_syntax.specs.declared.refusal.Code.TheVariants.{FileTooLong}
+use Rattle.aadl_syntax.specs.declared.refusal.Code.TheVariants.{FileTooLong, TooManyFiles}
 use Rattle.aadl_syntax.specs.declared.refusal.Place.TheVariants.{Whole}
 use Rattle.aadl_syntax.specs.declared.refusal.Refusal.{Refusal}
 use Rattle.aadl_syntax.specs.Order.{IsClear, IsFirst, least, nearer}
 use Rattle.aadl_syntax.proofs.OrderLaws.{nearer-none, noted-more, least-first, first_alone}
-use Rattle.fta_run.specs.Files.{AreContents, HasTooLong, HasTooMuch, InputRefused, NamesTooMany, too_long, too_long_from}
-use Rattle.fta_run.specs.Steps.{AreFronts, PassInput}
+use Rattle.phases.specs.Phases.{Passes, Stops}
+use Rattle.phases.specs.declared.status.Status.TheVariants.{Refused}
+use Rattle.fta_run.specs.Due.{texts_of}
+use Rattle.fta_run.specs.Files.{HasTooLong, HasTooMuch, MayContain, NamesTooMany, most_bytes, most_files, most_text, of_words, too_long, too_long_from}
+use Rattle.fta_run.specs.Steps.{AreFronts}
 
 -- ---- noting the files that are too long, one after the other
 
@@ -35,7 +38,7 @@ append-none (x ∷ xs) ys none = absurd (cc)
 
 -- the refusal of a file that is too long, or not
 abbrev refused_long : ℕ → Bool → List Refusal
-refused_long file long = if long then record { code = FileTooLong; place = Whole file; limit = 4194304 } ∷ [] else []
+refused_long file long = if long then record { code = FileTooLong; place = Whole file; limit = most_bytes } ∷ [] else []
 
 not_above : (limit n : ℕ) → n ≤ limit → nat_lt limit n ≡ false
 not_above limit n within = le-ltb limit n within
@@ -44,27 +47,21 @@ not_long : (limit file n : ℕ) (long : Bool) → nat_lt limit n ≡ long → re
 not_long limit file n true is none = absurd (cc)
 not_long limit file n false is none = grind (arith, nat_tests)
 
-not_too_long : (file : ℕ) (text : List ℕ) → too_long file text ≡ [] → length text ≤ 4194304
-not_too_long file text none = not_long 4194304 file (length text) (nat_lt 4194304 (length text)) refl none
+not_too_long : (file : ℕ) (text : List ℕ) → too_long file text ≡ [] → length text ≤ most_bytes
+not_too_long file text none = not_long most_bytes file (length text) (nat_lt most_bytes (length text)) refl none
 
-pub short_of : (file : ℕ) (texts : List (List ℕ)) → too_long_from file texts ≡ [] → AllByRecursion (λ text. length text ≤ 4194304) texts
+pub short_of : (file : ℕ) (texts : List (List ℕ)) → too_long_from file texts ≡ [] → AllByRecursion (λ text. length text ≤ most_bytes) texts
 short_of file [] none = tt
 short_of file (text ∷ texts) none =
     let both = append-none (too_long file text) (too_long_from (suc file) texts) none in
     (not_too_long file text both.0, short_of (suc file) texts both.1)
 
-pub from_short : (file : ℕ) (texts : List (List ℕ)) → AllByRecursion (λ text. length text ≤ 4194304) texts → too_long_from file texts ≡ []
+pub from_short : (file : ℕ) (texts : List (List ℕ)) → AllByRecursion (λ text. length text ≤ most_bytes) texts → too_long_from file texts ≡ []
 from_short file [] short = refl
 from_short file (text ∷ texts) short =
-    let fits : length text ≤ 4194304 = short.0 in
-    let none : too_long file text ≡ [] = ap (refused_long file) (not_above 4194304 (length text) fits) in
+    let fits : length text ≤ most_bytes = short.0 in
+    let none : too_long file text ≡ [] = ap (refused_long file) (not_above most_bytes (length text) fits) in
     ap (λ one. one ++ too_long_from (suc file) texts) none ∙ from_short (suc file) texts short.1
-
-whole_of : (texts : List (List ℕ)) → AllByRecursion (λ text. length text ≤ 4194304) texts → map (take 4194305) texts ≡ texts
-whole_of [] short = refl
-whole_of (text ∷ texts) short =
-    let fits : length text ≤ 4194305 = omega (arith, short.0) in
-    ap (λ t. t ∷ map (take 4194305) texts) (take_all 4194305 text fits) ∙ ap (λ ts. text ∷ ts) (whole_of texts short.1)
 
 -- ---- what was read of a file tells whether it is too long
 
@@ -75,65 +72,90 @@ capped_long limit n m is =
       | inr within ↦ let same : m ≡ n = omega arith in ap (nat_lt limit) same
     ]
 
-front_long : (text : List ℕ) → nat_lt 4194304 (length (take 4194305 text)) ≡ nat_lt 4194304 (length text)
-front_long text = capped_long 4194304 (length text) (length (take 4194305 text)) (length-take 4194305 text)
+front_long : (text : List ℕ) → nat_lt most_bytes (length (take (suc most_bytes) text)) ≡ nat_lt most_bytes (length text)
+front_long text = capped_long most_bytes (length text) (length (take (suc most_bytes) text)) (length-take (suc most_bytes) text)
 
-too_long-front : (file : ℕ) (text : List ℕ) → too_long file (take 4194305 text) ≡ too_long file text
+too_long-front : (file : ℕ) (text : List ℕ) → too_long file (take (suc most_bytes) text) ≡ too_long file text
 too_long-front file text = ap (refused_long file) (front_long text)
 
-too_long_from-fronts : (file : ℕ) (texts : List (List ℕ)) → too_long_from file (map (take 4194305) texts) ≡ too_long_from file texts
-too_long_from-fronts file [] = refl
-too_long_from-fronts file (text ∷ texts) =
-    ap (λ one. one ++ too_long_from (suc file) (map (take 4194305) texts)) (too_long-front file text) ∙ ap (λ more. too_long file text ++ more) (too_long_from-fronts (suc file) texts)
+-- ---- texts that the files may contain, of which these are fronts
 
--- what was read are the fronts of the texts that are told
-fronts_of : (contents : List ℕ → Option (List ℕ)) (files read texts : List (List ℕ)) → AreFronts contents files read → AreContents contents files texts → read ≡ map (take 4194305) texts
-fronts_of contents [] [] [] fronts told = refl
-fronts_of contents [] [] (text ∷ texts) fronts told = absurd (cc)
-fronts_of contents [] (r ∷ read) texts fronts told = absurd fronts
-fronts_of contents (file ∷ files) [] texts fronts told = absurd fronts
-fronts_of contents (file ∷ files) (r ∷ read) [] fronts told = absurd (cc)
-fronts_of contents (file ∷ files) (r ∷ read) (text ∷ texts) fronts told =
-    let head : contents file ≡ Some text = cc (told) in
-    let tail : map contents files ≡ map (λ t. Some t) texts = cc (told) in
-    let front : r ≡ take 4194305 text = subst (λ o. IfSome o (λ whole. r ≡ take 4194305 whole)) head fronts.0 in
-    ap (λ t. t ∷ read) front ∙ ap (λ ts. take 4194305 text ∷ ts) (fronts_of contents files read texts fronts.1 tail)
+-- what a file contains, or else what was read of it
+abbrev whole_of : Option (List ℕ) → List ℕ → List ℕ
+whole_of None read = read
+whole_of (Some whole) read = whole
+
+abbrev wholes : (List ℕ → Option (List ℕ)) → List (List ℕ) → List (List ℕ) → List (List ℕ)
+wholes contents [] read = []
+wholes contents (file ∷ files) [] = []
+wholes contents (file ∷ files) (text ∷ read) = whole_of (contents file) text ∷ wholes contents files read
+
+may_be : (told : Option (List ℕ)) (text : List ℕ) → IfSome told (λ whole. whole_of told text ≡ whole)
+may_be None text = tt
+may_be (Some whole) text = refl
+
+same_long : (file : ℕ) (told : Option (List ℕ)) (text : List ℕ) → IfSome told (λ whole. text ≡ take (suc most_bytes) whole) → too_long file text ≡ too_long file (whole_of told text)
+same_long file None text front = refl
+same_long file (Some whole) text front = ap (too_long file) front ∙ too_long-front file whole
+
+-- a text that was read and is not too long is what the file may contain
+same_text : (told : Option (List ℕ)) (text : List ℕ) → length text ≤ most_bytes → IfSome told (λ whole. text ≡ take (suc most_bytes) whole) → IfSome told (λ whole. text ≡ whole)
+same_text None text short front = tt
+same_text (Some whole) text short front =
+    let count : length text ≡ min (suc most_bytes) (length whole) = ap length front ∙ length-take (suc most_bytes) whole in
+    let fits : length whole ≤ suc most_bytes = omega (arith, count, short) in
+    front ∙ take_all (suc most_bytes) whole fits
+
+-- a file is too long
+wholes_contained : (contents : List ℕ → Option (List ℕ)) (files read : List (List ℕ)) → AreFronts contents files read → MayContain contents files (wholes contents files read)
+wholes_contained contents [] [] fronts = tt
+wholes_contained contents [] (text ∷ read) fronts = absurd fronts
+wholes_contained contents (file ∷ files) [] fronts = absurd fronts
+wholes_contained contents (file ∷ files) (text ∷ read) fronts = (may_be (contents file) text, wholes_contained contents files read fronts.1)
+
+wholes_long : (contents : List ℕ → Option (List ℕ)) (number : ℕ) (files read : List (List ℕ)) → AreFronts contents files read → too_long_from number read ≡ too_long_from number (wholes contents files read)
+wholes_long contents number [] [] fronts = refl
+wholes_long contents number [] (text ∷ read) fronts = absurd fronts
+wholes_long contents number (file ∷ files) [] fronts = absurd fronts
+wholes_long contents number (file ∷ files) (text ∷ read) fronts =
+    ap (λ one. one ++ too_long_from (suc number) read) (same_long number (contents file) text fronts.0) ∙ ap (λ more. too_long number (whole_of (contents file) text) ++ more) (wholes_long contents (suc number) files read fronts.1)
+
+-- no file is too long
+pub contained : (contents : List ℕ → Option (List ℕ)) (files read : List (List ℕ)) → AllByRecursion (λ text. length text ≤ most_bytes) read → AreFronts contents files read → MayContain contents files read
+contained contents [] [] short fronts = tt
+contained contents [] (text ∷ read) short fronts = absurd fronts
+contained contents (file ∷ files) [] short fronts = absurd fronts
+contained contents (file ∷ files) (text ∷ read) short fronts = (same_text (contents file) text short.0 fronts.0, contained contents files read short.1 fronts.1)
 
 -- ---- the answers of the reading
 
-clear_few : (files : List (List ℕ)) → length files ≤ 64 → IsClear (NamesTooMany files)
-clear_few files few = λ refusal many. absurd (omega (arith, many.0))
+pub clear_few : (files : List (List ℕ)) → length files ≤ most_files → IsClear (NamesTooMany files)
+clear_few files few = λ refusal many. absurd (omega (arith, many.0, few))
 
-clear_short : (texts : List (List ℕ)) → too_long_from 0 texts ≡ [] → IsClear (HasTooLong texts)
+pub clear_short : (texts : List (List ℕ)) → too_long_from 0 texts ≡ [] → IsClear (HasTooLong texts)
 clear_short texts none = λ refusal there. let in_none : Contains [] refusal = subst (λ group. Contains group refusal) none there in absurd (omega (arith, in_none.1))
 
--- a file is too long
-pub long_refused : (contents : List ℕ → Option (List ℕ)) (files read texts : List (List ℕ)) (refusal : Refusal) → length files ≤ 64 → AreFronts contents files read → AreContents contents files texts → IsFirst (HasTooLong read) refusal → InputRefused files texts (λ _. ⊥) refusal
-long_refused contents files read texts refusal few fronts told first =
-    let group : too_long_from 0 read ≡ too_long_from 0 texts = ap (too_long_from 0) (fronts_of contents files read texts fronts told) ∙ too_long_from-fronts 0 texts in
-    inr (clear_few files few, inl (subst (λ g. IsFirst (Contains g) refusal) group first))
+-- too many files are named
+pub many_refused : (contents : List ℕ → Option (List ℕ)) (files : List (List ℕ)) → most_files < length files → Stops (texts_of contents files) (Refused (of_words TooManyFiles most_files))
+many_refused contents files many =
+    let first : IsFirst (NamesTooMany files) (of_words TooManyFiles most_files) = first_alone (NamesTooMany files) (of_words TooManyFiles most_files) (many, refl) (λ other also. also.1) in
+    record { stopped = inl (of_words TooManyFiles most_files, first, refl) }
 
--- where no file is too long, the texts were read whole
-read_whole : (contents : List ℕ → Option (List ℕ)) (files read texts : List (List ℕ)) → AreFronts contents files read → AreContents contents files texts → too_long_from 0 read ≡ [] → (read ≡ texts) × (too_long_from 0 texts ≡ [])
-read_whole contents files read texts fronts told none =
-    let are : read ≡ map (take 4194305) texts = fronts_of contents files read texts fronts told in
-    let also : too_long_from 0 texts ≡ [] = sym (ap (too_long_from 0) are ∙ too_long_from-fronts 0 texts) ∙ none in
-    (are ∙ whole_of texts (short_of 0 texts also), also)
+-- a file is too long
+pub long_refused : (contents : List ℕ → Option (List ℕ)) (files read : List (List ℕ)) (refusal : Refusal) → length files ≤ most_files → AreFronts contents files read → IsFirst (HasTooLong read) refusal → Stops (texts_of contents files) (Refused refusal)
+long_refused contents files read refusal few fronts first =
+    let texts = wholes contents files read in
+    let its : IsFirst (HasTooLong texts) refusal = subst (λ group. IsFirst (Contains group) refusal) (wholes_long contents 0 files read fronts) first in
+    record { stopped = inr (tt, clear_few files few, inr (texts, wholes_contained contents files read fronts, inl (refusal, its, refl))) }
 
 -- all files are too long together
-pub much_refused : (contents : List ℕ → Option (List ℕ)) (files read texts : List (List ℕ)) (refusal : Refusal) → length files ≤ 64 → AreFronts contents files read → AreContents contents files texts → too_long_from 0 read ≡ [] → HasTooMuch read refusal → InputRefused files texts (λ _. ⊥) refusal
-much_refused contents files read texts refusal few fronts told none much =
-    let whole = read_whole contents files read texts fronts told none in
-    let its : HasTooMuch texts refusal = subst (λ ts. HasTooMuch ts refusal) whole.0 much in
-    inr (clear_few files few, inr (clear_short texts whole.1, inl (first_alone (HasTooMuch texts) refusal its (λ other also. also.1 ∙ sym its.1))))
+pub much_refused : (contents : List ℕ → Option (List ℕ)) (files read : List (List ℕ)) (refusal : Refusal) → length files ≤ most_files → AreFronts contents files read → too_long_from 0 read ≡ [] → HasTooMuch read refusal → Stops (texts_of contents files) (Refused refusal)
+much_refused contents files read refusal few fronts none much =
+    let first : IsFirst (HasTooMuch read) refusal = first_alone (HasTooMuch read) refusal much (λ other also. also.1 ∙ sym much.1) in
+    record { stopped = inr (tt, clear_few files few, inr (read, contained contents files read (short_of 0 read none) fronts, inr (tt, clear_short read none, inl (refusal, first, refl)))) }
 
 -- nothing is refused
-pub passed_input : (contents : List ℕ → Option (List ℕ)) (files read texts : List (List ℕ)) → length files ≤ 64 → AreFronts contents files read → AreContents contents files texts → too_long_from 0 read ≡ [] → sum_by length read ≤ 16777216 → PassInput read files texts
-passed_input contents files read texts few fronts told none little =
-    let whole = read_whole contents files read texts fronts told none in
-    record {
-      whole = whole.0;
-      few = clear_few files few;
-      short = clear_short texts whole.1;
-      not_much = λ refusal much. absurd (omega (arith, much.0, little, ap (sum_by length) whole.0));
-    }
+pub texts_pass : (contents : List ℕ → Option (List ℕ)) (files read : List (List ℕ)) → length files ≤ most_files → AreFronts contents files read → too_long_from 0 read ≡ [] → sum_by length read ≤ most_text → Passes (texts_of contents files) read
+texts_pass contents files read few fronts none little = record {
+  passed = (tt, clear_few files few, (read, contained contents files read (short_of 0 read none) fronts, (tt, clear_short read none, (tt, (λ refusal much. absurd (omega (arith, much.0, little))), refl))));
+}

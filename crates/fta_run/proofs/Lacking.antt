@@ -1,5 +1,5 @@
 -- The tokens of texts, and the first text that has none.
-use Rattle.std.proofs.Common.{◌≡◌, ◌<◌, ℕ, zero, suc, false, List, [], ◌∷◌, ◌++◌, length, get_or, take, Some, slice_get, refl, sym, ap, subst, ◌∙◌, inl, inr, arith, length-take}
+use Rattle.std.proofs.Common.{◌≡◌, ◌<◌, ℕ, zero, suc, false, List, [], ◌∷◌, ◌++◌, length, get_or, take, Some, slice_get, refl, sym, ap, subst, ◌∙◌, ◌⊎◌, inl, inr, arith, length-take}
 use Rattle.std.specs.List.{AllZip}
 use Rattle.std.proofs.lemmas.Bool.{cases_lt}
 use Rattle.std.proofs.lemmas.Option.{slice_get_within, slice_get_read, get_or_from_slice_get}
@@ -8,13 +8,17 @@ use Rattle.std.specs.Ordering.{is_gt}
 use Rattle.aadl_syntax.specs.declared.token.Token.{Token}
 use Rattle.aadl_syntax.specs.declared.refusal.Refusal.{Refusal}
 use Rattle.aadl_syntax.specs.declared.refusal.Place.TheVariants.{At}
-use Rattle.aadl_syntax.specs.declared.refusal.Stop.TheVariants.{Refused}
+use Rattle.aadl_syntax.specs.declared.refusal.Stop.{Stop}
+use Rattle.aadl_syntax.specs.declared.refusal.Stop.TheVariants.{Refused, Memory}
 use Rattle.aadl_syntax.specs.Order.{IsClear, IsFirst, refusal_cmp}
 use Rattle.aadl_syntax.proofs.OrderLaws.{earlier_file, itself}
 use Rattle.aadl_lexer.specs.Tokens.{IsFault, RefusedAs, Tokens}
-use Rattle.aadl_lexer.proofs.Single.{list_or_fault, one_fault}
-use Rattle.fta_run.specs.Files.{LacksTokens}
-use Rattle.fta_run.specs.Steps.{AreTokens}
+use Rattle.aadl_lexer.proofs.Single.{list_or_fault, one_fault, one_list}
+use Rattle.phases.specs.Meets.{IsMemory}
+use Rattle.phases.specs.Phases.{Stops, answers}
+use Rattle.phases.specs.Stopped.{status_of}
+use Rattle.phases.proofs.Steps.{refused}
+use Rattle.fta_run.specs.Files.{AreTokens, LacksTokens}
 
 -- one more pair
 pub zip-more : {A B : Type 0} (R : A → B → Type 0) (xs : List A) (ys : List B) (i : ℕ) (x : A) (y : B) → i < length xs → x ≡ get_or xs i x → AllZip R (take i xs) ys → R x y → AllZip R (take (suc i) xs) (ys ++ y ∷ [])
@@ -36,7 +40,7 @@ tokens_at : (texts : List (List ℕ)) (lists : List (List Token)) (file : ℕ) (
 tokens_at texts lists file text zip there =
     subst (λ t. Tokens t (get_or lists file [])) (get_or_from_slice_get texts file text text there) (zip_at texts lists file text [] zip (slice_get_within texts file text there))
 
--- the same of a text and of a list that are read at the place
+-- a text and a list of tokens that stand at the place
 pub tokens_here : (texts : List (List ℕ)) (lists : List (List Token)) (file : ℕ) (text : List ℕ) (list : List Token) (bytes : List ℕ) (tokens : List Token) → AreTokens texts lists → file < length texts → text ≡ get_or texts file text → list ≡ get_or lists file list → bytes ≡ text → tokens ≡ list → Tokens bytes tokens
 tokens_here texts lists file text list bytes tokens zip within is its same also =
     let pair = zip_at texts lists file text list zip within in
@@ -89,3 +93,19 @@ first_lacking texts file text lists refusal within is before fault = record {
         ]
       ];
 }
+
+-- where the texts before have tokens, what stops a text stops the phase
+pub tokens_stop : (texts : List (List ℕ)) (file : ℕ) (text : List ℕ) (lists : List (List Token)) (why : Stop) → file < length texts → text ≡ get_or texts file text → AreTokens (take file texts) lists → RefusedAs file (IsFault text) why
+    → Stops (answers (AreTokens texts) (LacksTokens texts)) (status_of why) ⊎ IsMemory (status_of why)
+tokens_stop texts file text lists (Refused refusal) within is before fault = refused (first_lacking texts file text lists refusal within is before fault)
+tokens_stop texts file text lists Memory within is before fault = inr refl
+
+-- texts have one list of tokens each
+pub one_tokens : (texts : List (List ℕ)) (a b : List (List Token)) → AreTokens texts a → AreTokens texts b → a ≡ b
+one_tokens [] [] [] h k = refl
+one_tokens [] [] (list ∷ lists) h k = absurd k
+one_tokens [] (list ∷ lists) b h k = absurd h
+one_tokens (text ∷ texts) [] b h k = absurd h
+one_tokens (text ∷ texts) (list ∷ lists) [] h k = absurd k
+one_tokens (text ∷ texts) (list ∷ lists) (other ∷ others) h k =
+    ap (λ l. l ∷ lists) (one_list text list other h.0 k.0) ∙ ap (λ ls. other ∷ ls) (one_tokens texts lists others h.1 k.1)

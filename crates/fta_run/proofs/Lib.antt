@@ -4,7 +4,8 @@ mod Roots
 mod Writes
 mod Inputs
 mod Lacking
-mod Forms
-mod Asked
-mod OneDue
 mod Grammars
+mod Forms
+mod OneDue
+mod Prints
+mod Ran

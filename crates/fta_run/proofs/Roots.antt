@@ -1,14 +1,16 @@
 -- A text with signs between names has one reading, where no name holds the sign.
-use Rattle.std.proofs.Common.{◌≡◌, ◌≤◌, ◌<◌, ℕ, Bool, true, false, not, ◌==◌, ◌&&◌, cond, List, [], ◌∷◌, ◌++◌, length, arith, refl, sym, ap, subst, ◌∙◌, inl, inr, append-nil, ◌⊎◌, Option, Some, None, IsSome, IfSome, MatchOption, codes}
+use Rattle.std.proofs.Common.{◌≡◌, ◌≤◌, ◌<◌, ℕ, Bool, true, false, not, ◌==◌, ◌&&◌, cond, List, [], ◌∷◌, ◌++◌, length, arith, refl, sym, ap, subst, ◌∙◌, inl, inr, append-nil, append_assoc, add-one, drop-cons, ◌≢◌, ◌+◌, suc, take, drop, get_or, if◌then◌else◌, ◌⊎◌, Option, Some, None, IsSome, IfSome, MatchOption, codes}
 use Rattle.std.specs.List.{AllByRecursion}
 use Rattle.std.specs.Cmp.{first_so, second_so}
 use Rattle.std.proofs.lemmas.Bool.{false≢true, cases_lt}
+use Rattle.std.proofs.lemmas.Bool.Decides.{nat_tests}
+use Rattle.std.proofs.lemmas.List.{take_more}
 use Rattle.aadl_syntax.specs.declared.name.Root.{Root}
 use Rattle.aadl_syntax.specs.Form.{IsWord, is_letter, is_letter_or_digit}
 use Rattle.aadl_syntax.specs.Name.{folded, is_same_text}
 use Rattle.fta_run.specs.declared.words.Task.{Task}
 use Rattle.fta_run.specs.declared.words.Task.TheVariants.{Check, Cuts}
-use Rattle.fta_run.specs.Words.{AreJoined, AreTaskWords, IsCommand, IsRoot, dotted, file_words, follows_well, with_colons}
+use Rattle.fta_run.specs.Words.{AreJoined, AreTaskWords, Command, IsCommand, IsPlainWord, IsRoot, before_options, dotted, file_words, follows_well, is_option, with_colons}
 use Rattle.fta_run.proofs.Identifiers.{follows_of}
 
 -- no byte is the sign
@@ -174,16 +176,54 @@ same_task words (Cuts target) (Cuts target₂) word word₂ files files₂ x y =
     (roots, ap Cuts (x.1 ∙ ap folded targets ∙ sym y.1), rest)
 
 -- words are one command at most
-pub one_command : (words : List (List ℕ)) (root other : Root) (task task₂ : Task) (files files₂ : List (List ℕ)) → IsCommand words root task files → IsCommand words other task₂ files₂
-    → (root ≡ other) × (task ≡ task₂) × (files ≡ files₂)
-one_command words root other task task₂ files files₂ x y =
-    let same = same_task words task task₂ x.root_word y.root_word files files₂ x.words_are y.words_are in
-    (one_root (folded y.root_word) root other (subst (λ w. IsRoot (folded w) root) same.0 x.root_is) y.root_is, same.1, same.2)
+pub one_command : (words : List (List ℕ)) (a b : Command) → IsCommand words a → IsCommand words b → a ≡ b
+one_command words a b x y =
+    let same = same_task words a.task b.task x.root_word y.root_word a.files b.files x.words_are y.words_are in
+    let roots : a.root ≡ b.root = one_root (folded y.root_word) a.root b.root (subst (λ w. IsRoot (folded w) a.root) same.0 x.root_is) y.root_is in
+    let tasks : a.task ≡ b.task = same.1 in
+    let files : a.files ≡ b.files = same.2 in
+    λ i. record { root = roots i; task = tasks i; files = files i }
 
-files_after : (words : List (List ℕ)) (task : Task) (word : List ℕ) (files : List (List ℕ)) → AreTaskWords task word files words → file_words words ≡ files
-files_after words Check word files x = ap file_words x
-files_after words (Cuts target) word files x = ap file_words x.2
+-- ---- the file words
+
+no_option : (word : List ℕ) → IsPlainWord word → is_option word ≡ false
+no_option [] plain = absurd plain
+no_option (byte ∷ bytes) plain = let other : byte ≢ 45 = plain.0 in grind (arith, nat_tests)
+
+no_end : (word : List ℕ) (others : List (List ℕ)) (option : Bool) → option ≡ false → (if option then [] else word ∷ others) ≡ word ∷ others
+no_end word others true is = absurd (cc)
+no_end word others false is = refl
+
+an_end : (word : List ℕ) (others : List (List ℕ)) (option : Bool) → option ≡ true → (if option then [] else word ∷ others) ≡ []
+an_end word others true is = refl
+an_end word others false is = absurd (cc)
+
+-- plain words go up to the end
+plain_words : (words : List (List ℕ)) → AllByRecursion IsPlainWord words → before_options words ≡ words
+plain_words [] plain = refl
+plain_words (word ∷ words) plain = no_end word (before_options words) (is_option word) (no_option word plain.0) ∙ ap (λ ws. word ∷ ws) (plain_words words plain.1)
+
+files_after : (words : List (List ℕ)) (task : Task) (word : List ℕ) (files : List (List ℕ)) → AreTaskWords task word files words → AllByRecursion IsPlainWord words → file_words words ≡ files
+files_after words Check word files x plain = ap file_words x ∙ plain_words files (subst (AllByRecursion IsPlainWord) x plain).1.1
+files_after words (Cuts target) word files x plain = ap file_words x.2 ∙ plain_words files (subst (AllByRecursion IsPlainWord) x.2 plain).1.1.1
 
 -- the file words of a command
-pub files_of : (words : List (List ℕ)) (root : Root) (task : Task) (files : List (List ℕ)) → IsCommand words root task files → file_words words ≡ files
-files_of words root task files command = files_after words task command.root_word files command.words_are
+pub files_of : (words : List (List ℕ)) (command : Command) → IsCommand words command → file_words words ≡ command.files
+files_of words command is = files_after words command.task is.root_word command.files is.words_are is.plain
+
+-- one more word that is no option
+pub one_more : (words : List (List ℕ)) (number : ℕ) (word : List ℕ) → number < length words → word ≡ get_or words number word → is_option word ≡ false
+    → before_options words ≡ take number words ++ before_options (drop number words) → before_options words ≡ take (number + 1) words ++ before_options (drop (number + 1) words)
+one_more words number word within is other before =
+    let split : drop number words ≡ word ∷ drop (suc number) words = drop-cons words number word within ∙ ap (λ w. w ∷ drop (suc number) words) (sym is) in
+    let here : before_options (drop number words) ≡ word ∷ before_options (drop (suc number) words) = ap before_options split ∙ no_end word (before_options (drop (suc number) words)) (is_option word) other in
+    let more : take (number + 1) words ≡ take number words ++ word ∷ [] = take_more words number word within ∙ ap (λ w. take number words ++ w ∷ []) (sym is) in
+    before ∙ ap (λ ws. take number words ++ ws) here ∙ sym (append_assoc (take number words) (word ∷ []) (before_options (drop (suc number) words))) ∙ ap (λ ws. ws ++ before_options (drop (suc number) words)) (sym more) ∙ ap (λ n. take (number + 1) words ++ before_options (drop n words)) (sym (add-one number))
+
+-- the first option
+pub first_option : (words : List (List ℕ)) (number : ℕ) (word : List ℕ) → number < length words → word ≡ get_or words number word → is_option word ≡ true
+    → before_options words ≡ take number words ++ before_options (drop number words) → take number words ≡ before_options words
+first_option words number word within is option before =
+    let split : drop number words ≡ word ∷ drop (suc number) words = drop-cons words number word within ∙ ap (λ w. w ∷ drop (suc number) words) (sym is) in
+    let here : before_options (drop number words) ≡ [] = ap before_options split ∙ an_end word (before_options (drop (suc number) words)) (is_option word) option in
+    sym (before ∙ ap (λ ws. take number words ++ ws) here ∙ append-nil (take number words))

@@ -1,9 +1,9 @@
 pub mod Answers
+pub mod Due
 pub mod Files
 pub mod Line
-pub mod Output
-pub mod Status
+pub mod Model
+pub mod Shown
 pub mod Steps
-pub mod Stopped
 pub mod Text
 pub mod Words

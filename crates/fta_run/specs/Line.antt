@@ -5,8 +5,8 @@ use Rattle.aadl_syntax.specs.declared.refusal.Place.TheVariants.{Words, Whole, A
 use Rattle.aadl_syntax.specs.declared.refusal.Refusal.{Refusal}
 use Rattle.aadl_syntax.specs.Refusal.{code_text}
 use Rattle.fta_outside.specs.Outside.{Rose, TookPrefix, with_bytes}
-use Rattle.fta_run.specs.declared.status.Status.{Status}
-use Rattle.fta_run.specs.declared.status.Status.TheVariants.{Done, Usage, Refused, ReadFault, WriteFault, Memory, NotYet}
+use Rattle.phases.specs.declared.status.Status.{Status}
+use Rattle.phases.specs.declared.status.Status.TheVariants.{Done, Usage, Refused, ReadFault, WriteFault, Memory, NotYet}
 
 -- the file word of a number, as it was written
 abbrev pub file_word : List (List ℕ) → ℕ → List ℕ

@@ -36,27 +36,48 @@ pub record IsRoot (text : List ℕ) (root : Root) : Type 0 where
   pub identifiers : AllByRecursion IsWord root.names
   pub item_identifier : IfSome root.item IsWord
 
+-- what the words ask for: a task on the model of a root, which stands in files of these names
+pub record Command : Type 0 where
+  pub root : Root
+  pub task : Task
+  pub files : List (List ℕ)
+
 -- The words of a task: `check`, a root and files, or `cuts`, a root, a target, whose letters are folded, and files.
 abbrev pub AreTaskWords : Task → List ℕ → List (List ℕ) → List (List ℕ) → Type 0
 AreTaskWords Check root_word files words = words ≡ codes "check" ∷ root_word ∷ files
 AreTaskWords (Cuts target) root_word files words = (target_word : List ℕ) × (target ≡ folded target_word) × (words ≡ codes "cuts" ∷ root_word ∷ target_word ∷ files)
 
 -- The words are those of a task for a root, and one or more files, all plain; letters of the root are folded.
-pub record IsCommand (words : List (List ℕ)) (root : Root) (task : Task) (files : List (List ℕ)) : Type 0 where
+pub record IsCommand (words : List (List ℕ)) (command : Command) : Type 0 where
   pub root_word : List ℕ
-  pub words_are : AreTaskWords task root_word files words
-  pub some_file : 0 < length files
+  pub words_are : AreTaskWords command.task root_word command.files words
+  pub some_file : 0 < length command.files
   pub plain : AllByRecursion IsPlainWord words
-  pub root_is : IsRoot (folded root_word) root
+  pub root_is : IsRoot (folded root_word) command.root
+
+-- The words give a command.
+abbrev pub GiveCommand : List (List ℕ) → Type 0
+GiveCommand words = (command : Command) × IsCommand words command
 
 -- The words give no command.
 abbrev pub GiveNoCommand : List (List ℕ) → Type 0
-GiveNoCommand words = (root : Root) (task : Task) (files : List (List ℕ)) → IsCommand words root task files → ⊥
+GiveNoCommand words = (command : Command) → IsCommand words command → ⊥
 
--- the words that name files: those after the first two of `check`, and after the first three of any other
+-- whether a word begins with `-`
+abbrev pub is_option : List ℕ → Bool
+is_option [] = false
+is_option (byte ∷ bytes) = byte == 45
+
+-- the words before the first that begins with `-`
+abbrev pub before_options : List (List ℕ) → List (List ℕ)
+before_options [] = []
+before_options (word ∷ words) = if is_option word then [] else word ∷ before_options words
+
+-- the words that name files: those after the first two of `check`, and after the first three of any other, up to the first
+-- that begins with `-`
 abbrev pub file_words : List (List ℕ) → List (List ℕ)
 file_words [] = []
-file_words (name ∷ words) = drop (if is_same_text name (codes "check") then 1 else 2) words
+file_words (name ∷ words) = before_options (drop (if is_same_text name (codes "check") then 1 else 2) words)
 
 -- whether letters and digits follow, each perhaps after one `_`: it goes along the bytes, and after a
 -- `_` (waiting) a letter or digit must stand

@@ -1,22 +1,25 @@
-ghost use Rattle.std.specs.Prelude.{◌≡◌, ◌<◌, ◌≤◌, IsTrue, MatchOption, MatchResult, All, length, ◌^◌, ◌↔◌};
+ghost use Rattle.std.specs.Prelude.{◌≡◌, ◌<◌, ◌≤◌, ℕ, List, Result, MatchResult, length};
 ghost use Rattle.fta_outside.specs.Outside.{Rose, TookPrefix, with_bytes};
-ghost use Rattle.fta_run.specs.declared.words.Task.{Task as AnyTask};
+ghost use Rattle.phases.specs.Phases.{IsDue};
+ghost use Rattle.phases.specs.declared.status.Status.{Status as AnyStatus};
 ghost use Rattle.fta_run.specs.declared.words.Task.TheVariants.{Check, Cuts};
 ghost use Rattle.fta_run.specs.Line.{status_line};
-ghost use Rattle.fta_run.specs.Output.{IsFactNamed, IsOutput, IsRootOf, IsSystemAt, IsTextFor, LacksRoot, LacksTarget, NamesPackage};
-ghost use Rattle.fta_run.specs.Answers.{AllTold, AnswersWords, IsCaused, IsDue, IsJustified, IsManyAnswer, MayCome, Took, TookNothing};
+ghost use Rattle.fta_run.specs.Answers.{AllTold, AnswersWords, IsCaused, IsJustified, IsManyAnswer, IsOutput, MayCome, Took};
+ghost use Rattle.fta_run.specs.Due.{due, text_of, text_on};
+ghost use Rattle.fta_run.specs.Files.{most_files};
 ghost use Rattle.fta_run.specs.Words.{GiveNoCommand, file_words};
-ghost use Rattle.fta_run.specs.Steps.{AreOfForm, AreOfNoForm, IsFormEnd, IsWriteEnd};
+ghost use Rattle.fta_run.specs.Shown.{command_shown};
+ghost use Rattle.fta_run.specs.Steps.{Prints, Runs, ended};
 
-use crate::input::{of_words, read_texts, units_of_texts};
+use crate::input::{Texts, read_texts, units_of_texts};
 use crate::line::write_line;
-use crate::status::Status;
-use crate::text::{WriteStop, write_listing, write_numbers};
+use crate::model::{find_target, system_at};
+use crate::text::{write_listing, write_numbers};
 use crate::words::{Command, Task, command_of, file_words};
-use aadl_syntax::{Code, List, Name, Refusal, Root, Unit, Word, is_same};
+use aadl_syntax::{Name, Word};
 use fault_system::FaultSystem;
-use first_form::{FirstForm, first_form, system_of};
 use fta_outside::{Files, Sink};
+use phases::Status;
 use plain_listing::plain_listing;
 use std::alloc::Global;
 
@@ -35,31 +38,31 @@ pub fn run<F: Files, S: Sink, E: Sink>(
     // Usage comes exactly where the words give no command.
     ensures words { AnswersWords result words.now }
 
-    // Where the files tell their contents, a refusal is the verdict, and NotYet comes only for a text that is not served and that no earlier phase refuses.
-    ensures verdict { AllTold words.now (F.contents files.old) → IsJustified words.now (F.contents files.old) result }
+    // A refusal is the verdict on texts that the files may contain, and NotYet comes only where such texts are not served and
+    // no earlier phase stops.
+    ensures verdict { IsJustified words.now (F.contents files.old) result }
 
-    // Where the files tell their contents, `out` took the text of the command on them under Done, and at most a front of it else.
-    ensures output { AllTold words.now (F.contents files.old) → Took (IsOutput words.now (F.contents files.old)) result (S.taken out.old) (S.taken out.new) }
-
-    // Under Usage, a refusal, ReadFault and NotYet `out` took nothing, whatever the files tell.
-    ensures nothing { TookNothing result (S.taken out.old) (S.taken out.new) }
+    // Under Done `out` took the text of the command on texts that the files may contain, and else at most a front of it.
+    ensures output { Took (IsOutput words.now (F.contents files.old)) result (S.taken out.old) (S.taken out.new) }
 
     // A fault comes only where its count rose.
     ensures faults { IsCaused result words.now (F.faults files.old) (F.faults files.new) (S.faults out.old) (S.faults out.new) }
 
-    // What is due for the words and the contents comes, unless memory runs out or a fault comes first.
-    ensures complete { (due : Status) → IsDue words.now (F.contents files.old) due → MayCome due result }
+    // Where the files of the command tell their contents, what is due for the words and the contents comes, unless memory runs
+    // out or a fault comes first.
+    ensures complete { AllTold words.now (F.contents files.old)
+        → (its_due : Result (List ℕ) AnyStatus) → IsDue (due words.now (F.contents files.old)) its_due → MayCome its_due result }
 
     // No file is read where there is no command, or where too many are named; too many are refused, whatever the files tell.
     ensures no_command { GiveNoCommand words.now → files.new ≡ files.old }
-    ensures too_many { 64 < length (file_words words.now) → files.new ≡ files.old }
-    ensures many { 64 < length (file_words words.now) → IsManyAnswer result }
+    ensures too_many { most_files < length (file_words words.now) → files.new ≡ files.old }
+    ensures many { most_files < length (file_words words.now) → IsManyAnswer result }
 
     // `err` took exactly the line of the status where its count did not rise, and else at most a front of it.
     ensures line { (Rose (E.faults err.old) (E.faults err.new) → ⊥) → E.taken err.new ≡ with_bytes (E.taken err.old) (status_line (file_words words.now) result) }
     ensures at_most_the_line { TookPrefix (E.taken err.old) (E.taken err.new) (status_line (file_words words.now) result) }
 {
-    let status = answer(alloc, words, files, out);
+    let status = ended(answer(alloc, words, files, out));
     write_status(words, &status, err);
     status
 }
@@ -73,177 +76,83 @@ fn write_status<E: Sink>(words: &[Word], status: &Status, err: &mut E)
     let _written = write_line(err, files, status);
 }
 
-/// Runs the command that the words give, but for the line.
-fn answer<F: Files, S: Sink>(alloc: Global, words: &[Word], files: &mut F, out: &mut S) -> Status
-    ensures words { AnswersWords result words.now }
-    ensures verdict { AllTold words.now (F.contents files.old) → IsJustified words.now (F.contents files.old) result }
-    ensures output { AllTold words.now (F.contents files.old) → Took (IsOutput words.now (F.contents files.old)) result (S.taken out.old) (S.taken out.new) }
-    ensures nothing { TookNothing result (S.taken out.old) (S.taken out.new) }
-    ensures faults { IsCaused result words.now (F.faults files.old) (F.faults files.new) (S.faults out.old) (S.faults out.new) }
-    ensures no_command { GiveNoCommand words.now → files.new ≡ files.old }
-    ensures too_many { 64 < length (file_words words.now) → files.new ≡ files.old }
-    ensures many { 64 < length (file_words words.now) → IsManyAnswer result }
+/// How a run ended that answered this.
+fn ended(answer: Result<(), Status>) -> Status
+    ensures { result ≡ ended answer }
 {
-    let command = match command_of(alloc, words) {
-        Ok(Some(command)) => command,
-        Ok(None) => return Status::Usage,
-        Err(_) => return Status::Memory,
-    };
-    match read_texts(alloc, files, command.files) {
-        Ok(texts) => write_task(alloc, &command, texts.items(), out),
+    match answer {
+        Ok(()) => Status::Done,
         Err(status) => status,
     }
 }
 
-/// Writes the text of the task, and says how that ended.
-fn write_task<S: Sink>(alloc: Global, command: &Command, texts: &[Name], out: &mut S) -> Status
-    requires few { length texts.now < 2 ^ 32 }
-    requires short { All (λ text. length text ≤ 4194304) texts.now }
-    ensures took { Took (IsTextFor command.now.root command.now.task texts.now) result (S.taken out.old) (S.taken out.new) }
-    ensures end { IsWriteEnd command.now.root command.now.task texts.now (S.faults out.old) (S.faults out.new) result }
+/// Runs the command that the words give, but for the line.
+fn answer<F: Files, S: Sink>(
+    alloc: Global,
+    words: &[Word],
+    files: &mut F,
+    out: &mut S,
+) -> Result<(), Status>
+    ensures end { Runs words.now (F.contents files.old) (F.faults files.old) (F.faults files.new) result (S.taken out.old) (S.taken out.new) (S.faults out.old) (S.faults out.new) }
+    ensures no_command { GiveNoCommand words.now → files.new ≡ files.old }
+    ensures too_many { most_files < length (file_words words.now) → files.new ≡ files.old }
+    ensures many { most_files < length (file_words words.now) → IsManyAnswer (ended result) }
 {
-    match &command.task {
-        Task::Check => write_check(alloc, &command.root, texts, out),
-        Task::Cuts(target) => write_cuts(alloc, &command.root, target, texts, out),
+    let command = command_of(alloc, words)?;
+    let texts = read_texts(alloc, files, command.files)?;
+    write_due(alloc, &command, &texts, out)
+}
+
+/// Writes the text of a command on these texts.
+fn write_due<S: Sink>(
+    alloc: Global,
+    command: &Command<'_>,
+    texts: &Texts,
+    out: &mut S,
+) -> Result<(), Status>
+    ensures { Prints (text_on (command_shown command.now) texts.now) result (S.taken out.old) (S.taken out.new) (S.faults out.old) (S.faults out.new) }
+{
+    let files = units_of_texts(alloc, texts)?;
+    let system = system_at(alloc, &command.root, &files)?;
+    write_text(alloc, &command.task, &system, out)
+}
+
+/// Writes the text of a task on a system.
+fn write_text<S: Sink>(
+    alloc: Global,
+    task: &Task,
+    system: &FaultSystem,
+    out: &mut S,
+) -> Result<(), Status>
+    requires few { length system.now.events ≤ 16 }
+    ensures { Prints (text_of task.now system.now) result (S.taken out.old) (S.taken out.new) (S.faults out.old) (S.faults out.new) }
+{
+    match task {
+        Task::Check => write_check(alloc, system, out),
+        Task::Cuts(target) => write_cuts(alloc, system, target, out),
     }
 }
 
 /// Writes the numbers of the system.
-fn write_check<S: Sink>(alloc: Global, root: &Root, texts: &[Name], out: &mut S) -> Status
-    requires few { length texts.now < 2 ^ 32 }
-    requires short { All (λ text. length text ≤ 4194304) texts.now }
-    ensures took { Took (IsTextFor root.now Check texts.now) result (S.taken out.old) (S.taken out.new) }
-    ensures end { IsWriteEnd root.now Check texts.now (S.faults out.old) (S.faults out.new) result }
+fn write_check<S: Sink>(alloc: Global, system: &FaultSystem, out: &mut S) -> Result<(), Status>
+    ensures { Prints (text_of Check system.now) result (S.taken out.old) (S.taken out.new) (S.faults out.old) (S.faults out.new) }
 {
-    let system = match system_at(alloc, root, texts) {
-        Ok(system) => system,
-        Err(status) => return status,
-    };
-    match write_numbers(alloc, 1, &system, out) {
-        Ok(()) => Status::Done,
-        Err(WriteStop::Failed) => Status::WriteFault,
-        Err(WriteStop::Memory) => Status::Memory,
-    }
+    write_numbers(alloc, 1, system, out)?;
+    Ok(())
 }
 
 /// Writes the listing of the target.
 fn write_cuts<S: Sink>(
     alloc: Global,
-    root: &Root,
+    system: &FaultSystem,
     target: &Name,
-    texts: &[Name],
     out: &mut S,
-) -> Status
-    requires few { length texts.now < 2 ^ 32 }
-    requires short { All (λ text. length text ≤ 4194304) texts.now }
-    ensures took { Took (IsTextFor root.now (Cuts target.now) texts.now) result (S.taken out.old) (S.taken out.new) }
-    ensures end { IsWriteEnd root.now (Cuts target.now) texts.now (S.faults out.old) (S.faults out.new) result }
+) -> Result<(), Status>
+    requires few { length system.now.events ≤ 16 }
+    ensures { Prints (text_of (Cuts target.now) system.now) result (S.taken out.old) (S.taken out.new) (S.faults out.old) (S.faults out.new) }
 {
-    let (system, number) = match system_and_target(alloc, root, target, texts) {
-        Ok(found) => found,
-        Err(status) => return status,
-    };
-    let Ok(sets) = plain_listing(alloc, &system, number) else {
-        return Status::Memory;
-    };
-    match write_listing(alloc, &system, sets.items(), out) {
-        Ok(()) => Status::Done,
-        Err(WriteStop::Failed) => Status::WriteFault,
-        Err(WriteStop::Memory) => Status::Memory,
-    }
-}
-
-/// The system at the root, and the number of the target in it.
-fn system_and_target(
-    alloc: Global,
-    root: &Root,
-    target: &Name,
-    texts: &[Name],
-) -> Result<(FaultSystem, u32), Status>
-    requires few { length texts.now < 2 ^ 32 }
-    requires short { All (λ text. length text ≤ 4194304) texts.now }
-    ensures { MatchResult result (λ found. IsSystemAt root.now texts.now found.0 × IsFactNamed found.0 found.1 target.now) (IsFormEnd root.now (Cuts target.now) texts.now) }
-{
-    let system = system_at(alloc, root, texts)?;
-    let number = find_target(&system, target.items())?;
-    Ok((system, number))
-}
-
-/// The system at the root, where the texts are of the first form.
-fn system_at(alloc: Global, root: &Root, texts: &[Name]) -> Result<FaultSystem, Status>
-    requires few { length texts.now < 2 ^ 32 }
-    requires short { All (λ text. length text ≤ 4194304) texts.now }
-    ensures { MatchResult result (IsSystemAt root.now texts.now) (λ status. (task : AnyTask) → IsFormEnd root.now task texts.now status) }
-{
-    let files = units_of_texts(alloc, texts)?;
-    let Some(form) = form_of_files(files.items()) else {
-        return Err(Status::NotYet);
-    };
-    find_root(form.package_name.text(), form.classifier.name.text(), root)?;
-    let system = system_of(alloc, form.machine)?;
-    Ok(system)
-}
-
-/// The form of the units of the files, where there is one file and it is of the first form.
-fn form_of_files(files: &[List<Unit>]) -> Option<FirstForm<'_>>
-    ensures { MatchOption result (AreOfNoForm files.now) (λ form. AreOfForm files.now form.package_name.now form.machine.now form.classifier.now) }
-{
-    let [units] = files else {
-        return None;
-    };
-    first_form(units.items())
-}
-
-/// Refuses a root that is not the classifier of the package.
-fn find_root(package_name: &[u8], classifier: &[u8], root: &Root) -> Result<(), Refusal>
-    ensures { MatchResult result (λ _. IsRootOf package_name.now classifier.now root.now) (LacksRoot package_name.now classifier.now root.now) }
-{
-    if !names_package(package_name, root) {
-        return Err(of_words(Code::UnknownPackage, 0));
-    }
-    if !is_root_of(package_name, classifier, root) {
-        return Err(of_words(Code::UnknownClassifier, 0));
-    }
+    let number = find_target(system, target)?;
+    let sets = plain_listing(alloc, system, number)?;
+    write_listing(alloc, system, sets.items(), out)?;
     Ok(())
-}
-
-fn names_package(package_name: &[u8], root: &Root) -> bool
-    ensures { IsTrue result ↔ NamesPackage package_name.now root.now }
-{
-    match root.names.items() {
-        [library, _] => is_same(library.items(), package_name),
-        _ => false,
-    }
-}
-
-fn is_root_of(package_name: &[u8], classifier: &[u8], root: &Root) -> bool
-    ensures { IsTrue result ↔ IsRootOf package_name.now classifier.now root.now }
-{
-    match (root.names.items(), &root.item) {
-        ([library, system], None) => {
-            is_same(library.items(), package_name) && is_same(system.items(), classifier)
-        }
-        _ => false,
-    }
-}
-
-/// The number of the fact of a name.
-fn find_target(system: &FaultSystem, name: &[u8]) -> Result<u32, Refusal>
-    ensures { MatchResult result (λ number. IsFactNamed system.now number name.now) (LacksTarget system.now (Cuts name.now)) }
-{
-    for number in 0..system.facts() {
-        if has_name(system, number, name) {
-            return Ok(number);
-        }
-    }
-    Err(of_words(Code::UnknownTarget, 0))
-}
-
-fn has_name(system: &FaultSystem, number: u32, name: &[u8]) -> bool
-    ensures { IsTrue result ↔ IsFactNamed system.now number name.now }
-{
-    match system.fact(number) {
-        Some(fact) => is_same(fact.name.items(), name),
-        None => false,
-    }
 }

@@ -1,19 +1,23 @@
-ghost use Rattle.std.specs.Prelude.{◌≡◌, ℕ, ◌^◌, ◌<◌, ◌≤◌, List, [], MatchResult, IfOk, IfErr, IfSome, Err, ◌⊎◌, All, length, sum_by, take};
+ghost use Rattle.std.specs.Prelude.{◌≡◌, ℕ, ◌^◌, ◌<◌, ◌≤◌, suc, List, [], MatchResult, IfOk, IfErr, IfSome, Err, ◌⊎◌, All, length, sum_by, take};
 ghost use Rattle.aadl_syntax.specs.declared.refusal.Refusal.{Refusal};
 ghost use Rattle.aadl_syntax.specs.declared.refusal.Code.TheVariants.{TooManyFiles};
 ghost use Rattle.aadl_syntax.specs.declared.refusal.Stop.TheVariants.{Refused};
-ghost use Rattle.aadl_syntax.specs.Order.{IsClear, IsFirst, least, nearer};
-ghost use Rattle.aadl_lexer.specs.Tokens.{Tokens};
-ghost use Rattle.aadl_parser.specs.Files.{IsSyntaxError, IsTooNested};
-ghost use Rattle.fta_run.specs.Files.{AreContents, AreUnits, HasTooLong, HasTooMuch, LacksTokens, LacksUnits, of_words, too_long, too_long_from};
-ghost use Rattle.fta_run.specs.Steps.{AreFronts, AreTokens, HaveTheseUnits, IsFileEnd, IsFilesEnd, IsInputEnd, IsReadEnd, IsTextEnd, PassInput};
+ghost use Rattle.aadl_syntax.specs.Order.{IsFirst, least, nearer};
+ghost use Rattle.aadl_lexer.specs.Tokens.{IsFault, RefusedAs, Tokens};
+ghost use Rattle.aadl_parser.specs.Files.{StopsAt};
+ghost use Rattle.phases.specs.Meets.{Meets, MeetsBut};
+ghost use Rattle.phases.specs.Phases.{answers, refuses};
+ghost use Rattle.fta_run.specs.Due.{texts_of, units_of};
+ghost use Rattle.fta_run.specs.Files.{AreTokens, AreUnits, AreUnitsOf, HasTooLong, HasTooMuch, LacksTokens, LacksUnits, most_bytes, most_files, most_text, of_words, too_long, too_long_from};
+ghost use Rattle.fta_run.specs.Steps.{AreFronts, IsFileEnd, IsReadEnd};
 
-use crate::status::Status;
 use aadl_lexer::tokens;
 use aadl_parser::units;
 use aadl_syntax::{Answer, Code, FirstRefusal, List, Name, Place, Refusal, TokenList, Unit, Word};
 use fta_outside::{Files, ReadError};
+use phases::Status;
 use std::alloc::Global;
+use std::marker::Model;
 
 /// The greatest number of files.
 const MOST_FILES: usize = 64;
@@ -24,35 +28,56 @@ const MOST_BYTES: usize = 4_194_304;
 /// The greatest length of all files together, in bytes.
 const MOST_TEXT: u64 = 16_777_216;
 
+/// The texts of files, which are not too many, and none too long.
+#[derive(Drop)]
+pub struct Texts {
+    texts: List<Name>,
+}
+
+impl Model for Texts {
+    ghost use Rattle.std.specs.Prelude.{◌≤◌, ℕ, List as Items, length, All};
+    ghost use Rattle.fta_run.specs.Files.{most_bytes, most_files};
+
+    ghost Value = { Items (Items ℕ) };
+
+    ghost view = { λ t. t.texts };
+
+    ghost invariant = { λ t. (length t.texts ≤ most_files) × All (λ text. length text ≤ most_bytes) t.texts };
+}
+
+impl Texts {
+    /// The texts, in order.
+    pub fn items(&self) -> &[Name]
+        ensures items { result.now ≡ self.now }
+        ensures few { length self.now ≤ most_files }
+        ensures short { All (λ text. length text ≤ most_bytes) self.now }
+    {
+        self.texts.items()
+    }
+}
+
 /// The texts of the files, where they are not too many and not too long.
-pub fn read_texts<F: Files>(
-    alloc: Global,
-    files: &mut F,
-    names: &[Word],
-) -> Result<List<Name>, Status>
-    // Where the files tell their texts, these are answered, or the first refusal of their number and their lengths.
-    ensures told { (texts : List (List ℕ)) → AreContents (F.contents files.old) names.now texts
-        → MatchResult result (λ read. PassInput read names.now texts) (IsInputEnd names.now texts) }
-    ensures short { IfOk result (λ read. All (λ text. length text ≤ 4194304) read) }
-    ensures fault { IfErr result (IsReadEnd names.now (F.faults files.old) (F.faults files.new)) }
+pub fn read_texts<F: Files>(alloc: Global, files: &mut F, names: &[Word]) -> Result<Texts, Status>
+    ensures meets { MeetsBut (IsReadEnd names.now (F.faults files.old) (F.faults files.new)) (λ texts. texts) (texts_of (F.contents files.old) names.now) result }
     // Where too many are named, nothing is read, and that is the refusal.
-    ensures unread { 64 < length names.now → files.new ≡ files.old }
-    ensures many { 64 < length names.now → result ≡ Err (Status.Refused (of_words TooManyFiles 64)) }
+    ensures unread { most_files < length names.now → files.new ≡ files.old }
+    ensures many { most_files < length names.now → result ≡ Err (Status.Refused (of_words TooManyFiles most_files)) }
 {
     if names.len() > MOST_FILES {
-        return Err(Status::Refused(of_words(Code::TooManyFiles, 64)));
+        return Err(Status::Refused(of_words(Code::TooManyFiles, MOST_FILES as u64)));
     }
     let texts = read_files(alloc, files, names)?;
     check_each(texts.items())?;
     check_total(texts.items())?;
-    Ok(texts)
+    Ok(Texts { texts })
 }
 
 /// What the files contain, of each one byte more than it may have at most.
 fn read_files<F: Files>(alloc: Global, files: &mut F, names: &[Word]) -> Result<List<Name>, Status>
-    requires { length names.now ≤ 64 }
+    requires { length names.now ≤ most_files }
     ensures fronts { IfOk result (λ texts. AreFronts (F.contents files.old) names.now texts) }
-    ensures fault { IfErr result (IsFilesEnd names.now (F.faults files.old) (F.faults files.new)) }
+    ensures few { IfOk result (λ texts. length texts ≤ most_files) }
+    ensures fault { IfErr result (IsReadEnd names.now (F.faults files.old) (F.faults files.new)) }
 {
     let mut texts = List::new(alloc);
     for (number, name) in names.iter().enumerate() {
@@ -67,19 +92,19 @@ fn read_file<F: Files>(
     number: u32,
     name: &Word,
 ) -> Result<Name, Status>
-    ensures front { IfOk result (λ text. IfSome (F.contents files.old name.now) (λ whole. text ≡ take 4194305 whole)) }
+    ensures front { IfOk result (λ text. IfSome (F.contents files.old name.now) (λ whole. text ≡ take (suc most_bytes) whole)) }
     ensures fault { IfErr result (IsFileEnd number (F.faults files.old name.now) (F.faults files.new name.now)) }
     ensures kept { (other : List ℕ) → F.contents files.new other ≡ F.contents files.old other }
     ensures never_falls { (other : List ℕ) → F.faults files.old other ≤ F.faults files.new other }
 {
     match files.read(alloc, name, MOST_BYTES + 1) {
-        Ok(bytes) => text_of(bytes),
+        Ok(bytes) => whole_text(bytes),
         Err(ReadError::Failed) => Err(Status::ReadFault(number)),
         Err(ReadError::Memory) => Err(Status::Memory),
     }
 }
 
-fn text_of(bytes: Vec<u8>) -> Result<Name, Status>
+fn whole_text(bytes: Vec<u8>) -> Result<Name, Status>
     ensures { MatchResult result (λ text. text ≡ bytes.items) (λ status. status ≡ Status.Memory) }
 {
     match List::of(bytes) {
@@ -90,7 +115,7 @@ fn text_of(bytes: Vec<u8>) -> Result<Name, Status>
 
 /// Refuses the first text that is too long.
 fn check_each(texts: &[Name]) -> Result<(), Refusal>
-    requires { length texts.now < 2 ^ 32 }
+    requires { length texts.now ≤ most_files }
     ensures { MatchResult result (λ _. too_long_from 0 texts.now ≡ []) (λ refusal. IsFirst (HasTooLong texts.now) refusal) }
 {
     let mut first = FirstRefusal::new();
@@ -107,14 +132,14 @@ fn note_too_long(first: &mut FirstRefusal, file: u32, text: &[u8])
         first.note(Refusal {
             code: Code::FileTooLong,
             place: Place::Whole(file),
-            limit: 4_194_304,
+            limit: MOST_BYTES as u64,
         });
     }
 }
 
 /// Refuses texts that are too long together.
 fn check_total(texts: &[Name]) -> Result<(), Refusal>
-    ensures { MatchResult result (λ _. sum_by length texts.now ≤ 16777216) (λ refusal. HasTooMuch texts.now refusal) }
+    ensures { MatchResult result (λ _. sum_by length texts.now ≤ most_text) (λ refusal. HasTooMuch texts.now refusal) }
 {
     let mut total: u64 = 0;
     for text in texts {
@@ -138,50 +163,57 @@ pub fn of_words(code: Code, limit: u64) -> Refusal
 }
 
 /// The units of each text: it has tokens, is not nested too deep, and has a reading.
-pub fn units_of_texts(alloc: Global, texts: &[Name]) -> Result<List<List<Unit>>, Status>
-    requires few { length texts.now < 2 ^ 32 }
-    requires short { All (λ text. length text ≤ 4194304) texts.now }
-    ensures { MatchResult result (λ files. IsClear (LacksTokens texts.now) × HaveTheseUnits texts.now files) (IsTextEnd texts.now) }
+pub fn units_of_texts(alloc: Global, texts: &Texts) -> Result<List<List<Unit>>, Status>
+    ensures { Meets (units_of texts.now) result }
 {
     let lists = tokens_of_texts(alloc, texts)?;
-    let files = units_of_tokens(alloc, texts, lists.items())?;
-    Ok(files)
+    units_of_tokens(alloc, texts, &lists)
 }
 
 /// The tokens of each text.
-fn tokens_of_texts(alloc: Global, texts: &[Name]) -> Answer<List<TokenList>>
-    requires few { length texts.now < 2 ^ 32 }
-    requires short { All (λ text. length text ≤ 4194304) texts.now }
-    ensures ok { IfOk result (λ lists. AreTokens texts.now lists) }
-    ensures err { IfErr result (λ stop. (refusal : Refusal) → stop ≡ Refused refusal → IsFirst (LacksTokens texts.now) refusal) }
+fn tokens_of_texts(alloc: Global, texts: &Texts) -> Result<List<TokenList>, Status>
+    ensures { Meets (answers (AreTokens texts.now) (LacksTokens texts.now)) result }
 {
     let mut lists = List::new(alloc);
+    let texts = texts.items();
     for (file, text) in texts.iter().enumerate() {
-        lists.push(tokens(alloc, file as u32, text.items())?)?;
+        lists.push(tokens_of_text(alloc, file as u32, text)?)?;
     }
     Ok(lists)
 }
 
+/// The tokens of one text.
+fn tokens_of_text(alloc: Global, file: u32, text: &Name) -> Answer<TokenList>
+    requires { length text.now ≤ most_bytes }
+    ensures found { IfOk result (λ list. Tokens text.now list) }
+    ensures refused { IfErr result (λ stop. RefusedAs file (IsFault text.now) stop) }
+{
+    tokens(alloc, file, text.items())
+}
+
 /// The units of each text, whose tokens are given.
-fn units_of_tokens(alloc: Global, texts: &[Name], lists: &[TokenList]) -> Answer<List<List<Unit>>>
-    requires few { length texts.now < 2 ^ 32 }
-    requires short { All (λ text. length text ≤ 4194304) texts.now }
-    requires tokens { AreTokens texts.now lists.now }
-    ensures ok { IfOk result (λ files. HaveTheseUnits texts.now files) }
-    ensures err { IfErr result (λ stop. (refusal : Refusal) → stop ≡ Refused refusal → LacksUnits texts.now refusal) }
+fn units_of_tokens(
+    alloc: Global,
+    texts: &Texts,
+    lists: &List<TokenList>,
+) -> Result<List<List<Unit>>, Status>
+    requires { AreTokens texts.now lists.now }
+    ensures { Meets (refuses (AreUnits lists.now) (LacksUnits texts.now lists.now)) result }
 {
     let mut files = List::new(alloc);
+    let texts = texts.items();
+    let lists = lists.items();
     for (file, text) in texts.iter().enumerate() {
-        files.push(units_of_text(alloc, file as u32, text.items(), &lists[file])?)?;
+        files.push(units_of_text(alloc, file as u32, text, &lists[file])?)?;
     }
     Ok(files)
 }
 
-fn units_of_text(alloc: Global, file: u32, text: &[u8], tokens: &TokenList) -> Answer<List<Unit>>
-    requires short { length text.now ≤ 4194304 }
-    requires tokens { Tokens text.now tokens.now }
-    ensures ok { IfOk result (λ found. AreUnits file text.now found) }
-    ensures err { IfErr result (λ stop. (refusal : Refusal) → stop ≡ Refused refusal → IsTooNested file tokens.now (length text.now) refusal ⊎ IsSyntaxError file tokens.now (length text.now) refusal) }
+/// The units of one text, whose tokens are given.
+fn units_of_text(alloc: Global, file: u32, text: &Name, tokens: &TokenList) -> Answer<List<Unit>>
+    requires { length text.now ≤ most_bytes }
+    ensures ok { IfOk result (λ found. AreUnitsOf file tokens.now found) }
+    ensures err { IfErr result (λ stop. StopsAt file tokens.now (length text.now) stop) }
 {
-    units(alloc, file, tokens, text.len() as u32)
+    units(alloc, file, tokens, text.items().len() as u32)
 }

@@ -1,17 +1,19 @@
 //! Laws of the definitions alone: the contract of each function is the law, and its body is empty.
 
-ghost use Rattle.std.specs.Prelude.{◌≡◌, ℕ, List, Option};
-ghost use Rattle.fta_run.specs.declared.status.Status.{Status};
-ghost use Rattle.fta_run.specs.Answers.{IsDue, IsSameStatus};
-ghost use Rattle.fta_run.specs.Output.{IsOutput};
+ghost use Rattle.std.specs.Prelude.{◌≡◌, ℕ, List, Option, Result};
+ghost use Rattle.phases.specs.Phases.{IsDue, IsSameEnd};
+ghost use Rattle.phases.specs.declared.status.Status.{Status as AnyStatus};
+ghost use Rattle.fta_run.specs.Answers.{AllTold, IsOutput, IsSameStatus};
+ghost use Rattle.fta_run.specs.Due.{due};
 
-/// The words and the contents of the files give one text at most.
+/// The words and the contents of the files, where these are told, give one text at most.
 pub fn one_output()
-    ensures { (words : List (List ℕ)) (contents : List ℕ → Option (List ℕ)) (a b : List ℕ) → IsOutput words contents a → IsOutput words contents b → a ≡ b }
+    ensures { (words : List (List ℕ)) (contents : List ℕ → Option (List ℕ)) → AllTold words contents → (a b : List ℕ) → IsOutput words contents a → IsOutput words contents b → a ≡ b }
 {}
 
-/// One status at most is due for the words and the contents of the files, but for the place of a syntax error: a text, no
-/// command, one refusal, or none of these.
+/// One end at most is due for the words and the contents of the files, where these are told, but for the place of a syntax
+/// error: a text, or a status, as that there is no command, a refusal, or that the text is not served.
 pub fn one_due()
-    ensures { (words : List (List ℕ)) (contents : List ℕ → Option (List ℕ)) (a b : Status) → IsDue words contents a → IsDue words contents b → IsSameStatus a b }
+    ensures { (words : List (List ℕ)) (contents : List ℕ → Option (List ℕ)) → AllTold words contents
+        → (a b : Result (List ℕ) AnyStatus) → IsDue (due words contents) a → IsDue (due words contents) b → IsSameEnd IsSameStatus a b }
 {}

@@ -5,11 +5,11 @@ mod command;
 mod input;
 mod laws;
 mod line;
-mod status;
+mod model;
 mod text;
 mod words;
 
 pub use command::run;
 pub use laws::{one_due, one_output};
 pub use line::write_line;
-pub use status::Status;
+pub use phases::Status;

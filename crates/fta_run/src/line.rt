@@ -1,10 +1,10 @@
 ghost use Rattle.std.specs.Prelude.{◌≡◌, ◌++◌, codes, decimal};
 ghost use Rattle.fta_run.specs.Line.{Writes, file_word, limit_text, place_text, refusal_text, status_line};
 
-use crate::status::Status;
 use aadl_syntax::{Place, Refusal, Word};
 use fta_outside::{Sink, SinkFailed, write_all};
 use itoa::Buffer;
+use phases::Status;
 
 /// Writes the line of a status to the error stream, where these files are named; nothing where all went well. It takes no
 /// memory.

@@ -8,6 +8,7 @@ use aadl_syntax::{List, Mem};
 use fault_system::FaultSystem;
 use fta_outside::{Sink, SinkFailed, write_all};
 use itoa::Buffer;
+use phases::Status;
 use std::alloc::{AllocError, Global};
 
 /// Why a text was not written whole.
@@ -32,6 +33,19 @@ impl From<SinkFailed> for WriteStop {
 
     fn from(_error: SinkFailed) -> WriteStop {
         WriteStop::Failed
+    }
+}
+
+impl From<WriteStop> for Status {
+    ghost use Rattle.fta_run.specs.Shown.{status_shown};
+
+    ghost from_gives = { λ stop status. status ≡ status_shown stop };
+
+    fn from(stop: WriteStop) -> Status {
+        match stop {
+            WriteStop::Failed => Status::WriteFault,
+            WriteStop::Memory => Status::Memory,
+        }
     }
 }
 

@@ -1,13 +1,18 @@
 ghost use Rattle.std.specs.Prelude.{◌≡◌, ◌<◌, ◌++◌, ◌∷◌, [], ◌≤◌, ◌↔◌, ℕ, List, Some, IsSome, IsTrue, IfOk, IfSome, IsSomeAnd, MatchOption, length, false};
+ghost use Rattle.phases.specs.Meets.{IsMemory, MeetsBut};
+ghost use Rattle.phases.specs.Phases.{finds};
+ghost use Rattle.phases.specs.declared.status.Status.TheVariants.{Usage};
 ghost use Rattle.std.specs.List.{AllByRecursion};
 ghost use Rattle.aadl_syntax.specs.Form.{IsWord, is_letter, is_letter_or_digit};
-ghost use Rattle.fta_run.specs.Words.{IsCommand, IsRoot, IsPlainWord, AreJoined, file_words, follows_well, with_colons};
-ghost use Rattle.fta_run.specs.declared.words.Task.{Task as AnyTask};
+ghost use Rattle.fta_run.specs.Words.{IsCommand, IsRoot, IsPlainWord, AreJoined, before_options, file_words, follows_well, is_option, with_colons};
+ghost use Rattle.fta_run.specs.Words.{Command as Asked};
+ghost use Rattle.fta_run.specs.Shown.{command_shown};
 ghost use Rattle.aadl_syntax.specs.declared.name.Root.{Root};
 ghost use Rattle.aadl_syntax.specs.Name.{folded};
 
 use aadl_lexer::{is_letter, is_letter_or_digit};
 use aadl_syntax::{List, Mem, Name, Root, Word, fold, is_same};
+use phases::Status;
 use std::alloc::Global;
 
 /// A command: what is asked of the model of a root, which stands in files.
@@ -28,12 +33,21 @@ pub enum Task {
     Cuts(Name),
 }
 
+/// The command that the words give; Usage where they give none.
+pub fn command_of<'a>(alloc: Global, words: &'a [Word]) -> Result<Command<'a>, Status>
+    ensures { MeetsBut IsMemory command_shown (finds (IsCommand words.now) Usage) result }
+{
+    let Some(command) = command_in(alloc, words)? else {
+        return Err(Status::Usage);
+    };
+    Ok(command)
+}
+
 /// The command that the words give, if they give one.
-pub fn command_of<'a>(alloc: Global, words: &'a [Word]) -> Mem<Option<Command<'a>>>
-    ensures found { IfOk result (λ answer. IfSome answer (λ command. IsCommand words.now command.root command.task command.files.now)) }
-    ensures named { IfOk result (λ answer. IfSome answer (λ command. command.files.now ≡ file_words words.now)) }
-    ensures only { (root : Root) (task : AnyTask) (files : List (List ℕ)) → IsCommand words.now root task files
-        → IfOk result (λ answer. IsSomeAnd answer (λ command. (command.root ≡ root) × (command.task ≡ task) × (command.files.now ≡ files))) }
+fn command_in<'a>(alloc: Global, words: &'a [Word]) -> Mem<Option<Command<'a>>>
+    ensures found { IfOk result (λ answer. IfSome answer (λ command. IsCommand words.now (command_shown command))) }
+    ensures only { (asked : Asked) → IsCommand words.now asked
+        → IfOk result (λ answer. IsSomeAnd answer (λ command. (command.root ≡ asked.root) × (command.task ≡ asked.task) × (command.files.now ≡ asked.files))) }
 {
     if !are_plain(words) {
         return Ok(None);
@@ -70,14 +84,36 @@ fn with_root<'a>(
     }
 }
 
-/// The words that name files: those after the first two of `check`, and after the first three of any other.
+/// The words that name files: those after the first two of `check`, and after the first three of any other, up to the first
+/// that begins with `-`.
 pub fn file_words(words: &[Word]) -> &[Word]
     ensures { result.now ≡ file_words words.now }
 {
     match words {
-        [name, _, files @ ..] if is_same(name.items(), b"check") => files,
-        [_, _, _, files @ ..] => files,
+        [name, _, others @ ..] if is_same(name.items(), b"check") => before_options(others),
+        [_, _, _, others @ ..] => before_options(others),
         _ => &[],
+    }
+}
+
+/// The words before the first that begins with `-`.
+fn before_options(words: &[Word]) -> &[Word]
+    ensures { result.now ≡ before_options words.now }
+{
+    for (number, word) in words.iter().enumerate() {
+        if is_option(word.items()) {
+            return &words[..number];
+        }
+    }
+    words
+}
+
+fn is_option(word: &[u8]) -> bool
+    ensures { result ≡ is_option word.now }
+{
+    match word {
+        [] => false,
+        [first, ..] => *first == b'-',
     }
 }
 

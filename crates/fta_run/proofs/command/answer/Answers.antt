@@ -1,34 +1,32 @@
-use Rattle.std.proofs.Common.{sym, subst, ◌∙◌, rules}
-use Rattle.fta_run.specs.Words.{IsCommand}
-use Rattle.fta_run.specs.Steps.{PassInput}
-use Rattle.fta_run.proofs.Asked.{asked_of, justified_input, justified_later, wrote_output}
+use Rattle.std.proofs.Common.{◌≡◌}
+use Rattle.aadl_syntax.specs.declared.refusal.Code.TheVariants.{TooManyFiles}
+use Rattle.phases.specs.declared.status.Status.TheVariants.{Refused}
+use Rattle.fta_run.specs.Files.{most_files, of_words}
+use Rattle.fta_run.specs.Shown.{command_shown}
+use Rattle.fta_run.proofs.Ran.{many_answer, many_named, ran, ran_unread}
 use Rattle.fta_run.proofs.command.answer.Goals as goal
 
-pub returns-in-Ok-None-clause-words : goal.returns-in-Ok-None-clause-words
-returns-in-Ok-None-clause-words g c root task files command = rw c.in-Ok-None.field-0-is at (c.in-Ok-None.ensures.only root task files command)
+pub returns-in_err-texts-clause-end : goal.returns-in_err-texts-clause-end
+returns-in_err-texts-clause-end g c =
+    ran_unread c.args.words.now (g.F.Files.contents c.args.files.now) _ _ _ _ c.from_residual-in_err-texts.result (command_shown c.in_ok-command.command) c.in_err-texts.field-0.0 c.from_residual-in_err-texts.ensures.1 c.in_ok-command.ensures c.in_err-texts.ensures.meets
 
-pub returns-in-Ok-clause-verdict : goal.returns-in-Ok-clause-verdict
-returns-in-Ok-clause-verdict g c told =
-    let its = c.in-Ok-Some.command in
-    let contents = g.F.Files.contents c.args.files.now in
-    let command : IsCommand c.args.words.now its.root its.task its.files.now = search rules in
-    let asked = asked_of c.args.words.now contents its.root its.task its.files.now command told in
-    let passed = subst (λ read. PassInput read its.files.now asked.0) (sym c.items.ensures.items) (c.in-Ok.ensures.told asked.0 asked.1.told) in
-    justified_later c.args.words.now contents its.root its.task its.files.now asked.0 c.items.result.now _ _ c.write_task.result asked.1 passed c.write_task.ensures.end
+pub returns-in_err-texts-clause-too_many : goal.returns-in_err-texts-clause-too_many
+returns-in_err-texts-clause-too_many g c many = c.read_texts.ensures.unread (many_named c.args.words.now (command_shown c.in_ok-command.command) c.in_ok-command.ensures many)
 
-pub returns-in-Ok-clause-output : goal.returns-in-Ok-clause-output
-returns-in-Ok-clause-output g c told =
-    let its = c.in-Ok-Some.command in
-    let contents = g.F.Files.contents c.args.files.now in
-    let command : IsCommand c.args.words.now its.root its.task its.files.now = search rules in
-    let asked = asked_of c.args.words.now contents its.root its.task its.files.now command told in
-    let passed = c.in-Ok.ensures.told asked.0 asked.1.told in
-    wrote_output c.args.words.now contents its.root its.task its.files.now asked.0 c.items.result.now c.write_task.result _ _ asked.1 (c.items.ensures.items ∙ passed.whole) c.write_task.ensures.took
+pub returns-in_err-texts-clause-many : goal.returns-in_err-texts-clause-many
+returns-in_err-texts-clause-many g c many =
+    let is = c.in_err-texts.ensures.many (many_named c.args.words.now (command_shown c.in_ok-command.command) c.in_ok-command.ensures many) in
+    let why : c.in_err-texts.field-0.0 ≡ Refused (of_words TooManyFiles most_files) = cc (is) in
+    many_answer c.from_residual-in_err-texts.result c.in_err-texts.field-0.0 c.from_residual-in_err-texts.ensures.1 why
 
-pub returns-clause-verdict : goal.returns-clause-verdict
-returns-clause-verdict g c told =
-    let its = c.in-Ok-Some.command in
-    let contents = g.F.Files.contents c.args.files.now in
-    let command : IsCommand c.args.words.now its.root its.task its.files.now = search rules in
-    let asked = asked_of c.args.words.now contents its.root its.task its.files.now command told in
-    justified_input c.args.words.now contents its.root its.task its.files.now asked.0 _ _ c.in-Err-read_texts.status asked.1 c.in-Err-read_texts.ensures.fault (c.in-Err-read_texts.ensures.told asked.0 asked.1.told)
+pub returns-clause-end : goal.returns-clause-end
+returns-clause-end g c =
+    ran c.args.words.now (g.F.Files.contents c.args.files.now) _ _ _ _ _ _ c.write_due.result (command_shown c.in_ok-command.command) c.in_ok-texts.texts c.in_ok-command.ensures c.in_ok-texts.ensures.meets c.write_due.ensures
+
+pub returns-clause-too_many : goal.returns-clause-too_many
+returns-clause-too_many g c many = c.read_texts.ensures.unread (many_named c.args.words.now (command_shown c.in_ok-command.command) c.in_ok-command.ensures many)
+
+pub returns-clause-many : goal.returns-clause-many
+returns-clause-many g c many =
+    let is = c.in_ok-texts.ensures.many (many_named c.args.words.now (command_shown c.in_ok-command.command) c.in_ok-command.ensures many) in
+    absurd (cc (is))

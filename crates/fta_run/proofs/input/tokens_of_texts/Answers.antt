@@ -1,8 +1,9 @@
-use Rattle.std.proofs.Common.{◌+◌, sym, subst, add-one, take}
-use Rattle.std.proofs.lemmas.Result.{err_from_is_err_and}
-use Rattle.aadl_lexer.specs.Tokens.{IsFault, RefusedAs, Tokens}
-use Rattle.fta_run.specs.Steps.{AreTokens}
-use Rattle.fta_run.proofs.Lacking.{first_lacking, zip-more}
+use Rattle.std.proofs.Common.{◌≡◌, ◌<◌, ◌+◌, length, get_or, ap, sym, subst, add-one, take, arith}
+use Rattle.aadl_lexer.specs.Tokens.{Tokens}
+use Rattle.phases.specs.Stopped.{status_of}
+use Rattle.phases.proofs.Steps.{exits}
+use Rattle.fta_run.specs.Files.{AreTokens}
+use Rattle.fta_run.proofs.Lacking.{tokens_stop, zip-more}
 use Rattle.fta_run.proofs.input.tokens_of_texts.Goals as goal
 
 pub loop-file-preserved : goal.loop-file-preserved
@@ -10,15 +11,17 @@ loop-file-preserved c =
     let texts = c.args.texts.now in
     let file = c.loop-file.file in
     let text = c.index-texts-file.result in
-    let list = c.in_ok-tokens.field-0 in
-    let found = subst (λ t. Tokens t list) c.items.ensures.items c.in_ok-tokens.ensures.found in
-    let more = zip-more Tokens texts c.loop-file.lists file text list c.loop-file-test.true c.index-texts-file.is c.loop-file.invariant found in
+    let within : file < length texts = omega (arith, c.loop-file-test.true, ap length c.items-texts.ensures.items) in
+    let is : text ≡ get_or texts file text = subst (λ ts. text ≡ get_or ts file text) c.items-texts.ensures.items c.index-texts-file.is in
+    let more = zip-more Tokens texts c.loop-file.lists file text c.in_ok-tokens_of_text.field-0 within is c.loop-file.invariant c.in_ok-tokens_of_text.ensures.found in
     subst (AreTokens (take (file + 1) texts)) (sym c.in_ok-push.ensures.ok) (rw add-one more)
 
-pub returns-in_err-tokens-clause-err : goal.returns-in_err-tokens-clause-err
-returns-in_err-tokens-clause-err c =
-    let p = err_from_is_err_and c.from_residual.result c.from_residual.ensures.1 in
-    rw (p.1, p.2) (λ refusal is.
+pub returns-in_err-tokens_of_text : goal.returns-in_err-tokens_of_text
+returns-in_err-tokens_of_text c =
+    let texts = c.args.texts.now in
+    let file = c.loop-file.file in
     let text = c.index-texts-file.result in
-    let fault = subst (RefusedAs c.loop-file.file (IsFault text)) is (subst (λ t. RefusedAs c.loop-file.file (IsFault t) c.in_err-tokens.field-0.0) c.items.ensures.items c.in_err-tokens.ensures.refused) in
-    first_lacking c.args.texts.now c.loop-file.file text c.loop-file.lists refusal c.loop-file-test.true c.index-texts-file.is c.loop-file.invariant fault)
+    let within : file < length texts = omega (arith, c.loop-file-test.true, ap length c.items-texts.ensures.items) in
+    let is : text ≡ get_or texts file text = subst (λ ts. text ≡ get_or ts file text) c.items-texts.ensures.items c.index-texts-file.is in
+    exits _ _ _ (status_of c.in_err-tokens_of_text.field-0.0) c.from_residual.result c.from_residual.ensures.1
+    (tokens_stop texts file text c.loop-file.lists c.in_err-tokens_of_text.field-0.0 within is c.loop-file.invariant c.in_err-tokens_of_text.ensures.refused)

@@ -1,0 +1,27 @@
+-- What a sink took, step by step.
+use Rattle.std.proofs.Common.{◌≡◌, ◌⊎◌, ℕ, List, Option, Result, Ok, Err, refl, inl, inr}
+use Rattle.std.specs.Prelude.{IsErrAnd}
+use Rattle.std.proofs.lemmas.Result.{err_from_is_err_and}
+use Rattle.phases.specs.Meets.{IsMemory}
+use Rattle.phases.specs.Phases.{Phase, Passes, Stops, joins}
+use Rattle.phases.specs.declared.status.Status.{Status}
+use Rattle.phases.proofs.Steps.{◌passes◌}
+use Rattle.fta_run.specs.Steps.{Prints}
+
+-- the text of a later phase is that of the whole
+pub prints_on : {A T : Type 0} (first : Phase A) (later : A → Phase (List ℕ)) (x : A) (result : Result T Status) (t u : Option (List ℕ)) (f g : ℕ) → Passes first x → Prints (later x) result t u f g → Prints (joins first later) result t u f g
+prints_on first later x (Ok _) t u f g p took = (took.0, p passes took.1, took.2)
+prints_on first later x (Err s) t u f g p end =
+    elim end [
+      | inl stop ↦ inl (record { stopped = inr (x, p.passed, stop.0.stopped) }, stop.1)
+      | inr wrote ↦ inr (elim wrote [
+        | inl memory ↦ inl (memory.0, elim memory.1 [ inl same ↦ inl same | inr front ↦ inr (front.0, p passes front.1, front.2) ])
+        | inr failed ↦ inr (failed.0, (failed.1.0, p passes failed.1.1, failed.1.2), failed.2)
+      ])
+    ]
+
+-- the exit of a `?` before anything is written
+pub prints_exit : {T : Type 0} (phase : Phase (List ℕ)) (status : Status) (result : Result T Status) (t : Option (List ℕ)) (f : ℕ) → IsErrAnd result (λ its. its ≡ status) → Stops phase status ⊎ IsMemory status → Prints phase result t t f f
+prints_exit phase status result t f is end =
+    let p = err_from_is_err_and result is in
+    rw (p.1, p.2) (elim end [ inl stops ↦ inl (stops, refl) | inr memory ↦ inr (inl (memory, inl refl)) ])

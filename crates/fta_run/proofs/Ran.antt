@@ -1,0 +1,197 @@
+-- How a run ended, and what is due.
+use Rattle.std.proofs.Common.{◌≡◌, ◌<◌, ◌⊎◌, ℕ, List, length, Option, Result, Ok, Err, refl, sym, ap, subst, inl, inr}
+use Rattle.std.specs.Prelude.{IsErrAnd, IsOk}
+use Rattle.std.proofs.lemmas.Result.{err_from_is_err_and}
+use Rattle.aadl_syntax.specs.declared.refusal.Code.TheVariants.{TooManyFiles}
+use Rattle.aadl_syntax.specs.declared.refusal.Refusal.{Refusal}
+use Rattle.aadl_syntax.specs.Order.{IsFirst}
+use Rattle.phases.specs.Phases.{Passes, Stops, joins, finds, IsDue, IsRefusal, IsSameEnd}
+use Rattle.phases.specs.declared.status.Status.{Status}
+use Rattle.phases.specs.declared.status.Status.TheVariants.{Done, Usage, Refused, ReadFault, WriteFault, Memory, NotYet}
+use Rattle.phases.proofs.Endings.{StopsOnly, stops_only}
+use Rattle.fta_run.specs.declared.words.Task.{Task}
+use Rattle.fta_run.specs.declared.words.Task.TheVariants.{Check, Cuts}
+use Rattle.fault_system.specs.Systems.{System}
+use Rattle.fta_run.specs.Words.{Command, GiveCommand, GiveNoCommand, IsCommand, file_words}
+use Rattle.fta_run.specs.Files.{HasTooLong, HasTooMuch, LacksTokens, LacksUnits, NamesTooMany, most_files, of_words}
+use Rattle.fta_run.specs.Model.{LacksRoot, LacksTarget}
+use Rattle.fta_run.specs.Due.{due, texts_of, text_of, text_on}
+use Rattle.fta_run.specs.Answers.{AllTold, AnswersWords, IsJustified, IsManyAnswer, IsSameStatus, MayCome}
+use Rattle.fta_run.specs.Steps.{IsReadEnd, Prints, Runs, ended}
+use Rattle.fta_run.proofs.Prints.{prints_on}
+use Rattle.fta_run.proofs.Roots.{files_of}
+use Rattle.fta_run.proofs.OneDue.{one_due}
+
+-- ---- how the phases stop
+
+-- a refusal, or what is not served
+abbrev Later : Status → Type 0
+Later status = ((refusal : Refusal) × (status ≡ Refused refusal)) ⊎ (status ≡ NotYet)
+
+refusal_later : (Why : Refusal → Type 0) (s : Status) → IsRefusal Why s → Later s
+refusal_later Why s is = inl (is.0, is.2)
+
+text_later : (task : Task) (system : System) → StopsOnly Later (text_of task system)
+text_later Check system = tt
+text_later (Cuts target) system = (refusal_later (IsFirst (LacksTarget system target)), λ number named. ((λ s none. absurd none), λ sets are. tt))
+
+-- what the phases after the words stop with
+command_later : (contents : List ℕ → Option (List ℕ)) (command : Command) → StopsOnly Later (joins (texts_of contents command.files) (λ texts. text_on command texts))
+command_later contents command = (
+  (
+    refusal_later (IsFirst (NamesTooMany command.files)),
+    λ _ few. ((λ s none. absurd none), λ texts are. (refusal_later (IsFirst (HasTooLong texts)), λ _ short. (refusal_later (IsFirst (HasTooMuch texts)), λ _ little. tt))),
+  ),
+  λ texts read. (
+    (refusal_later (IsFirst (LacksTokens texts)), λ tokens are. refusal_later (LacksUnits texts tokens)),
+    λ files have. (((λ s none. inr none.0), λ form is. (refusal_later (IsFirst (LacksRoot form command.root)), λ _ at. tt)), λ system at. text_later command.task system),
+  ),
+)
+
+-- Usage without a command; or there is one, and a later phase stops
+abbrev Kind : List (List ℕ) → Status → Type 0
+Kind words status = ((status ≡ Usage) × GiveNoCommand words) ⊎ (GiveCommand words × Later status)
+
+kind_of : (words : List (List ℕ)) (contents : List ℕ → Option (List ℕ)) (s : Status) → Stops (due words contents) s → Kind words s
+kind_of words contents s stops =
+    elim stops.stopped [
+      | inl none ↦ inl none
+      | inr there ↦ inr ((there.0, there.1), stops_only Later (joins (texts_of contents there.0.files) (λ texts. text_on there.0 texts)) (command_later contents there.0) s there.2)
+    ]
+
+-- ---- the words
+
+words_of_kind : (words : List (List ℕ)) (s : Status) → Kind words s → AnswersWords s words
+words_of_kind words s kind =
+    elim kind [
+      | inl none ↦ subst (λ x. AnswersWords x words) (sym none.0) none.1
+      | inr some ↦ elim some.1 [
+        | inl refused ↦ subst (λ x. AnswersWords x words) (sym refused.1) some.0
+        | inr not_yet ↦ subst (λ x. AnswersWords x words) (sym not_yet) some.0
+      ]
+    ]
+
+module _ (words : List (List ℕ)) (contents : List ℕ → Option (List ℕ)) (read_before read_after : List ℕ → ℕ) (t u : Option (List ℕ)) (f g : ℕ) where
+  pub ran_words : {T : Type 0} (result : Result T Status) → Runs words contents read_before read_after result t u f g → AnswersWords (ended result) words
+  ran_words (Ok _) took = (took.1.passed.0, took.1.passed.1)
+  ran_words (Err s) end =
+      elim end [
+        | inl wrote ↦ elim wrote [
+          | inl stop ↦ words_of_kind words s (kind_of words contents s stop.0)
+          | inr other ↦ elim other [
+            | inl memory ↦ subst (λ x. AnswersWords x words) (sym memory.0) tt
+            | inr failed ↦ subst (λ x. AnswersWords x words) (sym failed.0) (failed.1.1.passed.0, failed.1.1.passed.1)
+          ]
+        ]
+        | inr read ↦ elim read.0 [
+          | inl memory ↦ subst (λ x. AnswersWords x words) (sym memory) tt
+          | inr fault ↦ subst (λ x. AnswersWords x words) (sym fault.1) read.1
+        ]
+      ]
+
+  -- ---- the verdict
+
+  justified : (s : Status) → Stops (due words contents) s → IsJustified words contents s
+  justified Done stops = tt
+  justified Usage stops = tt
+  justified (Refused refusal) stops = stops
+  justified (ReadFault file) stops = tt
+  justified WriteFault stops = tt
+  justified Memory stops = tt
+  justified NotYet stops = stops
+
+  pub ran_verdict : {T : Type 0} (result : Result T Status) → Runs words contents read_before read_after result t u f g → IsJustified words contents (ended result)
+  ran_verdict (Ok _) took = tt
+  ran_verdict (Err s) end =
+      elim end [
+        | inl wrote ↦ elim wrote [
+          | inl stop ↦ justified s stop.0
+          | inr other ↦ elim other [
+            | inl memory ↦ subst (IsJustified words contents) (sym memory.0) tt
+            | inr failed ↦ subst (IsJustified words contents) (sym failed.0) tt
+          ]
+        ]
+        | inr read ↦ elim read.0 [
+          | inl memory ↦ subst (IsJustified words contents) (sym memory) tt
+          | inr fault ↦ subst (IsJustified words contents) (sym fault.1) tt
+        ]
+      ]
+
+-- ---- what is due
+
+text_is_due : (a : Result (List ℕ) Status) (text : List ℕ) → IsSameEnd IsSameStatus a (Ok text) → IsOk a
+text_is_due (Ok x) text same = refl
+text_is_due (Err s) text same = absurd same
+
+same_as : (a s : Status) → ((refusal : Refusal) → s ≡ Refused refusal → ⊥) → IsSameStatus a s → a ≡ s
+same_as a s other same = elim same [ inl is ↦ is | inr both ↦ absurd (other _ both.4) ]
+
+usage_is_due : (a : Result (List ℕ) Status) → IsSameEnd IsSameStatus a (Err Usage) → a ≡ Err Usage
+usage_is_due (Ok x) same = absurd same
+usage_is_due (Err a) same = ap (λ (s : Status). Err s) (same_as a Usage (λ refusal is. cc (is)) same)
+
+not_yet_is_due : (a : Result (List ℕ) Status) → IsSameEnd IsSameStatus a (Err NotYet) → a ≡ Err NotYet
+not_yet_is_due (Ok x) same = absurd same
+not_yet_is_due (Err a) same = ap (λ (s : Status). Err s) (same_as a NotYet (λ refusal is. cc (is)) same)
+
+refusal_is_due : (a : Result (List ℕ) Status) (refusal : Refusal) → IsSameEnd IsSameStatus a (Err (Refused refusal)) → IsErrAnd a (λ status. IsSameStatus status (Refused refusal))
+refusal_is_due (Ok x) refusal same = absurd same
+refusal_is_due (Err a) refusal same = same
+
+came_of_kind : (words : List (List ℕ)) (a : Result (List ℕ) Status) (s : Status) → Kind words s → IsSameEnd IsSameStatus a (Err s) → MayCome a s
+came_of_kind words a s kind same =
+    elim kind [
+      | inl none ↦ subst (MayCome a) (sym none.0) (usage_is_due a (subst (λ x. IsSameEnd IsSameStatus a (Err x)) none.0 same))
+      | inr some ↦ elim some.1 [
+        | inl refused ↦ subst (MayCome a) (sym refused.1) (refusal_is_due a refused.0 (subst (λ x. IsSameEnd IsSameStatus a (Err x)) refused.1 same))
+        | inr not_yet ↦ subst (MayCome a) (sym not_yet) (not_yet_is_due a (subst (λ x. IsSameEnd IsSameStatus a (Err x)) not_yet same))
+      ]
+    ]
+
+pub ran_complete : {T : Type 0} (words : List (List ℕ)) (contents : List ℕ → Option (List ℕ)) (read_before read_after : List ℕ → ℕ) (t u : Option (List ℕ)) (f g : ℕ) (result : Result T Status) → Runs words contents read_before read_after result t u f g → AllTold words contents → (a : Result (List ℕ) Status) → IsDue (due words contents) a → MayCome a (ended result)
+ran_complete words contents read_before read_after t u f g (Ok _) took told a is_due = text_is_due a took.0 (one_due words contents told a (Ok took.0) is_due took.1)
+ran_complete words contents read_before read_after t u f g (Err s) end told a is_due =
+    elim end [
+      | inl wrote ↦ elim wrote [
+        | inl stop ↦ came_of_kind words a s (kind_of words contents s stop.0) (one_due words contents told a (Err s) is_due stop.0)
+        | inr other ↦ elim other [
+          | inl memory ↦ subst (MayCome a) (sym memory.0) tt
+          | inr failed ↦ subst (MayCome a) (sym failed.0) (text_is_due a failed.1.0 (one_due words contents told a (Ok failed.1.0) is_due failed.1.1))
+        ]
+      ]
+      | inr read ↦ elim read.0 [
+        | inl memory ↦ subst (MayCome a) (sym memory) tt
+        | inr fault ↦ subst (MayCome a) (sym fault.1) tt
+      ]
+    ]
+
+-- ---- the steps of a run
+
+-- the files were read, and then it ended so
+pub ran : {T : Type 0} (words : List (List ℕ)) (contents : List ℕ → Option (List ℕ)) (read_before read_after : List ℕ → ℕ) (t u : Option (List ℕ)) (f g : ℕ) (result : Result T Status) (command : Command) (texts : List (List ℕ)) → Passes (finds (IsCommand words) Usage) command → Passes (texts_of contents command.files) texts
+    → Prints (text_on command texts) result t u f g → Runs words contents read_before read_after result t u f g
+ran words contents read_before read_after t u f g result command texts given read prints =
+    whole result (prints_on (finds (IsCommand words) Usage) (λ asked. joins (texts_of contents asked.files) (λ its. text_on asked its)) command result t u f g given (prints_on (texts_of contents command.files) (λ its. text_on command its) texts result t u f g read prints))
+  where
+    whole : {T : Type 0} (r : Result T Status) → Prints (due words contents) r t u f g → Runs words contents read_before read_after r t u f g
+    whole (Ok _) took = took
+    whole (Err s) end = inl end
+
+-- the files were not read
+pub ran_unread : {T : Type 0} (words : List (List ℕ)) (contents : List ℕ → Option (List ℕ)) (read_before read_after : List ℕ → ℕ) (t : Option (List ℕ)) (f : ℕ) (result : Result T Status) (command : Command) (s : Status) → IsErrAnd result (λ its. its ≡ s) → Passes (finds (IsCommand words) Usage) command
+    → Stops (texts_of contents command.files) s ⊎ IsReadEnd command.files read_before read_after s → Runs words contents read_before read_after result t t f f
+ran_unread words contents read_before read_after t f result command s is given end =
+    let p = err_from_is_err_and result is in
+    rw (p.1, p.2) (elim end [
+      | inl stops ↦ inl (inl (record { stopped = inr (command, given.passed, inl stops.stopped) }, refl))
+      | inr read ↦ inr (subst (λ files. IsReadEnd files read_before read_after s) (sym (files_of words command given.passed)) read, (command, given.passed), refl)
+    ])
+
+-- too many files of a command
+pub many_named : (words : List (List ℕ)) (command : Command) → Passes (finds (IsCommand words) Usage) command → most_files < length (file_words words) → most_files < length command.files
+many_named words command given many = subst (λ files. most_files < length files) (files_of words command given.passed) many
+
+pub many_answer : {T : Type 0} (result : Result T Status) (s : Status) → IsErrAnd result (λ its. its ≡ s) → s ≡ Refused (of_words TooManyFiles most_files) → IsManyAnswer (ended result)
+many_answer result s is many =
+    let p = err_from_is_err_and result is in
+    rw (p.1, p.2, many) refl

@@ -1,8 +1,0 @@
-use Rattle.std.proofs.Common.{◌≡◌, ◌∷◌, [], sym, ap, ◌∙◌}
-use Rattle.fta_run.proofs.Forms.{form_of_one, one_item}
-use Rattle.fta_run.proofs.command.form_of_files.Goals as goal
-
-pub returns : goal.returns
-returns c =
-    let one : c.args.files.now ≡ c.items.result.now ∷ [] = one_item c.args.files.now c.units-item.result c.in-len1.len_at_least c.in-len1.len_below c.units-item.is ∙ ap (λ us. us ∷ []) (sym c.items.ensures.items) in
-    form_of_one c.first_form.result (λ form. form.package_name.now) (λ form. form.machine.now) (λ form. form.classifier.now) c.args.files.now c.items.result.now one c.first_form.ensures

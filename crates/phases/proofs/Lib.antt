@@ -1,0 +1,4 @@
+pub mod Decided
+pub mod Endings
+pub mod Leaves
+pub mod Steps

@@ -1,0 +1,85 @@
+ghost use Rattle.std.specs.Prelude.{◌≡◌};
+
+use aadl_syntax::{Refusal, Stop};
+use std::alloc::{AllocError, AllocFailed};
+
+/// How a run ended.
+#[derive(Clone, Copy, PartialEq, Eq)]
+pub enum Status {
+    /// All input was read and all output was taken.
+    Done,
+    /// The words give no command.
+    Usage,
+    /// The words or the texts are refused.
+    Refused(Refusal),
+    /// The file word of this number, counted from 0, could not be read.
+    ReadFault(u32),
+    /// A write to the output failed.
+    WriteFault,
+    /// Memory was wanting.
+    Memory,
+    /// The text is not served yet.
+    NotYet,
+}
+
+impl Status {
+    ghost use Rattle.phases.specs.Status.{exit_number};
+
+    /// The number with which the program ends.
+    pub fn exit(&self) -> u8
+        ensures { result ≡ exit_number self.now }
+    {
+        match self {
+            Status::Done => 0,
+            Status::Usage => 1,
+            Status::Refused(_) => 2,
+            Status::ReadFault(_) => 4,
+            Status::WriteFault => 5,
+            Status::Memory => 7,
+            Status::NotYet => 8,
+        }
+    }
+}
+
+impl From<AllocError> for Status {
+    ghost use Rattle.phases.specs.declared.status.Status.TheVariants.{Memory};
+
+    ghost from_gives = { λ _ status. status ≡ Memory };
+
+    fn from(_error: AllocError) -> Status {
+        Status::Memory
+    }
+}
+
+impl<T: Drop> From<AllocFailed<T>> for Status {
+    ghost use Rattle.phases.specs.declared.status.Status.TheVariants.{Memory};
+
+    ghost from_gives = { λ _ status. status ≡ Memory };
+
+    fn from(_error: AllocFailed<T>) -> Status {
+        Status::Memory
+    }
+}
+
+impl From<Refusal> for Status {
+    ghost use Rattle.phases.specs.declared.status.Status.TheVariants.{Refused};
+
+    ghost from_gives = { λ refusal status. status ≡ Refused refusal };
+
+    fn from(refusal: Refusal) -> Status {
+        Status::Refused(refusal)
+    }
+}
+
+impl From<Stop> for Status {
+    ghost use Rattle.phases.specs.Stopped.{status_of};
+
+    ghost from_gives = { λ stop status. status ≡ status_of stop };
+
+    fn from(stop: Stop) -> Status {
+        match stop {
+            Stop::Refused(refusal) => Status::Refused(refusal),
+            Stop::Memory => Status::Memory,
+        }
+    }
+}
