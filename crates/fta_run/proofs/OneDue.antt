@@ -3,7 +3,6 @@ use Rattle.std.proofs.Common.{◌≡◌, ℕ, List, [], ◌∷◌, Option, Some,
 use Rattle.std.specs.List.{AllByRecursion}
 use Rattle.std.proofs.lemmas.Bool.{false≢true}
 use Rattle.aadl_syntax.specs.declared.name.Root.{Root}
-use Rattle.aadl_syntax.specs.declared.core_model.Unit.{Unit as FileUnit}
 use Rattle.fault_system.specs.Systems.{System, IsSystem}
 use Rattle.fault_system.specs.Listings.{IsListing}
 use Rattle.fault_system.proofs.Elements.{In-contains, contains_In}
@@ -58,10 +57,13 @@ units_decided texts = (
   λ tokens are. decided_refuses IsSameStatus (AreUnits tokens) (LacksUnits texts tokens) (one_units tokens) (λ files refusal have lacks. lacks_or_have texts tokens files refusal have lacks) (lacks_once texts tokens),
 )
 
-system_decided : (root : Root) (files : List (List FileUnit)) → IsDecided IsSameStatus (system_at root files)
-system_decided root files = (
-  decided_finds IsSameStatus itself (AreOfForm files) NotYet (one_form_of files),
-  λ form is. (decided_answers IsSameStatus itself (λ _. IsRootOf form root) (LacksRoot form root) (λ a b h k. refl) (λ a refusal at lacks. root_or_lacks form root refusal at lacks), λ _ at. tt),
+system_decided : (root : Root) (texts : List (List ℕ)) → IsDecided IsSameStatus (system_at root texts)
+system_decided root texts = (
+  units_decided texts,
+  λ files have. (
+    decided_finds IsSameStatus itself (AreOfForm files) NotYet (one_form_of files),
+    λ form is. (decided_answers IsSameStatus itself (λ _. IsRootOf form root) (LacksRoot form root) (λ a b h k. refl) (λ a refusal at lacks. root_or_lacks form root refusal at lacks), λ _ at. tt),
+  ),
 )
 
 one_listing : (system : System) (target : ℕ) (a b : List (List ℕ)) → IsListing system target None a → IsListing system target None b → a ≡ b
@@ -77,18 +79,17 @@ text_decided (Cuts target) system right = (
 )
 
 -- the system of a root is one
-is_system : (root : Root) (files : List (List FileUnit)) (system : System) → Passed (system_at root files) system → IsSystem system
-is_system root files system at = subst IsSystem (sym at.2.2) (system_is_one at.0.machine at.1.form_is.right)
+is_system : (root : Root) (texts : List (List ℕ)) (system : System) → Passed (system_at root texts) system → IsSystem system
+is_system root texts system at =
+    let form = at.2 in
+    subst IsSystem (sym form.2.2) (system_is_one form.0.machine form.1.form_is.right)
 
 due_decided : (words : List (List ℕ)) (contents : List ℕ → Option (List ℕ)) → AllTold words contents → IsDecided IsSameStatus (due words contents)
 due_decided words contents told = (
   decided_finds IsSameStatus itself (IsCommand words) Usage (one_command words),
   λ command is. (
     texts_decided contents command.files (told command is),
-    λ texts are. (
-      units_decided texts,
-      λ files have. (system_decided command.root files, λ system at. text_decided command.task system (is_system command.root files system at)),
-    ),
+    λ texts are. (system_decided command.root texts, λ system at. text_decided command.task system (is_system command.root texts system at)),
   ),
 )
 

@@ -1,9 +1,6 @@
 -- What a sink took, step by step.
-use Rattle.std.proofs.Common.{◌≡◌, ◌⊎◌, ℕ, List, Option, Result, Ok, Err, refl, inl, inr}
-use Rattle.std.specs.Prelude.{IsErrAnd}
-use Rattle.std.proofs.lemmas.Result.{err_from_is_err_and}
-use Rattle.phases.specs.Meets.{IsMemory}
-use Rattle.phases.specs.Phases.{Phase, Passes, Stops, joins}
+use Rattle.std.proofs.Common.{ℕ, List, Option, Result, Ok, Err, inl, inr}
+use Rattle.phases.specs.Phases.{Phase, Passes, joins}
 use Rattle.phases.specs.declared.status.Status.{Status}
 use Rattle.phases.proofs.Steps.{◌passes◌}
 use Rattle.fta_run.specs.Steps.{Prints}
@@ -19,9 +16,3 @@ prints_on first later x (Err s) t u f g p end =
         | inr failed ↦ inr (failed.0, (failed.1.0, p passes failed.1.1, failed.1.2), failed.2)
       ])
     ]
-
--- the exit of a `?` before anything is written
-pub prints_exit : {T : Type 0} (phase : Phase (List ℕ)) (status : Status) (result : Result T Status) (t : Option (List ℕ)) (f : ℕ) → IsErrAnd result (λ its. its ≡ status) → Stops phase status ⊎ IsMemory status → Prints phase result t t f f
-prints_exit phase status result t f is end =
-    let p = err_from_is_err_and result is in
-    rw (p.1, p.2) (elim end [ inl stops ↦ inl (stops, refl) | inr memory ↦ inr (inl (memory, inl refl)) ])

@@ -5,7 +5,9 @@ use Rattle.std.proofs.lemmas.Result.{err_from_is_err_and}
 use Rattle.aadl_syntax.specs.declared.refusal.Code.TheVariants.{TooManyFiles}
 use Rattle.aadl_syntax.specs.declared.refusal.Refusal.{Refusal}
 use Rattle.aadl_syntax.specs.Order.{IsFirst}
-use Rattle.phases.specs.Phases.{Passes, Stops, joins, finds, IsDue, IsRefusal, IsSameEnd}
+use Rattle.aadl_syntax.specs.declared.name.Root.{Root}
+use Rattle.phases.specs.Meets.{IsMemory}
+use Rattle.phases.specs.Phases.{Phase, Passes, Stops, joins, finds, IsDue, IsRefusal, IsSameEnd}
 use Rattle.phases.specs.declared.status.Status.{Status}
 use Rattle.phases.specs.declared.status.Status.TheVariants.{Done, Usage, Refused, ReadFault, WriteFault, Memory, NotYet}
 use Rattle.phases.proofs.Endings.{StopsOnly, stops_only}
@@ -15,7 +17,7 @@ use Rattle.fault_system.specs.Systems.{System}
 use Rattle.fta_run.specs.Words.{Command, GiveCommand, GiveNoCommand, IsCommand, file_words}
 use Rattle.fta_run.specs.Files.{HasTooLong, HasTooMuch, LacksTokens, LacksUnits, NamesTooMany, most_files, of_words}
 use Rattle.fta_run.specs.Model.{LacksRoot, LacksTarget}
-use Rattle.fta_run.specs.Due.{due, texts_of, text_of, text_on}
+use Rattle.fta_run.specs.Due.{due, texts_of, system_at, text_of}
 use Rattle.fta_run.specs.Answers.{AllTold, AnswersWords, IsJustified, IsManyAnswer, IsSameStatus, MayCome}
 use Rattle.fta_run.specs.Steps.{IsReadEnd, Prints, Runs, ended}
 use Rattle.fta_run.proofs.Prints.{prints_on}
@@ -35,18 +37,24 @@ text_later : (task : Task) (system : System) → StopsOnly Later (text_of task s
 text_later Check system = tt
 text_later (Cuts target) system = (refusal_later (IsFirst (LacksTarget system target)), λ number named. ((λ s none. absurd none), λ sets are. tt))
 
--- what the phases after the words stop with
-command_later : (contents : List ℕ → Option (List ℕ)) (command : Command) → StopsOnly Later (joins (texts_of contents command.files) (λ texts. text_on command texts))
-command_later contents command = (
-  (
-    refusal_later (IsFirst (NamesTooMany command.files)),
-    λ _ few. ((λ s none. absurd none), λ texts are. (refusal_later (IsFirst (HasTooLong texts)), λ _ short. (refusal_later (IsFirst (HasTooMuch texts)), λ _ little. tt))),
-  ),
-  λ texts read. (
-    (refusal_later (IsFirst (LacksTokens texts)), λ tokens are. refusal_later (LacksUnits texts tokens)),
-    λ files have. (((λ s none. inr none.0), λ form is. (refusal_later (IsFirst (LacksRoot form command.root)), λ _ at. tt)), λ system at. text_later command.task system),
-  ),
+texts_later : (contents : List ℕ → Option (List ℕ)) (files : List (List ℕ)) → StopsOnly Later (texts_of contents files)
+texts_later contents files = (
+  refusal_later (IsFirst (NamesTooMany files)),
+  λ _ few. ((λ s none. absurd none), λ texts are. (refusal_later (IsFirst (HasTooLong texts)), λ _ short. (refusal_later (IsFirst (HasTooMuch texts)), λ _ little. tt))),
 )
+
+system_later : (root : Root) (texts : List (List ℕ)) → StopsOnly Later (system_at root texts)
+system_later root texts = (
+  (refusal_later (IsFirst (LacksTokens texts)), λ tokens are. refusal_later (LacksUnits texts tokens)),
+  λ files have. ((λ s none. inr none.0), λ form is. (refusal_later (IsFirst (LacksRoot form root)), λ _ at. tt)),
+)
+
+-- what is left of what is due, once the words gave a command
+abbrev after_words : (List ℕ → Option (List ℕ)) → Command → Phase (List ℕ)
+after_words contents command = joins (texts_of contents command.files) (λ texts. joins (system_at command.root texts) (text_of command.task))
+
+command_later : (contents : List ℕ → Option (List ℕ)) (command : Command) → StopsOnly Later (after_words contents command)
+command_later contents command = (texts_later contents command.files, λ texts read. (system_later command.root texts, λ system at. text_later command.task system))
 
 -- Usage without a command; or there is one, and a later phase stops
 abbrev Kind : List (List ℕ) → Status → Type 0
@@ -56,7 +64,7 @@ kind_of : (words : List (List ℕ)) (contents : List ℕ → Option (List ℕ)) 
 kind_of words contents s stops =
     elim stops.stopped [
       | inl none ↦ inl none
-      | inr there ↦ inr ((there.0, there.1), stops_only Later (joins (texts_of contents there.0.files) (λ texts. text_on there.0 texts)) (command_later contents there.0) s there.2)
+      | inr there ↦ inr ((there.0, there.1), stops_only Later (after_words contents there.0) (command_later contents there.0) s there.2)
     ]
 
 -- ---- the words
@@ -167,15 +175,23 @@ ran_complete words contents read_before read_after t u f g (Err s) end told a is
 
 -- ---- the steps of a run
 
--- the files were read, and then it ended so
-pub ran : {T : Type 0} (words : List (List ℕ)) (contents : List ℕ → Option (List ℕ)) (read_before read_after : List ℕ → ℕ) (t u : Option (List ℕ)) (f g : ℕ) (result : Result T Status) (command : Command) (texts : List (List ℕ)) → Passes (finds (IsCommand words) Usage) command → Passes (texts_of contents command.files) texts
-    → Prints (text_on command texts) result t u f g → Runs words contents read_before read_after result t u f g
-ran words contents read_before read_after t u f g result command texts given read prints =
-    whole result (prints_on (finds (IsCommand words) Usage) (λ asked. joins (texts_of contents asked.files) (λ its. text_on asked its)) command result t u f g given (prints_on (texts_of contents command.files) (λ its. text_on command its) texts result t u f g read prints))
+-- the system was made, and then it ended so
+pub ran : {T : Type 0} (words : List (List ℕ)) (contents : List ℕ → Option (List ℕ)) (read_before read_after : List ℕ → ℕ) (t u : Option (List ℕ)) (f g : ℕ) (result : Result T Status) (command : Command) (texts : List (List ℕ)) (system : System) → Passes (finds (IsCommand words) Usage) command → Passes (texts_of contents command.files) texts
+    → Passes (system_at command.root texts) system → Prints (text_of command.task system) result t u f g → Runs words contents read_before read_after result t u f g
+ran words contents read_before read_after t u f g result command texts system given read at prints =
+    let on_texts = prints_on (system_at command.root texts) (text_of command.task) system result t u f g at prints in
+    let on_files = prints_on (texts_of contents command.files) (λ its. joins (system_at command.root its) (text_of command.task)) texts result t u f g read on_texts in
+    whole result (prints_on (finds (IsCommand words) Usage) (after_words contents) command result t u f g given on_files)
   where
     whole : {T : Type 0} (r : Result T Status) → Prints (due words contents) r t u f g → Runs words contents read_before read_after r t u f g
     whole (Ok _) took = took
     whole (Err s) end = inl end
+
+-- a phase stops before anything is written
+pub ran_stopped : {T : Type 0} (words : List (List ℕ)) (contents : List ℕ → Option (List ℕ)) (read_before read_after : List ℕ → ℕ) (t : Option (List ℕ)) (f : ℕ) (result : Result T Status) (s : Status) → IsErrAnd result (λ its. its ≡ s) → Stops (due words contents) s ⊎ IsMemory s → Runs words contents read_before read_after result t t f f
+ran_stopped words contents read_before read_after t f result s is end =
+    let p = err_from_is_err_and result is in
+    rw (p.1, p.2) (elim end [ inl stops ↦ inl (inl (stops, refl)) | inr memory ↦ inl (inr (inl (memory, inl refl))) ])
 
 -- the files were not read
 pub ran_unread : {T : Type 0} (words : List (List ℕ)) (contents : List ℕ → Option (List ℕ)) (read_before read_after : List ℕ → ℕ) (t : Option (List ℕ)) (f : ℕ) (result : Result T Status) (command : Command) (s : Status) → IsErrAnd result (λ its. its ≡ s) → Passes (finds (IsCommand words) Usage) command

@@ -9,7 +9,7 @@ use Rattle.fault_system.specs.Listings.{IsListing}
 use Rattle.first_form.specs.Meaning.{system_of}
 use Rattle.fta_run.specs.declared.words.Task.{Task}
 use Rattle.fta_run.specs.declared.words.Task.TheVariants.{Check, Cuts}
-use Rattle.fta_run.specs.Words.{Command, IsCommand}
+use Rattle.fta_run.specs.Words.{IsCommand}
 use Rattle.fta_run.specs.Files.{MayContain, NamesTooMany, HasTooLong, HasTooMuch, AreTokens, LacksTokens, AreUnits, LacksUnits}
 use Rattle.fta_run.specs.Model.{AreOfForm, IsRootOf, LacksRoot, IsFactNamed, LacksTarget}
 use Rattle.fta_run.specs.Text.{listing_text, numbers_text}
@@ -29,9 +29,10 @@ units_of texts = do
   tokens ← answers (AreTokens texts) (LacksTokens texts)
   refuses (AreUnits tokens) (LacksUnits texts tokens)
 
--- the system of the root in files of these units, which are of the first form
-abbrev pub system_at : Root → List (List FileUnit) → Phase System
-system_at root files = do
+-- the system of the root in files of these texts, which are of the first form
+abbrev pub system_at : Root → List (List ℕ) → Phase System
+system_at root texts = do
+  files ← units_of texts
   form ← finds (AreOfForm files) NotYet
   _ ← needs (IsRootOf form root) (LacksRoot form root)
   gives (system_of form.machine)
@@ -45,16 +46,10 @@ text_of (Cuts target) system = do
   sets ← takes (IsListing system number None)
   gives (listing_text system sets)
 
--- the text of a command on files of these texts
-abbrev pub text_on : Command → List (List ℕ) → Phase (List ℕ)
-text_on command texts = do
-  files ← units_of texts
-  system ← system_at command.root files
-  text_of command.task system
-
 -- the text of the command that the words give, where this is what the files contain
 abbrev pub due : List (List ℕ) → (List ℕ → Option (List ℕ)) → Phase (List ℕ)
 due words contents = do
   command ← finds (IsCommand words) Usage
   texts ← texts_of contents command.files
-  text_on command texts
+  system ← system_at command.root texts
+  text_of command.task system

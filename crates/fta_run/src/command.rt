@@ -5,17 +5,16 @@ ghost use Rattle.phases.specs.declared.status.Status.{Status as AnyStatus};
 ghost use Rattle.fta_run.specs.declared.words.Task.TheVariants.{Check, Cuts};
 ghost use Rattle.fta_run.specs.Line.{status_line};
 ghost use Rattle.fta_run.specs.Answers.{AllTold, AnswersWords, IsCaused, IsJustified, IsManyAnswer, IsOutput, MayCome, Took};
-ghost use Rattle.fta_run.specs.Due.{due, text_of, text_on};
+ghost use Rattle.fta_run.specs.Due.{due, text_of};
 ghost use Rattle.fta_run.specs.Files.{most_files};
 ghost use Rattle.fta_run.specs.Words.{GiveNoCommand, file_words};
-ghost use Rattle.fta_run.specs.Shown.{command_shown};
 ghost use Rattle.fta_run.specs.Steps.{Prints, Runs, ended};
 
-use crate::input::{Texts, read_texts, units_of_texts};
+use crate::input::read_texts;
 use crate::line::write_line;
 use crate::model::{find_target, system_at};
 use crate::text::{write_listing, write_numbers};
-use crate::words::{Command, Task, command_of, file_words};
+use crate::words::{Task, command_of, file_words};
 use aadl_syntax::{Name, Word};
 use fault_system::FaultSystem;
 use fta_outside::{Files, Sink};
@@ -100,20 +99,7 @@ fn answer<F: Files, S: Sink>(
 {
     let command = command_of(alloc, words)?;
     let texts = read_texts(alloc, files, command.files)?;
-    write_due(alloc, &command, &texts, out)
-}
-
-/// Writes the text of a command on these texts.
-fn write_due<S: Sink>(
-    alloc: Global,
-    command: &Command<'_>,
-    texts: &Texts,
-    out: &mut S,
-) -> Result<(), Status>
-    ensures { Prints (text_on (command_shown command.now) texts.now) result (S.taken out.old) (S.taken out.new) (S.faults out.old) (S.faults out.new) }
-{
-    let files = units_of_texts(alloc, texts)?;
-    let system = system_at(alloc, &command.root, &files)?;
+    let system = system_at(alloc, &command.root, &texts)?;
     write_text(alloc, &command.task, &system, out)
 }
 

@@ -8,7 +8,7 @@ ghost use Rattle.fta_run.specs.Due.{system_at};
 ghost use Rattle.fta_run.specs.Model.{AreOfForm, IsFactNamed, IsRootOf, LacksRoot, LacksTarget, NamesPackage};
 ghost use Rattle.fta_run.specs.Shown.{form_shown};
 
-use crate::input::of_words;
+use crate::input::{Texts, of_words, units_of_texts};
 use aadl_syntax::{Code, Identifier, List, Name, Refusal, Root, Unit, is_same};
 use fault_system::FaultSystem;
 use first_form::{FirstForm, first_form, system_of};
@@ -16,14 +16,11 @@ use phases::Status;
 use std::alloc::Global;
 
 /// The system of the root, where the files are of the first form.
-pub fn system_at(
-    alloc: Global,
-    root: &Root,
-    files: &List<List<Unit>>,
-) -> Result<FaultSystem, Status>
-    ensures { Meets (system_at root.now files.now) result }
+pub fn system_at(alloc: Global, root: &Root, texts: &Texts) -> Result<FaultSystem, Status>
+    ensures { Meets (system_at root.now texts.now) result }
 {
-    let form = form_of_files(files)?;
+    let files = units_of_texts(alloc, texts)?;
+    let form = form_of_files(&files)?;
     find_root(&form, root)?;
     let system = system_of(alloc, form.machine)?;
     Ok(system)
