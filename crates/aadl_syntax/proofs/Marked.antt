@@ -157,3 +157,13 @@ pub none-there : {X : Type 0} (xs : List X) (n : ℕ) → n < length xs → slic
 none-there [] n h e = omega arith
 none-there (x ∷ xs) zero h e = absurd cc
 none-there (x ∷ xs) (suc n) h e = none-there xs n (omega arith) e
+
+-- the text of a token is folded already
+pub its_own : (kind : TokenKind) (text : List ℕ) → IsTokenText kind text → text_of kind text ≡ text
+its_own Word text form = form.lower_case
+its_own Number text form = refl
+its_own Text text form = refl
+its_own Sign text form = refl
+its_own AnnexBegin text form = refl
+its_own AnnexRaw text form = refl
+its_own AnnexEnd text form = refl

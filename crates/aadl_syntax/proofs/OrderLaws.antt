@@ -16,7 +16,7 @@ use Rattle.aadl_syntax.specs.declared.refusal.Code.TheVariants.{BadByte, OpenStr
 use Rattle.aadl_syntax.specs.declared.refusal.Place.{Place}
 use Rattle.aadl_syntax.specs.declared.refusal.Place.TheVariants.{Words, Whole, At}
 use Rattle.aadl_syntax.specs.declared.refusal.Refusal.{Refusal}
-use Rattle.aadl_syntax.specs.Order.{code_row, place_key, refusal_key, refusal_cmp, sooner, nearer, least, IsFirst, ◌or_else◌}
+use Rattle.aadl_syntax.specs.Order.{code_row, place_key, refusal_key, refusal_cmp, sooner, nearer, least, IsFirst}
 
 -- the codes in the order of their rows
 abbrev codes_in_order : List Code
@@ -152,14 +152,6 @@ first_once Stands a b h k = both_not_before a b (h.none_before b k.stands) (k.no
 -- where all refusals of a group are one, it is the first
 pub first_alone : (Stands : Refusal → Type 0) (a : Refusal) → Stands a → ((other : Refusal) → Stands other → other ≡ a) → IsFirst Stands a
 first_alone Stands a stands alone = record { stands = stands; none_before = λ other there. subst (λ z. is_gt (refusal_cmp a z) ≡ false) (sym (alone other there)) (itself a) }
-
--- and so have phases
-pub or_else_once : (Earlier Later : Refusal → Type 0) → ((a b : Refusal) → Later a → Later b → a ≡ b) → (a b : Refusal) → (Earlier or_else Later) a → (Earlier or_else Later) b → a ≡ b
-or_else_once Earlier Later once a b h k =
-    elim h [
-      | inl first ↦ elim k [ inl other ↦ first_once Earlier a b first other | inr later ↦ absurd (later.0 a first.stands) ]
-      | inr later ↦ elim k [ inl other ↦ absurd (later.0 b other.stands) | inr also ↦ once a b later.1 also.1 ]
-    ]
 
 -- ---- the least of a list is its first
 

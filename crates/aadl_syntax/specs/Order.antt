@@ -1,5 +1,5 @@
 -- The order of refusals, and the first of a group.
-use Rattle.std.specs.Prelude.{ℕ, ◌+◌, if◌then◌else◌, List, [], ◌∷◌, ◌++◌, Option, Some, None, IsFalse, ◌⊎◌}
+use Rattle.std.specs.Prelude.{ℕ, ◌+◌, if◌then◌else◌, List, [], ◌∷◌, ◌++◌, Option, Some, None, IsFalse}
 use Rattle.std.specs.Cmp.Lexicographic.{slice_cmp}
 use Rattle.std.specs.Ordering.{nat_cmp, is_gt}
 use Rattle.std.specs.declared.cmp.Ordering.{Ordering}
@@ -82,11 +82,6 @@ pub record IsFirst (Stands : Refusal → Type 0) (first : Refusal) : Type 0 wher
 -- No refusal stands in the group.
 abbrev pub IsClear : (Refusal → Type 0) → Type 0
 IsClear Stands = (refusal : Refusal) → Stands refusal → ⊥
-
--- The first refusal of two phases or more: that of the earlier phase, or, where none stands in it, that of the later ones.
-infixr 4 ◌or_else◌
-abbrev pub ◌or_else◌ : (Refusal → Type 0) → (Refusal → Type 0) → Refusal → Type 0
-(Earlier or_else Later) refusal = IsFirst Earlier refusal ⊎ (IsClear Earlier × Later refusal)
 
 -- of two refusals the one that comes first
 abbrev pub sooner : Refusal → Refusal → Refusal

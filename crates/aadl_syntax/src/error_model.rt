@@ -1,7 +1,7 @@
 use crate::identifier::Identifier;
 use crate::list::List;
 use crate::place::{End, Ref, Spot};
-use crate::token::Token;
+use crate::tokens::TokenList;
 
 /// The error model text of a package (EMV2 library): its blocks of types and its machines, in order.
 #[derive(Drop)]
@@ -246,6 +246,6 @@ pub struct UserPath {
 #[derive(Drop)]
 pub struct Association {
     pub name: List<Identifier>,
-    pub value: List<Token>,
+    pub value: TokenList,
     pub targets: List<List<Identifier>>,
 }

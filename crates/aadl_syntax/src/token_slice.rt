@@ -1,10 +1,9 @@
-ghost use Rattle.std.specs.Prelude.{◌≡◌, ◌≤◌, ◌<◌, ◌^◌, length, take, drop, slice_get, IfOk, IfSome};
+ghost use Rattle.std.specs.Prelude.{◌≡◌, ◌≤◌, ◌<◌, ◌^◌, ◌+◌, ◌++◌, ◌∷◌, [], length, take, drop, slice_get, IfOk, IfSome, OnOk};
 ghost use Rattle.std.specs.Option.{option_map};
 ghost use Rattle.aadl_syntax.specs.Token.{IsTokenText, shown};
 
-use crate::list::List;
 use crate::refusal::Mem;
-use crate::token::{Token, TokenRef};
+use crate::token::TokenRef;
 use crate::tokens::TokenList;
 use std::alloc::Global;
 use std::marker::Model;
@@ -55,6 +54,7 @@ impl<'a> TokenSlice<'a> {
     pub fn get(&self, number: usize) -> Option<TokenRef<'a>>
         ensures value { option_map shown result ≡ slice_get self.now number }
         ensures form { IfSome result (λ token. IsTokenText token.kind token.text.now) }
+        ensures extent { IfSome result (λ token. token.start + length token.text.now ≡ token.end) }
     {
         if number >= self.to - self.from {
             return None;
@@ -86,28 +86,26 @@ impl<'a> TokenSlice<'a> {
         }
     }
 
-    /// A list of copies of the tokens.
-    pub fn copied(&self, alloc: Global) -> Mem<List<Token>>
+    /// A list of its own of these tokens.
+    pub fn copied(&self, alloc: Global) -> Mem<TokenList>
         ensures { IfOk result (λ list. list ≡ self.now) }
     {
-        let mut list = List::new(alloc);
+        let mut list = TokenList::new(alloc);
         for number in 0..self.len() {
             if let Some(token) = self.get(number) {
-                list.push(copy_of(alloc, &token)?)?;
+                add_copy(&mut list, &token)?;
             }
         }
         Ok(list)
     }
 }
 
-fn copy_of(alloc: Global, token: &TokenRef) -> Mem<Token>
-    ensures { IfOk result (λ copy. copy ≡ shown token.now) }
+/// Adds a token as it stands in another list.
+fn add_copy(list: &mut TokenList, token: &TokenRef) -> Mem<()>
+    requires form { IsTokenText token.now.kind token.now.text.now }
+    requires length { token.now.start + length token.now.text.now ≡ token.now.end }
+    requires fits { token.now.end < 2 ^ 32 }
+    ensures { OnOk result (list.new ≡ list.old ++ shown token.now ∷ []) }
 {
-    let text = List::of(Vec::from_slice(alloc, token.text)?)?;
-    Ok(Token {
-        kind: token.kind,
-        start: token.start,
-        end: token.end,
-        text,
-    })
+    list.push(token.kind, token.start, token.text)
 }

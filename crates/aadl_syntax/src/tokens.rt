@@ -64,6 +64,7 @@ impl TokenList {
     pub fn get(&self, number: usize) -> Option<TokenRef<'_>>
         ensures value { option_map shown result ≡ slice_get self.now number }
         ensures form { IfSome result (λ token. IsTokenText token.kind token.text.now) }
+        ensures extent { IfSome result (λ token. token.start + length token.text.now ≡ token.end) }
     {
         match self.marks.get(number) {
             Some(mark) => {

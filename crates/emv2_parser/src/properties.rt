@@ -9,7 +9,7 @@ ghost use Rattle.emv2_parser.specs.Takes.{path_step-takes, further_target-takes,
 
 use crate::names::names;
 use crate::words::{error_name, name_at, point_at, point_name, point_word_at};
-use aadl_syntax::{Association, Identifier, List, Mem, Token, TokenRef};
+use aadl_syntax::{Association, Identifier, List, Mem, TokenList, TokenRef};
 use grammar_rules::{Gathered, Parts, ReadError, Reader, Span, closes, is_sign, is_word};
 use std::alloc::Global;
 
@@ -25,7 +25,7 @@ pub(crate) struct TargetPath {
 /// What follows the name of an association.
 #[derive(Drop)]
 pub(crate) struct AssignedValue {
-    pub(crate) value: List<Token>,
+    pub(crate) value: TokenList,
     pub(crate) targets: List<List<Identifier>>,
 }
 
@@ -103,7 +103,7 @@ fn step_at(reader: &mut Reader) -> bool
 
 /// Copies the tokens of a value; at least one.
 #[tactic(auto, unfolding(crate::specs::Properties::value))]
-fn value(reader: &mut Reader) -> Result<List<Token>, ReadError>
+fn value(reader: &mut Reader) -> Result<TokenList, ReadError>
     ensures { Gives result value reader.old reader.new }
 {
     if !value_at(reader) {

@@ -10,8 +10,8 @@ use crate::value::{
 };
 use aadl_syntax::{
     Association, Composite, Emv2Clause, Emv2Library, EventDecl, EventKind, Flow, FlowKind,
-    Identifier, List, MachineDecl, Outgoing, PointItem, Spot, StateDecl, TypeItem, TypeKind,
-    TypesBlock, UserPath,
+    Identifier, List, MachineDecl, Outgoing, PointItem, Spot, StateDecl, TokenList, TypeItem,
+    TypeKind, TypesBlock, UserPath,
 };
 
 /// Writes the error model text of a package.
@@ -240,12 +240,18 @@ fn put_associations(associations: &List<Association>, out: &mut Text) {
     for association in associations.items() {
         out.put(b"property ");
         put_names(&association.name, b"::", out);
-        for token in association.value.items() {
-            out.put(b" | ");
-            put_token(token.kind, token.start, token.end, token.text.items(), out);
-        }
+        put_value(&association.value, out);
         put_targets(&association.targets, out);
         out.put(b"\n");
+    }
+}
+
+fn put_value(value: &TokenList, out: &mut Text) {
+    for number in 0..value.len() {
+        if let Some(token) = value.get(number) {
+            out.put(b" | ");
+            put_token(token.kind, token.start, token.end, token.text, out);
+        }
     }
 }
 
