@@ -65,6 +65,10 @@ impl<T: Drop> List<T> {
         if self.items.len() >= 4_294_967_295 {
             return Err(AllocError);
         }
+        if self.items.is_empty() {
+            // A first item takes the room of one, since most lists of a value have one.
+            self.items.reserve_exact(1)?;
+        }
         self.items.push(item)?;
         Ok(())
     }
