@@ -7,9 +7,9 @@ use Rattle.aadl_syntax.specs.declared.token.Token.{Token}
 use Rattle.aadl_syntax.specs.declared.token.TokenKind.TheVariants.{AnnexBegin, AnnexEnd}
 use Rattle.aadl_syntax.specs.Token.{token_of}
 use Rattle.aadl_lexer.specs.Tokens.{IsBody, IsAnnex, IsFirstEnd, AfterEmv2, annex_begin, annex_end}
-use Rattle.aadl_lexer.specs.Steps.{EndsAt, TakesBody, Takes, begins_end}
+use Rattle.aadl_lexer.specs.Steps.{EndsAt, TakesBody, Takes, begins_annex_end}
 
-end_at : (text : List ℕ) → begins_end text ≡ true → text ≡ annex_end ++ drop 3 text
+end_at : (text : List ℕ) → begins_annex_end text ≡ true → text ≡ annex_end ++ drop 3 text
 end_at [] t = absurd (false≢true t)
 end_at (a ∷ []) t = absurd (false≢true t)
 end_at (a ∷ b ∷ []) t = absurd (false≢true t)
@@ -19,7 +19,7 @@ end_at (a ∷ b ∷ c ∷ x) t =
     let p = eqb-true a 42 two.0 in let q = eqb-true b 42 two.1 in let r = eqb-true c 125 both.1 in cc
 
 -- no `**}` stands before the place, and one stands at it
-pub end_found : (text : List ℕ) (at : ℕ) → ((front back : List ℕ) → text ≡ front ++ (annex_end ++ back) → at ≤ length front) → begins_end (drop at text) ≡ true → EndsAt text at
+pub end_found : (text : List ℕ) (at : ℕ) → ((front back : List ℕ) → text ≡ front ++ (annex_end ++ back) → at ≤ length front) → begins_annex_end (drop at text) ≡ true → EndsAt text at
 end_found text at earlier t =
     let here = end_at (drop at text) t in
     let rest : drop 3 (drop at text) ≡ drop (at + 3) text = drop-drop 3 at text in

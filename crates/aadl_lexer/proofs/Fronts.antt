@@ -9,7 +9,7 @@ use Rattle.std.proofs.lemmas.List.{length-take-le, take-append-drop}
 use Rattle.aadl_syntax.specs.declared.token.TokenKind.{TokenKind}
 use Rattle.aadl_syntax.specs.declared.token.TokenKind.TheVariants.{Word, Number, Text, Sign, AnnexBegin, AnnexRaw, AnnexEnd}
 use Rattle.aadl_syntax.specs.declared.refusal.Code.TheVariants.{BadByte, OpenString}
-use Rattle.aadl_syntax.specs.Form.{One, Byte, ◌followed_by◌, Repeated, Digits, IsComment, IsWord, IsNumber, IsText, IsSign, is_blank, is_letter, is_digit, is_sign}
+use Rattle.aadl_syntax.specs.Form.{One, Byte, ◌followed_by◌, Repeated, Digits, IsComment, IsWord, IsNumber, IsText, IsSign, is_blank, is_letter, is_digit, is_sign_byte}
 use Rattle.aadl_lexer.specs.Tokens.{IsForm, NothingBegins, IsStuck, annex_begin}
 use Rattle.aadl_lexer.specs.Scan.{IsFront, IsOther, begins_comment, begins_annex, line_len, word_rest_len, text_rest_len, digits_len, number_len, sign_len}
 use Rattle.aadl_lexer.proofs.Runs.{one_byte}
@@ -37,7 +37,7 @@ signs = codes ";:,.()[]{}-+*/=<>^@!&|"
 blank_apart : (class : ℕ → Bool) → list_all (λ s. not (class s)) blanks ≡ true → (b : ℕ) → is_blank b ≡ true → class b ≡ true → ⊥
 blank_apart class u b t v = listed_not class blanks b t u v
 
-sign_apart : (class : ℕ → Bool) → list_all (λ s. not (class s)) signs ≡ true → (b : ℕ) → is_sign b ≡ true → class b ≡ true → ⊥
+sign_apart : (class : ℕ → Bool) → list_all (λ s. not (class s)) signs ≡ true → (b : ℕ) → is_sign_byte b ≡ true → class b ≡ true → ⊥
 sign_apart class u b t v = listed_not class signs b t u v
 
 letter_digit : (b : ℕ) → is_letter b ≡ true → is_digit b ≡ true → ⊥
@@ -55,7 +55,7 @@ first_of None b = is_blank b || b == 45
 first_of (Some Word) b = is_letter b
 first_of (Some Number) b = is_digit b
 first_of (Some Text) b = b == 34
-first_of (Some Sign) b = is_sign b
+first_of (Some Sign) b = is_sign_byte b
 first_of (Some AnnexBegin) b = b == 123
 first_of (Some AnnexRaw) b = false
 first_of (Some AnnexEnd) b = false
@@ -67,16 +67,16 @@ number_first b x j = from j.front j.whole j.first
     from [] e h = absurd (digits_nil is_digit h)
     from (a ∷ front) e h = let same : a ≡ b = cc in subst (λ (c : ℕ). is_digit c ≡ true) same (lead is_digit _ a front h).0
 
-sign_at : (b n : ℕ) → is_sign n ≡ true → eqb b n ≡ true → is_sign b ≡ true
-sign_at b n t e = subst (λ (c : ℕ). is_sign c ≡ true) (sym (eqb-true b n e)) t
+sign_at : (b n : ℕ) → is_sign_byte n ≡ true → eqb b n ≡ true → is_sign_byte b ≡ true
+sign_at b n t e = subst (λ (c : ℕ). is_sign_byte c ≡ true) (sym (eqb-true b n e)) t
 
-pair_at : (b c m n : ℕ) → is_sign m ≡ true → (eqb b m && eqb c n) ≡ true → is_sign b ≡ true
+pair_at : (b c m n : ℕ) → is_sign_byte m ≡ true → (eqb b m && eqb c n) ≡ true → is_sign_byte b ≡ true
 pair_at b c m n t e = sign_at b m t (and_parts (eqb b m) (eqb c n) e).0
 
-triple_at : (b c d m n o : ℕ) → is_sign m ≡ true → (eqb b m && eqb c n && eqb d o) ≡ true → is_sign b ≡ true
+triple_at : (b c d m n o : ℕ) → is_sign_byte m ≡ true → (eqb b m && eqb c n && eqb d o) ≡ true → is_sign_byte b ≡ true
 triple_at b c d m n o t e = pair_at b c m n t (and_parts (eqb b m && eqb c n) (eqb d o) e).0
 
-sign_first : (b : ℕ) (x : List ℕ) → is_whole_sign (b ∷ x) ≡ true → is_sign b ≡ true
+sign_first : (b : ℕ) (x : List ℕ) → is_whole_sign (b ∷ x) ≡ true → is_sign_byte b ≡ true
 sign_first b [] t = t
 sign_first b (c ∷ []) t = elim (or_cases (eqb b 58 && eqb c 58 || eqb b 45 && eqb c 62 || eqb b 61 && eqb c 62) (eqb b 46 && eqb c 46) t) [
   | inl u ↦ elim (or_cases (eqb b 58 && eqb c 58 || eqb b 45 && eqb c 62) (eqb b 61 && eqb c 62) u) [
@@ -206,7 +206,7 @@ blank_only None ne b t u = ne refl
 blank_only (Some Word) ne b t u = blank_apart is_letter refl b t u
 blank_only (Some Number) ne b t u = blank_apart is_digit refl b t u
 blank_only (Some Text) ne b t u = blank_apart is_quote refl b t u
-blank_only (Some Sign) ne b t u = blank_apart is_sign refl b t u
+blank_only (Some Sign) ne b t u = blank_apart is_sign_byte refl b t u
 blank_only (Some AnnexBegin) ne b t u = blank_apart (λ c. c == 123) refl b t u
 blank_only (Some AnnexRaw) ne b t u = false≢true u
 blank_only (Some AnnexEnd) ne b t u = false≢true u
@@ -485,7 +485,7 @@ one_kind annexes (Some AnnexEnd) l (b ∷ x) h i = absurd h
 one_kind annexes (Some Sign) l (b ∷ x) h i = from l i
   where
     from : (l : Option TokenKind) → IsForm annexes l (b ∷ x) → Some Sign ≡ l
-    from None (inl k) = absurd (blank_apart is_sign refl b (one_byte is_blank b x k).0 (first_is annexes (Some Sign) b x h))
+    from None (inl k) = absurd (blank_apart is_sign_byte refl b (one_byte is_blank b x k).0 (first_is annexes (Some Sign) b x h))
     from None (inr j) = comment_kind annexes (Some Sign) b x j h
     from (Some Word) k = absurd (letter_only (Some Sign) (λ e. absurd cc) b (first_is annexes (Some Word) b x k) (first_is annexes (Some Sign) b x h))
     from (Some Number) k = absurd (digit_only (Some Sign) (λ e. absurd cc) b (first_is annexes (Some Number) b x k) (first_is annexes (Some Sign) b x h))

@@ -8,7 +8,7 @@ use Rattle.aadl_syntax.specs.declared.refusal.Code.{Code}
 use Rattle.aadl_syntax.specs.declared.refusal.Stop.{Stop}
 use Rattle.aadl_syntax.specs.declared.refusal.Stop.TheVariants.{Refused, Memory}
 use Rattle.aadl_syntax.specs.Token.{token_of}
-use Rattle.aadl_lexer.specs.Tokens.{Piece, AreCut, IsRead, Stops, IsForm, IsLongest, IsPlain, NothingBegins, IsBadByte, IsOpenString, IsOpenAnnex, IsStuck, IsAnnex, IsBody, IsFirstEnd, InAnnex, InCore, StuckInAnnex, StopsInside, StuckInCore, Tokens, IsFault, RefusedAs, annex_begin, annex_end, tokens_of}
+use Rattle.aadl_lexer.specs.Tokens.{Piece, AreCut, IsRead, StopsReading, IsForm, IsLongest, IsPlain, NothingBegins, IsBadByte, IsOpenString, IsOpenAnnex, IsStuck, IsAnnex, IsBody, IsFirstEnd, InAnnex, InCore, StuckInAnnex, StopsInside, StuckInCore, Tokens, IsFault, RefusedAs, annex_begin, annex_end, tokens_of}
 use Rattle.aadl_lexer.proofs.Cuts.{bytes_of, tokens_in, IsSoFar, stops_so_far}
 use Rattle.aadl_lexer.proofs.Fronts.{form_nil, one_kind, annex_front}
 
@@ -21,17 +21,17 @@ same_fronts p q r s e l =
 -- ---- any rule that determines its piece
 
 -- A rule with the texts that cannot go on: a piece takes bytes, a text has at most one piece or one fault.
-pub record IsDetermined (Rule : List Token → ℕ → Piece → List ℕ → Type 0) (Stuck : List Token → ℕ → List ℕ → Code → ℕ → Type 0) : Type 0 where
-  pub filled : (before : List Token) (at : ℕ) (p : Piece) (r : List ℕ) → Rule before at p r → 0 < length p.bytes
-  pub same : (before : List Token) (at : ℕ) (p q : Piece) (r s : List ℕ) → p.bytes ++ r ≡ q.bytes ++ s → Rule before at p r → Rule before at q s → (p ≡ q) × (r ≡ s)
-  pub stuck : (before : List Token) (at : ℕ) (p : Piece) (r text : List ℕ) (code : Code) (place : ℕ) → text ≡ p.bytes ++ r → Rule before at p r → Stuck before at text code place → ⊥
+pub record IsDetermined (PieceRule : List Token → ℕ → Piece → List ℕ → Type 0) (Stuck : List Token → ℕ → List ℕ → Code → ℕ → Type 0) : Type 0 where
+  pub filled : (before : List Token) (at : ℕ) (p : Piece) (r : List ℕ) → PieceRule before at p r → 0 < length p.bytes
+  pub same : (before : List Token) (at : ℕ) (p q : Piece) (r s : List ℕ) → p.bytes ++ r ≡ q.bytes ++ s → PieceRule before at p r → PieceRule before at q s → (p ≡ q) × (r ≡ s)
+  pub stuck : (before : List Token) (at : ℕ) (p : Piece) (r text : List ℕ) (code : Code) (place : ℕ) → text ≡ p.bytes ++ r → PieceRule before at p r → Stuck before at text code place → ⊥
   pub some : (before : List Token) (at : ℕ) (code : Code) (place : ℕ) → Stuck before at [] code place → ⊥
   pub one : (before : List Token) (at : ℕ) (text : List ℕ) (c d : Code) (m n : ℕ) → Stuck before at text c m → Stuck before at text d n → (c ≡ d) × (m ≡ n)
 
-module _ (Rule : List Token → ℕ → Piece → List ℕ → Type 0) (Stuck : List Token → ℕ → List ℕ → Code → ℕ → Type 0) (det : IsDetermined Rule Stuck) where
+module _ (PieceRule : List Token → ℕ → Piece → List ℕ → Type 0) (Stuck : List Token → ℕ → List ℕ → Code → ℕ → Type 0) (det : IsDetermined PieceRule Stuck) where
   -- no piece stands at the front of the text
   Ended : List Token → ℕ → List ℕ → Type 0
-  Ended before at text = (p : Piece) (r : List ℕ) → text ≡ p.bytes ++ r → Rule before at p r → ⊥
+  Ended before at text = (p : Piece) (r : List ℕ) → text ≡ p.bytes ++ r → PieceRule before at p r → ⊥
 
   nil_ended : (before : List Token) (at : ℕ) → Ended before at []
   unfolding Ended
@@ -43,23 +43,23 @@ module _ (Rule : List Token → ℕ → Piece → List ℕ → Type 0) (Stuck : 
 
   -- the same pieces, as far as no piece more stands
   one_cut : (before : List Token) (at : ℕ) (ps qs : List Piece) (r s : List ℕ) → bytes_of ps ++ r ≡ bytes_of qs ++ s
-      → AreCut Rule before at ps r → AreCut Rule before at qs s
+      → AreCut PieceRule before at ps r → AreCut PieceRule before at qs s
       → Ended (before ++ tokens_in ps) (at + length (bytes_of ps)) r → Ended (before ++ tokens_in qs) (at + length (bytes_of qs)) s
       → (ps ≡ qs) × (r ≡ s)
   unfolding Ended
   one_cut before at [] [] r s e cut other end last = (refl, e)
   one_cut before at [] (q ∷ qs) r s e cut other end last =
-      let P : List Token → Type 0 = λ b. Rule b at q (bytes_of qs ++ s) in
-      let Q : ℕ → Type 0 = λ n. Rule (before ++ []) n q (bytes_of qs ++ s) in
+      let P : List Token → Type 0 = λ b. PieceRule b at q (bytes_of qs ++ s) in
+      let Q : ℕ → Type 0 = λ n. PieceRule (before ++ []) n q (bytes_of qs ++ s) in
       absurd (end q (bytes_of qs ++ s) (e ∙ append_assoc q.bytes (bytes_of qs) s) (subst Q (sym (add-zero at)) (subst P (sym (append-nil before)) other.0)))
   one_cut before at (p ∷ ps) [] r s e cut other end last =
-      let P : List Token → Type 0 = λ b. Rule b at p (bytes_of ps ++ r) in
-      let Q : ℕ → Type 0 = λ n. Rule (before ++ []) n p (bytes_of ps ++ r) in
+      let P : List Token → Type 0 = λ b. PieceRule b at p (bytes_of ps ++ r) in
+      let Q : ℕ → Type 0 = λ n. PieceRule (before ++ []) n p (bytes_of ps ++ r) in
       absurd (last p (bytes_of ps ++ r) (sym e ∙ append_assoc p.bytes (bytes_of ps) r) (subst Q (sym (add-zero at)) (subst P (sym (append-nil before)) cut.0)))
   one_cut before at (p ∷ ps) (q ∷ qs) r s e cut other end last =
       let first = det.same before at p q (bytes_of ps ++ r) (bytes_of qs ++ s) (sym (append_assoc p.bytes (bytes_of ps) r) ∙ e ∙ append_assoc q.bytes (bytes_of qs) s) cut.0 other.0 in
-      let C : Piece → Type 0 = λ k. AreCut Rule (before ++ k.tokens) (at + length k.bytes) qs s in
-      let E : List Token → ℕ → List ℕ → Type 0 = λ b n x. (k : Piece) (y : List ℕ) → x ≡ k.bytes ++ y → Rule b n k y → ⊥ in
+      let C : Piece → Type 0 = λ k. AreCut PieceRule (before ++ k.tokens) (at + length k.bytes) qs s in
+      let E : List Token → ℕ → List ℕ → Type 0 = λ b n x. (k : Piece) (y : List ℕ) → x ≡ k.bytes ++ y → PieceRule b n k y → ⊥ in
       let place : (k : Piece) (ks : List Piece) → at + length (k.bytes ++ bytes_of ks) ≡ at + length k.bytes + length (bytes_of ks) = λ k ks. ap (λ (n : ℕ). at + n) (length-append k.bytes (bytes_of ks)) ∙ sym (add_assoc at (length k.bytes) (length (bytes_of ks))) in
       let end' : E (before ++ p.tokens ++ tokens_in ps) (at + length p.bytes + length (bytes_of ps)) r =
       subst (λ (n : ℕ). E (before ++ p.tokens ++ tokens_in ps) n r) (place p ps) (subst (λ (b : List Token). E b (at + length (p.bytes ++ bytes_of ps)) r) (sym (append_assoc before p.tokens (tokens_in ps))) end) in
@@ -69,17 +69,17 @@ module _ (Rule : List Token → ℕ → Piece → List ℕ → Type 0) (Stuck : 
       let more = one_cut (before ++ p.tokens) (at + length p.bytes) ps qs r s first.1 cut.1 (subst C (sym first.0) other.1) end' last'' in
       ((λ i. first.0 i ∷ more.0 i), more.1)
 
-  pub one_read : (at : ℕ) (text : List ℕ) (a b : List Token) → IsRead Rule at text a [] → IsRead Rule at text b [] → a ≡ b
+  pub one_read : (at : ℕ) (text : List ℕ) (a b : List Token) → IsRead PieceRule at text a [] → IsRead PieceRule at text b [] → a ≡ b
   one_read at text a b h k =
       let same = one_cut [] at h.pieces k.pieces [] [] (sym h.whole ∙ k.whole) h.cut k.cut (nil_ended _ _) (nil_ended _ _) in
       h.given ∙ ap tokens_in same.0 ∙ sym k.given
 
-  pub read_or_stop : (at : ℕ) (text : List ℕ) (a : List Token) (code : Code) (place : ℕ) → IsRead Rule at text a [] → Stops Rule Stuck at text code place → ⊥
+  pub read_or_stop : (at : ℕ) (text : List ℕ) (a : List Token) (code : Code) (place : ℕ) → IsRead PieceRule at text a [] → StopsReading PieceRule Stuck at text code place → ⊥
   read_or_stop at text a code place h k =
       let same = one_cut [] at h.pieces k.pieces [] k.rest (sym h.whole ∙ k.whole) h.cut k.cut (nil_ended _ _) (stuck_ended _ _ k.rest code place k.stuck) in
       det.some _ _ code place (subst (λ (x : List ℕ). Stuck (tokens_in k.pieces) (at + length (bytes_of k.pieces)) x code place) (sym same.1) k.stuck)
 
-  pub one_stop : (at : ℕ) (text : List ℕ) (c d : Code) (m n : ℕ) → Stops Rule Stuck at text c m → Stops Rule Stuck at text d n → (c ≡ d) × (m ≡ n)
+  pub one_stop : (at : ℕ) (text : List ℕ) (c d : Code) (m n : ℕ) → StopsReading PieceRule Stuck at text c m → StopsReading PieceRule Stuck at text d n → (c ≡ d) × (m ≡ n)
   one_stop at text c d m n h k =
       let same = one_cut [] at h.pieces k.pieces h.rest k.rest (sym h.whole ∙ k.whole) h.cut k.cut (stuck_ended _ _ h.rest c m h.stuck) (stuck_ended _ _ k.rest d n k.stuck) in
       let P : List Piece → Type 0 = λ x. Stuck (tokens_in x) (at + length (bytes_of x)) k.rest d n in
@@ -220,7 +220,7 @@ core_one before at text c d m n (inl h) (inr k) = absurd (inside_stuck before at
 core_one before at text c d m n (inr h) (inl k) = absurd (inside_stuck before at text d c m k.0 h)
 core_one before at text c d m n (inr h) (inr k) =
     let body = one_body h.body k.body h.rest k.rest (append_cancel_left annex_begin (h.body ++ (annex_end ++ h.rest)) (k.body ++ (annex_end ++ k.rest)) (sym h.whole ∙ k.whole)) h.ended k.ended in
-    one_stop InAnnex StuckInAnnex annex_determined (at + 3) k.body c d m n (subst (λ (x : List ℕ). Stops InAnnex StuckInAnnex (at + 3) x c m) body.0 h.stops) k.stops
+    one_stop InAnnex StuckInAnnex annex_determined (at + 3) k.body c d m n (subst (λ (x : List ℕ). StopsReading InAnnex StuckInAnnex (at + 3) x c m) body.0 h.stops) k.stops
 
 core_filled : (before : List Token) (at : ℕ) (p : Piece) (r : List ℕ) → InCore before at p r → 0 < length p.bytes
 core_filled before at p r (inl h) = form_filled true h.kind p.bytes h.longest.form

@@ -6,7 +6,7 @@ use Rattle.std.specs.Option.{option_map}
 use Rattle.std.proofs.lemmas.Bool.{cases_Bool, cases_lt, cond-true, cond-false, false≢true, eqb-true, eq-eqb, ne_eqb, or_cases, or_parts, or_from, and_parts, and_from, not-true, not_from_false, false_from_ne_true}
 use Rattle.std.proofs.lemmas.List.{length-append, drop_more, drop_all, drop-drop}
 use Rattle.std.proofs.lemmas.List.Sums.{prefix_len-le-length}
-use Rattle.aadl_syntax.specs.Form.{One, Byte, ◌followed_by◌, Repeated, Perhaps, Either, IsWord, IsText, IsSign, IsComment, is_letter, is_letter_or_digit, is_sign}
+use Rattle.aadl_syntax.specs.Form.{One, Byte, ◌followed_by◌, Repeated, Perhaps, Either, IsWord, IsText, IsSign, IsComment, is_letter, is_letter_or_digit, is_sign_byte}
 use Rattle.aadl_lexer.specs.Scan.{line_len, word_rest_len, text_rest_len, is_pair, is_triple, sign_len}
 use Rattle.aadl_lexer.proofs.Runs.{rep_none, rep_more, rep_first, FirstPart, one_byte, run_is, run_within}
 use Rattle.aadl_lexer.proofs.Most.{IsMost, none_most, no_such, lead, lead_nil, led}
@@ -391,7 +391,7 @@ comment_most text =
 -- whether the bytes are a sign
 abbrev pub is_whole_sign : List ℕ → Bool
 is_whole_sign [] = false
-is_whole_sign (a ∷ []) = is_sign a
+is_whole_sign (a ∷ []) = is_sign_byte a
 is_whole_sign (a ∷ b ∷ []) = is_pair a b
 is_whole_sign (a ∷ b ∷ c ∷ []) = is_triple a b c
 is_whole_sign (a ∷ b ∷ c ∷ d ∷ rest) = false
@@ -467,19 +467,19 @@ sign_most [] = none_most IsSign [] absent
     absent : (front back : List ℕ) → [] ≡ front ++ back → IsSign front → ⊥
     absent [] back e h = false≢true (sign_from [] h)
     absent (a ∷ front) back e h = absurd cc
-sign_most (a ∷ []) = elim (cases_Bool (is_sign a)) [
-  | inl t ↦ rw (cond-true {A = ℕ} (is_sign a) 1 0 t) (record { within = omega arith; form = λ _. inl t; most = one })
-  | inr f ↦ rw (cond-false {A = ℕ} (is_sign a) 1 0 f) (none_most IsSign _ (absent f))
+sign_most (a ∷ []) = elim (cases_Bool (is_sign_byte a)) [
+  | inl t ↦ rw (cond-true {A = ℕ} (is_sign_byte a) 1 0 t) (record { within = omega arith; form = λ _. inl t; most = one })
+  | inr f ↦ rw (cond-false {A = ℕ} (is_sign_byte a) 1 0 f) (none_most IsSign _ (absent f))
 ]
   where
     one : (front back : List ℕ) → a ∷ [] ≡ front ++ back → IsSign front → length front ≤ 1
     one front back e h = omega (arith, ap length e, length-append front back)
 
-    absent : is_sign a ≡ false → (front back : List ℕ) → a ∷ [] ≡ front ++ back → IsSign front → ⊥
+    absent : is_sign_byte a ≡ false → (front back : List ℕ) → a ∷ [] ≡ front ++ back → IsSign front → ⊥
     absent f [] back e h = false≢true (sign_from [] h)
-    absent f (k ∷ []) back e h = let same : k ≡ a = cc in false≢true (sym f ∙ subst (λ (n : ℕ). is_sign n ≡ true) same (sign_from (k ∷ []) h))
+    absent f (k ∷ []) back e h = let same : k ≡ a = cc in false≢true (sym f ∙ subst (λ (n : ℕ). is_sign_byte n ≡ true) same (sign_from (k ∷ []) h))
     absent f (k ∷ l ∷ front) back e h = absurd cc
-sign_most (a ∷ b ∷ []) = two_cases (is_pair a b) (is_sign a) (IsMost IsSign (a ∷ b ∷ []))
+sign_most (a ∷ b ∷ []) = two_cases (is_pair a b) (is_sign_byte a) (IsMost IsSign (a ∷ b ∷ []))
     (λ t. record { within = omega arith; form = λ _. sign_is (a ∷ b ∷ []) t; most = λ front back e h. omega (arith, ap length e, length-append front back) })
     (λ f t. record { within = omega arith; form = λ _. inl t; most = most f })
     (λ f g. none_most IsSign _ (absent f g))
@@ -490,11 +490,11 @@ sign_most (a ∷ b ∷ []) = two_cases (is_pair a b) (is_sign a) (IsMost IsSign 
     most f (k ∷ l ∷ []) back e h = let p : k ≡ a = cc in let q : l ≡ b = cc in absurd (false≢true (sym f ∙ subst (λ (n : ℕ). is_pair a n ≡ true) q (subst (λ (n : ℕ). is_pair n l ≡ true) p (sign_from (k ∷ l ∷ []) h))))
     most f (k ∷ l ∷ m ∷ front) back e h = absurd cc
 
-    absent : is_pair a b ≡ false → is_sign a ≡ false → (front back : List ℕ) → a ∷ b ∷ [] ≡ front ++ back → IsSign front → ⊥
+    absent : is_pair a b ≡ false → is_sign_byte a ≡ false → (front back : List ℕ) → a ∷ b ∷ [] ≡ front ++ back → IsSign front → ⊥
     absent f g [] back e h = false≢true (sign_from [] h)
-    absent f g (k ∷ []) back e h = let p : k ≡ a = cc in false≢true (sym g ∙ subst (λ (n : ℕ). is_sign n ≡ true) p (sign_from (k ∷ []) h))
+    absent f g (k ∷ []) back e h = let p : k ≡ a = cc in false≢true (sym g ∙ subst (λ (n : ℕ). is_sign_byte n ≡ true) p (sign_from (k ∷ []) h))
     absent f g (k ∷ l ∷ front) back e h = absurd (omega (arith, most f (k ∷ l ∷ front) back e h))
-sign_most (a ∷ b ∷ c ∷ rest) = three_cases (is_triple a b c) (is_pair a b) (is_sign a) (IsMost IsSign (a ∷ b ∷ c ∷ rest))
+sign_most (a ∷ b ∷ c ∷ rest) = three_cases (is_triple a b c) (is_pair a b) (is_sign_byte a) (IsMost IsSign (a ∷ b ∷ c ∷ rest))
     (λ t. record { within = omega arith; form = λ _. sign_is (a ∷ b ∷ c ∷ []) t; most = three })
     (λ f t. record { within = omega arith; form = λ _. sign_is (a ∷ b ∷ []) t; most = two f })
     (λ f g t. record { within = omega arith; form = λ _. inl t; most = one f g })
@@ -522,9 +522,9 @@ sign_most (a ∷ b ∷ c ∷ rest) = three_cases (is_triple a b c) (is_pair a b)
     one f g (k ∷ l ∷ []) back e h = let p : k ≡ a = cc in let q : l ≡ b = cc in absurd (false≢true (sym g ∙ subst (λ (n : ℕ). is_pair a n ≡ true) q (subst (λ (n : ℕ). is_pair n l ≡ true) p (sign_from (k ∷ l ∷ []) h))))
     one f g (k ∷ l ∷ m ∷ front) back e h = absurd (omega (arith, two f (k ∷ l ∷ m ∷ front) back e h))
 
-    absent : is_triple a b c ≡ false → is_pair a b ≡ false → is_sign a ≡ false → (front back : List ℕ) → a ∷ b ∷ c ∷ rest ≡ front ++ back → IsSign front → ⊥
+    absent : is_triple a b c ≡ false → is_pair a b ≡ false → is_sign_byte a ≡ false → (front back : List ℕ) → a ∷ b ∷ c ∷ rest ≡ front ++ back → IsSign front → ⊥
     absent f g i [] back e h = false≢true (sign_from [] h)
-    absent f g i (k ∷ []) back e h = let p : k ≡ a = cc in false≢true (sym i ∙ subst (λ (n : ℕ). is_sign n ≡ true) p (sign_from (k ∷ []) h))
+    absent f g i (k ∷ []) back e h = let p : k ≡ a = cc in false≢true (sym i ∙ subst (λ (n : ℕ). is_sign_byte n ≡ true) p (sign_from (k ∷ []) h))
     absent f g i (k ∷ l ∷ front) back e h = absurd (omega (arith, one f g (k ∷ l ∷ front) back e h))
 
 -- ---- the loops

@@ -2,7 +2,7 @@
 use Rattle.std.specs.Prelude.{◌≡◌, ◌≢◌, ℕ, suc, ◌+◌, Bool, false, ◌==◌, ◌&&◌, ◌||◌, not, ◌<◌, ◌≤◌, List, [], ◌∷◌, length, take, drop, Option, Some, None, if◌then◌else◌}
 use Rattle.std.specs.List.{prefix_len}
 use Rattle.std.specs.Option.{option_map}
-use Rattle.aadl_syntax.specs.Form.{is_blank, is_letter, is_digit, is_letter_or_digit, is_hexadecimal, is_sign}
+use Rattle.aadl_syntax.specs.Form.{is_blank, is_letter, is_digit, is_letter_or_digit, is_hexadecimal, is_sign_byte}
 use Rattle.aadl_lexer.specs.Tokens.{IsLongest}
 use Rattle.aadl_lexer.specs.declared.form.Front.{Front}
 
@@ -80,9 +80,9 @@ is_triple a b c = (a == 60 && b == 45 && c == 62) || (a == 43 && b == 61 && c ==
 
 unfoldable pub sign_len : List ℕ → ℕ
 sign_len [] = 0
-sign_len (a ∷ []) = if is_sign a then 1 else 0
-sign_len (a ∷ b ∷ []) = if is_pair a b then 2 else (if is_sign a then 1 else 0)
-sign_len (a ∷ b ∷ c ∷ rest) = if is_triple a b c then 3 else (if is_pair a b then 2 else (if is_sign a then 1 else 0))
+sign_len (a ∷ []) = if is_sign_byte a then 1 else 0
+sign_len (a ∷ b ∷ []) = if is_pair a b then 2 else (if is_sign_byte a then 1 else 0)
+sign_len (a ∷ b ∷ c ∷ rest) = if is_triple a b c then 3 else (if is_pair a b then 2 else (if is_sign_byte a then 1 else 0))
 
 -- What stands at the front of a text: the longest form, of a kind or, at `None`, a blank or a comment; and how long it is.
 pub record IsFront (annexes : Bool) (text : List ℕ) (front : Front) : Type 0 where

@@ -8,18 +8,18 @@ use Rattle.aadl_lexer.specs.Tokens.{Piece, IsRead, InAnnex, IsStuck, IsFirstEnd,
 use Rattle.aadl_syntax.specs.Token.{IsTokenText, text_of, token_of}
 
 -- The first bytes of the text, so many, are a piece by the rule, and its tokens are added.
-pub record Takes (Rule : Piece → List ℕ → Type 0) (text : List ℕ) (old new : List Token) (len : ℕ) : Type 0 where
+pub record Takes (PieceRule : Piece → List ℕ → Type 0) (text : List ℕ) (old new : List Token) (len : ℕ) : Type 0 where
   pub some : 0 < len
   pub within : len ≤ length text
   pub tokens : List Token
   pub added : new ≡ old ++ tokens
-  pub piece : Rule (record { bytes = take len text; tokens = tokens }) (drop len text)
+  pub piece : PieceRule (record { bytes = take len text; tokens = tokens }) (drop len text)
 
 -- All tokens of the text are added.
-pub record TakesAll (Rule : List Token → ℕ → Piece → List ℕ → Type 0) (at : ℕ) (text : List ℕ) (old new : List Token) : Type 0 where
+pub record TakesAll (PieceRule : List Token → ℕ → Piece → List ℕ → Type 0) (at : ℕ) (text : List ℕ) (old new : List Token) : Type 0 where
   pub tokens : List Token
   pub added : new ≡ old ++ tokens
-  pub read : IsRead Rule at text tokens []
+  pub read : IsRead PieceRule at text tokens []
 
 -- the place where a text cannot go on
 abbrev pub StuckAt : Bool → ℕ → List ℕ → Code → ℕ → Type 0
@@ -39,11 +39,11 @@ pub record TakesBody (is_emv2 : Bool) (at : ℕ) (body : List ℕ) (old new : Li
   pub raw : is_emv2 ≡ false → tokens ≡ token_of AnnexRaw at body ∷ []
 
 -- whether `**}` begins the text
-abbrev pub begins_end : List ℕ → Bool
-begins_end [] = false
-begins_end (a ∷ []) = false
-begins_end (a ∷ b ∷ []) = false
-begins_end (a ∷ b ∷ c ∷ rest) = a == 42 && b == 42 && c == 125
+abbrev pub begins_annex_end : List ℕ → Bool
+begins_annex_end [] = false
+begins_annex_end (a ∷ []) = false
+begins_annex_end (a ∷ b ∷ []) = false
+begins_annex_end (a ∷ b ∷ c ∷ rest) = a == 42 && b == 42 && c == 125
 
 -- The bytes of a token have its text, where they are one.
 abbrev pub HasTokenText : Option TokenKind → List ℕ → Type 0

@@ -56,13 +56,13 @@ pub record IsPlain (annexes : Bool) (at : ℕ) (piece : Piece) (rest : List ℕ)
 -- From byte `at` on, where the tokens `before` stand before it, these pieces stand one after another, each by the rule, and `rest` follows them.
 -- The rule of a piece speaks of the tokens before it, its place, the piece, and what follows it.
 abbrev pub AreCut : (List Token → ℕ → Piece → List ℕ → Type 0) → List Token → ℕ → List Piece → List ℕ → Type 0
-AreCut Rule before at [] rest = Unit {0}
-AreCut Rule before at (piece ∷ pieces) rest = Rule before at piece (flat_map (λ p. p.bytes) pieces ++ rest) × AreCut Rule (before ++ piece.tokens) (at + length piece.bytes) pieces rest
+AreCut PieceRule before at [] rest = Unit {0}
+AreCut PieceRule before at (piece ∷ pieces) rest = PieceRule before at piece (flat_map (λ p. p.bytes) pieces ++ rest) × AreCut PieceRule (before ++ piece.tokens) (at + length piece.bytes) pieces rest
 
 -- A front of the text, all but `rest`, is cut by the rule into pieces which give these tokens; the text begins at byte `at`.
-pub record IsRead (Rule : List Token → ℕ → Piece → List ℕ → Type 0) (at : ℕ) (text : List ℕ) (tokens : List Token) (rest : List ℕ) : Type 0 where
+pub record IsRead (PieceRule : List Token → ℕ → Piece → List ℕ → Type 0) (at : ℕ) (text : List ℕ) (tokens : List Token) (rest : List ℕ) : Type 0 where
   pub pieces : List Piece
-  pub cut : AreCut Rule [] at pieces rest
+  pub cut : AreCut PieceRule [] at pieces rest
   pub whole : text ≡ flat_map (λ p. p.bytes) pieces ++ rest
   pub given : tokens ≡ flat_map (λ p. p.tokens) pieces
 
@@ -136,10 +136,10 @@ IsStuck annexes code text = ((code ≡ BadByte) × IsBadByte annexes text) ⊎ (
 
 -- A front of the text is cut into pieces, and where they end the text cannot go on, for this reason at this byte.
 -- What it means that a text cannot go on speaks of the tokens before it, its place, the text, the reason and the byte.
-pub record Stops (Rule : List Token → ℕ → Piece → List ℕ → Type 0) (Stuck : List Token → ℕ → List ℕ → Code → ℕ → Type 0) (at : ℕ) (text : List ℕ) (code : Code) (place : ℕ) : Type 0 where
+pub record StopsReading (PieceRule : List Token → ℕ → Piece → List ℕ → Type 0) (Stuck : List Token → ℕ → List ℕ → Code → ℕ → Type 0) (at : ℕ) (text : List ℕ) (code : Code) (place : ℕ) : Type 0 where
   pub pieces : List Piece
   pub rest : List ℕ
-  pub cut : AreCut Rule [] at pieces rest
+  pub cut : AreCut PieceRule [] at pieces rest
   pub whole : text ≡ flat_map (λ p. p.bytes) pieces ++ rest
   pub stuck : Stuck (flat_map (λ p. p.tokens) pieces) (at + length (flat_map (λ p. p.bytes) pieces)) rest code place
 
@@ -154,7 +154,7 @@ pub record StopsInside (before : List Token) (at : ℕ) (text : List ℕ) (code 
   pub whole : text ≡ annex_begin ++ (body ++ (annex_end ++ rest))
   pub ended : IsFirstEnd body rest
   pub after : AfterEmv2 before
-  pub stops : Stops InAnnex StuckInAnnex (at + 3) body code place
+  pub stops : StopsReading InAnnex StuckInAnnex (at + 3) body code place
 
 -- core text cannot go on
 abbrev pub StuckInCore : List Token → ℕ → List ℕ → Code → ℕ → Type 0
@@ -162,7 +162,7 @@ StuckInCore before at text code place = (IsStuck true code text × (place ≡ at
 
 -- the file's bytes have no tokens, for this reason at this byte
 abbrev pub IsFault : List ℕ → Code → ℕ → Type 0
-IsFault bytes code place = Stops InCore StuckInCore 0 bytes code place
+IsFault bytes code place = StopsReading InCore StuckInCore 0 bytes code place
 
 -- What is answered in place of a value: want of memory at any time, and a refusal, with no limit, only of a fault at its byte of this file.
 abbrev pub RefusedAs : ℕ → (Code → ℕ → Type 0) → Stop → Type 0

@@ -1,7 +1,7 @@
 //! Classes of bytes.
 
 ghost use Rattle.std.specs.Prelude.{◌≡◌};
-ghost use Rattle.aadl_syntax.specs.Form.{is_blank, is_letter, is_digit, is_letter_or_digit, is_hexadecimal, is_sign};
+ghost use Rattle.aadl_syntax.specs.Form.{is_blank, is_letter, is_digit, is_letter_or_digit, is_hexadecimal, is_sign_byte};
 
 /// Whether a byte is a tab, a line feed, a carriage return or a space.
 pub fn is_blank(b: u8) -> bool
@@ -39,8 +39,8 @@ pub fn is_hexadecimal(b: u8) -> bool
 }
 
 /// Whether a byte is a sign by itself.
-pub fn is_sign(b: u8) -> bool
-    ensures { result ≡ is_sign b }
+pub fn is_sign_byte(b: u8) -> bool
+    ensures { result ≡ is_sign_byte b }
 {
     match b {
         b';' | b':' | b',' | b'.' | b'(' | b')' | b'[' | b']' | b'{' | b'}' | b'-' | b'+' | b'*' =>

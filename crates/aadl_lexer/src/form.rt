@@ -6,7 +6,9 @@ ghost use Rattle.std.specs.List.{prefix_len};
 ghost use Rattle.aadl_lexer.specs.Scan.{after_one, line_len, word_rest_len, text_rest_len, digits_len, fraction_len, signed_len, exponent_len, decimals_len, closed_len, based_len, tail_len, number_len, sign_len, is_pair, is_triple, begins_comment, begins_annex, IsOther, IsFront};
 ghost use Rattle.aadl_lexer.specs.Tokens.{IsStuck};
 
-use crate::byte::{is_blank, is_digit, is_hexadecimal, is_letter, is_letter_or_digit, is_sign};
+use crate::byte::{
+    is_blank, is_digit, is_hexadecimal, is_letter, is_letter_or_digit, is_sign_byte,
+};
 use aadl_syntax::{Code, TokenKind};
 
 /// What stands at the front of a text: a token of a kind, or, at `None`, a blank or a comment; and how long it is.
@@ -308,7 +310,7 @@ fn sign_len(text: &[u8]) -> usize
     match text {
         [a, b, c, ..] if is_triple(*a, *b, *c) => 3,
         [a, b, ..] if is_pair(*a, *b) => 2,
-        [a, ..] if is_sign(*a) => 1,
+        [a, ..] if is_sign_byte(*a) => 1,
         _ => 0,
     }
 }

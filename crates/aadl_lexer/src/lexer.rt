@@ -1,13 +1,13 @@
 //! The tokens of a whole file.
 
 ghost use Rattle.std.specs.Prelude.{◌≡◌, ℕ, List, ◌<◌, ◌≤◌, ◌+◌, ◌++◌, ◌∷◌, [], ◌↔◌, length, take, true, false, IsTrue, IfOk, IfErr, IfSome, IfNone, OnOk, MatchResult};
-ghost use Rattle.aadl_lexer.specs.Tokens.{Tokens, IsFault, RefusedAs, InCore, InAnnex, StuckInCore, StuckInAnnex, IsPlain, IsAnnex, Stops, StopsInside, AfterEmv2, IsStuck, tokens_of, annex_begin, annex_end};
+ghost use Rattle.aadl_lexer.specs.Tokens.{Tokens, IsFault, RefusedAs, InCore, InAnnex, StuckInCore, StuckInAnnex, IsPlain, IsAnnex, StopsReading, StopsInside, AfterEmv2, IsStuck, tokens_of, annex_begin, annex_end};
 ghost use Rattle.aadl_syntax.specs.declared.token.Token.{Token};
 ghost use Rattle.aadl_syntax.specs.declared.refusal.Stop.TheVariants.{Refused, Memory};
 ghost use Rattle.aadl_syntax.specs.declared.refusal.Place.TheVariants.{At};
 ghost use Rattle.aadl_lexer.specs.Scan.{IsFront};
 ghost use Rattle.aadl_syntax.specs.Token.{IsTokenText, text_of, token_of};
-ghost use Rattle.aadl_lexer.specs.Steps.{Takes, TakesAll, TakesBody, EndsAt, StuckAt, HasTokenText, begins_end};
+ghost use Rattle.aadl_lexer.specs.Steps.{Takes, TakesAll, TakesBody, EndsAt, StuckAt, HasTokenText, begins_annex_end};
 
 use crate::form::{Front, front_of};
 use aadl_syntax::{Answer, Code, Place, Refusal, Stop, TokenKind, TokenList, is_same};
@@ -75,7 +75,7 @@ fn annex(file: u32, at: usize, text: &[u8], list: &mut TokenList) -> Answer<usiz
 fn annex_body(file: u32, at: usize, body: &[u8], is_emv2: bool, list: &mut TokenList) -> Answer<()>
     requires { at + length body.now ≤ 4194304 }
     ensures ok { OnOk result (TakesBody is_emv2 at body.now list.old list.new) }
-    ensures err { IfErr result (λ stop. RefusedAs file (λ code place. IsTrue is_emv2 × Stops InAnnex StuckInAnnex at body.now code place) stop) }
+    ensures err { IfErr result (λ stop. RefusedAs file (λ code place. IsTrue is_emv2 × StopsReading InAnnex StuckInAnnex at body.now code place) stop) }
 {
     if is_emv2 {
         annex_tokens(file, at, body, list)
@@ -88,7 +88,7 @@ fn annex_body(file: u32, at: usize, body: &[u8], is_emv2: bool, list: &mut Token
 fn annex_tokens(file: u32, at: usize, text: &[u8], list: &mut TokenList) -> Answer<()>
     requires { at + length text.now ≤ 4194304 }
     ensures ok { OnOk result (TakesAll InAnnex at text.now list.old list.new) }
-    ensures err { IfErr result (λ stop. RefusedAs file (Stops InAnnex StuckInAnnex at text.now) stop) }
+    ensures err { IfErr result (λ stop. RefusedAs file (StopsReading InAnnex StuckInAnnex at text.now) stop) }
 {
     let mut done = 0;
     while done < text.len() {
@@ -155,15 +155,15 @@ fn end_of(text: &[u8]) -> Option<usize>
     ensures none { IfNone result ((front back : List ℕ) → text.now ≡ front ++ (annex_end ++ back) → ⊥) }
 {
     for at in 0..text.len() {
-        if begins_end(&text[at..]) {
+        if begins_annex_end(&text[at..]) {
             return Some(at);
         }
     }
     None
 }
 
-fn begins_end(text: &[u8]) -> bool
-    ensures { result ≡ begins_end text.now }
+fn begins_annex_end(text: &[u8]) -> bool
+    ensures { result ≡ begins_annex_end text.now }
 {
     match text {
         [a, b, c, ..] => *a == b'*' && *b == b'*' && *c == b'}',

@@ -1,4 +1,3 @@
 mod Depths
 mod Joined
-mod Stops
 mod TwoNames

@@ -3,8 +3,7 @@ use Rattle.std.specs.Prelude.{ℕ, true, false, List, [], ◌∷◌, Option, Som
 use Rattle.aadl_syntax.specs.declared.place.Spot.{Spot}
 use Rattle.aadl_syntax.specs.declared.core_model.Alias.{Alias}
 use Rattle.grammar_rules.specs.Rules.{Rule, gives, chooses, ◌>>=◌}
-use Rattle.grammar_rules.specs.Tokens.{word, sign, is_word}
-use Rattle.emv2_parser.specs.Names.{spot}
+use Rattle.grammar_rules.specs.Tokens.{spot, word, sign, is_word}
 use Rattle.aadl_parser.specs.Words.{is_name}
 use Rattle.aadl_parser.specs.Names.{core_name, names, two_names, last_name, category}
 

@@ -5,8 +5,7 @@ use Rattle.aadl_syntax.specs.declared.core_model.Decl.{Decl}
 use Rattle.aadl_parser.specs.declared.names.Classifier.{Classifier}
 use Rattle.grammar_rules.specs.Rules.{Rule, gives, chooses, gathers, ◌>>=◌}
 use Rattle.grammar_rules.specs.Spans.{until, ends_to_end}
-use Rattle.grammar_rules.specs.Tokens.{word, sign, is_word, is_sign, is_one_of}
-use Rattle.emv2_parser.specs.Names.{spot}
+use Rattle.grammar_rules.specs.Tokens.{spot, word, sign, is_word, is_sign, is_one_of}
 use Rattle.aadl_parser.specs.Words.{section_words, skipped_words, inner_words, ending_words, any_of}
 use Rattle.aadl_parser.specs.Names.{core_name, dotted_name, reference, category}
 use Rattle.aadl_parser.specs.Runs.{past, bindings}

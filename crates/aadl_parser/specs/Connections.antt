@@ -8,9 +8,8 @@ use Rattle.aadl_syntax.specs.declared.core_model.ConnectionKind.TheVariants.{Pla
 use Rattle.aadl_syntax.specs.declared.core_model.Ends.{Ends}
 use Rattle.grammar_rules.specs.Rules.{Rule, gives, chooses, ◌>>=◌}
 use Rattle.grammar_rules.specs.Parts.{parts_after}
-use Rattle.grammar_rules.specs.Tokens.{word, sign, one_of, is_word, is_sign, is_one_of}
-use Rattle.emv2_parser.specs.Names.{spot}
-use Rattle.aadl_parser.specs.Runs.{tail_end}
+use Rattle.grammar_rules.specs.Tokens.{spot, word, sign, one_of, is_word, is_sign, is_one_of}
+use Rattle.grammar_rules.specs.Spans.{tail_end}
 use Rattle.aadl_parser.specs.Words.{is_name, begins_end, processor_words}
 use Rattle.aadl_parser.specs.Names.{core_name, dotted_name}
 use Rattle.aadl_parser.specs.Features.{refinement, accessed}

@@ -5,8 +5,7 @@ use Rattle.aadl_syntax.specs.declared.core_model.FeatureKind.{FeatureKind}
 use Rattle.aadl_syntax.specs.declared.core_model.FeatureKind.TheVariants.{Inward, Outward, Both, Access, Group}
 use Rattle.grammar_rules.specs.Rules.{Rule, gives, chooses, ◌>>=◌}
 use Rattle.grammar_rules.specs.Parts.{parts_after}
-use Rattle.grammar_rules.specs.Tokens.{word, sign, is_word, is_one_of}
-use Rattle.emv2_parser.specs.Names.{spot}
+use Rattle.grammar_rules.specs.Tokens.{spot, word, sign, is_word, is_one_of}
 use Rattle.aadl_parser.specs.Words.{is_name, direction_words, optional_word, either_word}
 use Rattle.aadl_parser.specs.Names.{core_name}
 use Rattle.aadl_parser.specs.Runs.{array_tail}

@@ -7,7 +7,7 @@ use Rattle.aadl_syntax.specs.declared.refusal.Code.TheVariants.{TooNested}
 use Rattle.aadl_syntax.specs.declared.refusal.Place.TheVariants.{At}
 use Rattle.aadl_syntax.specs.declared.refusal.Refusal.{Refusal}
 use Rattle.grammar_rules.specs.Rules.{Dead}
-use Rattle.emv2_parser.specs.Grammar.{place_of, syntax_error}
+use Rattle.grammar_rules.specs.Texts.{syntax_error, token_place}
 use Rattle.aadl_parser.specs.Packages.{file_units}
 use Rattle.aadl_parser.specs.Nesting.{nesting_limit, IsShallow, NestedAt}
 
@@ -17,12 +17,12 @@ too_nested file at = record { code = TooNested; place = At file at; limit = nest
 
 -- The refusal is that of the first bracket at which too many are open.
 abbrev pub IsTooNested : ℕ → List Token → ℕ → Refusal → Type 0
-IsTooNested file tokens end refusal = (number : ℕ) × NestedAt tokens number × (refusal ≡ too_nested file (place_of tokens end number))
+IsTooNested file tokens end refusal = (number : ℕ) × NestedAt tokens number × (refusal ≡ too_nested file (token_place tokens end number))
 
 -- Nowhere are too many brackets open, and the refusal is that of a dead place: no tokens with the same up to and with it have a
 -- reading. A place is that of a token, or the end of the file.
 abbrev pub IsSyntaxError : ℕ → List Token → ℕ → Refusal → Type 0
-IsSyntaxError file tokens end refusal = IsShallow tokens × (number : ℕ) × (refusal ≡ syntax_error file (place_of tokens end number)) × Dead file file_units tokens number
+IsSyntaxError file tokens end refusal = IsShallow tokens × (number : ℕ) × (refusal ≡ syntax_error file (token_place tokens end number)) × Dead file file_units tokens number
 
 -- The stop is want of memory, or the refusal of a file that is nested too deep, or of one that has no reading.
 abbrev pub StopsAt : ℕ → List Token → ℕ → Stop → Type 0

@@ -3,8 +3,7 @@ use Rattle.std.specs.Prelude.{ℕ, ◌-◌, List, [], ◌∷◌, length, Option,
 use Rattle.aadl_syntax.specs.declared.place.Ref.{Ref}
 use Rattle.grammar_rules.specs.Rules.{Rule, gives, chooses, ◌>>=◌}
 use Rattle.grammar_rules.specs.Parts.{parts_after}
-use Rattle.grammar_rules.specs.Tokens.{word, sign, identifier, is_sign, is_word}
-use Rattle.emv2_parser.specs.Names.{spot}
+use Rattle.grammar_rules.specs.Tokens.{spot, word, sign, identifier, is_sign, is_word}
 use Rattle.aadl_parser.specs.Words.{core_words, category_words, is_name, any_of, optional_word, either_word}
 
 -- ID

@@ -8,8 +8,7 @@ use Rattle.aadl_syntax.specs.declared.core_model.Unit.TheVariants as file_unit
 use Rattle.grammar_rules.specs.Rules.{Rule, gives, chooses, gathers, ◌>>=◌}
 use Rattle.grammar_rules.specs.Parts.{parts_after}
 use Rattle.grammar_rules.specs.Spans.{until, ends_to_end}
-use Rattle.grammar_rules.specs.Tokens.{word, sign, is_word, is_one_of}
-use Rattle.emv2_parser.specs.Names.{spot}
+use Rattle.grammar_rules.specs.Tokens.{spot, word, sign, is_word, is_one_of}
 use Rattle.aadl_parser.specs.Words.{unit_words, is_name, begins_declaration}
 use Rattle.aadl_parser.specs.Names.{core_name, names, with_packages}
 use Rattle.aadl_parser.specs.Runs.{past}

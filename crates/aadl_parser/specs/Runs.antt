@@ -3,16 +3,9 @@ use Rattle.std.specs.Prelude.{Bool, true, ◌&&◌, ◌||◌, [], ◌∷◌, Opt
 use Rattle.aadl_syntax.specs.declared.token.Token.{Token}
 use Rattle.aadl_syntax.specs.declared.place.Spot.{Spot}
 use Rattle.grammar_rules.specs.Rules.{Rule, gives, chooses, ◌>>=◌}
-use Rattle.grammar_rules.specs.Spans.{until, closes, ends_balanced, ends_tail}
-use Rattle.grammar_rules.specs.Tokens.{word, sign, is_word, is_sign, is_one_of}
-use Rattle.emv2_parser.specs.Names.{spot}
+use Rattle.grammar_rules.specs.Spans.{until, closes, ends_balanced, tail_end}
+use Rattle.grammar_rules.specs.Tokens.{spot, word, sign, is_word, is_sign, is_one_of}
 use Rattle.aadl_parser.specs.Words.{ending_words}
-
--- tail ";"
-unfoldable pub tail_end : Rule (Unit {0})
-tail_end = do
-  _ ← until ends_tail
-  sign (codes ";")
 
 -- whether an item can begin behind this token: the run's first does, and what stands right after a semicolon
 abbrev pub begins_item : Option Token → Bool

@@ -5,8 +5,7 @@ use Rattle.aadl_syntax.specs.declared.core_model.Subcomponent.{Subcomponent}
 use Rattle.aadl_parser.specs.declared.names.Classifier.{Classifier}
 use Rattle.grammar_rules.specs.Rules.{Rule, gives, chooses, ◌>>=◌}
 use Rattle.grammar_rules.specs.Parts.{parts_after}
-use Rattle.grammar_rules.specs.Tokens.{word, sign, is_word}
-use Rattle.emv2_parser.specs.Names.{spot}
+use Rattle.grammar_rules.specs.Tokens.{spot, word, sign, is_word}
 use Rattle.aadl_parser.specs.Words.{is_name}
 use Rattle.aadl_parser.specs.Names.{core_name, reference, category}
 use Rattle.aadl_parser.specs.Runs.{array_tail, bindings_place}

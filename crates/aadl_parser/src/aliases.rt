@@ -5,8 +5,7 @@ ghost use Rattle.aadl_parser.specs.Aliases.{package_alias, group_alias, classifi
 use crate::names::{category, last_name, names, two_names};
 use crate::words::{core_name, name_at};
 use aadl_syntax::{Alias, Identifier, Spot};
-use emv2_parser::spot;
-use grammar_rules::{ReadError, Reader};
+use grammar_rules::{ReadError, Reader, spot};
 
 #[tactic(auto, unfolding(crate::specs::Aliases::package_alias))]
 fn package_alias(

@@ -13,8 +13,7 @@ use crate::runs::{bindings, past};
 use crate::subcomponents::subcomponents_after;
 use crate::words::{core_name, ending_at, inner_at, inner_word, section_at, skipped_word};
 use aadl_syntax::{Decl, Identifier, List, Spot};
-use emv2_parser::spot;
-use grammar_rules::{Gathered, ReadError, Reader, ToEnd};
+use grammar_rules::{Gathered, ReadError, Reader, ToEnd, spot};
 use std::alloc::Global;
 
 #[tactic(auto, unfolding(crate::specs::Classifiers::features_section))]

@@ -7,8 +7,7 @@ ghost use Rattle.aadl_parser.specs.Takes.{feature-takes};
 use crate::runs::array_tail;
 use crate::words::{core_name, direction_at, either_word, name_at, optional_word};
 use aadl_syntax::{Feature, FeatureKind, List};
-use emv2_parser::spot;
-use grammar_rules::{Parts, ReadError, Reader};
+use grammar_rules::{Parts, ReadError, Reader, spot};
 
 /// Reads `refined to`, where it stands, and says whether it does.
 #[tactic(auto, unfolding(crate::specs::Features::refinement))]

@@ -7,8 +7,7 @@ ghost use Rattle.aadl_parser.specs.Takes.{further_name-takes, further_names-take
 
 use crate::words::{category_word, core_name, either_word, name_at, optional_word};
 use aadl_syntax::{Identifier, List, Mem, Ref, Spot};
-use emv2_parser::spot;
-use grammar_rules::{Parts, ReadError, Reader};
+use grammar_rules::{Parts, ReadError, Reader, spot};
 use std::alloc::Global;
 
 /// The name of a classifier, where one is written, and the `(` of bindings of prototypes after it, where they stand.

@@ -12,8 +12,7 @@ use crate::names::{names, with_packages};
 use crate::runs::past;
 use crate::words::{core_name, declaration_at, name_at, unit_at};
 use aadl_syntax::{Alias, Emv2Library, Identifier, List, Mem, PackageUnit, Spot, Unit};
-use emv2_parser::spot;
-use grammar_rules::{Gathered, Parts, ReadError, Reader, ToEnd};
+use grammar_rules::{Gathered, Parts, ReadError, Reader, ToEnd, spot};
 use std::alloc::Global;
 
 fn with_alias(aliases: &mut List<Alias>, alias: Option<Alias>) -> Mem<()>

@@ -2,12 +2,11 @@ ghost use Rattle.std.specs.Prelude.{◌≡◌, ◌∷◌, [], ◌||◌, codes};
 ghost use Rattle.std.specs.Option.{option_map};
 ghost use Rattle.aadl_syntax.specs.Token.{shown};
 ghost use Rattle.grammar_rules.specs.Reader.{Gives};
-ghost use Rattle.aadl_parser.specs.Runs.{begins_item, tail_end, past, array_place, array_tail, bindings_place, parenthesised, bindings, in_modes};
+ghost use Rattle.aadl_parser.specs.Runs.{begins_item, past, array_place, array_tail, bindings_place, parenthesised, bindings, in_modes};
 
 use crate::words::is_ending;
 use aadl_syntax::{Spot, TokenRef};
-use emv2_parser::spot;
-use grammar_rules::{Balanced, ReadError, Reader, Span, Tail, closes, is_sign};
+use grammar_rules::{Balanced, ReadError, Reader, Span, closes, is_sign, spot, tail_end};
 
 // The tokens of a section that are read past.
 struct SkippedTokens;
@@ -44,15 +43,6 @@ impl Span for Front {
     fn stops_at(_before: Option<TokenRef>, token: &TokenRef) -> bool {
         closes(token) || is_sign(token, b";") || is_sign(token, b"[")
     }
-}
-
-/// Goes past the rest of an item, up to its semicolon.
-#[tactic(auto, unfolding(crate::specs::Runs::tail_end))]
-pub(crate) fn tail_end(reader: &mut Reader) -> Result<(), ReadError>
-    ensures { Gives result tail_end reader.old reader.new }
-{
-    reader.until::<Tail>()?;
-    reader.sign(b";")
 }
 
 /// Goes past the rest of a section.

@@ -9,8 +9,7 @@ use crate::names::{Classifier, category, reference};
 use crate::runs::{array_tail, bindings_place};
 use crate::words::{core_name, name_at};
 use aadl_syntax::{Identifier, List, Spot, Subcomponent};
-use emv2_parser::spot;
-use grammar_rules::{Parts, ReadError, Reader};
+use grammar_rules::{Parts, ReadError, Reader, spot};
 
 #[tactic(auto, unfolding(crate::specs::Subcomponents::optional_classifier))]
 fn optional_classifier(reader: &mut Reader) -> Result<Classifier, ReadError>

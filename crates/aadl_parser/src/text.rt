@@ -4,19 +4,30 @@ ghost use Rattle.std.specs.Prelude.{◌≡◌, ℕ, List as Items, [], Err, IfOk
 ghost use Rattle.aadl_syntax.specs.declared.token.Token.{Token};
 ghost use Rattle.aadl_syntax.specs.declared.core_model.Unit.{Unit as FileUnit};
 ghost use Rattle.aadl_syntax.specs.declared.refusal.Stop.TheVariants.{Refused, Memory};
-ghost use Rattle.grammar_rules.specs.Reader.{Gives};
-ghost use Rattle.grammar_rules.specs.Rules.{Reads, joins, ends, gives};
-ghost use Rattle.emv2_parser.specs.Grammar.{place_of, StopsAt as DeadAt};
+ghost use Rattle.grammar_rules.specs.Rules.{Reads};
+ghost use Rattle.grammar_rules.specs.Texts.{token_place};
 ghost use Rattle.aadl_parser.specs.Packages.{file_units};
 ghost use Rattle.aadl_parser.specs.Nesting.{IsShallow, NestedAt};
 ghost use Rattle.aadl_parser.specs.Files.{too_nested, StopsAt};
 
-use crate::nesting::too_nested_at;
+use crate::nesting::{NESTING_LIMIT, too_nested_at};
 use crate::packages::file_units;
 use aadl_syntax::{Answer, Code, List, Place, Refusal, Stop, TokenList, Unit};
-use emv2_parser::syntax_error;
-use grammar_rules::{ReadError, Reader};
+use grammar_rules::{Grammar, ReadError, Reader, read_text, token_place};
 use std::alloc::Global;
+
+// The grammar of a file.
+struct FileUnits;
+
+impl Grammar for FileUnits {
+    type Value = List<Unit>;
+
+    ghost rule = { file_units };
+
+    fn read(reader: &mut Reader) -> Result<List<Unit>, ReadError> {
+        file_units(reader)
+    }
+}
 
 /// Reads a file: its packages and property sets, in order. `tokens` are all its tokens, those of its error model annexes
 /// with the rest; files are numbered from 0, and `end` is the length of the file, in bytes.
@@ -31,7 +42,7 @@ pub fn units(alloc: Global, file: u32, tokens: &TokenList, end: u32) -> Answer<L
     ensures only { IsShallow tokens.now → (value : _) → Reads file file_units tokens.now value [] → MatchResult result (λ answer. answer ≡ value) (λ stop. stop ≡ Memory) }
 
     // Too many open brackets are refused at the first at which they are too many, whatever else is wrong in the file.
-    ensures nested { (number : ℕ) → NestedAt tokens.now number → result ≡ Err (Refused (too_nested file (place_of tokens.now end number))) }
+    ensures nested { (number : ℕ) → NestedAt tokens.now number → result ≡ Err (Refused (too_nested file (token_place tokens.now end number))) }
 
     // A refusal names that bracket, or else a token, or the end, such that no tokens with the same up to and with it have a reading.
     ensures dead { IfErr result (λ stop. StopsAt file tokens.now end stop) }
@@ -39,44 +50,19 @@ pub fn units(alloc: Global, file: u32, tokens: &TokenList, end: u32) -> Answer<L
     if let Some(number) = too_nested_at(tokens) {
         return Err(nesting_error(file, tokens, end, number));
     }
-    shallow_units(alloc, file, tokens, end)
-}
-
-/// Reads a file, however many brackets are open in it.
-fn shallow_units(alloc: Global, file: u32, tokens: &TokenList, end: u32) -> Answer<List<Unit>>
-    ensures found { IfOk result (λ value. Reads file file_units tokens.now value []) }
-    ensures only { (value : _) → Reads file file_units tokens.now value [] → MatchResult result (λ answer. answer ≡ value) (λ stop. stop ≡ Memory) }
-    ensures dead { IfErr result (λ stop. DeadAt file file_units tokens.now end stop) }
-{
-    let mut reader = Reader::new(alloc, file, tokens);
-    match whole_file(&mut reader) {
-        Ok(units) => Ok(units),
-        Err(ReadError::Memory) => Err(Stop::Memory),
-        Err(ReadError::Refused) => Err(syntax_error(file, tokens, end, reader.unseen())),
-    }
-}
-
-fn whole_file(reader: &mut Reader) -> Result<List<Unit>, ReadError>
-    ensures { Gives result (joins file_units (λ value. joins ends (λ _. gives value))) reader.old reader.new }
-{
-    let units = file_units(reader)?;
-    reader.end()?;
-    Ok(units)
+    read_text::<FileUnits>(alloc, file, tokens, end)
 }
 
 /// The refusal of the bracket of this number, at which too many are open.
 fn nesting_error(file: u32, tokens: &TokenList, end: u32, number: usize) -> Stop
-    ensures { result ≡ Refused (too_nested file (place_of tokens.now end number)) }
+    ensures { result ≡ Refused (too_nested file (token_place tokens.now end number)) }
 {
-    let at = match tokens.get(number) {
-        Some(token) => token.start,
-        None => end,
-    };
+    let at = token_place(tokens, end, number);
     let place = Place::At { file, at };
     Stop::Refused(Refusal {
         code: Code::TooNested,
         place,
-        limit: 64,
+        limit: NESTING_LIMIT as u64,
     })
 }
 

@@ -2,3 +2,4 @@ pub mod Occurrences
 pub mod Adding
 pub mod Reached
 pub mod Rising
+pub mod OneSlice

@@ -54,19 +54,31 @@ pub record IsSlice (system : System) (target : ℕ) (slice : Slice) : Type 0 whe
   pub facts_rise : RisesWithin 0 (length system.facts) slice.facts
   pub events_rise : RisesWithin 0 (length system.events) slice.events
 
--- a slice that is served: at most 16,384 facts and 1,024 events
+-- the greatest number of facts of a slice
+abbrev pub most_slice_facts : ℕ
+most_slice_facts = 16384
+
+-- the greatest number of events of a slice
+abbrev pub most_slice_events : ℕ
+most_slice_events = 1024
+
+-- a slice that is served: it has not too many facts and not too many events
 pub record IsServed (system : System) (target : ℕ) (slice : Slice) : Type 0 where
   pub is_slice : IsSlice system target slice
-  pub few_facts : length slice.facts ≤ 16384
-  pub few_events : length slice.events ≤ 1024
+  pub few_facts : length slice.facts ≤ most_slice_facts
+  pub few_events : length slice.events ≤ most_slice_events
 
--- the refusal that is due for a slice: too many facts come before too many events
-abbrev pub IsDue : Slice → Refusal → Type 0
-IsDue slice refusal =
-    ((16384 < length slice.facts) × (refusal ≡ record { code = SliceTooLarge; place = Words; limit = 16384 }))
-    ⊎ ((length slice.facts ≤ 16384) × (1024 < length slice.events) × (refusal ≡ record { code = TooManySliceEvents; place = Words; limit = 1024 }))
+-- M10, M11: the slice has too many facts, or else too many events, and this is the refusal
+abbrev pub IsTooLarge : Slice → Refusal → Type 0
+IsTooLarge slice refusal =
+    ((most_slice_facts < length slice.facts) × (refusal ≡ record { code = SliceTooLarge; place = Words; limit = most_slice_facts }))
+    ⊎ ((length slice.facts ≤ most_slice_facts) × (most_slice_events < length slice.events) × (refusal ≡ record { code = TooManySliceEvents; place = Words; limit = most_slice_events }))
+
+-- the slice of the target is too large, and this is the refusal
+abbrev pub HasLargeSlice : System → ℕ → Refusal → Type 0
+HasLargeSlice system target refusal = (slice : Slice) × IsSlice system target slice × IsTooLarge slice refusal
 
 -- a slice is refused as its size says; want of memory says nothing
 abbrev pub IsRefused : System → ℕ → Stop → Type 0
 IsRefused system target Memory = Unit {0}
-IsRefused system target (Refused refusal) = (slice : Slice) × IsSlice system target slice × IsDue slice refusal
+IsRefused system target (Refused refusal) = HasLargeSlice system target refusal

@@ -10,6 +10,12 @@ use aadl_syntax::{Answer, Code, List, Mem, Place, Refusal, Stop};
 use fault_system::{Bits, FaultSystem};
 use std::alloc::Global;
 
+/// The greatest number of facts of a slice.
+const MOST_SLICE_FACTS: usize = 16_384;
+
+/// The greatest number of events of a slice.
+const MOST_SLICE_EVENTS: usize = 1_024;
+
 /// The slice of a target, in a time that goes with the formulas that it reaches.
 ///
 /// It is refused as too large where it has over 16,384 facts, and else where it has over 1,024 events.
@@ -18,11 +24,11 @@ pub fn slice(alloc: Global, system: &FaultSystem, target: u32) -> Answer<Slice>
     ensures { MatchResult result (IsServed system.now target) (IsRefused system.now target) }
 {
     let found = whole_slice(alloc, system, target)?;
-    if found.facts.items().len() > 16384 {
-        return Err(Stop::Refused(of_words(Code::SliceTooLarge, 16384)));
+    if found.facts.items().len() > MOST_SLICE_FACTS {
+        return Err(Stop::Refused(of_words(Code::SliceTooLarge, MOST_SLICE_FACTS as u64)));
     }
-    if found.events.items().len() > 1024 {
-        return Err(Stop::Refused(of_words(Code::TooManySliceEvents, 1024)));
+    if found.events.items().len() > MOST_SLICE_EVENTS {
+        return Err(Stop::Refused(of_words(Code::TooManySliceEvents, MOST_SLICE_EVENTS as u64)));
     }
     Ok(found)
 }

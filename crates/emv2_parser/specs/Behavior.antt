@@ -16,7 +16,9 @@ use Rattle.emv2_parser.specs.declared.behavior.OutgoingEffect.{OutgoingEffect}
 use Rattle.emv2_parser.specs.declared.behavior.CompositeRule.{CompositeRule}
 use Rattle.emv2_parser.specs.declared.behavior.PathEnds.{PathEnds}
 use Rattle.emv2_parser.specs.Words.{is_name, point_words, begins_source, begins_composite, begins_transitions, begins_propagations, component_words}
-use Rattle.emv2_parser.specs.Names.{error_name, spot, point_word, dotted_names, flow_end, state_reference, label, tail_end, block_end, condition_open, condition_close}
+use Rattle.grammar_rules.specs.Tokens.{spot}
+use Rattle.grammar_rules.specs.Spans.{tail_end_inside}
+use Rattle.emv2_parser.specs.Names.{error_name, point_word, dotted_names, flow_end, state_reference, label, block_end, condition_open, condition_close}
 use Rattle.emv2_parser.specs.Conditions.{whole_condition}
 use Rattle.emv2_parser.specs.Machines.{source, use_transformations, events_after, transitions_after}
 
@@ -43,7 +45,7 @@ unfoldable pub outgoing_effect : Rule OutgoingEffect
 outgoing_effect = do
   condition ← outgoing_condition
   its_end ← flow_end
-  _ ← tail_end
+  _ ← tail_end_inside
   gives (record { condition = condition; point = its_end.point; set = its_end.set })
 
 -- outg = [ ID ":" ] source "-" "[" [ cond ] "]" "->" point [ tset ] tail ";"

@@ -7,7 +7,8 @@ use Rattle.grammar_rules.specs.Rules.{Rule, gives, refuses, chooses, ◌>>=◌}
 use Rattle.grammar_rules.specs.Parts.{parts_after}
 use Rattle.grammar_rules.specs.Tokens.{word, sign, is_word, is_sign}
 use Rattle.emv2_parser.specs.Words.{is_count, count}
-use Rattle.emv2_parser.specs.Names.{spot, point, optional_set}
+use Rattle.grammar_rules.specs.Tokens.{spot}
+use Rattle.emv2_parser.specs.Names.{point, optional_set}
 
 -- [ "in" ]
 unfoldable pub inward : Rule Bool

@@ -14,7 +14,8 @@ use Rattle.grammar_rules.specs.Rules.{Test, Rule, gives, gives_file, chooses, ga
 use Rattle.grammar_rules.specs.Spans.{until_inside, ends_to_end}
 use Rattle.grammar_rules.specs.Tokens.{word, sign, is_word, is_one_of}
 use Rattle.emv2_parser.specs.Words.{library_words, clause_words, begins_paths}
-use Rattle.emv2_parser.specs.Names.{error_name, names, spot, reference, use_types_after}
+use Rattle.grammar_rules.specs.Tokens.{spot}
+use Rattle.emv2_parser.specs.Names.{error_name, names, reference, use_types_after}
 use Rattle.emv2_parser.specs.Properties.{properties_after}
 use Rattle.emv2_parser.specs.Types.{types_block}
 use Rattle.emv2_parser.specs.Machines.{machine}
@@ -61,11 +62,8 @@ unfoldable pub library_block : Emv2Library → Rule Emv2Library
 library_block library = chooses (is_word (codes "error") ∷ is_word (codes "types") ∷ []) (library_types library)
     (chooses (is_word (codes "error") ∷ []) (library_machine library) (library_mapping library))
 
--- library = { "error" "types" .. | "error" "behavior" .. | "type" .. }
-unfoldable pub library : Rule Emv2Library
-library = gathers (is_one_of library_words ∷ []) library_block (record { blocks = []; machines = [] })
-
--- the library, with further blocks after those that were read before
+-- library = { "error" "types" .. | "error" "behavior" .. | "type" .. }: the library, with further blocks after those that were
+-- read before
 unfoldable pub library_after : Emv2Library → Rule Emv2Library
 library_after library = gathers (is_one_of library_words ∷ []) library_block library
 
@@ -137,17 +135,6 @@ unfoldable pub clause_part : Emv2Clause → Rule Emv2Clause
 clause_part clause = chooses (is_word (codes "use") ∷ []) (clause_use clause)
     (chooses (is_word (codes "error") ∷ []) (clause_propagations clause) (clause_behavior clause))
 
--- any token
-unfoldable pub is_token : Test
-is_token token = true
-
--- the place of the next token, or this one at the end of the tokens
-unfoldable pub spot_or : ℕ → Rule Spot
-spot_or end = chooses (is_token ∷ []) spot
-    (do
-      file ← gives_file
-      gives (record { file = file; at = end }))
-
 -- a clause at this place without parts
 abbrev pub empty_clause : Spot → Emv2Clause
 empty_clause at = record { spot = at; uses = []; machine = None; mappings = []; points = []; flows = []; events = []; transitions = []; outgoing = []; composites = []; connection_errors = []; user_points = []; user_paths = []; associations = [] }
@@ -157,30 +144,8 @@ unfoldable pub clause_parts : Emv2Clause → Rule Emv2Clause
 clause_parts clause = gathers (is_one_of clause_words ∷ []) clause_part clause
 
 -- clause = { "use" .. | "error" .. | "component" .. | "composite" .. | "connection" .. | "propagation" .. | "properties" .. },
--- in text that ends at this place
-unfoldable pub clause : ℕ → Rule Emv2Clause
-clause end = do
-  at ← spot_or end
-  clause_parts (empty_clause at)
-
--- clause, inside of other text
+-- inside of the text of a file
 unfoldable pub clause_inside : Rule Emv2Clause
 clause_inside = do
   at ← spot
   clause_parts (empty_clause at)
-
--- where the token of this number starts, or the place of the end
-abbrev pub place_of : List Token → ℕ → ℕ → ℕ
-place_of tokens end number = start (slice_get tokens number) where
-  start : Option Token → ℕ
-  start None = end
-  start (Some token) = token.start
-
--- the refusal of text of this file at this place
-abbrev pub syntax_error : ℕ → ℕ → Refusal
-syntax_error file at = record { code = Syntax; place = At file at; limit = 0 }
-
--- The stop is want of memory, or the refusal at a dead place: no text with the same tokens up to and with that place reads.
-abbrev pub StopsAt : {A : Type 0} → ℕ → Rule A → List Token → ℕ → Stop → Type 0
-StopsAt file rule tokens end Memory = Unit {0}
-StopsAt file rule tokens end (Refused refusal) = (number : ℕ) × (refusal ≡ syntax_error file (place_of tokens end number)) × Dead file rule tokens number

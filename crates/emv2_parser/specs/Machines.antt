@@ -18,7 +18,9 @@ use Rattle.emv2_parser.specs.declared.machines.EventWords.{EventWords}
 use Rattle.emv2_parser.specs.declared.machines.StateKind.{StateKind}
 use Rattle.emv2_parser.specs.declared.machines.TransitionEffect.{TransitionEffect}
 use Rattle.emv2_parser.specs.Words.{is_name, begins_source, machine_words}
-use Rattle.emv2_parser.specs.Names.{error_name, names, spot, use_types_after, optional_set, state_reference, label, tail_end, block_end, condition_open, condition_close}
+use Rattle.grammar_rules.specs.Tokens.{spot}
+use Rattle.grammar_rules.specs.Spans.{tail_end_inside}
+use Rattle.emv2_parser.specs.Names.{error_name, names, use_types_after, optional_set, state_reference, label, block_end, condition_open, condition_close}
 use Rattle.emv2_parser.specs.Properties.{properties_after}
 use Rattle.emv2_parser.specs.Conditions.{whole_condition}
 
@@ -28,7 +30,7 @@ error_event = do
   _ ← word (codes "error")
   _ ← word (codes "event")
   set ← optional_set
-  _ ← tail_end
+  _ ← tail_end_inside
   gives (record { kind = Error; set = set })
 
 -- "recover" | "repair"
@@ -46,7 +48,7 @@ unfoldable pub recovery_event : Rule EventWords
 recovery_event = do
   its_kind ← recovery_kind
   _ ← word (codes "event")
-  _ ← tail_end
+  _ ← tail_end_inside
   gives (record { kind = its_kind; set = None })
 
 -- "error" "event" [ tset ] tail ";" | ( "recover" | "repair" ) "event" tail ";"

@@ -7,23 +7,15 @@ use Rattle.aadl_syntax.specs.declared.error_model.Term.{Term}
 use Rattle.aadl_syntax.specs.declared.error_model.Term.TheVariants as term
 use Rattle.aadl_syntax.specs.declared.error_model.PointRef.{PointRef}
 use Rattle.aadl_syntax.specs.declared.error_model.StateRef.{StateRef}
-use Rattle.grammar_rules.specs.Rules.{Rule, gives, gives_file, chooses, ◌>>=◌}
+use Rattle.grammar_rules.specs.Rules.{Rule, gives, chooses, ◌>>=◌}
 use Rattle.grammar_rules.specs.Parts.{parts_after}
-use Rattle.grammar_rules.specs.Spans.{until_inside, ends_tail}
-use Rattle.grammar_rules.specs.Tokens.{word, sign, identifier, one_of, place, is_word, is_sign, is_one_of}
+use Rattle.grammar_rules.specs.Tokens.{spot, word, sign, identifier, one_of, is_word, is_sign, is_one_of}
 use Rattle.emv2_parser.specs.declared.names.FlowEnd.{FlowEnd}
 use Rattle.emv2_parser.specs.Words.{error_words, point_words, is_name}
 
 -- ID
 unfoldable pub error_name : Rule (List ℕ)
 error_name = identifier error_words
-
--- the place of the next token
-unfoldable pub spot : Rule Spot
-spot = do
-  file ← gives_file
-  at ← place
-  gives (record { file = file; at = at })
 
 -- "::" ID
 unfoldable pub further_name : Rule (List ℕ)
@@ -64,13 +56,6 @@ use_types_after uses = do
   all_uses ← references_after uses
   _ ← sign (codes ";")
   gives all_uses
-
--- tail ";"; the text of an annex is a text of its own: no run of it goes past its `**}`, whatever is open, and a bracket that is
--- open there makes the `**}` the dead place
-unfoldable pub tail_end : Rule (Unit {0})
-tail_end = do
-  _ ← until_inside ends_tail
-  sign (codes ";")
 
 -- "end", this word and ";"
 unfoldable pub block_end : List ℕ → Rule (Unit {0})

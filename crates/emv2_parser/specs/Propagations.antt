@@ -15,7 +15,9 @@ use Rattle.grammar_rules.specs.Parts.{parts_after}
 use Rattle.grammar_rules.specs.Tokens as token
 use Rattle.grammar_rules.specs.Tokens.{word, sign, is_kind, is_word, is_sign}
 use Rattle.emv2_parser.specs.Words.{is_name, begins_point}
-use Rattle.emv2_parser.specs.Names.{error_name, names, spot, point, type_set, flow_end, state_reference, tail_end, block_end}
+use Rattle.grammar_rules.specs.Tokens.{spot}
+use Rattle.grammar_rules.specs.Spans.{tail_end_inside}
+use Rattle.emv2_parser.specs.Names.{error_name, names, point, type_set, flow_end, state_reference, block_end}
 
 -- [ "not" ]
 unfoldable pub negation : Rule Bool
@@ -48,7 +50,7 @@ propagation_words = do
   negative ← negation
   is_outward ← direction
   set ← type_set
-  _ ← tail_end
+  _ ← tail_end_inside
   gives (record { negative = negative; outward = is_outward; set = set })
 
 -- pitem = point ":" [ "not" ] ( "in" | "out" ) "propagation" tset tail ";"
@@ -133,7 +135,7 @@ unfoldable pub flow_words : Rule FlowKind
 flow_words = do
   _ ← word (codes "error")
   its_kind ← flow_kind
-  _ ← tail_end
+  _ ← tail_end_inside
   gives its_kind
 
 -- flow = ID ":" "error" "source" point [ tset ] [ "when" ( ID [ tset ] | tset | Text ) ] tail ";"

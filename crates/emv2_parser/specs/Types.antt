@@ -11,7 +11,8 @@ use Rattle.grammar_rules.specs.Parts.{parts_after}
 use Rattle.grammar_rules.specs.Spans.{until_inside, ends_tail}
 use Rattle.grammar_rules.specs.Tokens.{word, sign, is_word, is_sign}
 use Rattle.emv2_parser.specs.Words.{is_name}
-use Rattle.emv2_parser.specs.Names.{error_name, spot, reference, references_after, use_types_after, type_set, block_end}
+use Rattle.grammar_rules.specs.Tokens.{spot}
+use Rattle.emv2_parser.specs.Names.{error_name, reference, references_after, use_types_after, type_set, block_end}
 use Rattle.emv2_parser.specs.Properties.{properties_after}
 
 -- ":" "type" "set" tset tail

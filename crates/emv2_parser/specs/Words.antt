@@ -2,6 +2,7 @@
 use Rattle.std.specs.Prelude.{ℕ, ◌+◌, ◌-◌, ◌*◌, Bool, ◌&&◌, ◌||◌, nat_le, if◌then◌else◌, List, [], ◌∷◌, length, Some, None, codes}
 use Rattle.std.specs.List.{fold, list_all}
 use Rattle.aadl_syntax.specs.declared.token.TokenKind.TheVariants.{Number}
+use Rattle.aadl_syntax.specs.Form.{is_digit}
 use Rattle.grammar_rules.specs.Rules.{Test, Rule, takes}
 use Rattle.grammar_rules.specs.Tokens.{same_kind, is_word, is_sign, is_identifier, is_one_of}
 
@@ -56,10 +57,6 @@ begins_propagations token = is_word (codes "propagations") token
 -- what begins a block of the user's points and paths
 unfoldable pub begins_paths : Test
 begins_paths token = is_word (codes "propagation") token
-
--- a decimal digit
-abbrev pub is_digit : ℕ → Bool
-is_digit byte = nat_le 48 byte && nat_le byte 57
 
 -- the number that digits write
 abbrev pub decimal : List ℕ → ℕ

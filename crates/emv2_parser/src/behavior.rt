@@ -10,8 +10,8 @@ ghost use Rattle.emv2_parser.specs.Takes.{outgoing-takes, composite-takes, compo
 use crate::conditions::whole_condition;
 use crate::machines::{events_after, source, transitions_after, use_transformations};
 use crate::names::{
-    block_end, condition_close, condition_open, dotted_names, flow_end, label, point_word, spot,
-    state_reference, tail_end,
+    block_end, condition_close, condition_open, dotted_names, flow_end, label, point_word,
+    state_reference,
 };
 use crate::words::{
     component_block_at, composite_at, error_name, name_at, point_name, point_word_at,
@@ -21,7 +21,7 @@ use aadl_syntax::{
     Composite, Condition, Emv2Clause, End, Identifier, List, Outgoing, PointRef, Spot, StateRef,
     TypeSet, UserPath, UserPoint,
 };
-use grammar_rules::{Gathered, Parts, ReadError, Reader, ToEnd};
+use grammar_rules::{Gathered, Parts, ReadError, Reader, ToEnd, spot, tail_end_inside};
 
 /// What follows the source of an outgoing condition.
 #[derive(Drop)]
@@ -78,7 +78,7 @@ fn outgoing_effect(reader: &mut Reader) -> Result<OutgoingEffect, ReadError>
 {
     let condition = outgoing_condition(reader)?;
     let end = flow_end(reader)?;
-    tail_end(reader)?;
+    tail_end_inside(reader)?;
     Ok(OutgoingEffect {
         condition,
         point: end.point,

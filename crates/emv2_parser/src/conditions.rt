@@ -4,10 +4,10 @@ ghost use Rattle.grammar_rules.specs.Parts.{parts_after};
 ghost use Rattle.grammar_rules.specs.Tokens.{is_sign, is_word};
 ghost use Rattle.emv2_parser.specs.Conditions.{inward, atom, bound, further_condition, condition_list, counted, enclosed, primary, and_primary, conjunction, or_conjunction, disjunction, condition_within, whole_condition};
 
-use crate::names::{optional_set, point, spot};
+use crate::names::{optional_set, point};
 use crate::words::{count, count_at};
 use aadl_syntax::{Atom, Condition, List};
-use grammar_rules::{ReadError, Reader};
+use grammar_rules::{ReadError, Reader, spot};
 
 /// More parentheses than may be open at once in a condition.
 const LEVELS: usize = 65;

@@ -1,19 +1,19 @@
 ghost use Rattle.std.specs.Prelude.{◌≡◌, [], ◌∷◌, ◌++◌, codes};
-ghost use Rattle.grammar_rules.specs.Reader.{Gives, Begins, given};
+ghost use Rattle.grammar_rules.specs.Reader.{Gives, given};
 ghost use Rattle.grammar_rules.specs.Tokens.{is_one_of};
 ghost use Rattle.emv2_parser.specs.Words.{library_words, clause_words};
-ghost use Rattle.emv2_parser.specs.Grammar.{mapping_word, mapping_end, type_mapping, library_types, library_machine, library_mapping, library_block, library, clause_uses, used_machine, clause_machine, mapping_kind, used_mapping, clause_mapping, clause_use, clause_properties, clause_other, clause_behavior, clause_part, clause_parts, is_token, spot_or, empty_clause, clause, library_after, clause_inside};
+ghost use Rattle.emv2_parser.specs.Grammar.{mapping_word, mapping_end, type_mapping, library_types, library_machine, library_mapping, library_block, clause_uses, used_machine, clause_machine, mapping_kind, used_mapping, clause_mapping, clause_use, clause_properties, clause_other, clause_behavior, clause_part, clause_parts, empty_clause, library_after, clause_inside};
 ghost use Rattle.emv2_parser.specs.Takes.{library_block-takes, clause_part-takes};
 
 use crate::behavior::{clause_component, clause_composites, clause_connection, clause_paths};
 use crate::machines::machine;
-use crate::names::{names, reference, spot, use_types_after};
+use crate::names::{names, reference, use_types_after};
 use crate::propagations::clause_propagations;
 use crate::properties::properties_after;
 use crate::types::types_block;
 use crate::words::{clause_part_at, error_name, library_block_at, paths_at};
 use aadl_syntax::{Emv2Clause, Emv2Library, List, Ref, Spot};
-use grammar_rules::{Gathered, ReadError, Reader, ToEnd};
+use grammar_rules::{Gathered, ReadError, Reader, ToEnd, spot};
 use std::alloc::Global;
 
 #[tactic(auto, unfolding(crate::specs::Grammar::mapping_word))]
@@ -83,20 +83,6 @@ fn library_block(reader: &mut Reader, library: &mut Emv2Library) -> Result<(), R
         return library_machine(reader, library);
     }
     library_mapping(reader, library)
-}
-
-/// Reads blocks of a library as long as the next tokens begin one.
-#[tactic(auto, unfolding(crate::specs::Grammar::library))]
-pub(crate) fn library(reader: &mut Reader) -> Result<Emv2Library, ReadError>
-    ensures { Gives result library reader.old reader.new }
-{
-    let alloc = reader.alloc();
-    let mut library = Emv2Library {
-        blocks: List::new(alloc),
-        machines: List::new(alloc),
-    };
-    reader.gather::<LibraryBlocks>(&mut library)?;
-    Ok(library)
 }
 
 /// Reads blocks of a library as long as the next tokens begin one, and gives them with those of a library that was read
@@ -235,27 +221,6 @@ fn clause_parts(reader: &mut Reader, clause: &mut Emv2Clause) -> Result<(), Read
     reader.gather::<ClauseParts>(clause)
 }
 
-#[tactic(auto, unfolding(crate::specs::Grammar::is_token))]
-fn token_at(reader: &mut Reader) -> bool
-    ensures { Begins result 0 (is_token ∷ []) reader.old reader.new }
-{
-    match reader.look(0) {
-        Some(_) => true,
-        None => false,
-    }
-}
-
-#[tactic(auto, unfolding(crate::specs::Grammar::spot_or))]
-fn spot_or(reader: &mut Reader, end: u32) -> Result<Spot, ReadError>
-    ensures { Gives result (spot_or end) reader.old reader.new }
-{
-    if token_at(reader) {
-        return spot(reader);
-    }
-    let file = reader.file();
-    Ok(Spot { file, at: end })
-}
-
 fn empty_clause(alloc: Global, spot: Spot) -> Emv2Clause
     ensures { result ≡ empty_clause spot }
 {
@@ -284,15 +249,6 @@ fn parts_at(reader: &mut Reader, spot: Spot) -> Result<Emv2Clause, ReadError>
     let mut clause = empty_clause(reader.alloc(), spot);
     clause_parts(reader, &mut clause)?;
     Ok(clause)
-}
-
-/// Reads parts of a clause as long as the next tokens begin one, in text that ends at this byte.
-#[tactic(auto, unfolding(crate::specs::Grammar::clause))]
-pub(crate) fn clause(reader: &mut Reader, end: u32) -> Result<Emv2Clause, ReadError>
-    ensures { Gives result (clause end) reader.old reader.new }
-{
-    let spot = spot_or(reader, end)?;
-    parts_at(reader, spot)
 }
 
 /// Reads parts of a clause as long as the next tokens begin one, inside of other text: a token follows. The place of the

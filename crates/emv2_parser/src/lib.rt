@@ -8,10 +8,7 @@ mod machines;
 mod names;
 mod propagations;
 mod properties;
-mod text;
 mod types;
 mod words;
 
 pub use grammar::{clause_inside, library_after};
-pub use names::spot;
-pub use text::{clause, library, one_clause, one_library, syntax_error};

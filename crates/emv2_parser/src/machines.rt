@@ -7,8 +7,8 @@ ghost use Rattle.emv2_parser.specs.Takes.{event-takes, state-takes, transition-t
 
 use crate::conditions::whole_condition;
 use crate::names::{
-    block_end, condition_close, condition_open, label, names, optional_set, spot, state_reference,
-    tail_end, use_types_after,
+    block_end, condition_close, condition_open, label, names, optional_set, state_reference,
+    use_types_after,
 };
 use crate::properties::properties_after;
 use crate::words::{error_name, machine_block_at, name_at, source_at};
@@ -16,7 +16,7 @@ use aadl_syntax::{
     Condition, EventDecl, EventKind, Identifier, List, MachineDecl, Source, Spot, StateDecl,
     StateRef, TokenKind, Transition, TypeSet,
 };
-use grammar_rules::{Gathered, Parts, ReadError, Reader};
+use grammar_rules::{Gathered, Parts, ReadError, Reader, spot, tail_end_inside};
 
 /// What follows the name of an event.
 #[derive(Drop)]
@@ -46,7 +46,7 @@ fn error_event(reader: &mut Reader) -> Result<EventWords, ReadError>
     reader.word(b"error")?;
     reader.word(b"event")?;
     let set = optional_set(reader)?;
-    tail_end(reader)?;
+    tail_end_inside(reader)?;
     Ok(EventWords {
         kind: EventKind::Error,
         set,
@@ -71,7 +71,7 @@ fn recovery_event(reader: &mut Reader) -> Result<EventWords, ReadError>
 {
     let kind = recovery_kind(reader)?;
     reader.word(b"event")?;
-    tail_end(reader)?;
+    tail_end_inside(reader)?;
     Ok(EventWords { kind, set: None })
 }
 

@@ -3,28 +3,20 @@ ghost use Rattle.grammar_rules.specs.Reader.{Gives, given};
 ghost use Rattle.grammar_rules.specs.Rules.{chooses};
 ghost use Rattle.grammar_rules.specs.Tokens.{is_sign, is_word, is_one_of};
 ghost use Rattle.emv2_parser.specs.Words.{is_name, point_words};
-ghost use Rattle.emv2_parser.specs.Names.{spot, further_name, names, reference, further_reference, references_after, use_types_after, tail_end, block_end, condition_open, condition_close, dotted_name, dotted_names, point_word, point, factor, product, set_term, further_term, type_set, optional_set, flow_end, state_reference, label};
+ghost use Rattle.grammar_rules.specs.Tokens.{spot};
+ghost use Rattle.grammar_rules.specs.Spans.{tail_end_inside};
+ghost use Rattle.emv2_parser.specs.Names.{further_name, names, reference, further_reference, references_after, use_types_after, block_end, condition_open, condition_close, dotted_name, dotted_names, point_word, point, factor, product, set_term, further_term, type_set, optional_set, flow_end, state_reference, label};
 ghost use Rattle.emv2_parser.specs.Takes.{further_name-takes, further_reference-takes, dotted_name-takes, factor-takes, further_term-takes};
 
 use crate::words::{error_name, name_at, point_name, point_word_at};
 use aadl_syntax::{Identifier, List, PointRef, Ref, Spot, StateRef, Term, TypeSet};
-use grammar_rules::{Parts, ReadError, Reader, Tail};
+use grammar_rules::{Parts, ReadError, Reader, spot};
 
 /// A point, perhaps with a set of types.
 #[derive(Drop)]
 pub(crate) struct FlowEnd {
     pub(crate) point: PointRef,
     pub(crate) set: Option<TypeSet>,
-}
-
-/// The place of the next token; refused at the end.
-#[tactic(auto, unfolding(crate::specs::Names::spot))]
-pub fn spot(reader: &mut Reader) -> Result<Spot, ReadError>
-    ensures { Gives result spot reader.old reader.new }
-{
-    let file = reader.file();
-    let at = reader.place()?;
-    Ok(Spot { file, at })
 }
 
 /// Reads identifiers with `::` between them.
@@ -86,15 +78,6 @@ pub(crate) fn use_types_after(reader: &mut Reader, uses: &mut List<Ref>) -> Resu
     references_after(reader, uses)?;
     reader.sign(b";")?;
     Ok(())
-}
-
-/// Reads the rest of an item, up to its semicolon.
-#[tactic(auto, unfolding(crate::specs::Names::tail_end))]
-pub(crate) fn tail_end(reader: &mut Reader) -> Result<(), ReadError>
-    ensures { Gives result tail_end reader.old reader.new }
-{
-    reader.until_inside::<Tail>()?;
-    reader.sign(b";")
 }
 
 /// Reads the end of a block of this word.

@@ -4,14 +4,12 @@ ghost use Rattle.emv2_parser.specs.Words.{is_name, begins_point};
 ghost use Rattle.emv2_parser.specs.Propagations.{negation, outward, direction, propagation_words, point_item, when_part, source_state, source_flow, sink_flow, flow_mappings, path_target, path_flow, flow_kind, flow_words, flow, flows_after, points_after, propagations_head, clause_propagations};
 ghost use Rattle.emv2_parser.specs.Takes.{point_item-takes, flow-takes};
 
-use crate::names::{
-    FlowEnd, block_end, flow_end, names, point, spot, state_reference, tail_end, type_set,
-};
+use crate::names::{FlowEnd, block_end, flow_end, names, point, state_reference, type_set};
 use crate::words::{error_name, name_at, point_at};
 use aadl_syntax::{
     Emv2Clause, Flow, FlowKind, List, PointItem, Spot, StateRef, TokenKind, TypeSet,
 };
-use grammar_rules::{Parts, ReadError, Reader};
+use grammar_rules::{Parts, ReadError, Reader, spot, tail_end_inside};
 
 /// What follows the point of a propagation.
 #[derive(Drop)]
@@ -67,7 +65,7 @@ fn propagation_words(reader: &mut Reader) -> Result<PropagationWords, ReadError>
     let negative = negation(reader)?;
     let outward = direction(reader)?;
     let set = type_set(reader)?;
-    tail_end(reader)?;
+    tail_end_inside(reader)?;
     Ok(PropagationWords {
         negative,
         outward,
@@ -189,7 +187,7 @@ fn flow_words(reader: &mut Reader) -> Result<FlowKind, ReadError>
 {
     reader.word(b"error")?;
     let kind = flow_kind(reader)?;
-    tail_end(reader)?;
+    tail_end_inside(reader)?;
     Ok(kind)
 }
 

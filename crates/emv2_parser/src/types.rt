@@ -7,11 +7,11 @@ ghost use Rattle.emv2_parser.specs.Properties.{properties_after};
 ghost use Rattle.emv2_parser.specs.Types.{set_kind, extended_type, plain_kind, renamed, alias_kind, type_kind, type_item, used_types, types_extends, types_properties, types_body, types_block};
 ghost use Rattle.emv2_parser.specs.Takes.{use_types-takes, type_item-takes};
 
-use crate::names::{block_end, reference, references_after, spot, type_set, use_types_after};
+use crate::names::{block_end, reference, references_after, type_set, use_types_after};
 use crate::properties::properties_after;
 use crate::words::{error_name, name_at};
 use aadl_syntax::{Association, List, Ref, TypeItem, TypeKind, TypesBlock};
-use grammar_rules::{Gathered, Parts, ReadError, Reader, Tail};
+use grammar_rules::{Gathered, Parts, ReadError, Reader, Tail, spot};
 
 #[tactic(auto, unfolding(crate::specs::Types::set_kind))]
 fn set_kind(reader: &mut Reader) -> Result<TypeKind, ReadError>

@@ -5,7 +5,7 @@ use Rattle.std.specs.List.{list_all}
 use Rattle.fault_system.specs.Truth.{Has, set_of}
 use Rattle.fault_system.specs.Systems.{System, Holds}
 use Rattle.fault_system.specs.CutSets.{RisesWithin, IsEventSet, IsCutSet, IsSubset, IsMinimalCutSet, is_minimal, makes_hold, without}
-use Rattle.fault_system.specs.Listings.{IsBefore, IsInOrder, IsListing, IsWithinOrder, choose, sets_up_to, listing}
+use Rattle.fault_system.specs.Listings.{IsBefore, IsInListingOrder, IsListing, IsWithinOrder, choose, rising_sets_up_to, listing}
 use Rattle.fault_system.proofs.CutSetLaws.{either, and_true, RisesWithin-lower, RisesWithin-filter, Holds-grows, makes_hold-exact, is_minimal-exact, is_minimal-sound, set_of-filter, set_of-first, set_of-rest, set_of-cases, same_set}
 use Rattle.fault_system.proofs.Elements.{In, In-contains, contains_In, In-append, In-front, In-back, In-map, In-mapped, In-filter, In-filtered, each-at, each-made}
 use Rattle.fault_system.proofs.Orders.{before_cases, before_made, order-append, order-filter}
@@ -45,7 +45,7 @@ length_rising : (low high : ℕ) (set : List ℕ) → low ≤ high → RisesWith
 length_rising low high [] h r = omega arith
 length_rising low high (x ∷ xs) h r = omega (arith, length_rising (x + 1) high xs (omega (arith, r.1)) r.2, r.0)
 
-mapped_order : (low : ℕ) (sets : List (List ℕ)) → IsInOrder sets → IsInOrder (map (λ s. low ∷ s) sets)
+mapped_order : (low : ℕ) (sets : List (List ℕ)) → IsInListingOrder sets → IsInListingOrder (map (λ s. low ∷ s) sets)
 mapped_order low [] o = tt
 mapped_order low (a ∷ rest) o = (
   each-made (IsBefore (low ∷ a)) (map (λ s. low ∷ s) rest) (λ b i.
@@ -55,7 +55,7 @@ mapped_order low (a ∷ rest) o = (
   mapped_order low rest o.1,
 )
 
-pub choose-order : (size low count : ℕ) → IsInOrder (choose size low count)
+pub choose-order : (size low count : ℕ) → IsInListingOrder (choose size low count)
 choose-order zero low count = (tt, tt)
 choose-order (suc size) low zero = tt
 choose-order (suc size) low (suc count) = order-append (map (λ s. low ∷ s) (choose size (low + 1) count)) (choose (suc size) (low + 1) count)
@@ -69,25 +69,25 @@ choose-order (suc size) low (suc count) = order-append (map (λ s. low ∷ s) (c
 
 -- ---- the sets of all sizes
 
-pub sets_up_to-rises : (size count : ℕ) (set : List ℕ) → In set (sets_up_to size count) → RisesWithin 0 count set × (length set ≤ size)
-sets_up_to-rises zero count set i = let rest = choose-rises zero 0 count count (omega arith) set i in (rest.0, omega (arith, rest.1))
-sets_up_to-rises (suc size) count set i = ⊎_elim
-    (λ fewer. let rest = sets_up_to-rises size count set fewer in (rest.0, omega (arith, rest.1)))
+pub rising_sets_up_to-rises : (size count : ℕ) (set : List ℕ) → In set (rising_sets_up_to size count) → RisesWithin 0 count set × (length set ≤ size)
+rising_sets_up_to-rises zero count set i = let rest = choose-rises zero 0 count count (omega arith) set i in (rest.0, omega (arith, rest.1))
+rising_sets_up_to-rises (suc size) count set i = ⊎_elim
+    (λ fewer. let rest = rising_sets_up_to-rises size count set fewer in (rest.0, omega (arith, rest.1)))
     (λ full. let rest = choose-rises (suc size) 0 count count (omega arith) set full in (rest.0, omega (arith, rest.1)))
-    (In-append set (sets_up_to size count) (choose (suc size) 0 count) i)
+    (In-append set (rising_sets_up_to size count) (choose (suc size) 0 count) i)
 
-pub rises-sets_up_to : (size count : ℕ) (set : List ℕ) → RisesWithin 0 count set → length set ≤ size → In set (sets_up_to size count)
-rises-sets_up_to zero count set r h =
+pub rises-rising_sets_up_to : (size count : ℕ) (set : List ℕ) → RisesWithin 0 count set → length set ≤ size → In set (rising_sets_up_to size count)
+rises-rising_sets_up_to zero count set r h =
     let empty : length set ≡ 0 = omega arith in subst (λ n. In set (choose n 0 count)) empty (rises-choose 0 count count (omega arith) set r)
-rises-sets_up_to (suc size) count set r h = ⊎_elim
-    (λ is. In-back set (sets_up_to size count) _ (subst (λ n. In set (choose n 0 count)) (sym is) (rises-choose 0 count count (omega arith) set r)))
-    (λ fewer. In-front set _ (choose (suc size) 0 count) (rises-sets_up_to size count set r (omega arith)))
+rises-rising_sets_up_to (suc size) count set r h = ⊎_elim
+    (λ is. In-back set (rising_sets_up_to size count) _ (subst (λ n. In set (choose n 0 count)) (sym is) (rises-choose 0 count count (omega arith) set r)))
+    (λ fewer. In-front set _ (choose (suc size) 0 count) (rises-rising_sets_up_to size count set r (omega arith)))
     (equal_or_less (length set) (suc size) h)
 
-pub sets_up_to-order : (size count : ℕ) → IsInOrder (sets_up_to size count)
-sets_up_to-order zero count = choose-order zero 0 count
-sets_up_to-order (suc size) count = order-append (sets_up_to size count) (choose (suc size) 0 count) (sets_up_to-order size count) (choose-order (suc size) 0 count)
-    (λ a b i j. before_made a b (inl (omega (arith, (sets_up_to-rises size count a i).1, (choose-rises (suc size) 0 count count (omega arith) b j).1))))
+pub rising_sets_up_to-order : (size count : ℕ) → IsInListingOrder (rising_sets_up_to size count)
+rising_sets_up_to-order zero count = choose-order zero 0 count
+rising_sets_up_to-order (suc size) count = order-append (rising_sets_up_to size count) (choose (suc size) 0 count) (rising_sets_up_to-order size count) (choose-order (suc size) 0 count)
+    (λ a b i j. before_made a b (inl (omega (arith, (rising_sets_up_to-rises size count a i).1, (choose-rises (suc size) 0 count count (omega arith) b j).1))))
 
 -- ---- the listing
 
@@ -102,21 +102,21 @@ size_within (Some k) count set few h = h
 module _ (system : System) (target : ℕ) (most : Option ℕ) where
   listed : (set : List ℕ) → In set (listing system target most) → IsMinimalCutSet system target set × IsWithinOrder most set
   listed set i =
-      let found = In-filter (is_minimal system target) set (sets_up_to (unwrap_or most (length system.events)) (length system.events)) i in
-      let rises = sets_up_to-rises (unwrap_or most (length system.events)) (length system.events) set found.0 in
+      let found = In-filter (is_minimal system target) set (rising_sets_up_to (unwrap_or most (length system.events)) (length system.events)) i in
+      let rises = rising_sets_up_to-rises (unwrap_or most (length system.events)) (length system.events) set found.0 in
       (is_minimal-sound system target set rises.0 found.1, within_size most (length system.events) set rises.1)
 
   unlisted : (set : List ℕ) → IsMinimalCutSet system target set × IsWithinOrder most set → In set (listing system target most)
   unlisted set h =
       let few : length set ≤ length system.events = omega (arith, length_rising 0 (length system.events) set (omega arith) h.0.0.0) in
-      In-filtered (is_minimal system target) set (sets_up_to (unwrap_or most (length system.events)) (length system.events))
+      In-filtered (is_minimal system target) set (rising_sets_up_to (unwrap_or most (length system.events)) (length system.events))
       ((is_minimal-exact system target set h.0.0.0).1 h.0)
-      (rises-sets_up_to (unwrap_or most (length system.events)) (length system.events) set h.0.0.0 (size_within most (length system.events) set few h.1))
+      (rises-rising_sets_up_to (unwrap_or most (length system.events)) (length system.events) set h.0.0.0 (size_within most (length system.events) set few h.1))
 
   pub listing-exact : IsListing system target most (listing system target most)
   listing-exact = record {
     exact = λ set. ((λ c. listed set (In-contains set _ c)), (λ h. contains_In set _ (unlisted set h)));
-    ordered = order-filter (is_minimal system target) _ (sets_up_to-order (unwrap_or most (length system.events)) (length system.events));
+    ordered = order-filter (is_minimal system target) _ (rising_sets_up_to-order (unwrap_or most (length system.events)) (length system.events));
   }
 
 -- ---- the listing covers its target

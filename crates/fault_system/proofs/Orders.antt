@@ -2,7 +2,7 @@
 use Rattle.std.proofs.Common.{ℕ, zero, suc, ◌≡◌, ◌<◌, ◌⊎◌, Bool, true, false, cond, ◌||◌, eqb, ltb, List, [], ◌∷◌, ◌++◌, length, filter, take, drop, append-nil, append_assoc, Option, None, Some, inl, inr, ⊎_elim, ap, ◌∙◌, sym, refl, subst, arith, eqb-true, eq-eqb, ltb-true, lt-ltb}
 use Rattle.std.proofs.lemmas.Bool.{false≢true}
 use Rattle.std.specs.List.{AllByRecursion}
-use Rattle.fault_system.specs.Listings.{is_lower, is_before, IsBefore, IsInOrder, sets_after, first_of}
+use Rattle.fault_system.specs.Listings.{is_lower, is_before, IsBefore, IsInListingOrder, sets_after, first_of}
 use Rattle.fault_system.proofs.CutSetLaws.{either, and_true, and_made}
 use Rattle.fault_system.proofs.Elements.{In, In-append, In-back, In-filter, each-at, each-made}
 
@@ -74,18 +74,18 @@ before_through a b c e f = before_made a c (⊎_elim
     (λ h. ⊎_elim (λ k. inl (omega (arith, h.0))) (λ k. inr (h.0 ∙ k.0, lower_through a b c h.1 k.1)) (before_cases b c f)) (before_cases a b e))
 
 -- lists in order
-pub order-append : (us bs : List (List ℕ)) → IsInOrder us → IsInOrder bs → ((a b : List ℕ) → In a us → In b bs → IsBefore a b) → IsInOrder (us ++ bs)
+pub order-append : (us bs : List (List ℕ)) → IsInListingOrder us → IsInListingOrder bs → ((a b : List ℕ) → In a us → In b bs → IsBefore a b) → IsInListingOrder (us ++ bs)
 order-append [] bs o q h = q
 order-append (a ∷ rest) bs o q h = (
   each-made (IsBefore a) (rest ++ bs) (λ c i. ⊎_elim (λ l. each-at (IsBefore a) c rest o.0 l) (λ r. h a c (inl refl) r) (In-append c rest bs i)),
   order-append rest bs o.1 q (λ c d i j. h c d (inr i) j),
 )
 
-filter_order : (b : Bool) (p : List ℕ → Bool) (a : List ℕ) (rest : List (List ℕ)) → AllByRecursion (IsBefore a) rest → IsInOrder (filter p rest) → IsInOrder (cond b (a ∷ filter p rest) (filter p rest))
+filter_order : (b : Bool) (p : List ℕ → Bool) (a : List ℕ) (rest : List (List ℕ)) → AllByRecursion (IsBefore a) rest → IsInListingOrder (filter p rest) → IsInListingOrder (cond b (a ∷ filter p rest) (filter p rest))
 filter_order true p a rest h o = (each-made (IsBefore a) (filter p rest) (λ c i. each-at (IsBefore a) c rest h (In-filter p c rest i).0), o)
 filter_order false p a rest h o = o
 
-pub order-filter : (p : List ℕ → Bool) (sets : List (List ℕ)) → IsInOrder sets → IsInOrder (filter p sets)
+pub order-filter : (p : List ℕ → Bool) (sets : List (List ℕ)) → IsInListingOrder sets → IsInListingOrder (filter p sets)
 order-filter p [] o = tt
 order-filter p (a ∷ rest) o = filter_order (p a) p a rest o.0 (order-filter p rest o.1)
 
@@ -96,7 +96,7 @@ order_rest a b us vs e before h s i = ⊎_elim
     absurd (not_both_before a a (subst (IsBefore a) (sym is ∙ sym e) after) (subst (IsBefore a) (sym is ∙ sym e) after)))
     (λ r. r) (h s (inr i))
 
-pub one_order : (us vs : List (List ℕ)) → IsInOrder us → IsInOrder vs → ((s : List ℕ) → In s us → In s vs) → ((s : List ℕ) → In s vs → In s us) → us ≡ vs
+pub one_order : (us vs : List (List ℕ)) → IsInListingOrder us → IsInListingOrder vs → ((s : List ℕ) → In s us → In s vs) → ((s : List ℕ) → In s vs → In s us) → us ≡ vs
 one_order [] [] o q f g = refl
 one_order [] (b ∷ vs) o q f g = absurd (g b (inl refl))
 one_order (a ∷ us) [] o q f g = absurd (f a (inl refl))
@@ -124,7 +124,7 @@ filter_append p (a ∷ us) vs = append_step (p a) (filter_append p us vs) where
   append_step false e = e
 
 -- in a list in order, what stands after one of its sets is what follows it there
-follows : (front : List (List ℕ)) (last : List ℕ) (rest : List (List ℕ)) → IsInOrder (front ++ last ∷ rest) → filter (is_before last) (front ++ last ∷ rest) ≡ rest
+follows : (front : List (List ℕ)) (last : List ℕ) (rest : List (List ℕ)) → IsInListingOrder (front ++ last ∷ rest) → filter (is_before last) (front ++ last ∷ rest) ≡ rest
 follows [] last rest o =
     ap (λ b. cond b (last ∷ filter (is_before last) rest) (filter (is_before last) rest)) (not_before_itself last)
     ∙ filter_all (is_before last) rest (λ s i. each-at (IsBefore last) s rest o.0 i)
@@ -163,7 +163,7 @@ first_part : (limit : Option ℕ) (sets : List (List ℕ)) → (rest : List (Lis
 first_part None sets = ([], append-nil sets)
 first_part (Some n) sets = (drop n sets, take_part n sets)
 
-after_order : (after : Option (List ℕ)) (sets : List (List ℕ)) → IsInOrder sets → IsInOrder (sets_after after sets)
+after_order : (after : Option (List ℕ)) (sets : List (List ℕ)) → IsInListingOrder sets → IsInListingOrder (sets_after after sets)
 after_order None sets o = o
 after_order (Some after) sets o = order-filter (is_before after) sets o
 
@@ -171,13 +171,13 @@ after_last : (after : Option (List ℕ)) (sets : List (List ℕ)) (last : List �
 after_last None sets last i = refl
 after_last (Some after) sets last i = narrowed after last (In-filter (is_before after) last sets i).1 sets
 
-pub pages_join : (sets : List (List ℕ)) (after : Option (List ℕ)) (limit : Option ℕ) (front : List (List ℕ)) (last : List ℕ) → IsInOrder sets → front ++ last ∷ [] ≡ first_of limit (sets_after after sets) → (front ++ last ∷ []) ++ filter (is_before last) sets ≡ sets_after after sets
+pub pages_join : (sets : List (List ℕ)) (after : Option (List ℕ)) (limit : Option ℕ) (front : List (List ℕ)) (last : List ℕ) → IsInListingOrder sets → front ++ last ∷ [] ≡ first_of limit (sets_after after sets) → (front ++ last ∷ []) ++ filter (is_before last) sets ≡ sets_after after sets
 pages_join sets after limit front last o page =
     let later = sets_after after sets in
     let part = first_part limit later in
     let whole : (front ++ last ∷ []) ++ part.0 ≡ later = ap (λ xs. xs ++ part.0) page ∙ part.1 in
     let regrouped : front ++ last ∷ part.0 ≡ later = sym (append_assoc front (last ∷ []) part.0) ∙ whole in
-    let ordered : IsInOrder (front ++ last ∷ part.0) = subst IsInOrder (sym regrouped) (after_order after sets o) in
+    let ordered : IsInListingOrder (front ++ last ∷ part.0) = subst IsInListingOrder (sym regrouped) (after_order after sets o) in
     let there : In last later = subst (In last) regrouped (In-back last front (last ∷ part.0) (inl refl)) in
     let rest : filter (is_before last) sets ≡ part.0 = sym (after_last after sets last there) ∙ ap (filter (is_before last)) (sym regrouped) ∙ follows front last part.0 ordered in
     ap (λ xs. (front ++ last ∷ []) ++ xs) rest ∙ whole

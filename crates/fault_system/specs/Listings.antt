@@ -18,9 +18,9 @@ abbrev pub IsBefore : List ℕ → List ℕ → Type 0
 IsBefore a b = IsTrue (is_before a b)
 
 -- each set is before all that follow it
-abbrev pub IsInOrder : List (List ℕ) → Type 0
-IsInOrder [] = Unit {0}
-IsInOrder (set ∷ sets) = AllByRecursion (IsBefore set) sets × IsInOrder sets
+abbrev pub IsInListingOrder : List (List ℕ) → Type 0
+IsInListingOrder [] = Unit {0}
+IsInListingOrder (set ∷ sets) = AllByRecursion (IsBefore set) sets × IsInListingOrder sets
 
 -- the set has at most so many events, where a greatest order is given
 abbrev pub IsWithinOrder : Option ℕ → List ℕ → Type 0
@@ -29,7 +29,7 @@ IsWithinOrder most set = IfSome most (λ k. length set ≤ k)
 -- the listing of a target: exactly its minimal cut sets, of at most `most` events where that is given, in listing order
 pub record IsListing (system : System) (target : ℕ) (most : Option ℕ) (sets : List (List ℕ)) : Type 0 where
   pub exact : (set : List ℕ) → Contains sets set ↔ (IsMinimalCutSet system target set × IsWithinOrder most set)
-  pub ordered : IsInOrder sets
+  pub ordered : IsInListingOrder sets
 
 -- the sets of `size` of the `count` numbers from low on, each a rising list, in the order of their first difference
 abbrev pub choose : ℕ → ℕ → ℕ → List (List ℕ)
@@ -38,14 +38,14 @@ choose (suc size) low zero = []
 choose (suc size) low (suc count) = map (λ set. low ∷ set) (choose size (low + 1) count) ++ choose (suc size) (low + 1) count
 
 -- the sets of at most `size` of the numbers below `count`, in listing order
-abbrev pub sets_up_to : ℕ → ℕ → List (List ℕ)
-sets_up_to zero count = choose zero 0 count
-sets_up_to (suc size) count = sets_up_to size count ++ choose (suc size) 0 count
+abbrev pub rising_sets_up_to : ℕ → ℕ → List (List ℕ)
+rising_sets_up_to zero count = choose zero 0 count
+rising_sets_up_to (suc size) count = rising_sets_up_to size count ++ choose (suc size) 0 count
 
 -- the listing computed: of all sets of events in listing order, those that are minimal
 abbrev pub listing : System → ℕ → Option ℕ → List (List ℕ)
 listing system target most =
-    let count = length system.events in filter (is_minimal system target) (sets_up_to (unwrap_or most count) count)
+    let count = length system.events in filter (is_minimal system target) (rising_sets_up_to (unwrap_or most count) count)
 
 -- the sets of a listing that a given set is before; all of them where none is given
 abbrev pub sets_after : Option (List ℕ) → List (List ℕ) → List (List ℕ)

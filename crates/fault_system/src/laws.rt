@@ -4,7 +4,7 @@ ghost use Rattle.std.specs.Prelude.{◌≡◌, ◌↔◌, ◌++◌, ◌∷◌, [
 ghost use Rattle.fault_system.specs.Truth.{set_of};
 ghost use Rattle.fault_system.specs.Systems.{System, Holds};
 ghost use Rattle.fault_system.specs.CutSets.{IsEventSet, IsSubset};
-ghost use Rattle.fault_system.specs.Listings.{IsInOrder, IsListing, IsPage, IsWithinOrder, listing};
+ghost use Rattle.fault_system.specs.Listings.{IsInListingOrder, IsListing, IsPage, IsWithinOrder, listing};
 
 /// The computed listing is a listing of the target.
 pub fn computed_listing()
@@ -31,7 +31,7 @@ pub fn cover()
 /// the set after which the page began.
 pub fn join()
     ensures { (sets : List (List ℕ)) (after : Option (List ℕ)) (limit : Option ℕ) (front : List (List ℕ))
-        (last : List ℕ) (rest all : List (List ℕ)) (more ended both : Bool) → IsInOrder sets
+        (last : List ℕ) (rest all : List (List ℕ)) (more ended both : Bool) → IsInListingOrder sets
         → IsPage sets after limit (front ++ last ∷ []) more → IsPage sets (Some last) None rest ended
         → IsPage sets after None all both → (front ++ last ∷ []) ++ rest ≡ all }
 {}

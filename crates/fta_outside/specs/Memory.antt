@@ -1,8 +1,8 @@
 -- Files and sinks in memory, which tell everything.
 use Rattle.std.specs.Prelude.{ℕ, Bool, true, false, ◌+◌, ◌-◌, ◌^◌, List, [], ◌∷◌, ◌++◌, length, Option, Some, None, is_none, if◌then◌else◌, ◌==◌, ◌||◌, ◌&&◌, nat_eq, nat_lt, min}
 use Rattle.std.specs.List.{list_any}
-use Rattle.fta_outside.specs.declared.outside.ReadError.{ReadError}
-use Rattle.fta_outside.specs.declared.outside.ReadError.TheVariants.{Failed, Memory}
+use Rattle.fta_outside.specs.declared.outside.FileError.{FileError}
+use Rattle.fta_outside.specs.declared.outside.FileError.TheVariants.{Failed, Memory}
 use Rattle.aadl_syntax.specs.Name.{is_same_text}
 
 -- a file: its name, and what it contains
@@ -30,7 +30,7 @@ abbrev pub read_fails : Stored → List ℕ → Bool
 read_fails stored name = list_any (λ call. nat_eq call stored.calls) stored.failing || is_none (contents_of stored.files name)
 
 -- whether it is the error of a read that failed
-abbrev pub is_failed : ReadError → Bool
+abbrev pub is_failed : FileError → Bool
 is_failed Failed = true
 is_failed Memory = false
 

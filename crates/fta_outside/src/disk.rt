@@ -1,7 +1,7 @@
 ghost use Rattle.std.specs.Prelude.{None};
 
 use crate::faults::one_more;
-use crate::outside::{Files, ReadError};
+use crate::outside::{FileError, Files};
 use aadl_syntax::Word;
 use std::alloc::Global;
 use std::io::{ErrorKind, Read};
@@ -28,9 +28,9 @@ impl<'a, R: rt::Files> Files for DiskFiles<'a, R> {
 
     ghost faults = { λ files _. files.faults };
 
-    fn read(&mut self, alloc: Global, name: &Word, most: usize) -> Result<Vec<u8>, ReadError> {
+    fn read(&mut self, alloc: Global, name: &Word, most: usize) -> Result<Vec<u8>, FileError> {
         let answer = read_file(self.runtime, alloc, name.items(), most);
-        if let Err(ReadError::Failed) = answer {
+        if let Err(FileError::Failed) = answer {
             self.faults = one_more(self.faults);
         }
         answer
@@ -42,22 +42,22 @@ fn read_file<R: rt::Files>(
     alloc: Global,
     name: &[u8],
     most: usize,
-) -> Result<Vec<u8>, ReadError> {
+) -> Result<Vec<u8>, FileError> {
     let Ok(path) = std::str::from_utf8(name) else {
-        return Err(ReadError::Failed);
+        return Err(FileError::Failed);
     };
     match fs::open(runtime, path) {
         Ok(file) => read_front(file, alloc, most),
-        Err(_) => Err(ReadError::Failed),
+        Err(_) => Err(FileError::Failed),
     }
 }
 
 /// The first `most` bytes that a reader gives, or all of them where they are fewer.
-fn read_front<F: Read + Drop>(file: F, alloc: Global, most: usize) -> Result<Vec<u8>, ReadError> {
+fn read_front<F: Read + Drop>(file: F, alloc: Global, most: usize) -> Result<Vec<u8>, FileError> {
     let mut bytes = Vec::new(alloc);
     match file.take(most as u64).read_to_end(&mut bytes) {
         Ok(_) => Ok(bytes),
-        Err(error) if error.kind() == ErrorKind::OutOfMemory => Err(ReadError::Memory),
-        Err(_) => Err(ReadError::Failed),
+        Err(error) if error.kind() == ErrorKind::OutOfMemory => Err(FileError::Memory),
+        Err(_) => Err(FileError::Failed),
     }
 }

@@ -14,6 +14,6 @@ mod stream;
 
 pub use disk::DiskFiles;
 pub use memory::{MemoryFiles, MemorySink};
-pub use outside::{Files, ReadError, Sink, SinkFailed, write_all};
+pub use outside::{FileError, Files, Sink, SinkFailed, write_all};
 pub use steps::Steps;
 pub use stream::StdSink;

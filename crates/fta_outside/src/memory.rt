@@ -4,7 +4,7 @@ ghost use Rattle.fta_outside.specs.Outside.{Rose, with_bytes};
 ghost use Rattle.fta_outside.specs.Memory.{contents_of, is_failed, read_fails, after_read, write_fails, after_failure, after_write, count_of};
 
 use crate::faults::one_more;
-use crate::outside::{Files, ReadError, Sink, SinkFailed};
+use crate::outside::{FileError, Files, Sink, SinkFailed};
 use aadl_syntax::{Mem, Word, is_same};
 use std::alloc::Global;
 use std::marker::Model;
@@ -48,9 +48,9 @@ impl Files for MemoryFiles {
 
     ghost faults = { λ stored _. stored.faults };
 
-    fn read(&mut self, alloc: Global, name: &Word, most: usize) -> Result<Vec<u8>, ReadError>
+    fn read(&mut self, alloc: Global, name: &Word, most: usize) -> Result<Vec<u8>, FileError>
         ensures front { IfOk result (λ bytes. IfSome (contents_of self.old.files name.now) (λ whole. bytes.items ≡ take most whole)) }
-        ensures failed { IsErrOf result ReadError.Failed → Rose self.old.faults self.new.faults }
+        ensures failed { IsErrOf result FileError.Failed → Rose self.old.faults self.new.faults }
         ensures kept { (other : List ℕ) → contents_of self.new.files other ≡ contents_of self.old.files other }
         ensures never_falls { (other : List ℕ) → self.old.faults ≤ self.new.faults }
         ensures fails { MatchResult result (λ _. read_fails self.old name.now ≡ false) (λ e. read_fails self.old name.now ≡ is_failed e) }
@@ -60,20 +60,20 @@ impl Files for MemoryFiles {
         self.calls = one_more(call);
         if self.failing.contains(&call) {
             self.faults = one_more(self.faults);
-            return Err(ReadError::Failed);
+            return Err(FileError::Failed);
         }
         match contents_of(self.entries.as_slice(), name.items()) {
             Some(whole) => front_of(alloc, whole, most),
             None => {
                 self.faults = one_more(self.faults);
-                Err(ReadError::Failed)
+                Err(FileError::Failed)
             }
         }
     }
 }
 
-fn front_of(alloc: Global, whole: &[u8], most: usize) -> Result<Vec<u8>, ReadError>
-    ensures { MatchResult result (λ bytes. bytes.items ≡ take most whole.now) (λ e. e ≡ ReadError.Memory) }
+fn front_of(alloc: Global, whole: &[u8], most: usize) -> Result<Vec<u8>, FileError>
+    ensures { MatchResult result (λ bytes. bytes.items ≡ take most whole.now) (λ e. e ≡ FileError.Memory) }
 {
     Ok(Vec::from_slice(alloc, &whole[..most.min(whole.len())])?)
 }

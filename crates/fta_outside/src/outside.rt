@@ -1,6 +1,6 @@
 ghost use Rattle.std.specs.Prelude.{◌≡◌, ℕ, ◌≤◌, ◌<◌, List, Option, IfOk, OnOk, OnErr, IfSome, IsErrOf, length, take};
 ghost use Rattle.fta_outside.specs.Outside.{Rose, with_bytes, TookPrefix};
-ghost use Rattle.fta_outside.specs.declared.outside.ReadError.TheVariants.{Memory};
+ghost use Rattle.fta_outside.specs.declared.outside.FileError.TheVariants.{Memory};
 
 use aadl_syntax::Word;
 use std::alloc::{AllocError, AllocFailed, Global};
@@ -8,7 +8,7 @@ use thiserror::Error;
 
 /// Why a file was not read.
 #[derive(Clone, Copy, Debug, PartialEq, Eq, Error)]
-pub enum ReadError {
+pub enum FileError {
     /// The file is missing or could not be read; the count of faults of its name rose.
     #[error("read failed")]
     Failed,
@@ -17,19 +17,19 @@ pub enum ReadError {
     Memory,
 }
 
-impl From<AllocError> for ReadError {
+impl From<AllocError> for FileError {
     ghost from_gives = { λ _ e. e ≡ Memory };
 
-    fn from(_error: AllocError) -> ReadError {
-        ReadError::Memory
+    fn from(_error: AllocError) -> FileError {
+        FileError::Memory
     }
 }
 
-impl<T: Drop> From<AllocFailed<T>> for ReadError {
+impl<T: Drop> From<AllocFailed<T>> for FileError {
     ghost from_gives = { λ _ e. e ≡ Memory };
 
-    fn from(_error: AllocFailed<T>) -> ReadError {
-        ReadError::Memory
+    fn from(_error: AllocFailed<T>) -> FileError {
+        FileError::Memory
     }
 }
 
@@ -44,9 +44,9 @@ pub trait Files {
     /// The first `most` bytes of the file of this name, or all of it where it is shorter.
     ///
     /// `Failed` comes only where the count of faults of the name rose; a missing file is such a fault.
-    fn read(&mut self, alloc: Global, name: &Word, most: usize) -> Result<Vec<u8>, ReadError>
+    fn read(&mut self, alloc: Global, name: &Word, most: usize) -> Result<Vec<u8>, FileError>
         ensures front { IfOk result (λ bytes. IfSome (contents self.old name.now) (λ whole. bytes.items ≡ take most whole)) }
-        ensures failed { IsErrOf result ReadError.Failed → Rose (faults self.old name.now) (faults self.new name.now) }
+        ensures failed { IsErrOf result FileError.Failed → Rose (faults self.old name.now) (faults self.new name.now) }
         ensures kept { (other : List ℕ) → contents self.new other ≡ contents self.old other }
         ensures never_falls { (other : List ℕ) → faults self.old other ≤ faults self.new other };
 }

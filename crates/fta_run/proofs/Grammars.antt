@@ -11,11 +11,11 @@ use Rattle.grammar_rules.proofs.Texts.{reads_once}
 use Rattle.aadl_syntax.specs.declared.refusal.Stop.{Stop}
 use Rattle.aadl_syntax.specs.declared.refusal.Stop.TheVariants as stop
 use Rattle.phases.specs.Meets.{IsMemory}
-use Rattle.phases.specs.Phases.{Stops, refuses}
+use Rattle.phases.specs.Phases.{Stops, rejects}
 use Rattle.phases.specs.Stopped.{status_of}
 use Rattle.phases.specs.declared.status.Status.TheVariants.{Refused}
 use Rattle.phases.proofs.Steps.{refused}
-use Rattle.emv2_parser.specs.Grammar.{place_of}
+use Rattle.grammar_rules.specs.Texts.{token_place}
 use Rattle.aadl_parser.specs.Packages.{file_units}
 use Rattle.aadl_parser.specs.Nesting.{NestedAt}
 use Rattle.aadl_parser.specs.Files.{IsSyntaxError, IsTooNested, StopsAt, too_nested}
@@ -73,12 +73,12 @@ one_stop : (file : ℕ) (tokens : List Token) (end : ℕ) (a b : Refusal) → Is
 one_stop file tokens end a b h k =
     elim h [
       | inl p ↦ elim k [
-        | inl q ↦ inl (ap Refused (p.2 ∙ ap (λ number. too_nested file (place_of tokens end number)) (nested_once tokens p.0 q.0 p.1 q.1) ∙ sym q.2))
+        | inl q ↦ inl (ap Refused (p.2 ∙ ap (λ number. too_nested file (token_place tokens end number)) (nested_once tokens p.0 q.0 p.1 q.1) ∙ sym q.2))
         | inr q ↦ absurd (omega (arith, p.1.over, q.0 (suc p.0) (omega (arith, p.1.within))))
       ]
       | inr p ↦ elim k [
         | inl q ↦ absurd (omega (arith, q.1.over, p.0 (suc q.0) (omega (arith, q.1.within))))
-        | inr q ↦ inr (file, place_of tokens end p.1, place_of tokens end q.1, ap Refused p.2, ap Refused q.2)
+        | inr q ↦ inr (file, token_place tokens end p.1, token_place tokens end q.1, ap Refused p.2, ap Refused q.2)
       ]
     ]
 
@@ -101,7 +101,7 @@ lacks_once texts tokens a b h k =
 -- where the tokens before have units, what stops those of a file stops the phase
 pub units_stop : (texts : List (List ℕ)) (tokens : List (List Token)) (files : List (List FileUnit)) (file : ℕ) (text : List ℕ) (list : List Token) (why : Stop) → file < length texts → text ≡ get_or texts file text → file < length tokens → list ≡ get_or tokens file list
     → ((k : ℕ) → k < file → (t : List Token) → slice_get tokens k ≡ Some t → AreUnitsOf k t (get_or files k [])) → StopsAt file list (length text) why
-    → Stops (refuses (AreUnits tokens) (LacksUnits texts tokens)) (status_of why) ⊎ IsMemory (status_of why)
+    → Stops (rejects (AreUnits tokens) (LacksUnits texts tokens)) (status_of why) ⊎ IsMemory (status_of why)
 units_stop texts tokens files file text list (stop.Refused refusal) within is inside its before stops =
     let lacks : LacksUnits texts tokens refusal = record {
       file = file;

@@ -7,18 +7,18 @@ use Rattle.fault_system.specs.Systems.{System, IsSystem}
 use Rattle.fault_system.specs.Listings.{IsListing}
 use Rattle.fault_system.proofs.Elements.{In-contains, contains_In}
 use Rattle.fault_system.proofs.Orders.{one_order}
+use Rattle.backward_slice.specs.Slices.{HasLargeSlice, IsServed}
+use Rattle.backward_slice.proofs.OneSlice.{one_large, one_served, served_or_large}
 use Rattle.first_form.proofs.MadeSystem.{system_is_one}
 use Rattle.phases.specs.Phases.{Passed, IsDecided, IsDue, IsSameEnd}
 use Rattle.phases.specs.declared.status.Status.{Status}
-use Rattle.phases.specs.declared.status.Status.TheVariants.{Usage, NotYet}
-use Rattle.phases.proofs.Leaves.{decided_answers, decided_finds, decided_refuses, decided_takes, decided_tests}
+use Rattle.phases.specs.declared.status.Status.TheVariants.{Usage, NotYet, Refused}
+use Rattle.phases.proofs.Leaves.{decided_answers, decided_finds, decided_rejects, decided_accepts, decided_tests}
 use Rattle.phases.proofs.Decided as decided
-use Rattle.fta_run.specs.declared.words.Task.{Task}
-use Rattle.fta_run.specs.declared.words.Task.TheVariants.{Check, Cuts}
-use Rattle.fta_run.specs.Words.{IsCommand}
+use Rattle.fta_run.specs.Words.{Check, Command, Cuts, IsCommand, files_of}
 use Rattle.fta_run.specs.Files.{AreTokens, AreUnits, HasTooLong, HasTooMuch, LacksTokens, LacksUnits, MayContain, NamesTooMany}
 use Rattle.fta_run.specs.Model.{AreOfForm, IsFactNamed, IsRootOf, LacksRoot, LacksTarget}
-use Rattle.fta_run.specs.Due.{due, texts_of, units_of, system_at, text_of}
+use Rattle.fta_run.specs.Due.{command_text, cuts_text, due, system_at, system_in, texts_of, units_of}
 use Rattle.fta_run.specs.Answers.{AllTold, IsOutput, IsSameStatus}
 use Rattle.fta_run.proofs.Roots.{one_command}
 use Rattle.fta_run.proofs.Lacking.{clear_tokens, one_tokens}
@@ -46,7 +46,7 @@ texts_decided : (contents : List ℕ → Option (List ℕ)) (files : List (List 
 texts_decided contents files told = (
   decided_tests IsSameStatus itself (NamesTooMany files),
   λ _ few. (
-    decided_takes IsSameStatus (MayContain contents files) (λ a b h k. one_texts contents files a b told h k),
+    decided_accepts IsSameStatus (MayContain contents files) (λ a b h k. one_texts contents files a b told h k),
     λ texts are. (decided_tests IsSameStatus itself (HasTooLong texts), λ _ short. (decided_tests IsSameStatus itself (HasTooMuch texts), λ _ little. tt)),
   ),
 )
@@ -54,7 +54,7 @@ texts_decided contents files told = (
 units_decided : (texts : List (List ℕ)) → IsDecided IsSameStatus (units_of texts)
 units_decided texts = (
   decided_answers IsSameStatus itself (AreTokens texts) (LacksTokens texts) (one_tokens texts) (λ tokens refusal are lacks. clear_tokens texts tokens are refusal lacks),
-  λ tokens are. decided_refuses IsSameStatus (AreUnits tokens) (LacksUnits texts tokens) (one_units tokens) (λ files refusal have lacks. lacks_or_have texts tokens files refusal have lacks) (lacks_once texts tokens),
+  λ tokens are. decided_rejects IsSameStatus (AreUnits tokens) (LacksUnits texts tokens) (one_units tokens) (λ files refusal have lacks. lacks_or_have texts tokens files refusal have lacks) (lacks_once texts tokens),
 )
 
 system_decided : (root : Root) (texts : List (List ℕ)) → IsDecided IsSameStatus (system_at root texts)
@@ -71,11 +71,13 @@ one_listing system target a b one other =
     one_order a b one.ordered other.ordered (λ set i. In-contains set b ((other.exact set).1 ((one.exact set).0 (contains_In set a i))))
     (λ set i. In-contains set a ((one.exact set).1 ((other.exact set).0 (contains_In set b i))))
 
-text_decided : (task : Task) (system : System) → IsSystem system → IsDecided IsSameStatus (text_of task system)
-text_decided Check system right = tt
-text_decided (Cuts target) system right = (
+cuts_decided : (target : List ℕ) (system : System) → IsSystem system → IsDecided IsSameStatus (cuts_text target system)
+cuts_decided target system right = (
   decided_answers IsSameStatus itself (IsFactNamed system target) (LacksTarget system target) (λ m n h k. one_number system m n target right.facts_named h k) (λ number refusal named lacks. lacks.0 number named),
-  λ number named. (decided_takes IsSameStatus (IsListing system number None) (one_listing system number), λ sets are. tt),
+  λ number named. (
+    decided_rejects IsSameStatus (IsServed system number) (HasLargeSlice system number) (one_served system number) (λ slice refusal served large. served_or_large system number slice refusal served large) (λ a b x y. inl (ap Refused (one_large system number a b x y))),
+    λ slice served. (decided_accepts IsSameStatus (IsListing system number None) (one_listing system number), λ sets are. tt),
+  ),
 )
 
 -- the system of a root is one
@@ -84,14 +86,15 @@ is_system root texts system at =
     let form = at.2 in
     subst IsSystem (sym form.2.2) (system_is_one form.0.machine form.1.form_is.right)
 
+system_in_decided : (contents : List ℕ → Option (List ℕ)) (root : Root) (files : List (List ℕ)) → AllByRecursion (λ file. IsSome (contents file)) files → IsDecided IsSameStatus (system_in contents root files)
+system_in_decided contents root files told = (texts_decided contents files told, λ texts are. system_decided root texts)
+
+command_decided : (contents : List ℕ → Option (List ℕ)) (command : Command) → AllByRecursion (λ file. IsSome (contents file)) (files_of command) → IsDecided IsSameStatus (command_text contents command)
+command_decided contents (Check root files) told = (system_in_decided contents root files told, λ system at. tt)
+command_decided contents (Cuts root target files) told = (system_in_decided contents root files told, λ system at. cuts_decided target system (is_system root at.0 system at.2))
+
 due_decided : (words : List (List ℕ)) (contents : List ℕ → Option (List ℕ)) → AllTold words contents → IsDecided IsSameStatus (due words contents)
-due_decided words contents told = (
-  decided_finds IsSameStatus itself (IsCommand words) Usage (one_command words),
-  λ command is. (
-    texts_decided contents command.files (told command is),
-    λ texts are. (system_decided command.root texts, λ system at. text_decided command.task system (is_system command.root texts system at)),
-  ),
-)
+due_decided words contents told = (decided_finds IsSameStatus itself (IsCommand words) Usage (one_command words), λ command is. command_decided contents command (told command is))
 
 pub one_due : (words : List (List ℕ)) (contents : List ℕ → Option (List ℕ)) → AllTold words contents → (a b : Result (List ℕ) Status) → IsDue (due words contents) a → IsDue (due words contents) b → IsSameEnd IsSameStatus a b
 one_due words contents told = decided.one_due IsSameStatus (due words contents) (due_decided words contents told)

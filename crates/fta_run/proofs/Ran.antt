@@ -7,21 +7,20 @@ use Rattle.aadl_syntax.specs.declared.refusal.Refusal.{Refusal}
 use Rattle.aadl_syntax.specs.Order.{IsFirst}
 use Rattle.aadl_syntax.specs.declared.name.Root.{Root}
 use Rattle.phases.specs.Meets.{IsMemory}
-use Rattle.phases.specs.Phases.{Phase, Passes, Stops, joins, finds, IsDue, IsRefusal, IsSameEnd}
+use Rattle.phases.specs.Phases.{Phase, Passes, Stops, chains, finds, IsDue, IsRefusal, IsSameEnd}
 use Rattle.phases.specs.declared.status.Status.{Status}
 use Rattle.phases.specs.declared.status.Status.TheVariants.{Done, Usage, Refused, ReadFault, WriteFault, Memory, NotYet}
 use Rattle.phases.proofs.Endings.{StopsOnly, stops_only}
-use Rattle.fta_run.specs.declared.words.Task.{Task}
-use Rattle.fta_run.specs.declared.words.Task.TheVariants.{Check, Cuts}
 use Rattle.fault_system.specs.Systems.{System}
-use Rattle.fta_run.specs.Words.{Command, GiveCommand, GiveNoCommand, IsCommand, file_words}
+use Rattle.backward_slice.specs.Slices.{HasLargeSlice}
+use Rattle.fta_run.specs.Words.{Check, Command, Cuts, files_of, GiveCommand, GiveNoCommand, IsCommand, file_words}
 use Rattle.fta_run.specs.Files.{HasTooLong, HasTooMuch, LacksTokens, LacksUnits, NamesTooMany, most_files, of_words}
 use Rattle.fta_run.specs.Model.{LacksRoot, LacksTarget}
-use Rattle.fta_run.specs.Due.{due, texts_of, system_at, text_of}
+use Rattle.fta_run.specs.Due.{command_text, cuts_text, due, system_at, system_in, texts_of}
 use Rattle.fta_run.specs.Answers.{AllTold, AnswersWords, IsJustified, IsManyAnswer, IsSameStatus, MayCome}
-use Rattle.fta_run.specs.Steps.{IsReadEnd, Prints, Runs, ended}
+use Rattle.fta_run.specs.Steps.{IsReadEnd, Prints, Runs, RunsBut, ended}
 use Rattle.fta_run.proofs.Prints.{prints_on}
-use Rattle.fta_run.proofs.Roots.{files_of}
+use Rattle.fta_run.proofs.Roots.{file_words_are}
 use Rattle.fta_run.proofs.OneDue.{one_due}
 
 -- ---- how the phases stop
@@ -33,9 +32,8 @@ Later status = ((refusal : Refusal) × (status ≡ Refused refusal)) ⊎ (status
 refusal_later : (Why : Refusal → Type 0) (s : Status) → IsRefusal Why s → Later s
 refusal_later Why s is = inl (is.0, is.2)
 
-text_later : (task : Task) (system : System) → StopsOnly Later (text_of task system)
-text_later Check system = tt
-text_later (Cuts target) system = (refusal_later (IsFirst (LacksTarget system target)), λ number named. ((λ s none. absurd none), λ sets are. tt))
+cuts_later : (target : List ℕ) (system : System) → StopsOnly Later (cuts_text target system)
+cuts_later target system = (refusal_later (IsFirst (LacksTarget system target)), λ number named. (refusal_later (HasLargeSlice system number), λ slice served. ((λ s none. absurd none), λ sets are. tt)))
 
 texts_later : (contents : List ℕ → Option (List ℕ)) (files : List (List ℕ)) → StopsOnly Later (texts_of contents files)
 texts_later contents files = (
@@ -49,12 +47,12 @@ system_later root texts = (
   λ files have. ((λ s none. inr none.0), λ form is. (refusal_later (IsFirst (LacksRoot form root)), λ _ at. tt)),
 )
 
--- what is left of what is due, once the words gave a command
-abbrev after_words : (List ℕ → Option (List ℕ)) → Command → Phase (List ℕ)
-after_words contents command = joins (texts_of contents command.files) (λ texts. joins (system_at command.root texts) (text_of command.task))
+system_in_later : (contents : List ℕ → Option (List ℕ)) (root : Root) (files : List (List ℕ)) → StopsOnly Later (system_in contents root files)
+system_in_later contents root files = (texts_later contents files, λ texts read. system_later root texts)
 
-command_later : (contents : List ℕ → Option (List ℕ)) (command : Command) → StopsOnly Later (after_words contents command)
-command_later contents command = (texts_later contents command.files, λ texts read. (system_later command.root texts, λ system at. text_later command.task system))
+command_later : (contents : List ℕ → Option (List ℕ)) (command : Command) → StopsOnly Later (command_text contents command)
+command_later contents (Check root files) = (system_in_later contents root files, λ system at. tt)
+command_later contents (Cuts root target files) = (system_in_later contents root files, λ system at. cuts_later target system)
 
 -- Usage without a command; or there is one, and a later phase stops
 abbrev Kind : List (List ℕ) → Status → Type 0
@@ -64,7 +62,7 @@ kind_of : (words : List (List ℕ)) (contents : List ℕ → Option (List ℕ)) 
 kind_of words contents s stops =
     elim stops.stopped [
       | inl none ↦ inl none
-      | inr there ↦ inr ((there.0, there.1), stops_only Later (after_words contents there.0) (command_later contents there.0) s there.2)
+      | inr there ↦ inr ((there.0, there.1), stops_only Later (command_text contents there.0) (command_later contents there.0) s there.2)
     ]
 
 -- ---- the words
@@ -91,9 +89,9 @@ module _ (words : List (List ℕ)) (contents : List ℕ → Option (List ℕ)) (
             | inr failed ↦ subst (λ x. AnswersWords x words) (sym failed.0) (failed.1.1.passed.0, failed.1.1.passed.1)
           ]
         ]
-        | inr read ↦ elim read.0 [
+        | inr read ↦ elim read.0.0 [
           | inl memory ↦ subst (λ x. AnswersWords x words) (sym memory) tt
-          | inr fault ↦ subst (λ x. AnswersWords x words) (sym fault.1) read.1
+          | inr fault ↦ subst (λ x. AnswersWords x words) (sym fault.1) read.0.1
         ]
       ]
 
@@ -119,7 +117,7 @@ module _ (words : List (List ℕ)) (contents : List ℕ → Option (List ℕ)) (
             | inr failed ↦ subst (IsJustified words contents) (sym failed.0) tt
           ]
         ]
-        | inr read ↦ elim read.0 [
+        | inr read ↦ elim read.0.0 [
           | inl memory ↦ subst (IsJustified words contents) (sym memory) tt
           | inr fault ↦ subst (IsJustified words contents) (sym fault.1) tt
         ]
@@ -167,7 +165,7 @@ ran_complete words contents read_before read_after t u f g (Err s) end told a is
           | inr failed ↦ subst (MayCome a) (sym failed.0) (text_is_due a failed.1.0 (one_due words contents told a (Ok failed.1.0) is_due failed.1.1))
         ]
       ]
-      | inr read ↦ elim read.0 [
+      | inr read ↦ elim read.0.0 [
         | inl memory ↦ subst (MayCome a) (sym memory) tt
         | inr fault ↦ subst (MayCome a) (sym fault.1) tt
       ]
@@ -175,37 +173,33 @@ ran_complete words contents read_before read_after t u f g (Err s) end told a is
 
 -- ---- the steps of a run
 
--- the system was made, and then it ended so
-pub ran : {T : Type 0} (words : List (List ℕ)) (contents : List ℕ → Option (List ℕ)) (read_before read_after : List ℕ → ℕ) (t u : Option (List ℕ)) (f g : ℕ) (result : Result T Status) (command : Command) (texts : List (List ℕ)) (system : System) → Passes (finds (IsCommand words) Usage) command → Passes (texts_of contents command.files) texts
-    → Passes (system_at command.root texts) system → Prints (text_of command.task system) result t u f g → Runs words contents read_before read_after result t u f g
-ran words contents read_before read_after t u f g result command texts system given read at prints =
-    let on_texts = prints_on (system_at command.root texts) (text_of command.task) system result t u f g at prints in
-    let on_files = prints_on (texts_of contents command.files) (λ its. joins (system_at command.root its) (text_of command.task)) texts result t u f g read on_texts in
-    whole result (prints_on (finds (IsCommand words) Usage) (after_words contents) command result t u f g given on_files)
-  where
-    whole : {T : Type 0} (r : Result T Status) → Prints (due words contents) r t u f g → Runs words contents read_before read_after r t u f g
-    whole (Ok _) took = took
-    whole (Err s) end = inl end
+-- the text of a later phase was written
+pub ran_on : {A T : Type 0} (Excuse : Status → Type 0) (first : Phase A) (later : A → Phase (List ℕ)) (x : A) (result : Result T Status) (t u : Option (List ℕ)) (f g : ℕ) → Passes first x → Prints (later x) result t u f g → RunsBut Excuse (chains first later) result t u f g
+ran_on {A} {T} Excuse first later x result t u f g given prints = whole result (prints_on first later x result t u f g given prints) where
+  whole : (r : Result T Status) → Prints (chains first later) r t u f g → RunsBut Excuse (chains first later) r t u f g
+  whole (Ok _) took = took
+  whole (Err s) end = inl end
 
--- a phase stops before anything is written
-pub ran_stopped : {T : Type 0} (words : List (List ℕ)) (contents : List ℕ → Option (List ℕ)) (read_before read_after : List ℕ → ℕ) (t : Option (List ℕ)) (f : ℕ) (result : Result T Status) (s : Status) → IsErrAnd result (λ its. its ≡ s) → Stops (due words contents) s ⊎ IsMemory s → Runs words contents read_before read_after result t t f f
-ran_stopped words contents read_before read_after t f result s is end =
+-- a first phase stopped, or its status is excused, before anything was written
+pub ran_stopped : {A T : Type 0} (Excuse : Status → Type 0) (first : Phase A) (later : A → Phase (List ℕ)) (t : Option (List ℕ)) (f : ℕ) (result : Result T Status) (s : Status) → IsErrAnd result (λ its. its ≡ s) → Stops first s ⊎ Excuse s → RunsBut Excuse (chains first later) result t t f f
+ran_stopped Excuse first later t f result s is end =
     let p = err_from_is_err_and result is in
-    rw (p.1, p.2) (elim end [ inl stops ↦ inl (inl (stops, refl)) | inr memory ↦ inl (inr (inl (memory, inl refl))) ])
+    rw (p.1, p.2) (elim end [ inl stops ↦ inl (inl (record { stopped = inl stops.stopped }, refl)) | inr excused ↦ inr (excused, refl) ])
 
--- the files were not read
-pub ran_unread : {T : Type 0} (words : List (List ℕ)) (contents : List ℕ → Option (List ℕ)) (read_before read_after : List ℕ → ℕ) (t : Option (List ℕ)) (f : ℕ) (result : Result T Status) (command : Command) (s : Status) → IsErrAnd result (λ its. its ≡ s) → Passes (finds (IsCommand words) Usage) command
-    → Stops (texts_of contents command.files) s ⊎ IsReadEnd command.files read_before read_after s → Runs words contents read_before read_after result t t f f
-ran_unread words contents read_before read_after t f result command s is given end =
-    let p = err_from_is_err_and result is in
-    rw (p.1, p.2) (elim end [
-      | inl stops ↦ inl (inl (record { stopped = inr (command, given.passed, inl stops.stopped) }, refl))
-      | inr read ↦ inr (subst (λ files. IsReadEnd files read_before read_after s) (sym (files_of words command given.passed)) read, (command, given.passed), refl)
-    ])
+-- the words give a command, and its text was written, or not
+pub ran : {T : Type 0} (words : List (List ℕ)) (contents : List ℕ → Option (List ℕ)) (read_before read_after : List ℕ → ℕ) (t u : Option (List ℕ)) (f g : ℕ) (result : Result T Status) (command : Command) → Passes (finds (IsCommand words) Usage) command
+    → RunsBut (IsReadEnd (files_of command) read_before read_after) (command_text contents command) result t u f g → Runs words contents read_before read_after result t u f g
+ran words contents read_before read_after t u f g (Ok _) command given took =
+    prints_on (finds (IsCommand words) Usage) (command_text contents) command (Ok tt) t u f g given took
+ran words contents read_before read_after t u f g (Err s) command given end =
+    elim end [
+      | inl wrote ↦ inl (prints_on (finds (IsCommand words) Usage) (command_text contents) command (Err {A = Unit {0}} s) t u f g given wrote)
+      | inr read ↦ inr ((subst (λ files. IsReadEnd files read_before read_after s) (sym (file_words_are words command given.passed)) read.0, (command, given.passed)), read.1)
+    ]
 
 -- too many files of a command
-pub many_named : (words : List (List ℕ)) (command : Command) → Passes (finds (IsCommand words) Usage) command → most_files < length (file_words words) → most_files < length command.files
-many_named words command given many = subst (λ files. most_files < length files) (files_of words command given.passed) many
+pub many_named : (words : List (List ℕ)) (command : Command) → Passes (finds (IsCommand words) Usage) command → most_files < length (file_words words) → most_files < length (files_of command)
+many_named words command given many = subst (λ files. most_files < length files) (file_words_are words command given.passed) many
 
 pub many_answer : {T : Type 0} (result : Result T Status) (s : Status) → IsErrAnd result (λ its. its ≡ s) → s ≡ Refused (of_words TooManyFiles most_files) → IsManyAnswer (ended result)
 many_answer result s is many =

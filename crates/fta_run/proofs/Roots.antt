@@ -8,9 +8,7 @@ use Rattle.std.proofs.lemmas.List.{take_more}
 use Rattle.aadl_syntax.specs.declared.name.Root.{Root}
 use Rattle.aadl_syntax.specs.Form.{IsWord, is_letter, is_letter_or_digit}
 use Rattle.aadl_syntax.specs.Name.{folded, is_same_text}
-use Rattle.fta_run.specs.declared.words.Task.{Task}
-use Rattle.fta_run.specs.declared.words.Task.TheVariants.{Check, Cuts}
-use Rattle.fta_run.specs.Words.{AreJoined, AreTaskWords, Command, IsCommand, IsPlainWord, IsRoot, before_options, dotted, file_words, follows_well, is_option, with_colons}
+use Rattle.fta_run.specs.Words.{AreJoined, Check, Command, Cuts, GiveNoCommand, IsCommand, IsPlainWord, IsRoot, before_options, dotted, file_words, files_of, follows_well, is_option, with_colons}
 use Rattle.fta_run.proofs.Identifiers.{follows_of}
 
 -- no byte is the sign
@@ -161,28 +159,48 @@ check_is_not_cuts xs ys same =
     let names : codes "check" ≡ codes "cuts" = cc (same) in
     false≢true (ap (λ name. is_same_text name (codes "check")) (sym names))
 
-same_task : (words : List (List ℕ)) (task other : Task) (word word₂ : List ℕ) (files files₂ : List (List ℕ)) → AreTaskWords task word files words → AreTaskWords other word₂ files₂ words
-    → (word ≡ word₂) × (task ≡ other) × (files ≡ files₂)
-same_task words Check Check word word₂ files files₂ x y =
-    let both : codes "check" ∷ word ∷ files ≡ codes "check" ∷ word₂ ∷ files₂ = sym x ∙ y in
-    (cc (both), refl, cc (both))
-same_task words Check (Cuts target) word word₂ files files₂ x y = absurd (check_is_not_cuts (word ∷ files) (word₂ ∷ y.0 ∷ files₂) (sym x ∙ y.2))
-same_task words (Cuts target) Check word word₂ files files₂ x y = absurd (check_is_not_cuts (word₂ ∷ files₂) (word ∷ x.0 ∷ files) (sym y ∙ x.2))
-same_task words (Cuts target) (Cuts target₂) word word₂ files files₂ x y =
-    let both : codes "cuts" ∷ word ∷ x.0 ∷ files ≡ codes "cuts" ∷ word₂ ∷ y.0 ∷ files₂ = sym x.2 ∙ y.2 in
-    let roots : word ≡ word₂ = cc (both) in
-    let targets : x.0 ≡ y.0 = cc (both) in
-    let rest : files ≡ files₂ = cc (both) in
-    (roots, ap Cuts (x.1 ∙ ap folded targets ∙ sym y.1), rest)
-
 -- words are one command at most
 pub one_command : (words : List (List ℕ)) (a b : Command) → IsCommand words a → IsCommand words b → a ≡ b
-one_command words a b x y =
-    let same = same_task words a.task b.task x.root_word y.root_word a.files b.files x.words_are y.words_are in
-    let roots : a.root ≡ b.root = one_root (folded y.root_word) a.root b.root (subst (λ w. IsRoot (folded w) a.root) same.0 x.root_is) y.root_is in
-    let tasks : a.task ≡ b.task = same.1 in
-    let files : a.files ≡ b.files = same.2 in
-    λ i. record { root = roots i; task = tasks i; files = files i }
+one_command words (Check root files) (Check root₂ files₂) x y =
+    let both : codes "check" ∷ x.0 ∷ files ≡ codes "check" ∷ y.0 ∷ files₂ = sym x.1 ∙ y.1 in
+    let word : x.0 ≡ y.0 = cc (both) in
+    let roots : root ≡ root₂ = one_root (folded y.0) root root₂ (subst (λ w. IsRoot (folded w) root) word x.2.root_is) y.2.root_is in
+    let rest : files ≡ files₂ = cc (both) in
+    ap (λ r. Check r files) roots ∙ ap (λ f. Check root₂ f) rest
+one_command words (Check root files) (Cuts root₂ target files₂) x y = absurd (check_is_not_cuts (x.0 ∷ files) (y.0 ∷ y.1 ∷ files₂) (sym x.1 ∙ y.2))
+one_command words (Cuts root target files) (Check root₂ files₂) x y = absurd (check_is_not_cuts (y.0 ∷ files₂) (x.0 ∷ x.1 ∷ files) (sym y.1 ∙ x.2))
+one_command words (Cuts root target files) (Cuts root₂ target₂ files₂) x y =
+    let both : codes "cuts" ∷ x.0 ∷ x.1 ∷ files ≡ codes "cuts" ∷ y.0 ∷ y.1 ∷ files₂ = sym x.2 ∙ y.2 in
+    let word : x.0 ≡ y.0 = cc (both) in
+    let named : x.1 ≡ y.1 = cc (both) in
+    let roots : root ≡ root₂ = one_root (folded y.0) root root₂ (subst (λ w. IsRoot (folded w) root) word x.4.root_is) y.4.root_is in
+    let targets : target ≡ target₂ = x.3 ∙ ap folded named ∙ sym y.3 in
+    let rest : files ≡ files₂ = cc (both) in
+    ap (λ r. Cuts r target files) roots ∙ ap (λ t. Cuts root₂ t files) targets ∙ ap (λ f. Cuts root₂ target₂ f) rest
+
+-- words that begin with `check` and name no root give no command
+pub no_check : (words : List (List ℕ)) (name word : List ℕ) (files : List (List ℕ)) → words ≡ name ∷ word ∷ files → is_same_text name (codes "check") ≡ true → ((root : Root) → 0 < length files → IsRoot (folded word) root → ⊥) → GiveNoCommand words
+no_check words name word files are is none (Check root its) x =
+    let both : name ∷ word ∷ files ≡ codes "check" ∷ x.0 ∷ its = sym are ∙ x.1 in
+    let same : x.0 ≡ word = cc (both) in
+    let rest : its ≡ files = cc (both) in
+    none root (subst (λ f. 0 < length f) rest x.2.some_file) (subst (λ w. IsRoot (folded w) root) same x.2.root_is)
+no_check words name word files are is none (Cuts root target its) x =
+    let both : name ∷ word ∷ files ≡ codes "cuts" ∷ x.0 ∷ x.1 ∷ its = sym are ∙ x.2 in
+    let named : name ≡ codes "cuts" = cc (both) in
+    false≢true (sym (ap (λ n. is_same_text n (codes "check")) named) ∙ is)
+
+-- words that begin with `cuts` and name no root give no command
+pub no_cuts : (words : List (List ℕ)) (name word target : List ℕ) (files : List (List ℕ)) → words ≡ name ∷ word ∷ target ∷ files → is_same_text name (codes "cuts") ≡ true → ((root : Root) → 0 < length files → IsRoot (folded word) root → ⊥) → GiveNoCommand words
+no_cuts words name word target files are is none (Check root its) x =
+    let both : name ∷ word ∷ target ∷ files ≡ codes "check" ∷ x.0 ∷ its = sym are ∙ x.1 in
+    let named : name ≡ codes "check" = cc (both) in
+    false≢true (sym (ap (λ n. is_same_text n (codes "cuts")) named) ∙ is)
+no_cuts words name word target files are is none (Cuts root its_target its) x =
+    let both : name ∷ word ∷ target ∷ files ≡ codes "cuts" ∷ x.0 ∷ x.1 ∷ its = sym are ∙ x.2 in
+    let same : x.0 ≡ word = cc (both) in
+    let rest : its ≡ files = cc (both) in
+    none root (subst (λ f. 0 < length f) rest x.4.some_file) (subst (λ w. IsRoot (folded w) root) same x.4.root_is)
 
 -- ---- the file words
 
@@ -203,13 +221,10 @@ plain_words : (words : List (List ℕ)) → AllByRecursion IsPlainWord words →
 plain_words [] plain = refl
 plain_words (word ∷ words) plain = no_end word (before_options words) (is_option word) (no_option word plain.0) ∙ ap (λ ws. word ∷ ws) (plain_words words plain.1)
 
-files_after : (words : List (List ℕ)) (task : Task) (word : List ℕ) (files : List (List ℕ)) → AreTaskWords task word files words → AllByRecursion IsPlainWord words → file_words words ≡ files
-files_after words Check word files x plain = ap file_words x ∙ plain_words files (subst (AllByRecursion IsPlainWord) x plain).1.1
-files_after words (Cuts target) word files x plain = ap file_words x.2 ∙ plain_words files (subst (AllByRecursion IsPlainWord) x.2 plain).1.1.1
-
 -- the file words of a command
-pub files_of : (words : List (List ℕ)) (command : Command) → IsCommand words command → file_words words ≡ command.files
-files_of words command is = files_after words command.task is.root_word command.files is.words_are is.plain
+pub file_words_are : (words : List (List ℕ)) (command : Command) → IsCommand words command → file_words words ≡ files_of command
+file_words_are words (Check root files) x = ap file_words x.1 ∙ plain_words files (subst (AllByRecursion IsPlainWord) x.1 x.2.plain).1.1
+file_words_are words (Cuts root target files) x = ap file_words x.2 ∙ plain_words files (subst (AllByRecursion IsPlainWord) x.2 x.4.plain).1.1.1
 
 -- one more word that is no option
 pub one_more : (words : List (List ℕ)) (number : ℕ) (word : List ℕ) → number < length words → word ≡ get_or words number word → is_option word ≡ false

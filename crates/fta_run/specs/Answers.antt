@@ -6,9 +6,9 @@ use Rattle.aadl_syntax.specs.declared.refusal.Refusal.{Refusal}
 use Rattle.phases.specs.Phases.{Passes, Stops}
 use Rattle.phases.specs.declared.status.Status.{Status}
 use Rattle.phases.specs.declared.status.Status.TheVariants.{Done, Usage, Refused, ReadFault, WriteFault, Memory, NotYet}
-use Rattle.emv2_parser.specs.Grammar.{syntax_error}
+use Rattle.grammar_rules.specs.Texts.{syntax_error}
 use Rattle.fta_outside.specs.Outside.{Rose, TookPrefix, with_bytes}
-use Rattle.fta_run.specs.Words.{Command, GiveCommand, GiveNoCommand, IsCommand, file_words}
+use Rattle.fta_run.specs.Words.{Command, files_of, GiveCommand, GiveNoCommand, IsCommand, file_words}
 use Rattle.fta_run.specs.Files.{most_files, of_words}
 use Rattle.fta_run.specs.Due.{due}
 
@@ -28,7 +28,7 @@ IsNotServed words contents = Stops (due words contents) NotYet
 
 -- What each file of the command contains is told; so too where the words give no command.
 abbrev pub AllTold : List (List ℕ) → (List ℕ → Option (List ℕ)) → Type 0
-AllTold words contents = (command : Command) → IsCommand words command → AllByRecursion (λ file. IsSome (contents file)) command.files
+AllTold words contents = (command : Command) → IsCommand words command → AllByRecursion (λ file. IsSome (contents file)) (files_of command)
 
 -- Two statuses are the same, or refusals of a syntax error in one file: of the place of these only that it is dead is said.
 abbrev pub IsSameStatus : Status → Status → Type 0

@@ -2,14 +2,13 @@
 use Rattle.std.specs.Prelude.{ℕ, List, length, Option, None}
 use Rattle.aadl_syntax.specs.declared.name.Root.{Root}
 use Rattle.aadl_syntax.specs.declared.core_model.Unit.{Unit as FileUnit}
-use Rattle.phases.specs.Phases.{Phase, gives, takes, needs, tests, answers, refuses, finds, ◌>>=◌}
+use Rattle.phases.specs.Phases.{Phase, yields, accepts, needs, tests, answers, rejects, finds, ◌>>=◌}
 use Rattle.phases.specs.declared.status.Status.TheVariants.{Usage, NotYet}
 use Rattle.fault_system.specs.Systems.{System}
+use Rattle.backward_slice.specs.Slices.{HasLargeSlice, IsServed}
 use Rattle.fault_system.specs.Listings.{IsListing}
 use Rattle.first_form.specs.Meaning.{system_of}
-use Rattle.fta_run.specs.declared.words.Task.{Task}
-use Rattle.fta_run.specs.declared.words.Task.TheVariants.{Check, Cuts}
-use Rattle.fta_run.specs.Words.{IsCommand}
+use Rattle.fta_run.specs.Words.{Command, Check, Cuts, IsCommand}
 use Rattle.fta_run.specs.Files.{MayContain, NamesTooMany, HasTooLong, HasTooMuch, AreTokens, LacksTokens, AreUnits, LacksUnits}
 use Rattle.fta_run.specs.Model.{AreOfForm, IsRootOf, LacksRoot, IsFactNamed, LacksTarget}
 use Rattle.fta_run.specs.Text.{listing_text, numbers_text}
@@ -18,16 +17,16 @@ use Rattle.fta_run.specs.Text.{listing_text, numbers_text}
 abbrev pub texts_of : (List ℕ → Option (List ℕ)) → List (List ℕ) → Phase (List (List ℕ))
 texts_of contents files = do
   _ ← tests (NamesTooMany files)
-  texts ← takes (MayContain contents files)
+  texts ← accepts (MayContain contents files)
   _ ← tests (HasTooLong texts)
   _ ← tests (HasTooMuch texts)
-  gives texts
+  yields texts
 
 -- the units of the files of these texts: what the tokens of each read as
 abbrev pub units_of : List (List ℕ) → Phase (List (List FileUnit))
 units_of texts = do
   tokens ← answers (AreTokens texts) (LacksTokens texts)
-  refuses (AreUnits tokens) (LacksUnits texts tokens)
+  rejects (AreUnits tokens) (LacksUnits texts tokens)
 
 -- the system of the root in files of these texts, which are of the first form
 abbrev pub system_at : Root → List (List ℕ) → Phase System
@@ -35,21 +34,37 @@ system_at root texts = do
   files ← units_of texts
   form ← finds (AreOfForm files) NotYet
   _ ← needs (IsRootOf form root) (LacksRoot form root)
-  gives (system_of form.machine)
+  yields (system_of form.machine)
 
--- the text of a task on a system: the numbers of components, of which the first form has one, of facts and of events; or the
--- listing of the fact that the target names
-abbrev pub text_of : Task → System → Phase (List ℕ)
-text_of Check system = gives (numbers_text 1 (length system.facts) (length system.events))
-text_of (Cuts target) system = do
+-- the system of the root in the files of these names
+abbrev pub system_in : (List ℕ → Option (List ℕ)) → Root → List (List ℕ) → Phase System
+system_in contents root files = do
+  texts ← texts_of contents files
+  system_at root texts
+
+-- the text of `check`: the numbers of components, of which the first form has one, of facts and of events
+abbrev pub check_text : System → Phase (List ℕ)
+check_text system = yields (numbers_text 1 (length system.facts) (length system.events))
+
+-- the text of `cuts`: the listing of the fact that the target names, whose slice is not too large
+abbrev pub cuts_text : List ℕ → System → Phase (List ℕ)
+cuts_text target system = do
   number ← answers (IsFactNamed system target) (LacksTarget system target)
-  sets ← takes (IsListing system number None)
-  gives (listing_text system sets)
+  _ ← rejects (IsServed system number) (HasLargeSlice system number)
+  sets ← accepts (IsListing system number None)
+  yields (listing_text system sets)
 
--- the text of the command that the words give, where this is what the files contain
+-- the text of a command, where this is what the files contain
+abbrev pub command_text : (List ℕ → Option (List ℕ)) → Command → Phase (List ℕ)
+command_text contents (Check root files) = do
+  system ← system_in contents root files
+  check_text system
+command_text contents (Cuts root target files) = do
+  system ← system_in contents root files
+  cuts_text target system
+
+-- the text of the command that the words give
 abbrev pub due : List (List ℕ) → (List ℕ → Option (List ℕ)) → Phase (List ℕ)
 due words contents = do
   command ← finds (IsCommand words) Usage
-  texts ← texts_of contents command.files
-  system ← system_at command.root texts
-  text_of command.task system
+  command_text contents command

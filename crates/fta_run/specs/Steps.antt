@@ -35,13 +35,16 @@ abbrev pub Prints : {T : Type 0} → Phase (List ℕ) → Result T Status → Op
 Prints phase result before after faults_before faults_after =
     MatchResult result (λ _. TookText (Passes phase) before after) (λ status. (Stops phase status × (after ≡ before)) ⊎ IsWriteEnd phase before after faults_before faults_after status)
 
+-- The same, or the status is excused, and the sink took nothing.
+abbrev pub RunsBut : {T : Type 0} → (Status → Type 0) → Phase (List ℕ) → Result T Status → Option (List ℕ) → Option (List ℕ) → ℕ → ℕ → Type 0
+RunsBut Excuse phase result before after faults_before faults_after =
+    MatchResult result (λ _. TookText (Passes phase) before after)
+    (λ status. ((Stops phase status × (after ≡ before)) ⊎ IsWriteEnd phase before after faults_before faults_after status) ⊎ (Excuse status × (after ≡ before)))
+
 -- A sink took the text that is due; or the phases stop, and it took nothing; or memory was wanting, or a write failed; or a read
 -- of a file of the command failed.
 abbrev pub Runs : {T : Type 0} → List (List ℕ) → (List ℕ → Option (List ℕ)) → (List ℕ → ℕ) → (List ℕ → ℕ) → Result T Status → Option (List ℕ) → Option (List ℕ) → ℕ → ℕ → Type 0
-Runs words contents read_before read_after result before after faults_before faults_after =
-    MatchResult result (λ _. TookText (Passes (due words contents)) before after)
-    (λ status. ((Stops (due words contents) status × (after ≡ before)) ⊎ IsWriteEnd (due words contents) before after faults_before faults_after status)
-    ⊎ (IsReadEnd (file_words words) read_before read_after status × GiveCommand words × (after ≡ before)))
+Runs words contents read_before read_after = RunsBut (λ status. IsReadEnd (file_words words) read_before read_after status × GiveCommand words) (due words contents)
 
 -- the status of an answer
 abbrev pub ended : {T : Type 0} → Result T Status → Status

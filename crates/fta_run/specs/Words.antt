@@ -4,8 +4,6 @@ use Rattle.std.specs.List.{AllByRecursion}
 use Rattle.aadl_syntax.specs.Name.{folded, is_same_text}
 use Rattle.aadl_syntax.specs.declared.name.Root.{Root}
 use Rattle.aadl_syntax.specs.Form.{IsWord, is_letter_or_digit}
-use Rattle.fta_run.specs.declared.words.Task.{Task}
-use Rattle.fta_run.specs.declared.words.Task.TheVariants.{Check, Cuts}
 
 -- a word that stands for itself: UTF-8 text, not empty, that does not begin with `-`
 abbrev pub IsPlainWord : List ℕ → Type 0
@@ -36,24 +34,28 @@ pub record IsRoot (text : List ℕ) (root : Root) : Type 0 where
   pub identifiers : AllByRecursion IsWord root.names
   pub item_identifier : IfSome root.item IsWord
 
--- what the words ask for: a task on the model of a root, which stands in files of these names
-pub record Command : Type 0 where
-  pub root : Root
-  pub task : Task
-  pub files : List (List ℕ)
+-- what the words ask for
+pub data Command : Type 0 where
+  -- the numbers of the system of a root, which stands in files of these names
+  Check : Root → List (List ℕ) → Command
+  -- the minimal cut sets of the fact of a name in such a system
+  Cuts : Root → List ℕ → List (List ℕ) → Command
 
--- The words of a task: `check`, a root and files, or `cuts`, a root, a target, whose letters are folded, and files.
-abbrev pub AreTaskWords : Task → List ℕ → List (List ℕ) → List (List ℕ) → Type 0
-AreTaskWords Check root_word files words = words ≡ codes "check" ∷ root_word ∷ files
-AreTaskWords (Cuts target) root_word files words = (target_word : List ℕ) × (target ≡ folded target_word) × (words ≡ codes "cuts" ∷ root_word ∷ target_word ∷ files)
+-- the names of the files of a command
+abbrev pub files_of : Command → List (List ℕ)
+files_of (Check root files) = files
+files_of (Cuts root target files) = files
 
--- The words are those of a task for a root, and one or more files, all plain; letters of the root are folded.
-pub record IsCommand (words : List (List ℕ)) (command : Command) : Type 0 where
-  pub root_word : List ℕ
-  pub words_are : AreTaskWords command.task root_word command.files words
-  pub some_file : 0 < length command.files
+-- The words are plain, one of them stands for the root, whose letters are folded, and there is a file.
+pub record NameModel (words : List (List ℕ)) (root_word : List ℕ) (root : Root) (files : List (List ℕ)) : Type 0 where
   pub plain : AllByRecursion IsPlainWord words
-  pub root_is : IsRoot (folded root_word) command.root
+  pub root_is : IsRoot (folded root_word) root
+  pub some_file : 0 < length files
+
+-- The words are a command: `check`, a root and files, or `cuts`, a root, a target, whose letters are folded, and files.
+abbrev pub IsCommand : List (List ℕ) → Command → Type 0
+IsCommand words (Check root files) = (root_word : List ℕ) × (words ≡ codes "check" ∷ root_word ∷ files) × NameModel words root_word root files
+IsCommand words (Cuts root target files) = (root_word : List ℕ) × (target_word : List ℕ) × (words ≡ codes "cuts" ∷ root_word ∷ target_word ∷ files) × (target ≡ folded target_word) × NameModel words root_word root files
 
 -- The words give a command.
 abbrev pub GiveCommand : List (List ℕ) → Type 0

@@ -1,25 +1,28 @@
-ghost use Rattle.std.specs.Prelude.{◌≡◌, ◌<◌, ◌≤◌, ℕ, List, Result, MatchResult, length};
+ghost use Rattle.std.specs.Prelude.{◌≡◌, ◌<◌, ◌≤◌, ℕ, List, Result, Err, MatchResult, length};
 ghost use Rattle.fta_outside.specs.Outside.{Rose, TookPrefix, with_bytes};
 ghost use Rattle.phases.specs.Phases.{IsDue};
+ghost use Rattle.phases.specs.Meets.{MeetsBut};
 ghost use Rattle.phases.specs.declared.status.Status.{Status as AnyStatus};
-ghost use Rattle.fta_run.specs.declared.words.Task.TheVariants.{Check, Cuts};
+ghost use Rattle.phases.specs.declared.status.Status.TheVariants.{Refused};
+ghost use Rattle.aadl_syntax.specs.declared.refusal.Code.TheVariants.{TooManyFiles};
+ghost use Rattle.fta_run.specs.Shown.{command_shown};
 ghost use Rattle.fta_run.specs.Line.{status_line};
 ghost use Rattle.fta_run.specs.Answers.{AllTold, AnswersWords, IsCaused, IsJustified, IsManyAnswer, IsOutput, MayCome, Took};
-ghost use Rattle.fta_run.specs.Due.{due, text_of};
-ghost use Rattle.fta_run.specs.Files.{most_files};
-ghost use Rattle.fta_run.specs.Words.{GiveNoCommand, file_words};
-ghost use Rattle.fta_run.specs.Steps.{Prints, Runs, ended};
+ghost use Rattle.fta_run.specs.Due.{check_text, command_text, cuts_text, due, system_in};
+ghost use Rattle.fta_run.specs.Files.{most_files, of_words};
+ghost use Rattle.fta_run.specs.Words.{Check, Cuts, GiveNoCommand, file_words, files_of};
+ghost use Rattle.fta_run.specs.Steps.{IsReadEnd, Prints, Runs, RunsBut, ended};
 
 use crate::input::read_texts;
 use crate::line::write_line;
+use crate::cut_sets::{find_slice, minimal_cut_sets};
 use crate::model::{find_target, system_at};
 use crate::text::{write_listing, write_numbers};
-use crate::words::{Task, command_of, file_words};
-use aadl_syntax::{Name, Word};
+use crate::words::{Command, command_of, file_words};
+use aadl_syntax::{Name, Root, Word};
 use fault_system::FaultSystem;
 use fta_outside::{Files, Sink};
 use phases::Status;
-use plain_listing::plain_listing;
 use std::alloc::Global;
 
 /// Runs the command that the words give, and says how it ended.
@@ -98,47 +101,98 @@ fn answer<F: Files, S: Sink>(
     ensures many { most_files < length (file_words words.now) → IsManyAnswer (ended result) }
 {
     let command = command_of(alloc, words)?;
-    let texts = read_texts(alloc, files, command.files)?;
-    let system = system_at(alloc, &command.root, &texts)?;
-    write_text(alloc, &command.task, &system, out)
+    write_command(alloc, &command, files, out)
 }
 
-/// Writes the text of a task on a system.
-fn write_text<S: Sink>(
+/// Writes the text of a command.
+fn write_command<F: Files, S: Sink>(
     alloc: Global,
-    task: &Task,
-    system: &FaultSystem,
+    command: &Command<'_>,
+    files: &mut F,
     out: &mut S,
 ) -> Result<(), Status>
-    requires few { length system.now.events ≤ 16 }
-    ensures { Prints (text_of task.now system.now) result (S.taken out.old) (S.taken out.new) (S.faults out.old) (S.faults out.new) }
+    ensures end { RunsBut (IsReadEnd (files_of (command_shown command.now)) (F.faults files.old) (F.faults files.new)) (command_text (F.contents files.old) (command_shown command.now)) result (S.taken out.old) (S.taken out.new) (S.faults out.old) (S.faults out.new) }
+    ensures too_many { most_files < length (files_of (command_shown command.now)) → files.new ≡ files.old }
+    ensures many { most_files < length (files_of (command_shown command.now)) → IsManyAnswer (ended result) }
 {
-    match task {
-        Task::Check => write_check(alloc, system, out),
-        Task::Cuts(target) => write_cuts(alloc, system, target, out),
+    match command {
+        Command::Check { root, files: names } => check(alloc, root, names, files, out),
+        Command::Cuts {
+            root,
+            target,
+            files: names,
+        } => cuts(alloc, root, target, names, files, out),
     }
 }
 
-/// Writes the numbers of the system.
+/// Writes the numbers of the system of a root.
+fn check<F: Files, S: Sink>(
+    alloc: Global,
+    root: &Root,
+    names: &[Word],
+    files: &mut F,
+    out: &mut S,
+) -> Result<(), Status>
+    ensures end { RunsBut (IsReadEnd names.now (F.faults files.old) (F.faults files.new)) (command_text (F.contents files.old) (Check root.now names.now)) result (S.taken out.old) (S.taken out.new) (S.faults out.old) (S.faults out.new) }
+    ensures too_many { most_files < length names.now → files.new ≡ files.old }
+    ensures many { most_files < length names.now → IsManyAnswer (ended result) }
+{
+    let system = read_system(alloc, root, names, files)?;
+    write_check(alloc, &system, out)
+}
+
+/// Writes the listing of a target in the system of a root.
+fn cuts<F: Files, S: Sink>(
+    alloc: Global,
+    root: &Root,
+    target: &Name,
+    names: &[Word],
+    files: &mut F,
+    out: &mut S,
+) -> Result<(), Status>
+    ensures end { RunsBut (IsReadEnd names.now (F.faults files.old) (F.faults files.new)) (command_text (F.contents files.old) (Cuts root.now target.now names.now)) result (S.taken out.old) (S.taken out.new) (S.faults out.old) (S.faults out.new) }
+    ensures too_many { most_files < length names.now → files.new ≡ files.old }
+    ensures many { most_files < length names.now → IsManyAnswer (ended result) }
+{
+    let system = read_system(alloc, root, names, files)?;
+    write_cuts(alloc, &system, target, out)
+}
+
+/// The system of a root in the files of these names.
+fn read_system<F: Files>(
+    alloc: Global,
+    root: &Root,
+    names: &[Word],
+    files: &mut F,
+) -> Result<FaultSystem, Status>
+    ensures meets { MeetsBut (IsReadEnd names.now (F.faults files.old) (F.faults files.new)) (λ system. system) (system_in (F.contents files.old) root.now names.now) result }
+    ensures unread { most_files < length names.now → files.new ≡ files.old }
+    ensures many { most_files < length names.now → result ≡ Err (Refused (of_words TooManyFiles most_files)) }
+{
+    let texts = read_texts(alloc, files, names)?;
+    system_at(alloc, root, &texts)
+}
+
+/// Writes the numbers of a system.
 fn write_check<S: Sink>(alloc: Global, system: &FaultSystem, out: &mut S) -> Result<(), Status>
-    ensures { Prints (text_of Check system.now) result (S.taken out.old) (S.taken out.new) (S.faults out.old) (S.faults out.new) }
+    ensures { Prints (check_text system.now) result (S.taken out.old) (S.taken out.new) (S.faults out.old) (S.faults out.new) }
 {
     write_numbers(alloc, 1, system, out)?;
     Ok(())
 }
 
-/// Writes the listing of the target.
+/// Writes the listing of a target in a system.
 fn write_cuts<S: Sink>(
     alloc: Global,
     system: &FaultSystem,
     target: &Name,
     out: &mut S,
 ) -> Result<(), Status>
-    requires few { length system.now.events ≤ 16 }
-    ensures { Prints (text_of (Cuts target.now) system.now) result (S.taken out.old) (S.taken out.new) (S.faults out.old) (S.faults out.new) }
+    ensures { Prints (cuts_text target.now system.now) result (S.taken out.old) (S.taken out.new) (S.faults out.old) (S.faults out.new) }
 {
     let number = find_target(system, target)?;
-    let sets = plain_listing(alloc, system, number)?;
+    let part = find_slice(alloc, system, number)?;
+    let sets = minimal_cut_sets(alloc, system, &part)?;
     write_listing(alloc, system, sets.items(), out)?;
     Ok(())
 }

@@ -6,7 +6,7 @@ ghost use Rattle.aadl_syntax.specs.Order.{IsFirst, least, nearer};
 ghost use Rattle.aadl_lexer.specs.Tokens.{IsFault, RefusedAs, Tokens};
 ghost use Rattle.aadl_parser.specs.Files.{StopsAt};
 ghost use Rattle.phases.specs.Meets.{Meets, MeetsBut};
-ghost use Rattle.phases.specs.Phases.{answers, refuses};
+ghost use Rattle.phases.specs.Phases.{answers, rejects};
 ghost use Rattle.fta_run.specs.Due.{texts_of, units_of};
 ghost use Rattle.fta_run.specs.Files.{AreTokens, AreUnits, AreUnitsOf, HasTooLong, HasTooMuch, LacksTokens, LacksUnits, most_bytes, most_files, most_text, of_words, too_long, too_long_from};
 ghost use Rattle.fta_run.specs.Steps.{AreFronts, IsFileEnd, IsReadEnd};
@@ -14,7 +14,7 @@ ghost use Rattle.fta_run.specs.Steps.{AreFronts, IsFileEnd, IsReadEnd};
 use aadl_lexer::tokens;
 use aadl_parser::units;
 use aadl_syntax::{Answer, Code, FirstRefusal, List, Name, Place, Refusal, TokenList, Unit, Word};
-use fta_outside::{Files, ReadError};
+use fta_outside::{FileError, Files};
 use phases::Status;
 use std::alloc::Global;
 use std::marker::Model;
@@ -99,8 +99,8 @@ fn read_file<F: Files>(
 {
     match files.read(alloc, name, MOST_BYTES + 1) {
         Ok(bytes) => whole_text(bytes),
-        Err(ReadError::Failed) => Err(Status::ReadFault(number)),
-        Err(ReadError::Memory) => Err(Status::Memory),
+        Err(FileError::Failed) => Err(Status::ReadFault(number)),
+        Err(FileError::Memory) => Err(Status::Memory),
     }
 }
 
@@ -198,7 +198,7 @@ fn units_of_tokens(
     lists: &List<TokenList>,
 ) -> Result<List<List<Unit>>, Status>
     requires { AreTokens texts.now lists.now }
-    ensures { Meets (refuses (AreUnits lists.now) (LacksUnits texts.now lists.now)) result }
+    ensures { Meets (rejects (AreUnits lists.now) (LacksUnits texts.now lists.now)) result }
 {
     let mut files = List::new(alloc);
     let texts = texts.items();

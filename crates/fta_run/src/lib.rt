@@ -2,6 +2,7 @@
 #![tactic(auto)]
 
 mod command;
+mod cut_sets;
 mod input;
 mod laws;
 mod line;

@@ -4,8 +4,7 @@ ghost use Rattle.phases.specs.Phases.{finds};
 ghost use Rattle.phases.specs.declared.status.Status.TheVariants.{Usage};
 ghost use Rattle.std.specs.List.{AllByRecursion};
 ghost use Rattle.aadl_syntax.specs.Form.{IsWord, is_letter, is_letter_or_digit};
-ghost use Rattle.fta_run.specs.Words.{IsCommand, IsRoot, IsPlainWord, AreJoined, before_options, file_words, follows_well, is_option, with_colons};
-ghost use Rattle.fta_run.specs.Words.{Command as Asked};
+ghost use Rattle.fta_run.specs.Words.{GiveNoCommand, IsCommand, IsRoot, IsPlainWord, AreJoined, before_options, file_words, follows_well, is_option, with_colons};
 ghost use Rattle.fta_run.specs.Shown.{command_shown};
 ghost use Rattle.aadl_syntax.specs.declared.name.Root.{Root};
 ghost use Rattle.aadl_syntax.specs.Name.{folded};
@@ -15,22 +14,17 @@ use aadl_syntax::{List, Mem, Name, Root, Word, fold, is_same};
 use phases::Status;
 use std::alloc::Global;
 
-/// A command: what is asked of the model of a root, which stands in files.
+/// What the words ask for.
 #[derive(Drop)]
-pub struct Command<'a> {
-    pub root: Root,
-    pub task: Task,
-    /// The names of the files, at least one.
-    pub files: &'a [Word],
-}
-
-/// What a command asks for.
-#[derive(Drop)]
-pub enum Task {
-    /// The numbers of components, facts and events.
-    Check,
-    /// The minimal cut sets of the fact of this name, which is folded.
-    Cuts(Name),
+pub enum Command<'a> {
+    /// The numbers of components, facts and events of the model of a root, which stands in files of these names.
+    Check { root: Root, files: &'a [Word] },
+    /// The minimal cut sets of the fact of a name, which is folded, in such a model.
+    Cuts {
+        root: Root,
+        target: Name,
+        files: &'a [Word],
+    },
 }
 
 /// The command that the words give; Usage where they give none.
@@ -45,43 +39,42 @@ pub fn command_of<'a>(alloc: Global, words: &'a [Word]) -> Result<Command<'a>, S
 
 /// The command that the words give, if they give one.
 fn command_in<'a>(alloc: Global, words: &'a [Word]) -> Mem<Option<Command<'a>>>
-    ensures found { IfOk result (λ answer. IfSome answer (λ command. IsCommand words.now (command_shown command))) }
-    ensures only { (asked : Asked) → IsCommand words.now asked
-        → IfOk result (λ answer. IsSomeAnd answer (λ command. (command.root ≡ asked.root) × (command.task ≡ asked.task) × (command.files.now ≡ asked.files))) }
+    ensures { IfOk result (λ answer. MatchOption answer (GiveNoCommand words.now) (λ command. IsCommand words.now (command_shown command))) }
 {
     if !are_plain(words) {
         return Ok(None);
     }
     match words {
         [name, root, files @ ..] if is_same(name.items(), b"check") => {
-            with_root(alloc, root.items(), Task::Check, files)
+            let Some(root) = root_in(alloc, root.items(), files)? else {
+                return Ok(None);
+            };
+            Ok(Some(Command::Check { root, files }))
         }
         [name, root, target, files @ ..] if is_same(name.items(), b"cuts") => {
+            let Some(root) = root_in(alloc, root.items(), files)? else {
+                return Ok(None);
+            };
             let target = fold(alloc, target.items())?;
-            with_root(alloc, root.items(), Task::Cuts(target), files)
+            Ok(Some(Command::Cuts {
+                root,
+                target,
+                files,
+            }))
         }
         _ => Ok(None),
     }
 }
 
-/// The command of a task, if the word stands for a root and there is a file.
-fn with_root<'a>(
-    alloc: Global,
-    word: &[u8],
-    task: Task,
-    files: &'a [Word],
-) -> Mem<Option<Command<'a>>>
-    ensures found { IfOk result (λ answer. IfSome answer (λ command. (0 < length files.now) × IsRoot (folded word.now) command.root × (command.task ≡ task) × (command.files.now ≡ files.now))) }
-    ensures only { (root : Root) → 0 < length files.now → IsRoot (folded word.now) root
-        → IfOk result (λ answer. IsSomeAnd answer (λ command. (command.root ≡ root) × (command.task ≡ task) × (command.files.now ≡ files.now))) }
+/// The root that a word stands for, if it does and there is a file.
+fn root_in(alloc: Global, word: &[u8], files: &[Word]) -> Mem<Option<Root>>
+    ensures found { IfOk result (λ answer. IfSome answer (λ root. (0 < length files.now) × IsRoot (folded word.now) root)) }
+    ensures only { (root : Root) → 0 < length files.now → IsRoot (folded word.now) root → IfOk result (λ answer. answer ≡ Some root) }
 {
     if files.is_empty() {
         return Ok(None);
     }
-    match root_of(alloc, word)? {
-        Some(root) => Ok(Some(Command { root, task, files })),
-        None => Ok(None),
-    }
+    root_of(alloc, word)
 }
 
 /// The words that name files: those after the first two of `check`, and after the first three of any other, up to the first

@@ -1,11 +1,14 @@
 -- The reading of a whole text.
 use Rattle.std.proofs.Common.{◌≡◌, ℕ, ◌-◌, List, [], length, Ok, Err, refl, sym, ◌∙◌, subst, arith}
 use Rattle.aadl_syntax.specs.declared.token.Token.{Token}
+use Rattle.aadl_syntax.specs.declared.refusal.Stop.{Stop}
+use Rattle.aadl_syntax.specs.declared.refusal.Stop.TheVariants as stop
 use Rattle.grammar_rules.specs.declared.reader.ReadError.TheVariants.{Refused}
 use Rattle.grammar_rules.specs.declared.reader.Reader.{Reader}
 use Rattle.grammar_rules.specs.Rules.{Rule, gives, ends, joins, Reads, Dead}
 use Rattle.grammar_rules.specs.Running.{Outcome, read, dead, run}
 use Rattle.grammar_rules.specs.Reader.{Gives}
+use Rattle.grammar_rules.specs.Texts.{StopsDead, syntax_error, token_place}
 use Rattle.grammar_rules.proofs.Looks.{SameSeen}
 use Rattle.grammar_rules.proofs.Laws.{IsOutcome, is_outcome}
 
@@ -53,3 +56,8 @@ reads_once {A} file rule tokens value other rest end r s = either (run file rule
       let p = h.alone tokens (record { same = λ k w. refl }) value rest r in
       let q = h.alone tokens (record { same = λ k w. refl }) other end s in
       (p.0 ∙ sym q.0, p.1 ∙ sym q.1)
+
+-- the refusal of a text that is dead where it was last looked at
+pub stops_dead : {A : Type 0} (file : ℕ) (rule : Rule A) (tokens : List Token) (end unseen left : ℕ) (its : Stop) → unseen ≡ left → its ≡ stop.Refused (syntax_error file (token_place tokens end (length tokens - unseen))) → Dead file rule tokens (length tokens - left) → StopsDead file rule tokens end its
+stops_dead file rule tokens end unseen left its same is at_it =
+    subst (λ (s : Stop). StopsDead file rule tokens end s) (sym is) (length tokens - unseen, refl, subst (λ n. Dead file rule tokens (length tokens - n)) (sym same) at_it)

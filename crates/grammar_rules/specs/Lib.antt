@@ -4,3 +4,4 @@ pub mod Tokens
 pub mod Reader
 pub mod Parts
 pub mod Spans
+pub mod Texts

@@ -2,8 +2,8 @@
 use Rattle.std.specs.Prelude.{◌-◌, Bool, true, false, ◌==◌, ◌&&◌, ◌||◌, List, length, Option, count_by, slice_get, codes}
 use Rattle.aadl_syntax.specs.declared.token.Token.{Token}
 use Rattle.aadl_syntax.specs.declared.token.TokenKind.TheVariants.{AnnexBegin, AnnexEnd}
-use Rattle.grammar_rules.specs.Rules.{Test, Rule, spans}
-use Rattle.grammar_rules.specs.Tokens.{is_kind, is_sign, is_word}
+use Rattle.grammar_rules.specs.Rules.{Test, Rule, spans, ◌>>=◌}
+use Rattle.grammar_rules.specs.Tokens.{is_kind, is_sign, is_word, sign}
 
 -- an opening and a closing bracket
 unfoldable pub opens : Test
@@ -45,3 +45,15 @@ ends_tail before token = closes token || is_sign (codes ";") token
 -- `to-end` stops at the word `end`
 unfoldable pub ends_to_end : Option Token → Token → Bool
 ends_to_end before token = is_word (codes "end") token
+
+-- tail ";"
+unfoldable pub tail_end : Rule (Unit {0})
+tail_end = do
+  _ ← until ends_tail
+  sign (codes ";")
+
+-- tail ";" in the text of an annex: a bracket that is open at its end makes the `**}` the dead place
+unfoldable pub tail_end_inside : Rule (Unit {0})
+tail_end_inside = do
+  _ ← until_inside ends_tail
+  sign (codes ";")

@@ -1,9 +1,10 @@
 -- Tests of tokens, and the rules that take one token.
 use Rattle.std.specs.Prelude.{ℕ, Bool, true, false, not, ◌&&◌, if◌then◌else◌, List, Some, None, bytes_eq}
 use Rattle.std.specs.List.{list_any}
+use Rattle.aadl_syntax.specs.declared.place.Spot.{Spot}
 use Rattle.aadl_syntax.specs.declared.token.TokenKind.{TokenKind}
 use Rattle.aadl_syntax.specs.declared.token.TokenKind.TheVariants.{Word, Number, Text, Sign, AnnexBegin, AnnexRaw, AnnexEnd}
-use Rattle.grammar_rules.specs.Rules.{Test, Rule, takes, sees}
+use Rattle.grammar_rules.specs.Rules.{Test, Rule, gives, gives_file, takes, sees, ◌>>=◌}
 
 -- whether two kinds of token are the same
 abbrev pub same_kind : TokenKind → TokenKind → Bool
@@ -63,3 +64,10 @@ one_of words = takes (λ token. if is_one_of words token then Some token.text el
 -- where the next token starts: the number of its first byte in the file
 unfoldable pub place : Rule ℕ
 place = sees (λ token. Some token.start)
+
+-- the place of the next token
+unfoldable pub spot : Rule Spot
+spot = do
+  file ← gives_file
+  at ← place
+  gives (record { file = file; at = at })

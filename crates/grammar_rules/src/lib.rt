@@ -11,6 +11,6 @@ mod span;
 mod text;
 
 pub use part::{Gathered, Parts};
-pub use reader::{ReadError, Reader, is_one_of, is_sign, is_word};
-pub use span::{Balanced, Span, Tail, ToEnd, closes};
-pub use text::{Grammar, TextError, one_reading, read_text};
+pub use reader::{ReadError, Reader, is_one_of, is_sign, is_word, spot};
+pub use span::{Balanced, Span, Tail, ToEnd, closes, tail_end, tail_end_inside};
+pub use text::{Grammar, one_reading, read_text, token_place};

@@ -3,9 +3,10 @@ ghost use Rattle.std.specs.Option.{option_map};
 ghost use Rattle.aadl_syntax.specs.declared.token.TokenKind.TheVariants.{Word};
 ghost use Rattle.aadl_syntax.specs.Token.{IsTokenText, shown};
 ghost use Rattle.std.specs.List.{list_any};
-ghost use Rattle.grammar_rules.specs.Tokens.{is_kind, is_word, is_sign, is_identifier, is_one_of};
+ghost use Rattle.grammar_rules.specs.Reader.{Gives};
+ghost use Rattle.grammar_rules.specs.Tokens.{is_kind, is_word, is_sign, is_identifier, is_one_of, spot};
 
-use aadl_syntax::{Identifier, Mem, TokenKind, TokenList, TokenRef, TokenSlice};
+use aadl_syntax::{Identifier, Mem, Spot, TokenKind, TokenList, TokenRef, TokenSlice};
 use std::alloc::{AllocError, Global};
 
 /// Why a reading stopped.
@@ -287,4 +288,14 @@ fn is_among(text: &[u8], words: &[&[u8]]) -> bool
     ensures { result ≡ list_any (λ w. bytes_eq text.now w.now) words.now }
 {
     words.iter().any(|word| text == *word)
+}
+
+/// The place of the next token; refused at the end.
+#[tactic(auto, unfolding(crate::specs::Tokens::spot))]
+pub fn spot(reader: &mut Reader) -> Result<Spot, ReadError>
+    ensures { Gives result spot reader.old reader.new }
+{
+    let file = reader.file();
+    let at = reader.place()?;
+    Ok(Spot { file, at })
 }

@@ -4,7 +4,8 @@ ghost use Rattle.std.specs.Option.{option_map};
 ghost use Rattle.aadl_syntax.specs.Token.{shown};
 ghost use Rattle.grammar_rules.specs.Tokens.{is_kind};
 ghost use Rattle.grammar_rules.specs.Running.{spanned, read, dead, seen};
-ghost use Rattle.grammar_rules.specs.Spans.{opens, closes, stopping};
+ghost use Rattle.grammar_rules.specs.Reader.{Gives};
+ghost use Rattle.grammar_rules.specs.Spans.{opens, closes, stopping, tail_end, tail_end_inside};
 
 use crate::reader::{ReadError, Reader, is_kind, is_sign, is_word};
 use aadl_syntax::{TokenKind, TokenRef, TokenSlice};
@@ -162,4 +163,22 @@ pub fn closes(token: &TokenRef) -> bool
         || is_sign(token, b"]")
         || is_sign(token, b"}")
         || is_kind(token, TokenKind::AnnexEnd)
+}
+
+/// Goes past the rest of an item, up to its semicolon.
+#[tactic(auto, unfolding(crate::specs::Spans::tail_end))]
+pub fn tail_end(reader: &mut Reader) -> Result<(), ReadError>
+    ensures { Gives result tail_end reader.old reader.new }
+{
+    reader.until::<Tail>()?;
+    reader.sign(b";")
+}
+
+/// The same inside of an annex, whose end it does not pass.
+#[tactic(auto, unfolding(crate::specs::Spans::tail_end_inside))]
+pub fn tail_end_inside(reader: &mut Reader) -> Result<(), ReadError>
+    ensures { Gives result tail_end_inside reader.old reader.new }
+{
+    reader.until_inside::<Tail>()?;
+    reader.sign(b";")
 }

@@ -1,10 +1,12 @@
-ghost use Rattle.std.specs.Prelude.{◌≡◌, ℕ, List, [], Ok, Err, IfOk, IfErr, MatchResult};
+ghost use Rattle.std.specs.Prelude.{◌≡◌, ◌-◌, ℕ, List, [], IfOk, IfErr, MatchResult, length};
 ghost use Rattle.aadl_syntax.specs.declared.token.Token.{Token};
-ghost use Rattle.grammar_rules.specs.Rules.{Reads, Dead, joins, ends, gives};
+ghost use Rattle.aadl_syntax.specs.declared.refusal.Stop.TheVariants.{Refused, Memory};
+ghost use Rattle.grammar_rules.specs.Rules.{Reads, joins, ends, gives};
 ghost use Rattle.grammar_rules.specs.Reader.{Gives};
+ghost use Rattle.grammar_rules.specs.Texts.{StopsDead, syntax_error, token_place};
 
 use crate::reader::{ReadError, Reader};
-use aadl_syntax::TokenList;
+use aadl_syntax::{Answer, Code, Place, Refusal, Stop, TokenList};
 use std::alloc::Global;
 
 /// A grammar of whole texts.
@@ -22,40 +24,30 @@ pub trait Grammar {
         ensures { Gives result rule reader.old reader.new };
 }
 
-/// Why a text was not read.
-#[derive(Clone, Copy, PartialEq, Eq)]
-pub enum TextError {
-    /// No text that has the same tokens up to and with the token of this number reads by the grammar. Tokens are numbered
-    /// from 0, and the number of all tokens stands for the end.
-    Dead(usize),
-    /// Memory was wanting.
-    Memory,
-}
-
-/// Reads a whole text, the tokens of a file; files are numbered from 0.
+/// Reads a whole text, the tokens of a file. Files are numbered from 0, and `end` is the place of the end, in bytes.
+///
+/// Tokens that have no reading are refused as `Syntax`.
 pub fn read_text<G: Grammar>(
     alloc: Global,
     file: u32,
     tokens: &TokenList,
-) -> Result<G::Value, TextError>
+    end: u32,
+) -> Answer<G::Value>
     // What is answered is what the text reads as.
     ensures found { IfOk result (λ value. Reads file G.rule tokens.now value []) }
 
-    // What the text reads as is answered, unless memory ran out.
+    // What the text reads as is answered, unless memory runs out: so a refusal comes only where it has no reading.
     ensures only { (value : _) → Reads file G.rule tokens.now value []
-        → MatchResult result (λ answer. answer ≡ value) (λ e. e ≡ TextError.Memory) }
+        → MatchResult result (λ answer. answer ≡ value) (λ stop. stop ≡ Memory) }
 
-    // Where it is refused, the place is dead.
-    ensures dead { IfErr result (λ e. (place : ℕ) → e ≡ TextError.Dead place → Dead file G.rule tokens.now place) }
+    // A refusal names a token, or the end, such that no text with the same tokens up to and with it has a reading.
+    ensures dead { IfErr result (StopsDead file G.rule tokens.now end) }
 {
     let mut reader = Reader::new(alloc, file, tokens);
     match whole::<G>(&mut reader) {
         Ok(value) => Ok(value),
-        Err(ReadError::Memory) => Err(TextError::Memory),
-        Err(ReadError::Refused) => {
-            let place = tokens.len().saturating_sub(reader.unseen());
-            Err(TextError::Dead(place))
-        }
+        Err(ReadError::Memory) => Err(Stop::Memory),
+        Err(ReadError::Refused) => Err(syntax_error(file, tokens, end, reader.unseen())),
     }
 }
 
@@ -65,6 +57,31 @@ fn whole<G: Grammar>(reader: &mut Reader) -> Result<G::Value, ReadError>
     let value = G::read(reader)?;
     reader.end()?;
     Ok(value)
+}
+
+/// The refusal of text of this file at the last token, or the end, that a reading of the tokens has looked at: `unseen` of the
+/// tokens and the end are behind it. `end` is the place of the end, in bytes.
+fn syntax_error(file: u32, tokens: &TokenList, end: u32, unseen: usize) -> Stop
+    ensures { result ≡ Refused (syntax_error file (token_place tokens.now end (length tokens.now - unseen))) }
+{
+    let number = tokens.len().saturating_sub(unseen);
+    let at = token_place(tokens, end, number);
+    let place = Place::At { file, at };
+    Stop::Refused(Refusal {
+        code: Code::Syntax,
+        place,
+        limit: 0,
+    })
+}
+
+/// Where the token of this number starts, or the place of the end, in bytes.
+pub fn token_place(tokens: &TokenList, end: u32, number: usize) -> u32
+    ensures { result ≡ token_place tokens.now end number }
+{
+    match tokens.get(number) {
+        Some(token) => token.start,
+        None => end,
+    }
 }
 
 /// The front of some tokens reads in one way at most, by the rule of any grammar.

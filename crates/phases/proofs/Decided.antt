@@ -1,21 +1,19 @@
 -- A phase whose parts are decided has one end at most.
 use Rattle.std.proofs.Common.{◌≡◌, inl, inr, Result, Ok, Err, sym, ◌∙◌, subst}
-use Rattle.phases.specs.Phases.{Phase, gives, stops, tells, joins, Passed, Stopped, Passes, Stops, IsDecided, IsDue, IsSameEnd}
+use Rattle.phases.specs.Phases.{Phase, yields, tells, chains, Passed, Stopped, Passes, Stops, IsDecided, IsDue, IsSameEnd}
 use Rattle.phases.specs.declared.status.Status.{Status}
 
 one_passed : {A : Type 0} (Same : Status → Status → Type 0) (phase : Phase A) → IsDecided Same phase → (a b : A) → Passed phase a → Passed phase b → a ≡ b
-one_passed Same (gives x) decided a b p q = p ∙ sym q
-one_passed Same (stops status) decided a b p q = absurd p
+one_passed Same (yields x) decided a b p q = p ∙ sym q
 one_passed Same (tells Is Ends) decided a b p q = decided.one_value a b p q
-one_passed Same (joins {A = A} first later) decided a b p q =
+one_passed Same (chains {A = A} first later) decided a b p q =
     let same : p.0 ≡ q.0 = one_passed Same first decided.0 p.0 q.0 p.1 q.1 in
     one_passed Same (later q.0) (decided.1 q.0 q.1) a b (subst (λ (x : A). Passed (later x) a) same p.2) q.2
 
 passed_or_stopped : {A : Type 0} (Same : Status → Status → Type 0) (phase : Phase A) → IsDecided Same phase → (a : A) (status : Status) → Passed phase a → Stopped phase status → ⊥
-passed_or_stopped Same (gives x) decided a status p s = s
-passed_or_stopped Same (stops its) decided a status p s = p
+passed_or_stopped Same (yields x) decided a status p s = s
 passed_or_stopped Same (tells Is Ends) decided a status p s = decided.apart a status p s
-passed_or_stopped Same (joins {A = A} first later) decided a status p s =
+passed_or_stopped Same (chains {A = A} first later) decided a status p s =
     elim s [
       | inl t ↦ passed_or_stopped Same first decided.0 p.0 status p.1 t
       | inr t ↦
@@ -24,10 +22,9 @@ passed_or_stopped Same (joins {A = A} first later) decided a status p s =
     ]
 
 one_stopped : {A : Type 0} (Same : Status → Status → Type 0) (phase : Phase A) → IsDecided Same phase → (a b : Status) → Stopped phase a → Stopped phase b → Same a b
-one_stopped Same (gives x) decided a b s t = absurd s
-one_stopped Same (stops its) decided a b s t = subst (λ x. Same x b) (sym s) (subst (Same its) (sym t) decided)
+one_stopped Same (yields x) decided a b s t = absurd s
 one_stopped Same (tells Is Ends) decided a b s t = decided.one_stop a b s t
-one_stopped Same (joins {A = A} first later) decided a b s t =
+one_stopped Same (chains {A = A} first later) decided a b s t =
     elim s [
       | inl p ↦ elim t [
         | inl q ↦ one_stopped Same first decided.0 a b p q

@@ -3,28 +3,28 @@ use Rattle.std.proofs.Common.{◌≡◌, ◌⊎◌, inl, inr, Result, refl}
 use Rattle.std.specs.Prelude.{IsErrAnd}
 use Rattle.std.proofs.lemmas.Result.{err_from_is_err_and}
 use Rattle.aadl_syntax.specs.declared.refusal.Refusal.{Refusal}
-use Rattle.phases.specs.Phases.{Phase, gives, tells, joins, Passes, Stops, IsRefusal}
+use Rattle.phases.specs.Phases.{Phase, yields, tells, chains, Passes, Stops, IsRefusal}
 use Rattle.phases.specs.Meets.{MeetsBut}
 use Rattle.phases.specs.declared.status.Status.TheVariants.{Refused}
 use Rattle.phases.specs.declared.status.Status.{Status}
 
 -- the value that a phase gives passes it
-pub given : {A : Type 0} {x : A} → Passes (gives x) x
+pub given : {A : Type 0} {x : A} → Passes (yields x) x
 given {A} {x} = record { passed = refl }
 
 -- a value that passes the first phase, and one that then passes the later one
 infixr 6 ◌passes◌
-pub ◌passes◌ : {A B : Type 0} {first : Phase A} {later : A → Phase B} {x : A} {y : B} → Passes first x → Passes (later x) y → Passes (joins first later) y
+pub ◌passes◌ : {A B : Type 0} {first : Phase A} {later : A → Phase B} {x : A} {y : B} → Passes first x → Passes (later x) y → Passes (chains first later) y
 ◌passes◌ {A} {B} {first} {later} {x} {y} p q = record { passed = (x, p.passed, q.passed) }
 
 -- a value that passes the first phase, and an end of the later one
 infixr 6 ◌beyond◌
-pub ◌beyond◌ : {A B X : Type 0} {first : Phase A} {later : A → Phase B} {x : A} {status : Status} → Passes first x → Stops (later x) status ⊎ X → Stops (joins first later) status ⊎ X
+pub ◌beyond◌ : {A B X : Type 0} {first : Phase A} {later : A → Phase B} {x : A} {status : Status} → Passes first x → Stops (later x) status ⊎ X → Stops (chains first later) status ⊎ X
 ◌beyond◌ {A} {B} {X} {first} {later} {x} {status} p (inl s) = inl (record { stopped = inr (x, p.passed, s.stopped) })
 ◌beyond◌ {A} {B} {X} {first} {later} {x} {status} p (inr e) = inr e
 
 -- an end of the first phase
-pub ends : {A B X : Type 0} {first : Phase A} {later : A → Phase B} {status : Status} → Stops first status ⊎ X → Stops (joins first later) status ⊎ X
+pub ends : {A B X : Type 0} {first : Phase A} {later : A → Phase B} {status : Status} → Stops first status ⊎ X → Stops (chains first later) status ⊎ X
 ends (inl s) = inl (record { stopped = inl s.stopped })
 ends (inr e) = inr e
 

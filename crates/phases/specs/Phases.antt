@@ -8,32 +8,28 @@ use Rattle.phases.specs.declared.status.Status.TheVariants.{Refused}
 -- a phase: which values of the type A pass, and with which status it stops
 pub data Phase : Type 0 → Type 1 where
   -- this value passes
-  gives : {A : Type 0} → A → Phase A
-  -- it stops with this status
-  stops : {A : Type 0} → Status → Phase A
+  yields : {A : Type 0} → A → Phase A
   -- the values that are so pass, and it stops with the statuses that are so
   tells : {A : Type 0} → (A → Type 0) → (Status → Type 0) → Phase A
   -- a first phase, and then one that may depend on its value
-  joins : {A B : Type 0} → Phase A → (A → Phase B) → Phase B
+  chains : {A B : Type 0} → Phase A → (A → Phase B) → Phase B
 
 -- phases are written one below the other, in a `do` block
 infixl 10 ◌>>=◌
 abbrev pub ◌>>=◌ : {A B : Type 0} → Phase A → (A → Phase B) → Phase B
-first >>= later = joins first later
+first >>= later = chains first later
 
 -- A value passes: of two phases what passes the second with a value that passed the first.
 abbrev pub Passed : {A : Type 0} → Phase A → A → Type 0
-Passed (gives x) value = value ≡ x
-Passed (stops status) value = ⊥
+Passed (yields x) value = value ≡ x
 Passed (tells Is Ends) value = Is value
-Passed (joins {A = A} first later) value = (x : A) × Passed first x × Passed (later x) value
+Passed (chains {A = A} first later) value = (x : A) × Passed first x × Passed (later x) value
 
 -- A phase stops: of two phases as the first does, or as the second does with a value that passed the first.
 abbrev pub Stopped : {A : Type 0} → Phase A → Status → Type 0
-Stopped (gives x) status = ⊥
-Stopped (stops its) status = status ≡ its
+Stopped (yields x) status = ⊥
 Stopped (tells Is Ends) status = Ends status
-Stopped (joins {A = A} first later) status = Stopped first status ⊎ ((x : A) × Passed first x × Stopped (later x) status)
+Stopped (chains {A = A} first later) status = Stopped first status ⊎ ((x : A) × Passed first x × Stopped (later x) status)
 
 -- A value passes this phase.
 pub record Passes {A : Type 0} (phase : Phase A) (value : A) : Type 0 where
@@ -50,16 +46,16 @@ abbrev pub IsRefusal : (Refusal → Type 0) → Status → Type 0
 IsRefusal Why status = (refusal : Refusal) × Why refusal × (status ≡ Refused refusal)
 
 -- what is so passes, and it stops with a refusal for this reason
-abbrev pub refuses : {A : Type 0} → (A → Type 0) → (Refusal → Type 0) → Phase A
-refuses Is Why = tells Is (IsRefusal Why)
+abbrev pub rejects : {A : Type 0} → (A → Type 0) → (Refusal → Type 0) → Phase A
+rejects Is Why = tells Is (IsRefusal Why)
 
 -- what is so passes, and it stops with the first refusal of the group
 abbrev pub answers : {A : Type 0} → (A → Type 0) → (Refusal → Type 0) → Phase A
-answers Is Stands = refuses Is (IsFirst Stands)
+answers Is Stands = rejects Is (IsFirst Stands)
 
 -- what is so passes, and it never stops
-abbrev pub takes : {A : Type 0} → (A → Type 0) → Phase A
-takes Is = tells Is (λ status. ⊥)
+abbrev pub accepts : {A : Type 0} → (A → Type 0) → Phase A
+accepts Is = tells Is (λ status. ⊥)
 
 -- it passes where this is so, and it stops with the first refusal of the group
 abbrev pub needs : Type 0 → (Refusal → Type 0) → Phase (Unit {0})
@@ -83,10 +79,9 @@ pub record IsDecidedStep {A : Type 0} (Same : Status → Status → Type 0) (Is 
 
 -- The same of a phase, if it is so of its parts: of a later one where a value passed the earlier ones.
 abbrev pub IsDecided : {A : Type 0} → (Status → Status → Type 0) → Phase A → Type 0
-IsDecided Same (gives x) = Unit {0}
-IsDecided Same (stops status) = Same status status
+IsDecided Same (yields x) = Unit {0}
 IsDecided Same (tells Is Ends) = IsDecidedStep Same Is Ends
-IsDecided Same (joins {A = A} first later) = IsDecided Same first × ((x : A) → Passed first x → IsDecided Same (later x))
+IsDecided Same (chains {A = A} first later) = IsDecided Same first × ((x : A) → Passed first x → IsDecided Same (later x))
 
 -- What is due of a phase: a value that passes, or a status with which it stops.
 abbrev pub IsDue : {A : Type 0} → Phase A → Result A Status → Type 0

@@ -1,7 +1,7 @@
 -- What is found among the sets that have the chosen numbers and so many more.
 use Rattle.std.proofs.Common.{subst, ℕ, zero, suc, ◌+◌, ◌-◌, ◌≡◌, ◌≢◌, ◌<◌, ◌≤◌, Bool, true, false, cond, List, [], ◌∷◌, ◌++◌, length, map, filter, take, ap, ◌∙◌, sym, refl, arith, ap₂, add-one, append_assoc, append-nil, map-id, length-append}
 use Rattle.fault_system.specs.CutSets.{RisesWithin}
-use Rattle.fault_system.specs.Listings.{choose, sets_up_to}
+use Rattle.fault_system.specs.Listings.{choose, rising_sets_up_to}
 
 pub rises-higher : (low a b : ℕ) (xs : List ℕ) → a ≤ b → RisesWithin low a xs → RisesWithin low b xs
 rises-higher low a b [] h r = tt
@@ -85,7 +85,7 @@ module _ (p : List ℕ → Bool) where
 -- the sets of fewer than `size` of the numbers below `count`
 abbrev pub sets_below : ℕ → ℕ → List (List ℕ)
 sets_below zero count = []
-sets_below (suc size) count = sets_up_to size count
+sets_below (suc size) count = rising_sets_up_to size count
 
 sets_below-more : (size count : ℕ) → sets_below (size + 1) count ≡ sets_below size count ++ choose size 0 count
 sets_below-more zero count = refl
@@ -98,5 +98,5 @@ sized p size events chosen listed all before empty more =
     more ∙ ap₂ (λ xs ys. xs ++ ys) before (ap₂ (λ xs n. found p xs size 0 n) empty count ∙ ap (filter p) (map-id (choose size 0 events)))
     ∙ sym (filter_append p (sets_below size events) (choose size 0 events)) ∙ ap (filter p) (sym (sets_below-more size events))
 
-pub all_sizes : (p : List ℕ → Bool) (size events : ℕ) (listed : List (List ℕ)) → size ≡ events → listed ≡ filter p (sets_below (size + 1) events) → listed ≡ filter p (sets_up_to events events)
+pub all_sizes : (p : List ℕ → Bool) (size events : ℕ) (listed : List (List ℕ)) → size ≡ events → listed ≡ filter p (sets_below (size + 1) events) → listed ≡ filter p (rising_sets_up_to events events)
 all_sizes p size events listed e h = h ∙ ap (λ n. filter p (sets_below n events)) (add-one size ∙ ap suc e)

@@ -6,8 +6,7 @@ use crate::text::Text;
 use crate::value::{FILE, put_token};
 use aadl_lexer::tokens;
 use aadl_parser::units;
-use aadl_syntax::{Code, Place, Refusal, Stop, TokenList};
-use emv2_parser::{clause, library};
+use aadl_syntax::{Code, Decl, Place, Refusal, Stop, TokenList, Unit};
 use std::alloc::Global;
 
 /// How a text is read.
@@ -23,13 +22,49 @@ pub enum Reading {
     Core,
 }
 
-/// Writes what a text comes to: its value or `reads`, or its refusal.
+/// What stands in a file before a text, and behind it.
+#[derive(Clone, Copy)]
+struct Frame {
+    before: &'static [u8],
+    behind: &'static [u8],
+}
+
+/// The file in which a text is read: an annex stands in a package, or in a classifier of one.
+fn frame_of(reading: Reading) -> Frame {
+    match reading {
+        Reading::Tokens | Reading::Core => Frame {
+            before: b"",
+            behind: b"",
+        },
+        Reading::Library => Frame {
+            before: b"package p public annex emv2 {**",
+            behind: b"**}; end p;",
+        },
+        Reading::Clause => Frame {
+            before: b"package p public system s annex emv2 {**",
+            behind: b"**}; end s; end p;",
+        },
+    }
+}
+
+/// Writes what a text comes to: its value or `reads`, or its refusal. Places are counted from the first byte of the text.
 pub fn put_reading(alloc: Global, reading: Reading, text: &[u8], whole: bool, out: &mut Text) {
-    if text.len() > 4_194_304 {
+    let frame = frame_of(reading);
+    let mut file = Text::new(alloc);
+    file.put(frame.before);
+    file.put(text);
+    file.put(frame.behind);
+    out.refuse_as(&file);
+    out.count_from(frame.before.len() as u32);
+    put_file(alloc, reading, file.bytes(), whole, out);
+}
+
+fn put_file(alloc: Global, reading: Reading, file: &[u8], whole: bool, out: &mut Text) {
+    if file.len() > 4_194_304 {
         return out.refuse("a text of more than 4194304 bytes has no tokens");
     }
-    match tokens(alloc, FILE, text) {
-        Ok(list) => put_read(alloc, reading, &list, text.len() as u32, whole, out),
+    match tokens(alloc, FILE, file) {
+        Ok(list) => put_read(alloc, reading, &list, file.len() as u32, whole, out),
         Err(stop) => put_stop(stop, out),
     }
 }
@@ -44,9 +79,41 @@ fn put_read(
 ) {
     match reading {
         Reading::Tokens => put_tokens(list, out),
-        Reading::Library => put_library(alloc, list, end, whole, out),
-        Reading::Clause => put_clause(alloc, list, end, whole, out),
-        Reading::Core => put_core(alloc, list, end, whole, out),
+        Reading::Library | Reading::Clause | Reading::Core => {
+            put_units_of(alloc, reading, list, end, whole, out);
+        }
+    }
+}
+
+fn put_units_of(
+    alloc: Global,
+    reading: Reading,
+    list: &TokenList,
+    end: u32,
+    whole: bool,
+    out: &mut Text,
+) {
+    match units(alloc, FILE, list, end) {
+        Ok(value) if whole => put_value(reading, value.items(), out),
+        Ok(_) => out.put(b"reads"),
+        Err(stop) => put_stop(stop, out),
+    }
+}
+
+/// Writes the value of the units of a file, or of the annex in it.
+fn put_value(reading: Reading, value: &[Unit], out: &mut Text) {
+    match (reading, value) {
+        (Reading::Library, [Unit::Package(package)]) => put_library_value(&package.library, out),
+        (Reading::Clause, [Unit::Package(package)]) => put_clause_of(package.decls.items(), out),
+        _ => put_units(value, out),
+    }
+}
+
+fn put_clause_of(decls: &[Decl], out: &mut Text) {
+    for decl in decls {
+        for clause in decl.clauses.items() {
+            put_clause_value(clause, out);
+        }
     }
 }
 
@@ -60,30 +127,6 @@ fn put_tokens(list: &TokenList, out: &mut Text) {
         }
     }
     out.put(b"\n");
-}
-
-fn put_library(alloc: Global, list: &TokenList, end: u32, whole: bool, out: &mut Text) {
-    match library(alloc, FILE, list, end) {
-        Ok(value) if whole => put_library_value(&value, out),
-        Ok(_) => out.put(b"reads"),
-        Err(stop) => put_stop(stop, out),
-    }
-}
-
-fn put_clause(alloc: Global, list: &TokenList, end: u32, whole: bool, out: &mut Text) {
-    match clause(alloc, FILE, list, end) {
-        Ok(value) if whole => put_clause_value(&value, out),
-        Ok(_) => out.put(b"reads"),
-        Err(stop) => put_stop(stop, out),
-    }
-}
-
-fn put_core(alloc: Global, list: &TokenList, end: u32, whole: bool, out: &mut Text) {
-    match units(alloc, FILE, list, end) {
-        Ok(value) if whole => put_units(value.items(), out),
-        Ok(_) => out.put(b"reads"),
-        Err(stop) => put_stop(stop, out),
-    }
 }
 
 fn put_stop(stop: Stop, out: &mut Text) {
@@ -104,7 +147,7 @@ fn put_refusal(refusal: Refusal, out: &mut Text) {
         out.put(b" at ");
     }
     match refusal.place {
-        Place::At { file: FILE, at } => out.put_number(u64::from(at)),
+        Place::At { file: FILE, at } => out.put_place(at),
         _ => out.put(b"no byte of the file"),
     }
 }

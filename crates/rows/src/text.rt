@@ -6,6 +6,8 @@ use std::alloc::Global;
 pub struct Text {
     bytes: Vec<u8>,
     trouble: Option<&'static str>,
+    /// The byte of a file from which places are counted.
+    origin: u32,
 }
 
 impl Text {
@@ -14,7 +16,13 @@ impl Text {
         Text {
             bytes: Vec::new(alloc),
             trouble: None,
+            origin: 0,
         }
+    }
+
+    /// Counts places from this byte of a file on.
+    pub fn count_from(&mut self, origin: u32) {
+        self.origin = origin;
     }
 
     /// Adds these bytes.
@@ -28,6 +36,11 @@ impl Text {
     pub fn put_number(&mut self, number: u64) {
         let mut digits = Buffer::new();
         self.put(digits.format(number).as_bytes());
+    }
+
+    /// Adds a place in a file, in bytes.
+    pub fn put_place(&mut self, at: u32) {
+        self.put_number(u64::from(at.saturating_sub(self.origin)));
     }
 
     /// Notes what went wrong, unless something did before.

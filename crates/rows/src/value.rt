@@ -12,7 +12,7 @@ pub fn put_spot(spot: &Spot, out: &mut Text) {
     if spot.file != FILE {
         out.put(b"another file:");
     }
-    out.put_number(u64::from(spot.at));
+    out.put_place(spot.at);
 }
 
 /// Writes a place after a word, where there is one.

@@ -6,9 +6,9 @@ ghost use Rattle.grammar_rules.specs.Tokens.{is_identifier, is_sign};
 ghost use Rattle.text_tests.specs.Sample.{reserved, name, further_name, further_name-takes, uses, dotted, item, skipped, annexed, sample};
 
 use aadl_lexer::tokens;
-use aadl_syntax::{Identifier, List, TokenKind, TokenList};
+use aadl_syntax::{Identifier, List, Place, Stop, TokenKind, TokenList};
 use grammar_rules::{
-    Balanced, Grammar, Parts, ReadError, Reader, Tail, TextError, ToEnd, read_text,
+    Balanced, Grammar, Parts, ReadError, Reader, Tail, ToEnd, read_text, token_place,
 };
 use std::alloc::Global;
 
@@ -130,17 +130,31 @@ impl Grammar for Sample {
     }
 }
 
-// How many names the text gives, or its dead place; nothing where it has no tokens or memory is wanting.
+// The number of the token at a place, or that of all tokens where none is there.
+fn number_at(list: &TokenList, at: u32) -> usize {
+    for number in 0..list.len() {
+        if token_place(list, u32::MAX, number) == at {
+            return number;
+        }
+    }
+    list.len()
+}
+
+// How many names the text gives, or the number of the token at its dead place; nothing where it has no tokens or memory is
+// wanting.
 fn outcome(alloc: Global, text: &str) -> Option<Result<usize, usize>> {
     let bytes = text.as_bytes();
     if bytes.len() > 4_194_304 {
         return None;
     }
     let list = tokens(alloc, 0, bytes).ok()?;
-    match read_text::<Sample>(alloc, 0, &list) {
+    match read_text::<Sample>(alloc, 0, &list, bytes.len() as u32) {
         Ok(names) => Some(Ok(names.items().len())),
-        Err(TextError::Dead(place)) => Some(Err(place)),
-        Err(TextError::Memory) => None,
+        Err(Stop::Refused(refusal)) => match refusal.place {
+            Place::At { file: 0, at } => Some(Err(number_at(&list, at))),
+            _ => None,
+        },
+        Err(Stop::Memory) => None,
     }
 }
 

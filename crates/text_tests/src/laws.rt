@@ -3,7 +3,6 @@
 use aadl_lexer::{one_fault, one_list};
 use aadl_parser::one_file;
 use aadl_syntax::{Code, Place, Refusal, least_is_first, one_first};
-use emv2_parser::{one_clause, one_library};
 use fta_run::{Status, one_due, one_output};
 
 #[test]
@@ -12,8 +11,6 @@ fn laws(_rt: HostRuntime) {
     one_first();
     one_list();
     one_fault();
-    one_library();
-    one_clause();
     one_file();
     one_output();
     one_due();

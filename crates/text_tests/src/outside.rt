@@ -1,7 +1,7 @@
 //! A real file and a real stream. Rows run over files and sinks in memory.
 
 use aadl_syntax::{Mem, Word};
-use fta_outside::{DiskFiles, Files, ReadError, Sink, SinkFailed, StdSink, write_all};
+use fta_outside::{DiskFiles, Files, FileError, Sink, SinkFailed, StdSink, write_all};
 use std::alloc::Global;
 use std::fs;
 use std::io::{self, Write};
@@ -32,7 +32,7 @@ fn file_on_disk(rt: HostRuntime) -> Result<(), Fail> {
 fn no_file_on_disk(rt: HostRuntime) -> Result<(), Fail> {
     let name = word(rt.alloc(), b"text_tests_no_such_file")?;
     let mut files = DiskFiles::new(&rt);
-    let is_failed = matches!(files.read(rt.alloc(), &name, 4), Err(ReadError::Failed));
+    let is_failed = matches!(files.read(rt.alloc(), &name, 4), Err(FileError::Failed));
     assert!(rt; is_failed);
     Ok(())
 }

@@ -18,3 +18,4 @@ mod union;
 pub use choice::at_least;
 pub use families::{min_product, min_union, single, without};
 pub use sizes::{of_size, up_to_size};
+pub use split::look;

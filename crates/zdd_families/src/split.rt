@@ -28,7 +28,7 @@ fn look_on<L: Ledger>(store: &Store, id: Id, blank: Blank) -> Option<Node>
 }
 
 /// The node of a number. The steps are counted on a ledger of its own, which is dropped.
-pub(crate) fn look(store: &Store, id: Id) -> Option<Node>
+pub fn look(store: &Store, id: Id) -> Option<Node>
     ensures found { IfNone result (IsIn store.now id → id.position < 2) }
     ensures fits { IfSome result (Fits store.now) }
     ensures family { IfSome result (λ node. family_of store.now id ≡ family_with store.now node) }

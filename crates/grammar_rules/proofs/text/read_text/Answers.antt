@@ -1,6 +1,4 @@
-use Rattle.std.proofs.Common.{◌≡◌, ◌-◌, length, subst}
-use Rattle.grammar_rules.specs.Rules.{Dead}
-use Rattle.grammar_rules.proofs.Texts.{is_found, is_only, is_dead, is_none}
+use Rattle.grammar_rules.proofs.Texts.{is_found, is_only, is_dead, is_none, stops_dead}
 use Rattle.grammar_rules.proofs.text.read_text.Goals as goal
 
 pub returns-in-Ok-clause-found : goal.returns-in-Ok-clause-found
@@ -13,8 +11,7 @@ pub returns-in-Err-Refused-clause-only : goal.returns-in-Err-Refused-clause-only
 returns-in-Err-Refused-clause-only g c = λ other r. absurd (is_none (record { file_is = c.new-reader.ensures.file; tokens_are = c.new-reader.ensures.tokens }) (rw c.in-Err-Refused.field-0-is at c.in-Err-Refused.ensures) other r)
 
 pub returns-in-Err-Refused-clause-dead : goal.returns-in-Err-Refused-clause-dead
-returns-in-Err-Refused-clause-dead g c = λ place e.
+returns-in-Err-Refused-clause-dead g c =
     let gave = rw c.in-Err-Refused.field-0-is at c.in-Err-Refused.ensures in
     let dead = is_dead (record { file_is = c.new-reader.ensures.file; tokens_are = c.new-reader.ensures.tokens }) gave in
-    let same : length c.args.tokens.now - c.whole.new.reader.unseen ≡ place = cc in
-    subst (λ n. Dead c.args.file g.G.Grammar.rule c.args.tokens.now n) same dead
+    stops_dead c.args.file g.G.Grammar.rule c.args.tokens.now c.args.end c.unseen.result c.whole.new.reader.unseen c.syntax_error.result c.unseen.ensures c.syntax_error.ensures dead

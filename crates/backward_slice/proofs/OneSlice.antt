@@ -1,0 +1,49 @@
+-- A target has one slice, and it is served or refused for one reason.
+use Rattle.std.proofs.Common.{◌≡◌, ◌≤◌, ◌<◌, ◌⊎◌, ℕ, List, [], ◌∷◌, length, Contains, ⊎_elim, inl, inr, sym, ◌∙◌, subst, ap, arith}
+use Rattle.std.proofs.lemmas.Bool.{false≢true}
+use Rattle.aadl_syntax.specs.declared.refusal.Refusal.{Refusal}
+use Rattle.fault_system.specs.Truth.{Has, set_of}
+use Rattle.fault_system.specs.Systems.{System}
+use Rattle.fault_system.specs.CutSets.{RisesWithin}
+use Rattle.fault_system.proofs.Elements.{In, In-contains, contains_In}
+use Rattle.fault_system.proofs.CutSetLaws.{same_rising, set_of-first, set_of-rest, set_of-cases}
+use Rattle.backward_slice.specs.Slices.{IsSlice, IsServed, IsTooLarge, HasLargeSlice}
+use Rattle.backward_slice.specs.declared.parts.Slice.{Slice}
+
+has_in : (xs : List ℕ) (n : ℕ) → In n xs → Has (set_of xs) n
+has_in [] n i = absurd i
+has_in (x ∷ xs) n i = ⊎_elim (λ e. subst (Has (set_of (x ∷ xs))) e (set_of-first x xs)) (λ r. set_of-rest x xs n (has_in xs n r)) i
+
+in_has : (xs : List ℕ) (n : ℕ) → Has (set_of xs) n → In n xs
+in_has [] n h = absurd (false≢true h)
+in_has (x ∷ xs) n h = ⊎_elim (λ e. inl e) (λ r. inr (in_has xs n r)) (set_of-cases x xs n h)
+
+one_list : (high : ℕ) (xs ys : List ℕ) → RisesWithin 0 high xs → RisesWithin 0 high ys → ((n : ℕ) → Contains xs n → Contains ys n) → ((n : ℕ) → Contains ys n → Contains xs n) → xs ≡ ys
+one_list high xs ys r s f g =
+    same_rising 0 0 high xs ys r s (λ n h. has_in ys n (In-contains n ys (f n (contains_In n xs (in_has xs n h))))) (λ n h. has_in xs n (In-contains n xs (g n (contains_In n ys (in_has ys n h)))))
+
+pub one_slice : (system : System) (target : ℕ) (a b : Slice) → IsSlice system target a → IsSlice system target b → a ≡ b
+one_slice system target a b x y =
+    let targets : a.target ≡ b.target = x.target_is ∙ sym y.target_is in
+    let facts : a.facts ≡ b.facts = one_list (length system.facts) a.facts b.facts x.facts_rise y.facts_rise (λ n h. (y.facts n).1 ((x.facts n).0 h)) (λ n h. (x.facts n).1 ((y.facts n).0 h)) in
+    let events : a.events ≡ b.events = one_list (length system.events) a.events b.events x.events_rise y.events_rise (λ n h. (y.events n).1 ((x.events n).0 h)) (λ n h. (x.events n).1 ((y.events n).0 h)) in
+    λ i. record { target = targets i; facts = facts i; events = events i }
+
+pub one_served : (system : System) (target : ℕ) (a b : Slice) → IsServed system target a → IsServed system target b → a ≡ b
+one_served system target a b x y = one_slice system target a b x.is_slice y.is_slice
+
+-- a slice that is served is not too large
+pub served_or_large : (system : System) (target : ℕ) (slice : Slice) (refusal : Refusal) → IsServed system target slice → HasLargeSlice system target refusal → ⊥
+served_or_large system target slice refusal served large =
+    let same : large.0 ≡ slice = one_slice system target large.0 slice large.1 served.is_slice in
+    let few_facts = served.few_facts in
+    let few_events = served.few_events in
+    ⊎_elim (λ h. absurd (omega (arith, h.0, ap (λ (s : Slice). length s.facts) same, few_facts))) (λ h. absurd (omega (arith, h.1, ap (λ (s : Slice). length s.events) same, few_events))) large.2
+
+-- a slice is too large for one reason
+large_once : (slice : Slice) (a b : Refusal) → IsTooLarge slice a → IsTooLarge slice b → a ≡ b
+large_once slice a b x y =
+    ⊎_elim (λ h. ⊎_elim (λ k. h.1 ∙ sym k.1) (λ k. absurd (omega (arith, h.0, k.0))) y) (λ h. ⊎_elim (λ k. absurd (omega (arith, h.0, k.0))) (λ k. h.2 ∙ sym k.2) y) x
+
+pub one_large : (system : System) (target : ℕ) (a b : Refusal) → HasLargeSlice system target a → HasLargeSlice system target b → a ≡ b
+one_large system target a b x y = large_once x.0 a b x.2 (subst (λ (s : Slice). IsTooLarge s b) (one_slice system target y.0 x.0 y.1 x.1) y.2)

@@ -1,0 +1,13 @@
+-- The sets of a family, size by size.
+use Rattle.std.specs.Prelude.{ℕ, zero, suc, List, [], ◌++◌, map}
+use Rattle.zdd_store.specs.Family.{Family}
+use Rattle.zdd_store.specs.Answers.{sets_of}
+
+-- the sets of a family that have fewer numbers than so many, those of fewer numbers first, and else in the family's order
+unfoldable pub listed : ℕ → Family → Family
+listed zero family = []
+listed (suc size) family = listed size family ++ sets_of size family
+
+-- the sets of a family, each behind the same numbers
+unfoldable pub behind : List ℕ → Family → Family
+behind front family = map (λ set. front ++ set) family
