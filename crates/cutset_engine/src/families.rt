@@ -6,10 +6,11 @@ ghost use Rattle.backward_slice.specs.Slices.{IsSlice};
 ghost use Rattle.cutset_engine.specs.Filling.{IsFilling, IsFilled};
 ghost use Rattle.cutset_engine.specs.Families.{HasMinimalCutSets, IsLeast, no_order, sets_to};
 
-use crate::filling::{fill, sweep};
-use crate::finishing::finishing_order;
+use crate::agenda::Agenda;
+use crate::filling::{fill, fill_fact};
 use aadl_syntax::Mem;
 use backward_slice::Slice;
+use dependency_blocks::Blocks;
 use fault_system::FaultSystem;
 use std::alloc::Global;
 use zdd_families::{min_union, up_to_size};
@@ -23,6 +24,7 @@ pub fn family(
     alloc: Global,
     system: &FaultSystem,
     slice: &Slice,
+    blocks: &Blocks,
     most: Option<u32>,
     store: &mut Store,
 ) -> Mem<Id>
@@ -32,7 +34,7 @@ pub fn family(
     ensures kept { Keeps store.old store.new }
 {
     let _events = system.events();
-    let now = families(alloc, store, system, slice, most)?;
+    let now = families(alloc, store, system, slice, blocks, most)?;
     let target = number_at(now.as_slice(), slice.target);
     least_family(store, most, target)
 }
@@ -50,6 +52,7 @@ fn families(
     store: &mut Store,
     system: &FaultSystem,
     slice: &Slice,
+    blocks: &Blocks,
     most: Option<u32>,
 ) -> Mem<Vec<Id>>
     requires { IsSlice system.now slice.now.target slice.now }
@@ -57,14 +60,13 @@ fn families(
     ensures filled { IfOk result (λ now.
         IsFilled (record { system = system.now; order = no_order; most = most }) slice.now.facts store.new now.items) }
 {
-    let order = finishing_order(alloc, system, slice.target)?;
     let mut now = no_families(alloc, store, system.facts())?;
     fill_in_order(
         alloc,
         store,
         system,
+        blocks,
         most,
-        order.as_slice(),
         slice,
         now.as_mut_slice(),
     )?;
@@ -83,14 +85,14 @@ fn no_families(alloc: Global, store: &Store, count: u32) -> Mem<Vec<Id>>
     Ok(now)
 }
 
-/// Makes the families of all facts of a slice: first in an order in which few sweeps are needed, and then until nothing
-/// changes, whatever that order was.
+/// Makes the families of all facts of a slice: first block after block, and then until nothing changes, whatever the blocks
+/// were.
 fn fill_in_order(
     alloc: Global,
     store: &mut Store,
     system: &FaultSystem,
+    blocks: &Blocks,
     most: Option<u32>,
-    order: &[u32],
     slice: &Slice,
     now: &mut [Id],
 ) -> Mem<()>
@@ -102,26 +104,31 @@ fn fill_in_order(
         (IsFilled (record { system = system.now; order = no_order; most = most }) slice.now.facts store.new now.new) }
 {
     store.laws();
-    settle(alloc, store, system, most, order, now)?;
+    settle(alloc, store, system, blocks, slice.target, most, now)?;
     fill(alloc, store, system, &[], most, slice.facts.items(), now)
 }
 
-/// Sweeps over some facts in their order until nothing changes, at most as often as there are facts.
+/// Makes the families of the facts on which a target depends, each again where that of a fact of its formula is another.
 fn settle(
     alloc: Global,
     store: &mut Store,
     system: &FaultSystem,
+    blocks: &Blocks,
+    target: u32,
     most: Option<u32>,
-    order: &[u32],
     now: &mut [Id],
 ) -> Mem<()>
     requires { IsFilling (record { system = system.now; order = no_order; most = most }) store.old now.old }
     ensures kept { Keeps store.old store.new }
     ensures filling { OnOk result (IsFilling (record { system = system.now; order = no_order; most = most }) store.new now.new) }
 {
-    for round in 0..system.facts() {
-        if !sweep(alloc, store, system, &[], most, order, now)? {
+    let mut agenda = Agenda::new(alloc, system, blocks, target)?;
+    for step in 0..u64::MAX {
+        let Some(fact) = agenda.next() else {
             return Ok(());
+        };
+        if fill_fact(alloc, store, system, &[], most, now, fact)? {
+            agenda.tell(fact);
         }
     }
     Ok(())

@@ -9,7 +9,7 @@ use std::alloc::Global;
 use zdd_store::{Id, Store};
 
 /// Makes the family of a fact anew from those that all facts have now; whether it is another one.
-fn fill_fact(
+pub(crate) fn fill_fact(
     alloc: Global,
     store: &mut Store,
     system: &FaultSystem,
@@ -33,7 +33,7 @@ fn fill_fact(
 }
 
 /// Makes the families of some facts anew, one after another; whether one is another than before.
-pub(crate) fn sweep(
+fn sweep(
     alloc: Global,
     store: &mut Store,
     system: &FaultSystem,

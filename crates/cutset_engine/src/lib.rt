@@ -5,9 +5,9 @@
 //! greatest order cuts each family on the way, so that it bounds the work.
 #![tactic(auto)]
 
+mod agenda;
 mod families;
 mod filling;
-mod finishing;
 mod formulas;
 mod gates;
 

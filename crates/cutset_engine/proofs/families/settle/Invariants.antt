@@ -3,8 +3,8 @@ use Rattle.cutset_engine.specs.Families.{no_order}
 use Rattle.cutset_engine.specs.Filling.{IsFilling}
 use Rattle.cutset_engine.proofs.families.settle.Given as goal
 
-abbrev pub invariant-loop-round : goal.invariant-loop-round
-invariant-loop-round l = record {
+abbrev pub invariant-loop-step : goal.invariant-loop-step
+invariant-loop-step l = record {
   kept : Keeps l.fn.store l.store;
   filling : IsFilling (record { system = l.system; order = no_order; most = l.most }) l.store l.now;
 }
