@@ -1,13 +1,16 @@
 -- The sets of a family, size by size, are its sets in listing order.
-use Rattle.std.proofs.Common.{◌≡◌, ℕ, zero, suc, ◌+◌, ◌<◌, ◌≤◌, ◌↔◌, Bool, true, false, cond, ◌&&◌, ◌||◌, List, [], ◌∷◌, ◌++◌, length, filter, Contains, ⊎_elim, inl, inr, refl, sym, ap, ◌∙◌, subst, arith, add-one, eqb-true, eq-eqb}
+use Rattle.std.proofs.Common.{◌≡◌, ℕ, zero, suc, ◌+◌, ◌<◌, ◌≤◌, ◌↔◌, Bool, true, false, cond, ◌&&◌, ◌||◌, List, [], ◌∷◌, ◌++◌, length, filter, Contains, ⊎_elim, inl, refl, sym, ap, ◌∙◌, subst, arith, add-one, eqb-true, eq-eqb}
 use Rattle.std.specs.Prelude.{IsTrue, nat_lt, ◌==◌}
-use Rattle.std.specs.List.{AllByRecursion}
 use Rattle.std.proofs.lemmas.Bool.{false≢true, cases_lt}
-use Rattle.fault_system.specs.Listings.{is_lower, is_before, IsBefore, IsInListingOrder}
+use Rattle.fault_system.specs.Listings.{is_lower, IsBefore, IsInListingOrder}
 use Rattle.fault_system.proofs.Elements.{In, In-contains, contains_In, In-append, In-front, In-back, In-filter, In-filtered, each-at, each-made}
 use Rattle.fault_system.proofs.Orders.{before_made, order-append}
 use Rattle.zdd_store.specs.Family.{Family, precedes, IsInOrder}
 use Rattle.zdd_store.specs.Answers.{sets_of}
+use Rattle.zdd_store.specs.Store.{Families, IsIn, Keeps, family_of}
+use Rattle.zdd_store.specs.declared.id.Id.{Id}
+use Rattle.zdd_families.proofs.Ways.{Keeps_trans}
+use Rattle.zdd_families.proofs.Sizing.{Keeps_is}
 use Rattle.cutset_lister.specs.Listed.{listed}
 
 or_step : (a b c d : Bool) → a || (b && c) ≡ true → (c ≡ true → d ≡ true) → a || (b && d) ≡ true
@@ -73,7 +76,7 @@ ordered_listed (suc k) family o =
     order-append (listed k family) (sets_of k family) (ordered_listed k family o) (ordered_size k family o) (λ a b i j. before_made a b (inl (shorter k a b (in_listed k family a i).1 (of_size k family b j))))
 
 -- the sets of one size more
-pub listed_more : (size : ℕ) (family : Family) → listed size family ++ sets_of size family ≡ listed (size + 1) family
+listed_more : (size : ℕ) (family : Family) → listed size family ++ sets_of size family ≡ listed (size + 1) family
 unfolding listed
 listed_more size family = ap (λ k. listed k family) (sym (add-one size))
 
@@ -86,3 +89,20 @@ all_listed most family sets is few set = (
   λ here. contains_In set family (in_listed (most + 1) family set (subst (In set) is (In-contains set sets here))).0,
   λ here. let short = few set here in contains_In set sets (subst (In set) (sym is) (listed_in (most + 1) family set (In-contains set family here) (omega arith))),
 )
+
+-- the sets of fewer numbers than so many are in the list, and each number of the store keeps its family
+pub record ListedSoFar (before now : Families) (family : Id) (size : ℕ) (sets : Family) : Type 0 where
+  pub kept : Keeps before now
+  pub sets_are : sets ≡ listed size (family_of before family)
+
+pub none_listed : (store : Families) (family : Id) (sets : Family) → sets ≡ [] → ListedSoFar store store family 0 sets
+unfolding listed
+none_listed store family sets is = record { kept = Keeps_is store store refl; sets_are = is }
+
+pub more_listed : (before middle now : Families) (family : Id) (size : ℕ) (sets new : Family) → IsIn before family → ListedSoFar before middle family size sets → Keeps middle now → new ≡ sets ++ sets_of size (family_of middle family) → ListedSoFar before now family (size + 1) new
+more_listed before middle now family size sets new here so_far kept is = record {
+  kept = Keeps_trans before middle now so_far.kept kept;
+  sets_are =
+      is ∙ ap (λ (f : Family). sets ++ sets_of size f) (so_far.kept.same family.position here) ∙ ap (λ (s : Family). s ++ sets_of size (family_of before family)) so_far.sets_are
+      ∙ listed_more size (family_of before family);
+}

@@ -1,7 +1,7 @@
 //! The sets of a family in listing order.
 #![tactic(auto)]
 
-mod listing;
+mod in_order;
 mod reading;
 
-pub use listing::listing;
+pub use in_order::listing;

@@ -1,5 +1,5 @@
 -- What is in a list, by recursion; and what is true of each element.
-use Rattle.std.proofs.Common.{ℕ, zero, suc, ◌≡◌, ◌<◌, ◌⊎◌, Bool, true, false, cond, slice_index_or, List, [], ◌∷◌, ◌++◌, length, map, filter, Contains, inl, inr, ⊎_elim, ap, ◌∙◌, sym, refl, subst, arith}
+use Rattle.std.proofs.Common.{ℕ, zero, suc, ◌-◌, ◌≡◌, ◌<◌, ◌⊎◌, Bool, true, false, cond, slice_index_or, List, [], ◌∷◌, ◌++◌, length, length-append, take, map, filter, Contains, inl, inr, ⊎_elim, ap, ◌∙◌, sym, refl, subst, arith}
 use Rattle.std.proofs.lemmas.Bool.{false≢true}
 use Rattle.std.specs.List.{AllByRecursion}
 
@@ -62,3 +62,14 @@ each-at P x (y ∷ ys) a i = ⊎_elim (λ e. subst P e a.0) (λ r. each-at P x y
 pub each-made : {X : Type 0} (P : X → Type 0) (xs : List X) → ((x : X) → In x xs → P x) → AllByRecursion P xs
 each-made P [] h = tt
 each-made P (x ∷ xs) h = (h x (inl refl), each-made P xs (λ y i. h y (inr i)))
+
+-- a list from which the number that was pushed is popped
+pub popped : (xs ps ys zs : List ℕ) (y n : ℕ) → ps ≡ xs ++ y ∷ [] → ys ≡ ps → n ≡ length ys → zs ≡ take (n - 1) ys → zs ≡ xs
+popped xs ps ys zs y n put kept sized rest =
+    let pushed : ys ≡ xs ++ y ∷ [] = kept ∙ put in
+    let size : n - 1 ≡ length xs = omega (arith, sized, ap length pushed, length-append xs (y ∷ [])) in
+    rest ∙ rw (size, pushed) (take_front xs)
+  where
+    take_front : (us : List ℕ) → take (length us) (us ++ y ∷ []) ≡ us
+    take_front [] = refl
+    take_front (u ∷ us) = ap (λ vs. u ∷ vs) (take_front us)

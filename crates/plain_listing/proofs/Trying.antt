@@ -14,17 +14,6 @@ rises-push low next (x ∷ xs) h r = (r.0, omega (arith, r.1), rises-push (x + 1
 pub rises-as : (low high : ℕ) (xs ys : List ℕ) → ys ≡ xs → RisesWithin low high xs → RisesWithin low high ys
 rises-as low high xs ys e = subst (RisesWithin low high) (sym e)
 
--- a list from which the number that was pushed is popped
-pub popped : (xs ps ys zs : List ℕ) (y n : ℕ) → ps ≡ xs ++ y ∷ [] → ys ≡ ps → n ≡ length ys → zs ≡ take (n - 1) ys → zs ≡ xs
-popped xs ps ys zs y n put kept sized rest =
-    let pushed : ys ≡ xs ++ y ∷ [] = kept ∙ put in
-    let size : n - 1 ≡ length xs = omega (arith, sized, ap length pushed, length-append xs (y ∷ [])) in
-    rest ∙ rw (size, pushed) (take_front xs)
-  where
-    take_front : (us : List ℕ) → take (length us) (us ++ y ∷ []) ≡ us
-    take_front [] = refl
-    take_front (u ∷ us) = ap (λ vs. u ∷ vs) (take_front us)
-
 module _ (p : List ℕ → Bool) where
   -- the sets that pass, among those that are `chosen` and `more` of the `count` numbers from next on
   abbrev pub found : List ℕ → ℕ → ℕ → ℕ → List (List ℕ)

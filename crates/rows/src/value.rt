@@ -98,9 +98,9 @@ fn kind_name(kind: TokenKind) -> &'static [u8] {
 pub fn put_token(kind: TokenKind, start: u32, end: u32, text: &[u8], out: &mut Text) {
     out.put(kind_name(kind));
     out.put(b" ");
-    out.put_number(u64::from(start));
+    out.put_place(start);
     out.put(b"-");
-    out.put_number(u64::from(end));
+    out.put_place(end);
     out.put(b" ");
     out.put(text);
 }

@@ -28,12 +28,23 @@ fn look_on<L: Ledger>(store: &Store, id: Id, blank: Blank) -> Option<Node>
 }
 
 /// The node of a number. The steps are counted on a ledger of its own, which is dropped.
-pub fn look(store: &Store, id: Id) -> Option<Node>
+fn node_of(store: &Store, id: Id) -> Option<Node>
     ensures found { IfNone result (IsIn store.now id → id.position < 2) }
     ensures fits { IfSome result (Fits store.now) }
     ensures family { IfSome result (λ node. family_of store.now id ≡ family_with store.now node) }
 {
     look_on::<Brand>(store, id, Blank::new(1))
+}
+
+/// The node of a number, none for EMPTY and UNIT. Its variable is the least number of the family.
+pub fn look(store: &Store, id: Id) -> Option<Node>
+    ensures found { IfNone result (IsIn store.now id → id.position < 2) }
+    ensures fits { IfSome result (Fits store.now) }
+    ensures family { IfSome result (λ node. family_of store.now id ≡ family_with store.now node) }
+    ensures least { IfSome result (λ node. least_number (family_of store.now id) ≡ node.var) }
+{
+    store.laws();
+    node_of(store, id)
 }
 
 /// The least number of a family; 2 ^ 32 for EMPTY and UNIT.

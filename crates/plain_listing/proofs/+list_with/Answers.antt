@@ -1,7 +1,8 @@
 use Rattle.std.proofs.Common.{◌∙◌, ◌<◌, ◌≢◌, ◌+◌, length, sym, arith, rules}
 use Rattle.std.proofs.lemmas.Result.{on_ok_weaker}
 use Rattle.fault_system.specs.CutSets.{is_minimal}
-use Rattle.plain_listing.proofs.Trying.{rises-higher, rises-push, rises-as, popped, found-both}
+use Rattle.fault_system.proofs.Elements.{popped}
+use Rattle.plain_listing.proofs.Trying.{rises-higher, rises-push, rises-as, found-both}
 use Rattle.plain_listing.proofs.+list_with.Goals as goal
 
 pub list_if_minimal-requires : goal.list_if_minimal-requires

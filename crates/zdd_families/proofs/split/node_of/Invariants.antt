@@ -1,4 +1,4 @@
-use Rattle.zdd_families.proofs.split.look.Given as goal
+use Rattle.zdd_families.proofs.split.node_of.Given as goal
 
 abbrev pub ghosts-look_on : goal.ghosts-look_on
 ghosts-look_on a = record { name = a.blank.name; parts = a.blank.parts }
