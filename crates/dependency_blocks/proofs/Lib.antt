@@ -1,3 +1,6 @@
 pub mod Parts
 pub mod Passes
 pub mod Counting
+mod Sets
+mod Reaching
+mod Ranked

@@ -47,3 +47,8 @@ IsLow system numbers n = (m : ℕ) (fact : FactInfo) → IsFact system n fact �
 -- a fact that has a number is one of some facts
 abbrev pub IsTable : List ℕ → List ℕ → Type 0
 IsTable facts numbers = (n : ℕ) → number_of numbers n < 4294967295 → Contains facts n
+
+-- a table has the proposed number of each of some facts that has one of so many
+abbrev pub HasNumbers : ℕ → List ℕ → List ℕ → List ℕ → Type 0
+HasNumbers count facts proposed numbers =
+    (n : ℕ) → Contains facts n → n < count → number_of proposed n < count → number_of numbers n ≡ number_of proposed n

@@ -1,22 +1,23 @@
 ghost use Rattle.std.specs.Prelude.{◌≡◌, ◌<◌, ◌⊎◌, ◌^◌, ℕ, Contains, IfOk, IsTrue, length};
 ghost use Rattle.backward_slice.specs.Slices.{IsSlice};
 ghost use Rattle.dependency_blocks.specs.Blocks.{IsBlocks, number_of};
-ghost use Rattle.dependency_blocks.specs.Checks.{IsTable};
+ghost use Rattle.dependency_blocks.specs.Checks.{HasNumbers, IsTable};
 ghost use Rattle.dependency_blocks.specs.Sizes.{AreSmall};
 
 use crate::block_table::Blocks;
 use crate::checks::{all_marked, coming, fall, leading, number_at};
 use crate::finder::{Proposal, propose};
+use crate::ranking::{ranks_of, reaches_of};
 use aadl_syntax::Mem;
 use backward_slice::Slice;
 use fault_system::FaultSystem;
-use std::alloc::{AllocError, Global};
+use std::alloc::Global;
 
 /// The blocks of a slice.
 ///
 /// They are proposed by a search along paths and then tested, both in a time that goes with the facts of the system and
-/// the formulas of the slice. What does not pass the tests is not answered: then the answer is want of memory, and no
-/// system is known for which it is.
+/// the formulas of the slice. Should the tests say no, they are found by plain reach, in a time that goes with the cube
+/// of the facts, and in memory that goes with their square; no system is known for which this is so.
 pub fn blocks(alloc: Global, system: &FaultSystem, slice: &Slice) -> Mem<Blocks>
     requires { IsSlice system.now slice.now.target slice.now }
     ensures { IfOk result (IsBlocks system.now slice.now.facts) }
@@ -27,7 +28,20 @@ pub fn blocks(alloc: Global, system: &FaultSystem, slice: &Slice) -> Mem<Blocks>
     if are_right(alloc, system, facts, numbers.as_slice(), &proposal)? {
         return Blocks::of(alloc, numbers);
     }
-    Err(AllocError)
+    blocks_by_reach(alloc, system, slice)
+}
+
+/// The blocks of a slice, by plain reach.
+fn blocks_by_reach(alloc: Global, system: &FaultSystem, slice: &Slice) -> Mem<Blocks>
+    requires { IsSlice system.now slice.now.target slice.now }
+    ensures { IfOk result (IsBlocks system.now slice.now.facts) }
+{
+    let facts = slice.facts.items();
+    let count = system.facts();
+    let reaches = reaches_of(alloc, system, facts)?;
+    let ranks = ranks_of(alloc, reaches.as_slice())?;
+    let numbers = table(alloc, count, facts, ranks.as_slice())?;
+    Blocks::of(alloc, numbers)
 }
 
 /// Whether the tests show that the numbers are those of blocks.
@@ -70,6 +84,7 @@ fn table(alloc: Global, count: u32, facts: &[u32], proposed: &[u32]) -> Mem<Vec<
     ensures table { IfOk result (λ numbers. IsTable facts.now numbers.items) }
     ensures small { IfOk result (λ numbers. AreSmall numbers.items) }
     ensures few { IfOk result (λ numbers. length numbers.items < 2 ^ 32) }
+    ensures exact { IfOk result (λ numbers. HasNumbers count facts.now proposed.now numbers.items) }
 {
     let mut numbers = vec![in alloc; 4_294_967_295u32; count as usize]?;
     write_all(numbers.as_mut_slice(), facts, proposed);
@@ -81,6 +96,7 @@ fn write_all(numbers: &mut [u32], facts: &[u32], proposed: &[u32])
     ensures long { length numbers.new ≡ length numbers.old }
     ensures table { IsTable facts.now numbers.new }
     ensures small { AreSmall numbers.new }
+    ensures exact { HasNumbers (length numbers.old) facts.now proposed.now numbers.new }
 {
     for fact in facts {
         write(numbers, *fact, number_at(proposed, *fact));
@@ -91,6 +107,7 @@ fn write(numbers: &mut [u32], fact: u32, number: u32)
     ensures long { length numbers.new ≡ length numbers.old }
     ensures others { (n : ℕ) → (n ≡ fact) ⊎ (number_of numbers.new n ≡ number_of numbers.old n) }
     ensures small { AreSmall numbers.old → AreSmall numbers.new }
+    ensures written { fact < length numbers.old → number < length numbers.old → number_of numbers.new fact ≡ number }
 {
     if (fact as usize) < numbers.len() && (number as usize) < numbers.len() {
         numbers[fact as usize] = number;

@@ -6,5 +6,6 @@ pub mod CutSetLaws
 pub mod Elements
 pub mod Orders
 pub mod ListingLaws
-pub mod Names
+pub mod Differing
 pub mod Examples
+pub mod NameTables

@@ -1,9 +1,13 @@
-ghost use Rattle.std.specs.Prelude.{◌≡◌, ◌↔◌, ◌≢◌, All, IsTrue, length, map, true};
+ghost use Rattle.std.specs.Prelude.{◌≡◌, ◌↔◌, ◌<◌, All, IsTrue, IfOk, IfSome, MatchOption, length, map, position, true};
+ghost use Rattle.aadl_syntax.specs.Name.{is_same_text};
 ghost use Rattle.fault_system.specs.Truth.{in_range};
 ghost use Rattle.fault_system.specs.Systems.{IsSystem, NamesDiffer};
 
 use crate::formula::{EventInfo, FactInfo};
-use aadl_syntax::{EventDecl, StateDecl, is_same};
+use aadl_syntax::{EventDecl, Mem, StateDecl};
+use indexmap::IndexSet;
+use std::alloc::Global;
+use std::marker::Model;
 
 /// What has a name.
 pub trait Named {
@@ -48,12 +52,60 @@ impl Named for StateDecl {
     }
 }
 
+/// Names of which no two are the same. Contracts see them as the list of these names.
+#[derive(Drop)]
+pub struct Names<'a> {
+    set: IndexSet<&'a [u8]>,
+}
+
+impl<'a> Model for Names<'a> {
+    ghost use Rattle.std.specs.Prelude.{ℕ, List, map};
+
+    ghost Value = { List (List ℕ) };
+
+    ghost view = { λ names. map (λ name. name.now) names.set.keys };
+}
+
+impl<'a> Names<'a> {
+    /// The names of these; none where two share one. The time goes with the length of the names.
+    pub fn of<T: Named>(alloc: Global, items: &'a [T]) -> Mem<Option<Names<'a>>>
+        ensures { IfOk result (λ found. MatchOption found (NamesDiffer (map T.name_of items.now) → ⊥)
+            (λ names. NamesDiffer (map T.name_of items.now) × (names ≡ map T.name_of items.now))) }
+    {
+        let mut set = IndexSet::new(alloc);
+        for (i, item) in items.iter().enumerate() {
+            let (_, is_new) = set.insert_full(item.name())?;
+            if !is_new {
+                return Ok(None);
+            }
+        }
+        Ok(Some(Names { set }))
+    }
+
+    /// How many names there are.
+    pub fn len(&self) -> usize
+        ensures { result ≡ length self.now }
+    {
+        self.set.len()
+    }
+
+    /// The place of a name, from 0; none where it is not one of these.
+    pub fn place(&self, name: &[u8]) -> Option<usize>
+        ensures place { result ≡ position (λ other. is_same_text other name.now) self.now }
+        ensures within { IfSome result (λ place. place < length self.now) }
+    {
+        self.set.get_index_of(name)
+    }
+}
+
 /// Whether facts and events make a system: each number in a formula is in range, no two facts share a name, and no
-/// two events do. It compares each name with each earlier one, so it is for small systems.
-pub fn is_system(facts: &[FactInfo], events: &[EventInfo]) -> bool
-    ensures { IsTrue result ↔ IsSystem (record { facts = facts.now; events = events.now }) }
+/// two events do.
+pub fn is_system(alloc: Global, facts: &[FactInfo], events: &[EventInfo]) -> Mem<bool>
+    ensures { IfOk result (λ yes. IsTrue yes ↔ IsSystem (record { facts = facts.now; events = events.now })) }
 {
-    are_ranged(facts, events.len()) && names_differ(facts) && names_differ(events)
+    let facts_differ = names_differ(alloc, facts)?;
+    let events_differ = names_differ(alloc, events)?;
+    Ok(are_ranged(facts, events.len()) && facts_differ && events_differ)
 }
 
 fn are_ranged(facts: &[FactInfo], events: usize) -> bool
@@ -67,24 +119,9 @@ fn are_ranged(facts: &[FactInfo], events: usize) -> bool
 }
 
 /// Whether no two of these share a name.
-pub fn names_differ<T: Named>(items: &[T]) -> bool
-    ensures { IsTrue result ↔ NamesDiffer (map T.name_of items.now) }
+pub fn names_differ<T: Named>(alloc: Global, items: &[T]) -> Mem<bool>
+    ensures { IfOk result (λ yes. IsTrue yes ↔ NamesDiffer (map T.name_of items.now)) }
 {
-    for (i, item) in items.iter().enumerate() {
-        if !is_new(item.name(), &items[..i]) {
-            return false;
-        }
-    }
-    true
-}
-
-fn is_new<T: Named>(name: &[u8], items: &[T]) -> bool
-    ensures { IsTrue result ↔ All (λ item. T.name_of item ≢ name.now) items.now }
-{
-    for item in items {
-        if is_same(item.name(), name) {
-            return false;
-        }
-    }
-    true
+    let names = Names::of(alloc, items)?;
+    Ok(names.is_some())
 }

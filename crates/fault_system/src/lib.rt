@@ -9,7 +9,7 @@ mod places;
 mod system;
 
 pub use bits::Bits;
-pub use checks::{Named, is_system, names_differ};
+pub use checks::{Named, Names, is_system, names_differ};
 pub use formula::{EventInfo, FactInfo, Formula};
 pub use laws::{computed_listing, cover, join, one_listing};
 pub use system::FaultSystem;

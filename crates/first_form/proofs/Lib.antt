@@ -3,3 +3,4 @@ pub mod MadeSystem
 mod NameLists
 pub mod OneForm
 mod Room
+mod StepLists

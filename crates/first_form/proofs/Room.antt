@@ -1,5 +1,6 @@
--- What does not fit at one item of a list does not fit at all of it.
-use Rattle.std.proofs.Common.{◌≡◌, ℕ, zero, suc, ◌+◌, ◌<◌, ◌≤◌, List, [], ◌∷◌, ◌++◌, length, get_or, take, sym, ap, subst, arith, length-append}
+-- What holds of the parts of a list.
+use Rattle.std.proofs.Common.{◌≡◌, ℕ, zero, suc, ◌+◌, ◌<◌, List, [], ◌∷◌, ◌++◌, length, get_or, take, sym, subst, arith}
+use Rattle.std.proofs.lemmas.List.{take_more}
 use Rattle.std.specs.List.{AllByRecursion, flat_map}
 
 -- what holds of each item of two lists holds of the first and of the second
@@ -11,13 +12,17 @@ pub all_back : {A : Type 0} (P : A → Type 0) (xs ys : List A) → AllByRecursi
 all_back P [] ys h = h
 all_back P (x ∷ xs) ys h = all_back P xs ys h.1
 
--- the names of one part are among those of all
-pub part_fails : {A B : Type 0} (P : B → Type 0) (f : A → List B) (xs : List A) (i : ℕ) (x : A) (left : ℕ) → i < length xs → x ≡ get_or xs i x
-    → (AllByRecursion P (f x) → length (f x) ≤ left → ⊥) → AllByRecursion P (flat_map f xs) → length (flat_map f xs) ≤ length (flat_map f (take i xs)) + left → ⊥
-part_fails P f [] i x left lt is fails all fits = omega arith
-part_fails P f (y ∷ ys) zero x left lt is fails all fits =
-    let e : f y ≡ f x = sym (ap f is) in
-    fails (subst (AllByRecursion P) e (all_front P (f y) (flat_map f ys) all)) (subst (λ l. length l ≤ left) e (omega (arith, length-append (f y) (flat_map f ys))))
-part_fails P f (y ∷ ys) (suc i) x left lt is fails all fits =
-    part_fails P f ys i x left (omega arith) is fails (all_back P (f y) (flat_map f ys) all)
-    (omega (arith, length-append (f y) (flat_map f ys), length-append (f y) (flat_map f (take i ys))))
+-- what holds of the parts of all items holds of those of one
+pub part_holds : {A B : Type 0} (P : B → Type 0) (f : A → List B) (xs : List A) (i : ℕ) (x : A) → i < length xs → x ≡ get_or xs i x → AllByRecursion P (flat_map f xs) → AllByRecursion P (f x)
+part_holds P f [] i x lt is all = absurd (omega arith)
+part_holds P f (y ∷ ys) zero x lt is all = subst (λ z. AllByRecursion P (f z)) (sym is) (all_front P (f y) (flat_map f ys) all)
+part_holds P f (y ∷ ys) (suc i) x lt is all = part_holds P f ys i x (omega arith) is (all_back P (f y) (flat_map f ys) all)
+
+-- what holds of the items so far and of the next one
+pub holds_more : {A : Type 0} (P : A → Type 0) (xs : List A) (i : ℕ) (x : A) → i < length xs → x ≡ get_or xs i x → AllByRecursion P (take i xs) → P x → AllByRecursion P (take (i + 1) xs)
+holds_more {A} P xs i x fits is before here =
+    subst (AllByRecursion P) (sym (take_more xs i x fits)) (joined (take i xs) before)
+  where
+    joined : (ys : List A) → AllByRecursion P ys → AllByRecursion P (ys ++ get_or xs i x ∷ [])
+    joined [] all = (subst P is here, tt)
+    joined (y ∷ ys) all = (all.0, joined ys all.1)

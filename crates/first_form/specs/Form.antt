@@ -1,5 +1,5 @@
 -- The first form: one package with one machine and one classifier that uses it.
-use Rattle.std.specs.Prelude.{◌≡◌, ◌≤◌, ℕ, true, false, List, [], ◌∷◌, length, map, sum_by, Option, None, Some, IsSomeAnd}
+use Rattle.std.specs.Prelude.{◌≡◌, ℕ, true, false, List, [], ◌∷◌, length, map, Option, None, Some, IsSomeAnd}
 use Rattle.std.specs.List.{AllByRecursion, flat_map}
 use Rattle.aadl_syntax.specs.declared.core_model.Unit.{Unit as FileUnit}
 use Rattle.aadl_syntax.specs.declared.core_model.Unit.TheVariants.{Package}
@@ -85,12 +85,6 @@ pub record IsPlainMachine (machine : MachineDecl) : Type 0 where
   pub states_differ : NamesDiffer (state_names machine)
   pub transitions : AllByRecursion (IsPlainTransition machine) machine.transitions
 
--- There are at most 16 events, 16 states and 64 names in conditions.
-pub record IsSmall (machine : MachineDecl) : Type 0 where
-  pub few_events : length machine.events ≤ 16
-  pub few_states : length machine.states ≤ 16
-  pub few_names : sum_by (λ transition. length (atoms_in transition.condition)) machine.transitions ≤ 64
-
 -- A machine extends no other, and uses no types and no transformations; it has no property associations.
 pub record IsAlone (machine : MachineDecl) : Type 0 where
   pub no_extends : machine.extends ≡ None
@@ -154,4 +148,3 @@ pub record IsFirstForm (units : List FileUnit) (package_name : List ℕ) (machin
   pub uses : AllByRecursion (IsUse (package_name ∷ machine.name ∷ [])) classifier.clauses
   pub alone : IsAlone machine
   pub right : IsPlainMachine machine
-  pub small : IsSmall machine

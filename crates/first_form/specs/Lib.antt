@@ -1,3 +1,4 @@
 pub mod Names
 pub mod Form
 pub mod Meaning
+pub mod Steps

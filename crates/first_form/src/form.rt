@@ -1,11 +1,12 @@
-ghost use Rattle.std.specs.Prelude.{◌≡◌, ◌↔◌, ℕ, List, [], ◌∷◌, None, IsSomeAnd, IsTrue, MatchOption, length};
+ghost use Rattle.std.specs.Prelude.{◌≡◌, ◌↔◌, ℕ, List, [], ◌∷◌, None, IfOk, IsSomeAnd, IsTrue, MatchOption, length};
 ghost use Rattle.std.specs.List.{AllByRecursion};
 ghost use Rattle.aadl_syntax.specs.declared.core_model.Decl.{Decl};
 ghost use Rattle.aadl_syntax.specs.declared.error_model.MachineDecl.{MachineDecl};
 ghost use Rattle.first_form.specs.Form.{AreParts, HasNothingOfItsOwn, HasNoPoints, IsFirstForm, IsPlainClassifier, IsUse};
 
-use crate::machine::is_plain_and_small;
-use aadl_syntax::{Decl, Emv2Clause, Identifier, MachineDecl, Unit};
+use crate::machine::is_plain_and_alone;
+use aadl_syntax::{Decl, Emv2Clause, Identifier, MachineDecl, Mem, Unit};
+use std::alloc::Global;
 
 /// The parts of a text of the first form: its package's name, its machine, and the classifier that uses it.
 #[derive(Drop)]
@@ -16,19 +17,20 @@ pub struct FirstForm<'a> {
 }
 
 /// The parts of units that are of the first form; none where they are not.
-pub fn first_form(units: &[Unit]) -> Option<FirstForm<'_>>
-    ensures { MatchOption result ((package_name : List ℕ) (machine : MachineDecl) (classifier : Decl) → IsFirstForm units.now package_name machine classifier → ⊥)
-        (λ form. IsFirstForm units.now form.package_name.now form.machine.now form.classifier.now) }
+pub fn first_form(alloc: Global, units: &[Unit]) -> Mem<Option<FirstForm<'_>>>
+    ensures { IfOk result (λ found. MatchOption found ((package_name : List ℕ) (machine : MachineDecl) (classifier : Decl) → IsFirstForm units.now package_name machine classifier → ⊥)
+        (λ form. IsFirstForm units.now form.package_name.now form.machine.now form.classifier.now)) }
 {
     let Some(form) = parts_of(units) else {
-        return None;
+        return Ok(None);
     };
-    if uses_machine(form.classifier, form.package_name, form.machine)
-        && is_plain_and_small(form.machine)
-    {
-        return Some(form);
+    if !uses_machine(form.classifier, form.package_name, form.machine) {
+        return Ok(None);
     }
-    None
+    if is_plain_and_alone(alloc, form.machine)? {
+        return Ok(Some(form));
+    }
+    Ok(None)
 }
 
 /// The parts of units that are one package with one machine and one classifier.

@@ -1,24 +1,25 @@
-ghost use Rattle.std.specs.Prelude.{◌≡◌, ◌↔◌, ◌+◌, ◌≤◌, IsSomeAnd, IsTrue, MatchOption, length, map, sum_by};
+ghost use Rattle.std.specs.Prelude.{◌≡◌, ◌↔◌, None, IfOk, IsSomeAnd, IsTrue, length};
 ghost use Rattle.std.specs.List.{AllByRecursion, flat_map};
-ghost use Rattle.first_form.specs.Form.{IsAlone, IsEventAtom, IsKnownPart, IsKnownState, IsPlainEvent, IsPlainMachine, IsPlainState, IsPlainTransition, IsSmall, atoms_in};
+ghost use Rattle.first_form.specs.Form.{IsAlone, IsEventAtom, IsKnownPart, IsKnownState, IsPlainEvent, IsPlainMachine, IsPlainState, IsPlainTransition, atoms_in, event_names, state_names};
 
 use crate::names::{is_among, one_name};
 use aadl_syntax::{
-    Atom, Condition, EventDecl, EventKind, MachineDecl, StateDecl, StateRef, Transition,
+    Atom, Condition, EventDecl, EventKind, MachineDecl, Mem, StateDecl, StateRef, Transition,
 };
-use fault_system::names_differ;
+use fault_system::Names;
+use std::alloc::Global;
 
-/// How many events, and how many states, a machine of the first form may have.
-const MOST_OF_EACH: usize = 16;
-
-/// How many names the conditions of a machine of the first form may have.
-const MOST_NAMES: usize = 64;
-
-/// Whether a machine stands alone, is plain and is small.
-pub fn is_plain_and_small(machine: &MachineDecl) -> bool
-    ensures { IsTrue result ↔ (IsAlone machine.now × IsPlainMachine machine.now × IsSmall machine.now) }
+/// Whether a machine stands alone and is plain.
+pub fn is_plain_and_alone(alloc: Global, machine: &MachineDecl) -> Mem<bool>
+    ensures { IfOk result (λ yes. IsTrue yes ↔ (IsAlone machine.now × IsPlainMachine machine.now)) }
 {
-    is_alone(machine) && has_few_plain_parts(machine)
+    let Some(states) = Names::of(alloc, machine.states.items())? else {
+        return Ok(false);
+    };
+    let Some(events) = Names::of(alloc, machine.events.items())? else {
+        return Ok(false);
+    };
+    Ok(is_alone(machine) && has_plain_parts(machine, &states, &events))
 }
 
 fn is_alone(machine: &MachineDecl) -> bool
@@ -30,16 +31,16 @@ fn is_alone(machine: &MachineDecl) -> bool
         && machine.associations.items().is_empty()
 }
 
-fn has_few_plain_parts(machine: &MachineDecl) -> bool
-    ensures { IsTrue result ↔ (IsPlainMachine machine.now × IsSmall machine.now) }
+fn has_plain_parts(machine: &MachineDecl, states: &Names, events: &Names) -> bool
+    requires states { states.now ≡ state_names machine.now }
+    requires events { events.now ≡ event_names machine.now }
+    ensures { IsTrue result ↔ (AllByRecursion IsPlainEvent machine.now.events
+        × AllByRecursion IsPlainState machine.now.states
+        × AllByRecursion (IsPlainTransition machine.now) machine.now.transitions) }
 {
-    machine.events.items().len() <= MOST_OF_EACH
-        && machine.states.items().len() <= MOST_OF_EACH
-        && are_plain_events(machine.events.items())
+    are_plain_events(machine.events.items())
         && are_plain_states(machine.states.items())
-        && names_differ(machine.events.items())
-        && names_differ(machine.states.items())
-        && are_plain_transitions(machine)
+        && are_plain_transitions(machine, states, events)
 }
 
 fn are_plain_events(events: &[EventDecl]) -> bool
@@ -64,39 +65,36 @@ fn are_plain_states(states: &[StateDecl]) -> bool
     true
 }
 
-fn are_plain_transitions(machine: &MachineDecl) -> bool
-    ensures { IsTrue result
-        ↔ (AllByRecursion (IsPlainTransition machine.now) machine.now.transitions
-        × (sum_by (λ transition. length (atoms_in transition.condition)) machine.now.transitions ≤ 64)) }
+fn are_plain_transitions(machine: &MachineDecl, states: &Names, events: &Names) -> bool
+    requires states { states.now ≡ state_names machine.now }
+    requires events { events.now ≡ event_names machine.now }
+    ensures { IsTrue result ↔ AllByRecursion (IsPlainTransition machine.now) machine.now.transitions }
 {
-    let mut room = MOST_NAMES;
     for transition in machine.transitions.items() {
-        match room_after(machine, transition, room) {
-            Some(left) => room = left,
-            None => return false,
+        if !is_plain_transition(states, events, transition) {
+            return false;
         }
     }
     true
 }
 
-/// What is left of the room for names after a transition, if it is plain and there is room.
-fn room_after(machine: &MachineDecl, transition: &Transition, room: usize) -> Option<usize>
-    ensures { MatchOption result (IsPlainTransition machine.now transition.now → length (atoms_in transition.now.condition) ≤ room → ⊥)
-        (λ left. IsPlainTransition machine.now transition.now × (length (atoms_in transition.now.condition) + left ≡ room)) }
+/// Whether a transition is plain, over the names of states and events.
+fn is_plain_transition(states: &Names, events: &Names, transition: &Transition) -> bool
+    ensures { IsTrue result ↔ ((transition.now.name ≡ None)
+        × IsSomeAnd transition.now.source.state (IsKnownState states.now)
+        × (length transition.now.targets ≡ 1)
+        × AllByRecursion (IsKnownState states.now) transition.now.targets
+        × AllByRecursion (IsKnownPart events.now) (atoms_in transition.now.condition)) }
 {
-    let states = machine.states.items();
-    if transition.name.is_some()
-        || !is_known_source(states, transition)
-        || transition.targets.items().len() != 1
-        || !are_known_states(states, transition.targets.items())
-    {
-        return None;
-    }
-    room_after_condition(machine.events.items(), &transition.condition, room)
+    transition.name.is_none()
+        && is_known_source(states, transition)
+        && transition.targets.items().len() == 1
+        && are_known_states(states, transition.targets.items())
+        && is_known_condition(events, &transition.condition)
 }
 
-fn is_known_source(states: &[StateDecl], transition: &Transition) -> bool
-    ensures { IsTrue result ↔ IsSomeAnd transition.now.source.state (IsKnownState (map (λ state. state.name) states.now)) }
+fn is_known_source(states: &Names, transition: &Transition) -> bool
+    ensures { IsTrue result ↔ IsSomeAnd transition.now.source.state (IsKnownState states.now) }
 {
     match &transition.source.state {
         Some(state) => is_known_state(states, state),
@@ -104,8 +102,8 @@ fn is_known_source(states: &[StateDecl], transition: &Transition) -> bool
     }
 }
 
-fn are_known_states(states: &[StateDecl], named: &[StateRef]) -> bool
-    ensures { IsTrue result ↔ AllByRecursion (IsKnownState (map (λ state. state.name) states.now)) named.now }
+fn are_known_states(states: &Names, named: &[StateRef]) -> bool
+    ensures { IsTrue result ↔ AllByRecursion (IsKnownState states.now) named.now }
 {
     for state in named {
         if !is_known_state(states, state) {
@@ -115,39 +113,38 @@ fn are_known_states(states: &[StateDecl], named: &[StateRef]) -> bool
     true
 }
 
-fn is_known_state(states: &[StateDecl], state: &StateRef) -> bool
-    ensures { IsTrue result ↔ IsKnownState (map (λ state. state.name) states.now) state.now }
+fn is_known_state(states: &Names, state: &StateRef) -> bool
+    ensures { IsTrue result ↔ IsKnownState states.now state.now }
 {
     state.set.is_none() && is_among(states, state.name.text())
 }
 
-#[cycle(room)]
-fn room_after_condition(events: &[EventDecl], condition: &Condition, room: usize) -> Option<usize>
-    ensures { MatchOption result (AllByRecursion (IsKnownPart (map (λ event. event.name) events.now)) (atoms_in condition.now) → length (atoms_in condition.now) ≤ room → ⊥)
-        (λ left. AllByRecursion (IsKnownPart (map (λ event. event.name) events.now)) (atoms_in condition.now) × (length (atoms_in condition.now) + left ≡ room)) }
+#[cycle(known)]
+fn is_known_condition(events: &Names, condition: &Condition) -> bool
+    ensures { IsTrue result ↔ AllByRecursion (IsKnownPart events.now) (atoms_in condition.now) }
 {
     match condition {
-        Condition::Atom(atom) if room > 0 && is_event_atom(events, atom) => Some(room - 1),
-        Condition::All(parts) => room_after_parts(events, parts.items(), room),
-        Condition::Any(parts) => room_after_parts(events, parts.items(), room),
-        Condition::Atom(_) | Condition::AtLeast(_, _) | Condition::AtMost(_, _, _) => None,
+        Condition::Atom(atom) => is_event_atom(events, atom),
+        Condition::All(parts) => are_known_conditions(events, parts.items()),
+        Condition::Any(parts) => are_known_conditions(events, parts.items()),
+        Condition::AtLeast(_, _) | Condition::AtMost(_, _, _) => false,
     }
 }
 
-#[cycle(room)]
-fn room_after_parts(events: &[EventDecl], parts: &[Condition], room: usize) -> Option<usize>
-    ensures { MatchOption result (AllByRecursion (IsKnownPart (map (λ event. event.name) events.now)) (flat_map atoms_in parts.now) → length (flat_map atoms_in parts.now) ≤ room → ⊥)
-        (λ left. AllByRecursion (IsKnownPart (map (λ event. event.name) events.now)) (flat_map atoms_in parts.now) × (length (flat_map atoms_in parts.now) + left ≡ room)) }
+#[cycle(known)]
+fn are_known_conditions(events: &Names, parts: &[Condition]) -> bool
+    ensures { IsTrue result ↔ AllByRecursion (IsKnownPart events.now) (flat_map atoms_in parts.now) }
 {
-    let mut room = room;
     for part in parts {
-        room = room_after_condition(events, part, room)?;
+        if !is_known_condition(events, part) {
+            return false;
+        }
     }
-    Some(room)
+    true
 }
 
-fn is_event_atom(events: &[EventDecl], atom: &Atom) -> bool
-    ensures { IsTrue result ↔ IsEventAtom (map (λ event. event.name) events.now) atom.now }
+fn is_event_atom(events: &Names, atom: &Atom) -> bool
+    ensures { IsTrue result ↔ IsEventAtom events.now atom.now }
 {
     !atom.inward
         && atom.names.items().len() == 1

@@ -1,32 +1,39 @@
-ghost use Rattle.std.specs.Prelude.{◌≡◌, ◌<◌, ◌^◌, map, length};
+ghost use Rattle.std.specs.Prelude.{◌≡◌, ◌<◌, ◌^◌, IfOk, map, length};
+ghost use Rattle.fault_system.specs.Systems.{NamesDiffer};
 ghost use Rattle.first_form.specs.Names.{is_among, one_name, place_of};
 
-use aadl_syntax::{Identifier, is_same};
-use fault_system::Named;
+use aadl_syntax::{Identifier, List, Mem};
+use fault_system::{Named, Names};
+use std::alloc::Global;
 
-/// The number of a name: how many items stand before the first that has it.
-pub fn place_of<T: Named>(items: &[T], name: &[u8]) -> u32
-    requires { length items.now < 2 ^ 32 }
-    ensures { result ≡ place_of (map T.name_of items.now) name.now }
+/// The names of items, of which no two share one.
+pub fn names_of<'a, T: Named>(alloc: Global, items: &'a List<T>) -> Mem<Names<'a>>
+    requires { NamesDiffer (map T.name_of items.now) }
+    ensures names { IfOk result (λ names. names ≡ map T.name_of items.now) }
+    ensures few { IfOk result (λ names. length names < 2 ^ 32) }
 {
-    for (place, item) in items.iter().enumerate() {
-        if is_same(item.name(), name) {
-            return place as u32;
-        }
+    match Names::of(alloc, items.items())? {
+        Some(names) => Ok(names),
+        None => unreachable!(),
     }
-    items.len() as u32
 }
 
-/// Whether an item has the name.
-pub fn is_among<T: Named>(items: &[T], name: &[u8]) -> bool
-    ensures { result ≡ is_among (map T.name_of items.now) name.now }
+/// The number of a name: how many stand before it.
+pub fn place_of(names: &Names, name: &[u8]) -> u32
+    requires { length names.now < 2 ^ 32 }
+    ensures { result ≡ place_of names.now name.now }
 {
-    for item in items {
-        if is_same(item.name(), name) {
-            return true;
-        }
+    match names.place(name) {
+        Some(place) => place as u32,
+        None => names.len() as u32,
     }
-    false
+}
+
+/// Whether a name is one of these.
+pub fn is_among(names: &Names, name: &[u8]) -> bool
+    ensures { result ≡ is_among names.now name.now }
+{
+    names.place(name).is_some()
 }
 
 /// The one name of a list that has one.
