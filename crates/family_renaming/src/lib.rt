@@ -5,6 +5,9 @@
 #![tactic(auto)]
 
 mod event_order;
+mod from_top;
+mod looks;
+mod parting;
 mod variable_order;
 
 pub use event_order::in_event_order;
