@@ -1,12 +1,16 @@
 -- What a table knows after one more answer, and in a store that keeps what it had.
-use Rattle.std.proofs.Common.{◌≡◌, ◌<◌, ◌≤◌, ℕ, Bool, true, false, cond, List, length, Option, Some, refl, sym, ap, ◌∙◌, subst, arith}
+use Rattle.std.proofs.Common.{◌≡◌, ◌≤◌, ℕ, Bool, true, false, cond, List, length, Option, Some, refl, sym, ap, ◌∙◌, subst, arith}
+use Rattle.std.specs.HashMap.{get}
 use Rattle.zdd_store.specs.Family.{Family, least_number}
 use Rattle.zdd_store.specs.Store.{Families, IsIn, family_of, Keeps}
 use Rattle.zdd_store.specs.declared.id.Id.{Id}
 use Rattle.family_renaming.specs.Renaming.{AreRenamed}
-use Rattle.family_renaming.specs.Splitting.{IsParted, KnowsParts, least_event, KnowsLeast, IsOrdered, KnowsOrdered}
+use Rattle.family_renaming.specs.Splitting.{IsParted, KnowsParts, least_event, KnowsLeast, IsOrdered, KnowsOrdered, Knows}
 use Rattle.family_renaming.specs.declared.parting.Parts.{Parts}
 use Rattle.family_renaming.specs.declared.parting.Place.{Place}
+use Rattle.family_renaming.specs.declared.from_top.Known.{Known}
+use Rattle.family_renaming.specs.contracts.parting.PlacePartialEq.TheImpl.{eq-value as place_eq}
+use Rattle.zdd_store.specs.contracts.id.IdPartialEq.TheImpl.{eq-value as id_eq}
 
 -- what holds of each answer and of one more holds of each after that is put in
 pub knows_more : {K X : Type 0} (eq : K → K → Bool) (P : K → X → Type 0) (before after : K → Option X) (key : K) (value : X)
@@ -62,3 +66,11 @@ orders_kept names before after known kept right id answer e =
       ordered_kept before after names (family_of after id) answer kept
           (subst (λ f. IsOrdered before names f answer) (sym (kept.same id.position r.0)) r.1),
     )
+
+pub all_kept : (names : List ℕ) (before after : Families) (known : Known) → Keeps before after → Knows names before known → Knows names after known
+all_kept names before after known kept knows =
+    record {
+      parts = parts_kept before after (get place_eq.it known.parts) kept knows.parts;
+      least = least_kept names before after (get id_eq.it known.least) kept knows.least;
+      ordered = orders_kept names before after (get id_eq.it known.ordered) kept knows.ordered;
+    }

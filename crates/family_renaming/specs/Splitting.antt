@@ -1,5 +1,6 @@
 -- How a family is split at a variable, and at its least event.
-use Rattle.std.specs.Prelude.{ℕ, ◌<◌, ◌≤◌, ◌≡◌, Bool, not, ◌==◌, if◌then◌else◌, List, [], ◌∷◌, map, filter, Option, Some, Result, IfOk}
+use Rattle.std.specs.Prelude.{ℕ, ◌<◌, ◌≤◌, ◌≡◌, not, ◌==◌, if◌then◌else◌, List, [], ◌∷◌, map, filter, Option, Some, Result, IfOk}
+use Rattle.std.specs.HashMap.{get}
 use Rattle.std.specs.declared.alloc.AllocError.{AllocError}
 use Rattle.zdd_store.specs.Family.{Family, branch, least_number, has}
 use Rattle.zdd_store.specs.Store.{Families, IsIn, family_of, Keeps}
@@ -8,6 +9,9 @@ use Rattle.family_renaming.specs.Renaming.{renamed, AreRenamed}
 use Rattle.family_renaming.specs.declared.parting.Parts.{Parts}
 use Rattle.family_renaming.specs.declared.parting.Place.{Place}
 use Rattle.family_renaming.specs.declared.from_top.EventParts.{EventParts}
+use Rattle.family_renaming.specs.declared.from_top.Known.{Known}
+use Rattle.family_renaming.specs.contracts.parting.PlacePartialEq.TheImpl.{eq-value as place_eq}
+use Rattle.zdd_store.specs.contracts.id.IdPartialEq.TheImpl.{eq-value as id_eq}
 
 -- the sets of a family that do not have a number
 unfoldable pub sets_lacking : ℕ → Family → Family
@@ -68,12 +72,25 @@ pub record IsOrdered (store : Families) (names : List ℕ) (family : Family) (an
   pub least : least_event names family ≤ least_number (family_of store answer)
   pub renamed : AreRenamed names family (family_of store answer)
 
--- each number keeps its family, and where memory sufficed the answer is the family renamed
-pub record Ordered (before after : Families) (names : List ℕ) (id : Id) (result : Result Id AllocError) : Type 0 where
-  pub kept : Keeps before after
-  pub answer : IfOk result (IsOrdered after names (family_of before id))
-
 -- the renamed families that are known are right
 abbrev pub KnowsOrdered : List ℕ → Families → (Id → Option Id) → Type 0
 KnowsOrdered names store known =
     (id answer : Id) → known id ≡ Some answer → IsIn store id × IsOrdered store names (family_of store id) answer
+
+-- all that is known is right
+pub record Knows (names : List ℕ) (store : Families) (known : Known) : Type 0 where
+  pub parts : KnowsParts store (get place_eq.it known.parts)
+  pub least : KnowsLeast names store (get id_eq.it known.least)
+  pub ordered : KnowsOrdered names store (get id_eq.it known.ordered)
+
+-- each number keeps its family, what is known is right, and where memory sufficed the family is split at its least event
+pub record AtEvent (before after : Families) (names : List ℕ) (known : Known) (id : Id) (result : Result EventParts AllocError) : Type 0 where
+  pub kept : Keeps before after
+  pub knows : Knows names after known
+  pub parts : IfOk result (IsAtEvent after names (family_of before id))
+
+-- each number keeps its family, what is known is right, and where memory sufficed the answer is the family renamed
+pub record Ordered (before after : Families) (names : List ℕ) (known : Known) (id : Id) (result : Result Id AllocError) : Type 0 where
+  pub kept : Keeps before after
+  pub knows : Knows names after known
+  pub answer : IfOk result (IsOrdered after names (family_of before id))

@@ -2,9 +2,10 @@ ghost use Rattle.std.specs.Prelude.{IfOk};
 ghost use Rattle.zdd_store.specs.Store.{IsIn, family_of, Keeps};
 ghost use Rattle.family_renaming.specs.Renaming.{AreRenamed};
 
+use crate::from_top::from_top;
 use crate::variable_order::VariableOrder;
 use aadl_syntax::Mem;
-use std::alloc::{AllocError, Global};
+use std::alloc::Global;
 use zdd_store::{Id, Store};
 
 /// The family of the renamed sets: each has the events of the variables of a set, as a rising list.
@@ -17,5 +18,5 @@ pub fn in_event_order(alloc: Global, store: &mut Store, order: &VariableOrder, i
         (λ answer. AreRenamed order.now.events (family_of store.old id) (family_of store.new answer)) }
     ensures kept { Keeps store.old store.new }
 {
-    Err(AllocError)
+    from_top(alloc, store, order, id)
 }
