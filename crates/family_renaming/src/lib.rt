@@ -8,6 +8,7 @@ mod event_order;
 mod from_top;
 mod looks;
 mod parting;
+mod permuting;
 mod variable_order;
 
 pub use event_order::in_event_order;

@@ -1,7 +1,8 @@
 ghost use Rattle.std.specs.Prelude.{◌≡◌, IfOk};
 
+use crate::permuting::{places_of, undo_each_other};
 use aadl_syntax::Mem;
-use std::alloc::{AllocError, Global};
+use std::alloc::Global;
 use std::marker::Model;
 
 /// An order of variables: which event each variable is of, and which variable each event has. Both tables are empty
@@ -31,7 +32,24 @@ impl VariableOrder {
         ensures permuted { IsEventOrder events.items → IfOk result (λ order. order.events ≡ events.items) }
         ensures other { ¬ IsEventOrder events.items → IfOk result (λ order. order ≡ own_order) }
     {
-        Err(AllocError)
+        if events.len() > 4_294_967_296 {
+            return VariableOrder::own(alloc);
+        }
+        let variables = places_of(alloc, events.as_slice())?;
+        if undo_each_other(events.as_slice(), variables.as_slice()) {
+            return Ok(VariableOrder { events, variables });
+        }
+        VariableOrder::own(alloc)
+    }
+
+    /// The order in which the variable of each event is its own number.
+    fn own(alloc: Global) -> Mem<VariableOrder>
+        ensures { IfOk result (λ order. order ≡ own_order) }
+    {
+        Ok(VariableOrder {
+            events: Vec::new(alloc),
+            variables: Vec::new(alloc),
+        })
     }
 
     /// The event of each variable, by its number; empty where each is the event of its own number.
