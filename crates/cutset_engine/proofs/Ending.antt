@@ -1,12 +1,11 @@
 -- From no families to those of all facts of a slice, and from the family of the target to its minimal cut sets.
-use Rattle.std.proofs.Common.{ℕ, zero, suc, ◌≡◌, ◌<◌, ◌≤◌, Bool, true, false, ◌||◌, nat_le, List, [], ◌∷◌, filter, length, slice_index_or, All, Contains, Option, Some, None, Result, Ok, Err, IfOk, ap, ◌∙◌, sym, subst, refl, arith}
+use Rattle.std.proofs.Common.{ℕ, zero, suc, ◌≡◌, ◌<◌, ◌≤◌, Bool, true, false, ◌||◌, nat_le, List, [], ◌∷◌, filter, map, length, slice_index_or, All, Contains, Option, Some, None, ap, ◌∙◌, sym, subst, refl, arith}
 use Rattle.std.proofs.lemmas.Bool.{false≢true, leb-true}
 use Rattle.std.proofs.lemmas.List.{get_or-map}
 use Rattle.std.proofs.lemmas.List.Elements.{All-weaker}
 use Rattle.std.specs.List.{AllByRecursion}
-use Rattle.std.specs.declared.alloc.AllocError.{AllocError}
 use Rattle.fault_system.specs.Truth.{Has, member}
-use Rattle.fault_system.specs.Systems.{System, IsSystem}
+use Rattle.fault_system.specs.Systems.{System, IsSystem, Holds}
 use Rattle.fault_system.specs.Listings.{IsWithinOrder}
 use Rattle.fault_system.proofs.Elements.{In-contains, contains_In, In-filter}
 use Rattle.fault_system.proofs.HoldsLaws.{holds_of-exact}
@@ -17,13 +16,16 @@ use Rattle.zdd_store.specs.Family.{Family, covers, has, IsRising, IsAntichain}
 use Rattle.zdd_store.specs.Answers.{sets_up_to, IsLeastFamily}
 use Rattle.zdd_store.specs.Store.{Families, IsIn, family_of, family_at, IsSound}
 use Rattle.zdd_store.specs.declared.id.Id.{Id}
+use lib.ListN.{length-map}
 use Rattle.zdd_families.specs.Steps.{either}
 use Rattle.zdd_families.proofs.Pairs.{covers-empty}
-use Rattle.cutset_engine.specs.Gates.{covers_each}
+use Rattle.family_renaming.specs.Renaming.{name_of, renamed, AreInverse, AreRenamed}
+use Rattle.cutset_engine.specs.Gates.{covers_each, events_of}
 use Rattle.cutset_engine.specs.Filling.{Task, covered, IsFilling, IsFilled, HaveTheirCauses}
-use Rattle.cutset_engine.specs.Families.{HasMinimalCutSets, IsLeast, sets_to, no_order}
+use Rattle.cutset_engine.specs.Families.{HasMinimalCutSets, IsLeast, sets_to}
 use Rattle.cutset_engine.proofs.Covering.{covers_cut, sound_rising}
-use Rattle.cutset_engine.proofs.CutSets.{has_minimal_cut_sets}
+use Rattle.cutset_engine.proofs.CutSets.{has_minimal_cut_sets, order-shorter}
+use Rattle.cutset_engine.proofs.Renamed.{renamed-shorter, variables_of, variables_has, from_inner, renamed-covers, renamed-apart}
 
 none_covered : (store : Families) (now : List Id) (s : List ℕ) (n : ℕ) → IsSound store → All (λ (id : Id). id.position ≡ 0) now → Has (member (covers_each store now s)) n → ⊥
 none_covered store [] s n sound none h = false≢true h
@@ -87,14 +89,30 @@ least-made before middle after most id minimal answer sound sound1 sound2 found1
       right = λ set w. ap (λ f. covers f set) is ∙ cut_right (family_of middle minimal) most set (sound_rising middle minimal sound1 found1) w ∙ least.covering set ∙ or_false (covers (family_of before id) set) _ (covers-empty before (record { position = 0 }) set sound refl);
     }
 
--- the family of the target
-pub exact-made : (system : System) (target : ℕ) (slice : Slice) (most : Option ℕ) (before after : Families) (now : List Id) (id : Id) (result : Result Id AllocError) → IsSystem system → length system.events ≤ 4294967296 → IsSlice system target slice
-    → IsFilled (record { system = system; order = no_order; most = most }) slice.facts before now → target < length now → id ≡ slice_index_or now target id → IfOk result (IsLeast before after most id) → IfOk result (λ answer. HasMinimalCutSets system target most (family_of after answer))
-exact-made system target slice most before after now id (Err e) is_system few is_slice filled fits at least = tt
-exact-made system target slice most before after now id (Ok answer) is_system few is_slice filled fits at least =
-    has_minimal_cut_sets system is_system few target most (family_of after answer) least.rising least.apart least.short (λ set w. (
-      (λ h. filled.filling.holds set w target (marked set ∙ sym (least.right set w) ∙ h)),
-      (λ h. least.right set w ∙ sym (marked set) ∙ filled.all set w target (target-in system target slice is_slice) ((holds_of-exact system (has set) target).1 h)),
-    )) where
-      marked : (set : List ℕ) → member (covered before now set) target ≡ covers (family_of before id) set
-      marked set = get_or-map (λ (i : Id). covers (family_of before i) set) now target id false fits ∙ ap (λ (i : Id). covers (family_of before i) set) (sym at)
+-- From the family of the target over variables to its minimal cut sets: the minimal sets within the order, and then their
+-- renaming over events.
+module _ (system : System) (target : ℕ) (slice : Slice) (most : Option ℕ) (events variables : List ℕ) (before : Families) (now : List Id) (id : Id) (inverse : AreInverse events variables) (is_system : IsSystem system) (few : length system.events ≤ 4294967296)
+    (is_slice : IsSlice system target slice) (filled : IsFilled (record { system = system; order = variables; most = most }) slice.facts before now) (fits : target < length now) (at : id ≡ slice_index_or now target id) where
+  marked : (set : List ℕ) → member (covered before now set) target ≡ covers (family_of before id) set
+  marked set = get_or-map (λ (i : Id). covers (family_of before i) set) now target id false fits ∙ ap (λ (i : Id). covers (family_of before i) set) (sym at)
+
+  -- the events of the variables of a set are those of the set
+  same_events : (set : List ℕ) → events_of variables (variables_of events variables inverse set) ≡ has set
+  same_events set = λ i e. variables_has events variables inverse set e i
+
+  within_most : (set : List ℕ) → IsWithinOrder most set → IsWithinOrder most (variables_of events variables inverse set)
+  within_most set w = order-shorter most (map (name_of variables) set) set (omega (arith, length-map set (name_of variables))) w
+
+  pub exact-made : (middle after : Families) (inner answer : Id) → IsLeast before middle most id inner → IsSound after → IsIn after answer → AreRenamed events (family_of middle inner) (family_of after answer) → HasMinimalCutSets system target most (family_of after answer)
+  exact-made middle after inner answer least sound found renames =
+      has_minimal_cut_sets system is_system few target most (family_of after answer) (sound_rising after answer sound found) (renamed-apart events variables inverse (family_of middle inner) (family_of after answer) renames least.apart)
+      (λ set here.
+      let part = from_inner events variables inverse (family_of middle inner) (family_of after answer) renames set here in
+      subst (IsWithinOrder most) (sym part.2) (order-shorter most (renamed events part.0) part.0 (renamed-shorter events part.0) (least.short part.0 part.1)))
+      (λ set w.
+      let own = variables_of events variables inverse set in
+      let covered_so : covers (family_of after answer) set ≡ member (covered before now own) target =
+      renamed-covers events variables inverse (family_of middle inner) (family_of after answer) renames set ∙ least.right own (within_most set w) ∙ sym (marked own) in (
+        (λ h. subst (λ es. Holds system es target) (same_events set) (filled.filling.holds own (within_most set w) target (sym covered_so ∙ h))),
+        (λ h. covered_so ∙ filled.all own (within_most set w) target (target-in system target slice is_slice) ((holds_of-exact system (events_of variables own) target).1 (subst (λ es. Holds system es target) (sym (same_events set)) h))),
+      ))

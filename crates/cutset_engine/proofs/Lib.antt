@@ -5,3 +5,4 @@ pub mod StepLaws
 pub mod Rounds
 pub mod CutSets
 pub mod Ending
+pub mod Renamed

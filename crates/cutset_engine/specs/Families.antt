@@ -1,5 +1,5 @@
 -- The minimal cut sets of a target as a family.
-use Rattle.std.specs.Prelude.{ℕ, ◌≡◌, ◌↔◌, List, [], Contains, Option, None, Some}
+use Rattle.std.specs.Prelude.{ℕ, ◌≡◌, ◌↔◌, List, Contains, Option, None, Some}
 use Rattle.std.specs.List.{AllByRecursion}
 use Rattle.fault_system.specs.Systems.{System}
 use Rattle.fault_system.specs.CutSets.{IsMinimalCutSet}
@@ -18,10 +18,6 @@ HasMinimalCutSets system target most family =
 abbrev pub sets_to : Option ℕ → Family → Family
 sets_to None family = family
 sets_to (Some most) family = sets_up_to most family
-
--- the variable of each event is its own number
-abbrev pub no_order : List ℕ
-no_order = []
 
 -- the family of the answer covers what another covers, within the greatest order; its sets rise, none is within another, and
 -- each is within the order

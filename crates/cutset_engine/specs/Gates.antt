@@ -1,20 +1,17 @@
 -- What a family covers, and how families are made for the parts of a formula.
-use Rattle.std.specs.Prelude.{ℕ, ◌≡◌, Bool, List, map, All, slice_index_or, Option, Result, IfOk}
+use Rattle.std.specs.Prelude.{ℕ, ◌≡◌, Bool, List, map, All, Option, Result, IfOk}
 use Rattle.std.specs.declared.alloc.AllocError.{AllocError}
 use Rattle.fault_system.specs.Truth.{NumberSet, member, truth}
 use Rattle.fault_system.specs.Listings.{IsWithinOrder}
 use Rattle.fault_system.specs.declared.formula.Formula.{Formula}
 use Rattle.zdd_store.specs.Family.{has, covers}
+use Rattle.family_renaming.specs.Renaming.{name_of}
 use Rattle.zdd_store.specs.Store.{Families, IsIn, family_of, Keeps}
 use Rattle.zdd_store.specs.declared.id.Id.{Id}
 
--- the variable of an event: it stands in a table at the event's place; where the table has none it is the event's own number
-abbrev pub variable_of : List ℕ → ℕ → ℕ
-variable_of order event = slice_index_or order event event
-
--- the events of a set of variables
+-- the events of a set of variables: the variable of an event stands in a table at its place, or is the event's own number
 abbrev pub events_of : List ℕ → List ℕ → NumberSet
-events_of order set event = has set (variable_of order event)
+events_of order set event = has set (name_of order event)
 
 -- whether the family of each of some numbers covers a set
 abbrev pub covers_each : Families → List Id → List ℕ → List Bool

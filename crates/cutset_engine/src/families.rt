@@ -4,13 +4,15 @@ ghost use Rattle.zdd_store.specs.Family.{covers, IsAntichain};
 ghost use Rattle.zdd_store.specs.Store.{IsIn, family_of, Keeps};
 ghost use Rattle.backward_slice.specs.Slices.{IsSlice};
 ghost use Rattle.cutset_engine.specs.Filling.{IsFilling, IsFilled};
-ghost use Rattle.cutset_engine.specs.Families.{HasMinimalCutSets, IsLeast, no_order, sets_to};
+ghost use Rattle.cutset_engine.specs.Families.{HasMinimalCutSets, IsLeast, sets_to};
 
 use crate::agenda::Agenda;
 use crate::filling::{fill, fill_fact};
+use crate::inner_order::inner_order;
 use aadl_syntax::Mem;
 use backward_slice::Slice;
 use dependency_blocks::Blocks;
+use family_renaming::in_event_order;
 use fault_system::FaultSystem;
 use std::alloc::Global;
 use zdd_families::{min_union, up_to_size};
@@ -34,9 +36,22 @@ pub fn family(
     ensures kept { Keeps store.old store.new }
 {
     let _events = system.events();
-    let now = families(alloc, store, system, slice, blocks, most)?;
+    let mut agenda = Agenda::new(alloc, system, blocks, slice.target)?;
+    let order = inner_order(alloc, system, agenda.facts(), slice.target)?;
+    let now = families(
+        alloc,
+        store,
+        system,
+        order.variables(),
+        most,
+        slice,
+        &mut agenda,
+    )?;
     let target = number_at(now.as_slice(), slice.target);
-    least_family(store, most, target)
+    let inner = least_family(store, most, target)?;
+    let answer = in_event_order(alloc, store, &order, inner)?;
+    store.laws();
+    Ok(answer)
 }
 
 fn number_at(numbers: &[Id], at: u32) -> Id
@@ -46,28 +61,30 @@ fn number_at(numbers: &[Id], at: u32) -> Id
     numbers[at as usize]
 }
 
-/// The families of all facts of a slice, for the sets of at most so many events.
+/// The families of all facts of a slice over the variables of an order, for the sets of at most so many events.
 fn families(
     alloc: Global,
     store: &mut Store,
     system: &FaultSystem,
-    slice: &Slice,
-    blocks: &Blocks,
+    order: &[u32],
     most: Option<u32>,
+    slice: &Slice,
+    agenda: &mut Agenda,
 ) -> Mem<Vec<Id>>
     requires { IsSlice system.now slice.now.target slice.now }
     ensures kept { Keeps store.old store.new }
     ensures filled { IfOk result (λ now.
-        IsFilled (record { system = system.now; order = no_order; most = most }) slice.now.facts store.new now.items) }
+        IsFilled (record { system = system.now; order = order.now; most = most }) slice.now.facts store.new now.items) }
 {
     let mut now = no_families(alloc, store, system.facts())?;
     fill_in_order(
         alloc,
         store,
         system,
-        blocks,
+        order,
         most,
         slice,
+        agenda,
         now.as_mut_slice(),
     )?;
     Ok(now)
@@ -85,15 +102,15 @@ fn no_families(alloc: Global, store: &Store, count: u32) -> Mem<Vec<Id>>
     Ok(now)
 }
 
-/// Makes the families of all facts of a slice: first block after block, and then until nothing changes, whatever the blocks
-/// were.
+/// Makes the families of all facts of a slice: first as the agenda has them, and then until nothing changes, whatever it had.
 fn fill_in_order(
     alloc: Global,
     store: &mut Store,
     system: &FaultSystem,
-    blocks: &Blocks,
+    order: &[u32],
     most: Option<u32>,
     slice: &Slice,
+    agenda: &mut Agenda,
     now: &mut [Id],
 ) -> Mem<()>
     requires slice { IsSlice system.now slice.now.target slice.now }
@@ -101,33 +118,32 @@ fn fill_in_order(
     requires none { All (λ id. id.position ≡ 0) now.old }
     ensures kept { Keeps store.old store.new }
     ensures filled { OnOk result
-        (IsFilled (record { system = system.now; order = no_order; most = most }) slice.now.facts store.new now.new) }
+        (IsFilled (record { system = system.now; order = order.now; most = most }) slice.now.facts store.new now.new) }
 {
     store.laws();
-    settle(alloc, store, system, blocks, slice.target, most, now)?;
-    fill(alloc, store, system, &[], most, slice.facts.items(), now)
+    settle(alloc, store, system, order, most, agenda, now)?;
+    fill(alloc, store, system, order, most, slice.facts.items(), now)
 }
 
-/// Makes the families of the facts on which a target depends, each again where that of a fact of its formula is another.
+/// Makes the families of the facts of an agenda, each again where that of a fact of its formula is another.
 fn settle(
     alloc: Global,
     store: &mut Store,
     system: &FaultSystem,
-    blocks: &Blocks,
-    target: u32,
+    order: &[u32],
     most: Option<u32>,
+    agenda: &mut Agenda,
     now: &mut [Id],
 ) -> Mem<()>
-    requires { IsFilling (record { system = system.now; order = no_order; most = most }) store.old now.old }
+    requires { IsFilling (record { system = system.now; order = order.now; most = most }) store.old now.old }
     ensures kept { Keeps store.old store.new }
-    ensures filling { OnOk result (IsFilling (record { system = system.now; order = no_order; most = most }) store.new now.new) }
+    ensures filling { OnOk result (IsFilling (record { system = system.now; order = order.now; most = most }) store.new now.new) }
 {
-    let mut agenda = Agenda::new(alloc, system, blocks, target)?;
     for step in 0..u64::MAX {
         let Some(fact) = agenda.next() else {
             return Ok(());
         };
-        if fill_fact(alloc, store, system, &[], most, now, fact)? {
+        if fill_fact(alloc, store, system, order, most, now, fact)? {
             agenda.tell(fact);
         }
     }

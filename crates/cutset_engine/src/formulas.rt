@@ -1,7 +1,8 @@
 ghost use Rattle.std.specs.Prelude.{◌≡◌, All, IfOk, map, true};
 ghost use Rattle.fault_system.specs.Truth.{member};
 ghost use Rattle.zdd_store.specs.Store.{IsIn, Keeps};
-ghost use Rattle.cutset_engine.specs.Gates.{Made, StandEach, covers_each, events_of, is_true_under, variable_of};
+ghost use Rattle.family_renaming.specs.Renaming.{name_of};
+ghost use Rattle.cutset_engine.specs.Gates.{Made, StandEach, covers_each, events_of, is_true_under};
 
 use crate::gates::{all_of, one_of, some_of};
 use aadl_syntax::Mem;
@@ -12,7 +13,7 @@ use zdd_store::{Id, Store};
 
 /// The variable of an event: the one at its place in the table, or the event's own number.
 fn variable(order: &[u32], event: u32) -> u32
-    ensures { result ≡ variable_of order.now event }
+    ensures { result ≡ name_of order.now event }
 {
     match order.get(event as usize) {
         Some(variable) => *variable,

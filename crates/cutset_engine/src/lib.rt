@@ -10,5 +10,6 @@ mod families;
 mod filling;
 mod formulas;
 mod gates;
+mod inner_order;
 
 pub use families::family;

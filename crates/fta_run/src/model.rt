@@ -1,6 +1,6 @@
 //! The system of the root, and the fact that the target names.
 
-ghost use Rattle.std.specs.Prelude.{◌≡◌, ◌↔◌, IsTrue, MatchOption, MatchResult};
+ghost use Rattle.std.specs.Prelude.{◌≡◌, ◌↔◌, IfOk, IsTrue, MatchOption, MatchResult};
 ghost use Rattle.phases.specs.Meets.{IsMemory, Meets, MeetsBut};
 ghost use Rattle.phases.specs.Phases.{answers, finds, needs};
 ghost use Rattle.phases.specs.declared.status.Status.TheVariants.{NotYet};
@@ -9,7 +9,7 @@ ghost use Rattle.fta_run.specs.Model.{AreOfForm, IsFactNamed, IsRootOf, LacksRoo
 ghost use Rattle.fta_run.specs.Shown.{form_shown};
 
 use crate::input::{Texts, of_words, units_of_texts};
-use aadl_syntax::{Code, Identifier, List, Name, Refusal, Root, Unit, is_same};
+use aadl_syntax::{Code, Identifier, List, Mem, Name, Refusal, Root, Unit, is_same};
 use fault_system::FaultSystem;
 use first_form::{FirstForm, first_form, system_of};
 use phases::Status;
@@ -20,29 +20,29 @@ pub fn system_at(alloc: Global, root: &Root, texts: &Texts) -> Result<FaultSyste
     ensures { Meets (system_at root.now texts.now) result }
 {
     let files = units_of_texts(alloc, texts)?;
-    let form = form_of_files(&files)?;
+    let form = form_of_files(alloc, &files)?;
     find_root(&form, root)?;
     let system = system_of(alloc, form.machine)?;
     Ok(system)
 }
 
 /// The form of the units of the files, where there is one file and it is of the first form.
-fn form_of_files(files: &List<List<Unit>>) -> Result<FirstForm<'_>, Status>
+fn form_of_files(alloc: Global, files: &List<List<Unit>>) -> Result<FirstForm<'_>, Status>
     ensures { MeetsBut IsMemory form_shown (finds (AreOfForm files.now) NotYet) result }
 {
-    match form_in(files.items()) {
+    match form_in(alloc, files.items())? {
         Some(form) => Ok(form),
         None => Err(Status::NotYet),
     }
 }
 
-fn form_in(files: &[List<Unit>]) -> Option<FirstForm<'_>>
-    ensures { MatchOption result ((form : _) → AreOfForm files.now form → ⊥) (λ form. AreOfForm files.now (form_shown form)) }
+fn form_in(alloc: Global, files: &[List<Unit>]) -> Mem<Option<FirstForm<'_>>>
+    ensures { IfOk result (λ found. MatchOption found ((form : _) → AreOfForm files.now form → ⊥) (λ form. AreOfForm files.now (form_shown form))) }
 {
     let [units] = files else {
-        return None;
+        return Ok(None);
     };
-    first_form(units.items())
+    first_form(alloc, units.items())
 }
 
 /// Refuses a root that is not the classifier of the form.

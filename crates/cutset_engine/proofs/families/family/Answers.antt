@@ -1,7 +1,8 @@
-use Rattle.std.proofs.Common.{◌≡◌, ◌<◌, List, length, slice_index_or, All, ap, sym, subst, arith}
+use Rattle.std.proofs.Common.{ℕ, ◌≡◌, ◌<◌, List, length, slice_index_or, All, ap, sym, subst, arith}
 use Rattle.std.proofs.lemmas.List.Elements.{All-get_or}
 use Rattle.zdd_store.specs.Store.{IsIn}
 use Rattle.zdd_store.specs.declared.id.Id.{Id}
+use Rattle.cutset_engine.specs.Filling.{IsFilled}
 use Rattle.cutset_engine.proofs.Ending.{exact-made, target-fact}
 use Rattle.cutset_engine.proofs.families.family.Goals as goal
 
@@ -20,6 +21,8 @@ least_family-requires c =
 pub returns-clause-exact : goal.returns-clause-exact
 returns-clause-exact c =
     let fits : c.args.slice.now.target < length c.in_ok-now.now.items = omega (arith, target-fact c.args.system.now c.args.slice.now.target c.args.slice.now c.requires, c.in_ok-now.ensures.filled.filling.size) in
-    exact-made c.args.system.now c.args.slice.now.target c.args.slice.now c.args.most c.families.new.store c.least_family.new.store c.in_ok-now.now.items c.number_at-target.result c.least_family.result c.events-events.ensures.system (omega (arith, c.events-events.ensures.count)) c.requires
-    c.in_ok-now.ensures.filled fits
-    (subst (λ (ids : List Id). c.number_at-target.result ≡ slice_index_or ids c.args.slice.now.target c.number_at-target.result) c.as_slice.ensures.value c.number_at-target.ensures) c.least_family.ensures.least
+    exact-made c.args.system.now c.args.slice.now.target c.args.slice.now c.args.most c.in_ok-order.order.events c.in_ok-order.order.variables c.families.new.store c.in_ok-now.now.items c.number_at-target.result c.variables.ensures.inverse
+    c.events-events.ensures.system (omega (arith, c.events-events.ensures.count)) c.requires
+    (subst (λ (table : List ℕ). IsFilled (record { system = c.args.system.now; order = table; most = c.args.most }) c.args.slice.now.facts c.families.new.store c.in_ok-now.now.items) c.variables.ensures.variables c.in_ok-now.ensures.filled) fits
+    (subst (λ (ids : List Id). c.number_at-target.result ≡ slice_index_or ids c.args.slice.now.target c.number_at-target.result) c.as_slice.ensures.value c.number_at-target.ensures)
+    c.least_family.new.store c.in_event_order.new.store c.in_ok-inner.inner c.in_ok-answer.answer c.in_ok-inner.ensures.least c.laws.ensures c.in_ok-answer.ensures.found c.in_ok-answer.ensures.renamed

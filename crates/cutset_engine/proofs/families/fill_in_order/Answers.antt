@@ -1,12 +1,11 @@
 use Rattle.std.proofs.Common.{subst, sym}
 use Rattle.cutset_engine.specs.Filling.{Task, HaveTheirCauses}
-use Rattle.cutset_engine.specs.Families.{no_order}
 use Rattle.cutset_engine.proofs.Ending.{filling-none, slice-causes}
 use Rattle.cutset_engine.proofs.families.fill_in_order.Goals as goal
 
 pub settle-requires : goal.settle-requires
 settle-requires c =
-    let task : Task = record { system = c.args.system.now; order = no_order; most = c.args.most } in
+    let task : Task = record { system = c.args.system.now; order = c.args.order.now; most = c.args.most } in
     filling-none task c.args.store.now c.args.now.now c.laws.ensures c.requires.long c.requires.none
 
 pub fill-requires-clause-causes : goal.fill-requires-clause-causes

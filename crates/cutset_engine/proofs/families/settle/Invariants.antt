@@ -1,10 +1,9 @@
 use Rattle.zdd_store.specs.Store.{Keeps}
-use Rattle.cutset_engine.specs.Families.{no_order}
 use Rattle.cutset_engine.specs.Filling.{IsFilling}
 use Rattle.cutset_engine.proofs.families.settle.Given as goal
 
 abbrev pub invariant-loop-step : goal.invariant-loop-step
 invariant-loop-step l = record {
   kept : Keeps l.fn.store l.store;
-  filling : IsFilling (record { system = l.system; order = no_order; most = l.most }) l.store l.now;
+  filling : IsFilling (record { system = l.system; order = l.order; most = l.most }) l.store l.now;
 }

@@ -1,0 +1,137 @@
+-- A family over variables and its renaming over events.
+use Rattle.std.proofs.Common.{ℕ, ◌+◌, ◌≡◌, ◌≤◌, Bool, true, false, ◌&&◌, ◌||◌, ◌==◌, List, [], ◌∷◌, map, length, Contains, ⊎_elim, inl, inr, ap, ◌∙◌, sym, subst, refl, arith, nat_lt, if◌then◌else◌}
+use Rattle.std.proofs.lemmas.Bool.{false≢true, eqb-true, eq-eqb}
+use Rattle.std.specs.List.{list_any}
+use Rattle.zdd_store.specs.Family.{Family, has, is_within, covers, IsAntichain}
+use Rattle.zdd_store.proofs.Orders.{first_or_rest, contains_first, contains_rest, contains_none}
+use Rattle.zdd_families.specs.Unions.{with_number}
+use Rattle.zdd_families.proofs.Booleans.{and_made, and_cases, or_left, or_right, or_cases, same_test}
+use Rattle.zdd_families.proofs.Subsets.{has_first, has_rest, has_cases, has_none, within_has, within_from}
+use Rattle.zdd_families.proofs.Telling.{has_with_number, with_number_has}
+use Rattle.family_renaming.specs.Renaming.{name_of, renamed, AreInverse, AreRenamed}
+
+-- the numbers of the renamed set
+pub named_has : (names : List ℕ) (set : List ℕ) (n : ℕ) → has set n ≡ true → has (renamed names set) (name_of names n) ≡ true
+named_has names [] n h = absurd (has_none n h)
+named_has names (m ∷ ms) n h =
+    with_number_has (name_of names m) (renamed names ms) (name_of names n)
+    (⊎_elim (λ same. inl (ap (name_of names) same)) (λ rest. inr (named_has names ms n rest)) (has_cases m ms n h))
+
+-- a number of the renamed set, and the number of which it is the name
+pub record Named (names set : List ℕ) (e : ℕ) : Type 0 where
+  pub number : ℕ
+  pub member : has set number ≡ true
+  pub name : name_of names number ≡ e
+
+pub has_named : (names : List ℕ) (set : List ℕ) (e : ℕ) → has (renamed names set) e ≡ true → Named names set e
+has_named names [] e h = absurd (has_none e h)
+has_named names (m ∷ ms) e h =
+    ⊎_elim (λ same. record { number = m; member = has_first m ms; name = same })
+    (λ rest. let n = has_named names ms e rest in record { number = n.number; member = has_rest m ms n.number n.member; name = n.name })
+    (has_with_number (name_of names m) (renamed names ms) e h)
+
+map_has : (f : ℕ → ℕ) (set : List ℕ) (n : ℕ) → has set n ≡ true → has (map f set) (f n) ≡ true
+map_has f [] n h = absurd (has_none n h)
+map_has f (m ∷ ms) n h =
+    ⊎_elim (λ same. subst (λ x. has (f m ∷ map f ms) (f x) ≡ true) same (has_first (f m) (map f ms))) (λ rest. has_rest (f m) (map f ms) (f n) (map_has f ms n rest)) (has_cases m ms n h)
+
+has_map : (f : ℕ → ℕ) (set : List ℕ) (n : ℕ) → has (map f set) n ≡ true → (m : ℕ) × (has set m ≡ true) × (f m ≡ n)
+has_map f [] n h = absurd (has_none n h)
+has_map f (m ∷ ms) n h =
+    ⊎_elim (λ same. (m, has_first m ms, same)) (λ rest. let r = has_map f ms n rest in (r.0, has_rest m ms r.0 r.1, r.2)) (has_cases (f m) (map f ms) n h)
+
+length-with_number : (n : ℕ) (set : List ℕ) → length (with_number n set) ≤ length set + 1
+length-with_number n [] = omega arith
+length-with_number n (m ∷ ms) = by (nat_lt n m) (n == m) (length-with_number n ms) where
+  by : (lt eq : Bool) → length (with_number n ms) ≤ length ms + 1 → length (if lt then n ∷ m ∷ ms else if eq then m ∷ ms else m ∷ with_number n ms) ≤ length (m ∷ ms) + 1
+  by true eq h = omega arith
+  by false true h = omega arith
+  by false false h = omega arith
+
+-- a renamed set is no longer
+pub renamed-shorter : (names set : List ℕ) → length (renamed names set) ≤ length set
+renamed-shorter names [] = omega arith
+renamed-shorter names (n ∷ ns) = omega (arith, renamed-shorter names ns, length-with_number (name_of names n) (renamed names ns))
+
+-- whether two lists are equal
+abbrev same_list : List ℕ → List ℕ → Bool
+same_list [] [] = true
+same_list [] (m ∷ ms) = false
+same_list (n ∷ ns) [] = false
+same_list (n ∷ ns) (m ∷ ms) = (n == m) && same_list ns ms
+
+same_self : (set : List ℕ) → same_list set set ≡ true
+same_self [] = refl
+same_self (n ∷ ns) = and_made (n == n) (same_list ns ns) (eq-eqb n n refl) (same_self ns)
+
+same_equal : (a b : List ℕ) → same_list a b ≡ true → a ≡ b
+same_equal [] [] h = refl
+same_equal [] (m ∷ ms) h = absurd (false≢true h)
+same_equal (n ∷ ns) [] h = absurd (false≢true h)
+same_equal (n ∷ ns) (m ∷ ms) h =
+    let c = and_cases (n == m) (same_list ns ms) h in
+    let first : n ≡ m = eqb-true n m c.0 in
+    let rest : ns ≡ ms = same_equal ns ms c.1 in
+    λ i. first i ∷ rest i
+
+-- a test that a member of a family passes, and the member that passes
+any_member : (test : List ℕ → Bool) (family : Family) (set : List ℕ) → Contains family set → test set ≡ true → list_any test family ≡ true
+any_member test [] set here h = absurd (contains_none set here)
+any_member test (s ∷ family) set here h =
+    ⊎_elim (λ same. or_left (test s) (list_any test family) (ap test same ∙ h)) (λ rest. or_right (test s) (list_any test family) (any_member test family set rest h)) (first_or_rest s family set here)
+
+member_any : (test : List ℕ → Bool) (family : Family) → list_any test family ≡ true → (set : List ℕ) × Contains family set × (test set ≡ true)
+member_any test [] h = absurd (false≢true h)
+member_any test (s ∷ family) h =
+    ⊎_elim (λ here. (s, contains_first s family, here)) (λ rest. let m = member_any test family rest in (m.0, contains_rest s family m.0 m.1, m.2)) (or_cases (test s) (list_any test family) h)
+
+same_any : (test other : List ℕ → Bool) (family : Family) → ((set : List ℕ) → test set ≡ other set) → list_any test family ≡ list_any other family
+same_any test other [] same = refl
+same_any test other (s ∷ family) same = λ i. same s i || same_any test other family same i
+
+module _ (events variables : List ℕ) (inverse : AreInverse events variables) where
+  -- the variables of a set of events
+  abbrev pub variables_of : List ℕ → List ℕ
+  variables_of set = map (name_of variables) set
+
+  pub variables_has : (set : List ℕ) (e : ℕ) → has (variables_of set) (name_of variables e) ≡ has set e
+  variables_has set e = same_test _ _ (λ h.
+      let r = has_map (name_of variables) set (name_of variables e) h in
+      let same : r.0 ≡ e = sym (inverse.back_there r.0) ∙ ap (name_of events) r.2 ∙ inverse.back_there e in
+      subst (λ x. has set x ≡ true) same r.1) (map_has (name_of variables) set e)
+
+  -- a renamed set is within a set of events if the set is within the variables of these
+  pub renamed-within : (part set : List ℕ) → is_within (renamed events part) set ≡ is_within part (variables_of set)
+  renamed-within part set = same_test _ _ (λ h.
+      within_from part (variables_of set) (λ n k.
+      subst (λ x. has (variables_of set) x ≡ true) (inverse.there_back n)
+      (variables_has set (name_of events n) ∙ within_has (renamed events part) set (name_of events n) h (named_has events part n k)))) (λ h.
+      within_from (renamed events part) set (λ e k.
+      let n = has_named events part e k in
+      let there : has (variables_of set) n.number ≡ true = within_has part (variables_of set) n.number h n.member in
+      let is : n.number ≡ name_of variables e = sym (inverse.there_back n.number) ∙ ap (name_of variables) n.name in
+      sym (variables_has set e) ∙ subst (λ x. has (variables_of set) x ≡ true) is there))
+
+  module _ (inner outer : Family) (renames : AreRenamed events inner outer) where
+    -- each set of the renamed family is the renaming of a set
+    pub from_inner : (set : List ℕ) → Contains outer set → (part : List ℕ) × Contains inner part × (set ≡ renamed events part)
+    from_inner set here =
+        let m = member_any (λ part. same_list set (renamed events part)) inner (sym (renames (same_list set)) ∙ any_member (same_list set) outer set here (same_self set)) in
+        (m.0, m.1, same_equal set (renamed events m.0) m.2)
+
+    pub renamed-covers : (set : List ℕ) → covers outer set ≡ covers inner (variables_of set)
+    unfolding covers
+    renamed-covers set = renames (λ part. is_within part set) ∙ same_any _ _ inner (λ part. renamed-within part set)
+
+    pub renamed-apart : IsAntichain inner → IsAntichain outer
+    renamed-apart apart part whole here there within =
+        let p = from_inner part here in
+        let w = from_inner whole there in
+        let below : is_within p.0 w.0 ≡ true =
+        within_from p.0 w.0 (λ n k.
+        let in_whole : has (renamed events w.0) (name_of events n) ≡ true =
+        subst (λ s. has s (name_of events n) ≡ true) w.2 (within_has part whole (name_of events n) within (subst (λ s. has s (name_of events n) ≡ true) (sym p.2) (named_has events p.0 n k))) in
+        let named = has_named events w.0 (name_of events n) in_whole in
+        let is : named.number ≡ n = sym (inverse.there_back named.number) ∙ ap (name_of variables) named.name ∙ inverse.there_back n in
+        subst (λ x. has w.0 x ≡ true) is named.member) in
+        p.2 ∙ ap (renamed events) (apart p.0 w.0 p.1 w.1 below) ∙ sym w.2

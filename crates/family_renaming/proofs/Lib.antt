@@ -1,0 +1,4 @@
+pub mod Tables
+pub mod Halves
+pub mod Firsts
+pub mod Permutations

@@ -1,0 +1,20 @@
+use Rattle.std.proofs.Common.{◌≡◌, true, sym, ap, ◌∙◌, rules}
+use Rattle.std.specs.HashMap.{get}
+use Rattle.std.specs.Map.{lookup}
+use Rattle.zdd_store.specs.Store.{IsIn, family_of}
+use Rattle.zdd_store.specs.declared.id.Id.{Id}
+use Rattle.zdd_store.specs.contracts.id.IdPartialEq.TheImpl.{eq-value as id_eq}
+use Rattle.family_renaming.specs.Splitting.{IsOrdered}
+use Rattle.family_renaming.proofs.Tables.{knows_more}
+use Rattle.family_renaming.proofs.from_top.note_ordered.Goals as goal
+
+id_exact : (a b : Id) → (id_eq).it a b ≡ true → a ≡ b
+id_exact a b e = search rules
+
+pub returns-in_err-insert-clause-known : goal.returns-in_err-insert-clause-known
+returns-in_err-insert-clause-known c id answer e = c.requires.known id answer (ap (lookup (id_eq.it id)) (sym c.in_err-insert.ensures.err) ∙ e)
+
+pub returns-clause-known : goal.returns-clause-known
+returns-clause-known c =
+    knows_more id_eq.it (λ id answer. IsIn c.args.store.now id × IsOrdered c.args.store.now c.args.order.now.events (family_of c.args.store.now id) answer)
+    (get id_eq.it c.args.known.now) (get id_eq.it c.insert.new.self) c.args.id c.args.answer (id_exact c.args.id) c.in_ok-insert.ensures.updates.0 (c.requires.id_in, c.requires.ordered) c.requires.known
