@@ -1,5 +1,5 @@
 -- The first form of units, the root in it, and the target.
-use Rattle.std.proofs.Common.{◌≡◌, ◌<◌, ◌≤◌, inl, inr, List, ℕ, [], ◌∷◌, length, get_or, map, Option, Some, None, MatchOption, refl, sym, ap, subst, ◌∙◌, arith}
+use Rattle.std.proofs.Common.{◌≡◌, ◌<◌, ◌≤◌, inl, inr, List, ℕ, [], ◌∷◌, length, get_or, map, Option, Some, None, MatchOption, Result, Ok, Err, IfOk, refl, sym, ap, subst, ◌∙◌, arith}
 use Rattle.std.proofs.lemmas.Bool.{cases_lt}
 use Rattle.std.proofs.lemmas.Option.{slice_get_within, get_or_from_slice_get}
 use Rattle.std.proofs.lemmas.List.{get_or-map}
@@ -20,7 +20,7 @@ use Rattle.fta_run.specs.Files.{of_words}
 use Rattle.fta_run.specs.Model.{AreOfForm, Form, IsFactNamed, IsRootOf, LacksRoot, LacksTarget, NamesPackage}
 
 -- one file is of the form of its units
-pub form_of_one : {R : Type 0} (found : Option R) (shown : R → Form) (files : List (List FileUnit)) (units : List FileUnit) → files ≡ units ∷ []
+form_of_one : {R : Type 0} (found : Option R) (shown : R → Form) (files : List (List FileUnit)) (units : List FileUnit) → files ≡ units ∷ []
     → MatchOption found ((q : List ℕ) (n : MachineDecl) (d : Decl) → IsFirstForm units q n d → ⊥) (λ form. IsFirstForm units (shown form).package_name (shown form).machine (shown form).classifier)
     → MatchOption found ((form : Form) → AreOfForm files form → ⊥) (λ form. AreOfForm files (shown form))
 form_of_one None shown files units one none = λ form of.
@@ -28,6 +28,12 @@ form_of_one None shown files units one none = λ form of.
     let its : of.units ≡ units = cc (same) in
     none form.package_name form.machine form.classifier (subst (λ us. IsFirstForm us form.package_name form.machine form.classifier) its of.form_is)
 form_of_one (Some form) shown files units one found = record { units = units; one = one; form_is = found }
+
+pub forms_of_one : {R E : Type 0} (result : Result (Option R) E) (shown : R → Form) (files : List (List FileUnit)) (units : List FileUnit) → files ≡ units ∷ []
+    → IfOk result (λ found. MatchOption found ((q : List ℕ) (n : MachineDecl) (d : Decl) → IsFirstForm units q n d → ⊥) (λ form. IsFirstForm units (shown form).package_name (shown form).machine (shown form).classifier))
+    → IfOk result (λ found. MatchOption found ((form : Form) → AreOfForm files form → ⊥) (λ form. AreOfForm files (shown form)))
+forms_of_one (Err e) shown files units one found = tt
+forms_of_one (Ok answer) shown files units one found = form_of_one answer shown files units one found
 
 pub one_item : {A : Type 0} (xs : List A) (x : A) → 1 ≤ length xs → length xs < 2 → x ≡ get_or xs 0 x → xs ≡ x ∷ []
 one_item [] x some few is = absurd (omega arith)

@@ -9,3 +9,4 @@ mod Forms
 mod OneDue
 mod Prints
 mod Ran
+mod Listed

@@ -6,11 +6,12 @@ use Rattle.aadl_syntax.specs.declared.refusal.Code.TheVariants.{TooManyFiles}
 use Rattle.aadl_syntax.specs.declared.refusal.Refusal.{Refusal}
 use Rattle.aadl_syntax.specs.Order.{IsFirst}
 use Rattle.aadl_syntax.specs.declared.name.Root.{Root}
-use Rattle.phases.specs.Meets.{IsMemory}
+use Rattle.phases.specs.Meets.{IsMemory, Meets, MeetsBut}
 use Rattle.phases.specs.Phases.{Phase, Passes, Stops, chains, finds, IsDue, IsRefusal, IsSameEnd}
 use Rattle.phases.specs.declared.status.Status.{Status}
 use Rattle.phases.specs.declared.status.Status.TheVariants.{Done, Usage, Refused, ReadFault, WriteFault, Memory, NotYet}
 use Rattle.phases.proofs.Endings.{StopsOnly, stops_only}
+use Rattle.phases.proofs.Steps.{◌beyond◌, ◌passes◌}
 use Rattle.fault_system.specs.Systems.{System}
 use Rattle.backward_slice.specs.Slices.{HasLargeSlice}
 use Rattle.fta_run.specs.Words.{Check, Command, Cuts, files_of, GiveCommand, GiveNoCommand, IsCommand, file_words}
@@ -186,14 +187,19 @@ ran_stopped Excuse first later t f result s is end =
     let p = err_from_is_err_and result is in
     rw (p.1, p.2) (elim end [ inl stops ↦ inl (inl (record { stopped = inl stops.stopped }, refl)) | inr excused ↦ inr (excused, refl) ])
 
+-- a later phase is met after a first one that passes; want of memory is excused
+pub meets_later : {A B : Type 0} (Excuse : Status → Type 0) (first : Phase A) (later : A → Phase B) (x : A) (result : Result B Status) → ((s : Status) → IsMemory s → Excuse s) → Passes first x → Meets (later x) result → MeetsBut Excuse (λ v. v) (chains first later) result
+meets_later Excuse first later x (Ok v) wanting given met = given passes met
+meets_later Excuse first later x (Err s) wanting given end = elim end [ inl stops ↦ given beyond (inl stops) | inr memory ↦ inr (wanting s memory) ]
+
 -- the words give a command, and its text was written, or not
 pub ran : {T : Type 0} (words : List (List ℕ)) (contents : List ℕ → Option (List ℕ)) (read_before read_after : List ℕ → ℕ) (t u : Option (List ℕ)) (f g : ℕ) (result : Result T Status) (command : Command) → Passes (finds (IsCommand words) Usage) command
     → RunsBut (IsReadEnd (files_of command) read_before read_after) (command_text contents command) result t u f g → Runs words contents read_before read_after result t u f g
 ran words contents read_before read_after t u f g (Ok _) command given took =
-    prints_on (finds (IsCommand words) Usage) (command_text contents) command (Ok tt) t u f g given took
+    prints_on (finds (IsCommand words) Usage) (command_text contents) command (Ok (tt {0})) t u f g given took
 ran words contents read_before read_after t u f g (Err s) command given end =
     elim end [
-      | inl wrote ↦ inl (prints_on (finds (IsCommand words) Usage) (command_text contents) command (Err {A = Unit {0}} s) t u f g given wrote)
+      | inl wrote ↦ let stopped : Result (Unit {0}) Status = Err s in inl (prints_on (finds (IsCommand words) Usage) (command_text contents) command stopped t u f g given wrote)
       | inr read ↦ inr ((subst (λ files. IsReadEnd files read_before read_after s) (sym (file_words_are words command given.passed)) read.0, (command, given.passed)), read.1)
     ]
 

@@ -8,7 +8,7 @@ use Rattle.std.proofs.lemmas.List.{take_more}
 use Rattle.aadl_syntax.specs.declared.name.Root.{Root}
 use Rattle.aadl_syntax.specs.Form.{IsWord, is_letter, is_letter_or_digit}
 use Rattle.aadl_syntax.specs.Name.{folded, is_same_text}
-use Rattle.fta_run.specs.Words.{AreJoined, Check, Command, Cuts, GiveNoCommand, IsCommand, IsPlainWord, IsRoot, before_options, dotted, file_words, files_of, follows_well, is_option, with_colons}
+use Rattle.fta_run.specs.Words.{AreJoined, Check, Command, Cuts, IsCommand, IsPlainWord, IsRoot, before_options, dotted, file_words, files_of, follows_well, is_option, with_colons}
 use Rattle.fta_run.proofs.Identifiers.{follows_of}
 
 -- no byte is the sign
@@ -177,30 +177,6 @@ one_command words (Cuts root target files) (Cuts root₂ target₂ files₂) x y
     let targets : target ≡ target₂ = x.3 ∙ ap folded named ∙ sym y.3 in
     let rest : files ≡ files₂ = cc (both) in
     ap (λ r. Cuts r target files) roots ∙ ap (λ t. Cuts root₂ t files) targets ∙ ap (λ f. Cuts root₂ target₂ f) rest
-
--- words that begin with `check` and name no root give no command
-pub no_check : (words : List (List ℕ)) (name word : List ℕ) (files : List (List ℕ)) → words ≡ name ∷ word ∷ files → is_same_text name (codes "check") ≡ true → ((root : Root) → 0 < length files → IsRoot (folded word) root → ⊥) → GiveNoCommand words
-no_check words name word files are is none (Check root its) x =
-    let both : name ∷ word ∷ files ≡ codes "check" ∷ x.0 ∷ its = sym are ∙ x.1 in
-    let same : x.0 ≡ word = cc (both) in
-    let rest : its ≡ files = cc (both) in
-    none root (subst (λ f. 0 < length f) rest x.2.some_file) (subst (λ w. IsRoot (folded w) root) same x.2.root_is)
-no_check words name word files are is none (Cuts root target its) x =
-    let both : name ∷ word ∷ files ≡ codes "cuts" ∷ x.0 ∷ x.1 ∷ its = sym are ∙ x.2 in
-    let named : name ≡ codes "cuts" = cc (both) in
-    false≢true (sym (ap (λ n. is_same_text n (codes "check")) named) ∙ is)
-
--- words that begin with `cuts` and name no root give no command
-pub no_cuts : (words : List (List ℕ)) (name word target : List ℕ) (files : List (List ℕ)) → words ≡ name ∷ word ∷ target ∷ files → is_same_text name (codes "cuts") ≡ true → ((root : Root) → 0 < length files → IsRoot (folded word) root → ⊥) → GiveNoCommand words
-no_cuts words name word target files are is none (Check root its) x =
-    let both : name ∷ word ∷ target ∷ files ≡ codes "check" ∷ x.0 ∷ its = sym are ∙ x.1 in
-    let named : name ≡ codes "check" = cc (both) in
-    false≢true (sym (ap (λ n. is_same_text n (codes "cuts")) named) ∙ is)
-no_cuts words name word target files are is none (Cuts root its_target its) x =
-    let both : name ∷ word ∷ target ∷ files ≡ codes "cuts" ∷ x.0 ∷ x.1 ∷ its = sym are ∙ x.2 in
-    let same : x.0 ≡ word = cc (both) in
-    let rest : its ≡ files = cc (both) in
-    none root (subst (λ f. 0 < length f) rest x.4.some_file) (subst (λ w. IsRoot (folded w) root) same x.4.root_is)
 
 -- ---- the file words
 

@@ -13,9 +13,9 @@ ghost use Rattle.fta_run.specs.Files.{most_files, of_words};
 ghost use Rattle.fta_run.specs.Words.{Check, Cuts, GiveNoCommand, file_words, files_of};
 ghost use Rattle.fta_run.specs.Steps.{IsReadEnd, Prints, Runs, RunsBut, ended};
 
+use crate::cut_sets::{find_slice, minimal_cut_sets};
 use crate::input::read_texts;
 use crate::line::write_line;
-use crate::cut_sets::{find_slice, minimal_cut_sets};
 use crate::model::{find_target, system_at};
 use crate::text::{write_listing, write_numbers};
 use crate::words::{Command, command_of, file_words};

@@ -30,7 +30,8 @@ pub fn system_at(alloc: Global, root: &Root, texts: &Texts) -> Result<FaultSyste
 fn form_of_files(alloc: Global, files: &List<List<Unit>>) -> Result<FirstForm<'_>, Status>
     ensures { MeetsBut IsMemory form_shown (finds (AreOfForm files.now) NotYet) result }
 {
-    match form_in(alloc, files.items())? {
+    let found = form_in(alloc, files.items())?;
+    match found {
         Some(form) => Ok(form),
         None => Err(Status::NotYet),
     }

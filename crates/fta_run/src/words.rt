@@ -18,7 +18,10 @@ use std::alloc::Global;
 #[derive(Drop)]
 pub enum Command<'a> {
     /// The numbers of components, facts and events of the model of a root, which stands in files of these names.
-    Check { root: Root, files: &'a [Word] },
+    Check {
+        root: Root,
+        files: &'a [Word],
+    },
     /// The minimal cut sets of the fact of a name, which is folded, in such a model.
     Cuts {
         root: Root,

@@ -3,4 +3,5 @@ use Rattle.fta_run.specs.Model.{AreOfForm, Form}
 use Rattle.fta_run.proofs.model.form_of_files.Goals as goal
 
 pub returns-in-None : goal.returns-in-None
-returns-in-None c = inl (record { stopped = (refl, λ (form : Form) is. c.in-None.ensures form (subst (λ files. AreOfForm files form) (sym c.items.ensures.items) is)) })
+returns-in-None c =
+    let none = rw c.in-None.is at c.in_ok-found.ensures in inl (record { stopped = (refl, λ (form : Form) is. none form (subst (λ files. AreOfForm files form) (sym c.items.ensures.items) is)) })

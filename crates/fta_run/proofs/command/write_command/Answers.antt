@@ -1,0 +1,7 @@
+use Rattle.fta_run.proofs.command.write_command.Goals as goal
+
+pub returns-in-Check-clause-end : goal.returns-in-Check-clause-end
+returns-in-Check-clause-end g c = rw c.in-Check.is c.check.ensures.end
+
+pub returns-in-Cuts-clause-end : goal.returns-in-Cuts-clause-end
+returns-in-Cuts-clause-end g c = rw c.in-Cuts.is c.cuts.ensures.end
