@@ -5,7 +5,7 @@ ghost use Rattle.dependency_blocks.specs.Checks.{HasNumbers, IsTable};
 ghost use Rattle.dependency_blocks.specs.Sizes.{AreSmall};
 
 use crate::block_table::Blocks;
-use crate::checks::{all_marked, coming, fall, leading, number_at};
+use crate::checks::{Way, all_marked, fall, number_at, tied};
 use crate::finder::{Proposal, propose};
 use crate::ranking::{ranks_of, reaches_of};
 use aadl_syntax::Mem;
@@ -59,8 +59,10 @@ fn are_right(
         return Ok(false);
     }
     let leaders = proposal.leaders.as_slice();
-    let leads = leading(alloc, system, numbers, leaders, proposal.towards.as_slice())?;
-    let comes = coming(alloc, system, numbers, leaders, proposal.onward.as_slice())?;
+    let towards = proposal.towards.as_slice();
+    let leads = tied(alloc, system, numbers, leaders, towards, Way::Towards)?;
+    let onward = proposal.onward.as_slice();
+    let comes = tied(alloc, system, numbers, leaders, onward, Way::Onward)?;
     if !all_marked(&leads, facts) {
         return Ok(false);
     }
