@@ -16,8 +16,9 @@ use std::alloc::Global;
 /// The blocks of a slice.
 ///
 /// They are proposed by a search along paths and then tested, both in a time that goes with the facts of the system and
-/// the formulas of the slice. Should the tests say no, they are found by plain reach, in a time that goes with the cube
-/// of the facts, and in memory that goes with their square; no system is known for which this is so.
+/// the formulas of the slice. Should the tests say no, they are found by plain reach. That is slow, since each formula may
+/// be looked at once for each pair of facts, and takes memory that goes with the square of the facts; no system is known
+/// for which it comes to that. The numbers of blocks have gaps then.
 pub fn blocks(alloc: Global, system: &FaultSystem, slice: &Slice) -> Mem<Blocks>
     requires { IsSlice system.now slice.now.target slice.now }
     ensures { IfOk result (IsBlocks system.now slice.now.facts) }
