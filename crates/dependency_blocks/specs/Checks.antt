@@ -6,6 +6,8 @@ use Rattle.fault_system.specs.declared.formula.Formula.{Formula}
 use Rattle.fault_system.specs.declared.formula.FactInfo.{FactInfo}
 use Rattle.backward_slice.specs.Slices.{IsFact, DependsOn}
 use Rattle.dependency_blocks.specs.Blocks.{number_of}
+use Rattle.dependency_blocks.specs.declared.checks.Way.{Way}
+use Rattle.dependency_blocks.specs.declared.checks.Way.TheVariants.{Towards, Onward}
 
 -- the first fact of the block of a fact
 abbrev pub leader_of : List ℕ → List ℕ → ℕ → ℕ
@@ -34,6 +36,11 @@ LeadToFirst system numbers leaders marks =
 abbrev pub ComeFromFirst : System → List ℕ → List ℕ → List Bool → Type 0
 ComeFromFirst system numbers leaders marks =
     (n : ℕ) → Has (member marks) n → DependsOn system (leader_of numbers leaders n) n
+
+-- each marked fact is tied to the first fact of its block in one of the two ways
+abbrev pub AreTied : Way → System → List ℕ → List ℕ → List Bool → Type 0
+AreTied Towards = LeadToFirst
+AreTied Onward = ComeFromFirst
 
 -- each of some facts depends on blocks of at most its own number
 abbrev pub Fall : System → List ℕ → List ℕ → Type 0

@@ -4,7 +4,7 @@ ghost use Rattle.std.specs.Prelude.{◌≡◌, ◌≤◌, ◌⊎◌, ℕ, Contai
 ghost use Rattle.std.specs.List.{list_any};
 ghost use Rattle.fault_system.specs.Truth.{Has, member, occurs};
 ghost use Rattle.dependency_blocks.specs.Blocks.{number_of};
-ghost use Rattle.dependency_blocks.specs.Checks.{AreBelow, HasMarked, MarksOf, LeadToFirst, ComeFromFirst, Fall, IsLow, leader_of};
+ghost use Rattle.dependency_blocks.specs.Checks.{AreBelow, AreTied, HasMarked, MarksOf, LeadToFirst, ComeFromFirst, Fall, IsLow, leader_of};
 ghost use Rattle.backward_slice.specs.Slices.{DependsOn};
 
 use aadl_syntax::Mem;
@@ -131,22 +131,53 @@ fn is_low(system: &FaultSystem, numbers: &[u32], number: u32) -> bool
     }
 }
 
-/// Marks facts that depend on the first fact of their block: in the order that is given, each that is the first or has a
-/// marked fact of its block in its formula.
-pub(crate) fn leading(
+/// How the facts of a block are tied to its first fact.
+#[derive(Clone, Copy)]
+pub(crate) enum Way {
+    /// They depend on it.
+    Towards,
+    /// It depends on them.
+    Onward,
+}
+
+/// Marks facts that are tied to the first fact of their block, in the order that is given. Towards the first these are
+/// each that is the first or has a marked fact of its block in its formula; onward each that is the first, and the facts
+/// of its block in the formula of each marked one.
+pub(crate) fn tied(
     alloc: Global,
     system: &FaultSystem,
     numbers: &[u32],
     leaders: &[u32],
     order: &[u32],
+    way: Way,
 ) -> Mem<Bits>
-    ensures { IfOk result (LeadToFirst system.now numbers.now leaders.now) }
+    ensures { IfOk result (AreTied way system.now numbers.now leaders.now) }
 {
     let mut marks = Bits::new(alloc, system.facts())?;
     for number in order {
-        lead(system, numbers, leaders, &mut marks, *number);
+        tie(system, numbers, leaders, &mut marks, *number, way);
     }
     Ok(marks)
+}
+
+fn tie(
+    system: &FaultSystem,
+    numbers: &[u32],
+    leaders: &[u32],
+    marks: &mut Bits,
+    number: u32,
+    way: Way,
+)
+    requires { AreTied way system.now numbers.now leaders.now marks.old }
+    ensures { AreTied way system.now numbers.now leaders.now marks.new }
+{
+    match way {
+        Way::Towards => lead(system, numbers, leaders, marks, number),
+        Way::Onward => {
+            begin(system, numbers, leaders, marks, number);
+            go_on(system, numbers, leaders, marks, number);
+        }
+    }
 }
 
 fn lead(system: &FaultSystem, numbers: &[u32], leaders: &[u32], marks: &mut Bits, number: u32)
@@ -176,25 +207,6 @@ fn is_first(numbers: &[u32], leaders: &[u32], number: u32) -> bool
     ensures { IsTrue result → leader_of numbers.now leaders.now number ≡ number }
 {
     number_at(leaders, number_at(numbers, number)) == number
-}
-
-/// Marks facts on which the first fact of their block depends: in the order that is given, each that is the first, and the
-/// facts of its block in the formula of each marked one.
-pub(crate) fn coming(
-    alloc: Global,
-    system: &FaultSystem,
-    numbers: &[u32],
-    leaders: &[u32],
-    order: &[u32],
-) -> Mem<Bits>
-    ensures { IfOk result (ComeFromFirst system.now numbers.now leaders.now) }
-{
-    let mut marks = Bits::new(alloc, system.facts())?;
-    for number in order {
-        begin(system, numbers, leaders, &mut marks, *number);
-        go_on(system, numbers, leaders, &mut marks, *number);
-    }
-    Ok(marks)
 }
 
 fn begin(system: &FaultSystem, numbers: &[u32], leaders: &[u32], marks: &mut Bits, number: u32)

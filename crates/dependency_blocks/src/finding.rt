@@ -5,7 +5,7 @@ ghost use Rattle.dependency_blocks.specs.Checks.{HasNumbers, IsTable};
 ghost use Rattle.dependency_blocks.specs.Sizes.{AreSmall};
 
 use crate::block_table::Blocks;
-use crate::checks::{all_marked, coming, fall, leading, number_at};
+use crate::checks::{Way, all_marked, fall, number_at, tied};
 use crate::finder::{Proposal, propose};
 use crate::ranking::{ranks_of, reaches_of};
 use aadl_syntax::Mem;
@@ -16,8 +16,9 @@ use std::alloc::Global;
 /// The blocks of a slice.
 ///
 /// They are proposed by a search along paths and then tested, both in a time that goes with the facts of the system and
-/// the formulas of the slice. Should the tests say no, they are found by plain reach, in a time that goes with the cube
-/// of the facts, and in memory that goes with their square; no system is known for which this is so.
+/// the formulas of the slice. Should the tests say no, they are found by plain reach. That is slow, since each formula may
+/// be looked at once for each pair of facts, and takes memory that goes with the square of the facts; no system is known
+/// for which it comes to that. The numbers of blocks have gaps then.
 pub fn blocks(alloc: Global, system: &FaultSystem, slice: &Slice) -> Mem<Blocks>
     requires { IsSlice system.now slice.now.target slice.now }
     ensures { IfOk result (IsBlocks system.now slice.now.facts) }
@@ -59,8 +60,10 @@ fn are_right(
         return Ok(false);
     }
     let leaders = proposal.leaders.as_slice();
-    let leads = leading(alloc, system, numbers, leaders, proposal.towards.as_slice())?;
-    let comes = coming(alloc, system, numbers, leaders, proposal.onward.as_slice())?;
+    let towards = proposal.towards.as_slice();
+    let leads = tied(alloc, system, numbers, leaders, towards, Way::Towards)?;
+    let onward = proposal.onward.as_slice();
+    let comes = tied(alloc, system, numbers, leaders, onward, Way::Onward)?;
     if !all_marked(&leads, facts) {
         return Ok(false);
     }

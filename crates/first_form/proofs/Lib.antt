@@ -2,5 +2,5 @@ mod AtomsIn
 pub mod MadeSystem
 mod NameLists
 pub mod OneForm
-mod Room
+mod Parts
 mod StepLists

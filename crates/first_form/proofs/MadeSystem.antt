@@ -24,7 +24,7 @@ use Rattle.first_form.specs.Names.{one_name, place_of}
 use Rattle.first_form.specs.Meaning.{formula_of, formula_step, leads_to, source_name, step_of, fact_of, event_of, system_of}
 use Rattle.first_form.specs.Form.{atoms_in, atoms_step, event_names, state_names, IsKnownPart, IsKnownState, IsPlainMachine, IsPlainTransition}
 use Rattle.first_form.proofs.NameLists.{place_of-lt}
-use Rattle.first_form.proofs.Room.{all_front, all_back}
+use Rattle.first_form.proofs.Parts.{all_front, all_back}
 
 both_true : (a b : Bool) → a ≡ true → b ≡ true → (a && b) ≡ true
 both_true true b e f = f

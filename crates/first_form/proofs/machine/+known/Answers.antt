@@ -3,7 +3,7 @@ use Rattle.std.specs.List.{flat_map}
 use Rattle.std.proofs.lemmas.Bool.{false≢true}
 use Rattle.first_form.specs.Form.{IsKnownPart, atoms_in}
 use Rattle.first_form.proofs.AtomsIn.{atoms_in-All, atoms_in-Any}
-use Rattle.first_form.proofs.Room.{part_holds}
+use Rattle.first_form.proofs.Parts.{part_holds}
 use Rattle.first_form.proofs.machine.+known.Goals as goal
 
 pub are_known_conditions-returns-then-not-is_known_condition :

@@ -2,7 +2,7 @@ use Rattle.std.proofs.Common.{ℕ, List, subst}
 use Rattle.std.specs.List.{AllByRecursion}
 use Rattle.std.specs.Option.{IsSomeAnd}
 use Rattle.first_form.specs.Form.{IsKnownPart, IsKnownState, IsPlainTransition, atoms_in}
-use Rattle.first_form.proofs.Room.{holds_more}
+use Rattle.first_form.proofs.Parts.{holds_more}
 use Rattle.first_form.proofs.machine.are_plain_transitions.Goals as goal
 
 pub loop-transition-preserved : goal.loop-transition-preserved
