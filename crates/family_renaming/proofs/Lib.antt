@@ -2,3 +2,5 @@ pub mod Tables
 pub mod Halves
 pub mod Firsts
 pub mod Permutations
+pub mod Puts
+pub mod Added

@@ -4,6 +4,7 @@
 //! set is the rising list of its events.
 #![tactic(auto)]
 
+mod by_listing;
 mod event_order;
 mod from_top;
 mod looks;
