@@ -1,5 +1,5 @@
 -- Families with one set more, and lists of the sets of a family.
-use Rattle.std.proofs.Common.{◌≡◌, ◌<◌, ◌≤◌, ℕ, zero, suc, min, Bool, true, false, List, [], ◌∷◌, ◌++◌, length, map, Result, Ok, Err, refl, sym, ap, ◌∙◌, subst, arith}
+use Rattle.std.proofs.Common.{◌≡◌, ◌<◌, ◌≤◌, ℕ, zero, suc, min, Bool, true, false, List, [], ◌∷◌, ◌++◌, length, map, drop, get_or, ◌-◌, drop-cons, Result, Ok, Err, refl, sym, ap, ◌∙◌, subst, arith}
 use Rattle.std.specs.Prelude.{◌||◌, IfOk}
 use Rattle.std.specs.declared.alloc.AllocError.{AllocError}
 use Rattle.std.specs.List.{list_any}
@@ -14,9 +14,10 @@ use Rattle.zdd_families.proofs.Above.{least_number-most}
 use Rattle.zdd_families.proofs.Ways.{Keeps_trans}
 use Rattle.zdd_families.proofs.Splits.{least-terminal}
 use Rattle.zdd_families.specs.Unions.{with_number}
-use Rattle.family_renaming.specs.Renaming.{name_of}
-use Rattle.family_renaming.specs.Lists.{with_names, ListsMore, HasOneMore, OneMore}
+use Rattle.family_renaming.specs.Renaming.{name_of, AreRenamed}
+use Rattle.family_renaming.specs.Lists.{with_names, ListsMore, HasOneMore, OneMore, HasSets}
 use Rattle.family_renaming.proofs.Firsts.{any-branch}
+use Rattle.family_renaming.proofs.Puts.{names_renamed}
 
 or_swap : (a b c : Bool) → (a || (b || c)) ≡ (b || (a || c))
 or_swap true true c = refl
@@ -161,3 +162,20 @@ node_above var first family least low other = omega arith
 
 pub terminal_above : (store : Families) (id : Id) (first : ℕ) (rest : List ℕ) → IsSound store → id.position < 2 → first < least_of rest → first < least_number (family_of store id)
 terminal_above store id first rest sound h above = omega (arith, least-terminal store id.position sound h, least_of-most rest)
+
+-- with all sets of a family listed, the list has it renamed
+pub all_listed : (names : List ℕ) (family before after : Family) → before ≡ [] → ListsMore names [] family before after → AreRenamed names family after
+all_listed names family before after none listed test =
+    listed test ∙ ap (λ f. list_any test f || list_any (λ s. test (with_names names s [])) family) none ∙ (λ i. list_any (λ s. test (names_renamed names s i)) family)
+
+-- the sets of a list from a place on, with the one before
+pub has_more : {A : Type 0} (s0 s1 : Families) (f : A → List ℕ) (sets : List A) (at : ℕ) (set : A) (family answer : Id) → 0 < at → at ≤ length sets → set ≡ get_or sets (at - 1) set
+    → HasSets s0 (map f (drop at sets)) family → HasOneMore s1 (f set) (family_of s0 family) answer → HasSets s1 (map f (drop (at - 1) sets)) answer
+has_more s0 s1 f sets at set family answer some within is has more =
+    let here : at - 1 < length sets = omega arith in
+    let next : suc (at - 1) ≡ at = omega arith in
+    let split : drop (at - 1) sets ≡ set ∷ drop at sets = drop-cons sets (at - 1) set here ∙ ap (λ x. x ∷ drop (suc (at - 1)) sets) (sym is) ∙ ap (λ n. set ∷ drop n sets) next in
+    record {
+      found = more.found;
+      any = λ test. more.any test ∙ ap (λ b. test (f set) || b) (has.any test) ∙ ap (λ xs. list_any test (map f xs)) (sym split);
+    }

@@ -147,3 +147,46 @@ fn with_set(store: &mut Store, set: &[u32], id: Id) -> Mem<Id>
         }
     }
 }
+
+/// The family of the sets of a list. They are put in from the last to the first; where the list is in order, each is
+/// then the first set of the family, and it costs as much as it has numbers.
+fn family_of_sets(store: &mut Store, sets: &[Vec<u32>]) -> Mem<Id>
+    requires { All (λ s. IsRising s.items) sets.now }
+    ensures kept { Keeps store.old store.new }
+    ensures sets { IfOk result (HasSets store.new (map (λ s. s.items) sets.now)) }
+{
+    store.laws();
+    let mut family = Id::EMPTY;
+    let mut at = sets.len();
+    while at > 0 {
+        at -= 1;
+        family = with_set(store, sets[at].as_slice(), family)?;
+    }
+    Ok(family)
+}
+
+/// The sets of a family, each renamed, in order.
+fn sorted_sets(alloc: Global, store: &Store, order: &VariableOrder, id: Id) -> Mem<Vec<Vec<u32>>>
+    requires { IsIn store.now id }
+    ensures rising { IfOk result (λ sets. All (λ s. IsRising s.items) sets.items) }
+    ensures renamed { IfOk result
+        (λ sets. AreRenamed order.now.events (family_of store.now id) (map (λ s. s.items) sets.items)) }
+{
+    let mut sets = Vec::new(alloc);
+    list_sets(alloc, store, order, id, &[], &mut sets)?;
+    sets.sort()?;
+    Ok(sets)
+}
+
+/// The family renamed, from a list of its sets: it costs little where there are few sets, however large the diagram of
+/// the answer is on the way.
+pub(crate) fn by_listing(alloc: Global, store: &mut Store, order: &VariableOrder, id: Id) -> Mem<Id>
+    requires { IsIn store.old id }
+    ensures found { IfOk result (IsIn store.new) }
+    ensures renamed { IfOk result
+        (λ answer. AreRenamed order.now.events (family_of store.old id) (family_of store.new answer)) }
+    ensures kept { Keeps store.old store.new }
+{
+    let sets = sorted_sets(alloc, store, order, id)?;
+    family_of_sets(store, sets.as_slice())
+}
