@@ -4,3 +4,4 @@ pub mod Firsts
 pub mod Permutations
 pub mod Puts
 pub mod Added
+pub mod Own

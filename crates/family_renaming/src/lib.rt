@@ -6,6 +6,7 @@
 
 mod by_listing;
 mod event_order;
+mod extents;
 mod from_top;
 mod looks;
 mod parting;
