@@ -2,3 +2,6 @@ pub mod Tables
 pub mod Halves
 pub mod Firsts
 pub mod Permutations
+pub mod Puts
+pub mod Added
+pub mod Own
