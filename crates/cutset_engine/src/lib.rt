@@ -11,5 +11,6 @@ mod filling;
 mod formulas;
 mod gates;
 mod inner_order;
+mod looks;
 
 pub use families::family;
