@@ -1,5 +1,5 @@
 -- What families cover when they are kept, cut and joined.
-use Rattle.std.proofs.Common.{ℕ, zero, suc, ◌+◌, ◌≡◌, ◌<◌, ◌≤◌, ◌⊎◌, Bool, true, false, cond, ◌&&◌, ◌||◌, nat_le, List, [], ◌∷◌, ◌++◌, map, filter, length, All, Option, Some, Result, Ok, Err, IfOk, inl, inr, ⊎_elim, ap, ◌∙◌, sym, subst, refl, arith, leb-true, le-leb}
+use Rattle.std.proofs.Common.{ℕ, zero, suc, ◌+◌, ◌≡◌, ◌<◌, ◌≤◌, ◌⊎◌, Bool, true, false, cond, ◌&&◌, ◌||◌, not, nat_le, slice_index_or, List, [], ◌∷◌, ◌++◌, map, filter, length, All, Option, Some, Result, Ok, Err, IfOk, inl, inr, ⊎_elim, ap, ◌∙◌, sym, subst, refl, arith, leb-true, le-leb}
 use Rattle.std.proofs.lemmas.Bool.{lt-leb, leb-false, cases_lt, or_cases}
 use Rattle.std.proofs.lemmas.List.Elements.{All-weaker}
 use Rattle.std.specs.List.{list_all, list_any, AllByRecursion}
@@ -15,7 +15,12 @@ use Rattle.zdd_families.specs.Unions.{some_of}
 use Rattle.zdd_families.proofs.Ways.{Keeps_trans, Keeps_same}
 use Rattle.zdd_families.proofs.Pairs.{covers-empty, covers-unit}
 use Rattle.zdd_families.proofs.Subsets.{has_first, has_rest, has_cases, has_none, least-has, within_has, within_from}
-use Rattle.cutset_engine.specs.Gates.{covers_each, Stands, Made}
+use Rattle.cutset_engine.specs.Gates.{covers_each, Stands, Made, of_all, of_both}
+use Rattle.cutset_engine.specs.declared.gates.Gate.{Gate}
+use Rattle.cutset_engine.specs.declared.gates.Gate.TheVariants.{And, Or}
+use Rattle.std.specs.List.Sorted.{IsPermutation}
+use Rattle.std.proofs.lemmas.List.Sorted.{IsPermutation-map, list_any-IsPermutation}
+use Rattle.std.proofs.lemmas.List.Folds.{list_all-append, list_any-append}
 
 -- what is kept covers as before
 pub kept_covers : (before after : Families) (id : Id) (set : List ℕ) → Keeps before after → IsIn before id → covers (family_of after id) set ≡ covers (family_of before id) set
@@ -130,14 +135,58 @@ pub made_some : (before middle after : Families) (most : Option ℕ) (k : ℕ) (
 made_some before middle after most k parts choice result kept least made =
     made_then before middle after most _ _ result kept made (λ set h. least.covering set ∙ some_of-count k before parts set)
 
--- of no part
-pub none_of_one : (store : Families) (most : Option ℕ) (parts : List Id) → IsSound store → length parts ≡ 0 → Made store store most (λ set. list_any (λ b. b) (covers_each store parts set)) (Ok (record { position = 0 }))
-none_of_one store most [] sound none = record { kept = Keeps_same store; made = record { found = omega (arith, sound.some); right = λ set h. covers-empty store (record { position = 0 }) set sound refl } }
-none_of_one store most (id ∷ ids) sound none = absurd (omega arith)
+pub of_all-append : (gate : Gate) (xs ys : List Bool) → of_all gate (xs ++ ys) ≡ of_both gate (of_all gate xs) (of_all gate ys)
+of_all-append And xs ys = list_all-append (λ b. b) xs ys
+of_all-append Or xs ys = list_any-append (λ b. b) xs ys
 
-pub none_of_all : (store : Families) (most : Option ℕ) (parts : List Id) → IsSound store → length parts ≡ 0 → Made store store most (λ set. list_all (λ b. b) (covers_each store parts set)) (Ok (record { position = 1 }))
-none_of_all store most [] sound none = record { kept = Keeps_same store; made = record { found = sound.some; right = λ set h. covers-unit store (record { position = 1 }) set sound refl } }
-none_of_all store most (id ∷ ids) sound none = absurd (omega arith)
+-- of no part
+pub unit_made : (store : Families) (most : Option ℕ) (gate : Gate) → IsSound store → gate ≡ And → Made store store most (λ set. of_all gate []) (Ok (record { position = 1 }))
+unit_made store most gate sound is =
+    record {
+      kept = Keeps_same store;
+      made = record { found = omega (arith, sound.some); right = λ set h. covers-unit store (record { position = 1 }) set sound refl ∙ sym (ap (λ (g : Gate). of_all g []) is) };
+    }
+
+pub empty_made : (store : Families) (most : Option ℕ) (gate : Gate) → IsSound store → gate ≡ Or → Made store store most (λ set. of_all gate []) (Ok (record { position = 0 }))
+empty_made store most gate sound is =
+    record {
+      kept = Keeps_same store;
+      made = record { found = omega (arith, sound.some); right = λ set h. covers-empty store (record { position = 0 }) set sound refl ∙ sym (ap (λ (g : Gate). of_all g []) is) };
+    }
+
+pub none_made : (store : Families) (most : Option ℕ) (gate : Gate) (parts : List Id) (result : Result Id AllocError) → length parts ≡ 0 → Made store store most (λ set. of_all gate []) result → Made store store most (λ set. of_all gate (covers_each store parts set)) result
+none_made store most gate [] result none made = made
+none_made store most gate (id ∷ ids) result none made = absurd (omega arith)
+
+-- of one part
+of_one : (gate : Gate) (b : Bool) → b ≡ of_all gate (b ∷ [])
+of_one And true = refl
+of_one And false = refl
+of_one Or true = refl
+of_one Or false = refl
+
+pub one_made : (store : Families) (most : Option ℕ) (gate : Gate) (parts : List Id) (id : Id) → All (IsIn store) parts → length parts ≡ 1 → id ≡ slice_index_or parts 0 id → Made store store most (λ set. of_all gate (covers_each store parts set)) (Ok id)
+one_made store most gate [] id found one is = absurd (omega arith)
+one_made store most gate (x ∷ y ∷ ids) id found one is = absurd (omega arith)
+one_made store most gate (x ∷ []) id found one is =
+    record {
+      kept = Keeps_same store;
+      made = record { found = subst (IsIn store) (sym is) (found 0 x (omega arith)); right = λ set h. ap (λ i. covers (family_of store i) set) is ∙ of_one gate (covers (family_of store x) set) };
+    }
+
+-- the order of the parts does not matter
+all_as_none : (bs : List Bool) → list_all (λ b. b) bs ≡ not (list_any not bs)
+all_as_none [] = refl
+all_as_none (true ∷ bs) = all_as_none bs
+all_as_none (false ∷ bs) = refl
+
+of_all-permuted : (gate : Gate) (xs ys : List Bool) → IsPermutation xs ys → of_all gate xs ≡ of_all gate ys
+of_all-permuted And xs ys h = all_as_none xs ∙ ap not (list_any-IsPermutation not xs ys h) ∙ sym (all_as_none ys)
+of_all-permuted Or xs ys h = list_any-IsPermutation (λ b. b) xs ys h
+
+pub made_sorted : (before after : Families) (most : Option ℕ) (gate : Gate) (parts sorted : List Id) (result : Result Id AllocError) → IsPermutation parts sorted → Made before after most (λ set. of_all gate (covers_each before sorted set)) result → Made before after most (λ set. of_all gate (covers_each before parts set)) result
+made_sorted before after most gate parts sorted result h made =
+    made_then before before after most _ _ result (Keeps_same before) made (λ set w. sym (of_all-permuted gate _ _ (IsPermutation-map (λ id. covers (family_of before id) set) parts sorted h)))
 
 pub keeps_then : (before middle after : Families) → Keeps before middle → Keeps middle after → Keeps before after
 keeps_then = Keeps_trans

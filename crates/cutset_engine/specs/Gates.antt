@@ -1,9 +1,12 @@
 -- What a family covers, and how families are made for the parts of a formula.
-use Rattle.std.specs.Prelude.{ℕ, ◌≡◌, Bool, List, map, All, Option, Result, IfOk}
+use Rattle.std.specs.Prelude.{ℕ, ◌≡◌, Bool, ◌&&◌, ◌||◌, List, map, All, Option, Result, IfOk}
+use Rattle.std.specs.List.{list_all, list_any}
 use Rattle.std.specs.declared.alloc.AllocError.{AllocError}
 use Rattle.fault_system.specs.Truth.{NumberSet, member, truth}
 use Rattle.fault_system.specs.Listings.{IsWithinOrder}
 use Rattle.fault_system.specs.declared.formula.Formula.{Formula}
+use Rattle.cutset_engine.specs.declared.gates.Gate.{Gate}
+use Rattle.cutset_engine.specs.declared.gates.Gate.TheVariants.{And, Or}
 use Rattle.zdd_store.specs.Family.{has, covers}
 use Rattle.family_renaming.specs.Renaming.{name_of}
 use Rattle.zdd_store.specs.Store.{Families, IsIn, family_of, Keeps}
@@ -16,6 +19,16 @@ events_of order set event = has set (name_of order event)
 -- whether the family of each of some numbers covers a set
 abbrev pub covers_each : Families → List Id → List ℕ → List Bool
 covers_each store ids set = map (λ id. covers (family_of store id) set) ids
+
+-- whether a gate of two parts is true, by its parts
+abbrev pub of_both : Gate → Bool → Bool → Bool
+of_both And a b = a && b
+of_both Or a b = a || b
+
+-- whether a gate is true, by all its parts
+abbrev pub of_all : Gate → List Bool → Bool
+of_all And parts = list_all (λ part. part) parts
+of_all Or parts = list_any (λ part. part) parts
 
 -- A number of the store whose family covers exactly the sets that pass a test. Where a greatest order is given, only sets
 -- of at most so many numbers are asked.

@@ -19,7 +19,7 @@ use zdd_families::{min_union, up_to_size};
 use zdd_store::{Id, Store};
 
 /// The minimal cut sets of the target of a slice, of at most so many events where a greatest order is given, as a family
-/// of sets of event numbers.
+/// of sets of event numbers. The blocks decide how long it takes, and not what is found.
 ///
 /// Each number of the store keeps its family, also where memory is refused.
 pub fn family(

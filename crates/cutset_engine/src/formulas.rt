@@ -4,7 +4,7 @@ ghost use Rattle.zdd_store.specs.Store.{IsIn, Keeps};
 ghost use Rattle.family_renaming.specs.Renaming.{name_of};
 ghost use Rattle.cutset_engine.specs.Gates.{Made, StandEach, covers_each, events_of, is_true_under};
 
-use crate::gates::{all_of, one_of, some_of};
+use crate::gates::{Gate, of_gate, some_of};
 use aadl_syntax::Mem;
 use fault_system::Formula;
 use std::alloc::Global;
@@ -40,11 +40,11 @@ pub(crate) fn formula_family(
         Formula::Fact(number) => fact_family(store, most, now, *number),
         Formula::And(parts) => {
             let families = part_families(alloc, store, order, most, now, parts.items())?;
-            all_of(store, most, families.as_slice())
+            of_gate(store, most, Gate::And, families)
         }
         Formula::Or(parts) => {
             let families = part_families(alloc, store, order, most, now, parts.items())?;
-            one_of(store, most, families.as_slice())
+            of_gate(store, most, Gate::Or, families)
         }
         Formula::AtLeast(least, parts) => {
             let families = part_families(alloc, store, order, most, now, parts.items())?;

@@ -1,11 +1,12 @@
-ghost use Rattle.std.specs.Prelude.{◌≡◌, ◌<◌, All, IfOk, Some, nat_le};
-ghost use Rattle.std.specs.List.{list_all, list_any};
+ghost use Rattle.std.specs.Prelude.{◌≡◌, ◌<◌, [], All, IfOk, Some, nat_le};
+ghost use Rattle.std.specs.List.Sorted.{IsPermutation};
 ghost use Rattle.fault_system.specs.Truth.{count_true};
 ghost use Rattle.zdd_store.specs.Family.{covers};
 ghost use Rattle.zdd_store.specs.Store.{IsIn, family_of};
 ghost use Rattle.zdd_families.specs.Steps.{either, both};
-ghost use Rattle.cutset_engine.specs.Gates.{Made, covers_each};
+ghost use Rattle.cutset_engine.specs.Gates.{Made, covers_each, of_all, of_both};
 
+use crate::looks::first_variable;
 use aadl_syntax::Mem;
 use std::alloc::Global;
 use zdd_families::{at_least, min_product, min_union, up_to_size};
@@ -43,40 +44,69 @@ pub(crate) fn both_of_two(store: &mut Store, most: Option<u32>, a: Id, b: Id) ->
     cut(store, most, product)
 }
 
-/// Of some families: what at least one covers. Halves are joined, so that large families meet late.
-pub(crate) fn one_of(store: &mut Store, most: Option<u32>, parts: &[Id]) -> Mem<Id>
-    requires { All (IsIn store.old) parts.now }
-    ensures { Made store.old store.new most (λ set. list_any (λ b. b) (covers_each store.old parts.now set)) result }
-{
-    store.laws();
-    if parts.is_empty() {
-        return Ok(Id::EMPTY);
-    }
-    if parts.len() == 1 {
-        return Ok(parts[0]);
-    }
-    let (front, back) = parts.split_at(parts.len() / 2);
-    let first = one_of(store, most, front)?;
-    let second = one_of(store, most, back)?;
-    one_of_two(store, most, first, second)
+/// How the parts of a gate make it true: all of them, or at least one.
+#[derive(Clone, Copy)]
+pub(crate) enum Gate {
+    And,
+    Or,
 }
 
-/// Of some families: what all cover.
-pub(crate) fn all_of(store: &mut Store, most: Option<u32>, parts: &[Id]) -> Mem<Id>
-    requires { All (IsIn store.old) parts.now }
-    ensures { Made store.old store.new most (λ set. list_all (λ b. b) (covers_each store.old parts.now set)) result }
+/// Of two families: what the gate of two parts covers.
+fn of_two(store: &mut Store, most: Option<u32>, gate: Gate, a: Id, b: Id) -> Mem<Id>
+    requires a_in { IsIn store.old a }
+    requires b_in { IsIn store.old b }
+    ensures { Made store.old store.new most (λ set. of_both gate (covers (family_of store.old a) set) (covers (family_of store.old b) set)) result }
+{
+    match gate {
+        Gate::And => both_of_two(store, most, a, b),
+        Gate::Or => one_of_two(store, most, a, b),
+    }
+}
+
+/// Of no families: what the gate of no parts covers.
+fn of_none(store: &Store, most: Option<u32>, gate: Gate) -> Mem<Id>
+    ensures { Made store.now store.now most (λ set. of_all gate []) result }
 {
     store.laws();
+    match gate {
+        Gate::And => Ok(Id::UNIT),
+        Gate::Or => Ok(Id::EMPTY),
+    }
+}
+
+/// Of some families: what the gate of these parts covers. Halves are joined, so that large families meet late.
+pub(crate) fn of_parts(store: &mut Store, most: Option<u32>, gate: Gate, parts: &[Id]) -> Mem<Id>
+    requires { All (IsIn store.old) parts.now }
+    ensures { Made store.old store.new most (λ set. of_all gate (covers_each store.old parts.now set)) result }
+{
     if parts.is_empty() {
-        return Ok(Id::UNIT);
+        return of_none(store, most, gate);
     }
     if parts.len() == 1 {
         return Ok(parts[0]);
     }
     let (front, back) = parts.split_at(parts.len() / 2);
-    let first = all_of(store, most, front)?;
-    let second = all_of(store, most, back)?;
-    both_of_two(store, most, first, second)
+    let first = of_parts(store, most, gate, front)?;
+    let second = of_parts(store, most, gate, back)?;
+    of_two(store, most, gate, first, second)
+}
+
+/// Puts families in the order of their first variables, so that those are joined first that stand close to each other.
+fn sort_by_variable(store: &Store, parts: &mut Vec<Id>) -> Mem<()>
+    ensures { IsPermutation parts.old.items parts.new.items }
+{
+    parts.sort_by_key(|id: &Id| first_variable(store, *id))?;
+    Ok(())
+}
+
+/// Of some families: what the gate of these parts covers.
+pub(crate) fn of_gate(store: &mut Store, most: Option<u32>, gate: Gate, parts: Vec<Id>) -> Mem<Id>
+    requires { All (IsIn store.old) parts.items }
+    ensures { Made store.old store.new most (λ set. of_all gate (covers_each store.old parts.items set)) result }
+{
+    let mut sorted = parts;
+    sort_by_variable(store, &mut sorted)?;
+    of_parts(store, most, gate, sorted.as_slice())
 }
 
 /// Of some families: what at least so many cover, counted by place.

@@ -3,6 +3,10 @@
 //! Each fact of the target's slice has a family, at first the empty one. It is made anew from its formula and the
 //! families of all facts until nothing changes; then it covers exactly the sets of events under which the fact holds. A
 //! greatest order cuts each family on the way, so that it bounds the work.
+//!
+//! Two hints save time, and nothing of them is trusted. Facts are made block after block, and again only where a family in
+//! their formulas changed; a last sweep over all facts certifies the end. Diagrams are built over variables, the events as
+//! the target meets them depth-first, and the family of the target is brought into the order of the events at the end.
 #![tactic(auto)]
 
 mod agenda;
@@ -11,5 +15,6 @@ mod filling;
 mod formulas;
 mod gates;
 mod inner_order;
+mod looks;
 
 pub use families::family;

@@ -7,10 +7,10 @@ ghost use Rattle.family_renaming.specs.Renaming.{AreRenamed};
 ghost use Rattle.family_renaming.specs.Lists.{ListsMore, OneMore, HasSets};
 
 use crate::from_top::name;
-use crate::looks::look;
 use crate::variable_order::VariableOrder;
 use aadl_syntax::Mem;
 use std::alloc::Global;
+use zdd_families::look;
 use zdd_store::{Id, Store};
 
 /// The place at which a number is to be put into a rising list; none where it stands there.

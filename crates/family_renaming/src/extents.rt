@@ -1,10 +1,10 @@
 ghost use Rattle.std.specs.Prelude.{◌<◌};
 ghost use Rattle.zdd_store.specs.Store.{IsIn};
 
-use crate::looks::look;
 use aadl_syntax::Mem;
 use std::alloc::Global;
 use std::collections::HashMap;
+use zdd_families::look;
 use zdd_store::{Id, Store};
 
 /// How many sets a family has, and how many numbers they have in all; 2 ^ 64 - 1 where it is more.

@@ -4,12 +4,12 @@ ghost use Rattle.zdd_store.specs.Store.{IsIn, family_of, Keeps};
 ghost use Rattle.family_renaming.specs.Renaming.{name_of, AreRenamed};
 ghost use Rattle.family_renaming.specs.Splitting.{least_event, KnowsLeast, KnowsOrdered, Knows, AtEvent, IsOrdered, Ordered};
 
-use crate::looks::look;
 use crate::parting::{Parts, Place, parts_at};
 use crate::variable_order::VariableOrder;
 use aadl_syntax::Mem;
 use std::alloc::Global;
 use std::collections::HashMap;
+use zdd_families::look;
 use zdd_store::{Id, Store};
 
 /// A family split at its least event: the sets without it, and those with it, from which it is taken away.

@@ -8,7 +8,6 @@ mod by_listing;
 mod event_order;
 mod extents;
 mod from_top;
-mod looks;
 mod parting;
 mod permuting;
 mod variable_order;

@@ -3,9 +3,9 @@ ghost use Rattle.std.specs.HashMap.{get};
 ghost use Rattle.zdd_store.specs.Store.{IsIn, family_of};
 ghost use Rattle.family_renaming.specs.Splitting.{IsParted, Parted, KnowsParts};
 
-use crate::looks::look;
 use aadl_syntax::Mem;
 use std::collections::HashMap;
+use zdd_families::look;
 use zdd_store::{Id, Store};
 
 /// The sets of a family without a number, and those with it, from which it is taken away.

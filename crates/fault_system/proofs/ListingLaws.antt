@@ -41,7 +41,7 @@ rises-choose low (suc count) high e (x ∷ xs) r = ⊎_elim
     (λ above. In-back (x ∷ xs) (map (λ s. low ∷ s) (choose (length xs) (low + 1) count)) _ (rises-choose (low + 1) count high (omega arith) (x ∷ xs) (omega arith, r.1, r.2)))
     (equal_or_less low x r.0)
 
-length_rising : (low high : ℕ) (set : List ℕ) → low ≤ high → RisesWithin low high set → length set + low ≤ high
+pub length_rising : (low high : ℕ) (set : List ℕ) → low ≤ high → RisesWithin low high set → length set + low ≤ high
 length_rising low high [] h r = omega arith
 length_rising low high (x ∷ xs) h r = omega (arith, length_rising (x + 1) high xs (omega (arith, r.1)) r.2, r.0)
 

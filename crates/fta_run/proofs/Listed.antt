@@ -1,14 +1,10 @@
 -- The sets of a family of minimal cut sets in listing order are a listing.
-use Rattle.std.proofs.Common.{◌≡◌, ◌+◌, ◌≤◌, ◌↔◌, ℕ, List, [], ◌∷◌, length, Contains, Option, None, Result, Ok, Err, IfOk, arith}
+use Rattle.std.proofs.Common.{◌≡◌, ◌≤◌, ◌↔◌, ℕ, List, length, Contains, Option, None, Result, Ok, Err, IfOk, arith}
 use Rattle.fault_system.specs.Systems.{System}
-use Rattle.fault_system.specs.CutSets.{RisesWithin}
 use Rattle.fault_system.specs.Listings.{IsInListingOrder, IsListing}
+use Rattle.fault_system.proofs.ListingLaws.{length_rising}
 use Rattle.zdd_store.specs.Family.{Family}
 use Rattle.cutset_engine.specs.Families.{HasMinimalCutSets}
-
-length_rising : (low high : ℕ) (set : List ℕ) → low ≤ high → RisesWithin low high set → length set + low ≤ high
-length_rising low high [] l r = omega arith
-length_rising low high (x ∷ xs) l r = let rest = length_rising (x + 1) high xs (omega (arith, r.1)) r.2 in omega (arith, r.0, rest)
 
 -- a minimal cut set has no more events than the system
 pub no_more_events : (system : System) (target count : ℕ) (family : Family) → count ≡ length system.events → HasMinimalCutSets system target None family → (set : List ℕ) → Contains family set → length set ≤ count

@@ -1,30 +1,30 @@
-use Rattle.std.proofs.Common.{map, nat_le}
-use Rattle.std.specs.List.{list_all, list_any}
+use Rattle.std.proofs.Common.{map, nat_le, refl}
 use Rattle.fault_system.specs.Truth.{member, count_true}
-use Rattle.cutset_engine.specs.Gates.{covers_each, events_of, is_true_under}
+use Rattle.cutset_engine.specs.Gates.{covers_each, events_of, is_true_under, of_all}
+use Rattle.cutset_engine.specs.declared.gates.Gate.TheVariants.{And, Or}
 use Rattle.cutset_engine.proofs.Covering.{keeps_then}
 use Rattle.cutset_engine.proofs.Parts.{parts_next, gate_made, and_true, or_true, least_true}
 use Rattle.cutset_engine.proofs.formulas.+formula.Goals as goal
 
 pub formula_family-returns-in_ok-families-in-And : goal.formula_family-returns-in_ok-families-in-And
 formula_family-returns-in_ok-families-in-And t c =
-    gate_made (λ bs. list_all (λ b. b) bs) c.args.store.now c.part_families.new.store c.all_of.new.store c.args.most (λ set. map (λ part. is_true_under c.args.order.now c.args.store.now c.args.now.now part set) c.items.result.now)
-    (is_true_under c.args.order.now c.args.store.now c.args.now.now c.args.formula.now) c.in_ok-families-in-And.families.items c.as_slice.result.now c.all_of.result
-    c.part_families.ensures.kept c.in_ok-families-in-And.ensures.parts c.as_slice.ensures.value c.all_of.ensures
+    gate_made (of_all And) c.args.store.now c.part_families.new.store c.of_gate.new.store c.args.most (λ set. map (λ part. is_true_under c.args.order.now c.args.store.now c.args.now.now part set) c.items.result.now)
+    (is_true_under c.args.order.now c.args.store.now c.args.now.now c.args.formula.now) c.in_ok-families-in-And.families.items c.in_ok-families-in-And.families.items c.of_gate.result
+    c.part_families.ensures.kept c.in_ok-families-in-And.ensures.parts refl c.of_gate.ensures
     (λ set. and_true (events_of c.args.order.now set) (member (covers_each c.args.store.now c.args.now.now set)) c.args.formula.now c.in-And.parts c.items.result.now c.items.ensures.items c.in-And.is)
 
 pub formula_family-returns-in_ok-families-in-Or : goal.formula_family-returns-in_ok-families-in-Or
 formula_family-returns-in_ok-families-in-Or t c =
-    gate_made (λ bs. list_any (λ b. b) bs) c.args.store.now c.part_families-in-Or.new.store c.one_of.new.store c.args.most (λ set. map (λ part. is_true_under c.args.order.now c.args.store.now c.args.now.now part set) c.items-in-Or.result.now)
-    (is_true_under c.args.order.now c.args.store.now c.args.now.now c.args.formula.now) c.in_ok-families-in-Or.families.items c.as_slice-in-Or.result.now c.one_of.result
-    c.part_families-in-Or.ensures.kept c.in_ok-families-in-Or.ensures.parts c.as_slice-in-Or.ensures.value c.one_of.ensures
+    gate_made (of_all Or) c.args.store.now c.part_families-in-Or.new.store c.of_gate-in-Or.new.store c.args.most (λ set. map (λ part. is_true_under c.args.order.now c.args.store.now c.args.now.now part set) c.items-in-Or.result.now)
+    (is_true_under c.args.order.now c.args.store.now c.args.now.now c.args.formula.now) c.in_ok-families-in-Or.families.items c.in_ok-families-in-Or.families.items c.of_gate-in-Or.result
+    c.part_families-in-Or.ensures.kept c.in_ok-families-in-Or.ensures.parts refl c.of_gate-in-Or.ensures
     (λ set. or_true (events_of c.args.order.now set) (member (covers_each c.args.store.now c.args.now.now set)) c.args.formula.now c.in-Or.parts c.items-in-Or.result.now c.items-in-Or.ensures.items c.in-Or.is)
 
 pub formula_family-returns-in_ok-families-in-AtLeast : goal.formula_family-returns-in_ok-families-in-AtLeast
 formula_family-returns-in_ok-families-in-AtLeast t c =
     gate_made (λ bs. nat_le c.in-AtLeast.least (count_true bs)) c.args.store.now c.part_families-in-AtLeast.new.store c.some_of.new.store c.args.most (λ set. map (λ part. is_true_under c.args.order.now c.args.store.now c.args.now.now part set) c.items-in-AtLeast.result.now)
-    (is_true_under c.args.order.now c.args.store.now c.args.now.now c.args.formula.now) c.in_ok-families-in-AtLeast.families.items c.as_slice-in-AtLeast.result.now c.some_of.result
-    c.part_families-in-AtLeast.ensures.kept c.in_ok-families-in-AtLeast.ensures.parts c.as_slice-in-AtLeast.ensures.value c.some_of.ensures
+    (is_true_under c.args.order.now c.args.store.now c.args.now.now c.args.formula.now) c.in_ok-families-in-AtLeast.families.items c.as_slice.result.now c.some_of.result
+    c.part_families-in-AtLeast.ensures.kept c.in_ok-families-in-AtLeast.ensures.parts c.as_slice.ensures.value c.some_of.ensures
     (λ set. least_true (events_of c.args.order.now set) (member (covers_each c.args.store.now c.args.now.now set)) c.args.formula.now c.in-AtLeast.parts c.items-in-AtLeast.result.now c.items-in-AtLeast.ensures.items c.in-AtLeast.least c.in-AtLeast.is)
 
 pub part_families-loop-part-preserved : goal.part_families-loop-part-preserved
