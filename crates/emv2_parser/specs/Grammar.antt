@@ -1,16 +1,10 @@
 -- The grammar of error model text: the library of a package, and the clause of a classifier.
-use Rattle.std.specs.Prelude.{◌≡◌, ℕ, true, List, [], ◌∷◌, ◌++◌, Option, Some, None, slice_get, codes}
-use Rattle.aadl_syntax.specs.declared.token.Token.{Token}
+use Rattle.std.specs.Prelude.{[], ◌∷◌, ◌++◌, Some, None, codes}
 use Rattle.aadl_syntax.specs.declared.place.Spot.{Spot}
 use Rattle.aadl_syntax.specs.declared.place.Ref.{Ref}
-use Rattle.aadl_syntax.specs.declared.refusal.Stop.{Stop}
-use Rattle.aadl_syntax.specs.declared.refusal.Stop.TheVariants.{Refused, Memory}
-use Rattle.aadl_syntax.specs.declared.refusal.Code.TheVariants.{Syntax}
-use Rattle.aadl_syntax.specs.declared.refusal.Place.TheVariants.{At}
-use Rattle.aadl_syntax.specs.declared.refusal.Refusal.{Refusal}
 use Rattle.aadl_syntax.specs.declared.error_model.Emv2Library.{Emv2Library}
 use Rattle.aadl_syntax.specs.declared.error_model.Emv2Clause.{Emv2Clause}
-use Rattle.grammar_rules.specs.Rules.{Test, Rule, gives, gives_file, chooses, gathers, Dead, ◌>>=◌}
+use Rattle.grammar_rules.specs.Rules.{Rule, gives, chooses, gathers, ◌>>=◌}
 use Rattle.grammar_rules.specs.Spans.{until_inside, ends_to_end}
 use Rattle.grammar_rules.specs.Tokens.{word, sign, is_word, is_one_of}
 use Rattle.emv2_parser.specs.Words.{library_words, clause_words, begins_paths}

@@ -1,5 +1,5 @@
 -- The words of error model text, and its numbers.
-use Rattle.std.specs.Prelude.{ℕ, ◌+◌, ◌-◌, ◌*◌, Bool, ◌&&◌, ◌||◌, nat_le, if◌then◌else◌, List, [], ◌∷◌, length, Some, None, codes}
+use Rattle.std.specs.Prelude.{ℕ, ◌+◌, ◌-◌, ◌*◌, ◌&&◌, ◌||◌, nat_le, if◌then◌else◌, List, [], ◌∷◌, length, Some, None, codes}
 use Rattle.std.specs.List.{fold, list_all}
 use Rattle.aadl_syntax.specs.declared.token.TokenKind.TheVariants.{Number}
 use Rattle.aadl_syntax.specs.Form.{is_digit}

@@ -1,5 +1,5 @@
 -- The sets of a family of minimal cut sets in listing order are a listing.
-use Rattle.std.proofs.Common.{◌≡◌, ◌≤◌, ◌↔◌, ℕ, List, length, Contains, Option, None, Result, Ok, Err, IfOk, arith}
+use Rattle.std.proofs.Common.{◌≡◌, ◌≤◌, ◌↔◌, ℕ, List, length, Contains, None, Result, Ok, Err, IfOk, arith}
 use Rattle.fault_system.specs.Systems.{System}
 use Rattle.fault_system.specs.Listings.{IsInListingOrder, IsListing}
 use Rattle.fault_system.proofs.ListingLaws.{length_rising}

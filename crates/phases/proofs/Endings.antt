@@ -1,5 +1,5 @@
 -- With which statuses a phase may stop at all.
-use Rattle.std.proofs.Common.{inl, inr, sym, subst}
+use Rattle.std.proofs.Common.{inl, inr}
 use Rattle.phases.specs.Phases.{Phase, yields, tells, chains, Passed, Stopped}
 use Rattle.phases.specs.declared.status.Status.{Status}
 
