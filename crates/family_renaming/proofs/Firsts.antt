@@ -17,7 +17,7 @@ use Rattle.family_renaming.specs.declared.parting.Parts.{Parts}
 use Rattle.family_renaming.specs.declared.from_top.EventParts.{EventParts}
 use Rattle.family_renaming.proofs.Halves.{other_number}
 
-not_less : (n m : ℕ) → m ≤ n → nat_lt n m ≡ false
+pub not_less : (n m : ℕ) → m ≤ n → nat_lt n m ≡ false
 not_less n m h = by (nat_lt n m) refl
   where
     by : (b : Bool) → nat_lt n m ≡ b → b ≡ false

@@ -67,10 +67,15 @@ orders_kept names before after known kept right id answer e =
           (subst (λ f. IsOrdered before names f answer) (sym (kept.same id.position r.0)) r.1),
     )
 
-pub all_kept : (names : List ℕ) (before after : Families) (known : Known) → Keeps before after → Knows names before known → Knows names after known
-all_kept names before after known kept knows =
+-- tables that know what is right: the parts in the store as it is, the others in the store as it was
+pub knows_in : (names : List ℕ) (before after : Families) (known : Known) → Keeps before after → KnowsParts after (get place_eq.it known.parts)
+    → KnowsLeast names before (get id_eq.it known.least) → KnowsOrdered names before (get id_eq.it known.ordered) → Knows names after known
+knows_in names before after known kept parts least ordered =
     record {
-      parts = parts_kept before after (get place_eq.it known.parts) kept knows.parts;
-      least = least_kept names before after (get id_eq.it known.least) kept knows.least;
-      ordered = orders_kept names before after (get id_eq.it known.ordered) kept knows.ordered;
+      parts = parts;
+      least = least_kept names before after (get id_eq.it known.least) kept least;
+      ordered = orders_kept names before after (get id_eq.it known.ordered) kept ordered;
     }
+
+pub all_kept : (names : List ℕ) (before after : Families) (known : Known) → Keeps before after → Knows names before known → Knows names after known
+all_kept names before after known kept knows = knows_in names before after known kept (parts_kept before after (get place_eq.it known.parts) kept knows.parts) knows.least knows.ordered

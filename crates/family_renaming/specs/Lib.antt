@@ -1,3 +1,4 @@
 pub mod Renaming
 pub mod Orders
 pub mod Splitting
+pub mod Lists

@@ -13,7 +13,7 @@ use std::collections::HashMap;
 use zdd_store::{Id, Store};
 
 /// A family split at its least event: the sets without it, and those with it, from which it is taken away.
-#[derive(Clone, Copy, Debug, PartialEq, Eq)]
+#[derive(Clone, Copy)]
 pub(crate) struct EventParts {
     pub event: u32,
     pub lo: Id,

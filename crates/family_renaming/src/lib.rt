@@ -4,7 +4,9 @@
 //! set is the rising list of its events.
 #![tactic(auto)]
 
+mod by_listing;
 mod event_order;
+mod extents;
 mod from_top;
 mod looks;
 mod parting;

@@ -9,14 +9,14 @@ use std::collections::HashMap;
 use zdd_store::{Id, Store};
 
 /// The sets of a family without a number, and those with it, from which it is taken away.
-#[derive(Clone, Copy, Debug, PartialEq, Eq)]
+#[derive(Clone, Copy)]
 pub(crate) struct Parts {
     pub lo: Id,
     pub hi: Id,
 }
 
 /// A family and the number at which it is split.
-#[derive(Clone, Copy, Debug, PartialEq, Eq, Hash)]
+#[derive(Clone, Copy, PartialEq, Eq, Hash)]
 pub(crate) struct Place {
     pub family: Id,
     pub number: u32,

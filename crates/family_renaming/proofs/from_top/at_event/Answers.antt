@@ -1,45 +1,28 @@
-use Rattle.std.proofs.Common.{◌<◌, subst, ap, ◌∙◌}
-use Rattle.std.specs.HashMap.{get}
+use Rattle.std.proofs.Common.{subst, ap, ◌∙◌}
 use Rattle.std.proofs.lemmas.Result.{err_from_is_err_and}
-use Rattle.zdd_store.specs.Store.{family_of, Keeps}
-use Rattle.zdd_store.specs.contracts.id.IdPartialEq.TheImpl.{eq-value as id_eq}
+use Rattle.zdd_store.specs.Store.{family_of}
 use Rattle.family_renaming.specs.Renaming.{name_of}
 use Rattle.family_renaming.specs.Splitting.{IsParted}
 use Rattle.family_renaming.proofs.Firsts.{at_least_event}
-use Rattle.family_renaming.proofs.Tables.{least_kept, orders_kept}
+use Rattle.family_renaming.proofs.Tables.{knows_in}
 use Rattle.family_renaming.proofs.from_top.at_event.Goals as goal
 
 pub returns-in_err-parts : goal.returns-in_err-parts
 returns-in_err-parts c =
     let p = err_from_is_err_and c.from_residual-in_err-parts.result c.from_residual-in_err-parts.ensures.1 in
-    let names = c.args.order.now.events in
-    let kept : Keeps c.args.store.now c.parts_at.new.store = c.parts_at.ensures.parted.kept in
     record {
-      kept = kept;
-      knows = record {
-        parts = c.parts_at.ensures.known;
-        least = least_kept names c.args.store.now c.parts_at.new.store (get id_eq.it c.least.new.known) kept
-            c.least.ensures.known;
-        ordered = orders_kept names c.args.store.now c.parts_at.new.store (get id_eq.it c.args.known.now.ordered) kept c.requires.known.ordered;
-      };
+      kept = c.parts_at.ensures.parted.kept;
+      knows = knows_in c.args.order.now.events c.args.store.now c.parts_at.new.store _ c.parts_at.ensures.parted.kept c.parts_at.ensures.known c.least.ensures.known c.requires.known.ordered;
       parts = rw p.1 tt;
     }
 
 pub returns : goal.returns
 returns c =
-    let names = c.args.order.now.events in
-    let kept : Keeps c.args.store.now c.parts_at.new.store = c.parts_at.ensures.parted.kept in
-    let event : c.in_ok-event.field-0 < 4294967296 = c.in_ok-event.ensures.fits c.requires.node in
     record {
-      kept = kept;
-      knows = record {
-        parts = c.parts_at.ensures.known;
-        least = least_kept names c.args.store.now c.parts_at.new.store (get id_eq.it c.least.new.known) kept
-            c.least.ensures.known;
-        ordered = orders_kept names c.args.store.now c.parts_at.new.store (get id_eq.it c.args.known.now.ordered) kept c.requires.known.ordered;
-      };
+      kept = c.parts_at.ensures.parted.kept;
+      knows = knows_in c.args.order.now.events c.args.store.now c.parts_at.new.store _ c.parts_at.ensures.parted.kept c.parts_at.ensures.known c.least.ensures.known c.requires.known.ordered;
       parts = at_least_event c.args.store.now c.parts_at.new.store c.args.order.now.events c.args.order.now.variables c.args.id c.in_ok-event.field-0 c.in_ok-parts.parts
-          c.variables.ensures.inverse c.laws.ensures c.requires.id_in event c.in_ok-event.ensures.value
+          c.variables.ensures.inverse c.laws.ensures c.requires.id_in (c.in_ok-event.ensures.fits c.requires.node) c.in_ok-event.ensures.value
           (subst (λ n. IsParted c.parts_at.new.store n (family_of c.args.store.now c.args.id) c.in_ok-parts.parts)
           (c.name-number.ensures ∙ ap (λ t. name_of t c.in_ok-event.field-0) c.variables.ensures.variables) c.in_ok-parts.ensures.parted.parts);
     }
