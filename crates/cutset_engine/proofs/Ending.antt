@@ -1,5 +1,5 @@
 -- From no families to those of all facts of a slice, and from the family of the target to its minimal cut sets.
-use Rattle.std.proofs.Common.{ℕ, zero, suc, ◌≡◌, ◌<◌, ◌≤◌, Bool, true, false, ◌||◌, nat_le, List, [], ◌∷◌, filter, map, length, slice_index_or, All, Contains, Option, Some, None, ap, ◌∙◌, sym, subst, refl, arith}
+use Rattle.std.proofs.Common.{ℕ, zero, suc, ◌≡◌, ◌↔◌, ◌<◌, ◌≤◌, Bool, true, false, ◌||◌, nat_le, List, [], ◌∷◌, filter, map, length, slice_index_or, All, Contains, Option, Some, None, ap, ◌∙◌, sym, subst, refl, arith}
 use Rattle.std.proofs.lemmas.Bool.{false≢true, leb-true}
 use Rattle.std.proofs.lemmas.List.{get_or-map}
 use Rattle.std.proofs.lemmas.List.Elements.{All-weaker}
@@ -19,13 +19,13 @@ use Rattle.zdd_store.specs.declared.id.Id.{Id}
 use lib.ListN.{length-map}
 use Rattle.zdd_families.specs.Steps.{either}
 use Rattle.zdd_families.proofs.Pairs.{covers-empty}
-use Rattle.family_renaming.specs.Renaming.{name_of, renamed, AreInverse, AreRenamed}
+use Rattle.family_renaming.specs.Renaming.{name_of, renamed, AreInverse, IsRenamedOf}
 use Rattle.cutset_engine.specs.Gates.{covers_each, events_of}
 use Rattle.cutset_engine.specs.Filling.{Task, covered, IsFilling, IsFilled, HaveTheirCauses}
 use Rattle.cutset_engine.specs.Families.{HasMinimalCutSets, IsLeast, sets_to}
 use Rattle.cutset_engine.proofs.Covering.{covers_cut, sound_rising}
 use Rattle.cutset_engine.proofs.CutSets.{has_minimal_cut_sets, order-shorter}
-use Rattle.cutset_engine.proofs.Renamed.{renamed-shorter, variables_of, variables_has, from_inner, renamed-covers, renamed-apart}
+use Rattle.cutset_engine.proofs.Renamed.{renamed-shorter, variables_of, variables_has, renamed-covers, renamed-apart}
 
 none_covered : (store : Families) (now : List Id) (s : List ℕ) (n : ℕ) → IsSound store → All (λ (id : Id). id.position ≡ 0) now → Has (member (covers_each store now s)) n → ⊥
 none_covered store [] s n sound none h = false≢true h
@@ -103,16 +103,16 @@ module _ (system : System) (target : ℕ) (slice : Slice) (most : Option ℕ) (e
   within_most : (set : List ℕ) → IsWithinOrder most set → IsWithinOrder most (variables_of events variables inverse set)
   within_most set w = order-shorter most (map (name_of variables) set) set (omega (arith, length-map set (name_of variables))) w
 
-  pub exact-made : (middle after : Families) (inner answer : Id) → IsLeast before middle most id inner → IsSound after → IsIn after answer → AreRenamed events (family_of middle inner) (family_of after answer) → HasMinimalCutSets system target most (family_of after answer)
-  exact-made middle after inner answer least sound found renames =
-      has_minimal_cut_sets system is_system few target most (family_of after answer) (sound_rising after answer sound found) (renamed-apart events variables inverse (family_of middle inner) (family_of after answer) renames least.apart)
+  pub exact-made : (middle after : Families) (inner answer : Id) → IsLeast before middle most id inner → IsSound after → IsIn after answer → ((set : List ℕ) → Contains (family_of after answer) set ↔ IsRenamedOf events (family_of middle inner) set) → HasMinimalCutSets system target most (family_of after answer)
+  exact-made middle after inner answer least sound found sets =
+      has_minimal_cut_sets system is_system few target most (family_of after answer) (sound_rising after answer sound found) (renamed-apart events variables inverse (family_of middle inner) (family_of after answer) sets least.apart)
       (λ set here.
-      let part = from_inner events variables inverse (family_of middle inner) (family_of after answer) renames set here in
+      let part = (sets set).0 here in
       subst (IsWithinOrder most) (sym part.2) (order-shorter most (renamed events part.0) part.0 (renamed-shorter events part.0) (least.short part.0 part.1)))
       (λ set w.
       let own = variables_of events variables inverse set in
       let covered_so : covers (family_of after answer) set ≡ member (covered before now own) target =
-      renamed-covers events variables inverse (family_of middle inner) (family_of after answer) renames set ∙ least.right own (within_most set w) ∙ sym (marked own) in (
+      renamed-covers events variables inverse (family_of middle inner) (family_of after answer) sets set ∙ least.right own (within_most set w) ∙ sym (marked own) in (
         (λ h. subst (λ es. Holds system es target) (same_events set) (filled.filling.holds own (within_most set w) target (sym covered_so ∙ h))),
         (λ h. covered_so ∙ filled.all own (within_most set w) target (target-in system target slice is_slice) ((holds_of-exact system (events_of variables own) target).1 (subst (λ es. Holds system es target) (sym (same_events set)) h))),
       ))

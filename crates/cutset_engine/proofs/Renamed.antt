@@ -1,14 +1,12 @@
 -- A family over variables and its renaming over events.
-use Rattle.std.proofs.Common.{ℕ, ◌+◌, ◌≡◌, ◌≤◌, Bool, true, false, ◌&&◌, ◌||◌, ◌==◌, List, [], ◌∷◌, map, length, Contains, ⊎_elim, inl, inr, ap, ◌∙◌, sym, subst, refl, arith, nat_lt, if◌then◌else◌}
-use Rattle.std.proofs.lemmas.Bool.{false≢true, eqb-true, eq-eqb}
-use Rattle.std.specs.List.{list_any}
+use Rattle.std.proofs.Common.{ℕ, ◌+◌, ◌≡◌, ◌≤◌, ◌↔◌, Bool, true, false, ◌==◌, List, [], ◌∷◌, map, length, Contains, ⊎_elim, inl, inr, ap, ◌∙◌, sym, subst, refl, arith, nat_lt, if◌then◌else◌}
 use Rattle.zdd_store.specs.Family.{Family, has, is_within, covers, IsAntichain}
-use Rattle.zdd_store.proofs.Orders.{first_or_rest, contains_first, contains_rest, contains_none}
 use Rattle.zdd_families.specs.Unions.{with_number}
-use Rattle.zdd_families.proofs.Booleans.{and_made, and_cases, or_left, or_right, or_cases, same_test}
+use Rattle.zdd_families.proofs.Booleans.{same_test}
 use Rattle.zdd_families.proofs.Subsets.{has_first, has_rest, has_cases, has_none, within_has, within_from}
+use Rattle.zdd_families.proofs.Covers.{covers_member, member_covers}
 use Rattle.zdd_families.proofs.Telling.{has_with_number, with_number_has}
-use Rattle.family_renaming.specs.Renaming.{name_of, renamed, AreInverse, AreRenamed}
+use Rattle.family_renaming.specs.Renaming.{name_of, renamed, AreInverse, IsRenamedOf}
 
 -- the numbers of the renamed set
 pub named_has : (names : List ℕ) (set : List ℕ) (n : ℕ) → has set n ≡ true → has (renamed names set) (name_of names n) ≡ true
@@ -53,42 +51,6 @@ pub renamed-shorter : (names set : List ℕ) → length (renamed names set) ≤ 
 renamed-shorter names [] = omega arith
 renamed-shorter names (n ∷ ns) = omega (arith, renamed-shorter names ns, length-with_number (name_of names n) (renamed names ns))
 
--- whether two lists are equal
-abbrev same_list : List ℕ → List ℕ → Bool
-same_list [] [] = true
-same_list [] (m ∷ ms) = false
-same_list (n ∷ ns) [] = false
-same_list (n ∷ ns) (m ∷ ms) = (n == m) && same_list ns ms
-
-same_self : (set : List ℕ) → same_list set set ≡ true
-same_self [] = refl
-same_self (n ∷ ns) = and_made (n == n) (same_list ns ns) (eq-eqb n n refl) (same_self ns)
-
-same_equal : (a b : List ℕ) → same_list a b ≡ true → a ≡ b
-same_equal [] [] h = refl
-same_equal [] (m ∷ ms) h = absurd (false≢true h)
-same_equal (n ∷ ns) [] h = absurd (false≢true h)
-same_equal (n ∷ ns) (m ∷ ms) h =
-    let c = and_cases (n == m) (same_list ns ms) h in
-    let first : n ≡ m = eqb-true n m c.0 in
-    let rest : ns ≡ ms = same_equal ns ms c.1 in
-    λ i. first i ∷ rest i
-
--- a test that a member of a family passes, and the member that passes
-any_member : (test : List ℕ → Bool) (family : Family) (set : List ℕ) → Contains family set → test set ≡ true → list_any test family ≡ true
-any_member test [] set here h = absurd (contains_none set here)
-any_member test (s ∷ family) set here h =
-    ⊎_elim (λ same. or_left (test s) (list_any test family) (ap test same ∙ h)) (λ rest. or_right (test s) (list_any test family) (any_member test family set rest h)) (first_or_rest s family set here)
-
-member_any : (test : List ℕ → Bool) (family : Family) → list_any test family ≡ true → (set : List ℕ) × Contains family set × (test set ≡ true)
-member_any test [] h = absurd (false≢true h)
-member_any test (s ∷ family) h =
-    ⊎_elim (λ here. (s, contains_first s family, here)) (λ rest. let m = member_any test family rest in (m.0, contains_rest s family m.0 m.1, m.2)) (or_cases (test s) (list_any test family) h)
-
-same_any : (test other : List ℕ → Bool) (family : Family) → ((set : List ℕ) → test set ≡ other set) → list_any test family ≡ list_any other family
-same_any test other [] same = refl
-same_any test other (s ∷ family) same = λ i. same s i || same_any test other family same i
-
 module _ (events variables : List ℕ) (inverse : AreInverse events variables) where
   -- the variables of a set of events
   abbrev pub variables_of : List ℕ → List ℕ
@@ -112,21 +74,19 @@ module _ (events variables : List ℕ) (inverse : AreInverse events variables) w
       let is : n.number ≡ name_of variables e = sym (inverse.there_back n.number) ∙ ap (name_of variables) n.name in
       sym (variables_has set e) ∙ subst (λ x. has (variables_of set) x ≡ true) is there))
 
-  module _ (inner outer : Family) (renames : AreRenamed events inner outer) where
-    -- each set of the renamed family is the renaming of a set
-    pub from_inner : (set : List ℕ) → Contains outer set → (part : List ℕ) × Contains inner part × (set ≡ renamed events part)
-    from_inner set here =
-        let m = member_any (λ part. same_list set (renamed events part)) inner (sym (renames (same_list set)) ∙ any_member (same_list set) outer set here (same_self set)) in
-        (m.0, m.1, same_equal set (renamed events m.0) m.2)
-
+  module _ (inner outer : Family) (sets : (set : List ℕ) → Contains outer set ↔ IsRenamedOf events inner set) where
     pub renamed-covers : (set : List ℕ) → covers outer set ≡ covers inner (variables_of set)
-    unfolding covers
-    renamed-covers set = renames (λ part. is_within part set) ∙ same_any _ _ inner (λ part. renamed-within part set)
+    renamed-covers set = same_test _ _ (λ h.
+        let c = member_covers outer set h in
+        let p = (sets c.part).0 c.member in
+        covers_member inner p.0 (variables_of set) p.1 (sym (renamed-within p.0 set) ∙ subst (λ s. is_within s set ≡ true) p.2 c.within)) (λ h.
+        let c = member_covers inner (variables_of set) h in
+        covers_member outer (renamed events c.part) set ((sets (renamed events c.part)).1 (c.part, c.member, refl)) (renamed-within c.part set ∙ c.within))
 
     pub renamed-apart : IsAntichain inner → IsAntichain outer
     renamed-apart apart part whole here there within =
-        let p = from_inner part here in
-        let w = from_inner whole there in
+        let p = (sets part).0 here in
+        let w = (sets whole).0 there in
         let below : is_within p.0 w.0 ≡ true =
         within_from p.0 w.0 (λ n k.
         let in_whole : has (renamed events w.0) (name_of events n) ≡ true =

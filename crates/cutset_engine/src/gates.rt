@@ -92,9 +92,13 @@ pub(crate) fn of_parts(store: &mut Store, most: Option<u32>, gate: Gate, parts: 
 }
 
 /// Puts families in the order of their first variables, so that those are joined first that stand close to each other.
+/// Four at most stay as they are, since that is no slower.
 fn sort_by_variable(store: &Store, parts: &mut Vec<Id>) -> Mem<()>
     ensures { IsPermutation parts.old.items parts.new.items }
 {
+    if parts.len() <= 4 {
+        return Ok(());
+    }
     parts.sort_by_key(|id: &Id| first_variable(store, *id))?;
     Ok(())
 }

@@ -7,45 +7,62 @@ use family_renaming::VariableOrder;
 use fault_system::{Bits, FaultSystem, Formula};
 use std::alloc::Global;
 
-// About how many places of events a formula has, with those of its facts.
-#[cycle(weight)]
-fn weight(weights: &[u32], formula: &Formula) -> u32 {
+// About how many places of gates and of events there are under a formula, with those of its facts.
+#[derive(Clone, Copy, PartialEq, Eq, PartialOrd, Ord)]
+struct Size {
+    gates: u32,
+    events: u32,
+}
+
+const NOTHING: Size = Size {
+    gates: 0,
+    events: 0,
+};
+
+#[cycle(measured)]
+fn measured(sizes: &[Size], formula: &Formula) -> Size {
     match formula {
-        Formula::True => 0,
-        Formula::Event(_) => 1,
-        Formula::Fact(number) => weights.get(*number as usize).copied().unwrap_or(0),
+        Formula::True => NOTHING,
+        Formula::Event(_) => Size {
+            gates: 0,
+            events: 1,
+        },
+        Formula::Fact(number) => sizes.get(*number as usize).copied().unwrap_or(NOTHING),
         Formula::And(parts) | Formula::Or(parts) | Formula::AtLeast(_, parts) => {
-            weight_of_all(weights, parts.items())
+            sum_of(sizes, parts.items())
         }
     }
 }
 
-#[cycle(weight)]
-fn weight_of_all(weights: &[u32], parts: &[Formula]) -> u32 {
-    let mut sum = 0u32;
+#[cycle(measured)]
+fn sum_of(sizes: &[Size], parts: &[Formula]) -> Size {
+    let mut gates = 1u32;
+    let mut events = 0u32;
     for part in parts {
-        sum = sum.saturating_add(weight(weights, part));
+        let here = measured(sizes, part);
+        gates = gates.saturating_add(here.gates);
+        events = events.saturating_add(here.events);
     }
-    sum
+    Size { gates, events }
 }
 
-// The weight of each fact, where each stands behind those of its formula.
-fn weights_of(alloc: Global, system: &FaultSystem, facts: &[u32]) -> Mem<Vec<u32>> {
-    let mut weights = vec![in alloc; 0u32; system.facts() as usize]?;
+// The size of the formula of each fact, where each stands behind those of its formula.
+fn sizes_of(alloc: Global, system: &FaultSystem, facts: &[u32]) -> Mem<Vec<Size>> {
+    let mut sizes = vec![in alloc; NOTHING; system.facts() as usize]?;
     for number in facts {
         if let Some(fact) = system.fact(*number)
-            && (*number as usize) < weights.len()
+            && (*number as usize) < sizes.len()
         {
-            let here = weight(weights.as_slice(), &fact.formula);
-            weights.as_mut_slice()[*number as usize] = here;
+            let here = measured(sizes.as_slice(), &fact.formula);
+            sizes.as_mut_slice()[*number as usize] = here;
         }
     }
-    Ok(weights)
+    Ok(sizes)
 }
 
 #[derive(Drop)]
 struct Walk<'a> {
-    weights: Vec<u32>,
+    sizes: Vec<Size>,
     facts: Bits,
     events: Bits,
     stack: Vec<&'a Formula>,
@@ -72,14 +89,15 @@ impl<'a> Walk<'a> {
         Ok(())
     }
 
-    // Puts the parts of a formula on the stack, so that those with fewest events come first.
+    // Puts the parts of a formula on the stack, so that those with most gates come first: a gate of events alone does not
+    // ask for an order of them.
     fn meet_parts(&mut self, alloc: Global, parts: &'a [Formula]) -> Mem<()> {
         let mut keys = Vec::new(alloc);
-        for (place, part) in parts.iter().enumerate() {
-            keys.push((weight(self.weights.as_slice(), part), place))?;
+        for (place, part) in parts.iter().enumerate().rev() {
+            keys.push((measured(self.sizes.as_slice(), part), place))?;
         }
-        keys.sort()?;
-        for (_, place) in keys.as_slice().iter().rev() {
+        keys.sort_by_key(|key: &(Size, usize)| key.0)?;
+        for (_, place) in keys.as_slice() {
             if let Some(part) = parts.get(*place) {
                 self.stack.push(part)?;
             }
@@ -104,7 +122,7 @@ impl<'a> Walk<'a> {
     }
 }
 
-/// An order of all events: those that a target meets first, and the others behind them.
+/// An order of all events: as a target meets them depth-first, and the others behind them.
 pub(crate) fn inner_order(
     alloc: Global,
     system: &FaultSystem,
@@ -112,7 +130,7 @@ pub(crate) fn inner_order(
     target: u32,
 ) -> Mem<VariableOrder> {
     let mut walk = Walk {
-        weights: weights_of(alloc, system, facts)?,
+        sizes: sizes_of(alloc, system, facts)?,
         facts: Bits::new(alloc, system.facts())?,
         events: Bits::new(alloc, system.events())?,
         stack: Vec::new(alloc),

@@ -5,3 +5,4 @@ pub mod Permutations
 pub mod Puts
 pub mod Added
 pub mod Own
+pub mod Members

@@ -9,7 +9,7 @@ use Rattle.family_renaming.specs.Orders.{Undoes, HasPlaces}
 pub at_place : (xs : List ℕ) (i x d : ℕ) → slice_get xs i ≡ Some x → slice_index_or xs i d ≡ x
 at_place xs i x d e = sym (unwrap_or-slice_get xs i d) ∙ ap (λ o. unwrap_or o d) e
 
-past_end : (xs : List ℕ) (i d : ℕ) → length xs ≤ i → slice_index_or xs i d ≡ d
+pub past_end : (xs : List ℕ) (i d : ℕ) → length xs ≤ i → slice_index_or xs i d ≡ d
 past_end xs i d h = sym (unwrap_or-slice_get xs i d) ∙ ap (λ o. unwrap_or o d) (slice_get_past xs i h)
 
 one_place : (a b : ℕ) → Some a ≡ Some b → a ≡ b

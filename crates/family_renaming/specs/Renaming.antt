@@ -23,6 +23,14 @@ abbrev pub AreRenamed : List ℕ → Family → Family → Type 0
 AreRenamed names family other =
     (test : List ℕ → Bool) → list_any test other ≡ list_any (λ set. test (renamed names set)) family
 
+-- the set is a set of the family, renamed
+abbrev pub IsRenamedOf : List ℕ → Family → List ℕ → Type 0
+IsRenamedOf names family set = (numbers : List ℕ) × Contains family numbers × (set ≡ renamed names numbers)
+
+-- each number is its own name
+abbrev pub NamesItself : List ℕ → Type 0
+NamesItself names = (n : ℕ) → name_of names n ≡ n
+
 -- the events below the length of a list stand in it, each once, and no other
 pub record IsEventOrder (events : List ℕ) : Type 0 where
   pub ranged : All (λ event. event < length events) events

@@ -25,4 +25,4 @@ returns-clause-exact c =
     c.events-events.ensures.system (omega (arith, c.events-events.ensures.count)) c.requires
     (subst (λ (table : List ℕ). IsFilled (record { system = c.args.system.now; order = table; most = c.args.most }) c.args.slice.now.facts c.families.new.store c.in_ok-now.now.items) c.variables.ensures.variables c.in_ok-now.ensures.filled) fits
     (subst (λ (ids : List Id). c.number_at-target.result ≡ slice_index_or ids c.args.slice.now.target c.number_at-target.result) c.as_slice.ensures.value c.number_at-target.ensures)
-    c.least_family.new.store c.in_event_order.new.store c.in_ok-inner.inner c.in_ok-answer.answer c.in_ok-inner.ensures.least c.laws.ensures c.in_ok-answer.ensures.found c.in_ok-answer.ensures.renamed
+    c.least_family.new.store c.in_event_order.new.store c.in_ok-inner.inner c.in_ok-answer.answer c.in_ok-inner.ensures.least c.laws.ensures c.in_ok-answer.ensures.found c.in_ok-answer.ensures.sets
