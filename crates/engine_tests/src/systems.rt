@@ -53,7 +53,7 @@ pub(crate) fn system(
     let facts = facts_of(alloc, formulas)?;
     let events = events_of(alloc, count)?;
     assert_eq!(rt; events.items().len(), count as usize);
-    assert!(rt; is_system(facts.items(), events.items()));
+    assert!(rt; is_system(alloc, facts.items(), events.items())?);
     Ok(FaultSystem::new(facts, events))
 }
 
