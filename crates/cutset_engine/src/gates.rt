@@ -6,11 +6,18 @@ ghost use Rattle.zdd_store.specs.Store.{IsIn, family_of};
 ghost use Rattle.zdd_families.specs.Steps.{either, both};
 ghost use Rattle.cutset_engine.specs.Gates.{Made, covers_each, of_all, of_both};
 
-use crate::looks::first_variable;
 use aadl_syntax::Mem;
 use std::alloc::Global;
-use zdd_families::{at_least, min_product, min_union, up_to_size};
+use zdd_families::{at_least, look, min_product, min_union, up_to_size};
 use zdd_store::{Id, Store};
+
+/// The first variable of a family; 2 ^ 32 - 1 where it has none.
+fn first_variable(store: &Store, id: Id) -> u32 {
+    match look(store, id) {
+        Some(node) => node.var,
+        None => 4_294_967_295,
+    }
+}
 
 /// The sets of a family of at most so many numbers; all where there is no greatest order.
 pub(crate) fn cut(store: &mut Store, most: Option<u32>, id: Id) -> Mem<Id>

@@ -15,6 +15,5 @@ mod filling;
 mod formulas;
 mod gates;
 mod inner_order;
-mod looks;
 
 pub use families::family;

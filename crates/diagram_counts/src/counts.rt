@@ -1,28 +1,11 @@
-ghost use Rattle.std.specs.Prelude.{◌≡◌, ◌<◌};
-
 use aadl_syntax::Mem;
-use fta_outside::Steps;
 use std::alloc::Global;
 use std::collections::{HashMap, HashSet};
-use std::marker::Brand;
-use std::sync::ledger::{Blank, Ledger};
-use zdd_store::{Id, Node, Store};
+use zdd_families::look;
+use zdd_store::{Id, Store};
 
 /// A number of sets, where it fits 128 bits.
 type Count = Option<u128>;
-
-fn look_on<L: Ledger>(store: &Store, id: Id, blank: Blank) -> Option<Node>
-    requires name { blank.name ≡ L.name }
-    requires parts { blank.parts ≡ L.parts }
-    requires some { 0 < L.parts }
-{
-    let mut steps = Steps::<L>::new(blank);
-    store.node(id, &mut steps)
-}
-
-fn look(store: &Store, id: Id) -> Option<Node> {
-    look_on::<Brand>(store, id, Blank::new(1))
-}
 
 /// The positions of the nodes under a number, in order, so that children stand before parents.
 pub fn reached(alloc: Global, store: &Store, family: Id) -> Mem<Vec<u32>> {

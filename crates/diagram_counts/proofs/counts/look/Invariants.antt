@@ -1,4 +1,0 @@
-use Rattle.diagram_counts.proofs.counts.look.Given as goal
-
-abbrev pub ghosts-look_on : goal.ghosts-look_on
-ghosts-look_on a = record { name = a.blank.name; parts = a.blank.parts }
