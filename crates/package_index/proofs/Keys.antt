@@ -1,0 +1,66 @@
+-- The keys of the tables, and when two of them are the same.
+use Rattle.std.proofs.Common.{ℕ, ◌≡◌, Bool, true, false, ◌&&◌, nat_eq, List, Option, Some, None, Bor, option_map, refl, sym, ap, ◌∙◌}
+use Rattle.std.specs.Bool.{beq}
+use Rattle.std.specs.Option.{option_eq}
+use Rattle.std.specs.Cmp.{booleans_Decides, bool_eq_equiv, first_so, second_so}
+use Rattle.std.specs.Cmp.Lexicographic.{pointwise, nat_list_eq_equiv, pointwise_decides}
+use Rattle.std.proofs.lemmas.Bool.{false≢true}
+use Rattle.std.proofs.lemmas.Slice.Eq.{bytes_eq-Decides}
+use Rattle.aadl_syntax.specs.Name.{is_same_text}
+use Rattle.aadl_syntax.specs.declared.core_model.Alias.{Alias}
+use Rattle.aadl_syntax.specs.declared.core_model.Decl.{Decl}
+use Rattle.std.specs.List.{list_any}
+use Rattle.package_index.specs.Lookup.{is_named}
+use Rattle.package_index.specs.Tables.{has_alias, has_key}
+
+abbrev pub AliasKey : Type 0
+AliasKey = Bool × Bor (List ℕ)
+
+abbrev pub same_alias_key : AliasKey → AliasKey → Bool
+same_alias_key a b = beq a.0 b.0 && pointwise nat_eq a.1.now b.1.now
+
+abbrev pub Key : Type 0
+Key = Bor (List ℕ) × Option (Bor (List ℕ))
+
+abbrev pub same_key : Key → Key → Bool
+same_key a b = pointwise nat_eq a.0.now b.0.now && option_eq (λ (x : Bor (List ℕ)) (y : Bor (List ℕ)). pointwise nat_eq x.now y.now) a.1 b.1
+
+-- ---- keys of aliases
+
+pub alias_agrees : (alias : Alias) (key other : AliasKey) → key.0 ≡ alias.«package» → key.1.now ≡ alias.name → has_alias other alias ≡ same_alias_key key other
+alias_agrees alias key other sort name = λ i. beq (sym sort i) other.0 && pointwise nat_eq (sym name i) other.1.now
+
+pub alias_alike : (key other : AliasKey) → same_alias_key key other ≡ true → (alias : Alias) → has_alias other alias ≡ has_alias key alias
+alias_alike key other same alias =
+    let sort : key.0 ≡ other.0 = (booleans_Decides key.0 other.0).0 (first_so _ _ same) in
+    let name : key.1.now ≡ other.1.now = (bytes_eq-Decides key.1.now other.1.now).0 (second_so _ _ same) in
+    λ i. beq alias.«package» (sym sort i) && is_same_text alias.name (sym name i)
+
+-- ---- keys of classifiers
+
+item_eq : (a b : Option (Bor (List ℕ))) → option_eq is_same_text (option_map (λ item. item.now) a) (option_map (λ item. item.now) b) ≡ option_eq (λ (x : Bor (List ℕ)) (y : Bor (List ℕ)). pointwise nat_eq x.now y.now) a b
+item_eq None None = refl
+item_eq None (Some y) = refl
+item_eq (Some x) None = refl
+item_eq (Some x) (Some y) = refl
+
+item_same : (a b : Option (Bor (List ℕ))) → option_eq (λ (x : Bor (List ℕ)) (y : Bor (List ℕ)). pointwise nat_eq x.now y.now) a b ≡ true → option_map (λ item. item.now) a ≡ option_map (λ item. item.now) b
+item_same None None same = refl
+item_same None (Some y) same = absurd (false≢true same)
+item_same (Some x) None same = absurd (false≢true same)
+item_same (Some x) (Some y) same = ap Some ((bytes_eq-Decides x.now y.now).0 same)
+
+pub key_agrees : (decl : Decl) (key other : Key) → key.0.now ≡ decl.name → option_map (λ item. item.now) key.1 ≡ decl.item → has_key other decl ≡ same_key key other
+key_agrees decl key other name item =
+    (λ i. pointwise nat_eq (sym name i) other.0.now && option_eq is_same_text (sym item i) (option_map (λ item. item.now) other.1))
+    ∙ ap (λ b. pointwise nat_eq key.0.now other.0.now && b) (item_eq key.1 other.1)
+
+pub key_alike : (key other : Key) → same_key key other ≡ true → (decl : Decl) → has_key other decl ≡ has_key key decl
+key_alike key other same decl =
+    let name : key.0.now ≡ other.0.now = (bytes_eq-Decides key.0.now other.0.now).0 (first_so _ _ same) in
+    let item : option_map (λ item. item.now) key.1 ≡ option_map (λ item. item.now) other.1 = item_same key.1 other.1 (second_so _ _ same) in
+    λ i. is_same_text decl.name (sym name i) && option_eq is_same_text decl.item (sym item i)
+
+-- a classifier's key tells what its name and item tell
+pub same_names : (decl : Decl) (key : Key) (decls : List Decl) → key.0.now ≡ decl.name → option_map (λ item. item.now) key.1 ≡ decl.item → list_any (has_key key) decls ≡ list_any (is_named decl.name decl.item) decls
+same_names decl key decls name item = λ i. list_any (is_named (name i) (item i)) decls

@@ -1,0 +1,2 @@
+pub mod KnowsLaws
+pub mod Keys
