@@ -11,19 +11,7 @@ use Rattle.aadl_syntax.specs.declared.core_model.Alias.{Alias}
 use Rattle.aadl_syntax.specs.declared.core_model.Decl.{Decl}
 use Rattle.std.specs.List.{list_any}
 use Rattle.package_index.specs.Lookup.{is_named}
-use Rattle.package_index.specs.Tables.{has_alias, has_key}
-
-abbrev pub AliasKey : Type 0
-AliasKey = Bool × Bor (List ℕ)
-
-abbrev pub same_alias_key : AliasKey → AliasKey → Bool
-same_alias_key a b = beq a.0 b.0 && pointwise nat_eq a.1.now b.1.now
-
-abbrev pub Key : Type 0
-Key = Bor (List ℕ) × Option (Bor (List ℕ))
-
-abbrev pub same_key : Key → Key → Bool
-same_key a b = pointwise nat_eq a.0.now b.0.now && option_eq (λ (x : Bor (List ℕ)) (y : Bor (List ℕ)). pointwise nat_eq x.now y.now) a.1 b.1
+use Rattle.package_index.specs.Tables.{AliasKey, Key, has_alias, has_key, same_alias_key, same_key}
 
 -- ---- keys of aliases
 

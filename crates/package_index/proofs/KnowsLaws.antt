@@ -1,6 +1,9 @@
 -- A table that knows items, with one item more; and what is noted of items that were declared before.
-use Rattle.std.proofs.Common.{ℕ, zero, suc, ◌+◌, ◌≡◌, ◌<◌, ◌≤◌, Bool, true, false, ◌||◌, not, cond, List, [], ◌∷◌, ◌++◌, length, take, drop, get_or, position, Option, Some, None, IsSome, is_some, refl, sym, ap, ◌∙◌, subst, add-one, drop-cons, arith, MatchOption}
-use Rattle.std.specs.List.{list_any, position_from}
+use Rattle.std.proofs.Common.{ℕ, zero, suc, ◌+◌, ◌≡◌, ◌<◌, ◌≤◌, Bool, true, false, ◌||◌, not, cond, List, [], ◌∷◌, ◌++◌, length, take, drop, get_or, position, Option, Some, None, IsSome, is_some, refl, sym, ap, ◌∙◌, subst, add-one, drop-cons, arith, nat_lt, slice_get, option_and_then}
+use Rattle.std.specs.List.{find, list_any, position_from, position_or_len}
+use Rattle.std.proofs.lemmas.Bool.Decides.{nat_tests}
+use Rattle.std.proofs.lemmas.Option.{slice_get_past}
+use Rattle.std.proofs.lemmas.List.Folds.{find_at}
 use Rattle.std.proofs.lemmas.Bool.{false≢true}
 use Rattle.std.proofs.lemmas.Iterator.Adapters.{position_from-zero}
 use Rattle.std.proofs.lemmas.List.{take_more, drop_all, take_all, length-take-le}
@@ -47,6 +50,16 @@ module _ {Item : Type 0} (p : Item → Bool) where
       position_from-zero p (items ++ item ∷ []) ∙ more-from items item 0
       ∙ ap (λ n. cond (list_any p items) (position_from p 0 items) (cond (p item) (Some n) None)) none
       ∙ ap (λ place. cond (list_any p items) place (cond (p item) (Some (length items)) None)) (sym (position_from-zero p items))
+
+  found-at : (items : List Item) (n : ℕ) (b : Bool) → nat_lt n (length items) ≡ b → slice_get items n ≡ option_and_then (slice_get items) (cond b (Some n) None)
+  found-at items n true within = refl
+  found-at items n false past =
+      let all : length items ≤ n = grind (arith, nat_tests, past) in
+      slice_get_past items n all
+
+  -- the first item that passes stands at its place
+  pub find-place : (items : List Item) → find p items ≡ option_and_then (slice_get items) (position p items)
+  find-place items = find_at p items ∙ found-at items (position_or_len p items) (nat_lt (position_or_len p items) (length items)) refl
 
 -- ---- a table with one item more
 

@@ -1,5 +1,5 @@
 -- Packages of one name, and classifiers of one name in a package.
-use Rattle.std.specs.Prelude.{Bool, true, false, ◌&&◌, List, [], ◌∷◌, ◌++◌, flat_map}
+use Rattle.std.specs.Prelude.{Bool, true, false, ◌&&◌, List, [], ◌∷◌, ◌++◌, flat_map, Contains, ⊤}
 use Rattle.std.specs.List.{list_any}
 use Rattle.aadl_syntax.specs.Name.{is_same_text}
 use Rattle.aadl_syntax.specs.declared.core_model.Decl.{Decl}
@@ -7,6 +7,9 @@ use Rattle.aadl_syntax.specs.declared.core_model.PackageUnit.{PackageUnit}
 use Rattle.aadl_syntax.specs.declared.place.Spot.{Spot}
 use Rattle.aadl_syntax.specs.declared.refusal.Code.TheVariants.{DuplicateUnit}
 use Rattle.aadl_syntax.specs.declared.refusal.Refusal.{Refusal}
+use Rattle.aadl_syntax.specs.declared.refusal.Stop.{Stop}
+use Rattle.aadl_syntax.specs.declared.refusal.Stop.TheVariants.{Memory, Refused}
+use Rattle.aadl_syntax.specs.Order.{IsFirst}
 use Rattle.package_index.specs.Lookup.{has_name, is_named, place_of, refusal}
 
 -- N1 at a name, where its name was declared before
@@ -29,4 +32,9 @@ classifiers_again decls = again_after (λ later earlier. is_named later.name lat
 
 -- N1: a second package of a name, or a second classifier of a name in a package; at the later name.
 abbrev pub duplicates : List PackageUnit → List Refusal
-duplicates packages = packages_again packages ++ flat_map (λ unit. classifiers_again unit.decls) packages
+duplicates packages = flat_map (λ unit. classifiers_again unit.decls) packages ++ packages_again packages
+
+-- The first of a group of refusals, or want of memory.
+abbrev pub IsRefused : List Refusal → Stop → Type 0
+IsRefused group Memory = ⊤
+IsRefused group (Refused refusal) = IsFirst (Contains group) refusal

@@ -15,7 +15,7 @@ use Rattle.aadl_syntax.specs.declared.refusal.Place.{Place}
 use Rattle.aadl_syntax.specs.declared.refusal.Place.TheVariants.{At}
 use Rattle.aadl_syntax.specs.declared.refusal.Refusal.{Refusal}
 use Rattle.package_index.specs.declared.id.ClassifierId.{ClassifierId}
-use Rattle.package_index.specs.Names.{is_same_name, is_same_item}
+use Rattle.package_index.specs.Names.{front, is_same_name, is_same_item, last, only}
 
 -- ---- what is declared
 
@@ -49,6 +49,10 @@ abbrev pub declared_in : List PackageUnit → ℕ → List ℕ → Option (List 
 declared_in packages number name item =
     option_map (λ decl. record { «package» = number; decl = decl }) (option_and_then (λ unit. declared unit name item) (slice_get packages number))
 
+-- the declaration of a classifier
+abbrev pub decl_of : List PackageUnit → ClassifierId → Option Decl
+decl_of packages id = option_and_then (λ unit. slice_get unit.decls id.decl) (slice_get packages id.«package»)
+
 -- ---- aliases
 
 -- whether an alias has the name, and stands for a package or for a classifier as is asked
@@ -61,10 +65,7 @@ alias_in of_package unit name = option_map (λ alias. alias.names) (find (is_ali
 
 -- the package name for which a name stands in a package, where it is one identifier and a package alias there
 abbrev pub package_alias : Option PackageUnit → List (List ℕ) → Option (List (List ℕ))
-package_alias None name = None
-package_alias (Some unit) [] = None
-package_alias (Some unit) (identifier ∷ []) = alias_in true unit identifier
-package_alias (Some unit) (identifier ∷ other ∷ more) = None
+package_alias from name = option_and_then (λ unit. option_and_then (alias_in true unit) (only name)) from
 
 -- the package of a number, where a name stands in one
 abbrev pub package_at : List PackageUnit → Option ℕ → Option PackageUnit
@@ -81,14 +82,6 @@ or_itself (Some other) name = other
 -- another alias, and an alias of no declared package means nothing. A name that is no alias means the declared package.
 abbrev pub look_package : List PackageUnit → Option ℕ → List (List ℕ) → Option ℕ
 look_package packages from name = declared_package packages (or_itself (package_alias (package_at packages from) name) name)
-
--- the names before the last
-abbrev pub front : List (List ℕ) → List (List ℕ)
-front names = take (length names - 1) names
-
--- the last name
-abbrev pub last : List (List ℕ) → Option (List ℕ)
-last names = slice_get names (length names - 1)
 
 -- the package in which a classifier is looked for: that of the names before the last, or without such names the
 -- package where the reference stands

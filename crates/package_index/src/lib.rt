@@ -2,9 +2,11 @@
 #![tactic(auto)]
 
 mod id;
+mod index;
 mod package;
 mod table;
 mod words;
 
 pub use id::ClassifierId;
+pub use index::Index;
 pub use words::Words;

@@ -5,7 +5,7 @@ ghost use Rattle.std.specs.Cmp.Lexicographic.{lists_equiv, nat_list_eq_equiv, li
 ghost use Rattle.std.specs.Hash as fed;
 ghost use Rattle.std.specs.Hash.{on_Alike, items_Alike, same_Alike};
 ghost use Rattle.std.proofs.lemmas.Bool.Decides.{Decides-eqb};
-ghost use Rattle.package_index.specs.Names.{is_same_name, names_of};
+ghost use Rattle.package_index.specs.Names.{front, is_same_name, last, names_of, only};
 
 use aadl_syntax::{Identifier, Name, is_same};
 use std::hash::{Hash, Hasher};
@@ -37,6 +37,46 @@ impl<'a> Words<'a> {
             Words::Identifiers(identifiers) => text_at(identifiers, place),
             Words::Names(names) => bytes_at(names, place),
         }
+    }
+
+    /// The names before the last.
+    pub(crate) fn front(&self) -> Words<'a>
+        ensures { names_of result ≡ front (names_of self.now) }
+    {
+        match self {
+            Words::Identifiers(identifiers) => Words::Identifiers(all_but_last(identifiers)),
+            Words::Names(names) => Words::Names(all_but_last(names)),
+        }
+    }
+
+    /// The last name.
+    pub(crate) fn last(&self) -> Option<&'a [u8]>
+        ensures { option_copied result ≡ last (names_of self.now) }
+    {
+        let count = self.len();
+        if count == 0 {
+            return None;
+        }
+        Some(self.name(count - 1))
+    }
+
+    /// The name, where it is one identifier.
+    pub(crate) fn one(&self) -> Option<&'a [u8]>
+        ensures { option_copied result ≡ only (names_of self.now) }
+    {
+        if self.len() != 1 {
+            return None;
+        }
+        Some(self.name(0))
+    }
+}
+
+fn all_but_last<T>(items: &[T]) -> &[T]
+    ensures { result.now ≡ take (length items.now - 1) items.now }
+{
+    match items.len() {
+        0 => items,
+        count => &items[..count - 1],
     }
 }
 

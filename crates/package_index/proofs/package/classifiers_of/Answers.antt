@@ -3,8 +3,8 @@ use Rattle.std.specs.HashMap.{get}
 use Rattle.aadl_syntax.specs.Order.{least, nearer}
 use Rattle.package_index.specs.Duplicates.{again_at}
 use Rattle.package_index.specs.Lookup.{is_named}
-use Rattle.package_index.specs.Tables.{has_key}
-use Rattle.package_index.proofs.Keys.{Key, same_key, key_agrees, key_alike, same_names}
+use Rattle.package_index.specs.Tables.{has_key, Key, same_key}
+use Rattle.package_index.proofs.Keys.{key_agrees, key_alike, same_names}
 use Rattle.package_index.proofs.KnowsLaws.{again-is, again-more, again-end, knows-more, knows-all}
 use Rattle.package_index.proofs.package.classifiers_of.Goals as goal
 

@@ -3,8 +3,7 @@ use Rattle.std.specs.HashMap.{get}
 use Rattle.aadl_syntax.specs.Order.{least, nearer}
 use Rattle.package_index.specs.Duplicates.{again_after, classifiers_again}
 use Rattle.package_index.specs.Lookup.{is_named}
-use Rattle.package_index.specs.Tables.{Knows, has_key}
-use Rattle.package_index.proofs.Keys.{same_key}
+use Rattle.package_index.specs.Tables.{Knows, has_key, same_key}
 use Rattle.package_index.proofs.package.classifiers_of.Given as goal
 
 abbrev pub invariant-loop-number : goal.invariant-loop-number
