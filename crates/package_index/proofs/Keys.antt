@@ -1,17 +1,20 @@
 -- The keys of the tables, and when two of them are the same.
-use Rattle.std.proofs.Common.{ℕ, ◌≡◌, Bool, true, false, ◌&&◌, nat_eq, List, Option, Some, None, Bor, option_map, refl, sym, ap, ◌∙◌}
+use Rattle.std.proofs.Common.{ℕ, ◌≡◌, true, ◌&&◌, nat_eq, List, Option, Some, None, Bor, option_map, refl, sym, ap, ◌∙◌}
 use Rattle.std.specs.Bool.{beq}
 use Rattle.std.specs.Option.{option_eq}
-use Rattle.std.specs.Cmp.{booleans_Decides, bool_eq_equiv, first_so, second_so}
-use Rattle.std.specs.Cmp.Lexicographic.{pointwise, nat_list_eq_equiv, pointwise_decides}
+use Rattle.std.specs.Cmp.{booleans_Decides, first_so, second_so}
+use Rattle.std.specs.Cmp.Lexicographic.{pointwise, pointwise_decides, bytes_decides}
 use Rattle.std.proofs.lemmas.Bool.{false≢true}
 use Rattle.std.proofs.lemmas.Slice.Eq.{bytes_eq-Decides}
 use Rattle.aadl_syntax.specs.Name.{is_same_text}
 use Rattle.aadl_syntax.specs.declared.core_model.Alias.{Alias}
 use Rattle.aadl_syntax.specs.declared.core_model.Decl.{Decl}
 use Rattle.std.specs.List.{list_any}
-use Rattle.package_index.specs.Lookup.{is_named}
-use Rattle.package_index.specs.Tables.{AliasKey, Key, has_alias, has_key, same_alias_key, same_key}
+use Rattle.aadl_syntax.specs.declared.core_model.PackageUnit.{PackageUnit}
+use Rattle.package_index.specs.declared.words.Words.{Words}
+use Rattle.package_index.specs.Lookup.{has_name, is_named}
+use Rattle.package_index.specs.Names.{is_same_name, names_of}
+use Rattle.package_index.specs.Tables.{AliasKey, Key, has_alias, has_key, has_words, same_alias_key, same_key, same_words}
 
 -- ---- keys of aliases
 
@@ -52,3 +55,16 @@ key_alike key other same decl =
 -- a classifier's key tells what its name and item tell
 pub same_names : (decl : Decl) (key : Key) (decls : List Decl) → key.0.now ≡ decl.name → option_map (λ item. item.now) key.1 ≡ decl.item → list_any (has_key key) decls ≡ list_any (is_named decl.name decl.item) decls
 same_names decl key decls name item = λ i. list_any (is_named (name i) (item i)) decls
+
+-- ---- keys of packages
+
+pub words_agrees : (unit : PackageUnit) (key other : Words) → names_of key ≡ unit.name → has_words other unit ≡ same_words key other
+words_agrees unit key other name = λ i. is_same_name (sym name i) (names_of other)
+
+pub words_alike : (key other : Words) → same_words key other ≡ true → (unit : PackageUnit) → has_words other unit ≡ has_words key unit
+words_alike key other same unit =
+    let name : names_of key ≡ names_of other = (pointwise_decides {E = is_same_text} bytes_decides (names_of key) (names_of other)).0 same in
+    λ i. is_same_name unit.name (sym name i)
+
+pub same_packages : (unit : PackageUnit) (key : Words) (units : List PackageUnit) → names_of key ≡ unit.name → list_any (has_words key) units ≡ list_any (has_name unit.name) units
+same_packages unit key units name = λ i. list_any (has_name (name i)) units

@@ -1,5 +1,5 @@
 -- A table that knows items, with one item more; and what is noted of items that were declared before.
-use Rattle.std.proofs.Common.{ℕ, zero, suc, ◌+◌, ◌≡◌, ◌<◌, ◌≤◌, Bool, true, false, ◌||◌, not, cond, List, [], ◌∷◌, ◌++◌, length, take, drop, get_or, position, Option, Some, None, IsSome, is_some, refl, sym, ap, ◌∙◌, subst, add-one, drop-cons, arith, nat_lt, slice_get, option_and_then}
+use Rattle.std.proofs.Common.{ℕ, suc, ◌+◌, ◌≡◌, ◌<◌, ◌≤◌, Bool, true, false, ◌||◌, not, cond, List, [], ◌∷◌, ◌++◌, length, take, drop, get_or, position, Option, Some, None, IsSome, is_some, refl, sym, ap, ◌∙◌, subst, add-one, drop-cons, arith, nat_lt, slice_get, option_and_then}
 use Rattle.std.specs.List.{find, list_any, position_from, position_or_len}
 use Rattle.std.proofs.lemmas.Bool.Decides.{nat_tests}
 use Rattle.std.proofs.lemmas.Option.{slice_get_past}
@@ -93,8 +93,8 @@ module _ {Key Item : Type 0} (has : Key → Item → Bool) (same : Key → Key �
     more-new other true is none =
         sym
         (
-          more-place (has other) items item ∙ ap (λ b. cond b (position (has other) items) (cond (has other item) (Some (length items)) None)) (any-alike other is ∙ any-is key ∙ ap is_some none)
-          ∙ ap (λ b. cond b (Some (length items)) None) (agrees other ∙ is)
+        more-place (has other) items item ∙ ap (λ b. cond b (position (has other) items) (cond (has other item) (Some (length items)) None)) (any-alike other is ∙ any-is key ∙ ap is_some none)
+        ∙ ap (λ b. cond b (Some (length items)) None) (agrees other ∙ is)
         )
 
     more-old : (other : Key) (b : Bool) → same key other ≡ b → IsSome (old key) → old other ≡ position (has other) (items ++ item ∷ [])

@@ -1,5 +1,5 @@
 -- What the names of packages and of classifiers mean (AS5506: packages, aliases and references).
-use Rattle.std.specs.Prelude.{ℕ, ◌-◌, Bool, true, false, ◌&&◌, List, [], ◌∷◌, length, take, slice_get, find, position, flat_map, Option, Some, None, option_map, option_and_then, ok_or, Result, Ok, Err}
+use Rattle.std.specs.Prelude.{ℕ, Bool, true, false, ◌&&◌, List, [], ◌∷◌, slice_get, find, position, flat_map, Option, Some, None, option_map, option_and_then, ok_or, Result, Ok, Err}
 use Rattle.std.specs.Option.{option_or}
 use Rattle.std.specs.Bool.{beq}
 use Rattle.aadl_syntax.specs.Name.{is_same_text}

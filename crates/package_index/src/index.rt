@@ -57,7 +57,7 @@ impl<'a> Index<'a> {
     {
         let mut first = FirstRefusal::new();
         let packages = tables_of(alloc, files, &mut first)?;
-        let numbers = numbers_of(alloc, &packages, &mut first)?;
+        let numbers = numbers_of(alloc, packages.items(), &mut first)?;
         first.settle()?;
         Ok(Index { packages, numbers })
     }
@@ -95,7 +95,10 @@ impl<'a> Index<'a> {
     pub fn decl(&self, id: ClassifierId) -> Option<&'a Decl>
         ensures { option_copied result ≡ decl_of self.now id }
     {
-        self.package(id.package)?.decls.items().get(id.decl as usize)
+        self.package(id.package)?
+            .decls
+            .items()
+            .get(id.decl as usize)
     }
 
     /// The package of a number.
@@ -284,14 +287,15 @@ fn add_unit<'a>(
 /// The numbers of the packages by name. Those whose name an earlier one has are noted.
 fn numbers_of<'a>(
     alloc: Global,
-    packages: &List<Package<'a>>,
+    packages: &[Package<'a>],
     first: &mut FirstRefusal,
 ) -> Mem<HashMap<Words<'a>, u32>>
+    requires { length packages.now < 2 ^ 32 }
     ensures table { IfOk result (λ table. Knows has_words packages.now (get same_words table)) }
     ensures first { OnOk result (first.new ≡ nearer first.old (least (packages_again packages.now))) }
 {
     let mut table = HashMap::new(alloc);
-    for (number, package) in packages.items().iter().enumerate() {
+    for (number, package) in packages.iter().enumerate() {
         let unit = package.unit();
         let is_new = add(
             &mut table,

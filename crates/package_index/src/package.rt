@@ -24,7 +24,6 @@ pub(crate) struct Package<'a> {
 impl<'a> Model for Package<'a> {
     ghost use Rattle.std.specs.Prelude.{List};
     ghost use Rattle.aadl_syntax.specs.declared.core_model.PackageUnit.{PackageUnit};
-
     ghost use Rattle.std.specs.Coded.{codes};
     ghost use Rattle.aadl_syntax.specs.contracts.error_model.Condition as condition;
 

@@ -1,4 +1,4 @@
-use Rattle.std.proofs.Common.{◌≡◌, take, drop, []}
+use Rattle.std.proofs.Common.{◌≡◌, take, drop}
 use Rattle.std.specs.HashMap.{get}
 use Rattle.aadl_syntax.specs.Order.{least, nearer}
 use Rattle.package_index.specs.Duplicates.{again_after, classifiers_again}
