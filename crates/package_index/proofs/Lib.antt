@@ -1,3 +1,4 @@
 pub mod KnowsLaws
 pub mod Keys
 pub mod Gathering
+pub mod Examples
