@@ -1,0 +1,4 @@
+pub mod KnowsLaws
+pub mod Keys
+pub mod Gathering
+pub mod Examples
