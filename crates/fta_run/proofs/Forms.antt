@@ -1,5 +1,5 @@
--- The first form of units, the root in it, and the target.
-use Rattle.std.proofs.Common.{◌≡◌, ◌<◌, ◌≤◌, inl, inr, List, ℕ, [], ◌∷◌, length, get_or, map, Option, Some, None, MatchOption, Result, Ok, Err, IfOk, refl, sym, ap, subst, ◌∙◌, arith}
+-- The root in the files, the first form of their units, and the target.
+use Rattle.std.proofs.Common.{◌≡◌, ◌<◌, ◌≤◌, ◌⊎◌, inl, inr, Contains, List, ℕ, [], ◌∷◌, length, get_or, map, Option, Some, None, MatchOption, Result, Ok, Err, IfOk, refl, sym, ap, subst, ◌∙◌, arith}
 use Rattle.std.proofs.lemmas.Bool.{cases_lt}
 use Rattle.std.proofs.lemmas.Option.{slice_get_within, get_or_from_slice_get}
 use Rattle.std.proofs.lemmas.List.{get_or-map}
@@ -8,16 +8,24 @@ use Rattle.aadl_syntax.specs.declared.core_model.Decl.{Decl}
 use Rattle.aadl_syntax.specs.declared.core_model.Unit.{Unit as FileUnit}
 use Rattle.aadl_syntax.specs.declared.error_model.MachineDecl.{MachineDecl}
 use Rattle.aadl_syntax.specs.declared.name.Root.{Root}
-use Rattle.aadl_syntax.specs.declared.refusal.Code.TheVariants.{UnknownPackage, UnknownClassifier, UnknownTarget}
+use Rattle.aadl_syntax.specs.declared.refusal.Code.TheVariants.{UnknownTarget}
 use Rattle.aadl_syntax.specs.declared.refusal.Refusal.{Refusal}
+use Rattle.aadl_syntax.specs.declared.refusal.Stop.{Stop}
+use Rattle.aadl_syntax.specs.declared.refusal.Stop.TheVariants as stop
+use Rattle.aadl_syntax.specs.Order.{IsFirst}
 use Rattle.aadl_syntax.proofs.OrderLaws.{first_alone}
 use Rattle.first_form.specs.Form.{IsFirstForm}
 use Rattle.first_form.proofs.OneForm.{one_form}
 use Rattle.fault_system.specs.Systems.{System, NamesDiffer}
-use Rattle.phases.specs.Phases.{Stops, answers, needs}
+use Rattle.package_index.specs.Duplicates.{IsRefused, duplicates}
+use Rattle.package_index.specs.Lookup.{packages_of}
+use Rattle.phases.specs.Meets.{IsMemory}
+use Rattle.phases.specs.Phases.{Passes, Stops, answers, tests}
+use Rattle.phases.specs.Stopped.{status_of}
 use Rattle.phases.specs.declared.status.Status.TheVariants.{Refused}
+use Rattle.fta_run.specs.Due.{root_classifier}
 use Rattle.fta_run.specs.Files.{of_words}
-use Rattle.fta_run.specs.Model.{AreOfForm, Form, IsFactNamed, IsRootOf, LacksRoot, LacksTarget, NamesPackage}
+use Rattle.fta_run.specs.Model.{AreOfForm, Form, HasDuplicate, IsFactNamed, LacksTarget}
 
 -- one file is of the form of its units
 form_of_one : {R : Type 0} (found : Option R) (shown : R → Form) (files : List (List FileUnit)) (units : List FileUnit) → files ≡ units ∷ []
@@ -60,32 +68,20 @@ one_form_of files a b h k =
 
 -- ---- the root
 
--- where it is the root, none is lacking
-pub root_or_lacks : (form : Form) (root : Root) (refusal : Refusal) → IsRootOf form root → LacksRoot form root refusal → ⊥
-root_or_lacks form root refusal is lacks =
-    elim lacks [
-      | inl other ↦ other.0 (form.classifier.name, is.names)
-      | inr classifier ↦ classifier.1 is
-    ]
+-- the index of the files is refused
+pub index_stop : (files its : List (List FileUnit)) (root : Root) (why : Stop) → its ≡ files → IsRefused (duplicates (packages_of its)) why → Stops (root_classifier root files) (status_of why) ⊎ IsMemory (status_of why)
+index_stop files its root (stop.Refused refusal) same first =
+    inl (record { stopped = inl (refusal, subst (λ fs. IsFirst (HasDuplicate fs) refusal) same first, refl) })
+index_stop files its root stop.Memory same first = inr refl
 
--- a root has one refusal at most
-lacks_root_once : (form : Form) (root : Root) (a b : Refusal) → LacksRoot form root a → LacksRoot form root b → a ≡ b
-lacks_root_once form root a b h k =
-    elim h [
-      | inl x ↦ elim k [ inl y ↦ x.1 ∙ sym y.1 | inr y ↦ absurd (x.0 y.0) ]
-      | inr x ↦ elim k [ inl y ↦ absurd (y.0 x.0) | inr y ↦ x.2 ∙ sym y.2 ]
-    ]
-
-no_root : (form : Form) (root : Root) (refusal : Refusal) → LacksRoot form root refusal → Stops (needs (IsRootOf form root) (LacksRoot form root)) (Refused refusal)
-no_root form root refusal lacks = record { stopped = (refusal, first_alone (LacksRoot form root) refusal lacks (λ other also. lacks_root_once form root other refusal also lacks), refl) }
-
--- the root names another package
-pub other_package : (form : Form) (root : Root) → (NamesPackage form root → ⊥) → Stops (needs (IsRootOf form root) (LacksRoot form root)) (Refused (of_words UnknownPackage 0))
-other_package form root other = no_root form root (of_words UnknownPackage 0) (inl (other, refl))
-
--- the root names another classifier
-pub other_classifier : (form : Form) (root : Root) → NamesPackage form root → (IsRootOf form root → ⊥) → Stops (needs (IsRootOf form root) (LacksRoot form root)) (Refused (of_words UnknownClassifier 0))
-other_classifier form root named other = no_root form root (of_words UnknownClassifier 0) (inr (named, other, refl))
+-- nothing is declared again
+pub no_duplicate : (files its : List (List FileUnit)) → its ≡ files → duplicates (packages_of its) ≡ [] → Passes (tests (HasDuplicate files)) (tt {0})
+no_duplicate files its same none =
+    let here : duplicates (packages_of files) ≡ [] = ap (λ fs. duplicates (packages_of fs)) (sym same) ∙ none in
+    record { passed = λ refusal stands. absurd (none_there refusal (subst (λ group. Contains group refusal) here stands)) }
+  where
+    none_there : (refusal : Refusal) → Contains [] refusal → ⊥
+    none_there refusal c = omega (arith, c.1)
 
 -- ---- the target
 

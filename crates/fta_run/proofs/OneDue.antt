@@ -13,17 +13,17 @@ use Rattle.first_form.proofs.MadeSystem.{system_is_one}
 use Rattle.phases.specs.Phases.{Passed, IsDecided, IsDue, IsSameEnd}
 use Rattle.phases.specs.declared.status.Status.{Status}
 use Rattle.phases.specs.declared.status.Status.TheVariants.{Usage, NotYet, Refused}
-use Rattle.phases.proofs.Leaves.{decided_answers, decided_finds, decided_rejects, decided_accepts, decided_tests}
+use Rattle.phases.proofs.Leaves.{decided_answers, decided_computes, decided_finds, decided_rejects, decided_accepts, decided_tests}
 use Rattle.phases.proofs.Decided as decided
 use Rattle.fta_run.specs.Words.{Check, Command, Cuts, IsCommand, files_of}
 use Rattle.fta_run.specs.Files.{AreTokens, AreUnits, HasTooLong, HasTooMuch, LacksTokens, LacksUnits, MayContain, NamesTooMany}
-use Rattle.fta_run.specs.Model.{AreOfForm, IsFactNamed, IsRootOf, LacksRoot, LacksTarget}
+use Rattle.fta_run.specs.Model.{AreOfForm, HasDuplicate, IsFactNamed, LacksTarget, root_named}
 use Rattle.fta_run.specs.Due.{command_text, cuts_text, due, system_at, system_in, texts_of, units_of}
 use Rattle.fta_run.specs.Answers.{AllTold, IsOutput, IsSameStatus}
 use Rattle.fta_run.proofs.Roots.{one_command}
 use Rattle.fta_run.proofs.Lacking.{clear_tokens, one_tokens}
 use Rattle.fta_run.proofs.Grammars.{lacks_once, lacks_or_have, one_units}
-use Rattle.fta_run.proofs.Forms.{one_form_of, one_number, root_or_lacks}
+use Rattle.fta_run.proofs.Forms.{one_form_of, one_number}
 
 itself : (status : Status) → IsSameStatus status status
 itself status = inl refl
@@ -61,8 +61,8 @@ system_decided : (root : Root) (texts : List (List ℕ)) → IsDecided IsSameSta
 system_decided root texts = (
   units_decided texts,
   λ files have. (
-    decided_finds IsSameStatus itself (AreOfForm files) NotYet (one_form_of files),
-    λ form is. (decided_answers IsSameStatus itself (λ _. IsRootOf form root) (LacksRoot form root) (λ a b h k. refl) (λ a refusal at lacks. root_or_lacks form root refusal at lacks), λ _ at. tt),
+    (decided_tests IsSameStatus itself (HasDuplicate files), λ _ clear. decided_computes IsSameStatus itself (root_named files root)),
+    λ id at. (decided_finds IsSameStatus itself (AreOfForm files) NotYet (one_form_of files), λ form is. tt),
   ),
 )
 
@@ -83,8 +83,8 @@ cuts_decided target system right = (
 -- the system of a root is one
 is_system : (root : Root) (texts : List (List ℕ)) (system : System) → Passed (system_at root texts) system → IsSystem system
 is_system root texts system at =
-    let form = at.2 in
-    subst IsSystem (sym form.2.2) (system_is_one form.0.machine form.1.form_is.right)
+    let form = at.2.2 in
+    subst IsSystem (sym form.2) (system_is_one form.0.machine form.1.form_is.right)
 
 system_in_decided : (contents : List ℕ → Option (List ℕ)) (root : Root) (files : List (List ℕ)) → AllByRecursion (λ file. IsSome (contents file)) files → IsDecided IsSameStatus (system_in contents root files)
 system_in_decided contents root files told = (texts_decided contents files told, λ texts are. system_decided root texts)

@@ -2,15 +2,16 @@
 use Rattle.std.specs.Prelude.{ℕ, List, length, Option, None}
 use Rattle.aadl_syntax.specs.declared.name.Root.{Root}
 use Rattle.aadl_syntax.specs.declared.core_model.Unit.{Unit as FileUnit}
-use Rattle.phases.specs.Phases.{Phase, yields, accepts, needs, tests, answers, rejects, finds, ◌>>=◌}
+use Rattle.phases.specs.Phases.{Phase, yields, accepts, tests, answers, rejects, computes, finds, ◌>>=◌}
 use Rattle.phases.specs.declared.status.Status.TheVariants.{Usage, NotYet}
 use Rattle.fault_system.specs.Systems.{System}
 use Rattle.backward_slice.specs.Slices.{HasLargeSlice, IsServed}
 use Rattle.fault_system.specs.Listings.{IsListing}
 use Rattle.first_form.specs.Meaning.{system_of}
+use Rattle.package_index.specs.declared.id.ClassifierId.{ClassifierId}
 use Rattle.fta_run.specs.Words.{Command, Check, Cuts, IsCommand}
 use Rattle.fta_run.specs.Files.{MayContain, NamesTooMany, HasTooLong, HasTooMuch, AreTokens, LacksTokens, AreUnits, LacksUnits}
-use Rattle.fta_run.specs.Model.{AreOfForm, IsRootOf, LacksRoot, IsFactNamed, LacksTarget}
+use Rattle.fta_run.specs.Model.{AreOfForm, HasDuplicate, IsFactNamed, LacksTarget, root_named}
 use Rattle.fta_run.specs.Text.{listing_text, numbers_text}
 
 -- the texts of the files, which are not too many, none too long, and not too long together
@@ -28,12 +29,18 @@ units_of texts = do
   tokens ← answers (AreTokens texts) (LacksTokens texts)
   rejects (AreUnits tokens) (LacksUnits texts tokens)
 
--- the system of the root in files of these texts, which are of the first form
+-- the classifier of the root in these files, in which nothing is declared again
+abbrev pub root_classifier : Root → List (List FileUnit) → Phase ClassifierId
+root_classifier root files = do
+  _ ← tests (HasDuplicate files)
+  computes (root_named files root)
+
+-- the system of the root in files of these texts, which are of the first form: it has one classifier, so that is the root
 abbrev pub system_at : Root → List (List ℕ) → Phase System
 system_at root texts = do
   files ← units_of texts
+  _ ← root_classifier root files
   form ← finds (AreOfForm files) NotYet
-  _ ← needs (IsRootOf form root) (LacksRoot form root)
   yields (system_of form.machine)
 
 -- the system of the root in the files of these names

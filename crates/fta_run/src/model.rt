@@ -1,17 +1,18 @@
 //! The system of the root, and the fact that the target names.
 
-ghost use Rattle.std.specs.Prelude.{◌≡◌, ◌↔◌, IfOk, IsTrue, MatchOption, MatchResult};
+ghost use Rattle.std.specs.Prelude.{◌↔◌, IfOk, IsTrue, MatchOption};
 ghost use Rattle.phases.specs.Meets.{IsMemory, Meets, MeetsBut};
-ghost use Rattle.phases.specs.Phases.{answers, finds, needs};
+ghost use Rattle.phases.specs.Phases.{answers, finds};
 ghost use Rattle.phases.specs.declared.status.Status.TheVariants.{NotYet};
-ghost use Rattle.fta_run.specs.Due.{system_at};
-ghost use Rattle.fta_run.specs.Model.{AreOfForm, IsFactNamed, IsRootOf, LacksRoot, LacksTarget, NamesPackage};
+ghost use Rattle.fta_run.specs.Due.{root_classifier, system_at};
+ghost use Rattle.fta_run.specs.Model.{AreOfForm, IsFactNamed, LacksTarget};
 ghost use Rattle.fta_run.specs.Shown.{form_shown};
 
 use crate::input::{Texts, of_words, units_of_texts};
-use aadl_syntax::{Code, Identifier, List, Mem, Name, Refusal, Root, Unit, is_same};
+use aadl_syntax::{Code, List, Mem, Name, Root, Unit, is_same};
 use fault_system::FaultSystem;
 use first_form::{FirstForm, first_form, system_of};
+use package_index::{ClassifierId, Index};
 use phases::Status;
 use std::alloc::Global;
 
@@ -20,10 +21,19 @@ pub fn system_at(alloc: Global, root: &Root, texts: &Texts) -> Result<FaultSyste
     ensures { Meets (system_at root.now texts.now) result }
 {
     let files = units_of_texts(alloc, texts)?;
+    let _root = find_root(alloc, &files, root)?;
     let form = form_of_files(alloc, &files)?;
-    find_root(&form, root)?;
     let system = system_of(alloc, form.machine)?;
     Ok(system)
+}
+
+/// The classifier of a root in files in which nothing is declared again.
+fn find_root(alloc: Global, files: &List<List<Unit>>, root: &Root) -> Result<ClassifierId, Status>
+    ensures { Meets (root_classifier root.now files.now) result }
+{
+    let index = Index::new(alloc, files.items())?;
+    let id = index.root(root)?;
+    Ok(id)
 }
 
 /// The form of the units of the files, where there is one file and it is of the first form.
@@ -44,46 +54,6 @@ fn form_in(alloc: Global, files: &[List<Unit>]) -> Mem<Option<FirstForm<'_>>>
         return Ok(None);
     };
     first_form(alloc, units.items())
-}
-
-/// Refuses a root that is not the classifier of the form.
-fn find_root(form: &FirstForm<'_>, root: &Root) -> Result<(), Status>
-    ensures { Meets (needs (IsRootOf (form_shown form.now) root.now) (LacksRoot (form_shown form.now) root.now)) result }
-{
-    if !names_package(form, root) {
-        return Err(Status::Refused(of_words(Code::UnknownPackage, 0)));
-    }
-    if !is_root_of(form, root) {
-        return Err(Status::Refused(of_words(Code::UnknownClassifier, 0)));
-    }
-    Ok(())
-}
-
-fn names_package(form: &FirstForm<'_>, root: &Root) -> bool
-    ensures { IsTrue result ↔ NamesPackage (form_shown form.now) root.now }
-{
-    match root.names.items() {
-        [library, _] => is_named(library, form.package_name),
-        _ => false,
-    }
-}
-
-fn is_root_of(form: &FirstForm<'_>, root: &Root) -> bool
-    ensures { IsTrue result ↔ IsRootOf (form_shown form.now) root.now }
-{
-    match (root.names.items(), &root.item) {
-        ([library, system], None) => {
-            is_named(library, form.package_name) && is_named(system, &form.classifier.name)
-        }
-        _ => false,
-    }
-}
-
-/// Whether a name is this identifier.
-fn is_named(name: &Name, identifier: &Identifier) -> bool
-    ensures { IsTrue result ↔ (name.now ≡ identifier.now) }
-{
-    is_same(name.items(), identifier.text())
 }
 
 /// The number of the fact of a name.

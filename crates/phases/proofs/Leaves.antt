@@ -1,5 +1,5 @@
 -- Phases of one step are decided where what passes them and why they stop is.
-use Rattle.std.proofs.Common.{◌≡◌, refl, sym, ◌∙◌, subst}
+use Rattle.std.proofs.Common.{◌≡◌, Result, Ok, Err, refl, sym, ◌∙◌, subst}
 use Rattle.aadl_syntax.specs.declared.refusal.Refusal.{Refusal}
 use Rattle.aadl_syntax.specs.Order.{IsClear, IsFirst}
 use Rattle.aadl_syntax.proofs.OrderLaws.{first_once}
@@ -38,3 +38,10 @@ decided_finds Same itself Is status one_value = record {
   apart = λ a end is none. none.1 a is;
   one_stop = λ a b h k. subst (Same a) (h.0 ∙ sym k.0) (itself a);
 }
+
+-- the value or the refusal of a result
+pub decided_computes : {A : Type 0} (Same : Status → Status → Type 0) → ((status : Status) → Same status status) → (result : Result A Refusal) → IsDecidedStep Same (λ value. result ≡ Ok value) (IsRefusal (λ refusal. result ≡ Err refusal))
+decided_computes Same itself (Ok x) =
+    decided_rejects Same _ _ (λ a b h k. let same : a ≡ b = cc (h, k) in same) (λ a refusal h k. absurd (cc (k))) (λ a b h k. absurd (cc (h)))
+decided_computes Same itself (Err x) =
+    decided_rejects Same _ _ (λ a b h k. absurd (cc (h))) (λ a refusal h k. absurd (cc (h))) (λ a b h k. let same : a ≡ b = cc (h, k) in subst (λ r. Same (Refused a) (Refused r)) same (itself (Refused a)))

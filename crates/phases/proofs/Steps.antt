@@ -1,9 +1,9 @@
 -- How the work of joined phases is put together from that of the parts.
-use Rattle.std.proofs.Common.{◌≡◌, ◌⊎◌, inl, inr, Result, refl}
+use Rattle.std.proofs.Common.{◌≡◌, ◌⊎◌, inl, inr, Result, Ok, Err, refl}
 use Rattle.std.specs.Prelude.{IsErrAnd}
 use Rattle.std.proofs.lemmas.Result.{err_from_is_err_and}
 use Rattle.aadl_syntax.specs.declared.refusal.Refusal.{Refusal}
-use Rattle.phases.specs.Phases.{Phase, yields, tells, chains, Passes, Stops, IsRefusal}
+use Rattle.phases.specs.Phases.{Phase, yields, tells, chains, computes, Passes, Stops, IsRefusal}
 use Rattle.phases.specs.Meets.{MeetsBut}
 use Rattle.phases.specs.declared.status.Status.TheVariants.{Refused}
 use Rattle.phases.specs.declared.status.Status.{Status}
@@ -35,3 +35,10 @@ exits Excuse value phase status result is end = let p = err_from_is_err_and resu
 -- a refusal of the step, where it is one that the phase has
 pub refused : {A : Type 0} {Is : A → Type 0} {Why : Refusal → Type 0} {X : Type 0} {refusal : Refusal} → Why refusal → Stops (tells Is (IsRefusal Why)) (Refused refusal) ⊎ X
 refused {A} {Is} {Why} {X} {refusal} why = inl (record { stopped = (refusal, why, refl) })
+
+-- the value of a result, or its refusal
+pub computed : {A : Type 0} {result : Result A Refusal} {value : A} → result ≡ Ok value → Passes (computes result) value
+computed is = record { passed = is }
+
+pub not_computed : {A : Type 0} {X : Type 0} {result : Result A Refusal} {refusal : Refusal} → result ≡ Err refusal → Stops (computes result) (Refused refusal) ⊎ X
+not_computed {A} {X} {result} {refusal} is = inl (record { stopped = (refusal, is, refl) })

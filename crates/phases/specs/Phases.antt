@@ -1,5 +1,5 @@
 -- Phases as data: which values pass, and with which status it ends where none does.
-use Rattle.std.specs.Prelude.{◌≡◌, ◌⊎◌, Result, MatchResult}
+use Rattle.std.specs.Prelude.{◌≡◌, ◌⊎◌, Result, Ok, Err, MatchResult}
 use Rattle.aadl_syntax.specs.declared.refusal.Refusal.{Refusal}
 use Rattle.aadl_syntax.specs.Order.{IsClear, IsFirst}
 use Rattle.phases.specs.declared.status.Status.{Status}
@@ -68,6 +68,10 @@ tests Stands = needs (IsClear Stands) Stands
 -- what is so passes, and where nothing is so, it stops with this status
 abbrev pub finds : {A : Type 0} → (A → Type 0) → Status → Phase A
 finds {A} Is status = tells Is (λ end. (end ≡ status) × ((value : A) → Is value → ⊥))
+
+-- the value of a result passes, and it stops with the refusal of one
+abbrev pub computes : {A : Type 0} → Result A Refusal → Phase A
+computes result = rejects (λ value. result ≡ Ok value) (λ refusal. result ≡ Err refusal)
 
 -- ---- one end at most
 
