@@ -18,14 +18,17 @@ use Rattle.first_form.specs.Form.{IsFirstForm}
 use Rattle.first_form.proofs.OneForm.{one_form}
 use Rattle.fault_system.specs.Systems.{System, NamesDiffer}
 use Rattle.package_index.specs.Duplicates.{IsRefused, duplicates}
-use Rattle.package_index.specs.Lookup.{packages_of}
+use Rattle.aadl_syntax.specs.declared.core_model.PackageUnit.{PackageUnit}
+use Rattle.aadl_syntax.specs.declared.refusal.Place.TheVariants.{Words}
+use Rattle.package_index.specs.Lookup.{look_classifier, packages_of, refused_at}
+use Rattle.package_index.specs.declared.id.ClassifierId.{ClassifierId}
 use Rattle.phases.specs.Meets.{IsMemory}
 use Rattle.phases.specs.Phases.{Passes, Stops, answers, tests}
 use Rattle.phases.specs.Stopped.{status_of}
 use Rattle.phases.specs.declared.status.Status.TheVariants.{Refused}
 use Rattle.fta_run.specs.Due.{root_classifier}
 use Rattle.fta_run.specs.Files.{of_words}
-use Rattle.fta_run.specs.Model.{AreOfForm, Form, HasDuplicate, IsFactNamed, LacksTarget}
+use Rattle.fta_run.specs.Model.{AreOfForm, Form, HasDuplicate, IsFactNamed, LacksTarget, root_named}
 
 -- one file is of the form of its units
 form_of_one : {R : Type 0} (found : Option R) (shown : R → Form) (files : List (List FileUnit)) (units : List FileUnit) → files ≡ units ∷ []
@@ -82,6 +85,12 @@ no_duplicate files its same none =
   where
     none_there : (refusal : Refusal) → Contains [] refusal → ⊥
     none_there refusal c = omega (arith, c.1)
+
+-- what is looked up in the index is what the root names
+pub root_is : (files its : List (List FileUnit)) (packages : List PackageUnit) (root : Root) (result : Result ClassifierId Refusal) → packages ≡ packages_of its → its ≡ files → result ≡ refused_at Words (look_classifier packages None root.names root.item)
+    → root_named files root ≡ result
+root_is files its packages root result are same found =
+    sym (found ∙ ap (λ (ps : List PackageUnit). refused_at Words (look_classifier ps None root.names root.item)) (are ∙ ap packages_of same))
 
 -- ---- the target
 
