@@ -3,3 +3,4 @@ pub mod Keys
 pub mod Gathering
 pub mod Examples
 pub mod DuplicateLaws
+pub mod FoundLaws

@@ -1,4 +1,4 @@
-ghost use Rattle.std.specs.Prelude.{◌≡◌, ◌<◌, ◌^◌, ℕ, [], length, None, Some, option_copied, option_map, slice_get, IfOk, IfErr, OnOk, flat_map};
+ghost use Rattle.std.specs.Prelude.{◌≡◌, ◌<◌, ◌^◌, ℕ, [], length, None, Some, option_copied, option_map, slice_get, IfOk, IfErr, IsSome, OnOk, flat_map};
 ghost use Rattle.std.specs.HashMap.{get};
 ghost use Rattle.aadl_syntax.specs.Order.{IsClear, least, nearer};
 ghost use Rattle.aadl_syntax.specs.declared.refusal.Place.TheVariants.{Words as InWords};
@@ -73,7 +73,8 @@ impl<'a> Index<'a> {
     ///
     /// N2 where its package is not found, N3 where the classifier is not, both at the reference.
     pub fn find_classifier(&self, from: u32, reference: &Ref) -> Result<ClassifierId, Refusal>
-        ensures { result ≡ refused_at (place_of reference.now.spot) (look_classifier self.now (Some from) reference.now.names reference.now.item) }
+        ensures found { result ≡ refused_at (place_of reference.now.spot) (look_classifier self.now (Some from) reference.now.names reference.now.item) }
+        ensures declared { IfOk result (λ id. IsSome (decl_of self.now id)) }
     {
         let names = Words::Identifiers(reference.names.items());
         let found = self.look_classifier(Some(from), names, text_of(&reference.item));
@@ -84,7 +85,8 @@ impl<'a> Index<'a> {
     ///
     /// N2 where its package is not found, N3 where the classifier is not, both at the words.
     pub fn root(&self, root: &Root) -> Result<ClassifierId, Refusal>
-        ensures { result ≡ refused_at InWords (look_classifier self.now None root.now.names root.now.item) }
+        ensures found { result ≡ refused_at InWords (look_classifier self.now None root.now.names root.now.item) }
+        ensures declared { IfOk result (λ id. IsSome (decl_of self.now id)) }
     {
         let names = Words::Names(root.names.items());
         let found = self.look_classifier(None, names, bytes_of(&root.item));
