@@ -24,9 +24,6 @@ module _ {A : Type 0} where
 
 -- ---- one list of items
 
-n1_at : Spot → Refusal
-n1_at spot = refusal DuplicateUnit (place_of spot)
-
 at-to : (b : Bool) (spot : Spot) (n1 : Refusal) → Contains (again_at b spot) n1 → (b ≡ true) × (n1 ≡ refusal DuplicateUnit (place_of spot))
 at-to true spot n1 here = (refl, sym (one_in _ n1 here))
 at-to false spot n1 here = absurd (none_in n1 here)

@@ -1,4 +1,4 @@
-ghost use Rattle.std.specs.Prelude.{◌≡◌, ◌<◌, ◌^◌, ℕ, [], length, None, Some, option_copied, option_map, slice_get, IfOk, IfErr, IsSome, OnOk, flat_map};
+ghost use Rattle.std.specs.Prelude.{◌≡◌, ◌<◌, ◌^◌, [], length, None, Some, option_copied, slice_get, IfOk, IfErr, IsSome, OnOk, flat_map};
 ghost use Rattle.std.specs.HashMap.{get};
 ghost use Rattle.aadl_syntax.specs.Order.{IsClear, least, nearer};
 ghost use Rattle.aadl_syntax.specs.declared.refusal.Place.TheVariants.{Words as InWords};
