@@ -1,0 +1,42 @@
+-- The packages of the units, one after the other.
+use Rattle.std.proofs.Common.{ℕ, ◌+◌, ◌≡◌, ◌<◌, List, [], ◌∷◌, ◌++◌, length, take, get_or, Option, None, MatchOption, Contains, flat_map, sym, ap, ◌∙◌, subst}
+use Rattle.std.proofs.lemmas.List.{take_more, append-nil, append_assoc}
+use Rattle.std.proofs.lemmas.Grind.{flat_map-append}
+use Rattle.aadl_syntax.specs.declared.core_model.PackageUnit.{PackageUnit}
+use Rattle.aadl_syntax.specs.declared.refusal.Refusal.{Refusal}
+use Rattle.aadl_syntax.specs.Order.{IsFirst, least, nearer}
+use Rattle.aadl_syntax.proofs.OrderLaws.{nearer-none, noted-more, noted-all}
+use Rattle.package_index.specs.Duplicates.{classifiers_again, duplicates, packages_again}
+use Rattle.package_index.specs.Tables.{Gathered}
+
+pub gathered-none : (packages : List PackageUnit) (noted : Option Refusal) → Gathered packages packages noted noted []
+gathered-none packages noted = record { packages = sym (append-nil packages); first = sym (nearer-none noted) }
+
+abbrev again_in : PackageUnit → List Refusal
+again_in unit = classifiers_again unit.decls
+
+gathered-more : (a b c : List PackageUnit) (f g h : Option Refusal) (units more : List PackageUnit) → Gathered a b f g units → Gathered b c g h more → Gathered a c f h (units ++ more)
+gathered-more a b c f g h units more one two = record {
+  packages = two.packages ∙ ap (λ front. front ++ more) one.packages ∙ append_assoc a units more;
+  first =
+      two.first ∙ noted-more f g (flat_map again_in units) (flat_map again_in more) one.first
+      ∙ ap (λ group. nearer f (least group)) (sym (flat_map-append again_in units more));
+}
+
+module _ {Part : Type 0} (units_of : Part → List PackageUnit) (parts : List Part) where
+  front-more : (i : ℕ) (part : Part) → i < length parts → part ≡ get_or parts i part → flat_map units_of (take i parts) ++ units_of part ≡ flat_map units_of (take (i + 1) parts)
+  front-more i part within is =
+      ap (λ units. flat_map units_of (take i parts) ++ units) (sym (append-nil (units_of part)))
+      ∙ sym (ap (flat_map units_of) (take_more parts i part within ∙ ap (λ x. take i parts ++ x ∷ []) (sym is)) ∙ flat_map-append units_of (take i parts) (part ∷ []))
+
+  -- the step of a loop over parts that have units
+  pub gathered-step : (i : ℕ) (part : Part) (a b c : List PackageUnit) (f g h : Option Refusal) → i < length parts → part ≡ get_or parts i part
+      → Gathered a b f g (flat_map units_of (take i parts)) → Gathered b c g h (units_of part) → Gathered a c f h (flat_map units_of (take (i + 1) parts))
+  gathered-step i part a b c f g h within is one two =
+      subst (Gathered a c f h) (front-more i part within is) (gathered-more a b c f g h (flat_map units_of (take i parts)) (units_of part) one two)
+
+-- what was noted of all packages
+pub noted-duplicates : (units packages : List PackageUnit) (none first last : Option Refusal) → none ≡ None → Gathered [] packages none first units → last ≡ nearer first (least (packages_again packages)) → MatchOption last (duplicates units ≡ []) (λ refusal. IsFirst (Contains (duplicates units)) refusal)
+noted-duplicates units packages none first last start gathered noted =
+    let all : last ≡ nearer none (least (duplicates units)) = noted ∙ ap (λ ps. nearer first (least (packages_again ps))) gathered.packages ∙ noted-more none first (flat_map again_in units) (packages_again units) gathered.first in
+    noted-all last (duplicates units) (all ∙ ap (λ before. nearer before (least (duplicates units))) start)

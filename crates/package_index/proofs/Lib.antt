@@ -1,0 +1,3 @@
+pub mod KnowsLaws
+pub mod Keys
+pub mod Gathering

@@ -1,0 +1,7 @@
+use Rattle.std.proofs.Common.{take, flat_map}
+use Rattle.package_index.specs.Lookup.{package_of}
+use Rattle.package_index.specs.Tables.{Gathered}
+use Rattle.package_index.proofs.index.add_file.Given as goal
+
+abbrev pub invariant-loop-unit : goal.invariant-loop-unit
+invariant-loop-unit l = Gathered l.fn.packages l.packages l.fn.first l.first (flat_map package_of (take l.unit-index l.units))

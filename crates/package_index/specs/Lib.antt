@@ -1,0 +1,4 @@
+pub mod Names
+pub mod Lookup
+pub mod Duplicates
+pub mod Tables
