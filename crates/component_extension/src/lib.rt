@@ -2,5 +2,7 @@
 #![tactic(auto)]
 
 mod chain;
+mod rows;
 
 pub use chain::chain_of;
+pub use rows::{KeyWords, Row};
