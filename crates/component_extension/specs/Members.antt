@@ -2,6 +2,8 @@
 use Rattle.std.specs.Prelude.{◌≡◌, ℕ, ◌+◌, Bool, true, false, cond, ◌&&◌, ◌||◌, not, nat_eq, nat_lt, List, [], ◌∷◌, ◌++◌, map, filter, flat_map, fold, Option, Some, None, is_some, option_map, option_and_then}
 use Rattle.std.specs.Option.{option_or}
 use Rattle.std.specs.List.{list_any}
+use denote.Ref.{Bor}
+use Rattle.std.specs.Cmp.Lexicographic.{pointwise}
 use Rattle.aadl_syntax.specs.Name.{is_same_text}
 use Rattle.aadl_syntax.specs.declared.core_model.Connection.{Connection}
 use Rattle.aadl_syntax.specs.declared.core_model.ConnectionKind.{ConnectionKind}
@@ -62,9 +64,26 @@ pub record Mark : Type 0 where
   pub level : ℕ
   pub spot : Spot
 
--- whether the mark is that of the name, and comes before this byte of this level: farther, or earlier in the classifier
+-- whether a level and a byte come before others: farther, or earlier in the same classifier
+abbrev pub is_before : ℕ × ℕ → ℕ → ℕ → Bool
+is_before time level at = nat_lt time.0 level || (nat_eq time.0 level && nat_lt time.1 at)
+
+-- whether the mark is that of the name, and comes before this byte of this level
 abbrev pub is_earlier : List ℕ → ℕ → ℕ → Mark → Bool
-is_earlier name level at mark = is_same_text mark.name name && (nat_lt mark.level level || (nat_eq mark.level level && nat_lt mark.spot.at at))
+is_earlier name level at mark = is_same_text mark.name name && is_before (mark.level, mark.spot.at) level at
+
+-- the same of a table's answer, which is the first level and byte of a name
+abbrev pub comes_before : Option (ℕ × ℕ) → ℕ → ℕ → Bool
+comes_before None level at = false
+comes_before (Some time) level at = is_before time level at
+
+-- whether two texts are the same
+abbrev pub same_text : Bor (List ℕ) → Bor (List ℕ) → Bool
+same_text a b = pointwise nat_eq a.now b.now
+
+-- The table tells of each name whether one of the marks comes before a byte of a level.
+abbrev pub KnowsMarks : List Mark → (Bor (List ℕ) → Option (ℕ × ℕ)) → Type 0
+KnowsMarks marks table = (name : Bor (List ℕ)) (level at : ℕ) → comes_before (table name) level at ≡ list_any (is_earlier name.now level at) marks
 
 -- the mark of a declaration, where it is not `refined to`
 abbrev pub mark_of : {Item : Type 0} → Kind Item → Declared Item → List Mark
@@ -182,3 +201,22 @@ subcomponent_limits member = refused_there Array member.array ++ refused_there P
 -- P3 at a connection of feature groups
 abbrev pub connection_limits : Member Connection → List Refusal
 connection_limits member = refused_so (is_group_connection member.nearest.item.kind) FeatureGroup member.nearest.item.spot
+
+-- ---- the group
+
+-- N5 and the limits of the members of a kind
+abbrev pub faults_of : {Item : Type 0} → Kind Item → (Member Item → List Refusal) → List Class → List Refusal
+faults_of kind limits classes =
+    let all = declarations kind classes in
+    unknown_members kind (marks_of kind all) all ++ flat_map limits (members_of kind (marks_of kind all) all)
+
+-- the names of all kinds that are declared without `refined to`
+abbrev pub marks_in : List Class → List Mark
+marks_in classes =
+    marks_of features (declarations features classes) ++ (marks_of subcomponents (declarations subcomponents classes) ++ marks_of connections (declarations connections classes))
+
+-- The refusals of the members of a chain, farthest classifier first, are one group: N5, N6, P1 of bindings, P2 and P3.
+abbrev pub member_faults : List Class → List Refusal
+member_faults classes =
+    faults_of features feature_limits classes
+    ++ (faults_of subcomponents subcomponent_limits classes ++ (faults_of connections connection_limits classes ++ duplicates (marks_in classes) (marks_in classes)))

@@ -2,7 +2,15 @@
 #![tactic(auto)]
 
 mod chain;
+mod classifier;
+mod declaration;
+mod member;
+mod members;
+mod names;
 mod rows;
 
 pub use chain::chain_of;
+pub use classifier::Classifier;
+pub use declaration::Declaration;
+pub use member::{Inherited, MemberKind};
 pub use rows::{KeyWords, Row};
