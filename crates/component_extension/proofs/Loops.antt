@@ -8,7 +8,7 @@ use Rattle.std.proofs.lemmas.Grind.{flat_map-append, fold-append}
 use Rattle.aadl_syntax.specs.declared.refusal.Refusal.{Refusal}
 use Rattle.aadl_syntax.specs.Order.{least, nearer}
 use Rattle.aadl_syntax.proofs.OrderLaws.{nearer-none, noted-more}
-use Rattle.component_extension.specs.Members.{Class, Declared, Kind, declared_by, declared_from}
+use Rattle.component_extension.specs.Rows.{numbered_from}
 
 or-none : (b : Bool) → (b || false) ≡ b
 or-none true = refl
@@ -49,24 +49,32 @@ gathered-end xs i f base all past had = had ∙ ap (λ items. base ++ flat_map f
 pub noting-end : {A : Type 0} (xs : List A) (i : ℕ) (f : A → List Refusal) (first goal : Option Refusal) → length xs ≤ i → nearer first (least (flat_map f (drop i xs))) ≡ goal → first ≡ goal
 noting-end xs i f first goal past noted = sym (nearer-none first) ∙ ap (λ left. nearer first (least (flat_map f left))) (sym (drop_all i xs past)) ∙ noted
 
--- ---- declarations
+-- ---- numbered parts
 
-declared-snoc : {Item : Type 0} (kind : Kind Item) (level : ℕ) (classes : List Class) (class : Class) → declared_from kind level (classes ++ class ∷ []) ≡ declared_from kind level classes ++ declared_by kind (level + length classes) class
-declared-snoc kind level [] class =
-    let zero-more : level ≡ level + 0 = omega arith in
-    append-nil (declared_by kind level class) ∙ ap (λ n. declared_by kind n class) zero-more
-declared-snoc kind level (first ∷ classes) class =
-    let one : level + 1 + length classes ≡ level + suc (length classes) = omega arith in
-    ap (λ rest. declared_by kind level first ++ rest) (declared-snoc kind (level + 1) classes class ∙ ap (λ n. declared_from kind (level + 1) classes ++ declared_by kind n class) one)
-    ∙ sym (append_assoc (declared_by kind level first) (declared_from kind (level + 1) classes) (declared_by kind (level + suc (length classes)) class))
+module _ {Part Row : Type 0} (give : ℕ → Part → List Row) where
+  numbered-snoc : (number : ℕ) (parts : List Part) (part : Part) → numbered_from give number (parts ++ part ∷ []) ≡ numbered_from give number parts ++ give (number + length parts) part
+  numbered-snoc number [] part =
+      let same : number ≡ number + 0 = omega arith in
+      append-nil (give number part) ∙ ap (λ n. give n part) same
+  numbered-snoc number (first ∷ parts) part =
+      let one : number + 1 + length parts ≡ number + suc (length parts) = omega arith in
+      ap (λ rest. give number first ++ rest) (numbered-snoc (number + 1) parts part ∙ ap (λ n. numbered_from give (number + 1) parts ++ give n part) one)
+      ∙ sym (append_assoc (give number first) (numbered_from give (number + 1) parts) (give (number + suc (length parts)) part))
 
-pub declared-more : {Item : Type 0} (kind : Kind Item) (classes : List Class) (i : ℕ) (class : Class) (before after : List (Declared Item)) → i < length classes → class ≡ get_or classes i class
-    → before ≡ declared_from kind 0 (take i classes) → after ≡ before ++ declared_by kind i class → after ≡ declared_from kind 0 (take (i + 1) classes)
-declared-more kind classes i class before after within is had one =
-    let taken : length (take i classes) ≡ i = length-take-le i classes (omega (arith, within)) in
-    let long : 0 + length (take i classes) ≡ i = omega (arith, taken) in
-    one ∙ ap (λ front. front ++ declared_by kind i class) had
-    ∙ sym (ap (declared_from kind 0) (front-more classes i class within is) ∙ declared-snoc kind 0 (take i classes) class ∙ ap (λ n. declared_from kind 0 (take i classes) ++ declared_by kind n class) long)
+  module _ (parts : List Part) (i : ℕ) (part : Part) (within : i < length parts) (is : part ≡ get_or parts i part) where
+    -- what the parts give, with one more
+    pub numbered-more : numbered_from give 0 (take (i + 1) parts) ≡ numbered_from give 0 (take i parts) ++ give i part
+    numbered-more =
+        let taken : length (take i parts) ≡ i = length-take-le i parts (omega (arith, within)) in
+        let long : 0 + length (take i parts) ≡ i = omega (arith, taken) in
+        ap (numbered_from give 0) (front-more parts i part within is) ∙ numbered-snoc 0 (take i parts) part ∙ ap (λ n. numbered_from give 0 (take i parts) ++ give n part) long
 
-pub declared-end : {Item : Type 0} (kind : Kind Item) (classes : List Class) (i : ℕ) (all : List (Declared Item)) → length classes ≤ i → all ≡ declared_from kind 0 (take i classes) → all ≡ declared_from kind 0 classes
-declared-end kind classes i all past had = had ∙ ap (declared_from kind 0) (take_all i classes past)
+    -- a fold over what they give
+    pub numbered-folded : {B : Type 0} (h : B → Row → B) (start before after : B) → before ≡ fold h start (numbered_from give 0 (take i parts)) → after ≡ fold h before (give i part) → after ≡ fold h start (numbered_from give 0 (take (i + 1) parts))
+    numbered-folded h start before after had one =
+        one ∙ ap (λ rows. fold h rows (give i part)) had ∙ sym (ap (fold h start) numbered-more ∙ fold-append h start (numbered_from give 0 (take i parts)) (give i part))
+
+-- a fold over items, with one more
+pub fold-more : {A B : Type 0} (h : B → A → B) (start before after : B) (xs : List A) (i : ℕ) (x : A) → i < length xs → x ≡ get_or xs i x → before ≡ fold h start (take i xs) → after ≡ h before x → after ≡ fold h start (take (i + 1) xs)
+fold-more h start before after xs i x within is had one =
+    one ∙ ap (λ so_far. h so_far x) had ∙ sym (ap (fold h start) (front-more xs i x within is) ∙ fold-append h start (take i xs) (x ∷ []))

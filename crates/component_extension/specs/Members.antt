@@ -18,7 +18,7 @@ use Rattle.aadl_syntax.specs.declared.refusal.Code.{Code}
 use Rattle.aadl_syntax.specs.declared.refusal.Code.TheVariants.{Array, DuplicateName, FeatureGroup, Prototype, UnknownMember}
 use Rattle.aadl_syntax.specs.declared.refusal.Refusal.{Refusal}
 use Rattle.package_index.specs.Lookup.{place_of, refusal}
-use Rattle.component_extension.specs.Rows.{Key, named, put, row_by}
+use Rattle.component_extension.specs.Rows.{Key, named, numbered_from, put, row_by}
 
 -- ---- declarations
 
@@ -47,14 +47,9 @@ pub record Declared (Item : Type 0) : Type 0 where
 abbrev pub declared_by : {Item : Type 0} → Kind Item → ℕ → Class → List (Declared Item)
 declared_by kind level class = map (λ item. record { level = level; «package» = class.«package»; item = item }) (kind.items class.decl)
 
--- the declarations of classifiers of which the first stands at this level
-abbrev pub declared_from : {Item : Type 0} → Kind Item → ℕ → List Class → List (Declared Item)
-declared_from kind level [] = []
-declared_from kind level (class ∷ classes) = declared_by kind level class ++ declared_from kind (level + 1) classes
-
 -- The declarations of a chain, from the farthest classifier to the nearest, each in the order of its text.
 abbrev pub declarations : {Item : Type 0} → Kind Item → List Class → List (Declared Item)
-declarations kind classes = declared_from kind 0 classes
+declarations kind classes = numbered_from (declared_by kind) 0 classes
 
 -- ---- names
 
@@ -204,19 +199,25 @@ connection_limits member = refused_so (is_group_connection member.nearest.item.k
 
 -- ---- the group
 
+-- the members of a kind along a chain, farthest classifier first
+abbrev pub members_along : {Item : Type 0} → Kind Item → List Class → List (Member Item)
+members_along kind classes = members_of kind (marks_of kind (declarations kind classes)) (declarations kind classes)
+
 -- N5 and the limits of the members of a kind
 abbrev pub faults_of : {Item : Type 0} → Kind Item → (Member Item → List Refusal) → List Class → List Refusal
 faults_of kind limits classes =
-    let all = declarations kind classes in
-    unknown_members kind (marks_of kind all) all ++ flat_map limits (members_of kind (marks_of kind all) all)
+    unknown_members kind (marks_of kind (declarations kind classes)) (declarations kind classes) ++ flat_map limits (members_along kind classes)
 
--- the names of all kinds that are declared without `refined to`
-abbrev pub marks_in : List Class → List Mark
-marks_in classes =
-    marks_of features (declarations features classes) ++ (marks_of subcomponents (declarations subcomponents classes) ++ marks_of connections (declarations connections classes))
+-- the names of a kind that a chain declares without `refined to`
+abbrev pub marks_along : {Item : Type 0} → Kind Item → List Class → List Mark
+marks_along kind classes = marks_of kind (declarations kind classes)
+
+-- the names of all kinds that a chain declares without `refined to`
+abbrev pub all_marks : List Class → List Mark
+all_marks classes = (marks_along features classes ++ marks_along subcomponents classes) ++ marks_along connections classes
 
 -- The refusals of the members of a chain, farthest classifier first, are one group: N5, N6, P1 of bindings, P2 and P3.
 abbrev pub member_faults : List Class → List Refusal
 member_faults classes =
     faults_of features feature_limits classes
-    ++ (faults_of subcomponents subcomponent_limits classes ++ (faults_of connections connection_limits classes ++ duplicates (marks_in classes) (marks_in classes)))
+    ++ (faults_of subcomponents subcomponent_limits classes ++ (faults_of connections connection_limits classes ++ duplicates (all_marks classes) (all_marks classes)))

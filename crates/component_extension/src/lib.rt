@@ -4,6 +4,7 @@
 mod chain;
 mod classifier;
 mod declaration;
+mod limits;
 mod member;
 mod members;
 mod names;
@@ -12,5 +13,6 @@ mod rows;
 pub use chain::chain_of;
 pub use classifier::Classifier;
 pub use declaration::Declaration;
+pub use limits::Limited;
 pub use member::{Inherited, MemberKind};
 pub use rows::{KeyWords, Row};
