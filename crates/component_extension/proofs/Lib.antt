@@ -1,0 +1,4 @@
+pub mod ChainSteps
+pub mod RowLaws
+pub mod Loops
+pub mod Noting

@@ -1,0 +1,18 @@
+//! What a classifier of a package has once its extensions are followed: its chain, its members and its error model items.
+#![tactic(auto)]
+
+mod chain;
+mod classifier;
+mod declaration;
+mod limits;
+mod member;
+mod members;
+mod names;
+mod rows;
+
+pub use chain::chain_of;
+pub use classifier::Classifier;
+pub use declaration::Declaration;
+pub use limits::Limited;
+pub use member::{Inherited, MemberKind};
+pub use rows::{KeyWords, Row};
