@@ -17,18 +17,19 @@ use Rattle.aadl_syntax.proofs.OrderLaws.{first_alone}
 use Rattle.first_form.specs.Form.{IsFirstForm}
 use Rattle.first_form.proofs.OneForm.{one_form}
 use Rattle.fault_system.specs.Systems.{System, NamesDiffer}
+use Rattle.component_extension.specs.Chain.{Answers, chain_of}
 use Rattle.package_index.specs.Duplicates.{IsRefused, duplicates}
 use Rattle.aadl_syntax.specs.declared.core_model.PackageUnit.{PackageUnit}
 use Rattle.aadl_syntax.specs.declared.refusal.Place.TheVariants.{Words}
 use Rattle.package_index.specs.Lookup.{look_classifier, packages_of, refused_at}
 use Rattle.package_index.specs.declared.id.ClassifierId.{ClassifierId}
 use Rattle.phases.specs.Meets.{IsMemory}
-use Rattle.phases.specs.Phases.{Passes, Stops, answers, tests}
+use Rattle.phases.specs.Phases.{Passes, Stops, answers, computes, tests}
 use Rattle.phases.specs.Stopped.{status_of}
 use Rattle.phases.specs.declared.status.Status.TheVariants.{Refused}
-use Rattle.fta_run.specs.Due.{root_classifier}
+use Rattle.fta_run.specs.Due.{root_chain}
 use Rattle.fta_run.specs.Files.{of_words}
-use Rattle.fta_run.specs.Model.{AreOfForm, Form, HasDuplicate, IsFactNamed, LacksTarget, root_named}
+use Rattle.fta_run.specs.Model.{AreOfForm, Form, HasDuplicate, IsFactNamed, LacksTarget, chain_in, root_named}
 
 -- one file is of the form of its units
 form_of_one : {R : Type 0} (found : Option R) (shown : R → Form) (files : List (List FileUnit)) (units : List FileUnit) → files ≡ units ∷ []
@@ -72,7 +73,7 @@ one_form_of files a b h k =
 -- ---- the root
 
 -- the index of the files is refused
-pub index_stop : (files its : List (List FileUnit)) (root : Root) (why : Stop) → its ≡ files → IsRefused (duplicates (packages_of its)) why → Stops (root_classifier root files) (status_of why) ⊎ IsMemory (status_of why)
+pub index_stop : (files its : List (List FileUnit)) (root : Root) (why : Stop) → its ≡ files → IsRefused (duplicates (packages_of its)) why → Stops (root_chain root files) (status_of why) ⊎ IsMemory (status_of why)
 index_stop files its root (stop.Refused refusal) same first =
     inl (record { stopped = inl (refusal, subst (λ fs. IsFirst (HasDuplicate fs) refusal) same first, refl) })
 index_stop files its root stop.Memory same first = inr refl
@@ -91,6 +92,16 @@ pub root_is : (files its : List (List FileUnit)) (packages : List PackageUnit) (
     → root_named files root ≡ result
 root_is files its packages root result are same found =
     sym (found ∙ ap (λ (ps : List PackageUnit). refused_at Words (look_classifier ps None root.names root.item)) (are ∙ ap packages_of same))
+
+-- the chain is refused
+pub chain_stop : (files : List (List FileUnit)) (packages : List PackageUnit) (id : ClassifierId) (why : Stop) → packages ≡ packages_of files → Answers (chain_of packages id) (Err why) → Stops (computes (chain_in files id)) (status_of why) ⊎ IsMemory (status_of why)
+chain_stop files packages id (stop.Refused refusal) same is =
+    inl (record { stopped = (refusal, subst (λ (ps : List PackageUnit). chain_of ps id ≡ Err refusal) same is, refl) })
+chain_stop files packages id stop.Memory same is = inr refl
+
+-- the chain was made
+pub chain_is : (files : List (List FileUnit)) (packages : List PackageUnit) (id : ClassifierId) (chain : List ClassifierId) → packages ≡ packages_of files → chain_of packages id ≡ Ok chain → Passes (computes (chain_in files id)) chain
+chain_is files packages id chain same is = record { passed = subst (λ (ps : List PackageUnit). chain_of ps id ≡ Ok chain) same is }
 
 -- ---- the target
 

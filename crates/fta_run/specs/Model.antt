@@ -9,6 +9,7 @@ use Rattle.aadl_syntax.specs.declared.refusal.Place.TheVariants.{Words}
 use Rattle.aadl_syntax.specs.declared.refusal.Refusal.{Refusal}
 use Rattle.fault_system.specs.Systems.{System}
 use Rattle.fault_system.specs.declared.formula.FactInfo.{FactInfo}
+use Rattle.component_extension.specs.Chain.{chain_of}
 use Rattle.first_form.specs.Form.{IsFirstForm}
 use Rattle.package_index.specs.Duplicates.{duplicates}
 use Rattle.package_index.specs.Lookup.{look_classifier, packages_of, refused_at}
@@ -22,6 +23,10 @@ HasDuplicate files = Contains (duplicates (packages_of files))
 -- the classifier that the root names in the packages of the files; or N2, its package is not found, or N3, it is not
 abbrev pub root_named : List (List FileUnit) → Root → Result ClassifierId Refusal
 root_named files root = refused_at Words (look_classifier (packages_of files) None root.names root.item)
+
+-- the chain of a classifier of the files, or its refusal: N2, N3, N4 or P1
+abbrev pub chain_in : List (List FileUnit) → ClassifierId → Result (List ClassifierId) Refusal
+chain_in files = chain_of (packages_of files)
 
 -- the parts of units of the first form: the name of the package, the machine, and the classifier that uses it
 pub record Form : Type 0 where

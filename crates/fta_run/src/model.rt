@@ -4,12 +4,13 @@ ghost use Rattle.std.specs.Prelude.{◌↔◌, IfOk, IsTrue, MatchOption};
 ghost use Rattle.phases.specs.Meets.{IsMemory, Meets, MeetsBut};
 ghost use Rattle.phases.specs.Phases.{answers, finds};
 ghost use Rattle.phases.specs.declared.status.Status.TheVariants.{NotYet};
-ghost use Rattle.fta_run.specs.Due.{root_classifier, system_at};
+ghost use Rattle.fta_run.specs.Due.{root_chain, system_at};
 ghost use Rattle.fta_run.specs.Model.{AreOfForm, IsFactNamed, LacksTarget};
 ghost use Rattle.fta_run.specs.Shown.{form_shown};
 
 use crate::input::{Texts, of_words, units_of_texts};
 use aadl_syntax::{Code, List, Mem, Name, Root, Unit, is_same};
+use component_extension::chain_of;
 use fault_system::FaultSystem;
 use first_form::{FirstForm, first_form, system_of};
 use package_index::{ClassifierId, Index};
@@ -27,13 +28,18 @@ pub fn system_at(alloc: Global, root: &Root, texts: &Texts) -> Result<FaultSyste
     Ok(system)
 }
 
-/// The classifier of a root in files in which nothing is declared again.
-fn find_root(alloc: Global, files: &List<List<Unit>>, root: &Root) -> Result<ClassifierId, Status>
-    ensures { Meets (root_classifier root.now files.now) result }
+/// The chain of the classifier of a root in files in which nothing is declared again.
+fn find_root(
+    alloc: Global,
+    files: &List<List<Unit>>,
+    root: &Root,
+) -> Result<List<ClassifierId>, Status>
+    ensures { Meets (root_chain root.now files.now) result }
 {
     let index = Index::new(alloc, files.items())?;
     let id = index.root(root)?;
-    Ok(id)
+    let chain = chain_of(alloc, &index, id)?;
+    Ok(chain)
 }
 
 /// The form of the units of the files, where there is one file and it is of the first form.
