@@ -1,5 +1,5 @@
 -- The root in the files, the first form of their units, and the target.
-use Rattle.std.proofs.Common.{◌≡◌, ◌<◌, ◌≤◌, ◌⊎◌, inl, inr, Contains, List, ℕ, [], ◌∷◌, length, get_or, map, Option, Some, None, MatchOption, Result, Ok, Err, IfOk, refl, sym, ap, subst, ◌∙◌, arith}
+use Rattle.std.proofs.Common.{◌≡◌, ◌<◌, ◌≤◌, ◌⊎◌, inl, inr, List, ℕ, [], ◌∷◌, length, get_or, map, Option, Some, None, MatchOption, Result, Ok, Err, IfOk, refl, sym, ap, subst, ◌∙◌, arith}
 use Rattle.std.proofs.lemmas.Bool.{cases_lt}
 use Rattle.std.proofs.lemmas.Option.{slice_get_within, get_or_from_slice_get}
 use Rattle.std.proofs.lemmas.List.{get_or-map}
@@ -12,13 +12,13 @@ use Rattle.aadl_syntax.specs.declared.refusal.Code.TheVariants.{UnknownTarget}
 use Rattle.aadl_syntax.specs.declared.refusal.Refusal.{Refusal}
 use Rattle.aadl_syntax.specs.declared.refusal.Stop.{Stop}
 use Rattle.aadl_syntax.specs.declared.refusal.Stop.TheVariants as stop
-use Rattle.aadl_syntax.specs.Order.{IsFirst}
+use Rattle.aadl_syntax.specs.Order.{IsClear, IsFirst}
 use Rattle.aadl_syntax.proofs.OrderLaws.{first_alone}
 use Rattle.first_form.specs.Form.{IsFirstForm}
 use Rattle.first_form.proofs.OneForm.{one_form}
 use Rattle.fault_system.specs.Systems.{System, NamesDiffer}
 use Rattle.component_extension.specs.Chain.{Answers, chain_of}
-use Rattle.package_index.specs.Duplicates.{IsRefused, duplicates}
+use Rattle.package_index.specs.Duplicates.{IsDuplicate, IsRefused}
 use Rattle.aadl_syntax.specs.declared.core_model.PackageUnit.{PackageUnit}
 use Rattle.aadl_syntax.specs.declared.refusal.Place.TheVariants.{Words}
 use Rattle.package_index.specs.Lookup.{look_classifier, packages_of, refused_at}
@@ -73,19 +73,14 @@ one_form_of files a b h k =
 -- ---- the root
 
 -- the index of the files is refused
-pub index_stop : (files its : List (List FileUnit)) (root : Root) (why : Stop) → its ≡ files → IsRefused (duplicates (packages_of its)) why → Stops (root_chain root files) (status_of why) ⊎ IsMemory (status_of why)
+pub index_stop : (files its : List (List FileUnit)) (root : Root) (why : Stop) → its ≡ files → IsRefused (IsDuplicate (packages_of its)) why → Stops (root_chain root files) (status_of why) ⊎ IsMemory (status_of why)
 index_stop files its root (stop.Refused refusal) same first =
     inl (record { stopped = inl (refusal, subst (λ fs. IsFirst (HasDuplicate fs) refusal) same first, refl) })
 index_stop files its root stop.Memory same first = inr refl
 
 -- nothing is declared again
-pub no_duplicate : (files its : List (List FileUnit)) → its ≡ files → duplicates (packages_of its) ≡ [] → Passes (tests (HasDuplicate files)) (tt {0})
-no_duplicate files its same none =
-    let here : duplicates (packages_of files) ≡ [] = ap (λ fs. duplicates (packages_of fs)) (sym same) ∙ none in
-    record { passed = λ refusal stands. absurd (none_there refusal (subst (λ group. Contains group refusal) here stands)) }
-  where
-    none_there : (refusal : Refusal) → Contains [] refusal → ⊥
-    none_there refusal c = omega (arith, c.1)
+pub no_duplicate : (files its : List (List FileUnit)) → its ≡ files → IsClear (IsDuplicate (packages_of its)) → Passes (tests (HasDuplicate files)) (tt {0})
+no_duplicate files its same clear = record { passed = subst (λ fs. IsClear (HasDuplicate fs)) same clear }
 
 -- what is looked up in the index is what the root names
 pub root_is : (files its : List (List FileUnit)) (packages : List PackageUnit) (root : Root) (result : Result ClassifierId Refusal) → packages ≡ packages_of its → its ≡ files → result ≡ refused_at Words (look_classifier packages None root.names root.item)

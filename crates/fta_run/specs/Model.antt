@@ -1,5 +1,5 @@
 -- The root in the packages of the files, the form of their units, and the target.
-use Rattle.std.specs.Prelude.{◌≡◌, ℕ, List, [], ◌∷◌, Contains, None, Some, Result, slice_get}
+use Rattle.std.specs.Prelude.{◌≡◌, ℕ, List, [], ◌∷◌, None, Some, Result, slice_get}
 use Rattle.aadl_syntax.specs.declared.core_model.Decl.{Decl}
 use Rattle.aadl_syntax.specs.declared.core_model.Unit.{Unit as FileUnit}
 use Rattle.aadl_syntax.specs.declared.error_model.MachineDecl.{MachineDecl}
@@ -11,14 +11,14 @@ use Rattle.fault_system.specs.Systems.{System}
 use Rattle.fault_system.specs.declared.formula.FactInfo.{FactInfo}
 use Rattle.component_extension.specs.Chain.{chain_of}
 use Rattle.first_form.specs.Form.{IsFirstForm}
-use Rattle.package_index.specs.Duplicates.{duplicates}
+use Rattle.package_index.specs.Duplicates.{IsDuplicate}
 use Rattle.package_index.specs.Lookup.{look_classifier, packages_of, refused_at}
 use Rattle.package_index.specs.declared.id.ClassifierId.{ClassifierId}
 use Rattle.fta_run.specs.Files.{of_words}
 
 -- N1: a package of a name, or a classifier of a name in a package, is declared again.
 abbrev pub HasDuplicate : List (List FileUnit) → Refusal → Type 0
-HasDuplicate files = Contains (duplicates (packages_of files))
+HasDuplicate files = IsDuplicate (packages_of files)
 
 -- the classifier that the root names in the packages of the files; or N2, its package is not found, or N3, it is not
 abbrev pub root_named : List (List FileUnit) → Root → Result ClassifierId Refusal

@@ -13,19 +13,19 @@ returns-in_err-index c =
 
 pub returns-in_err-id : goal.returns-in_err-id
 returns-in_err-id c =
-    let named = root_is c.args.files.now c.items.result.now c.in_ok-index.index c.args.root.now c.root.result c.in_ok-index.ensures.packages c.items.ensures.items c.root.ensures in
+    let named = root_is c.args.files.now c.items.result.now c.in_ok-index.index c.args.root.now c.root.result c.in_ok-index.ensures.packages c.items.ensures.items c.root.ensures.found in
     exits _ _ (root_chain c.args.root.now c.args.files.now) (Refused c.in_err-id.field-0.0) c.from_residual-in_err-id.result c.from_residual-in_err-id.ensures.1
     (no_duplicate c.args.files.now c.items.result.now c.items.ensures.items c.in_ok-index.ensures.accepted beyond ends (not_computed (named ∙ c.in_err-id.was)))
 
 pub returns-in_err-chain : goal.returns-in_err-chain
 returns-in_err-chain c =
-    let named = root_is c.args.files.now c.items.result.now c.in_ok-index.index c.args.root.now c.root.result c.in_ok-index.ensures.packages c.items.ensures.items c.root.ensures in
+    let named = root_is c.args.files.now c.items.result.now c.in_ok-index.index c.args.root.now c.root.result c.in_ok-index.ensures.packages c.items.ensures.items c.root.ensures.found in
     exits _ _ (root_chain c.args.root.now c.args.files.now) (status_of c.in_err-chain.field-0.0) c.from_residual-in_err-chain.result c.from_residual-in_err-chain.ensures.1
     (no_duplicate c.args.files.now c.items.result.now c.items.ensures.items c.in_ok-index.ensures.accepted beyond computed (named ∙ c.in_ok-id.was)
     beyond chain_stop c.args.files.now c.in_ok-index.index c.in_ok-id.id c.in_err-chain.field-0.0 (c.in_ok-index.ensures.packages ∙ ap packages_of c.items.ensures.items) c.in_err-chain.ensures)
 
 pub returns : goal.returns
 returns c =
-    let named = root_is c.args.files.now c.items.result.now c.in_ok-index.index c.args.root.now c.root.result c.in_ok-index.ensures.packages c.items.ensures.items c.root.ensures in
+    let named = root_is c.args.files.now c.items.result.now c.in_ok-index.index c.args.root.now c.root.result c.in_ok-index.ensures.packages c.items.ensures.items c.root.ensures.found in
     no_duplicate c.args.files.now c.items.result.now c.items.ensures.items c.in_ok-index.ensures.accepted passes computed (named ∙ c.in_ok-id.was)
     passes chain_is c.args.files.now c.in_ok-index.index c.in_ok-id.id c.in_ok-chain.chain (c.in_ok-index.ensures.packages ∙ ap packages_of c.items.ensures.items) c.in_ok-chain.ensures
