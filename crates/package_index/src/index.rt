@@ -10,7 +10,7 @@ ghost use Rattle.package_index.specs.Tables.{Gathered, Knows, has_words, same_wo
 use crate::id::ClassifierId;
 use crate::package::{Package, note_again, place_of};
 use crate::table::add;
-use crate::words::Words;
+use crate::words::{Words, text_of};
 use aadl_syntax::{
     Answer, Code, Decl, FirstRefusal, Identifier, List, Mem, Name, PackageUnit, Place, Ref,
     Refusal, Root, Unit,
@@ -221,15 +221,6 @@ fn refused_at(place: Place, found: Result<ClassifierId, Code>) -> Result<Classif
             place,
             limit: 0,
         }),
-    }
-}
-
-fn text_of(item: &Option<Identifier>) -> Option<&[u8]>
-    ensures { option_copied result ≡ item.now }
-{
-    match item {
-        Some(item) => Some(item.text()),
-        None => None,
     }
 }
 

@@ -71,6 +71,16 @@ impl<'a> Words<'a> {
     }
 }
 
+/// The text of an identifier that may be left out.
+pub(crate) fn text_of(item: &Option<Identifier>) -> Option<&[u8]>
+    ensures { option_copied result ≡ item.now }
+{
+    match item {
+        Some(item) => Some(item.text()),
+        None => None,
+    }
+}
+
 fn all_but_last<T>(items: &[T]) -> &[T]
     ensures { result.now ≡ take (length items.now - 1) items.now }
 {
