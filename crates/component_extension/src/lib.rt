@@ -4,6 +4,8 @@
 mod chain;
 mod classifier;
 mod declaration;
+mod effective;
+mod items;
 mod limits;
 mod member;
 mod members;
@@ -13,6 +15,8 @@ mod rows;
 pub use chain::chain_of;
 pub use classifier::Classifier;
 pub use declaration::Declaration;
+pub use effective::{Members, effective_members};
+pub use items::{ClauseItem, ClauseText, InClause};
 pub use limits::Limited;
 pub use member::{Inherited, MemberKind};
 pub use rows::{KeyWords, Row};
