@@ -1,13 +1,16 @@
 -- The error model items of a classifier (EMV2: subclauses along `extends`).
-use Rattle.std.specs.Prelude.{ℕ, Bool, false, List, [], ◌∷◌, map, flat_map, fold, reverse, Option, Some, None, option_map, option_to_list}
+use Rattle.std.specs.Prelude.{ℕ, Bool, false, List, [], ◌∷◌, map, flat_map, fold, reverse, Option, Some, None, option_map, option_to_list, Result, Ok, Err}
 use Rattle.std.specs.Option.{option_or}
 use Rattle.aadl_syntax.specs.declared.core_model.PackageUnit.{PackageUnit}
 use Rattle.aadl_syntax.specs.declared.error_model.Emv2Clause.{Emv2Clause}
 use Rattle.aadl_syntax.specs.declared.error_model.PointItem.{PointItem}
 use Rattle.aadl_syntax.specs.declared.place.Ref.{Ref}
+use Rattle.aadl_syntax.specs.declared.place.Spot.{Spot}
+use Rattle.aadl_syntax.specs.declared.refusal.Refusal.{Refusal}
 use Rattle.package_index.specs.declared.id.ClassifierId.{ClassifierId}
 use Rattle.package_index.specs.Lookup.{decl_of}
-use Rattle.component_extension.specs.Members.{Class}
+use Rattle.component_extension.specs.Chain.{chain_of}
+use Rattle.component_extension.specs.Members.{Class, member_faults}
 use Rattle.component_extension.specs.Rows.{Key, named, numbered_from, put}
 
 -- ---- the classifiers and their clauses
@@ -64,3 +67,18 @@ machine_by scope clause = map (λ name. record { scope = scope; item = name }) (
 -- The machine of the nearest clause that uses one: the last of them.
 abbrev pub machine_of : List Clause → Option (Scoped Ref)
 machine_of clauses = fold (λ before machine. Some machine) None (numbered_from machine_by 0 clauses)
+
+-- the places of one sort in these clauses
+abbrev pub spots_of : (Emv2Clause → List Spot) → List Clause → List Spot
+spots_of spots clauses = flat_map (λ clause. spots clause.clause) clauses
+
+-- ---- refusals
+
+-- the refusals of a chain, or those of its members
+abbrev pub faults_along : List PackageUnit → Result (List ClassifierId) Refusal → List Refusal
+faults_along packages (Err refusal) = refusal ∷ []
+faults_along packages (Ok chain) = member_faults (classes_of packages chain)
+
+-- The refusals of a classifier of an index: the first fault of its chain, or else all those of its members.
+abbrev pub classifier_faults : List PackageUnit → ClassifierId → List Refusal
+classifier_faults packages id = faults_along packages (chain_of packages id)
