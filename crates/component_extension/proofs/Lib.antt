@@ -2,3 +2,4 @@ pub mod ChainSteps
 pub mod RowLaws
 pub mod Loops
 pub mod Noting
+pub mod MemberLaws

@@ -4,6 +4,9 @@
 mod chain;
 mod classifier;
 mod declaration;
+mod effective;
+mod error_model;
+mod items;
 mod limits;
 mod member;
 mod members;
@@ -11,8 +14,11 @@ mod names;
 mod rows;
 
 pub use chain::chain_of;
-pub use classifier::Classifier;
+pub use classifier::{Classifier, classifiers_of};
 pub use declaration::Declaration;
+pub use effective::{Members, effective_members};
+pub use error_model::{Behavior, OtherItems, Propagations, behavior_of, machine_of, other_items_of, propagations_of};
+pub use items::{ClauseItem, ClauseText, InClause};
 pub use limits::Limited;
 pub use member::{Inherited, MemberKind};
 pub use rows::{KeyWords, Row};

@@ -1,0 +1,84 @@
+-- The error model items of a classifier (EMV2: subclauses along `extends`).
+use Rattle.std.specs.Prelude.{ℕ, Bool, false, List, [], ◌∷◌, map, flat_map, fold, reverse, Option, Some, None, option_map, option_to_list, Result, Ok, Err}
+use Rattle.std.specs.Option.{option_or}
+use Rattle.aadl_syntax.specs.declared.core_model.PackageUnit.{PackageUnit}
+use Rattle.aadl_syntax.specs.declared.error_model.Emv2Clause.{Emv2Clause}
+use Rattle.aadl_syntax.specs.declared.error_model.PointItem.{PointItem}
+use Rattle.aadl_syntax.specs.declared.place.Ref.{Ref}
+use Rattle.aadl_syntax.specs.declared.place.Spot.{Spot}
+use Rattle.aadl_syntax.specs.declared.refusal.Refusal.{Refusal}
+use Rattle.package_index.specs.declared.id.ClassifierId.{ClassifierId}
+use Rattle.package_index.specs.Lookup.{decl_of}
+use Rattle.component_extension.specs.Chain.{chain_of}
+use Rattle.component_extension.specs.Members.{Class, member_faults}
+use Rattle.component_extension.specs.Rows.{Key, named, numbered_from, put}
+
+-- ---- the classifiers and their clauses
+
+-- the classifier of a number in the index
+abbrev pub class_of : List PackageUnit → ClassifierId → List Class
+class_of packages id = option_to_list (option_map (λ decl. record { «package» = id.«package»; decl = decl }) (decl_of packages id))
+
+-- the classifiers of a chain, the farthest first
+abbrev pub classes_of : List PackageUnit → List ClassifierId → List Class
+classes_of packages chain = flat_map (class_of packages) (reverse chain)
+
+-- A clause: its package, and its text with its own `use types`. The names of its items are read there.
+pub record Clause : Type 0 where
+  pub «package» : ℕ
+  pub clause : Emv2Clause
+
+-- the clauses of a classifier
+abbrev pub clauses_in : Class → List Clause
+clauses_in class = map (λ clause. record { «package» = class.«package»; clause = clause }) class.decl.clauses
+
+-- The clauses of a chain, from the farthest classifier to the nearest, each in the order of its text.
+abbrev pub clauses_of : List Class → List Clause
+clauses_of classes = flat_map clauses_in classes
+
+-- ---- items
+
+-- An item, and the number of its clause.
+pub record Scoped (Item : Type 0) : Type 0 where
+  pub scope : ℕ
+  pub item : Item
+
+-- the items of a clause of this number
+abbrev pub scoped_by : {Item : Type 0} → (Emv2Clause → List Item) → ℕ → Clause → List (Scoped Item)
+scoped_by items scope clause = map (λ item. record { scope = scope; item = item }) (items clause.clause)
+
+-- The items of a kind in these clauses: a later item takes the place of the earlier one of its key, and an item without
+-- a key goes last.
+abbrev pub gathered : {Item : Type 0} → (Emv2Clause → List Item) → (Item → Option Key) → List Clause → List (Scoped Item)
+gathered items key clauses = fold (put (λ scoped. key scoped.item)) [] (numbered_from (scoped_by items) 0 clauses)
+
+-- the key of a name, if there is one
+abbrev pub perhaps_named : Option (List ℕ) → Option Key
+perhaps_named name = option_map named name
+
+-- the key of a propagation: its point, its direction, and whether it is a `not`
+abbrev pub point_key : PointItem → Option Key
+point_key item = Some (record { names = item.point.names; outward = item.outward; negative = item.negative })
+
+-- the machine that a clause uses, if it uses one, and else that of the clauses before it
+abbrev pub machine_by : ℕ → Clause → List (Scoped Ref)
+machine_by scope clause = map (λ name. record { scope = scope; item = name }) (option_to_list clause.clause.machine)
+
+-- The machine of the nearest clause that uses one: the last of them.
+abbrev pub machine_of : List Clause → Option (Scoped Ref)
+machine_of clauses = fold (λ before machine. Some machine) None (numbered_from machine_by 0 clauses)
+
+-- the places of one sort in these clauses
+abbrev pub spots_of : (Emv2Clause → List Spot) → List Clause → List Spot
+spots_of spots clauses = flat_map (λ clause. spots clause.clause) clauses
+
+-- ---- refusals
+
+-- the refusals of a chain, or those of its members
+abbrev pub faults_along : List PackageUnit → Result (List ClassifierId) Refusal → List Refusal
+faults_along packages (Err refusal) = refusal ∷ []
+faults_along packages (Ok chain) = member_faults (classes_of packages chain)
+
+-- The refusals of a classifier of an index: the first fault of its chain, or else all those of its members.
+abbrev pub classifier_faults : List PackageUnit → ClassifierId → List Refusal
+classifier_faults packages id = faults_along packages (chain_of packages id)
