@@ -1,4 +1,4 @@
-ghost use Rattle.std.specs.Prelude.{◌≡◌, ◌++◌, [], IfOk, IfErr, OnOk};
+ghost use Rattle.std.specs.Prelude.{◌≡◌, ◌++◌, [], Contains, IfOk, IfErr, OnOk};
 ghost use Rattle.aadl_syntax.specs.Order.{least, nearer};
 ghost use Rattle.package_index.specs.Duplicates.{IsRefused};
 ghost use Rattle.component_extension.specs.Members.{connections, faults_of, features, marks_along, member_faults, members_along, subcomponents};
@@ -30,7 +30,7 @@ pub fn effective_members<'a>(alloc: Global, classifiers: &[Classifier<'a>]) -> A
     ensures subcomponents { IfOk result (λ members. members.subcomponents ≡ members_along subcomponents classifiers.now) }
     ensures connections { IfOk result (λ members. members.connections ≡ members_along connections classifiers.now) }
     ensures accepted { OnOk result (member_faults classifiers.now ≡ []) }
-    ensures refused { IfErr result (IsRefused (member_faults classifiers.now)) }
+    ensures refused { IfErr result (IsRefused (Contains (member_faults classifiers.now))) }
 {
     let mut first = FirstRefusal::new();
     let mut marks = Vec::new(alloc);

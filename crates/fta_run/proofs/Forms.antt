@@ -1,5 +1,5 @@
 -- The root in the files, the first form of their units, and the target.
-use Rattle.std.proofs.Common.{◌≡◌, ◌<◌, ◌≤◌, ◌⊎◌, inl, inr, List, ℕ, [], ◌∷◌, length, get_or, map, Option, Some, None, MatchOption, Result, Ok, Err, IfOk, refl, sym, ap, subst, ◌∙◌, arith}
+use Rattle.std.proofs.Common.{◌≡◌, ◌<◌, ◌≤◌, ◌⊎◌, inl, inr, Contains, List, ℕ, [], ◌∷◌, length, get_or, map, Option, Some, None, MatchOption, Result, Ok, Err, IfOk, refl, sym, ap, subst, ◌∙◌, arith}
 use Rattle.std.proofs.lemmas.Bool.{cases_lt}
 use Rattle.std.proofs.lemmas.Option.{slice_get_within, get_or_from_slice_get}
 use Rattle.std.proofs.lemmas.List.{get_or-map}
@@ -18,6 +18,8 @@ use Rattle.first_form.specs.Form.{IsFirstForm}
 use Rattle.first_form.proofs.OneForm.{one_form}
 use Rattle.fault_system.specs.Systems.{System, NamesDiffer}
 use Rattle.component_extension.specs.Chain.{Answers, chain_of}
+use Rattle.component_extension.specs.Items.{classes_of}
+use Rattle.component_extension.specs.Members.{Class, member_faults}
 use Rattle.package_index.specs.Duplicates.{IsDuplicate, IsRefused}
 use Rattle.aadl_syntax.specs.declared.core_model.PackageUnit.{PackageUnit}
 use Rattle.aadl_syntax.specs.declared.refusal.Place.TheVariants.{Words}
@@ -27,9 +29,9 @@ use Rattle.phases.specs.Meets.{IsMemory}
 use Rattle.phases.specs.Phases.{Passes, Stops, answers, computes, tests}
 use Rattle.phases.specs.Stopped.{status_of}
 use Rattle.phases.specs.declared.status.Status.TheVariants.{Refused}
-use Rattle.fta_run.specs.Due.{root_chain}
+use Rattle.fta_run.specs.Due.{root_tests}
 use Rattle.fta_run.specs.Files.{of_words}
-use Rattle.fta_run.specs.Model.{AreOfForm, Form, HasDuplicate, IsFactNamed, LacksTarget, chain_in, root_named}
+use Rattle.fta_run.specs.Model.{AreOfForm, Form, HasDuplicate, HasMemberFault, IsFactNamed, LacksTarget, chain_in, root_named}
 
 -- one file is of the form of its units
 form_of_one : {R : Type 0} (found : Option R) (shown : R → Form) (files : List (List FileUnit)) (units : List FileUnit) → files ≡ units ∷ []
@@ -73,7 +75,7 @@ one_form_of files a b h k =
 -- ---- the root
 
 -- the index of the files is refused
-pub index_stop : (files its : List (List FileUnit)) (root : Root) (why : Stop) → its ≡ files → IsRefused (IsDuplicate (packages_of its)) why → Stops (root_chain root files) (status_of why) ⊎ IsMemory (status_of why)
+pub index_stop : (files its : List (List FileUnit)) (root : Root) (why : Stop) → its ≡ files → IsRefused (IsDuplicate (packages_of its)) why → Stops (root_tests root files) (status_of why) ⊎ IsMemory (status_of why)
 index_stop files its root (stop.Refused refusal) same first =
     inl (record { stopped = inl (refusal, subst (λ fs. IsFirst (HasDuplicate fs) refusal) same first, refl) })
 index_stop files its root stop.Memory same first = inr refl
@@ -97,6 +99,22 @@ chain_stop files packages id stop.Memory same is = inr refl
 -- the chain was made
 pub chain_is : (files : List (List FileUnit)) (packages : List PackageUnit) (id : ClassifierId) (chain : List ClassifierId) → packages ≡ packages_of files → chain_of packages id ≡ Ok chain → Passes (computes (chain_in files id)) chain
 chain_is files packages id chain same is = record { passed = subst (λ (ps : List PackageUnit). chain_of ps id ≡ Ok chain) same is }
+
+-- the members are refused
+pub members_stop : (files : List (List FileUnit)) (packages : List PackageUnit) (chain its : List ClassifierId) (classes given : List Class) (why : Stop) → packages ≡ packages_of files → its ≡ chain → classes ≡ classes_of packages its → given ≡ classes → IsRefused (Contains (member_faults given)) why
+    → Stops (tests (HasMemberFault files chain)) (status_of why) ⊎ IsMemory (status_of why)
+members_stop files packages chain its classes given (stop.Refused refusal) same same_chain are same_given first =
+    inl (record { stopped = (refusal, subst (λ (cs : List Class). IsFirst (Contains (member_faults cs)) refusal) (same_given ∙ are ∙ ap (classes_of packages) same_chain ∙ ap (λ (ps : List PackageUnit). classes_of ps chain) same) first, refl) })
+members_stop files packages chain its classes given stop.Memory same same_chain are same_given first = inr refl
+
+-- the members are right
+pub members_right : (files : List (List FileUnit)) (packages : List PackageUnit) (chain its : List ClassifierId) (classes given : List Class) → packages ≡ packages_of files → its ≡ chain → classes ≡ classes_of packages its → given ≡ classes → member_faults given ≡ [] → Passes (tests (HasMemberFault files chain)) (tt {0})
+members_right files packages chain its classes given same same_chain are same_given none =
+    let all : member_faults (classes_of (packages_of files) chain) ≡ [] = ap member_faults (sym (same_given ∙ are ∙ ap (classes_of packages) same_chain ∙ ap (λ (ps : List PackageUnit). classes_of ps chain) same)) ∙ none in
+    record { passed = λ refusal stands. absurd (none_there refusal (subst (λ group. Contains group refusal) all stands)) }
+  where
+    none_there : (refusal : Refusal) → Contains [] refusal → ⊥
+    none_there refusal c = omega (arith, c.1)
 
 -- ---- the target
 

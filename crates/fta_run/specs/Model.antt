@@ -1,5 +1,5 @@
 -- The root in the packages of the files, the form of their units, and the target.
-use Rattle.std.specs.Prelude.{◌≡◌, ℕ, List, [], ◌∷◌, None, Some, Result, slice_get}
+use Rattle.std.specs.Prelude.{◌≡◌, ℕ, List, [], ◌∷◌, Contains, None, Some, Result, slice_get}
 use Rattle.aadl_syntax.specs.declared.core_model.Decl.{Decl}
 use Rattle.aadl_syntax.specs.declared.core_model.Unit.{Unit as FileUnit}
 use Rattle.aadl_syntax.specs.declared.error_model.MachineDecl.{MachineDecl}
@@ -10,6 +10,8 @@ use Rattle.aadl_syntax.specs.declared.refusal.Refusal.{Refusal}
 use Rattle.fault_system.specs.Systems.{System}
 use Rattle.fault_system.specs.declared.formula.FactInfo.{FactInfo}
 use Rattle.component_extension.specs.Chain.{chain_of}
+use Rattle.component_extension.specs.Items.{classes_of}
+use Rattle.component_extension.specs.Members.{member_faults}
 use Rattle.first_form.specs.Form.{IsFirstForm}
 use Rattle.package_index.specs.Duplicates.{IsDuplicate}
 use Rattle.package_index.specs.Lookup.{look_classifier, packages_of, refused_at}
@@ -27,6 +29,10 @@ root_named files root = refused_at Words (look_classifier (packages_of files) No
 -- the chain of a classifier of the files, or its refusal: N2, N3, N4 or P1
 abbrev pub chain_in : List (List FileUnit) → ClassifierId → Result (List ClassifierId) Refusal
 chain_in files = chain_of (packages_of files)
+
+-- A refusal of the members along a chain of classifiers of the files: N5, N6, P1, P2 or P3.
+abbrev pub HasMemberFault : List (List FileUnit) → List ClassifierId → Refusal → Type 0
+HasMemberFault files chain = Contains (member_faults (classes_of (packages_of files) chain))
 
 -- the parts of units of the first form: the name of the package, the machine, and the classifier that uses it
 pub record Form : Type 0 where
