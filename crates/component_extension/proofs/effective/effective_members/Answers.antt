@@ -18,7 +18,7 @@ returns-in_err-settle-clause-refused c =
         c.in_ok-features.ensures.first c.in_ok-subcomponents.ensures.first c.in_ok-connections.ensures.first (c.note_duplicates.ensures ∙ ap (λ all. nearer c.members_along-3.new.first (least (duplicates all all))) marks) in
     let first = subst (λ o. MatchOption o (group ≡ []) (λ refusal. IsFirst (Contains group) refusal)) c.in_err-settle.ensures settled in
     let p = err_from_is_err_and c.from_residual-in_err-settle.result c.from_residual-in_err-settle.ensures.1 in
-    subst (λ r. IfErr r (IsRefused group)) (sym (p.1 ∙ ap Err p.2)) first
+    subst (λ r. IfErr r (IsRefused (Contains group))) (sym (p.1 ∙ ap Err p.2)) first
 
 pub returns-clause-accepted : goal.returns-clause-accepted
 returns-clause-accepted c =
