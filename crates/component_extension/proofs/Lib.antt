@@ -3,3 +3,4 @@ pub mod RowLaws
 pub mod Loops
 pub mod Noting
 pub mod MemberLaws
+pub mod EffectiveLaws
