@@ -1,5 +1,5 @@
 -- The refusals of a classifier, where its chain is refused.
-use Rattle.std.proofs.Common.{◌≡◌, List, [], ◌∷◌, Contains, Err, sym, ap, subst}
+use Rattle.std.proofs.Common.{List, [], ◌∷◌, Contains, Err, sym, ap, subst}
 use Rattle.aadl_syntax.specs.declared.core_model.PackageUnit.{PackageUnit}
 use Rattle.aadl_syntax.specs.declared.refusal.Stop.{Stop}
 use Rattle.aadl_syntax.specs.declared.refusal.Stop.TheVariants.{Memory, Refused}

@@ -1,9 +1,9 @@
 -- The refusals of the members of a chain, noted kind after kind.
-use Rattle.std.proofs.Common.{◌≡◌, List, [], ◌++◌, flat_map, Option, None, Contains, MatchOption, sym, ap, ◌∙◌}
+use Rattle.std.proofs.Common.{◌≡◌, List, [], ◌++◌, flat_map, Option, None, Contains, MatchOption, ap, ◌∙◌}
 use Rattle.aadl_syntax.specs.declared.refusal.Refusal.{Refusal}
 use Rattle.aadl_syntax.specs.Order.{IsFirst, least, nearer}
 use Rattle.aadl_syntax.proofs.OrderLaws.{noted-all, noted-more}
-use Rattle.component_extension.specs.Members.{Class, Declared, Kind, Mark, Member, declarations, duplicates, faults_of, marks_along, marks_of, members_along, members_of, unknown_members}
+use Rattle.component_extension.specs.Members.{Class, Declared, Kind, Mark, Member, declarations, faults_of, marks_along, marks_of, members_along, members_of, unknown_members}
 
 module _ {Item : Type 0} (kind : Kind Item) (classes : List Class) (all : List (Declared Item)) (names : List Mark) (members : List (Member Item)) (all_is : all ≡ declarations kind classes) (names_are : names ≡ marks_of kind all)
     (made : members ≡ members_of kind names all) where
@@ -23,4 +23,4 @@ pub four-noted : (a b c d : List Refusal) (none f g h last : Option Refusal) →
     → MatchOption last (a ++ (b ++ (c ++ d)) ≡ []) (λ refusal. IsFirst (Contains (a ++ (b ++ (c ++ d)))) refusal)
 four-noted a b c d none f g h last start one two three four =
     noted-all last (a ++ (b ++ (c ++ d)))
-        (four ∙ noted-more g h c d three ∙ noted-more f g b (c ++ d) two ∙ noted-more none f a (b ++ (c ++ d)) one ∙ ap (λ before. nearer before (least (a ++ (b ++ (c ++ d))))) start)
+    (four ∙ noted-more g h c d three ∙ noted-more f g b (c ++ d) two ∙ noted-more none f a (b ++ (c ++ d)) one ∙ ap (λ before. nearer before (least (a ++ (b ++ (c ++ d))))) start)

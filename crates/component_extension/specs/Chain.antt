@@ -60,7 +60,7 @@ is_same_sort decl reference = beq (is_some decl.item) (is_some reference.item)
 abbrev pub tested : List ClassifierId → Decl → Ref → ClassifierId → Result (Option ClassifierId) Refusal
 tested chain decl reference base =
     refused_if (not (is_same_sort decl reference)) UnknownClassifier reference.spot
-        (refused_if (is_among chain base) CyclicExtends reference.spot (refused_where decl.binds Prototype (Ok (Some base))))
+    (refused_if (is_among chain base) CyclicExtends reference.spot (refused_where decl.binds Prototype (Ok (Some base))))
 
 -- The classifier that a declaration extends, if any, where the chain so far ends at the declaration. Its name is looked
 -- up in the package of the declaration: N2 or N3 where it means none.

@@ -7,11 +7,11 @@ ghost use Rattle.component_extension.specs.Members.{faults_of, marks_along, memb
 
 use crate::chain::chain_of;
 use crate::classifier::{Classifier, classifiers_of};
+use crate::declaration::PlainName;
 use crate::error_model::{
     Behavior, OtherItems, Propagations, behavior_of, machine_of, other_items_of, propagations_of,
 };
 use crate::items::{ClauseText, InClause, clauses_of};
-use crate::declaration::PlainName;
 use crate::limits::{Limited, note_all};
 use crate::member::Inherited;
 use crate::members::{declarations, members_of, note_unknown};

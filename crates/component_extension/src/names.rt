@@ -38,11 +38,7 @@ fn add_mark<'a, M: MemberKind>(
 {
     let item = declaration.item();
     if !item.is_refined() {
-        marks.push(PlainName::new(
-            item.name().text(),
-            declaration.level(),
-            item.spot(),
-        ))?;
+        marks.push(PlainName::new(item.name().text(), declaration.level(), item.spot()))?;
     }
     Ok(())
 }

@@ -21,11 +21,7 @@ pub trait Row {
 pub(crate) fn named(name: &Identifier) -> KeyWords<'_>
     ensures { key_of_words result ≡ named name.now }
 {
-    (
-        Words::Identifiers(std::slice::from_ref(name)),
-        false,
-        false,
-    )
+    (Words::Identifiers(std::slice::from_ref(name)), false, false)
 }
 
 /// Puts a row at the place of the row of its key, or else last.

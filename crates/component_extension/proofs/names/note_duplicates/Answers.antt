@@ -1,6 +1,5 @@
-use Rattle.std.proofs.Common.{◌≡◌, ap, ◌∙◌, sym}
+use Rattle.std.proofs.Common.{◌≡◌, ap, ◌∙◌}
 use Rattle.std.specs.List.{list_any}
-use Rattle.aadl_syntax.specs.declared.place.Spot.{Spot}
 use Rattle.aadl_syntax.specs.declared.refusal.Code.TheVariants.{DuplicateName}
 use Rattle.aadl_syntax.specs.Order.{least, nearer}
 use Rattle.component_extension.specs.Members.{is_earlier, refused_so}
@@ -12,6 +11,6 @@ loop-mark-preserved c =
     let marks = c.args.names.now in
     let spot : c.spot-spot.result ≡ c.mark-item.result.spot = c.spot-spot.ensures in
     noting-more c.marks-mark-items.result.now c.loop-mark.mark-index c.mark-item.result c.loop-mark-test.true c.mark-item.is
-        (λ mark. refused_so (list_any (is_earlier mark.name mark.level mark.spot.at) marks) DuplicateName mark.spot) c.loop-mark.first c.note_if.new.first _
-        (c.note_if.ensures ∙ ap (λ b. nearer c.loop-mark.first (least (refused_so b DuplicateName c.spot-spot.result))) c.has_before-is_again.ensures
-        ∙ (λ i. nearer c.loop-mark.first (least (refused_so (list_any (is_earlier (c.name.ensures i) (c.level.ensures i) ((spot i).at)) marks) DuplicateName (spot i))))) c.loop-mark.invariant
+    (λ mark. refused_so (list_any (is_earlier mark.name mark.level mark.spot.at) marks) DuplicateName mark.spot) c.loop-mark.first c.note_if.new.first _
+    (c.note_if.ensures ∙ ap (λ b. nearer c.loop-mark.first (least (refused_so b DuplicateName c.spot-spot.result))) c.has_before-is_again.ensures
+    ∙ (λ i. nearer c.loop-mark.first (least (refused_so (list_any (is_earlier (c.name.ensures i) (c.level.ensures i) ((spot i).at)) marks) DuplicateName (spot i))))) c.loop-mark.invariant

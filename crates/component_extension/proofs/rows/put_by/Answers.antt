@@ -13,5 +13,5 @@ returns-in-Some-clause-knows g c = knows-set g.R.Row.key c.args.rows.now.items c
 pub returns-in_ok-push-in-None-clause-knows : goal.returns-in_ok-push-in-None-clause-knows
 returns-in_ok-push-in-None-clause-knows g c =
     subst (λ rows. KnowsRows g.R.Row.key rows (get same_words c.insert.new.self)) (sym c.in_ok-push-in-None.ensures.items)
-        (knows-push g.R.Row.key c.args.rows.now.items c.args.row (get same_words c.args.places.now) c.requires.knows c.args.key c.requires.key (get same_words c.insert.new.self)
-            (sym c.get.ensures.value ∙ sym c.copied.ensures ∙ c.in-None.is) (λ other. c.in_ok-insert-in-None.ensures.updates.0 other ∙ ap (λ n. cond (same_words c.args.key other) (Some n) (get same_words c.args.places.now other)) (ap length c.as_slice-count.ensures.value)))
+    (knows-push g.R.Row.key c.args.rows.now.items c.args.row (get same_words c.args.places.now) c.requires.knows c.args.key c.requires.key (get same_words c.insert.new.self)
+    (sym c.get.ensures.value ∙ sym c.copied.ensures ∙ c.in-None.is) (λ other. c.in_ok-insert-in-None.ensures.updates.0 other ∙ ap (λ n. cond (same_words c.args.key other) (Some n) (get same_words c.args.places.now other)) (ap length c.as_slice-count.ensures.value)))
