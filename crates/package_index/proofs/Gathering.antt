@@ -1,13 +1,14 @@
 -- The packages of the units, one after the other.
-use Rattle.std.proofs.Common.{ℕ, ◌+◌, ◌≡◌, ◌<◌, List, [], ◌∷◌, ◌++◌, length, take, get_or, Option, None, MatchOption, Contains, flat_map, sym, ap, ◌∙◌, subst}
+use Rattle.std.proofs.Common.{ℕ, ◌+◌, ◌≡◌, ◌<◌, List, [], ◌∷◌, ◌++◌, length, take, get_or, Option, None, MatchOption, flat_map, sym, ap, ◌∙◌, subst}
 use Rattle.std.proofs.lemmas.List.{take_more, append-nil, append_assoc}
 use Rattle.std.proofs.lemmas.Grind.{flat_map-append}
 use Rattle.aadl_syntax.specs.declared.core_model.PackageUnit.{PackageUnit}
 use Rattle.aadl_syntax.specs.declared.refusal.Refusal.{Refusal}
-use Rattle.aadl_syntax.specs.Order.{IsFirst, least, nearer}
+use Rattle.aadl_syntax.specs.Order.{IsClear, IsFirst, least, nearer}
 use Rattle.aadl_syntax.proofs.OrderLaws.{nearer-none, noted-more, noted-all}
-use Rattle.package_index.specs.Duplicates.{classifiers_again, duplicates, packages_again}
+use Rattle.package_index.specs.Duplicates.{IsDuplicate, classifiers_again, duplicates, packages_again}
 use Rattle.package_index.specs.Tables.{Gathered}
+use Rattle.package_index.proofs.DuplicateLaws.{told}
 
 pub gathered-none : (packages : List PackageUnit) (noted : Option Refusal) → Gathered packages packages noted noted []
 gathered-none packages noted = record { packages = sym (append-nil packages); first = sym (nearer-none noted) }
@@ -36,7 +37,7 @@ module _ {Part : Type 0} (units_of : Part → List PackageUnit) (parts : List Pa
       subst (Gathered a c f h) (front-more i part within is) (gathered-more a b c f g h (flat_map units_of (take i parts)) (units_of part) one two)
 
 -- what was noted of all packages
-pub noted-duplicates : (units packages : List PackageUnit) (none first last : Option Refusal) → none ≡ None → Gathered [] packages none first units → last ≡ nearer first (least (packages_again packages)) → MatchOption last (duplicates units ≡ []) (λ refusal. IsFirst (Contains (duplicates units)) refusal)
+pub noted-duplicates : (units packages : List PackageUnit) (none first last : Option Refusal) → none ≡ None → Gathered [] packages none first units → last ≡ nearer first (least (packages_again packages)) → MatchOption last (IsClear (IsDuplicate units)) (λ refusal. IsFirst (IsDuplicate units) refusal)
 noted-duplicates units packages none first last start gathered noted =
     let all : last ≡ nearer none (least (duplicates units)) = noted ∙ ap (λ ps. nearer first (least (packages_again ps))) gathered.packages ∙ noted-more none first (flat_map again_in units) (packages_again units) gathered.first in
-    noted-all last (duplicates units) (all ∙ ap (λ before. nearer before (least (duplicates units))) start)
+    told units last (noted-all last (duplicates units) (all ∙ ap (λ before. nearer before (least (duplicates units))) start))

@@ -104,7 +104,7 @@ module _ {Key Item : Type 0} (has : Key → Item → Bool) (same : Key → Key �
         ∙ sym (more-place (has other) items item ∙ ap (λ b. cond b (position (has other) items) (cond (has other item) (Some (length items)) None)) (any-alike other is ∙ any-is key ∙ some))
 
     knows-next : (is_new : Bool) → Added same old new key (length items) is_new → Knows has (items ++ item ∷ []) new
-    knows-next true added = λ other. added.1 other ∙ ap (λ b. cond b (Some (length items)) (old other)) refl ∙ more-new other (same key other) refl added.0
+    knows-next true added = λ other. added.1 other ∙ more-new other (same key other) refl added.0
     knows-next false added = λ other. added.1 other ∙ more-old other (same key other) refl added.0
 
 -- the step of a loop that fills a table

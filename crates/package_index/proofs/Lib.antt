@@ -1,3 +1,6 @@
 pub mod KnowsLaws
 pub mod Keys
 pub mod Gathering
+pub mod Examples
+pub mod DuplicateLaws
+pub mod FoundLaws

@@ -1,5 +1,5 @@
 -- Packages of one name, and classifiers of one name in a package.
-use Rattle.std.specs.Prelude.{Bool, true, false, List, [], ◌∷◌, ◌++◌, flat_map, Contains, ⊤}
+use Rattle.std.specs.Prelude.{◌≡◌, ◌⊎◌, Any, Bool, true, false, List, [], ◌∷◌, ◌++◌, flat_map, Contains, ⊤}
 use Rattle.std.specs.List.{list_any}
 use Rattle.aadl_syntax.specs.declared.core_model.Decl.{Decl}
 use Rattle.aadl_syntax.specs.declared.core_model.PackageUnit.{PackageUnit}
@@ -29,11 +29,34 @@ packages_again packages = again_after (λ later earlier. has_name later.name ear
 abbrev pub classifiers_again : List Decl → List Refusal
 classifiers_again decls = again_after (λ later earlier. is_named later.name later.item earlier) (λ decl. decl.spot) [] decls
 
--- N1: a second package of a name, or a second classifier of a name in a package; at the later name.
+-- N1 at each second package and at each second classifier
 abbrev pub duplicates : List PackageUnit → List Refusal
 duplicates packages = flat_map (λ unit. classifiers_again unit.decls) packages ++ packages_again packages
 
+-- ---- the same in words
+
+-- An item is the same as one before it, and the refusal is N1 at the later one.
+pub record IsAgain {Item : Type 0} (same : Item → Item → Bool) (spot_of : Item → Spot) (items : List Item) (n1 : Refusal) : Type 0 where
+  pub before : List Item
+  pub item : Item
+  pub after : List Item
+  pub whole : items ≡ before ++ item ∷ after
+  pub again : Any (λ earlier. same item earlier ≡ true) before
+  pub is : n1 ≡ refusal DuplicateUnit (place_of (spot_of item))
+
+-- The refusal is N1 at a second package of a name.
+abbrev pub IsSecondPackage : List PackageUnit → Refusal → Type 0
+IsSecondPackage packages = IsAgain (λ later earlier. has_name later.name earlier) (λ unit. unit.spot) packages
+
+-- The refusal is N1 at a second classifier of a name and an item in one of the packages.
+abbrev pub IsSecondClassifier : List PackageUnit → Refusal → Type 0
+IsSecondClassifier packages n1 = (unit : PackageUnit) × Contains packages unit × IsAgain (λ later earlier. is_named later.name later.item earlier) (λ decl. decl.spot) unit.decls n1
+
+-- N1: a second package of a name, or a second classifier of a name in a package; at the later name.
+abbrev pub IsDuplicate : List PackageUnit → Refusal → Type 0
+IsDuplicate packages n1 = IsSecondClassifier packages n1 ⊎ IsSecondPackage packages n1
+
 -- The first of a group of refusals, or want of memory.
-abbrev pub IsRefused : List Refusal → Stop → Type 0
-IsRefused group Memory = ⊤
-IsRefused group (Refused refusal) = IsFirst (Contains group) refusal
+abbrev pub IsRefused : (Refusal → Type 0) → Stop → Type 0
+IsRefused Group Memory = ⊤
+IsRefused Group (Refused refusal) = IsFirst Group refusal

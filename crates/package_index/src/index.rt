@@ -1,8 +1,8 @@
-ghost use Rattle.std.specs.Prelude.{◌≡◌, ◌<◌, ◌^◌, ℕ, [], length, None, Some, option_copied, option_map, slice_get, IfOk, IfErr, OnOk, flat_map};
+ghost use Rattle.std.specs.Prelude.{◌≡◌, ◌<◌, ◌^◌, [], length, None, Some, option_copied, slice_get, IfOk, IfErr, IsSome, OnOk, flat_map};
 ghost use Rattle.std.specs.HashMap.{get};
-ghost use Rattle.aadl_syntax.specs.Order.{least, nearer};
+ghost use Rattle.aadl_syntax.specs.Order.{IsClear, least, nearer};
 ghost use Rattle.aadl_syntax.specs.declared.refusal.Place.TheVariants.{Words as InWords};
-ghost use Rattle.package_index.specs.Duplicates.{IsRefused, duplicates, packages_again};
+ghost use Rattle.package_index.specs.Duplicates.{IsDuplicate, IsRefused, packages_again};
 ghost use Rattle.package_index.specs.Lookup.{aliased_in, classifier_in, declared_by, declared_in, declared_package, decl_of, look_classifier, look_in, look_package, package_alias, package_at, package_meant, package_of, packages_of, place_of, refused_at};
 ghost use Rattle.package_index.specs.Names.{names_of};
 ghost use Rattle.package_index.specs.Tables.{Gathered, Knows, has_words, same_words};
@@ -10,7 +10,7 @@ ghost use Rattle.package_index.specs.Tables.{Gathered, Knows, has_words, same_wo
 use crate::id::ClassifierId;
 use crate::package::{Package, note_again, place_of};
 use crate::table::add;
-use crate::words::Words;
+use crate::words::{Words, text_of};
 use aadl_syntax::{
     Answer, Code, Decl, FirstRefusal, Identifier, List, Mem, Name, PackageUnit, Place, Ref,
     Refusal, Root, Unit,
@@ -52,8 +52,8 @@ impl<'a> Index<'a> {
     /// place, at the later name.
     pub fn new(alloc: Global, files: &'a [List<Unit>]) -> Answer<Index<'a>>
         ensures packages { IfOk result (λ index. index ≡ packages_of files.now) }
-        ensures accepted { OnOk result (duplicates (packages_of files.now) ≡ []) }
-        ensures refused { IfErr result (IsRefused (duplicates (packages_of files.now))) }
+        ensures accepted { OnOk result (IsClear (IsDuplicate (packages_of files.now))) }
+        ensures refused { IfErr result (IsRefused (IsDuplicate (packages_of files.now))) }
     {
         let mut first = FirstRefusal::new();
         let packages = tables_of(alloc, files, &mut first)?;
@@ -73,7 +73,8 @@ impl<'a> Index<'a> {
     ///
     /// N2 where its package is not found, N3 where the classifier is not, both at the reference.
     pub fn find_classifier(&self, from: u32, reference: &Ref) -> Result<ClassifierId, Refusal>
-        ensures { result ≡ refused_at (place_of reference.now.spot) (look_classifier self.now (Some from) reference.now.names reference.now.item) }
+        ensures found { result ≡ refused_at (place_of reference.now.spot) (look_classifier self.now (Some from) reference.now.names reference.now.item) }
+        ensures declared { IfOk result (λ id. IsSome (decl_of self.now id)) }
     {
         let names = Words::Identifiers(reference.names.items());
         let found = self.look_classifier(Some(from), names, text_of(&reference.item));
@@ -84,7 +85,8 @@ impl<'a> Index<'a> {
     ///
     /// N2 where its package is not found, N3 where the classifier is not, both at the words.
     pub fn root(&self, root: &Root) -> Result<ClassifierId, Refusal>
-        ensures { result ≡ refused_at InWords (look_classifier self.now None root.now.names root.now.item) }
+        ensures found { result ≡ refused_at InWords (look_classifier self.now None root.now.names root.now.item) }
+        ensures declared { IfOk result (λ id. IsSome (decl_of self.now id)) }
     {
         let names = Words::Names(root.names.items());
         let found = self.look_classifier(None, names, bytes_of(&root.item));
@@ -219,15 +221,6 @@ fn refused_at(place: Place, found: Result<ClassifierId, Code>) -> Result<Classif
             place,
             limit: 0,
         }),
-    }
-}
-
-fn text_of(item: &Option<Identifier>) -> Option<&[u8]>
-    ensures { option_copied result ≡ item.now }
-{
-    match item {
-        Some(item) => Some(item.text()),
-        None => None,
     }
 }
 

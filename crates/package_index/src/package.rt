@@ -6,6 +6,7 @@ ghost use Rattle.package_index.specs.Lookup.{alias_in, declared, is_alias, place
 ghost use Rattle.package_index.specs.Tables.{Knows, has_alias, has_key, same_alias_key, same_key};
 
 use crate::table::add;
+use crate::words::text_of;
 use aadl_syntax::{
     Alias, Code, Decl, FirstRefusal, Identifier, Mem, PackageUnit, Place, Refusal, Spot,
 };
@@ -122,15 +123,6 @@ pub(crate) fn note_again(first: &mut FirstRefusal, is_again: bool, spot: Spot)
     }
 }
 
-fn item_of(decl: &Decl) -> Option<&[u8]>
-    ensures { option_map (λ item. item.now) result ≡ decl.now.item }
-{
-    match &decl.item {
-        Some(item) => Some(item.text()),
-        None => None,
-    }
-}
-
 /// The classifiers of a package by name and item. Those that were declared before are noted.
 fn classifiers_of<'a>(
     alloc: Global,
@@ -143,7 +135,11 @@ fn classifiers_of<'a>(
 {
     let mut table = HashMap::new(alloc);
     for (number, decl) in decls.iter().enumerate() {
-        let is_new = add(&mut table, (decl.name.text(), item_of(decl)), number as u32)?;
+        let is_new = add(
+            &mut table,
+            (decl.name.text(), text_of(&decl.item)),
+            number as u32,
+        )?;
         note_again(first, !is_new, decl.spot);
     }
     Ok(table)

@@ -1,4 +1,4 @@
-ghost use Rattle.std.specs.Prelude.{◌≡◌, ℕ, IfOk, is_some};
+ghost use Rattle.std.specs.Prelude.{IfOk};
 ghost use Rattle.std.specs.HashMap.{get};
 ghost use Rattle.package_index.specs.Tables.{Added};
 

@@ -1,7 +1,7 @@
-ghost use Rattle.std.specs.Prelude.{◌≡◌, ◌<◌, ◌-◌, ◌+◌, ℕ, length, get_or, slice_get, take, option_copied, MatchOption, ◌∷◌, [], List, Some, None};
+ghost use Rattle.std.specs.Prelude.{◌≡◌, ◌<◌, ◌-◌, length, get_or, take, option_copied, [], Some, None};
 ghost use Rattle.std.specs.Cmp as Cmp;
 ghost use Rattle.std.specs.Cmp.{on_equiv, on_per};
-ghost use Rattle.std.specs.Cmp.Lexicographic.{lists_equiv, nat_list_eq_equiv, lists_per};
+ghost use Rattle.std.specs.Cmp.Lexicographic.{lists_equiv, nat_list_eq_equiv};
 ghost use Rattle.std.specs.Hash as fed;
 ghost use Rattle.std.specs.Hash.{on_Alike, items_Alike, same_Alike};
 ghost use Rattle.std.proofs.lemmas.Bool.Decides.{Decides-eqb};
@@ -68,6 +68,16 @@ impl<'a> Words<'a> {
             return None;
         }
         Some(self.name(0))
+    }
+}
+
+/// The text of an identifier that may be left out.
+pub(crate) fn text_of(item: &Option<Identifier>) -> Option<&[u8]>
+    ensures { option_copied result ≡ item.now }
+{
+    match item {
+        Some(item) => Some(item.text()),
+        None => None,
     }
 }
 
