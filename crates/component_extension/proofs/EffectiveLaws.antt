@@ -10,7 +10,7 @@ use Rattle.package_index.specs.Duplicates.{IsRefused}
 use Rattle.component_extension.specs.Chain.{Answers, chain_of}
 use Rattle.component_extension.specs.Items.{classifier_faults, faults_along}
 
-pub chain-refused : (packages : List PackageUnit) (id : ClassifierId) (stop : Stop) → Answers (chain_of packages id) (Err stop) → IsRefused (classifier_faults packages id) stop
+pub chain-refused : (packages : List PackageUnit) (id : ClassifierId) (stop : Stop) → Answers (chain_of packages id) (Err stop) → IsRefused (Contains (classifier_faults packages id)) stop
 chain-refused packages id Memory stops = tt
 chain-refused packages id (Refused refusal) stops =
     subst (λ group. IsFirst (Contains group) refusal) (sym (ap (faults_along packages) stops)) (least-first (refusal ∷ []))

@@ -1,4 +1,4 @@
-ghost use Rattle.std.specs.Prelude.{◌≡◌, ◌++◌, [], IfOk, IfErr, OnOk};
+ghost use Rattle.std.specs.Prelude.{◌≡◌, ◌++◌, [], Contains, IfOk, IfErr, OnOk};
 ghost use Rattle.aadl_syntax.specs.Order.{least, nearer};
 ghost use Rattle.package_index.specs.Duplicates.{IsRefused};
 ghost use Rattle.component_extension.specs.Effective.{AreMembers, IsEffective};
@@ -52,7 +52,7 @@ impl<'a> Effective<'a> {
     pub fn of(alloc: Global, index: &Index<'a>, id: ClassifierId) -> Answer<Effective<'a>>
         ensures effective { IfOk result (IsEffective index.now id) }
         ensures accepted { OnOk result (classifier_faults index.now id ≡ []) }
-        ensures refused { IfErr result (IsRefused (classifier_faults index.now id)) }
+        ensures refused { IfErr result (IsRefused (Contains (classifier_faults index.now id))) }
     {
         let chain = chain_of(alloc, index, id)?;
         let classifiers = classifiers_of(alloc, index, chain.items())?;
@@ -82,7 +82,7 @@ impl<'a> Effective<'a> {
 pub fn effective_members<'a>(alloc: Global, classifiers: &[Classifier<'a>]) -> Answer<Members<'a>>
     ensures members { IfOk result (AreMembers classifiers.now) }
     ensures accepted { OnOk result (member_faults classifiers.now ≡ []) }
-    ensures refused { IfErr result (IsRefused (member_faults classifiers.now)) }
+    ensures refused { IfErr result (IsRefused (Contains (member_faults classifiers.now))) }
 {
     let mut first = FirstRefusal::new();
     let mut marks = Vec::new(alloc);
