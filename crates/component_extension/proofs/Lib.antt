@@ -4,3 +4,4 @@ pub mod Loops
 pub mod Noting
 pub mod MemberLaws
 pub mod EffectiveLaws
+pub mod Examples

@@ -30,8 +30,8 @@ all-noted classes none f g h last start m n names clear one two three four empty
     let c = faults_of connections connection_limits classes in
     let d = duplicates (all_marks classes) (all_marks classes) in
     let names_are : names ≡ all_marks classes =
-        marks_all
-        ∙ ap (λ front. front ++ marks_along connections classes) (marks_n ∙ ap (λ front. front ++ marks_along subcomponents classes) (marks_m ∙ ap (λ front. front ++ marks_along features classes) empty)) in
+    marks_all
+    ∙ ap (λ front. front ++ marks_along connections classes) (marks_n ∙ ap (λ front. front ++ marks_along subcomponents classes) (marks_m ∙ ap (λ front. front ++ marks_along features classes) empty)) in
     noted-all last (member_faults classes)
-        (four ∙ ap (λ all. nearer h (least (duplicates all all))) names_are ∙ noted-more g h c d three ∙ noted-more f g b (c ++ d) two ∙ noted-more none f a (b ++ (c ++ d)) one
-        ∙ ap (λ before. nearer before (least (member_faults classes))) clear)
+    (four ∙ ap (λ all. nearer h (least (duplicates all all))) names_are ∙ noted-more g h c d three ∙ noted-more f g b (c ++ d) two ∙ noted-more none f a (b ++ (c ++ d)) one
+    ∙ ap (λ before. nearer before (least (member_faults classes))) clear)

@@ -10,7 +10,7 @@ pub returns-in_err-settle-clause-refused : goal.returns-in_err-settle-clause-ref
 returns-in_err-settle-clause-refused c =
     let group = member_faults c.args.classifiers.now in
     let settled = all-noted c.args.classifiers.now _ _ _ _ _ _ _ _ _ c.new-first.ensures c.in_ok-features.ensures.first c.in_ok-subcomponents.ensures.first c.in_ok-connections.ensures.first c.note_duplicates.ensures
-        c.new-marks.ensures.items c.in_ok-features.ensures.marks c.in_ok-subcomponents.ensures.marks (c.in_ok-names.ensures ∙ c.in_ok-connections.ensures.marks) in
+    c.new-marks.ensures.items c.in_ok-features.ensures.marks c.in_ok-subcomponents.ensures.marks (c.in_ok-names.ensures ∙ c.in_ok-connections.ensures.marks) in
     let first = subst (λ o. MatchOption o (group ≡ []) (IsFirst (Contains group))) c.in_err-settle.ensures settled in
     let p = err_from_is_err_and c.from_residual-in_err-settle.result c.from_residual-in_err-settle.ensures.1 in
     subst (λ r. IfErr r (IsRefused (Contains group))) (sym (p.1 ∙ ap Err p.2)) first
@@ -19,5 +19,5 @@ pub returns-clause-accepted : goal.returns-clause-accepted
 returns-clause-accepted c =
     let group = member_faults c.args.classifiers.now in
     let settled = all-noted c.args.classifiers.now _ _ _ _ _ _ _ _ _ c.new-first.ensures c.in_ok-features.ensures.first c.in_ok-subcomponents.ensures.first c.in_ok-connections.ensures.first c.note_duplicates.ensures
-        c.new-marks.ensures.items c.in_ok-features.ensures.marks c.in_ok-subcomponents.ensures.marks (c.in_ok-names.ensures ∙ c.in_ok-connections.ensures.marks) in
+    c.new-marks.ensures.items c.in_ok-features.ensures.marks c.in_ok-subcomponents.ensures.marks (c.in_ok-names.ensures ∙ c.in_ok-connections.ensures.marks) in
     subst (λ o. MatchOption o (group ≡ []) (IsFirst (Contains group))) c.in_ok-settle.ensures settled
