@@ -3,3 +3,5 @@ pub mod RowLaws
 pub mod Loops
 pub mod Noting
 pub mod MemberLaws
+pub mod EffectiveLaws
+pub mod Examples

@@ -1,5 +1,5 @@
 -- Steps of loops over lists: what they gather, and what they note.
-use Rattle.std.proofs.Common.{ℕ, suc, ◌+◌, ◌≡◌, ◌<◌, ◌≤◌, Bool, true, false, ◌||◌, cond, List, [], ◌∷◌, ◌++◌, length, take, drop, get_or, map, flat_map, fold, filter, Option, refl, sym, ap, ◌∙◌, add-one, drop-cons, arith}
+use Rattle.std.proofs.Common.{ℕ, suc, ◌+◌, ◌≡◌, ◌<◌, ◌≤◌, Bool, true, false, ◌||◌, List, [], ◌∷◌, ◌++◌, length, take, drop, get_or, flat_map, fold, filter, Option, refl, sym, ap, ◌∙◌, add-one, drop-cons, arith}
 use Rattle.std.specs.List.{list_any}
 use Rattle.std.proofs.lemmas.List.{append-nil, append_assoc, drop_all, length-take-le, take_all, take_more}
 use Rattle.std.proofs.lemmas.List.Elements.{filter-append}

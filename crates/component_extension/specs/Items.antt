@@ -1,6 +1,5 @@
 -- The error model items of a classifier (EMV2: subclauses along `extends`).
-use Rattle.std.specs.Prelude.{ℕ, Bool, false, List, [], ◌∷◌, map, flat_map, fold, reverse, Option, Some, None, option_map, option_to_list, Result, Ok, Err}
-use Rattle.std.specs.Option.{option_or}
+use Rattle.std.specs.Prelude.{ℕ, List, [], ◌∷◌, map, flat_map, fold, reverse, Option, Some, None, option_map, option_to_list, Result, Ok, Err}
 use Rattle.aadl_syntax.specs.declared.core_model.PackageUnit.{PackageUnit}
 use Rattle.aadl_syntax.specs.declared.error_model.Emv2Clause.{Emv2Clause}
 use Rattle.aadl_syntax.specs.declared.error_model.PointItem.{PointItem}

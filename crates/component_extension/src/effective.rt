@@ -1,15 +1,23 @@
 ghost use Rattle.std.specs.Prelude.{◌≡◌, ◌++◌, [], Contains, IfOk, IfErr, OnOk};
 ghost use Rattle.aadl_syntax.specs.Order.{least, nearer};
 ghost use Rattle.package_index.specs.Duplicates.{IsRefused};
-ghost use Rattle.component_extension.specs.Members.{connections, faults_of, features, marks_along, member_faults, members_along, subcomponents};
+ghost use Rattle.component_extension.specs.Effective.{AreMembers, IsEffective};
+ghost use Rattle.component_extension.specs.Items.{classifier_faults};
+ghost use Rattle.component_extension.specs.Members.{faults_of, marks_along, member_faults, members_along};
 
-use crate::classifier::Classifier;
+use crate::chain::chain_of;
+use crate::classifier::{Classifier, classifiers_of};
 use crate::declaration::PlainName;
+use crate::error_model::{
+    Behavior, OtherItems, Propagations, behavior_of, machine_of, other_items_of, propagations_of,
+};
+use crate::items::{ClauseText, InClause, clauses_of};
 use crate::limits::{Limited, note_all};
 use crate::member::Inherited;
 use crate::members::{declarations, members_of, note_unknown};
 use crate::names::{PlainNames, add_marks, note_duplicates};
-use aadl_syntax::{Answer, Connection, Feature, FirstRefusal, List, Mem, Subcomponent};
+use aadl_syntax::{Answer, Connection, Feature, FirstRefusal, List, Mem, Ref, Subcomponent};
+use package_index::{ClassifierId, Index};
 use std::alloc::Global;
 
 /// The members of a classifier along its chain.
@@ -20,15 +28,59 @@ pub struct Members<'a> {
     pub connections: List<Inherited<'a, Connection>>,
 }
 
+/// The effective classifier: what a classifier has once its extensions are followed. Declarations and items are borrowed
+/// from the index. The clauses of the chain stand from the farthest classifier to the nearest, and an item names its
+/// clause by its place in this list.
+#[derive(Drop)]
+pub struct Effective<'a> {
+    /// The nearest classifier comes first.
+    pub chain: List<ClassifierId>,
+    pub members: Members<'a>,
+    pub clauses: List<ClauseText<'a>>,
+    /// The name of the machine of the nearest clause that uses one.
+    pub machine: Option<InClause<'a, Ref>>,
+    pub propagations: Propagations<'a>,
+    pub behavior: Behavior<'a>,
+    pub others: OtherItems<'a>,
+}
+
+impl<'a> Effective<'a> {
+    /// The effective classifier of a classifier of the index.
+    ///
+    /// N2, N3, N4 and P1 of its chain, as `chain_of` has them; or else N5, N6, P1, P2 and P3 of its members, the first by
+    /// place, as `effective_members` has them.
+    pub fn of(alloc: Global, index: &Index<'a>, id: ClassifierId) -> Answer<Effective<'a>>
+        ensures effective { IfOk result (IsEffective index.now id) }
+        ensures accepted { OnOk result (classifier_faults index.now id ≡ []) }
+        ensures refused { IfErr result (IsRefused (Contains (classifier_faults index.now id))) }
+    {
+        let chain = chain_of(alloc, index, id)?;
+        let classifiers = classifiers_of(alloc, index, chain.items())?;
+        let members = effective_members(alloc, classifiers.items())?;
+        let clauses = List::of(clauses_of(alloc, classifiers.items())?)?;
+        let machine = machine_of(clauses.items());
+        let propagations = propagations_of(alloc, clauses.items())?;
+        let behavior = behavior_of(alloc, clauses.items())?;
+        let others = other_items_of(alloc, clauses.items())?;
+        Ok(Effective {
+            chain,
+            members,
+            clauses,
+            machine,
+            propagations,
+            behavior,
+            others,
+        })
+    }
+}
+
 /// The members along a chain, of which the farthest classifier comes first.
 ///
 /// One group of refusals, of which the first by place is answered: N5 where a member is `refined to` and no farther
 /// classifier declares one of its kind and name, N6 where a name that is not `refined to` is declared before, P1 at
 /// bindings of an effective subcomponent, P2 at an effective array, P3 at an effective feature group or its connection.
 pub fn effective_members<'a>(alloc: Global, classifiers: &[Classifier<'a>]) -> Answer<Members<'a>>
-    ensures features { IfOk result (λ members. members.features ≡ members_along features classifiers.now) }
-    ensures subcomponents { IfOk result (λ members. members.subcomponents ≡ members_along subcomponents classifiers.now) }
-    ensures connections { IfOk result (λ members. members.connections ≡ members_along connections classifiers.now) }
+    ensures members { IfOk result (AreMembers classifiers.now) }
     ensures accepted { OnOk result (member_faults classifiers.now ≡ []) }
     ensures refused { IfErr result (IsRefused (Contains (member_faults classifiers.now))) }
 {

@@ -1,9 +1,8 @@
-ghost use Rattle.std.specs.Prelude.{◌≡◌, ◌++◌, None, Some, IfOk, OnOk, fold};
-ghost use Rattle.component_extension.specs.Items.{clauses_of, gathered, machine_by, machine_of, perhaps_named, point_key, spots_of};
-ghost use Rattle.component_extension.specs.Rows.{named};
+ghost use Rattle.std.specs.Prelude.{◌≡◌, ◌++◌, Some, IfOk, OnOk, fold};
+ghost use Rattle.component_extension.specs.Effective.{AreOtherItems, ArePropagations, IsBehavior};
+ghost use Rattle.component_extension.specs.Items.{machine_by, machine_of, spots_of};
 
-use crate::classifier::Classifier;
-use crate::items::{ClauseText, InClause, clauses_of, gathered};
+use crate::items::{ClauseText, InClause, gathered};
 use aadl_syntax::{
     Association, Composite, Emv2Clause, EventDecl, Flow, List, Mem, Outgoing, PointItem, Ref, Spot,
     Transition, UserPath, UserPoint,
@@ -39,10 +38,7 @@ pub struct OtherItems<'a> {
 
 /// The points of these clauses, and what lies between them.
 pub fn propagations_of<'a>(alloc: Global, clauses: &[ClauseText<'a>]) -> Mem<Propagations<'a>>
-    ensures points { IfOk result (λ made. made.points ≡ gathered (λ clause. clause.points) point_key clauses.now) }
-    ensures flows { IfOk result (λ made. made.flows ≡ gathered (λ clause. clause.flows) (λ item. Some (named item.name)) clauses.now) }
-    ensures user_points { IfOk result (λ made. made.user_points ≡ gathered (λ clause. clause.user_points) (λ item. Some (named item.name)) clauses.now) }
-    ensures user_paths { IfOk result (λ made. made.user_paths ≡ gathered (λ clause. clause.user_paths) (λ item. Some (named item.name)) clauses.now) }
+    ensures { IfOk result (ArePropagations clauses.now) }
 {
     let points = gathered(alloc, clauses)?;
     let flows = gathered(alloc, clauses)?;
@@ -58,10 +54,7 @@ pub fn propagations_of<'a>(alloc: Global, clauses: &[ClauseText<'a>]) -> Mem<Pro
 
 /// The behavior of these clauses, beside that of their machine.
 pub fn behavior_of<'a>(alloc: Global, clauses: &[ClauseText<'a>]) -> Mem<Behavior<'a>>
-    ensures events { IfOk result (λ made. made.events ≡ gathered (λ clause. clause.events) (λ item. Some (named item.name)) clauses.now) }
-    ensures transitions { IfOk result (λ made. made.transitions ≡ gathered (λ clause. clause.transitions) (λ item. perhaps_named item.name) clauses.now) }
-    ensures outgoing { IfOk result (λ made. made.outgoing ≡ gathered (λ clause. clause.outgoing) (λ item. perhaps_named item.name) clauses.now) }
-    ensures composites { IfOk result (λ made. made.composites ≡ gathered (λ clause. clause.composites) (λ item. perhaps_named item.name) clauses.now) }
+    ensures { IfOk result (IsBehavior clauses.now) }
 {
     let events = gathered(alloc, clauses)?;
     let transitions = gathered(alloc, clauses)?;
@@ -77,9 +70,7 @@ pub fn behavior_of<'a>(alloc: Global, clauses: &[ClauseText<'a>]) -> Mem<Behavio
 
 /// What else these clauses have.
 pub fn other_items_of<'a>(alloc: Global, clauses: &[ClauseText<'a>]) -> Mem<OtherItems<'a>>
-    ensures associations { IfOk result (λ made. made.associations ≡ gathered (λ clause. clause.associations) (λ item. None) clauses.now) }
-    ensures mappings { IfOk result (λ made. made.mappings ≡ spots_of (λ clause. clause.mappings) clauses.now) }
-    ensures connection_errors { IfOk result (λ made. made.connection_errors ≡ spots_of (λ clause. clause.connection_errors) clauses.now) }
+    ensures { IfOk result (AreOtherItems clauses.now) }
 {
     let associations = gathered(alloc, clauses)?;
     let mappings = spots_of::<Mappings>(alloc, clauses)?;

@@ -6,8 +6,8 @@ ghost use Rattle.component_extension.specs.Rows.{KnowsRows, key_of_words, put, s
 use crate::classifier::Classifier;
 use crate::rows::{KeyWords, Row, named, put};
 use aadl_syntax::{
-    Association, Composite, Emv2Clause, EventDecl, Flow, Identifier, List, Mem, Outgoing, PointItem,
-    Transition, UserPath, UserPoint,
+    Association, Composite, Emv2Clause, EventDecl, Flow, Identifier, List, Mem, Outgoing,
+    PointItem, Transition, UserPath, UserPoint,
 };
 use package_index::Words;
 use std::alloc::Global;

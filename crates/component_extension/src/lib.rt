@@ -16,8 +16,10 @@ mod rows;
 pub use chain::chain_of;
 pub use classifier::{Classifier, classifiers_of};
 pub use declaration::Declaration;
-pub use effective::{Members, effective_members};
-pub use error_model::{Behavior, OtherItems, Propagations, behavior_of, machine_of, other_items_of, propagations_of};
+pub use effective::{Effective, Members, effective_members};
+pub use error_model::{
+    Behavior, OtherItems, Propagations, behavior_of, machine_of, other_items_of, propagations_of,
+};
 pub use items::{ClauseItem, ClauseText, InClause};
 pub use limits::Limited;
 pub use member::{Inherited, MemberKind};

@@ -1,5 +1,5 @@
 use Rattle.std.proofs.Common.{[]}
-use Rattle.component_extension.specs.Items.{Scoped, scoped_by}
+use Rattle.component_extension.specs.Items.{scoped_by}
 use Rattle.component_extension.specs.Rows.{put}
 use Rattle.component_extension.proofs.Loops.{numbered-folded}
 use Rattle.component_extension.proofs.items.gathered.Goals as goal

@@ -1,5 +1,4 @@
 use Rattle.std.proofs.Common.{◌≡◌, not, ap, ◌∙◌}
-use Rattle.aadl_syntax.specs.declared.place.Spot.{Spot}
 use Rattle.aadl_syntax.specs.declared.refusal.Code.TheVariants.{UnknownMember}
 use Rattle.aadl_syntax.specs.Order.{least, nearer}
 use Rattle.component_extension.specs.Members.{refused_so, stands}

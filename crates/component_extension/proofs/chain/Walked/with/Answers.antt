@@ -1,4 +1,4 @@
-use Rattle.std.proofs.Common.{sym, ap, ◌∙◌, subst, is_some, ◌≡◌}
+use Rattle.std.proofs.Common.{sym, ap, ◌∙◌}
 use Rattle.component_extension.specs.Chain.{is_among}
 use Rattle.component_extension.proofs.ChainSteps.{among-with}
 use Rattle.component_extension.proofs.chain.Walked.with.Goals as goal
