@@ -17,21 +17,19 @@ use Rattle.aadl_syntax.proofs.OrderLaws.{first_alone}
 use Rattle.first_form.specs.Form.{IsFirstForm}
 use Rattle.first_form.proofs.OneForm.{one_form}
 use Rattle.fault_system.specs.Systems.{System, NamesDiffer}
-use Rattle.component_extension.specs.Chain.{Answers, chain_of}
-use Rattle.component_extension.specs.Items.{classes_of}
-use Rattle.component_extension.specs.Members.{Class, member_faults}
+use Rattle.component_extension.specs.Items.{classifier_faults}
 use Rattle.package_index.specs.Duplicates.{IsDuplicate, IsRefused}
 use Rattle.aadl_syntax.specs.declared.core_model.PackageUnit.{PackageUnit}
 use Rattle.aadl_syntax.specs.declared.refusal.Place.TheVariants.{Words}
 use Rattle.package_index.specs.Lookup.{look_classifier, packages_of, refused_at}
 use Rattle.package_index.specs.declared.id.ClassifierId.{ClassifierId}
 use Rattle.phases.specs.Meets.{IsMemory}
-use Rattle.phases.specs.Phases.{Passes, Stops, answers, computes, tests}
+use Rattle.phases.specs.Phases.{Passes, Stops, answers, tests}
 use Rattle.phases.specs.Stopped.{status_of}
 use Rattle.phases.specs.declared.status.Status.TheVariants.{Refused}
 use Rattle.fta_run.specs.Due.{root_tests}
 use Rattle.fta_run.specs.Files.{of_words}
-use Rattle.fta_run.specs.Model.{AreOfForm, Form, HasDuplicate, HasMemberFault, IsFactNamed, LacksTarget, chain_in, root_named}
+use Rattle.fta_run.specs.Model.{AreOfForm, Form, HasDuplicate, HasFault, IsFactNamed, LacksTarget, root_named}
 
 -- one file is of the form of its units
 form_of_one : {R : Type 0} (found : Option R) (shown : R → Form) (files : List (List FileUnit)) (units : List FileUnit) → files ≡ units ∷ []
@@ -90,27 +88,16 @@ pub root_is : (files its : List (List FileUnit)) (packages : List PackageUnit) (
 root_is files its packages root result are same found =
     sym (found ∙ ap (λ (ps : List PackageUnit). refused_at Words (look_classifier ps None root.names root.item)) (are ∙ ap packages_of same))
 
--- the chain is refused
-pub chain_stop : (files : List (List FileUnit)) (packages : List PackageUnit) (id : ClassifierId) (why : Stop) → packages ≡ packages_of files → Answers (chain_of packages id) (Err why) → Stops (computes (chain_in files id)) (status_of why) ⊎ IsMemory (status_of why)
-chain_stop files packages id (stop.Refused refusal) same is =
-    inl (record { stopped = (refusal, subst (λ (ps : List PackageUnit). chain_of ps id ≡ Err refusal) same is, refl) })
-chain_stop files packages id stop.Memory same is = inr refl
+-- a classifier is refused
+pub classifier_stop : (files : List (List FileUnit)) (packages : List PackageUnit) (id : ClassifierId) (why : Stop) → packages ≡ packages_of files → IsRefused (Contains (classifier_faults packages id)) why → Stops (tests (HasFault files id)) (status_of why) ⊎ IsMemory (status_of why)
+classifier_stop files packages id (stop.Refused refusal) same first =
+    inl (record { stopped = (refusal, subst (λ (ps : List PackageUnit). IsFirst (Contains (classifier_faults ps id)) refusal) same first, refl) })
+classifier_stop files packages id stop.Memory same first = inr refl
 
--- the chain was made
-pub chain_is : (files : List (List FileUnit)) (packages : List PackageUnit) (id : ClassifierId) (chain : List ClassifierId) → packages ≡ packages_of files → chain_of packages id ≡ Ok chain → Passes (computes (chain_in files id)) chain
-chain_is files packages id chain same is = record { passed = subst (λ (ps : List PackageUnit). chain_of ps id ≡ Ok chain) same is }
-
--- the members are refused
-pub members_stop : (files : List (List FileUnit)) (packages : List PackageUnit) (chain its : List ClassifierId) (classes given : List Class) (why : Stop) → packages ≡ packages_of files → its ≡ chain → classes ≡ classes_of packages its → given ≡ classes → IsRefused (Contains (member_faults given)) why
-    → Stops (tests (HasMemberFault files chain)) (status_of why) ⊎ IsMemory (status_of why)
-members_stop files packages chain its classes given (stop.Refused refusal) same same_chain are same_given first =
-    inl (record { stopped = (refusal, subst (λ (cs : List Class). IsFirst (Contains (member_faults cs)) refusal) (same_given ∙ are ∙ ap (classes_of packages) same_chain ∙ ap (λ (ps : List PackageUnit). classes_of ps chain) same) first, refl) })
-members_stop files packages chain its classes given stop.Memory same same_chain are same_given first = inr refl
-
--- the members are right
-pub members_right : (files : List (List FileUnit)) (packages : List PackageUnit) (chain its : List ClassifierId) (classes given : List Class) → packages ≡ packages_of files → its ≡ chain → classes ≡ classes_of packages its → given ≡ classes → member_faults given ≡ [] → Passes (tests (HasMemberFault files chain)) (tt {0})
-members_right files packages chain its classes given same same_chain are same_given none =
-    let all : member_faults (classes_of (packages_of files) chain) ≡ [] = ap member_faults (sym (same_given ∙ are ∙ ap (classes_of packages) same_chain ∙ ap (λ (ps : List PackageUnit). classes_of ps chain) same)) ∙ none in
+-- a classifier is right
+pub classifier_right : (files : List (List FileUnit)) (packages : List PackageUnit) (id : ClassifierId) → packages ≡ packages_of files → classifier_faults packages id ≡ [] → Passes (tests (HasFault files id)) (tt {0})
+classifier_right files packages id same none =
+    let all : classifier_faults (packages_of files) id ≡ [] = ap (λ (ps : List PackageUnit). classifier_faults ps id) (sym same) ∙ none in
     record { passed = λ refusal stands. absurd (none_there refusal (subst (λ group. Contains group refusal) all stands)) }
   where
     none_there : (refusal : Refusal) → Contains [] refusal → ⊥

@@ -9,9 +9,7 @@ use Rattle.aadl_syntax.specs.declared.refusal.Place.TheVariants.{Words}
 use Rattle.aadl_syntax.specs.declared.refusal.Refusal.{Refusal}
 use Rattle.fault_system.specs.Systems.{System}
 use Rattle.fault_system.specs.declared.formula.FactInfo.{FactInfo}
-use Rattle.component_extension.specs.Chain.{chain_of}
-use Rattle.component_extension.specs.Items.{classes_of}
-use Rattle.component_extension.specs.Members.{member_faults}
+use Rattle.component_extension.specs.Items.{classifier_faults}
 use Rattle.first_form.specs.Form.{IsFirstForm}
 use Rattle.package_index.specs.Duplicates.{IsDuplicate}
 use Rattle.package_index.specs.Lookup.{look_classifier, packages_of, refused_at}
@@ -26,13 +24,10 @@ HasDuplicate files = IsDuplicate (packages_of files)
 abbrev pub root_named : List (List FileUnit) → Root → Result ClassifierId Refusal
 root_named files root = refused_at Words (look_classifier (packages_of files) None root.names root.item)
 
--- the chain of a classifier of the files, or its refusal: N2, N3, N4 or P1
-abbrev pub chain_in : List (List FileUnit) → ClassifierId → Result (List ClassifierId) Refusal
-chain_in files = chain_of (packages_of files)
-
--- A refusal of the members along a chain of classifiers of the files: N5, N6, P1, P2 or P3.
-abbrev pub HasMemberFault : List (List FileUnit) → List ClassifierId → Refusal → Type 0
-HasMemberFault files chain = Contains (member_faults (classes_of (packages_of files) chain))
+-- A refusal of a classifier of the files: the first fault of its chain (N2, N3, N4 or P1), or else one of those of the members
+-- along it (N5, N6, P1, P2 or P3).
+abbrev pub HasFault : List (List FileUnit) → ClassifierId → Refusal → Type 0
+HasFault files id = Contains (classifier_faults (packages_of files) id)
 
 -- the parts of units of the first form: the name of the package, the machine, and the classifier that uses it
 pub record Form : Type 0 where

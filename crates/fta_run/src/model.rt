@@ -10,7 +10,7 @@ ghost use Rattle.fta_run.specs.Shown.{form_shown};
 
 use crate::input::{Texts, of_words, units_of_texts};
 use aadl_syntax::{Code, List, Mem, Name, Root, Unit, is_same};
-use component_extension::{chain_of, classifiers_of, effective_members};
+use component_extension::Effective;
 use fault_system::FaultSystem;
 use first_form::{FirstForm, first_form, system_of};
 use package_index::Index;
@@ -35,9 +35,7 @@ fn test_root(alloc: Global, files: &List<List<Unit>>, root: &Root) -> Result<(),
 {
     let index = Index::new(alloc, files.items())?;
     let id = index.root(root)?;
-    let chain = chain_of(alloc, &index, id)?;
-    let classifiers = classifiers_of(alloc, &index, chain.items())?;
-    let _members = effective_members(alloc, classifiers.items())?;
+    let _effective = Effective::of(alloc, &index, id)?;
     Ok(())
 }
 
