@@ -9,6 +9,9 @@ use aadl_parser::units;
 use aadl_syntax::{Code, Decl, Place, Refusal, Stop, TokenList, Unit};
 use std::alloc::Global;
 
+/// The greatest length of a text that has tokens, in bytes.
+const MOST_BYTES: usize = 4_194_304;
+
 /// How a text is read.
 #[derive(Clone, Copy)]
 pub enum Reading {
@@ -55,12 +58,12 @@ pub fn put_reading(alloc: Global, reading: Reading, text: &[u8], whole: bool, ou
     file.put(text);
     file.put(frame.behind);
     out.refuse_as(&file);
-    out.count_from(frame.before.len() as u32);
+    out.count_from(frame.before.len().min(MOST_BYTES) as u32);
     put_file(alloc, reading, file.bytes(), whole, out);
 }
 
 fn put_file(alloc: Global, reading: Reading, file: &[u8], whole: bool, out: &mut Text) {
-    if file.len() > 4_194_304 {
+    if file.len() > MOST_BYTES {
         return out.refuse("a text of more than 4194304 bytes has no tokens");
     }
     match tokens(alloc, FILE, file) {
