@@ -9,27 +9,26 @@ use Rattle.aadl_syntax.specs.declared.refusal.Refusal.{Refusal}
 use Rattle.package_index.specs.declared.id.ClassifierId.{ClassifierId}
 use Rattle.package_index.specs.Lookup.{decl_of}
 use Rattle.component_extension.specs.Chain.{chain_of}
-use Rattle.component_extension.specs.Members.{Class, member_faults}
+use Rattle.component_extension.specs.Members.{Class, InPackage, member_faults}
 use Rattle.component_extension.specs.Rows.{Key, named, numbered_from, put}
 
 -- ---- the classifiers and their clauses
 
 -- the classifier of a number in the index
 abbrev pub class_of : List PackageUnit → ClassifierId → List Class
-class_of packages id = option_to_list (option_map (λ decl. record { «package» = id.«package»; decl = decl }) (decl_of packages id))
+class_of packages id = option_to_list (option_map (λ decl. record { «package» = id.«package»; item = decl }) (decl_of packages id))
 
 -- the classifiers of a chain, the farthest first
 abbrev pub classes_of : List PackageUnit → List ClassifierId → List Class
 classes_of packages chain = flat_map (class_of packages) (reverse chain)
 
 -- A clause: its package, and its text with its own `use types`. The names of its items are read there.
-pub record Clause : Type 0 where
-  pub «package» : ℕ
-  pub clause : Emv2Clause
+abbrev pub Clause : Type 0
+Clause = InPackage Emv2Clause
 
 -- the clauses of a classifier
 abbrev pub clauses_in : Class → List Clause
-clauses_in class = map (λ clause. record { «package» = class.«package»; clause = clause }) class.decl.clauses
+clauses_in class = map (λ clause. record { «package» = class.«package»; item = clause }) class.item.clauses
 
 -- The clauses of a chain, from the farthest classifier to the nearest, each in the order of its text.
 abbrev pub clauses_of : List Class → List Clause
@@ -44,7 +43,7 @@ pub record Scoped (Item : Type 0) : Type 0 where
 
 -- the items of a clause of this number
 abbrev pub scoped_by : {Item : Type 0} → (Emv2Clause → List Item) → ℕ → Clause → List (Scoped Item)
-scoped_by items scope clause = map (λ item. record { scope = scope; item = item }) (items clause.clause)
+scoped_by items scope clause = map (λ item. record { scope = scope; item = item }) (items clause.item)
 
 -- The items of a kind in these clauses: a later item takes the place of the earlier one of its key, and an item without
 -- a key goes last.
@@ -61,7 +60,7 @@ point_key item = Some (record { names = item.point.names; outward = item.outward
 
 -- the machine that a clause uses, if it uses one, and else that of the clauses before it
 abbrev pub machine_by : ℕ → Clause → List (Scoped Ref)
-machine_by scope clause = map (λ name. record { scope = scope; item = name }) (option_to_list clause.clause.machine)
+machine_by scope clause = map (λ name. record { scope = scope; item = name }) (option_to_list clause.item.machine)
 
 -- The machine of the nearest clause that uses one: the last of them.
 abbrev pub machine_of : List Clause → Option (Scoped Ref)
@@ -69,7 +68,7 @@ machine_of clauses = fold (λ before machine. Some machine) None (numbered_from 
 
 -- the places of one sort in these clauses
 abbrev pub spots_of : (Emv2Clause → List Spot) → List Clause → List Spot
-spots_of spots clauses = flat_map (λ clause. spots clause.clause) clauses
+spots_of spots clauses = flat_map (λ clause. spots clause.item) clauses
 
 -- ---- refusals
 

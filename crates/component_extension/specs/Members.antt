@@ -22,10 +22,14 @@ use Rattle.component_extension.specs.Rows.{Key, named, numbered_from, put, row_b
 
 -- ---- declarations
 
--- A classifier of a chain: its package and its declaration.
-pub record Class : Type 0 where
+-- What stands in a package, with the number of the package.
+pub record InPackage (Item : Type 0) : Type 0 where
   pub «package» : ℕ
-  pub decl : Decl
+  pub item : Item
+
+-- A classifier of a chain: its package and its declaration.
+abbrev pub Class : Type 0
+Class = InPackage Decl
 
 -- A kind of member: where a classifier declares such members, and what each declaration states. A subcomponent may state
 -- its classifier, and a connection its ends.
@@ -45,7 +49,7 @@ pub record Declared (Item : Type 0) : Type 0 where
 
 -- the declarations of a classifier at this level
 abbrev pub declared_by : {Item : Type 0} → Kind Item → ℕ → Class → List (Declared Item)
-declared_by kind level class = map (λ item. record { level = level; «package» = class.«package»; item = item }) (kind.items class.decl)
+declared_by kind level class = map (λ item. record { level = level; «package» = class.«package»; item = item }) (kind.items class.item)
 
 -- The declarations of a chain, from the farthest classifier to the nearest, each in the order of its text.
 abbrev pub declarations : {Item : Type 0} → Kind Item → List Class → List (Declared Item)

@@ -100,7 +100,7 @@ fn machine_by<'a>(
 ) -> Option<InClause<'a, Ref>>
     ensures { result ≡ fold (λ before machine. Some machine) before.entry (machine_by scope clause.now) }
 {
-    match &clause.clause().machine {
+    match &clause.item().machine {
         Some(name) => Some(InClause::new(scope, name)),
         None => before,
     }
@@ -143,7 +143,7 @@ fn spots_of<S: SpotKind>(alloc: Global, clauses: &[ClauseText<'_>]) -> Mem<List<
 {
     let mut spots = List::new(alloc);
     for clause in clauses {
-        add_spots(&mut spots, S::spots(clause.clause()))?;
+        add_spots(&mut spots, S::spots(clause.item()))?;
     }
     Ok(spots)
 }

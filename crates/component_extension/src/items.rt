@@ -4,6 +4,7 @@ ghost use Rattle.component_extension.specs.Items.{clauses_in, clauses_of, gather
 ghost use Rattle.component_extension.specs.Rows.{KnowsRows, key_of_words, put, same_words};
 
 use crate::classifier::Classifier;
+use crate::in_package::InPackage;
 use crate::rows::{KeyWords, Row, named, put};
 use aadl_syntax::{
     Association, Composite, Emv2Clause, EventDecl, Flow, Identifier, List, Mem, Outgoing,
@@ -14,51 +15,8 @@ use std::alloc::Global;
 use std::collections::HashMap;
 use std::marker::Model;
 
-/// A clause of a classifier of a chain, with the number of its package.
-#[derive(Drop)]
-pub struct ClauseText<'a> {
-    package: u32,
-    clause: &'a Emv2Clause,
-}
-
-impl<'a> Model for ClauseText<'a> {
-    ghost use Rattle.std.specs.Coded.{codes};
-    ghost use Rattle.aadl_syntax.specs.contracts.error_model.Condition as condition;
-    ghost use Rattle.component_extension.specs.Items.{Clause};
-
-    ghost Value = { Clause };
-
-    ghost coded = { Prim.hlevel (codes, condition.the_row.coded) };
-
-    ghost view = { λ c. record { «package» = c.«package»; clause = c.clause.now } };
-}
-
-impl<'a> ClauseText<'a> {
-    ghost use Rattle.std.specs.Prelude.{◌≡◌};
-
-    pub(crate) fn new(home: u32, clause: &'a Emv2Clause) -> ClauseText<'a>
-        ensures { result ≡ record { «package» = home; clause = clause.now } }
-    {
-        ClauseText {
-            package: home,
-            clause,
-        }
-    }
-
-    /// The number of its package.
-    pub fn package(&self) -> u32
-        ensures { result ≡ self.now.«package» }
-    {
-        self.package
-    }
-
-    /// The clause.
-    pub fn clause(&self) -> &'a Emv2Clause
-        ensures { result.now ≡ self.now.clause }
-    {
-        self.clause
-    }
-}
+/// A clause of a classifier of a chain.
+pub type ClauseText<'a> = InPackage<'a, Emv2Clause>;
 
 /// An item with the number of its clause.
 #[derive(Drop)]
@@ -303,8 +261,8 @@ pub(crate) fn clauses_of<'a>(
 fn add_clauses<'a>(clauses: &mut Vec<ClauseText<'a>>, classifier: &Classifier<'a>) -> Mem<()>
     ensures { OnOk result (clauses.new.items ≡ clauses.old.items ++ clauses_in classifier.now) }
 {
-    for clause in classifier.decl().clauses.items() {
-        clauses.push(ClauseText::new(classifier.package(), clause))?;
+    for clause in classifier.item().clauses.items() {
+        clauses.push(InPackage::new(classifier.package(), clause))?;
     }
     Ok(())
 }
@@ -334,7 +292,7 @@ fn put_items<'a, T: ClauseItem>(
     ensures rows { OnOk result (rows.new.items ≡ fold (put (λ scoped. T.key scoped.item)) rows.old.items (scoped_by T.items scope clause.now)) }
     ensures knows { OnOk result (KnowsRows (λ scoped. T.key scoped.item) rows.new.items (get same_words places.new)) }
 {
-    for item in T::items(clause.clause()) {
+    for item in T::items(clause.item()) {
         put(places, rows, item.key(), InClause::new(scope, item))?;
     }
     Ok(())

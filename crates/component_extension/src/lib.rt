@@ -6,6 +6,7 @@ mod classifier;
 mod declaration;
 mod effective;
 mod error_model;
+mod in_package;
 mod items;
 mod limits;
 mod member;
@@ -20,6 +21,7 @@ pub use effective::{Effective, Members, effective_members};
 pub use error_model::{
     Behavior, OtherItems, Propagations, behavior_of, machine_of, other_items_of, propagations_of,
 };
+pub use in_package::InPackage;
 pub use items::{ClauseItem, ClauseText, InClause};
 pub use limits::Limited;
 pub use member::{Inherited, MemberKind};

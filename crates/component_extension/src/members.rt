@@ -34,7 +34,7 @@ fn add_declared<'a, M: MemberKind>(
 ) -> Mem<()>
     ensures { OnOk result (all.new.items ≡ all.old.items ++ declared_by M.kind level classifier.now) }
 {
-    for item in M::items(classifier.decl()) {
+    for item in M::items(classifier.item()) {
         all.push(Declaration::new(level, classifier.package(), item))?;
     }
     Ok(())
