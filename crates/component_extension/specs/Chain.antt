@@ -1,5 +1,5 @@
 -- The chain of a classifier: the classifiers from which it has its parts (AS5506: types, implementations, `extends`).
-use Rattle.std.specs.Prelude.{◌≡◌, ⊤, ℕ, zero, suc, ◌^◌, Bool, true, false, ◌&&◌, not, nat_eq, List, [], ◌∷◌, ◌++◌, Option, Some, None, is_some, Result, Ok, Err}
+use Rattle.std.specs.Prelude.{◌≡◌, ⊤, ℕ, zero, suc, ◌^◌, Bool, true, false, ◌&&◌, not, nat_eq, List, [], ◌∷◌, ◌++◌, Option, Some, None, is_some, slice_get, Result, Ok, Err}
 use Rattle.std.specs.Bool.{beq}
 use Rattle.std.specs.List.{list_any}
 use Rattle.aadl_syntax.specs.declared.core_model.Decl.{Decl}
@@ -70,21 +70,31 @@ extended packages chain id decl (Some reference) =
     then_so (refused_at (place_of reference.spot) (look_classifier packages (Some id.«package») reference.names reference.item)) (tested chain decl reference)
 
 -- The type of an implementation: what its name before the dot means in its package, N3 at that name where it means none.
--- A type has none of its own.
-abbrev pub own_type : List PackageUnit → ClassifierId → Decl → Option (List ℕ) → Result (Option ClassifierId) Refusal
-own_type packages id decl None = Ok None
-own_type packages id decl (Some item) = then_so (refused_at (place_of decl.spot) (look_classifier packages (Some id.«package») (decl.name ∷ []) None)) (λ type. Ok (Some type))
+abbrev pub type_of : List PackageUnit → ClassifierId → Option Decl → Result (Option ClassifierId) Refusal
+type_of packages id None = Ok None
+type_of packages id (Some decl) = then_so (refused_at (place_of decl.spot) (look_classifier packages (Some id.«package») (decl.name ∷ []) None)) (λ type. Ok (Some type))
 
--- the classifier that is extended, or else the type of an implementation
-abbrev pub onward : List PackageUnit → ClassifierId → Decl → Option ClassifierId → Result (Option ClassifierId) Refusal
-onward packages id decl (Some base) = Ok (Some base)
-onward packages id decl None = own_type packages id decl decl.item
+-- the type of the first implementation of a chain
+abbrev pub first_type : List PackageUnit → Option ClassifierId → Result (Option ClassifierId) Refusal
+first_type packages None = Ok None
+first_type packages (Some id) = type_of packages id (decl_of packages id)
+
+-- What comes at the end of a line of implementations: the type of the first of them, whatever the types of those that it
+-- extends. Nothing comes at the end of a line of types.
+abbrev pub own_type : List PackageUnit → List ClassifierId → Option (List ℕ) → Result (Option ClassifierId) Refusal
+own_type packages chain None = Ok None
+own_type packages chain (Some item) = first_type packages (slice_get chain 0)
+
+-- the classifier that is extended, or else the type of the first implementation of the chain
+abbrev pub onward : List PackageUnit → List ClassifierId → Decl → Option ClassifierId → Result (Option ClassifierId) Refusal
+onward packages chain decl (Some base) = Ok (Some base)
+onward packages chain decl None = own_type packages chain decl.item
 
 -- The classifier that comes after a declaration in a chain, if any: that which it extends, and at the end of a line of
--- implementations the type of the last. P1 where it has a section of prototypes, after all tests of its `extends`.
+-- implementations the type of the first. P1 where it has a section of prototypes, after all tests of its `extends`.
 abbrev pub next_of : List PackageUnit → List ClassifierId → ClassifierId → Option Decl → Result (Option ClassifierId) Refusal
 next_of packages chain id None = Ok None
-next_of packages chain id (Some decl) = then_so (extended packages chain id decl decl.extends) (λ base. refused_where decl.prototypes Prototype (onward packages id decl base))
+next_of packages chain id (Some decl) = then_so (extended packages chain id decl decl.extends) (λ base. refused_where decl.prototypes Prototype (onward packages chain decl base))
 
 -- ---- the chain
 
@@ -99,8 +109,8 @@ chain_from zero packages front id = Ok front
 chain_from (suc steps) packages front id =
     then_so (next_of packages (front ++ id ∷ []) id (decl_of packages id)) (ends_or (front ++ id ∷ []) (chain_from steps packages (front ++ id ∷ [])))
 
--- The chain of a classifier, the nearest first: an implementation, those that it extends in turn, then the type of the
--- last and the types that this extends in turn. It is refused by the first fault from the nearest on. No index has as
+-- The chain of a classifier, the nearest first: an implementation, those that it extends in turn, then its own type and the
+-- types that this extends in turn. It is refused by the first fault from the nearest on. No index has as
 -- many as 2^64 classifiers, so it always comes to its end.
 abbrev pub chain_of : List PackageUnit → ClassifierId → Result (List ClassifierId) Refusal
 chain_of packages id = chain_from (2 ^ 64) packages [] id

@@ -1,6 +1,6 @@
-ghost use Rattle.std.specs.Prelude.{◌≡◌, ◌∷◌, ◌++◌, [], Some, None, IfOk};
+ghost use Rattle.std.specs.Prelude.{◌≡◌, ◌∷◌, ◌++◌, [], Some, None, IfOk, slice_get};
 ghost use Rattle.package_index.specs.Lookup.{decl_of, place_of, refusal};
-ghost use Rattle.component_extension.specs.Chain.{Answers, chain_of, extended, is_among, next_of, onward, own_type, tested};
+ghost use Rattle.component_extension.specs.Chain.{Answers, chain_of, extended, first_type, is_among, next_of, onward, own_type, tested, type_of};
 
 use aadl_syntax::{Answer, Code, Decl, Identifier, List, Mem, Place, Ref, Refusal, Spot, Stop};
 use package_index::{ClassifierId, Index};
@@ -53,6 +53,12 @@ impl Walked {
         Ok(Walked { ids, seen })
     }
 
+    fn first(&self) -> Option<ClassifierId>
+        ensures { result ≡ slice_get self.now 0 }
+    {
+        self.ids.items().first().copied()
+    }
+
     fn ids(self) -> List<ClassifierId>
         ensures { result ≡ self }
     {
@@ -60,12 +66,12 @@ impl Walked {
     }
 }
 
-/// The chain of a classifier, the nearest first: an implementation, those that it extends in turn, then the type of the
-/// last and the types that this extends in turn.
+/// The chain of a classifier, the nearest first: an implementation, those that it extends in turn, then its own type and the
+/// types that this extends in turn.
 ///
 /// From the nearest on, each `extends` is tested, and then the prototypes of that classifier: N2 and N3 where the extended
 /// name means no classifier, or one of the other sort, N4 where the chain comes back to a classifier, P1 at bindings and
-/// at a section of prototypes, N3 where an implementation has no type.
+/// at a section of prototypes; at the end of the implementations N3 where the first of them has no type.
 pub fn chain_of(alloc: Global, index: &Index, id: ClassifierId) -> Answer<List<ClassifierId>>
     ensures { Answers (chain_of index.now id) result }
 {
@@ -108,7 +114,7 @@ fn after(
     if let Some(spot) = decl.prototypes {
         return Err(Stop::Refused(refusal(Code::Prototype, spot)));
     }
-    onward(alloc, index, id, decl, base)
+    onward(alloc, index, chain, decl, base)
 }
 
 fn extended(
@@ -149,29 +155,63 @@ fn tested(
 fn onward(
     alloc: Global,
     index: &Index,
-    id: ClassifierId,
+    chain: &Walked,
     decl: &Decl,
     base: Option<ClassifierId>,
 ) -> Answer<Option<ClassifierId>>
-    ensures { Answers (onward index.now id decl.now base) result }
+    ensures { Answers (onward index.now chain.now decl.now base) result }
 {
     match base {
         Some(base) => Ok(Some(base)),
-        None => own_type(alloc, index, id, decl),
+        None => own_type(alloc, index, chain, decl),
     }
 }
 
 fn own_type(
     alloc: Global,
     index: &Index,
+    chain: &Walked,
+    decl: &Decl,
+) -> Answer<Option<ClassifierId>>
+    ensures { Answers (own_type index.now chain.now decl.now.item) result }
+{
+    match &decl.item {
+        Some(_) => first_type(alloc, index, chain.first()),
+        None => Ok(None),
+    }
+}
+
+/// The type of the first implementation of a chain.
+fn first_type(
+    alloc: Global,
+    index: &Index,
+    first: Option<ClassifierId>,
+) -> Answer<Option<ClassifierId>>
+    ensures { Answers (first_type index.now first) result }
+{
+    match first {
+        Some(id) => type_of(alloc, index, id),
+        None => Ok(None),
+    }
+}
+
+fn type_of(alloc: Global, index: &Index, id: ClassifierId) -> Answer<Option<ClassifierId>>
+    ensures { Answers (type_of index.now id (decl_of index.now id)) result }
+{
+    match index.decl(id) {
+        Some(decl) => named_type(alloc, index, id, decl),
+        None => Ok(None),
+    }
+}
+
+fn named_type(
+    alloc: Global,
+    index: &Index,
     id: ClassifierId,
     decl: &Decl,
 ) -> Answer<Option<ClassifierId>>
-    ensures { Answers (own_type index.now id decl.now decl.now.item) result }
+    ensures { Answers (type_of index.now id (Some decl.now)) result }
 {
-    if decl.item.is_none() {
-        return Ok(None);
-    }
     let reference = type_reference(alloc, decl)?;
     Ok(Some(index.find_classifier(id.package, &reference)?))
 }
