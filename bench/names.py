@@ -1,10 +1,10 @@
 #!/usr/bin/env python3
-"""Large texts of names: how long it takes to find a root in them.
+"""Large texts of names: how long it takes to find a root in them, and what it has along its chain.
 
     names.py --tool PROGRAM    runs `aadl_fta check` over each, beside a text as long that has no names to find
 
 A text is of no form that is served yet, so each run ends with the status 8 and `not yet`: by then the files were read, all
-names were put into tables, and the root was found.
+names were put into tables, and the root, its chain and its members were tested.
 """
 
 import argparse
@@ -44,12 +44,27 @@ def comments(folder):
     return ["p3::d", *names]
 
 
+def chain(folder):
+    """4,000 types, each of which extends the one before and has one feature more."""
+    types = ["system t0 features f0: in data port; end t0;\n"]
+    types += [f"system t{n} extends t{n - 1} features f{n}: in data port; end t{n};\n" for n in range(1, 4000)]
+    (folder / "chain.aadl").write_text("package p public\n" + "".join(types) + "end p;\n")
+    return ["p::t3999", "chain.aadl"]
+
+
+def plain(folder):
+    """4,000 types with one feature each, of which none extends another."""
+    types = [f"system t{n} features f{n}: in data port; end t{n};\n" for n in range(4000)]
+    (folder / "plain.aadl").write_text("package p public\n" + "".join(types) + "end p;\n")
+    return ["p::t3999", "plain.aadl"]
+
+
 def main():
     parser = argparse.ArgumentParser(description="Runs aadl_fta check over large texts of names.")
     parser.add_argument("--tool", required=True, help="the program aadl_fta")
     tool = str(Path(parser.parse_args().tool).resolve())
     print("| text | status | s | MB |\n|---|---|---|---|")
-    for make in (classifiers, comments):
+    for make in (classifiers, comments, chain, plain):
         with tempfile.TemporaryDirectory() as folder:
             words = make(Path(folder))
             run = [sys.executable, "-c", MEASURE, tool, "check", *words]

@@ -1,5 +1,5 @@
 -- The root in the files, the first form of their units, and the target.
-use Rattle.std.proofs.Common.{◌≡◌, ◌<◌, ◌≤◌, ◌⊎◌, inl, inr, List, ℕ, [], ◌∷◌, length, get_or, map, Option, Some, None, MatchOption, Result, Ok, Err, IfOk, refl, sym, ap, subst, ◌∙◌, arith}
+use Rattle.std.proofs.Common.{◌≡◌, ◌<◌, ◌≤◌, ◌⊎◌, inl, inr, Contains, List, ℕ, [], ◌∷◌, length, get_or, map, Option, Some, None, MatchOption, Result, Ok, Err, IfOk, refl, sym, ap, subst, ◌∙◌, arith}
 use Rattle.std.proofs.lemmas.Bool.{cases_lt}
 use Rattle.std.proofs.lemmas.Option.{slice_get_within, get_or_from_slice_get}
 use Rattle.std.proofs.lemmas.List.{get_or-map}
@@ -17,6 +17,7 @@ use Rattle.aadl_syntax.proofs.OrderLaws.{first_alone}
 use Rattle.first_form.specs.Form.{IsFirstForm}
 use Rattle.first_form.proofs.OneForm.{one_form}
 use Rattle.fault_system.specs.Systems.{System, NamesDiffer}
+use Rattle.component_extension.specs.Items.{classifier_faults}
 use Rattle.package_index.specs.Duplicates.{IsDuplicate, IsRefused}
 use Rattle.aadl_syntax.specs.declared.core_model.PackageUnit.{PackageUnit}
 use Rattle.aadl_syntax.specs.declared.refusal.Place.TheVariants.{Words}
@@ -26,9 +27,9 @@ use Rattle.phases.specs.Meets.{IsMemory}
 use Rattle.phases.specs.Phases.{Passes, Stops, answers, tests}
 use Rattle.phases.specs.Stopped.{status_of}
 use Rattle.phases.specs.declared.status.Status.TheVariants.{Refused}
-use Rattle.fta_run.specs.Due.{root_classifier}
+use Rattle.fta_run.specs.Due.{root_tests}
 use Rattle.fta_run.specs.Files.{of_words}
-use Rattle.fta_run.specs.Model.{AreOfForm, Form, HasDuplicate, IsFactNamed, LacksTarget, root_named}
+use Rattle.fta_run.specs.Model.{AreOfForm, Form, HasDuplicate, HasFault, IsFactNamed, LacksTarget, root_named}
 
 -- one file is of the form of its units
 form_of_one : {R : Type 0} (found : Option R) (shown : R → Form) (files : List (List FileUnit)) (units : List FileUnit) → files ≡ units ∷ []
@@ -72,7 +73,7 @@ one_form_of files a b h k =
 -- ---- the root
 
 -- the index of the files is refused
-pub index_stop : (files its : List (List FileUnit)) (root : Root) (why : Stop) → its ≡ files → IsRefused (IsDuplicate (packages_of its)) why → Stops (root_classifier root files) (status_of why) ⊎ IsMemory (status_of why)
+pub index_stop : (files its : List (List FileUnit)) (root : Root) (why : Stop) → its ≡ files → IsRefused (IsDuplicate (packages_of its)) why → Stops (root_tests root files) (status_of why) ⊎ IsMemory (status_of why)
 index_stop files its root (stop.Refused refusal) same first =
     inl (record { stopped = inl (refusal, subst (λ fs. IsFirst (HasDuplicate fs) refusal) same first, refl) })
 index_stop files its root stop.Memory same first = inr refl
@@ -86,6 +87,21 @@ pub root_is : (files its : List (List FileUnit)) (packages : List PackageUnit) (
     → root_named files root ≡ result
 root_is files its packages root result are same found =
     sym (found ∙ ap (λ (ps : List PackageUnit). refused_at Words (look_classifier ps None root.names root.item)) (are ∙ ap packages_of same))
+
+-- a classifier is refused
+pub classifier_stop : (files : List (List FileUnit)) (packages : List PackageUnit) (id : ClassifierId) (why : Stop) → packages ≡ packages_of files → IsRefused (Contains (classifier_faults packages id)) why → Stops (tests (HasFault files id)) (status_of why) ⊎ IsMemory (status_of why)
+classifier_stop files packages id (stop.Refused refusal) same first =
+    inl (record { stopped = (refusal, subst (λ (ps : List PackageUnit). IsFirst (Contains (classifier_faults ps id)) refusal) same first, refl) })
+classifier_stop files packages id stop.Memory same first = inr refl
+
+-- a classifier is right
+pub classifier_right : (files : List (List FileUnit)) (packages : List PackageUnit) (id : ClassifierId) → packages ≡ packages_of files → classifier_faults packages id ≡ [] → Passes (tests (HasFault files id)) (tt {0})
+classifier_right files packages id same none =
+    let all : classifier_faults (packages_of files) id ≡ [] = ap (λ (ps : List PackageUnit). classifier_faults ps id) (sym same) ∙ none in
+    record { passed = λ refusal stands. absurd (none_there refusal (subst (λ group. Contains group refusal) all stands)) }
+  where
+    none_there : (refusal : Refusal) → Contains [] refusal → ⊥
+    none_there refusal c = omega (arith, c.1)
 
 -- ---- the target
 

@@ -16,7 +16,7 @@ use Rattle.fault_system.specs.Systems.{System}
 use Rattle.backward_slice.specs.Slices.{HasLargeSlice}
 use Rattle.fta_run.specs.Words.{Check, Command, Cuts, files_of, GiveCommand, GiveNoCommand, IsCommand, file_words}
 use Rattle.fta_run.specs.Files.{HasTooLong, HasTooMuch, LacksTokens, LacksUnits, NamesTooMany, most_files, of_words}
-use Rattle.fta_run.specs.Model.{HasDuplicate, LacksTarget, root_named}
+use Rattle.fta_run.specs.Model.{HasDuplicate, HasFault, LacksTarget, root_named}
 use Rattle.fta_run.specs.Due.{command_text, cuts_text, due, system_at, system_in, texts_of}
 use Rattle.fta_run.specs.Answers.{AllTold, AnswersWords, IsJustified, IsManyAnswer, IsSameStatus, MayCome}
 use Rattle.fta_run.specs.Steps.{IsReadEnd, Prints, Runs, RunsBut, ended}
@@ -46,8 +46,11 @@ system_later : (root : Root) (texts : List (List ℕ)) → StopsOnly Later (syst
 system_later root texts = (
   (refusal_later (IsFirst (LacksTokens texts)), λ tokens are. refusal_later (LacksUnits texts tokens)),
   λ files have. (
-    (refusal_later (IsFirst (HasDuplicate files)), λ _ clear. refusal_later (λ refusal. root_named files root ≡ Err refusal)),
-    λ id at. ((λ s none. inr none.0), λ form is. tt),
+    (
+      refusal_later (IsFirst (HasDuplicate files)),
+      λ _ clear. (refusal_later (λ refusal. root_named files root ≡ Err refusal), λ id named. refusal_later (IsFirst (HasFault files id))),
+    ),
+    λ _ at. ((λ s none. inr none.0), λ form is. tt),
   ),
 )
 

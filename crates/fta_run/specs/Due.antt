@@ -8,10 +8,9 @@ use Rattle.fault_system.specs.Systems.{System}
 use Rattle.backward_slice.specs.Slices.{HasLargeSlice, IsServed}
 use Rattle.fault_system.specs.Listings.{IsListing}
 use Rattle.first_form.specs.Meaning.{system_of}
-use Rattle.package_index.specs.declared.id.ClassifierId.{ClassifierId}
 use Rattle.fta_run.specs.Words.{Command, Check, Cuts, IsCommand}
 use Rattle.fta_run.specs.Files.{MayContain, NamesTooMany, HasTooLong, HasTooMuch, AreTokens, LacksTokens, AreUnits, LacksUnits}
-use Rattle.fta_run.specs.Model.{AreOfForm, HasDuplicate, IsFactNamed, LacksTarget, root_named}
+use Rattle.fta_run.specs.Model.{AreOfForm, HasDuplicate, HasFault, IsFactNamed, LacksTarget, root_named}
 use Rattle.fta_run.specs.Text.{listing_text, numbers_text}
 
 -- the texts of the files, which are not too many, none too long, and not too long together
@@ -29,17 +28,19 @@ units_of texts = do
   tokens ← answers (AreTokens texts) (LacksTokens texts)
   rejects (AreUnits tokens) (LacksUnits texts tokens)
 
--- the classifier of the root in these files, in which nothing is declared again
-abbrev pub root_classifier : Root → List (List FileUnit) → Phase ClassifierId
-root_classifier root files = do
+-- what is tested of the names in these files: nothing is declared again, and the root is a classifier whose chain and members
+-- have no fault
+abbrev pub root_tests : Root → List (List FileUnit) → Phase (Unit {0})
+root_tests root files = do
   _ ← tests (HasDuplicate files)
-  computes (root_named files root)
+  id ← computes (root_named files root)
+  tests (HasFault files id)
 
 -- the system of the root in files of these texts, which are of the first form: it has one classifier, so that is the root
 abbrev pub system_at : Root → List (List ℕ) → Phase System
 system_at root texts = do
   files ← units_of texts
-  _ ← root_classifier root files
+  _ ← root_tests root files
   form ← finds (AreOfForm files) NotYet
   yields (system_of form.machine)
 

@@ -1,5 +1,5 @@
 -- The root in the packages of the files, the form of their units, and the target.
-use Rattle.std.specs.Prelude.{◌≡◌, ℕ, List, [], ◌∷◌, None, Some, Result, slice_get}
+use Rattle.std.specs.Prelude.{◌≡◌, ℕ, List, [], ◌∷◌, Contains, None, Some, Result, slice_get}
 use Rattle.aadl_syntax.specs.declared.core_model.Decl.{Decl}
 use Rattle.aadl_syntax.specs.declared.core_model.Unit.{Unit as FileUnit}
 use Rattle.aadl_syntax.specs.declared.error_model.MachineDecl.{MachineDecl}
@@ -9,6 +9,7 @@ use Rattle.aadl_syntax.specs.declared.refusal.Place.TheVariants.{Words}
 use Rattle.aadl_syntax.specs.declared.refusal.Refusal.{Refusal}
 use Rattle.fault_system.specs.Systems.{System}
 use Rattle.fault_system.specs.declared.formula.FactInfo.{FactInfo}
+use Rattle.component_extension.specs.Items.{classifier_faults}
 use Rattle.first_form.specs.Form.{IsFirstForm}
 use Rattle.package_index.specs.Duplicates.{IsDuplicate}
 use Rattle.package_index.specs.Lookup.{look_classifier, packages_of, refused_at}
@@ -22,6 +23,11 @@ HasDuplicate files = IsDuplicate (packages_of files)
 -- the classifier that the root names in the packages of the files; or N2, its package is not found, or N3, it is not
 abbrev pub root_named : List (List FileUnit) → Root → Result ClassifierId Refusal
 root_named files root = refused_at Words (look_classifier (packages_of files) None root.names root.item)
+
+-- A refusal of a classifier of the files: the first fault of its chain (N2, N3, N4 or P1), or else one of those of the members
+-- along it (N5, N6, P1, P2 or P3).
+abbrev pub HasFault : List (List FileUnit) → ClassifierId → Refusal → Type 0
+HasFault files id = Contains (classifier_faults (packages_of files) id)
 
 -- the parts of units of the first form: the name of the package, the machine, and the classifier that uses it
 pub record Form : Type 0 where

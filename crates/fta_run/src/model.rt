@@ -4,15 +4,16 @@ ghost use Rattle.std.specs.Prelude.{◌↔◌, IfOk, IsTrue, MatchOption};
 ghost use Rattle.phases.specs.Meets.{IsMemory, Meets, MeetsBut};
 ghost use Rattle.phases.specs.Phases.{answers, finds};
 ghost use Rattle.phases.specs.declared.status.Status.TheVariants.{NotYet};
-ghost use Rattle.fta_run.specs.Due.{root_classifier, system_at};
+ghost use Rattle.fta_run.specs.Due.{root_tests, system_at};
 ghost use Rattle.fta_run.specs.Model.{AreOfForm, IsFactNamed, LacksTarget};
 ghost use Rattle.fta_run.specs.Shown.{form_shown};
 
 use crate::input::{Texts, of_words, units_of_texts};
 use aadl_syntax::{Code, List, Mem, Name, Root, Unit, is_same};
+use component_extension::Effective;
 use fault_system::FaultSystem;
 use first_form::{FirstForm, first_form, system_of};
-use package_index::{ClassifierId, Index};
+use package_index::Index;
 use phases::Status;
 use std::alloc::Global;
 
@@ -21,19 +22,21 @@ pub fn system_at(alloc: Global, root: &Root, texts: &Texts) -> Result<FaultSyste
     ensures { Meets (system_at root.now texts.now) result }
 {
     let files = units_of_texts(alloc, texts)?;
-    let _root = find_root(alloc, &files, root)?;
+    test_root(alloc, &files, root)?;
     let form = form_of_files(alloc, &files)?;
     let system = system_of(alloc, form.machine)?;
     Ok(system)
 }
 
-/// The classifier of a root in files in which nothing is declared again.
-fn find_root(alloc: Global, files: &List<List<Unit>>, root: &Root) -> Result<ClassifierId, Status>
-    ensures { Meets (root_classifier root.now files.now) result }
+/// Refuses files in which something is declared again, and a root that is no classifier of them, or one whose chain or whose
+/// members have a fault.
+fn test_root(alloc: Global, files: &List<List<Unit>>, root: &Root) -> Result<(), Status>
+    ensures { Meets (root_tests root.now files.now) result }
 {
     let index = Index::new(alloc, files.items())?;
     let id = index.root(root)?;
-    Ok(id)
+    let _effective = Effective::of(alloc, &index, id)?;
+    Ok(())
 }
 
 /// The form of the units of the files, where there is one file and it is of the first form.
