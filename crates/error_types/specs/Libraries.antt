@@ -1,0 +1,165 @@
+-- The error types that libraries declare (EMV2: error type libraries).
+use Rattle.std.specs.Prelude.{◌≡◌, ℕ, ◌+◌, ◌<◌, Bool, true, false, cond, ◌&&◌, not, nat_eq, List, [], ◌∷◌, ◌++◌, length, map, flat_map, position, slice_get, Option, Some, None, option_map, option_and_then, option_to_list, is_none, codes}
+use Rattle.std.specs.List.{list_any}
+use Rattle.aadl_syntax.specs.Name.{is_same_text}
+use Rattle.aadl_syntax.specs.declared.core_model.PackageUnit.{PackageUnit}
+use Rattle.aadl_syntax.specs.declared.error_model.TypeItem.{TypeItem}
+use Rattle.aadl_syntax.specs.declared.error_model.TypeKind.{TypeKind}
+use Rattle.aadl_syntax.specs.declared.error_model.TypeKind.TheVariants.{Plain, Alias, Set, SetAlias}
+use Rattle.aadl_syntax.specs.declared.error_model.TypesBlock.{TypesBlock}
+use Rattle.aadl_syntax.specs.declared.place.Ref.{Ref}
+use Rattle.aadl_syntax.specs.declared.place.Spot.{Spot}
+use Rattle.aadl_syntax.specs.declared.refusal.Code.{Code}
+use Rattle.aadl_syntax.specs.declared.refusal.Code.TheVariants.{UnknownPackage, TooManyTypes}
+use Rattle.aadl_syntax.specs.declared.refusal.Place.TheVariants.{Words}
+use Rattle.aadl_syntax.specs.declared.refusal.Refusal.{Refusal}
+use Rattle.package_index.specs.Lookup.{look_package, place_of, refusal}
+use Rattle.error_types.specs.declared.id.ItemId.{ItemId}
+
+-- ---- lists
+
+-- what a function gives for each part and its number, where the first has this number
+abbrev pub map_from : {Part Made : Type 0} → (ℕ → Part → Made) → ℕ → List Part → List Made
+map_from make number [] = []
+map_from make number (part ∷ parts) = make number part ∷ map_from make (number + 1) parts
+
+-- the same where each part gives a list
+abbrev pub flat_map_from : {Part Made : Type 0} → (ℕ → Part → List Made) → ℕ → List Part → List Made
+flat_map_from make number [] = []
+flat_map_from make number (part ∷ parts) = make number part ++ flat_map_from make (number + 1) parts
+
+-- ---- names of libraries
+
+-- a refusal at a name, where it stands
+abbrev pub refused_so : Bool → Code → Spot → List Refusal
+refused_so true code spot = refusal code (place_of spot) ∷ []
+refused_so false code spot = []
+
+-- the library that a name means in a text of the package: that of the package of this name
+abbrev pub library_named : List PackageUnit → ℕ → Ref → Option ℕ
+library_named packages from reference = look_package packages (Some from) reference.names
+
+-- the libraries that names mean, in order, but for those that mean none
+abbrev pub libraries_named : List PackageUnit → ℕ → List Ref → List ℕ
+libraries_named packages from references = flat_map (λ reference. option_to_list (library_named packages from reference)) references
+
+-- N2 at each name that means no library
+abbrev pub unknown_libraries : List PackageUnit → ℕ → List Ref → List Refusal
+unknown_libraries packages from references = flat_map (λ reference. refused_so (is_none (library_named packages from reference)) UnknownPackage reference.spot) references
+
+-- ---- libraries
+
+-- A library: the items of its blocks, the libraries that it extends and those whose types it uses, and the refusals of their
+-- names.
+pub record Library : Type 0 where
+  pub items : List TypeItem
+  pub extends : List ℕ
+  pub uses : List ℕ
+  pub unknown : List Refusal
+
+-- the names of libraries that blocks extend, and those whose types they use
+abbrev pub extends_of : List TypesBlock → List Ref
+extends_of blocks = flat_map (λ block. block.extends) blocks
+
+abbrev pub uses_of : List TypesBlock → List Ref
+uses_of blocks = flat_map (λ block. block.uses) blocks
+
+abbrev pub items_of : List TypesBlock → List TypeItem
+items_of blocks = flat_map (λ block. block.items) blocks
+
+-- The library of a package of this number. A package without error types has one without items.
+abbrev pub library_of : List PackageUnit → ℕ → PackageUnit → Library
+library_of packages number unit = record {
+  items = items_of unit.library.blocks;
+  extends = libraries_named packages number (extends_of unit.library.blocks);
+  uses = libraries_named packages number (uses_of unit.library.blocks);
+  unknown = unknown_libraries packages number (uses_of unit.library.blocks) ++ unknown_libraries packages number (extends_of unit.library.blocks);
+}
+
+-- the libraries of all packages, in order
+abbrev pub libraries_of : List PackageUnit → List Library
+libraries_of packages = map_from (library_of packages) 0 packages
+
+-- ---- items
+
+-- what a list of a library has, if there is the library
+abbrev pub of_library : {Part : Type 0} → (Library → List Part) → Option Library → List Part
+of_library part None = []
+of_library part (Some library) = part library
+
+-- whether an item has the name
+abbrev pub has_item_name : List ℕ → TypeItem → Bool
+has_item_name name item = is_same_text item.name name
+
+-- the item of a number
+abbrev pub item_at : List Library → ItemId → Option TypeItem
+item_at libraries id = option_and_then (λ library. slice_get library.items id.item) (slice_get libraries id.«package»)
+
+-- whether two items are the same
+abbrev pub is_same_item : ItemId → ItemId → Bool
+is_same_item a b = nat_eq a.«package» b.«package» && nat_eq a.item b.item
+
+-- whether an item is one of these
+abbrev pub is_item_in : List ItemId → ItemId → Bool
+is_item_in ids id = list_any (is_same_item id) ids
+
+-- ---- types
+
+-- whether an item declares a type, and no alias or set
+abbrev pub is_type : TypeKind → Bool
+is_type (Plain base) = true
+is_type (Alias target) = false
+is_type (Set set) = false
+is_type (SetAlias target) = false
+
+-- whether an item declares a set, or an alias of one
+abbrev pub is_set : TypeKind → Bool
+is_set (Plain base) = false
+is_set (Alias target) = false
+is_set (Set set) = true
+is_set (SetAlias target) = true
+
+-- whether an item declares a type of this name
+abbrev pub is_type_named : List ℕ → TypeItem → Bool
+is_type_named name item = is_type item.kind && has_item_name name item
+
+-- The types among the items of a library of this number: each declared type whose name no earlier one has. `before` are the
+-- items that stand before these.
+abbrev pub types_after : ℕ → List TypeItem → List TypeItem → List ItemId
+types_after number before [] = []
+types_after number before (item ∷ items) =
+    cond (is_type item.kind && not (list_any (is_type_named item.name) before)) (record { «package» = number; item = length before } ∷ []) []
+    ++ types_after number (before ++ item ∷ []) items
+
+-- All types, in the order of the files and of the text. A type is named by its place among them.
+abbrev pub types_of : List Library → List ItemId
+types_of libraries = flat_map_from (λ number library. types_after number [] library.items) 0 libraries
+
+-- the declared types of all libraries, also those of a name that an earlier one has
+abbrev pub declared_types : List Library → List TypeItem
+declared_types libraries = flat_map (λ library. flat_map (λ item. cond (is_type item.kind) (item ∷ []) []) library.items) libraries
+
+-- ---- the table
+
+-- What is known of the types of all packages.
+pub record Table : Type 0 where
+  pub packages : List PackageUnit
+  pub libraries : List Library
+  pub types : List ItemId
+
+-- what the packages declare
+abbrev pub table_of : List PackageUnit → Table
+table_of packages = record { packages = packages; libraries = libraries_of packages; types = types_of (libraries_of packages) }
+
+-- the number of a type
+abbrev pub number_of : Table → ItemId → Option ℕ
+number_of table id = position (is_same_item id) table.types
+
+-- how many types may be declared
+abbrev pub greatest_types : ℕ
+greatest_types = 1024
+
+-- M8: more types are declared
+pub record HasTooManyTypes (packages : List PackageUnit) (m8 : Refusal) : Type 0 where
+  pub many : greatest_types < length (declared_types (libraries_of packages))
+  pub is : m8 ≡ record { code = TooManyTypes; place = Words; limit = greatest_types }

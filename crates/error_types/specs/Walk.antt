@@ -1,0 +1,132 @@
+-- What the names of a written set lead to: the types that they name, and what is refused on the way.
+use Rattle.std.specs.Prelude.{ℕ, zero, suc, ◌^◌, Bool, true, false, cond, ◌&&◌, List, [], ◌∷◌, ◌++◌, map, flat_map, fold, slice_get, Option, Some, None, option_to_list}
+use Rattle.aadl_syntax.specs.declared.error_model.Term.{Term}
+use Rattle.aadl_syntax.specs.declared.error_model.Term.TheVariants.{NoError, One, Product}
+use Rattle.aadl_syntax.specs.declared.error_model.TypeItem.{TypeItem}
+use Rattle.aadl_syntax.specs.declared.error_model.TypeKind.{TypeKind}
+use Rattle.aadl_syntax.specs.declared.error_model.TypeKind.TheVariants.{Plain, Alias, Set, SetAlias}
+use Rattle.aadl_syntax.specs.declared.error_model.TypeSet.{TypeSet}
+use Rattle.aadl_syntax.specs.declared.place.Ref.{Ref}
+use Rattle.aadl_syntax.specs.declared.refusal.Code.TheVariants.{CyclicType, TypeProduct, UnknownType}
+use Rattle.aadl_syntax.specs.declared.refusal.Refusal.{Refusal}
+use Rattle.package_index.specs.Lookup.{place_of, refusal}
+use Rattle.error_types.specs.declared.id.ItemId.{ItemId}
+use Rattle.error_types.specs.declared.scope.Scope.{Scope}
+use Rattle.error_types.specs.Libraries.{Library, Table, is_item_in, is_set, item_at, number_of, of_library}
+use Rattle.error_types.specs.Search.{Named, named}
+
+-- ---- what an item names
+
+-- A name that an item states, and whether it must be that of a type.
+pub record Need : Type 0 where
+  pub of_type : Bool
+  pub reference : Ref
+
+-- the name of a term
+abbrev pub need_of_term : Term → List Need
+need_of_term (NoError spot) = []
+need_of_term (One reference) = record { of_type = false; reference = reference } ∷ []
+need_of_term (Product spot) = []
+
+-- the names of an item: what a type extends and what an alias of a type renames must be types
+abbrev pub needs_of : TypeKind → List Need
+needs_of (Plain base) = map (λ reference. record { of_type = true; reference = reference }) (option_to_list base)
+needs_of (Alias target) = record { of_type = true; reference = target } ∷ []
+needs_of (Set set) = flat_map need_of_term set.terms
+needs_of (SetAlias target) = record { of_type = false; reference = target } ∷ []
+
+-- P4 at a product of types
+abbrev pub product_of_term : Term → List Refusal
+product_of_term (NoError spot) = []
+product_of_term (One reference) = []
+product_of_term (Product spot) = refusal TypeProduct (place_of spot) ∷ []
+
+-- P4 at each product of a set
+abbrev pub products_of : TypeKind → List Refusal
+products_of (Plain base) = []
+products_of (Alias target) = []
+products_of (Set set) = flat_map product_of_term set.terms
+products_of (SetAlias target) = []
+
+-- what the kind of an item gives, if there is the item
+abbrev pub of_item : {Part : Type 0} → (TypeKind → List Part) → Option TypeItem → List Part
+of_item part None = []
+of_item part (Some item) = part item.kind
+
+-- whether an item, if there is one, is a set or an alias of one
+abbrev pub is_set_item : Option TypeItem → Bool
+is_set_item None = false
+is_set_item (Some item) = is_set item.kind
+
+-- the libraries in which the text of a library finds a bare name: its own, and then those whose types it uses
+abbrev pub library_scope : Table → ℕ → Scope
+library_scope table number = record { «package» = number; libraries = number ∷ of_library (λ library. library.uses) (slice_get table.libraries number) }
+
+-- ---- the walk
+
+-- A walk so far: the items that it entered, the types among them, and the refusals that it met.
+pub record Walk : Type 0 where
+  pub entered : List ItemId
+  pub types : List ℕ
+  pub faults : List Refusal
+
+-- the walk once it is at an item
+abbrev pub at_item : Table → Walk → ItemId → Walk
+at_item table walk id = record {
+  entered = id ∷ walk.entered;
+  types = walk.types ++ option_to_list (number_of table id);
+  faults = walk.faults ++ of_item products_of (item_at table.libraries id);
+}
+
+-- the walk with more refusals
+abbrev pub with_faults : Walk → List Refusal → Walk
+with_faults walk faults = record { entered = walk.entered; types = walk.types; faults = walk.faults ++ faults }
+
+-- The walk goes on to what a name means: N7 where it must be a type and is a set, N8 where it is an item on the way, both at
+-- the name. An item that was entered is passed by.
+abbrev pub arrived : (Walk → ItemId → Walk) → Table → List ItemId → Need → Walk → Option ItemId → Walk
+arrived follow table way need walk None = walk
+arrived follow table way need walk (Some id) =
+    cond (need.of_type && is_set_item (item_at table.libraries id)) (with_faults walk (refusal UnknownType (place_of need.reference.spot) ∷ []))
+    (cond (is_item_in way id) (with_faults walk (refusal CyclicType (place_of need.reference.spot) ∷ []))
+    (cond (is_item_in walk.entered id) walk (follow walk id)))
+
+-- the walk goes on to a name in a text
+abbrev pub walked : (Walk → ItemId → Walk) → Table → List ItemId → Scope → Walk → Need → Walk
+walked follow table way scope walk need =
+    arrived follow table way need (with_faults walk (named table scope need.reference).faults) (named table scope need.reference).target
+
+-- The walk through an item, in at most so many steps, depth first in the order of the text. `way` are the items that are
+-- being followed.
+unfoldable pub follow : ℕ → Table → List ItemId → Walk → ItemId → Walk
+follow zero table way walk id = walk
+follow (suc steps) table way walk id =
+    fold (walked (follow steps table (id ∷ way)) table (id ∷ way) (library_scope table id.«package»)) (at_item table walk id) (of_item needs_of (item_at table.libraries id))
+
+-- nothing is walked yet
+abbrev pub no_walk : Walk
+no_walk = record { entered = []; types = []; faults = [] }
+
+-- The walk through an item. No index has as many as 2^64 items, so it always comes to its end.
+abbrev pub walk_from : Table → ItemId → Walk
+walk_from table id = follow (2 ^ 64) table [] no_walk id
+
+-- ---- written sets
+
+-- the walk of a name of a written set: each begins a walk of its own
+abbrev pub name_walk : Table → Scope → Ref → Walk
+name_walk table scope reference = walked (follow (2 ^ 64) table []) table [] scope no_walk (record { of_type = false; reference = reference })
+
+-- the walk of a term of a written set
+abbrev pub term_walk : Table → Scope → Term → Walk
+term_walk table scope (NoError spot) = no_walk
+term_walk table scope (One reference) = name_walk table scope reference
+term_walk table scope (Product spot) = record { entered = []; types = []; faults = refusal TypeProduct (place_of spot) ∷ [] }
+
+-- the types that a written set names
+abbrev pub set_types : Table → Scope → TypeSet → List ℕ
+set_types table scope set = flat_map (λ term. (term_walk table scope term).types) set.terms
+
+-- The refusals of a written set: N2, N7, N8 and P4 of its terms.
+abbrev pub set_faults : Table → Scope → TypeSet → List Refusal
+set_faults table scope set = flat_map (λ term. (term_walk table scope term).faults) set.terms
