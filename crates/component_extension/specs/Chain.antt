@@ -47,10 +47,6 @@ same_id a b = nat_eq a.«package» b.«package» && nat_eq a.decl b.decl
 abbrev pub is_among : List ClassifierId → ClassifierId → Bool
 is_among chain id = list_any (λ other. same_id other id) chain
 
--- whether two pairs of numbers are the same
-abbrev pub same_pair : ℕ × ℕ → ℕ × ℕ → Bool
-same_pair a b = nat_eq a.0 b.0 && nat_eq a.1 b.1
-
 -- whether a reference names the sort of classifier that this is: implementations have an item, and types have none
 abbrev pub is_same_sort : Decl → Ref → Bool
 is_same_sort decl reference = beq (is_some decl.item) (is_some reference.item)

@@ -19,7 +19,8 @@ impl Model for Walked {
     ghost use Rattle.std.specs.Prelude.{◌≡◌, List, is_some};
     ghost use Rattle.std.specs.HashMap.{get};
     ghost use Rattle.package_index.specs.declared.id.ClassifierId.{ClassifierId};
-    ghost use Rattle.component_extension.specs.Chain.{is_among, same_pair};
+    ghost use Rattle.component_extension.specs.Chain.{is_among};
+    ghost use Rattle.package_index.specs.Tables.{same_pair};
 
     ghost Value = { List ClassifierId };
 

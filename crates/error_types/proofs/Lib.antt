@@ -1,5 +1,8 @@
+pub mod AlongLaws
 pub mod Ends
 pub mod Keys
 pub mod MarkLaws
+pub mod Nearer
 pub mod Noting
 pub mod SearchLaws
+pub mod TripLaws

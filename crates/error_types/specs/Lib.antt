@@ -5,3 +5,5 @@ pub mod Walk
 pub mod Types
 pub mod Course
 pub mod Leaving
+pub mod Trip
+pub mod Needs

@@ -1,5 +1,5 @@
 -- The error types that libraries declare (EMV2: error type libraries).
-use Rattle.std.specs.Prelude.{◌≡◌, ℕ, ◌+◌, ◌<◌, Bool, true, false, cond, ◌&&◌, not, nat_eq, List, [], ◌∷◌, ◌++◌, length, map, flat_map, position, slice_get, Option, Some, None, option_map, option_and_then, option_to_list, is_none, codes}
+use Rattle.std.specs.Prelude.{◌≡◌, ℕ, ◌+◌, ◌<◌, Bool, true, false, cond, ◌&&◌, ◌||◌, nat_eq, List, [], ◌∷◌, ◌++◌, length, map, flat_map, position, slice_get, Option, Some, None, option_map, option_and_then, option_to_list, is_none, codes}
 use Rattle.std.specs.List.{list_any}
 use Rattle.aadl_syntax.specs.Name.{is_same_text}
 use Rattle.aadl_syntax.specs.Order.{least}
@@ -116,21 +116,35 @@ is_set (SetAlias target) = true
 abbrev pub is_type_named : List ℕ → TypeItem → Bool
 is_type_named name item = is_type item.kind && has_item_name name item
 
--- The types among the items of a library of this number: each declared type whose name no earlier one has. `before` are the
--- items that stand before these.
-abbrev pub types_after : ℕ → List TypeItem → List TypeItem → List ItemId
-types_after number before [] = []
-types_after number before (item ∷ items) =
-    cond (is_type item.kind && not (list_any (is_type_named item.name) before)) (record { «package» = number; item = length before } ∷ []) []
-    ++ types_after number (before ++ item ∷ []) items
+-- whether a place, if there is one, is this one
+abbrev pub is_place : Option ℕ → ℕ → Bool
+is_place None place = false
+is_place (Some other) place = nat_eq other place
 
--- All types, in the order of the files and of the text. A type is named by its place among them.
+-- Whether the item of a place declares a type, and is the first of the items that declares a type of its name, unless each of
+-- them counts.
+abbrev pub is_counted : Bool → List TypeItem → ℕ → TypeItem → Bool
+is_counted each items place item = is_type item.kind && (each || is_place (position (is_type_named item.name) items) place)
+
+-- the item of a place of a library of this number, if it counts
+abbrev pub counted : Bool → ℕ → List TypeItem → ℕ → TypeItem → List ItemId
+counted each number items place item = cond (is_counted each items place item) (record { «package» = number; item = place } ∷ []) []
+
+-- the types of a library of this number
+abbrev pub types_in : Bool → ℕ → List TypeItem → List ItemId
+types_in each number items = numbered_from (counted each number items) 0 items
+
+-- the types of all libraries, in the order of the files and of the text
+abbrev pub types_by : Bool → List Library → List ItemId
+types_by each libraries = numbered_from (λ number library. types_in each number library.items) 0 libraries
+
+-- All types: of those of one name in a library the first. A type is named by its place among them.
 abbrev pub types_of : List Library → List ItemId
-types_of libraries = numbered_from (λ number library. types_after number [] library.items) 0 libraries
+types_of libraries = types_by false libraries
 
 -- the declared types of all libraries, also those of a name that an earlier one has
-abbrev pub declared_types : List Library → List TypeItem
-declared_types libraries = flat_map (λ library. flat_map (λ item. cond (is_type item.kind) (item ∷ []) []) library.items) libraries
+abbrev pub declared_types : List Library → List ItemId
+declared_types libraries = types_by true libraries
 
 -- ---- the table
 

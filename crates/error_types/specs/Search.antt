@@ -1,5 +1,5 @@
 -- What the name of an error type means where it stands.
-use Rattle.std.specs.Prelude.{ℕ, zero, suc, ◌-◌, ◌^◌, Bool, true, false, cond, nat_eq, List, [], ◌∷◌, ◌++◌, length, fold, position, slice_get, get_or, Option, Some, None, option_map, option_and_then}
+use Rattle.std.specs.Prelude.{ℕ, zero, suc, ◌^◌, Bool, true, false, cond, nat_eq, List, [], ◌∷◌, ◌++◌, fold, position, slice_get, Option, Some, None, option_map, option_and_then}
 use Rattle.std.specs.List.{list_any}
 use Rattle.aadl_syntax.specs.Order.{nearer}
 use Rattle.aadl_syntax.specs.declared.place.Ref.{Ref}
@@ -7,7 +7,7 @@ use Rattle.aadl_syntax.specs.declared.place.Spot.{Spot}
 use Rattle.aadl_syntax.specs.declared.refusal.Code.TheVariants.{CyclicType, UnknownPackage, UnknownType}
 use Rattle.aadl_syntax.specs.declared.refusal.Refusal.{Refusal}
 use Rattle.package_index.specs.Lookup.{look_package, place_of, refusal}
-use Rattle.package_index.specs.Names.{front}
+use Rattle.package_index.specs.Names.{front, last}
 use Rattle.error_types.specs.declared.id.ItemId.{ItemId}
 use Rattle.error_types.specs.declared.id.Looked.{Looked}
 use Rattle.error_types.specs.declared.id.Looked.TheVariants.{Found, Nowhere, Circular}
@@ -122,9 +122,14 @@ abbrev pub libraries_for : Table → Scope → List (List ℕ) → Option (List 
 libraries_for table scope [] = Some scope.libraries
 libraries_for table scope (name ∷ names) = option_map (λ number. number ∷ []) (look_package table.packages (Some scope.«package») (name ∷ names))
 
+-- the name, or an empty one
+abbrev pub or_empty : Option (List ℕ) → List ℕ
+or_empty None = []
+or_empty (Some name) = name
+
 -- the last of names
 abbrev pub last_name : List (List ℕ) → List ℕ
-last_name names = get_or names (length names - 1) []
+last_name names = or_empty (last names)
 
 -- what a name means by its search
 abbrev pub named_by : Spot → Hit → Named

@@ -29,12 +29,18 @@ need_of_term (NoError spot) = []
 need_of_term (One reference) = record { of_type = false; reference = reference } ∷ []
 need_of_term (Product spot) = []
 
--- the names of an item: what a type extends and what an alias of a type renames must be types
-abbrev pub needs_of : TypeKind → List Need
-needs_of (Plain base) = map (λ reference. record { of_type = true; reference = reference }) (option_to_list base)
-needs_of (Alias target) = record { of_type = true; reference = target } ∷ []
-needs_of (Set set) = flat_map need_of_term set.terms
-needs_of (SetAlias target) = record { of_type = false; reference = target } ∷ []
+-- the name of the type that a type extends, where a walk goes on from types to those
+abbrev pub base_needs : Bool → Option Ref → List Need
+base_needs false base = []
+base_needs true base = map (λ reference. record { of_type = true; reference = reference }) (option_to_list base)
+
+-- The names of an item: what a type extends and what an alias of a type renames must be types. A walk may leave out what types
+-- extend.
+abbrev pub needs_of : Bool → TypeKind → List Need
+needs_of through (Plain base) = base_needs through base
+needs_of through (Alias target) = record { of_type = true; reference = target } ∷ []
+needs_of through (Set set) = flat_map need_of_term set.terms
+needs_of through (SetAlias target) = record { of_type = false; reference = target } ∷ []
 
 -- P4 at a product of types
 abbrev pub product_of_term : Term → List Refusal
@@ -106,38 +112,39 @@ abbrev pub walked : (Walk → ItemId → Walk) → Table → List ItemId → Sco
 walked follow table way scope walk need =
     arrived follow table way need (with_fault walk (named table scope need.reference).first) (named table scope need.reference).target
 
--- The walk through an item, in at most so many steps, depth first in the order of the text. `way` are the items that are
--- being followed.
-unfoldable pub follow : ℕ → Table → List ItemId → Walk → ItemId → Walk
-follow zero table way walk id = walk
-follow (suc steps) table way walk id =
-    past_item id (fold (walked (follow steps table (id ∷ way)) table (id ∷ way) (library_scope table id.«package»)) (at_item table walk id) (of_item needs_of (item_at table.libraries id)))
+-- The walk through an item, in at most so many steps, depth first in the order of the text; `through` tells whether it goes on
+-- from a type to the one that this extends. `way` are the items that are being followed.
+unfoldable pub follow : ℕ → Bool → Table → List ItemId → Walk → ItemId → Walk
+follow zero through table way walk id = walk
+follow (suc steps) through table way walk id =
+    past_item id (fold (walked (follow steps through table (id ∷ way)) table (id ∷ way) (library_scope table id.«package»)) (at_item table walk id) (of_item (needs_of through) (item_at table.libraries id)))
 
 -- nothing is walked yet
 abbrev pub no_walk : Walk
 no_walk = record { followed = []; types = []; first = None }
 
 -- The walk through an item. No index has as many as 2^64 items, so it always comes to its end.
-abbrev pub walk_from : Table → ItemId → Walk
-walk_from table id = follow (2 ^ 64) table [] no_walk id
+abbrev pub walk_from : Bool → Table → ItemId → Walk
+walk_from through table id = follow (2 ^ 64) through table [] no_walk id
 
 -- ---- written sets
 
 -- the walk through what a name means
-abbrev pub reached : Table → Option ItemId → Walk
-reached table None = no_walk
-reached table (Some id) = walk_from table id
+abbrev pub reached : Bool → Table → Option ItemId → Walk
+reached through table None = no_walk
+reached through table (Some id) = walk_from through table id
 
--- the types that a term of a written set names: its name begins a walk of its own
+-- The types that a term of a written set names, by itself or through aliases and sets, but not by what types extend. Its name
+-- begins a walk of its own.
 abbrev pub term_types : Table → Scope → Term → List ℕ
 term_types table scope (NoError spot) = []
-term_types table scope (One reference) = (reached table (named table scope reference).target).types
+term_types table scope (One reference) = (reached false table (named table scope reference).target).types
 term_types table scope (Product spot) = []
 
--- the first refusal of a term
+-- the first refusal of a term, also of what types extend
 abbrev pub term_first : Table → Scope → Term → Option Refusal
 term_first table scope (NoError spot) = None
-term_first table scope (One reference) = nearer (named table scope reference).first (reached table (named table scope reference).target).first
+term_first table scope (One reference) = nearer (named table scope reference).first (reached true table (named table scope reference).target).first
 term_first table scope (Product spot) = Some (refusal TypeProduct (place_of spot))
 
 -- the types that a written set names

@@ -2,11 +2,16 @@
 #![tactic(auto)]
 
 mod course;
+mod declarations;
 mod id;
 mod library;
+mod needs;
+mod numbers;
 mod scope;
 mod search;
 mod table;
+mod trip;
+mod walk;
 
 pub use id::{ItemId, Looked};
 pub use scope::Scope;

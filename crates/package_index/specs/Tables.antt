@@ -36,6 +36,10 @@ same_words a b = is_same_name (names_of a) (names_of b)
 abbrev pub same_text : Bor (List ℕ) → Bor (List ℕ) → Bool
 same_text a b = pointwise nat_eq a.now b.now
 
+-- whether two pairs of numbers are the same
+abbrev pub same_pair : ℕ × ℕ → ℕ × ℕ → Bool
+same_pair a b = nat_eq a.0 b.0 && nat_eq a.1 b.1
+
 -- the key of a classifier: its name and its item
 abbrev pub Key : Type 0
 Key = Bor (List ℕ) × Option (Bor (List ℕ))

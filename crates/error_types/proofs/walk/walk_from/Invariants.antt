@@ -1,0 +1,7 @@
+use Rattle.std.proofs.Common.{◌≡◌}
+use Rattle.error_types.specs.Trip.{walk_left}
+use Rattle.error_types.specs.Walk.{walk_from}
+use Rattle.error_types.proofs.walk.walk_from.Given as goal
+
+abbrev pub invariant-loop : goal.invariant-loop
+invariant-loop l = walk_left l.through l.declarations l.trip ≡ walk_from l.through l.declarations l.fn.id

@@ -1,0 +1,211 @@
+ghost use Rattle.std.specs.Prelude.{◌≡◌, ◌<◌, ◌^◌, Some, length, option_copied, IfOk, OnOk};
+ghost use Rattle.aadl_syntax.specs.Order.{nearer};
+ghost use Rattle.error_types.specs.Libraries.{item_at, number_of, table_of};
+ghost use Rattle.error_types.specs.Search.{item_found, last_name, name_fault, named, named_in, search_along};
+ghost use Rattle.error_types.specs.Walk.{library_scope};
+
+use crate::course::{first_of, note_some};
+use crate::id::{ItemId, Looked};
+use crate::library::{Library, libraries_of};
+use crate::numbers::{numbers_of, types_by};
+use crate::scope::Scope;
+use crate::search::search;
+use aadl_syntax::{Code, FirstRefusal, List, Mem, Ref, Refusal, Spot, TypeItem};
+use package_index::{Index, Words, refusal};
+use std::alloc::Global;
+use std::collections::HashMap;
+use std::marker::Model;
+
+/// What the libraries of all packages declare. Contracts see the packages, the libraries and the types.
+#[derive(Drop)]
+pub(crate) struct Declarations<'i, 'a> {
+    index: &'i Index<'a>,
+    libraries: List<Library<'a>>,
+    types: List<ItemId>,
+    numbers: HashMap<(u32, u32), u32>,
+    nowhere: Scope,
+}
+
+impl<'i, 'a> Model for Declarations<'i, 'a> {
+    ghost use Rattle.std.specs.Prelude.{◌≡◌, []};
+    ghost use Rattle.std.specs.Coded.{codes};
+    ghost use Rattle.std.specs.HashMap.{get};
+    ghost use Rattle.aadl_syntax.specs.contracts.error_model.Condition as condition;
+    ghost use Rattle.package_index.specs.Tables.{Knows, same_pair};
+    ghost use Rattle.error_types.specs.Libraries.{Table};
+    ghost use Rattle.error_types.specs.Tables.{has_number};
+
+    ghost Value = { Table };
+
+    ghost coded = { Prim.hlevel (codes, condition.the_row.coded) };
+
+    ghost view = { λ d. record { packages = d.index.now; libraries = d.libraries; types = d.types } };
+
+    ghost invariant = { λ d. Knows has_number d.types (get same_pair d.numbers) × (d.nowhere ≡ record { «package» = 0; libraries = [] }) };
+}
+
+impl<'i, 'a> Declarations<'i, 'a> {
+    /// What the packages of an index declare.
+    pub(crate) fn of(alloc: Global, index: &'i Index<'a>) -> Mem<Declarations<'i, 'a>>
+        ensures { IfOk result (λ made. made ≡ table_of index.now) }
+    {
+        let libraries = libraries_of(alloc, index)?;
+        let types = types_by(alloc, false, libraries.items())?;
+        let numbers = numbers_of(alloc, types.items())?;
+        Ok(Declarations {
+            index,
+            libraries,
+            types,
+            numbers,
+            nowhere: Scope {
+                package: 0,
+                libraries: List::new(alloc),
+            },
+        })
+    }
+
+    /// The types, in order.
+    pub(crate) fn types(&self) -> &[ItemId]
+        ensures types { result.now ≡ self.now.types }
+        ensures few { length self.now.types < 2 ^ 32 }
+    {
+        self.types.items()
+    }
+
+    /// The libraries, in order.
+    pub(crate) fn libraries(&self) -> &[Library<'a>]
+        ensures { result.now ≡ self.now.libraries }
+    {
+        self.libraries.items()
+    }
+
+    /// The index of the packages.
+    pub(crate) fn index(&self) -> &'i Index<'a>
+        ensures { result.now ≡ self.now.packages }
+    {
+        self.index
+    }
+
+    /// An item of a library.
+    pub(crate) fn item(&self, id: ItemId) -> Option<&'a TypeItem>
+        ensures { option_copied result ≡ item_at self.now.libraries id }
+    {
+        self.libraries
+            .items()
+            .get(id.package as usize)?
+            .item(id.item)
+    }
+
+    /// The number of a type.
+    pub(crate) fn number(&self, id: ItemId) -> Option<u32>
+        ensures { result ≡ number_of self.now id }
+    {
+        self.numbers.get(&(id.package, id.item)).copied()
+    }
+
+    /// Where the text of a library looks for a bare name.
+    pub(crate) fn library_scope(&self, number: u32) -> &Scope
+        ensures { result.now ≡ library_scope self.now number }
+    {
+        match self.libraries.items().get(number as usize) {
+            Some(library) => library.scope(),
+            None => &self.nowhere,
+        }
+    }
+
+    /// What a reference means in a text. Its first refusal is noted.
+    pub(crate) fn named(
+        &self,
+        alloc: Global,
+        scope: &Scope,
+        reference: &Ref,
+        first: &mut FirstRefusal,
+    ) -> Mem<Option<ItemId>>
+        ensures target { IfOk result (λ target. target ≡ (named self.now scope.now reference.now).target) }
+        ensures first { OnOk result (first.new ≡ nearer first.old (named self.now scope.now reference.now).first) }
+    {
+        let names = Words::Identifiers(reference.names.items());
+        let front = names.front();
+        if front.len() == 0 {
+            return self.named_in(alloc, scope.libraries.items(), reference, first);
+        }
+        match self.index.find_package(scope.package, front) {
+            Some(number) => self.named_in(alloc, &[number], reference, first),
+            None => {
+                first.note(refusal(Code::UnknownPackage, reference.spot));
+                Ok(None)
+            }
+        }
+    }
+
+    /// What a reference means by a search in these libraries. Its first refusal is noted.
+    fn named_in(
+        &self,
+        alloc: Global,
+        libraries: &[u32],
+        reference: &Ref,
+        first: &mut FirstRefusal,
+    ) -> Mem<Option<ItemId>>
+        ensures target { IfOk result (λ target. target ≡ (named_in self.now reference.now (Some libraries.now)).target) }
+        ensures first { OnOk result (first.new ≡ nearer first.old (named_in self.now reference.now (Some libraries.now)).first) }
+    {
+        let name = last_name(reference);
+        let mut met = FirstRefusal::new();
+        let looked = search_along(alloc, self.libraries.items(), name, libraries, &mut met)?;
+        note_some(&mut met, name_fault(reference.spot, looked));
+        note_some(first, first_of(&met));
+        Ok(item_found(looked))
+    }
+}
+
+/// The last name of a reference.
+fn last_name(reference: &Ref) -> &[u8]
+    ensures { result.now ≡ last_name reference.now.names }
+{
+    match Words::Identifiers(reference.names.items()).last() {
+        Some(name) => name,
+        None => &[],
+    }
+}
+
+/// What the search for a name in libraries finds, one after the other. The first refusal that it meets is noted.
+fn search_along(
+    alloc: Global,
+    libraries: &[Library<'_>],
+    name: &[u8],
+    numbers: &[u32],
+    first: &mut FirstRefusal,
+) -> Mem<Looked>
+    ensures found { IfOk result (λ looked. looked ≡ (search_along libraries.now name.now numbers.now).found) }
+    ensures first { OnOk result (first.new ≡ nearer first.old (search_along libraries.now name.now numbers.now).first) }
+{
+    for number in numbers {
+        let looked = search(alloc, libraries, name, *number, first)?;
+        match looked {
+            Looked::Nowhere => {}
+            _ => return Ok(looked),
+        }
+    }
+    Ok(Looked::Nowhere)
+}
+
+/// The item that was found.
+fn item_found(looked: Looked) -> Option<ItemId>
+    ensures { result ≡ item_found looked }
+{
+    match looked {
+        Looked::Found(id) => Some(id),
+        _ => None,
+    }
+}
+
+/// N7 where a name is found nowhere, N8 where its search is circular.
+fn name_fault(spot: Spot, looked: Looked) -> Option<Refusal>
+    ensures { result ≡ name_fault spot looked }
+{
+    match looked {
+        Looked::Found(_) => None,
+        Looked::Nowhere => Some(refusal(Code::UnknownType, spot)),
+        Looked::Circular => Some(refusal(Code::CyclicType, spot)),
+    }
+}
