@@ -1,8 +1,10 @@
 pub mod AlongLaws
 pub mod Ends
+pub mod HierarchyLaws
 pub mod Keys
 pub mod MarkLaws
 pub mod Nearer
 pub mod Noting
 pub mod SearchLaws
+pub mod TermLaws
 pub mod TripLaws

@@ -7,3 +7,4 @@ pub mod Course
 pub mod Leaving
 pub mod Trip
 pub mod Needs
+pub mod Meant

@@ -61,13 +61,24 @@ is_base_so is_so None = false
 is_base_so is_so (Some number) = is_so number
 
 -- whether one type is another, or extends one that is below it, in at most so many steps
-unfoldable pub is_below_in : ℕ → Table → ℕ → ℕ → Bool
-is_below_in zero table low high = nat_eq low high
-is_below_in (suc steps) table low high = nat_eq low high || is_base_so (λ number. is_below_in steps table number high) (base table low)
+unfoldable pub is_below_in : ℕ → (ℕ → Option ℕ) → ℕ → ℕ → Bool
+is_below_in zero base low high = nat_eq low high
+is_below_in (suc steps) base low high = nat_eq low high || is_base_so (λ number. is_below_in steps base number high) (base low)
 
--- Whether the type `low` is below the type `high`: it is that type, or extends one that is below it.
+-- Whether the type `low` is below the type `high`: it is that type, or extends one that is below it. As many steps as there are
+-- types lead to each.
 abbrev pub is_below : Table → ℕ → ℕ → Bool
-is_below table low high = (nat_lt low (length table.types) && nat_lt high (length table.types)) && is_below_in (length table.types) table low high
+is_below table low high = (nat_lt low (length table.types) && nat_lt high (length table.types)) && is_below_in (length table.types) (base table) low high
+
+-- ---- the table of bases
+
+-- the type that the type of a number extends, in a list of these
+abbrev pub base_in : List (Option ℕ) → ℕ → Option ℕ
+base_in bases number = option_and_then (λ base. base) (slice_get bases number)
+
+-- whether a type is below another, by the list of what the types extend
+abbrev pub is_below_by : List (Option ℕ) → ℕ → ℕ → Bool
+is_below_by bases low high = (nat_lt low (length bases) && nat_lt high (length bases)) && is_below_in (length bases) (base_in bases) low high
 
 -- ---- written sets
 

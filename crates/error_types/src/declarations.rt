@@ -74,7 +74,8 @@ impl<'i, 'a> Declarations<'i, 'a> {
 
     /// The libraries, in order.
     pub(crate) fn libraries(&self) -> &[Library<'a>]
-        ensures { result.now ≡ self.now.libraries }
+        ensures libraries { result.now ≡ self.now.libraries }
+        ensures few { length self.now.libraries < 2 ^ 32 }
     {
         self.libraries.items()
     }

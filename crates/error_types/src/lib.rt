@@ -3,6 +3,8 @@
 
 mod course;
 mod declarations;
+mod denoted;
+mod hierarchy;
 mod id;
 mod library;
 mod needs;

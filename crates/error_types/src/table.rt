@@ -1,32 +1,44 @@
-ghost use Rattle.std.specs.Prelude.{◌≡◌, ◌≤◌, IfOk, IfErr, OnOk, length};
-ghost use Rattle.aadl_syntax.specs.Order.{nearer};
+ghost use Rattle.std.specs.Prelude.{◌≡◌, ◌≤◌, ◌<◌, ◌^◌, IfOk, IfErr, OnOk, length};
+ghost use Rattle.aadl_syntax.specs.Order.{least, nearer};
 ghost use Rattle.package_index.specs.Duplicates.{IsRefused};
-ghost use Rattle.error_types.specs.Libraries.{HasTooManyTypes, declared_types, greatest_types, libraries_of, table_of};
-ghost use Rattle.error_types.specs.Types.{denoted, text_scope};
+ghost use Rattle.error_types.specs.Libraries.{HasTooManyTypes, IsOver, declared_types, greatest_types, libraries_of, table_of, unknown_libraries};
+ghost use Rattle.error_types.specs.Types.{denoted, is_below, text_scope};
 ghost use Rattle.error_types.specs.Walk.{set_first};
 
+use crate::declarations::Declarations;
+use crate::denoted::{below_any, is_subtype, types_named};
+use crate::hierarchy::bases_of;
+use crate::library::{Library, add_named, note_unknown};
+use crate::numbers::types_by;
 use crate::scope::Scope;
-use aadl_syntax::{Answer, FirstRefusal, List, Mem, Ref, Stop, TypeSet};
+use aadl_syntax::{
+    Answer, Code, FirstRefusal, List, Mem, Place, Ref, Refusal, Stop, TypeSet,
+};
 use package_index::Index;
-use std::alloc::{AllocError, Global};
+use std::alloc::Global;
 use std::marker::Model;
 
 /// The error types that the libraries of all packages declare. Contracts see what is known of them.
 #[derive(Drop)]
 pub struct TypeTable<'i, 'a> {
-    index: &'i Index<'a>,
+    declarations: Declarations<'i, 'a>,
+    bases: List<Option<u32>>,
 }
 
 impl<'i, 'a> Model for TypeTable<'i, 'a> {
+    ghost use Rattle.std.specs.Prelude.{◌≡◌, map};
     ghost use Rattle.std.specs.Coded.{codes};
     ghost use Rattle.aadl_syntax.specs.contracts.error_model.Condition as condition;
-    ghost use Rattle.error_types.specs.Libraries.{Table, table_of};
+    ghost use Rattle.error_types.specs.Libraries.{Table};
+    ghost use Rattle.error_types.specs.Types.{base_of};
 
     ghost Value = { Table };
 
     ghost coded = { Prim.hlevel (codes, condition.the_row.coded) };
 
-    ghost view = { λ t. table_of t.index.now };
+    ghost view = { λ t. t.declarations };
+
+    ghost invariant = { λ t. t.bases ≡ map (base_of t.declarations) t.declarations.types };
 }
 
 impl<'i, 'a> TypeTable<'i, 'a> {
@@ -38,14 +50,33 @@ impl<'i, 'a> TypeTable<'i, 'a> {
         ensures accepted { OnOk result (length (declared_types (libraries_of index.now)) ≤ greatest_types) }
         ensures refused { IfErr result (IsRefused (HasTooManyTypes index.now)) }
     {
-        Err(Stop::Memory)
+        let declarations = Declarations::of(alloc, index)?;
+        count_declared(alloc, declarations.libraries())?;
+        let bases = bases_of(alloc, &declarations)?;
+        Ok(TypeTable {
+            declarations,
+            bases,
+        })
     }
 
     /// Where a clause or a machine of a package, which uses the types of these libraries, looks for a bare name.
     pub fn text_scope(&self, alloc: Global, home: u32, uses: &[Ref]) -> Mem<Scope>
         ensures { IfOk result (λ scope. scope ≡ text_scope self.now.packages home uses.now) }
     {
-        Err(AllocError)
+        let mut libraries = List::new(alloc);
+        add_named(self.declarations.index(), home, uses, &mut libraries)?;
+        libraries.push(home)?;
+        Ok(Scope {
+            package: home,
+            libraries,
+        })
+    }
+
+    /// Notes N2 at each name of a library that a clause or a machine of a package uses, and that means none.
+    pub fn note_unknown(&self, home: u32, uses: &[Ref], first: &mut FirstRefusal)
+        ensures { first.new ≡ nearer first.old (least (unknown_libraries self.now.packages home uses.now)) }
+    {
+        note_unknown(self.declarations.index(), home, uses, first);
     }
 
     /// The types that a written set denotes in a text, rising. Its first refusal is noted: N2, N7, N8 and P4 of its terms.
@@ -60,6 +91,31 @@ impl<'i, 'a> TypeTable<'i, 'a> {
         ensures denoted { IfOk result (λ types. types ≡ denoted self.old scope.now set.now) }
         ensures first { OnOk result (first.new ≡ nearer first.old (set_first self.old scope.now set.now)) }
     {
-        Err(AllocError)
+        let types = types_named(alloc, &self.declarations, scope, set.terms.items(), first)?;
+        below_any(alloc, self.bases.items(), types.as_slice())
     }
+
+    /// Whether a type is below another: it is that type, or extends one that is below it. False where a number is of no type.
+    pub fn is_subtype(&self, low: u32, high: u32) -> bool
+        ensures { result ≡ is_below self.now low high }
+    {
+        is_subtype(self.bases.items(), low, high)
+    }
+}
+
+/// Counts the declared types of all libraries: M8 where there are too many.
+fn count_declared(alloc: Global, libraries: &[Library<'_>]) -> Answer<()>
+    requires { length libraries.now < 2 ^ 32 }
+    ensures accepted { OnOk result (length (declared_types libraries.now) ≤ greatest_types) }
+    ensures refused { IfErr result (IsOver libraries.now) }
+{
+    let declared = types_by(alloc, true, libraries)?;
+    if declared.items().len() > 1024 {
+        return Err(Stop::Refused(Refusal {
+            code: Code::TooManyTypes,
+            place: Place::Words,
+            limit: 1024,
+        }));
+    }
+    Ok(())
 }

@@ -1,0 +1,95 @@
+-- Which types are below which, and what names of types mean.
+use Rattle.std.proofs.Common.{ℕ, zero, suc, ◌+◌, ◌-◌, ◌^◌, ◌<◌, ◌≤◌, ◌≡◌, Bool, true, false, ◌&&◌, ◌||◌, nat_eq, nat_lt, List, [], ◌∷◌, length, map, slice_get, Option, Some, None, filter, option_and_then, refl, sym, ap, ◌∙◌, arith}
+use Rattle.std.proofs.lemmas.Bool.Decides.{Decides-eqb}
+use Rattle.aadl_syntax.specs.declared.place.Ref.{Ref}
+use Rattle.error_types.specs.declared.scope.Scope.{Scope}
+use Rattle.error_types.specs.declared.id.ItemId.{ItemId}
+use Rattle.error_types.specs.Libraries.{Table}
+use Rattle.error_types.specs.Search.{named}
+use Rattle.std.specs.List.{list_any}
+use Rattle.aadl_syntax.specs.declared.error_model.TypeSet.{TypeSet}
+use Rattle.error_types.specs.Types.{base_in, base_of, denoted, is_base_so, is_below, is_below_by, is_below_in, numbers_below, type_at, type_named}
+use Rattle.error_types.specs.Walk.{set_types}
+
+-- ---- one step
+
+module _ (next : ℕ → Option ℕ) (high : ℕ) where
+  one-step : (steps one low : ℕ) → steps ≡ suc one → is_below_in steps next low high ≡ (nat_eq low high || is_base_so (λ number. is_below_in one next number high) (next low))
+  unfolding is_below_in
+  one-step steps one low more = ap (λ n. is_below_in n next low high) more
+
+  no-step : (steps low : ℕ) → steps ≡ 0 → is_below_in steps next low high ≡ nat_eq low high
+  unfolding is_below_in
+  no-step steps low none = ap (λ n. is_below_in n next low high) none
+
+  module _ (count i low : ℕ) (within : i < count) (whole : Bool) (left : is_below_in (count - i) next low high ≡ whole) where
+    stepped : (nat_eq low high || is_base_so (λ number. is_below_in (count - (i + 1)) next number high) (next low)) ≡ whole
+    stepped =
+        let more : count - i ≡ suc (count - (i + 1)) = omega (arith, within) in
+        sym (one-step (count - i) (count - (i + 1)) low more) ∙ left
+
+    pub is-itself : nat_eq low high ≡ true → true ≡ whole
+    is-itself same = sym (ap (λ b. b || is_base_so (λ number. is_below_in (count - (i + 1)) next number high) (next low)) same) ∙ stepped
+
+    other : nat_eq low high ≡ false → is_base_so (λ number. is_below_in (count - (i + 1)) next number high) (next low) ≡ whole
+    other apart = sym (ap (λ b. b || is_base_so (λ number. is_below_in (count - (i + 1)) next number high) (next low)) apart) ∙ stepped
+
+    pub has-no-base : nat_eq low high ≡ false → next low ≡ None → false ≡ whole
+    has-no-base apart none = sym (ap (is_base_so (λ number. is_below_in (count - (i + 1)) next number high)) none) ∙ other apart
+
+    pub has-base : (number : ℕ) → nat_eq low high ≡ false → next low ≡ Some number → is_below_in (count - (i + 1)) next number high ≡ whole
+    has-base number apart some = sym (ap (is_base_so (λ number. is_below_in (count - (i + 1)) next number high)) some) ∙ other apart
+
+  pub all-steps : (count i low : ℕ) (whole : Bool) → count ≤ i → is_below_in (count - i) next low high ≡ whole → nat_eq low high ≡ whole
+  all-steps count i low whole past left =
+      let none : count - i ≡ 0 = omega (arith, past) in
+      sym (no-step (count - i) low none) ∙ left
+
+-- ---- names of types
+
+named-step : (table : Table) (scope : Scope) (reference : Ref) (steps one : ℕ) → steps ≡ suc one → type_named steps table scope reference ≡ type_at (type_named one table) table (named table scope reference).target
+unfolding type_named
+named-step table scope reference steps one more = ap (λ n. type_named n table scope reference) more
+
+module _ (table : Table) (scope : Scope) (reference : Ref) (i : ℕ) (within : i < 2 ^ 64) (whole : Option ℕ) (left : type_named (2 ^ 64 - i) table scope reference ≡ whole) where
+  pub means : type_at (type_named (2 ^ 64 - (i + 1)) table) table (named table scope reference).target ≡ whole
+  means =
+      let more : 2 ^ 64 - i ≡ suc (2 ^ 64 - (i + 1)) = omega (arith, within) in
+      sym (named-step table scope reference (2 ^ 64 - i) (2 ^ 64 - (i + 1)) more) ∙ left
+
+-- ---- the list of bases
+
+listed : {A : Type 0} (f : A → Option ℕ) (xs : List A) (n : ℕ) → option_and_then (λ base. base) (slice_get (map f xs) n) ≡ option_and_then f (slice_get xs n)
+listed f [] n = refl
+listed f (x ∷ xs) zero = refl
+listed f (x ∷ xs) (suc n) = listed f xs n
+
+long : {A B : Type 0} (f : A → B) (xs : List A) → length (map f xs) ≡ length xs
+long f [] = refl
+long f (x ∷ xs) = ap suc (long f xs)
+
+pub by-bases : (table : Table) (bases : List (Option ℕ)) → bases ≡ map (base_of table) table.types → (low high : ℕ) → is_below_by bases low high ≡ is_below table low high
+by-bases table bases is low high =
+    ap (λ list. is_below_by list low high) is
+    ∙ (λ i. (nat_lt low (long (base_of table) table.types i) && nat_lt high (long (base_of table) table.types i)) && is_below_in (long (base_of table) table.types i) (λ n. listed (base_of table) table.types n i) low high)
+
+pub as-many : (table : Table) (bases : List (Option ℕ)) → bases ≡ map (base_of table) table.types → length bases ≡ length table.types
+as-many table bases is = ap length is ∙ long (base_of table) table.types
+
+-- ---- numbers
+
+pub is-same : (a b : ℕ) → a ≡ b → nat_eq a b ≡ true
+is-same a b same = (Decides-eqb a b).1 same
+
+pub is-other : (a b : ℕ) → (a ≡ b → ⊥) → nat_eq a b ≡ false
+is-other a b apart = told (nat_eq a b) refl
+  where
+    told : (test : Bool) → nat_eq a b ≡ test → test ≡ false
+    told true is = absurd (apart ((Decides-eqb a b).0 is))
+    told false is = refl
+
+-- ---- written sets
+
+pub denoted-by : (table : Table) (scope : Scope) (set : TypeSet) (bases : List (Option ℕ)) (types : List ℕ) → bases ≡ map (base_of table) table.types → types ≡ set_types table scope set
+    → filter (λ low. list_any (is_below_by bases low) types) (numbers_below (length bases)) ≡ denoted table scope set
+denoted-by table scope set bases types is same = λ i. filter (λ low. list_any (λ high. by-bases table bases is low high i) (same i)) (numbers_below (as-many table bases is i))
