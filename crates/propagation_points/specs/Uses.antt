@@ -1,0 +1,98 @@
+-- How flows, transitions and conditions name points: on which side, and with which types (EMV2: error flows, conditions).
+use Rattle.std.specs.Prelude.{◌≡◌, ℕ, Bool, true, false, not, nat_eq, List, [], ◌∷◌, ◌++◌, filter, Option, Some, None, option_map, option_and_then}
+use Rattle.std.specs.List.{list_any}
+use Rattle.aadl_syntax.specs.declared.error_model.TypeSet.{TypeSet}
+use Rattle.aadl_syntax.specs.declared.place.Spot.{Spot}
+use Rattle.aadl_syntax.specs.declared.refusal.Code.TheVariants.{NotContained, UnknownPoint}
+use Rattle.aadl_syntax.specs.declared.refusal.Refusal.{Refusal}
+use Rattle.package_index.specs.Names.{only}
+use Rattle.component_extension.specs.Members.{refused_so}
+use Rattle.error_types.specs.declared.scope.Scope.{Scope}
+use Rattle.error_types.specs.Libraries.{Table}
+use Rattle.error_types.specs.Search.{is_number_in}
+use Rattle.propagation_points.specs.declared.side.Reach.{Reach}
+use Rattle.propagation_points.specs.declared.side.Reach.TheVariants.{Whole, Only}
+use Rattle.propagation_points.specs.declared.side.Side.{Side}
+use Rattle.propagation_points.specs.declared.side.Side.TheVariants.{Absent, Free, Declared}
+use Rattle.propagation_points.specs.declared.uses.ReachedPoint.{ReachedPoint}
+use Rattle.propagation_points.specs.Points.{Point, place_named, point_named, side_of, types_in}
+
+-- ---- types of a side
+
+-- the types that may be at a side, where those of the universe may be at a free one
+abbrev pub side_types : List ℕ → Side → List ℕ
+side_types universe Absent = []
+side_types universe Free = universe
+side_types universe (Declared types) = types
+
+-- whether a reach covers a type of its side: all of them, or those alone that are named
+abbrev pub covers : Reach → ℕ → Bool
+covers Whole number = true
+covers (Only types) number = is_number_in types number
+
+-- The types of a side that a reach covers. Types outside the universe select nothing at a free side.
+abbrev pub reached_types : List ℕ → Side → Reach → List ℕ
+reached_types universe side reach = filter (covers reach) (side_types universe side)
+
+-- whether a side is not there
+abbrev pub is_absent : Side → Bool
+is_absent Absent = true
+is_absent Free = false
+is_absent (Declared types) = false
+
+-- whether one of the types is outside those that are declared for the side; a free side has none outside
+abbrev pub is_outside : List ℕ → Side → Bool
+is_outside types Absent = false
+is_outside types Free = false
+is_outside types (Declared declared) = list_any (λ number. not (is_number_in declared number)) types
+
+-- ---- uses
+
+-- A use of a point: its names and where they stand, its direction, and the set that stands with it, if one does.
+pub record PointUse : Type 0 where
+  pub names : List (List ℕ)
+  pub spot : Spot
+  pub outward : Bool
+  pub set : Option TypeSet
+
+-- the point that is used: a dotted name is that of none
+abbrev pub used_point : List Point → PointUse → Option Point
+used_point points used = option_and_then (point_named points) (only used.names)
+
+-- the side of a point, if there is one
+abbrev pub side_if : Bool → Option Point → Side
+side_if outward None = Absent
+side_if outward (Some point) = side_of outward point
+
+-- the side that is used
+abbrev pub used_side : List Point → PointUse → Side
+used_side points used = side_if used.outward (used_point points used)
+
+-- what a set covers: without one the whole side
+abbrev pub reach_of : Table → Option Scope → Option TypeSet → Reach
+reach_of table scope None = Whole
+reach_of table scope (Some set) = Only (types_in table scope set)
+
+-- a place with a reach, unless the side is not there
+abbrev pub reached_on : Side → ℕ → Reach → Option ReachedPoint
+reached_on Absent place reach = None
+reached_on Free place reach = Some (record { point = place; types = reach })
+reached_on (Declared types) place reach = Some (record { point = place; types = reach })
+
+-- The meaning of a use in a text: the place of the point, and the types that are reached there. A use of a side that is not
+-- there has none.
+abbrev pub reached : Table → List Point → Option Scope → PointUse → Option ReachedPoint
+reached table points scope used =
+    option_and_then (λ place. reached_on (used_side points used) place (reach_of table scope used.set)) (option_and_then (place_named points) (only used.names))
+
+-- ---- refusals
+
+-- N10 at a set with a type outside those that are declared for its side
+abbrev pub set_outside : Table → Option Scope → Side → Option TypeSet → List Refusal
+set_outside table scope side None = []
+set_outside table scope side (Some set) = refused_so (is_outside (types_in table scope set) side) NotContained set.spot
+
+-- The refusals of a use: N9 where the component has no such point or not that side, and N10.
+abbrev pub use_faults : Table → List Point → Option Scope → PointUse → List Refusal
+use_faults table points scope used =
+    refused_so (is_absent (used_side points used)) UnknownPoint used.spot ++ set_outside table scope (used_side points used) used.set

@@ -1,0 +1,15 @@
+//! The points of a component: which sides each has, which types are declared for them, and what a use of a point reaches.
+#![tactic(auto)]
+
+mod declared;
+mod open_point;
+mod point;
+mod points;
+mod side;
+mod uses;
+
+pub use declared::scopes_of;
+pub use point::Point;
+pub use points::{Points, points_of};
+pub use side::{Reach, Side};
+pub use uses::ReachedPoint;
