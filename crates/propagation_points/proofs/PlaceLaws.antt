@@ -1,13 +1,13 @@
 -- Tables of places with one item more, and folds over what a function gives.
-use Rattle.std.proofs.Common.{ℕ, ◌+◌, ◌≡◌, ◌<◌, ◌≤◌, Bool, true, false, Bor, cond, List, [], ◌∷◌, ◌++◌, fold, length, map, take, get_or, position, Option, Some, None, is_some, refl, sym, ap, ◌∙◌, subst, arith}
+use Rattle.std.proofs.Common.{ℕ, ◌+◌, ◌≡◌, ◌<◌, Bool, true, false, Bor, cond, List, [], ◌∷◌, ◌++◌, fold, length, map, take, get_or, position, Option, Some, None, is_some, refl, sym, ap, ◌∙◌, subst, arith}
 use Rattle.std.specs.Option.{option_or}
-use Rattle.std.proofs.lemmas.List.{length-take-le, take_all, take_more}
+use Rattle.std.proofs.lemmas.List.{length-take-le, take_more}
 use Rattle.std.proofs.lemmas.Slice.Eq.{bytes_eq-Decides}
 use Rattle.package_index.specs.Tables.{Knows}
 use Rattle.package_index.proofs.KnowsLaws.{more-place, some-place}
 use Rattle.component_extension.specs.Members.{same_text}
 use Rattle.component_extension.proofs.Loops.{fold-more}
-use Rattle.propagation_points.specs.Points.{Point, has_name, place_named}
+use Rattle.propagation_points.specs.Points.{Point, place_named}
 use Rattle.propagation_points.specs.Tables.{has_text, or_place}
 
 or-cond : (o p : Option ℕ) → option_or o p ≡ cond (is_some o) o p

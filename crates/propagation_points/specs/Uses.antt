@@ -1,6 +1,8 @@
 -- How flows, transitions and conditions name points: on which side, and with which types (EMV2: error flows, conditions).
-use Rattle.std.specs.Prelude.{◌≡◌, ℕ, Bool, true, false, not, nat_eq, List, [], ◌∷◌, ◌++◌, filter, Option, Some, None, option_map, option_and_then}
+use Rattle.std.specs.Prelude.{ℕ, Bool, true, false, cond, not, List, [], ◌++◌, filter, Option, Some, None, option_map, option_and_then}
 use Rattle.std.specs.List.{list_any}
+use Rattle.aadl_syntax.specs.declared.error_model.Atom.{Atom}
+use Rattle.aadl_syntax.specs.declared.error_model.PointRef.{PointRef}
 use Rattle.aadl_syntax.specs.declared.error_model.TypeSet.{TypeSet}
 use Rattle.aadl_syntax.specs.declared.place.Spot.{Spot}
 use Rattle.aadl_syntax.specs.declared.refusal.Code.TheVariants.{NotContained, UnknownPoint}
@@ -34,17 +36,19 @@ covers (Only types) number = is_number_in types number
 abbrev pub reached_types : List ℕ → Side → Reach → List ℕ
 reached_types universe side reach = filter (covers reach) (side_types universe side)
 
--- whether a side is not there
-abbrev pub is_absent : Side → Bool
-is_absent Absent = true
-is_absent Free = false
-is_absent (Declared types) = false
+-- whether there is no such side
+abbrev pub is_absent : Option Side → Bool
+is_absent None = true
+is_absent (Some Absent) = true
+is_absent (Some Free) = false
+is_absent (Some (Declared types)) = false
 
--- whether one of the types is outside those that are declared for the side; a free side has none outside
-abbrev pub is_outside : List ℕ → Side → Bool
-is_outside types Absent = false
-is_outside types Free = false
-is_outside types (Declared declared) = list_any (λ number. not (is_number_in declared number)) types
+-- whether one of the types is outside those that are declared for a side; a free side has none outside
+abbrev pub is_outside : List ℕ → Option Side → Bool
+is_outside types None = false
+is_outside types (Some Absent) = false
+is_outside types (Some Free) = false
+is_outside types (Some (Declared declared)) = list_any (λ number. not (is_number_in declared number)) types
 
 -- ---- uses
 
@@ -55,40 +59,37 @@ pub record PointUse : Type 0 where
   pub outward : Bool
   pub set : Option TypeSet
 
--- the point that is used: a dotted name is that of none
-abbrev pub used_point : List Point → PointUse → Option Point
-used_point points used = option_and_then (point_named points) (only used.names)
+-- a point that a flow or an outgoing condition names, with the set behind it
+abbrev pub point_use : PointRef → Bool → Option TypeSet → PointUse
+point_use point outward set = record { names = point.names; spot = point.spot; outward = outward; set = set }
 
--- the side of a point, if there is one
-abbrev pub side_if : Bool → Option Point → Side
-side_if outward None = Absent
-side_if outward (Some point) = side_of outward point
+-- a point that a condition names, which is always used inward
+abbrev pub atom_use : Atom → PointUse
+atom_use atom = record { names = atom.names; spot = atom.spot; outward = false; set = atom.set }
 
--- the side that is used
-abbrev pub used_side : List Point → PointUse → Side
-used_side points used = side_if used.outward (used_point points used)
+-- the place of the point that is used: a dotted name is that of none
+abbrev pub used_place : List Point → PointUse → Option ℕ
+used_place points used = option_and_then (place_named points) (only used.names)
 
--- what a set covers: without one the whole side
+-- the side that is used, if there is the point
+abbrev pub used_side : List Point → PointUse → Option Side
+used_side points used = option_map (side_of used.outward) (option_and_then (point_named points) (only used.names))
+
+-- what a set reaches: without one the whole side
 abbrev pub reach_of : Table → Option Scope → Option TypeSet → Reach
 reach_of table scope None = Whole
 reach_of table scope (Some set) = Only (types_in table scope set)
-
--- a place with a reach, unless the side is not there
-abbrev pub reached_on : Side → ℕ → Reach → Option ReachedPoint
-reached_on Absent place reach = None
-reached_on Free place reach = Some (record { point = place; types = reach })
-reached_on (Declared types) place reach = Some (record { point = place; types = reach })
 
 -- The meaning of a use in a text: the place of the point, and the types that are reached there. A use of a side that is not
 -- there has none.
 abbrev pub reached : Table → List Point → Option Scope → PointUse → Option ReachedPoint
 reached table points scope used =
-    option_and_then (λ place. reached_on (used_side points used) place (reach_of table scope used.set)) (option_and_then (place_named points) (only used.names))
+    cond (is_absent (used_side points used)) None (option_map (λ place. record { point = place; types = reach_of table scope used.set }) (used_place points used))
 
 -- ---- refusals
 
 -- N10 at a set with a type outside those that are declared for its side
-abbrev pub set_outside : Table → Option Scope → Side → Option TypeSet → List Refusal
+abbrev pub set_outside : Table → Option Scope → Option Side → Option TypeSet → List Refusal
 set_outside table scope side None = []
 set_outside table scope side (Some set) = refused_so (is_outside (types_in table scope set) side) NotContained set.spot
 

@@ -12,4 +12,4 @@ pub use declared::scopes_of;
 pub use point::Point;
 pub use points::{Points, points_of};
 pub use side::{Reach, Side};
-pub use uses::ReachedPoint;
+pub use uses::{PointUse, ReachedPoint, reached};
