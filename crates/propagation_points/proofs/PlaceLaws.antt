@@ -1,14 +1,15 @@
 -- Tables of places with one item more, and folds over what a function gives.
 use Rattle.std.proofs.Common.{ℕ, ◌+◌, ◌≡◌, ◌<◌, Bool, true, false, Bor, cond, List, [], ◌∷◌, ◌++◌, fold, length, map, take, get_or, position, Option, Some, None, is_some, refl, sym, ap, ◌∙◌, subst, arith}
 use Rattle.std.specs.Option.{option_or}
+use Rattle.std.proofs.lemmas.Bool.{false≢true}
 use Rattle.std.proofs.lemmas.List.{length-take-le, take_more}
 use Rattle.std.proofs.lemmas.Slice.Eq.{bytes_eq-Decides}
+use Rattle.aadl_syntax.specs.Name.{is_same_text}
 use Rattle.package_index.specs.Tables.{Knows}
 use Rattle.package_index.proofs.KnowsLaws.{more-place, some-place}
 use Rattle.component_extension.specs.Members.{same_text}
 use Rattle.component_extension.proofs.Loops.{fold-more}
-use Rattle.propagation_points.specs.Points.{Point, place_named}
-use Rattle.propagation_points.specs.Tables.{has_text, or_place}
+use Rattle.propagation_points.specs.Tables.{or_place}
 
 or-cond : (o p : Option ℕ) → option_or o p ≡ cond (is_some o) o p
 or-cond None p = refl
@@ -36,20 +37,24 @@ knows-or-more {Key} has items i item old new within is knows more =
     let next = knows-or has (take i items) item old new knows (subst (λ n. (key : Key) → new key ≡ or_place (old key) (has key item) n) (sym long) more) in
     subst (λ front. Knows has front new) (ap (λ x. take i items ++ x ∷ []) is ∙ sym (take_more items i item within)) next
 
--- a table of points by name, with one point of a new name
-named-or : (points : List Point) (point : Point) (name key : Bor (List ℕ)) (old : Bor (List ℕ) → Option ℕ) (b : Bool) → same_text name key ≡ b → name.now ≡ point.name → Knows has_text points old → place_named points point.name ≡ None
-    → cond b (Some (length points)) (old key) ≡ or_place (old key) b (length points)
-named-or points point name key old false apart is knows none = sym (or-none (old key))
-named-or points point name key old true same is knows none =
-    let key_is : point.name ≡ key.now = sym is ∙ (bytes_eq-Decides name.now key.now).0 same in
-    let absent : old key ≡ None = knows key ∙ ap (place_named points) (sym key_is) ∙ none in
-    ap (λ o. option_or o (Some (length points))) (sym absent)
+-- a table of items by name, with one item of a new name
+module _ {Item : Type 0} (name_of : Item → List ℕ) (items : List Item) (item : Item) (name : Bor (List ℕ)) (old : Bor (List ℕ) → Option ℕ) (is : name.now ≡ name_of item)
+    (knows : Knows (λ (key : Bor (List ℕ)) (each : Item). is_same_text (name_of each) key.now) items old) (none : position (λ each. is_same_text (name_of each) (name_of item)) items ≡ None) where
+  named-or : (key : Bor (List ℕ)) (b : Bool) → same_text name key ≡ b → cond b (Some (length items)) (old key) ≡ or_place (old key) b (length items)
+  named-or key false apart = sym (or-none (old key))
+  named-or key true same =
+      let key_is : name_of item ≡ key.now = sym is ∙ (bytes_eq-Decides name.now key.now).0 same in
+      let absent : old key ≡ None = knows key ∙ ap (λ text. position (λ each. is_same_text (name_of each) text) items) (sym key_is) ∙ none in
+      ap (λ o. option_or o (Some (length items))) (sym absent)
 
-pub named-more : (points : List Point) (point : Point) (name : Bor (List ℕ)) (old new : Bor (List ℕ) → Option ℕ) → name.now ≡ point.name → Knows has_text points old → place_named points point.name ≡ None
-    → ((key : Bor (List ℕ)) → new key ≡ cond (same_text name key) (Some (length points)) (old key)) → Knows has_text (points ++ point ∷ []) new
-named-more points point name old new is knows none more =
-    knows-or has_text points point old new knows
-    (λ key. more key ∙ named-or points point name key old (same_text name key) refl is knows none ∙ ap (λ text. or_place (old key) (has_text key (record point { name = text })) (length points)) is)
+  pub named-more : (new : Bor (List ℕ) → Option ℕ) → ((key : Bor (List ℕ)) → new key ≡ cond (same_text name key) (Some (length items)) (old key)) → Knows (λ (key : Bor (List ℕ)) (each : Item). is_same_text (name_of each) key.now) (items ++ item ∷ []) new
+  named-more new more =
+      knows-or (λ (key : Bor (List ℕ)) (each : Item). is_same_text (name_of each) key.now) items item old new knows
+      (λ key. more key ∙ named-or key (same_text name key) refl ∙ ap (λ text. or_place (old key) (is_same_text text key.now) (length items)) is)
+
+pub none-of : (o : Option ℕ) → is_some o ≡ false → o ≡ None
+none-of None none = refl
+none-of (Some n) none = absurd (false≢true (sym none))
 
 -- ---- folds
 

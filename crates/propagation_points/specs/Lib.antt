@@ -1,3 +1,4 @@
 pub mod Points
 pub mod Uses
+pub mod States
 pub mod Tables

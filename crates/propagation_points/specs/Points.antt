@@ -152,10 +152,10 @@ with_sides table scopes items point = record {
   outward = side_with point.outward (declared_types table scopes items true point.name);
 }
 
--- the points with one more, unless there is one at this place
-abbrev pub keep_at : Option ℕ → List Point → Point → List Point
-keep_at None points point = points ++ point ∷ []
-keep_at (Some place) points point = points
+-- items with one more at the end, unless it has a place among them
+abbrev pub keep_at : {Item : Type 0} → Option ℕ → List Item → Item → List Item
+keep_at None items item = items ++ item ∷ []
+keep_at (Some place) items item = items
 
 -- The points with one more at the end. Of two points of one name the first counts.
 abbrev pub keep_first : List Point → Point → List Point

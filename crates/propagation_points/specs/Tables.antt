@@ -3,6 +3,7 @@ use Rattle.std.specs.Prelude.{ℕ, Bool, false, ◌&&◌, List, Option, Some, No
 use Rattle.std.specs.Option.{option_or}
 use Rattle.std.specs.Bool.{beq}
 use denote.Ref.{Bor}
+use Rattle.aadl_syntax.specs.Name.{is_same_text}
 use Rattle.aadl_syntax.specs.declared.error_model.PointItem.{PointItem}
 use Rattle.component_extension.specs.Items.{Scoped}
 use Rattle.component_extension.specs.Members.{same_text}
@@ -29,6 +30,10 @@ declares_side key scoped = declares key.0 key.1.now scoped
 -- whether a point has the name
 abbrev pub has_text : Bor (List ℕ) → Point → Bool
 has_text name point = has_name name.now point
+
+-- whether a state has the name
+abbrev pub is_state : Bor (List ℕ) → List ℕ → Bool
+is_state name state = is_same_text state name.now
 
 -- Propagations, and the texts of the clauses in which they stand.
 pub record Propagated : Type 0 where

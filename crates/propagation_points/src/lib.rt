@@ -6,10 +6,12 @@ mod open_point;
 mod point;
 mod points;
 mod side;
+mod states;
 mod uses;
 
 pub use declared::scopes_of;
 pub use point::Point;
-pub use points::{Points, points_of};
+pub use points::{Points, note_if, points_of};
 pub use side::{Reach, Side};
+pub use states::{StateNames, note_at};
 pub use uses::{PointUse, ReachedPoint, reached};

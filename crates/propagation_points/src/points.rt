@@ -205,7 +205,7 @@ fn note_propagation(first: &mut FirstRefusal, points: &Points, propagation: &Poi
 }
 
 /// Notes a refusal at a place, where it stands.
-pub(crate) fn note_if(first: &mut FirstRefusal, stands: bool, code: Code, spot: Spot)
+pub fn note_if(first: &mut FirstRefusal, stands: bool, code: Code, spot: Spot)
     ensures { first.new ≡ nearer first.old (least (refused_so stands code spot)) }
 {
     if stands {
