@@ -5,10 +5,11 @@ use Rattle.std.specs.Bool.{beq}
 use denote.Ref.{Bor}
 use Rattle.aadl_syntax.specs.Name.{is_same_text}
 use Rattle.aadl_syntax.specs.declared.error_model.PointItem.{PointItem}
+use Rattle.package_index.specs.Tables.{Knows}
 use Rattle.component_extension.specs.Items.{Scoped}
 use Rattle.component_extension.specs.Members.{same_text}
 use Rattle.error_types.specs.declared.scope.Scope.{Scope}
-use Rattle.propagation_points.specs.Points.{Point, declares, has_name}
+use Rattle.propagation_points.specs.Points.{NamesDiffer, declares}
 
 -- The key of a side: its direction, and the name of its point.
 abbrev pub SideKey : Type 0
@@ -27,13 +28,9 @@ is_side (Some own) key = same_side own key
 abbrev pub declares_side : SideKey → Scoped PointItem → Bool
 declares_side key scoped = declares key.0 key.1.now scoped
 
--- whether a point has the name
-abbrev pub has_text : Bor (List ℕ) → Point → Bool
-has_text name point = has_name name.now point
-
--- whether a state has the name
-abbrev pub is_state : Bor (List ℕ) → List ℕ → Bool
-is_state name state = is_same_text state name.now
+-- The table gives each name the place of the item that has it, and no two items have one name.
+abbrev pub KnowsNames : {Item : Type 0} → (Item → List ℕ) → List Item → (Bor (List ℕ) → Option ℕ) → Type 0
+KnowsNames {Item} name_of items table = Knows (λ (name : Bor (List ℕ)) (item : Item). is_same_text (name_of item) name.now) items table × NamesDiffer name_of items
 
 -- Propagations, and the texts of the clauses in which they stand.
 pub record Propagated : Type 0 where

@@ -2,7 +2,7 @@ ghost use Rattle.std.specs.Prelude.{◌≡◌, [], IfOk, OnOk, flat_map, map, fo
 ghost use Rattle.aadl_syntax.specs.Order.{least, nearer};
 ghost use Rattle.component_extension.specs.Members.{refused_so};
 ghost use Rattle.package_index.specs.Names.{only};
-ghost use Rattle.propagation_points.specs.Points.{fault_at, keep_first, open_points, place_named, point_faults, point_named, points_of, propagation_faults, scopes_of, side_of, side_with, with_sides};
+ghost use Rattle.propagation_points.specs.Points.{NamesDiffer, fault_at, keep_first, open_points, place_named, point_faults, point_named, points_of, propagation_faults, scopes_of, side_of, side_with, with_sides};
 
 use crate::declared::DeclaredSides;
 use crate::open_point::{OpenPoint, only_name, open_points};
@@ -27,11 +27,10 @@ impl<'a> Model for Points<'a> {
     ghost use Rattle.std.specs.Prelude.{List};
     ghost use Rattle.std.specs.Coded.{codes};
     ghost use Rattle.std.specs.HashMap.{get};
-    ghost use Rattle.package_index.specs.Tables.{Knows};
     ghost use Rattle.component_extension.specs.Members.{same_text};
     ghost use Rattle.propagation_points.specs.contracts.side.Side as side;
     ghost use Rattle.propagation_points.specs.Points.{Point as Sides};
-    ghost use Rattle.propagation_points.specs.Tables.{has_text};
+    ghost use Rattle.propagation_points.specs.Tables.{KnowsNames};
 
     ghost Value = { List Sides };
 
@@ -39,7 +38,7 @@ impl<'a> Model for Points<'a> {
 
     ghost view = { λ p. p.list };
 
-    ghost invariant = { λ p. Knows has_text p.list (get same_text p.places) };
+    ghost invariant = { λ p. KnowsNames (λ point. point.name) p.list (get same_text p.places) };
 }
 
 impl<'a> Points<'a> {
@@ -55,7 +54,8 @@ impl<'a> Points<'a> {
 
     /// The points, in order. No two of them have one name.
     pub fn list(&self) -> &[Point<'a>]
-        ensures { result.now ≡ self.now }
+        ensures list { result.now ≡ self.now }
+        ensures differ { NamesDiffer (λ point. point.name) self.now }
     {
         self.list.items()
     }

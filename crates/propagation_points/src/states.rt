@@ -1,4 +1,5 @@
-ghost use Rattle.std.specs.Prelude.{◌≡◌, [], IfOk, option_map};
+ghost use Rattle.std.specs.Prelude.{◌≡◌, [], IfOk, map, option_map};
+ghost use Rattle.propagation_points.specs.Points.{NamesDiffer};
 ghost use Rattle.aadl_syntax.specs.Order.{least, nearer};
 ghost use Rattle.component_extension.specs.Members.{refused_there};
 ghost use Rattle.propagation_points.specs.States.{keep_name, state_faults, state_named};
@@ -20,15 +21,14 @@ pub struct StateNames<'a> {
 impl<'a> Model for StateNames<'a> {
     ghost use Rattle.std.specs.Prelude.{List, ℕ, map};
     ghost use Rattle.std.specs.HashMap.{get};
-    ghost use Rattle.package_index.specs.Tables.{Knows};
     ghost use Rattle.component_extension.specs.Members.{same_text};
-    ghost use Rattle.propagation_points.specs.Tables.{is_state};
+    ghost use Rattle.propagation_points.specs.Tables.{KnowsNames};
 
     ghost Value = { List (List ℕ) };
 
     ghost view = { λ s. map (λ name. name.now) s.names };
 
-    ghost invariant = { λ s. Knows is_state (map (λ name. name.now) s.names) (get same_text s.places) };
+    ghost invariant = { λ s. KnowsNames (λ (state : List ℕ). state) (map (λ name. name.now) s.names) (get same_text s.places) };
 }
 
 impl<'a> StateNames<'a> {
@@ -58,6 +58,14 @@ impl<'a> StateNames<'a> {
         places.insert(text, count)?;
         names.push(name)?;
         Ok(StateNames { names, places })
+    }
+
+    /// The names, in order. No two are the same.
+    pub fn names(&self) -> &[&'a Identifier]
+        ensures names { map (λ name. name.now) result.now ≡ self.now }
+        ensures differ { NamesDiffer (λ state. state) self.now }
+    {
+        self.names.items()
     }
 
     /// The number of the state of a name.
