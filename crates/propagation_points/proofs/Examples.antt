@@ -1,9 +1,10 @@
 -- Small examples of the definitions, each proved by computing it.
-use Rattle.std.proofs.Common.{◌≡◌, true, false, List, [], ◌∷◌, codes, Option, Some, None, refl}
+use Rattle.std.proofs.Common.{◌≡◌, Bool, true, false, List, [], ◌∷◌, codes, Option, Some, None, refl}
 use Rattle.aadl_syntax.specs.declared.core_model.Decl.{Decl}
 use Rattle.aadl_syntax.specs.declared.core_model.FeatureKind.TheVariants.{Inward, Outward, Both, Access}
+use Rattle.aadl_syntax.specs.declared.error_model.Atom.{Atom}
 use Rattle.aadl_syntax.specs.declared.error_model.TypeSet.{TypeSet}
-use Rattle.aadl_syntax.specs.declared.refusal.Code.TheVariants.{FeatureGroup, NotContained, UnknownPoint}
+use Rattle.aadl_syntax.specs.declared.refusal.Code.TheVariants.{FeatureGroup, NotContained, UnknownPoint, UnknownTrigger}
 use Rattle.package_index.specs.Lookup.{place_of, refusal}
 use Rattle.component_extension.specs.declared.effective.Effective.{Effective}
 use Rattle.error_types.specs.declared.scope.Scope.{Scope}
@@ -13,7 +14,7 @@ use Rattle.error_types.specs.Walk.{follow}
 use Rattle.propagation_points.specs.declared.side.Reach.TheVariants.{Only, Whole}
 use Rattle.propagation_points.specs.declared.side.Side.TheVariants.{Absent, Free, Declared}
 use Rattle.propagation_points.specs.Points.{Point, point_faults, points_of, scopes_of}
-use Rattle.propagation_points.specs.Uses.{point_use, reached, reached_types, use_faults}
+use Rattle.propagation_points.specs.Uses.{atom_use, point_use, reached, reached_types, use_faults}
 use Rattle.propagation_points.proofs.Sample.{clause_of, device_of, effective_of, feature_of, no_error_at, packages, point_at, propagation_at, set_at, spot, table, user_point_of}
 
 -- ---- points of every kind
@@ -111,6 +112,16 @@ no_point = refl
 
 dotted : use_faults table all_points text (point_use (point_at 1 (codes "o" ∷ codes "o" ∷ [])) true None) ≡ refusal UnknownPoint (place_of (spot 1)) ∷ []
 dotted = refl
+
+-- N12 at an atom without `in`, and N9 after `in`
+abbrev atom_after : Bool → Atom
+atom_after inward = record { inward = inward; names = codes "o" ∷ []; spot = spot 1; set = None }
+
+trigger : use_faults table all_points text (atom_use (atom_after false)) ≡ refusal UnknownTrigger (place_of (spot 1)) ∷ []
+trigger = refl
+
+after_in : use_faults table all_points text (atom_use (atom_after true)) ≡ refusal UnknownPoint (place_of (spot 1)) ∷ []
+after_in = refl
 
 nothing_reached : reached table all_points text (point_use (point_at 1 (codes "o" ∷ [])) false None) ≡ None
 nothing_reached = refl

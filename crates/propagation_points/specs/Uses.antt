@@ -5,7 +5,8 @@ use Rattle.aadl_syntax.specs.declared.error_model.Atom.{Atom}
 use Rattle.aadl_syntax.specs.declared.error_model.PointRef.{PointRef}
 use Rattle.aadl_syntax.specs.declared.error_model.TypeSet.{TypeSet}
 use Rattle.aadl_syntax.specs.declared.place.Spot.{Spot}
-use Rattle.aadl_syntax.specs.declared.refusal.Code.TheVariants.{NotContained, UnknownPoint}
+use Rattle.aadl_syntax.specs.declared.refusal.Code.{Code}
+use Rattle.aadl_syntax.specs.declared.refusal.Code.TheVariants.{NotContained, UnknownPoint, UnknownTrigger}
 use Rattle.aadl_syntax.specs.declared.refusal.Refusal.{Refusal}
 use Rattle.package_index.specs.Names.{only}
 use Rattle.component_extension.specs.Members.{refused_so}
@@ -52,20 +53,34 @@ is_outside types (Some (Declared declared)) = list_any (λ number. not (is_numbe
 
 -- ---- uses
 
--- A use of a point: its names and where they stand, its direction, and the set that stands with it, if one does.
+-- A use of a point: its names and where they stand, its direction, the set that stands with it, if one does, and the code of
+-- its refusal where the component has no such side.
 pub record PointUse : Type 0 where
   pub names : List (List ℕ)
   pub spot : Spot
   pub outward : Bool
   pub set : Option TypeSet
+  pub unknown : Code
 
 -- a point that a flow or an outgoing condition names, with the set behind it
 abbrev pub point_use : PointRef → Bool → Option TypeSet → PointUse
-point_use point outward set = record { names = point.names; spot = point.spot; outward = outward; set = set }
+point_use point outward set = record {
+  names = point.names;
+  spot = point.spot;
+  outward = outward;
+  set = set;
+  unknown = UnknownPoint;
+}
 
--- a point that a condition names, which is always used inward
+-- a point that a condition names, which is always used inward: without `in` it might have been an event
 abbrev pub atom_use : Atom → PointUse
-atom_use atom = record { names = atom.names; spot = atom.spot; outward = false; set = atom.set }
+atom_use atom = record {
+  names = atom.names;
+  spot = atom.spot;
+  outward = false;
+  set = atom.set;
+  unknown = cond atom.inward UnknownPoint UnknownTrigger;
+}
 
 -- the place of the point that is used: a dotted name is that of none
 abbrev pub used_place : List Point → PointUse → Option ℕ
@@ -93,7 +108,8 @@ abbrev pub set_outside : Table → Option Scope → Option Side → Option TypeS
 set_outside table scope side None = []
 set_outside table scope side (Some set) = refused_so (is_outside (types_in table scope set) side) NotContained set.spot
 
--- The refusals of a use: N9 where the component has no such point or not that side, and N10.
+-- The refusals of a use: its own where the component has no such point or not that side, which is N9, or N12 at an atom without
+-- `in`; and N10.
 abbrev pub use_faults : Table → List Point → Option Scope → PointUse → List Refusal
 use_faults table points scope used =
-    refused_so (is_absent (used_side points used)) UnknownPoint used.spot ++ set_outside table scope (used_side points used) used.set
+    refused_so (is_absent (used_side points used)) used.unknown used.spot ++ set_outside table scope (used_side points used) used.set

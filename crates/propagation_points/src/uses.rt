@@ -18,14 +18,15 @@ pub struct ReachedPoint {
     pub types: Reach,
 }
 
-/// A use of a point by a flow, an outgoing condition or an atom: its names and where they stand, whether outward, and the
-/// set behind it.
+/// A use of a point by a flow, an outgoing condition or an atom: its names and where they stand, whether outward, the set
+/// behind it, and the code of its refusal where there is no such side.
 #[derive(Drop)]
 pub struct PointUse<'a> {
     names: &'a [Identifier],
     spot: Spot,
     outward: bool,
     set: &'a Option<TypeSet>,
+    unknown: Code,
 }
 
 impl<'a> Model for PointUse<'a> {
@@ -37,7 +38,7 @@ impl<'a> Model for PointUse<'a> {
 
     ghost coded = { Prim.hlevel (codes, condition.the_row.coded) };
 
-    ghost view = { λ u. record { names = u.names.now; spot = u.spot; outward = u.outward; set = u.set.now } };
+    ghost view = { λ u. record { names = u.names.now; spot = u.spot; outward = u.outward; set = u.set.now; unknown = u.unknown } };
 }
 
 impl<'a> PointUse<'a> {
@@ -52,10 +53,12 @@ impl<'a> PointUse<'a> {
             spot: point.spot,
             outward,
             set,
+            unknown: Code::UnknownPoint,
         }
     }
 
-    /// The point of an atom of a condition, on its inward side.
+    /// The point of an atom of a condition, on its inward side. Without `in` it might have been an event, so that N12 stands
+    /// where there is no such side.
     pub fn of_atom(atom: &'a Atom) -> PointUse<'a>
         ensures { result ≡ atom_use atom.now }
     {
@@ -64,6 +67,11 @@ impl<'a> PointUse<'a> {
             spot: atom.spot,
             outward: false,
             set: &atom.set,
+            unknown: if atom.inward {
+                Code::UnknownPoint
+            } else {
+                Code::UnknownTrigger
+            },
         }
     }
 
@@ -83,8 +91,8 @@ impl<'a> PointUse<'a> {
 /// What a use of a point reaches, where its set is read in this text; none where the component has no such point or not
 /// that side.
 ///
-/// Its refusals are noted: N9 at the point where there is no such side, a dotted name being that of none, and N10 at a set
-/// with a type that is not declared for its side.
+/// Its refusals are noted: at the point, where there is no such side, a dotted name being that of none, N9, or N12 for an
+/// atom without `in`; and N10 at a set with a type that is not declared for its side.
 pub fn reached<'a>(
     alloc: Global,
     points: &Points,
@@ -99,7 +107,7 @@ pub fn reached<'a>(
 {
     let side = used.side(points);
     let is_absent = is_absent(side);
-    note_if(first, is_absent, Code::UnknownPoint, used.spot);
+    note_if(first, is_absent, used.unknown, used.spot);
     let reach = reach_of(alloc, types, scope, side, used.set, first)?;
     Ok(reached_at(used.place(points), is_absent, reach))
 }
