@@ -77,7 +77,7 @@ fn is_number_in(numbers: &[u32], number: u32) -> bool
     ensures { result ≡ is_number_in numbers.now number }
 {
     for other in numbers {
-        if number == *other {
+        if *other == number {
             return true;
         }
     }
