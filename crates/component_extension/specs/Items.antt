@@ -8,9 +8,10 @@ use Rattle.aadl_syntax.specs.declared.place.Spot.{Spot}
 use Rattle.aadl_syntax.specs.declared.refusal.Refusal.{Refusal}
 use Rattle.package_index.specs.declared.id.ClassifierId.{ClassifierId}
 use Rattle.package_index.specs.Lookup.{decl_of}
+use Rattle.package_index.specs.Numbered.{numbered_from}
 use Rattle.component_extension.specs.Chain.{chain_of}
 use Rattle.component_extension.specs.Members.{Class, InPackage, member_faults}
-use Rattle.component_extension.specs.Rows.{Key, named, numbered_from, put}
+use Rattle.component_extension.specs.Rows.{Key, named, put}
 
 -- ---- the classifiers and their clauses
 

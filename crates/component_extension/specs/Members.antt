@@ -3,7 +3,6 @@ use Rattle.std.specs.Prelude.{◌≡◌, ℕ, Bool, true, false, cond, ◌&&◌,
 use Rattle.std.specs.Option.{option_or}
 use Rattle.std.specs.List.{list_any}
 use denote.Ref.{Bor}
-use Rattle.std.specs.Cmp.Lexicographic.{pointwise}
 use Rattle.aadl_syntax.specs.Name.{is_same_text}
 use Rattle.aadl_syntax.specs.declared.core_model.Connection.{Connection}
 use Rattle.aadl_syntax.specs.declared.core_model.ConnectionKind.{ConnectionKind}
@@ -17,8 +16,9 @@ use Rattle.aadl_syntax.specs.declared.place.Spot.{Spot}
 use Rattle.aadl_syntax.specs.declared.refusal.Code.{Code}
 use Rattle.aadl_syntax.specs.declared.refusal.Code.TheVariants.{Array, DuplicateName, FeatureGroup, Prototype, UnknownMember}
 use Rattle.aadl_syntax.specs.declared.refusal.Refusal.{Refusal}
-use Rattle.package_index.specs.Lookup.{place_of, refusal}
-use Rattle.component_extension.specs.Rows.{Key, named, numbered_from, put, row_by}
+use Rattle.package_index.specs.Lookup.{place_of, refusal, refused_so}
+use Rattle.package_index.specs.Numbered.{numbered_from}
+use Rattle.component_extension.specs.Rows.{Key, named, put, row_by}
 
 -- ---- declarations
 
@@ -76,10 +76,6 @@ abbrev pub comes_before : Option (ℕ × ℕ) → ℕ → ℕ → Bool
 comes_before None level at = false
 comes_before (Some time) level at = is_before time level at
 
--- whether two texts are the same
-abbrev pub same_text : Bor (List ℕ) → Bor (List ℕ) → Bool
-same_text a b = pointwise nat_eq a.now b.now
-
 -- The table tells of each name whether one of the marks comes before a byte of a level.
 abbrev pub KnowsMarks : List Mark → (Bor (List ℕ) → Option (ℕ × ℕ)) → Type 0
 KnowsMarks marks table = (name : Bor (List ℕ)) (level at : ℕ) → comes_before (table name) level at ≡ list_any (is_earlier name.now level at) marks
@@ -91,11 +87,6 @@ mark_of kind declared = cond (kind.is_refined declared.item) [] (record { name =
 -- the marks of declarations
 abbrev pub marks_of : {Item : Type 0} → Kind Item → List (Declared Item) → List Mark
 marks_of kind declareds = flat_map (mark_of kind) declareds
-
--- a refusal at a name, where it stands
-abbrev pub refused_so : Bool → Code → Spot → List Refusal
-refused_so true code spot = refusal code (place_of spot) ∷ []
-refused_so false code spot = []
 
 -- N6 at each name that an earlier one is, of whatever kind
 abbrev pub duplicates : List Mark → List Mark → List Refusal

@@ -1,5 +1,5 @@
 -- Rows that go by a key: a later row takes the place of an earlier one of its key (AS5506: refinement).
-use Rattle.std.specs.Prelude.{◌≡◌, ℕ, ◌+◌, Bool, false, ◌&&◌, List, [], ◌∷◌, ◌++◌, Option, Some, None, option_and_then, position, slice_get, slice_set}
+use Rattle.std.specs.Prelude.{◌≡◌, ℕ, Bool, false, ◌&&◌, List, ◌∷◌, [], ◌++◌, Option, Some, None, option_and_then, position, slice_get, slice_set}
 use Rattle.std.specs.Bool.{beq}
 use Rattle.package_index.specs.Names.{is_same_name, names_of}
 use Rattle.package_index.specs.declared.words.Words.{Words}
@@ -39,11 +39,6 @@ put_at (Some place) rows row = slice_set rows place row
 -- A row takes the place of the row of its key, or else goes last.
 abbrev pub put : {Row : Type 0} → (Row → Option Key) → List Row → Row → List Row
 put key_of rows row = put_at (option_and_then (place_by key_of rows) (key_of row)) rows row
-
--- what parts give, one after the other, where the first has this number
-abbrev pub numbered_from : {Part Row : Type 0} → (ℕ → Part → List Row) → ℕ → List Part → List Row
-numbered_from give number [] = []
-numbered_from give number (part ∷ parts) = give number part ++ numbered_from give (number + 1) parts
 
 -- ---- the table of rows
 

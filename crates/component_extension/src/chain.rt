@@ -1,9 +1,9 @@
 ghost use Rattle.std.specs.Prelude.{◌≡◌, ◌∷◌, ◌++◌, [], Some, None, IfOk, slice_get};
-ghost use Rattle.package_index.specs.Lookup.{decl_of, place_of, refusal};
+ghost use Rattle.package_index.specs.Lookup.{decl_of};
 ghost use Rattle.component_extension.specs.Chain.{Answers, chain_of, extended, first_type, is_among, next_of, onward, own_type, tested, type_of};
 
-use aadl_syntax::{Answer, Code, Decl, Identifier, List, Mem, Place, Ref, Refusal, Spot, Stop};
-use package_index::{ClassifierId, Index};
+use aadl_syntax::{Answer, Code, Decl, Identifier, List, Mem, Ref, Refusal, Stop};
+use package_index::{ClassifierId, Index, refusal};
 use std::alloc::Global;
 use std::collections::HashMap;
 use std::marker::Model;
@@ -227,18 +227,4 @@ fn type_reference(alloc: Global, decl: &Decl) -> Mem<Ref>
         item: None,
         spot: decl.spot,
     })
-}
-
-/// A refusal at a name or a sign of a text.
-pub(crate) fn refusal(code: Code, spot: Spot) -> Refusal
-    ensures { result ≡ refusal code (place_of spot) }
-{
-    Refusal {
-        code,
-        place: Place::At {
-            file: spot.file,
-            at: spot.at,
-        },
-        limit: 0,
-    }
 }

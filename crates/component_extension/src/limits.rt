@@ -2,12 +2,11 @@ ghost use Rattle.std.specs.Prelude.{◌≡◌, flat_map, option_and_then};
 ghost use Rattle.aadl_syntax.specs.Order.{least, nearer};
 ghost use Rattle.component_extension.specs.Members.{connection_limits, feature_limits, is_feature_group, is_group_connection, refused_there, subcomponent_limits};
 
-use crate::chain::refusal;
 use crate::member::{Inherited, MemberKind};
-use crate::names::note_if;
 use aadl_syntax::{
     Code, Connection, ConnectionKind, Feature, FeatureKind, FirstRefusal, Spot, Subcomponent,
 };
+use package_index::{note_if, refusal};
 
 /// A kind of member, with what is not supported of it.
 pub trait Limited: MemberKind {

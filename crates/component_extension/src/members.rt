@@ -7,9 +7,10 @@ ghost use Rattle.component_extension.specs.Rows.{KnowsRows, same_words};
 use crate::classifier::Classifier;
 use crate::declaration::Declaration;
 use crate::member::{Inherited, MemberKind};
-use crate::names::{PlainNames, note_if};
+use crate::names::PlainNames;
 use crate::rows::{KeyWords, named, put, row_by};
 use aadl_syntax::{Code, FirstRefusal, Mem, Spot};
+use package_index::note_if;
 use std::alloc::Global;
 use std::collections::HashMap;
 

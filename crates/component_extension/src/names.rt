@@ -4,12 +4,13 @@ ghost use Rattle.std.specs.HashMap.{get};
 ghost use Rattle.aadl_syntax.specs.Order.{least, nearer};
 ghost use Rattle.aadl_syntax.specs.declared.refusal.Code.TheVariants.{DuplicateName};
 ghost use Rattle.std.specs.List.{list_any};
-ghost use Rattle.component_extension.specs.Members.{KnowsMarks, comes_before, duplicates, is_before, is_earlier, mark_of, marks_of, refused_so, same_text};
+ghost use Rattle.component_extension.specs.Members.{KnowsMarks, comes_before, duplicates, is_before, is_earlier, mark_of, marks_of};
+    ghost use Rattle.package_index.specs.Tables.{same_text};
 
-use crate::chain::refusal;
 use crate::declaration::{Declaration, PlainName};
 use crate::member::MemberKind;
-use aadl_syntax::{Code, FirstRefusal, Mem, Spot};
+use aadl_syntax::{Code, FirstRefusal, Mem};
+use package_index::note_if;
 use std::alloc::Global;
 use std::collections::HashMap;
 use std::marker::Model;
@@ -53,7 +54,8 @@ pub(crate) struct PlainNames<'a> {
 impl<'a> Model for PlainNames<'a> {
     ghost use Rattle.std.specs.Prelude.{List};
     ghost use Rattle.std.specs.HashMap.{get};
-    ghost use Rattle.component_extension.specs.Members.{KnowsMarks, Mark, same_text};
+    ghost use Rattle.component_extension.specs.Members.{KnowsMarks, Mark};
+    ghost use Rattle.package_index.specs.Tables.{same_text};
 
     ghost Value = { List Mark };
 
@@ -138,14 +140,5 @@ pub(crate) fn note_duplicates<'a>(first: &mut FirstRefusal, names: &PlainNames<'
         let spot = mark.spot();
         let is_again = names.has_before(mark.name(), mark.level(), spot.at);
         note_if(first, is_again, Code::DuplicateName, spot);
-    }
-}
-
-/// Notes a fault at a name, where it stands.
-pub(crate) fn note_if(first: &mut FirstRefusal, stands: bool, code: Code, spot: Spot)
-    ensures { first.new ≡ nearer first.old (least (refused_so stands code spot)) }
-{
-    if stands {
-        first.note(refusal(code, spot));
     }
 }

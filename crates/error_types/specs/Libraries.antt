@@ -13,27 +13,12 @@ use Rattle.aadl_syntax.specs.declared.refusal.Code.{Code}
 use Rattle.aadl_syntax.specs.declared.refusal.Code.TheVariants.{UnknownPackage, TooManyTypes}
 use Rattle.aadl_syntax.specs.declared.refusal.Place.TheVariants.{Words}
 use Rattle.aadl_syntax.specs.declared.refusal.Refusal.{Refusal}
-use Rattle.package_index.specs.Lookup.{look_package, place_of, refusal}
+use Rattle.package_index.specs.Lookup.{look_package, refused_so}
+use Rattle.package_index.specs.Numbered.{numbered_from}
 use Rattle.error_types.specs.declared.id.ItemId.{ItemId}
-
--- ---- lists
-
--- what a function gives for each part and its number, where the first has this number
-abbrev pub map_from : {Part Made : Type 0} → (ℕ → Part → Made) → ℕ → List Part → List Made
-map_from make number [] = []
-map_from make number (part ∷ parts) = make number part ∷ map_from make (number + 1) parts
-
--- the same where each part gives a list
-abbrev pub flat_map_from : {Part Made : Type 0} → (ℕ → Part → List Made) → ℕ → List Part → List Made
-flat_map_from make number [] = []
-flat_map_from make number (part ∷ parts) = make number part ++ flat_map_from make (number + 1) parts
+use Rattle.error_types.specs.declared.scope.Scope.{Scope}
 
 -- ---- names of libraries
-
--- a refusal at a name, where it stands
-abbrev pub refused_so : Bool → Code → Spot → List Refusal
-refused_so true code spot = refusal code (place_of spot) ∷ []
-refused_so false code spot = []
 
 -- the library that a name means in a text of the package: that of the package of this name
 abbrev pub library_named : List PackageUnit → ℕ → Ref → Option ℕ
@@ -49,36 +34,43 @@ unknown_libraries packages from references = flat_map (λ reference. refused_so 
 
 -- ---- libraries
 
--- A library: the items of its blocks, the libraries that it extends and those whose types it uses, and the refusals of their
--- names.
+-- A library: the items of its blocks, the libraries that it extends, where its text looks for a bare name, and the refusals of
+-- its names of libraries.
 pub record Library : Type 0 where
   pub items : List TypeItem
   pub extends : List ℕ
-  pub uses : List ℕ
+  pub scope : Scope
   pub unknown : List Refusal
 
--- the names of libraries that blocks extend, and those whose types they use
-abbrev pub extends_of : List TypesBlock → List Ref
-extends_of blocks = flat_map (λ block. block.extends) blocks
-
-abbrev pub uses_of : List TypesBlock → List Ref
-uses_of blocks = flat_map (λ block. block.uses) blocks
-
+-- the items of blocks
 abbrev pub items_of : List TypesBlock → List TypeItem
 items_of blocks = flat_map (λ block. block.items) blocks
 
--- The library of a package of this number. A package without error types has one without items.
+-- the libraries that blocks extend
+abbrev pub extended_by : List PackageUnit → ℕ → List TypesBlock → List ℕ
+extended_by packages number blocks = flat_map (λ block. libraries_named packages number block.extends) blocks
+
+-- the libraries whose types blocks use
+abbrev pub used_by : List PackageUnit → ℕ → List TypesBlock → List ℕ
+used_by packages number blocks = flat_map (λ block. libraries_named packages number block.uses) blocks
+
+-- N2 at each name of a library that blocks use or extend, and that means none
+abbrev pub unknown_to : List PackageUnit → ℕ → List TypesBlock → List Refusal
+unknown_to packages number blocks = flat_map (λ block. unknown_libraries packages number block.uses ++ unknown_libraries packages number block.extends) blocks
+
+-- The library of a package of this number. Its text looks for a bare name in it itself, and then in those whose types it uses.
+-- A package without error types has a library without items.
 abbrev pub library_of : List PackageUnit → ℕ → PackageUnit → Library
 library_of packages number unit = record {
   items = items_of unit.library.blocks;
-  extends = libraries_named packages number (extends_of unit.library.blocks);
-  uses = libraries_named packages number (uses_of unit.library.blocks);
-  unknown = unknown_libraries packages number (uses_of unit.library.blocks) ++ unknown_libraries packages number (extends_of unit.library.blocks);
+  extends = extended_by packages number unit.library.blocks;
+  scope = record { «package» = number; libraries = number ∷ used_by packages number unit.library.blocks };
+  unknown = unknown_to packages number unit.library.blocks;
 }
 
 -- the libraries of all packages, in order
 abbrev pub libraries_of : List PackageUnit → List Library
-libraries_of packages = map_from (library_of packages) 0 packages
+libraries_of packages = numbered_from (λ number unit. library_of packages number unit ∷ []) 0 packages
 
 -- ---- items
 
@@ -101,7 +93,7 @@ is_same_item a b = nat_eq a.«package» b.«package» && nat_eq a.item b.item
 
 -- whether an item is one of these
 abbrev pub is_item_in : List ItemId → ItemId → Bool
-is_item_in ids id = list_any (is_same_item id) ids
+is_item_in ids id = list_any (λ other. is_same_item other id) ids
 
 -- ---- types
 
@@ -133,7 +125,7 @@ types_after number before (item ∷ items) =
 
 -- All types, in the order of the files and of the text. A type is named by its place among them.
 abbrev pub types_of : List Library → List ItemId
-types_of libraries = flat_map_from (λ number library. types_after number [] library.items) 0 libraries
+types_of libraries = numbered_from (λ number library. types_after number [] library.items) 0 libraries
 
 -- the declared types of all libraries, also those of a name that an earlier one has
 abbrev pub declared_types : List Library → List TypeItem
@@ -153,7 +145,7 @@ table_of packages = record { packages = packages; libraries = libraries_of packa
 
 -- the number of a type
 abbrev pub number_of : Table → ItemId → Option ℕ
-number_of table id = position (is_same_item id) table.types
+number_of table id = position (λ other. is_same_item other id) table.types
 
 -- how many types may be declared
 abbrev pub greatest_types : ℕ

@@ -24,7 +24,7 @@ pub record Search : Type 0 where
 
 -- whether a number is one of these
 abbrev pub is_number_in : List ℕ → ℕ → Bool
-is_number_in numbers number = list_any (nat_eq number) numbers
+is_number_in numbers number = list_any (λ other. nat_eq other number) numbers
 
 -- the item of a place in a library, or none
 abbrev pub found_at : ℕ → Option ℕ → Looked
@@ -56,7 +56,7 @@ unless_ended Circular search rest = search
 
 -- the search once a library and those that it extends were searched
 abbrev pub past : ℕ → Search → Search
-past number search = unless_ended search.found search (record { found = Nowhere; vain = number ∷ search.vain; faults = search.faults })
+past number search = unless_ended search.found search (record { found = Nowhere; vain = search.vain ++ number ∷ []; faults = search.faults })
 
 -- the search that came back to a library on its way
 abbrev pub turned : Search → Search
@@ -69,8 +69,8 @@ unfoldable pub searched : ℕ → List Library → List ℕ → List ℕ → Sea
 searched zero libraries name way search number = search
 searched (suc steps) libraries name way search number =
     unless_ended search.found search
-    (cond (is_number_in way number) (turned search)
     (cond (is_number_in search.vain number) search
+    (cond (is_number_in way number) (turned search)
     (past number (fold (searched steps libraries name (number ∷ way)) (at_library libraries name search number) (extended libraries number)))))
 
 -- nothing is searched yet

@@ -58,38 +58,47 @@ abbrev pub is_set_item : Option TypeItem → Bool
 is_set_item None = false
 is_set_item (Some item) = is_set item.kind
 
--- the libraries in which the text of a library finds a bare name: its own, and then those whose types it uses
+-- where the text of a library looks for a bare name, if there is the library
+abbrev pub scope_of : Option Library → Scope
+scope_of None = record { «package» = 0; libraries = [] }
+scope_of (Some library) = library.scope
+
+-- the same of the library of a package of this number
 abbrev pub library_scope : Table → ℕ → Scope
-library_scope table number = record { «package» = number; libraries = number ∷ of_library (λ library. library.uses) (slice_get table.libraries number) }
+library_scope table number = scope_of (slice_get table.libraries number)
 
 -- ---- the walk
 
--- A walk so far: the items that it entered, the types among them, and the refusals that it met.
+-- A walk so far: the items that it followed to their end, the types that it met, and the refusals.
 pub record Walk : Type 0 where
-  pub entered : List ItemId
+  pub followed : List ItemId
   pub types : List ℕ
   pub faults : List Refusal
 
 -- the walk once it is at an item
 abbrev pub at_item : Table → Walk → ItemId → Walk
 at_item table walk id = record {
-  entered = id ∷ walk.entered;
+  followed = walk.followed;
   types = walk.types ++ option_to_list (number_of table id);
   faults = walk.faults ++ of_item products_of (item_at table.libraries id);
 }
 
+-- the walk once it followed an item to its end
+abbrev pub past_item : ItemId → Walk → Walk
+past_item id walk = record { followed = walk.followed ++ id ∷ []; types = walk.types; faults = walk.faults }
+
 -- the walk with more refusals
 abbrev pub with_faults : Walk → List Refusal → Walk
-with_faults walk faults = record { entered = walk.entered; types = walk.types; faults = walk.faults ++ faults }
+with_faults walk faults = record { followed = walk.followed; types = walk.types; faults = walk.faults ++ faults }
 
 -- The walk goes on to what a name means: N7 where it must be a type and is a set, N8 where it is an item on the way, both at
--- the name. An item that was entered is passed by.
+-- the name. An item that was followed to its end is passed by.
 abbrev pub arrived : (Walk → ItemId → Walk) → Table → List ItemId → Need → Walk → Option ItemId → Walk
 arrived follow table way need walk None = walk
 arrived follow table way need walk (Some id) =
     cond (need.of_type && is_set_item (item_at table.libraries id)) (with_faults walk (refusal UnknownType (place_of need.reference.spot) ∷ []))
-    (cond (is_item_in way id) (with_faults walk (refusal CyclicType (place_of need.reference.spot) ∷ []))
-    (cond (is_item_in walk.entered id) walk (follow walk id)))
+    (cond (is_item_in walk.followed id) walk
+    (cond (is_item_in way id) (with_faults walk (refusal CyclicType (place_of need.reference.spot) ∷ [])) (follow walk id)))
 
 -- the walk goes on to a name in a text
 abbrev pub walked : (Walk → ItemId → Walk) → Table → List ItemId → Scope → Walk → Need → Walk
@@ -101,11 +110,11 @@ walked follow table way scope walk need =
 unfoldable pub follow : ℕ → Table → List ItemId → Walk → ItemId → Walk
 follow zero table way walk id = walk
 follow (suc steps) table way walk id =
-    fold (walked (follow steps table (id ∷ way)) table (id ∷ way) (library_scope table id.«package»)) (at_item table walk id) (of_item needs_of (item_at table.libraries id))
+    past_item id (fold (walked (follow steps table (id ∷ way)) table (id ∷ way) (library_scope table id.«package»)) (at_item table walk id) (of_item needs_of (item_at table.libraries id)))
 
 -- nothing is walked yet
 abbrev pub no_walk : Walk
-no_walk = record { entered = []; types = []; faults = [] }
+no_walk = record { followed = []; types = []; faults = [] }
 
 -- The walk through an item. No index has as many as 2^64 items, so it always comes to its end.
 abbrev pub walk_from : Table → ItemId → Walk
@@ -121,7 +130,7 @@ name_walk table scope reference = walked (follow (2 ^ 64) table []) table [] sco
 abbrev pub term_walk : Table → Scope → Term → Walk
 term_walk table scope (NoError spot) = no_walk
 term_walk table scope (One reference) = name_walk table scope reference
-term_walk table scope (Product spot) = record { entered = []; types = []; faults = refusal TypeProduct (place_of spot) ∷ [] }
+term_walk table scope (Product spot) = record { followed = []; types = []; faults = refusal TypeProduct (place_of spot) ∷ [] }
 
 -- the types that a written set names
 abbrev pub set_types : Table → Scope → TypeSet → List ℕ

@@ -4,3 +4,4 @@ pub mod Gathering
 pub mod Examples
 pub mod DuplicateLaws
 pub mod FoundLaws
+pub mod Loops

@@ -9,12 +9,11 @@ use Rattle.aadl_syntax.specs.declared.refusal.Refusal.{Refusal}
 use Rattle.aadl_syntax.specs.declared.refusal.Stop.{Stop}
 use Rattle.aadl_syntax.specs.declared.refusal.Stop.TheVariants.{Memory, Refused}
 use Rattle.aadl_syntax.specs.Order.{IsFirst}
-use Rattle.package_index.specs.Lookup.{has_name, is_named, place_of, refusal}
+use Rattle.package_index.specs.Lookup.{has_name, is_named, place_of, refusal, refused_so}
 
 -- N1 at a name, where its name was declared before
 abbrev pub again_at : Bool → Spot → List Refusal
-again_at true spot = refusal DuplicateUnit (place_of spot) ∷ []
-again_at false spot = []
+again_at is_again spot = refused_so is_again DuplicateUnit spot
 
 -- N1 at each of the items, in order, that is the same as one before it; `before` are the items that stand before these
 abbrev pub again_after : {Item : Type 0} → (Item → Item → Bool) → (Item → Spot) → List Item → List Item → List Refusal

@@ -123,6 +123,11 @@ refusal code place = record { code = code; place = place; limit = 0 }
 abbrev pub place_of : Spot → Place
 place_of spot = At spot.file spot.at
 
+-- a refusal at a name, where this is so
+abbrev pub refused_so : Bool → Code → Spot → List Refusal
+refused_so true code spot = refusal code (place_of spot) ∷ []
+refused_so false code spot = []
+
 -- what is found, or the refusal at this place
 abbrev pub refused_at : Place → Result ClassifierId Code → Result ClassifierId Refusal
 refused_at place (Ok id) = Ok id

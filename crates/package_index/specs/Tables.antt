@@ -32,6 +32,10 @@ has_words words unit = has_name (names_of words) unit
 abbrev pub same_words : Words → Words → Bool
 same_words a b = is_same_name (names_of a) (names_of b)
 
+-- whether two texts are the same
+abbrev pub same_text : Bor (List ℕ) → Bor (List ℕ) → Bool
+same_text a b = pointwise nat_eq a.now b.now
+
 -- the key of a classifier: its name and its item
 abbrev pub Key : Type 0
 Key = Bor (List ℕ) × Option (Bor (List ℕ))

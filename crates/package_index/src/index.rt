@@ -8,7 +8,8 @@ ghost use Rattle.package_index.specs.Names.{names_of};
 ghost use Rattle.package_index.specs.Tables.{Gathered, Knows, has_words, same_words};
 
 use crate::id::ClassifierId;
-use crate::package::{Package, note_again, place_of};
+use crate::package::Package;
+use crate::refusals::{note_if, place_of};
 use crate::table::add;
 use crate::words::{Words, text_of};
 use aadl_syntax::{
@@ -108,6 +109,14 @@ impl<'a> Index<'a> {
         ensures { option_copied result ≡ slice_get self.now number }
     {
         Some(self.at(number)?.unit())
+    }
+
+    /// The packages, in order.
+    pub fn packages(&self) -> &[Package<'a>]
+        ensures packages { result.now ≡ self.now }
+        ensures few { length self.now < 2 ^ 32 }
+    {
+        self.packages.items()
     }
 
     fn at(&self, number: u32) -> Option<&Package<'a>>
@@ -295,7 +304,7 @@ fn numbers_of<'a>(
             Words::Identifiers(unit.name.items()),
             number as u32,
         )?;
-        note_again(first, !is_new, unit.spot);
+        note_if(first, !is_new, Code::DuplicateUnit, unit.spot);
     }
     Ok(table)
 }

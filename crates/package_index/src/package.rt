@@ -1,22 +1,21 @@
 ghost use Rattle.std.specs.Prelude.{◌≡◌, ◌<◌, ◌^◌, length, IfOk, OnOk, option_copied, option_map, position, slice_get};
 ghost use Rattle.std.specs.HashMap.{get};
 ghost use Rattle.aadl_syntax.specs.Order.{least, nearer};
-ghost use Rattle.package_index.specs.Duplicates.{again_at, classifiers_again};
-ghost use Rattle.package_index.specs.Lookup.{alias_in, declared, is_alias, place_of};
+ghost use Rattle.package_index.specs.Duplicates.{classifiers_again};
+ghost use Rattle.package_index.specs.Lookup.{alias_in, declared, is_alias};
 ghost use Rattle.package_index.specs.Tables.{Knows, has_alias, has_key, same_alias_key, same_key};
 
+use crate::refusals::note_if;
 use crate::table::add;
 use crate::words::text_of;
-use aadl_syntax::{
-    Alias, Code, Decl, FirstRefusal, Identifier, Mem, PackageUnit, Place, Refusal, Spot,
-};
+use aadl_syntax::{Alias, Code, Decl, FirstRefusal, Identifier, Mem, PackageUnit};
 use std::alloc::Global;
 use std::collections::HashMap;
 use std::marker::Model;
 
 /// A package with tables of its names. Contracts see the package.
 #[derive(Drop)]
-pub(crate) struct Package<'a> {
+pub struct Package<'a> {
     unit: &'a PackageUnit,
     classifiers: HashMap<(&'a [u8], Option<&'a [u8]>), u32>,
     aliases: HashMap<(bool, &'a [u8]), u32>,
@@ -61,7 +60,7 @@ impl<'a> Package<'a> {
     }
 
     /// The package itself.
-    pub(crate) fn unit(&self) -> &'a PackageUnit
+    pub fn unit(&self) -> &'a PackageUnit
         ensures { result.now ≡ self.now }
     {
         self.unit
@@ -100,29 +99,6 @@ impl<'a> Package<'a> {
     }
 }
 
-/// The place of a name.
-pub(crate) fn place_of(spot: Spot) -> Place
-    ensures { result ≡ place_of spot }
-{
-    Place::At {
-        file: spot.file,
-        at: spot.at,
-    }
-}
-
-/// Notes a name that was declared before.
-pub(crate) fn note_again(first: &mut FirstRefusal, is_again: bool, spot: Spot)
-    ensures { first.new ≡ nearer first.old (least (again_at is_again spot)) }
-{
-    if is_again {
-        first.note(Refusal {
-            code: Code::DuplicateUnit,
-            place: place_of(spot),
-            limit: 0,
-        });
-    }
-}
-
 /// The classifiers of a package by name and item. Those that were declared before are noted.
 fn classifiers_of<'a>(
     alloc: Global,
@@ -140,7 +116,7 @@ fn classifiers_of<'a>(
             (decl.name.text(), text_of(&decl.item)),
             number as u32,
         )?;
-        note_again(first, !is_new, decl.spot);
+        note_if(first, !is_new, Code::DuplicateUnit, decl.spot);
     }
     Ok(table)
 }

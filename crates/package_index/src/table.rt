@@ -7,7 +7,7 @@ use std::collections::HashMap;
 use std::hash::Hash;
 
 /// Gives a key a number, where it has none yet, and says whether it had none.
-pub(crate) fn add<K: Eq + Hash + Drop>(
+pub fn add<K: Eq + Hash + Drop>(
     table: &mut HashMap<K, u32>,
     key: K,
     number: u32,

@@ -19,7 +19,7 @@ pub enum Words<'a> {
 
 impl<'a> Words<'a> {
     /// How many names there are.
-    pub(crate) fn len(&self) -> usize
+    pub fn len(&self) -> usize
         ensures { result ≡ length (names_of self.now) }
     {
         match self {
@@ -29,7 +29,7 @@ impl<'a> Words<'a> {
     }
 
     /// The name at a place.
-    pub(crate) fn name(&self, place: usize) -> &'a [u8]
+    pub fn name(&self, place: usize) -> &'a [u8]
         requires { place < length (names_of self.now) }
         ensures { result.now ≡ get_or (names_of self.now) place [] }
     {
@@ -40,7 +40,7 @@ impl<'a> Words<'a> {
     }
 
     /// The names before the last.
-    pub(crate) fn front(&self) -> Words<'a>
+    pub fn front(&self) -> Words<'a>
         ensures { names_of result ≡ front (names_of self.now) }
     {
         match self {
@@ -50,7 +50,7 @@ impl<'a> Words<'a> {
     }
 
     /// The last name.
-    pub(crate) fn last(&self) -> Option<&'a [u8]>
+    pub fn last(&self) -> Option<&'a [u8]>
         ensures { option_copied result ≡ last (names_of self.now) }
     {
         let count = self.len();
@@ -61,7 +61,7 @@ impl<'a> Words<'a> {
     }
 
     /// The name, where it is one identifier.
-    pub(crate) fn one(&self) -> Option<&'a [u8]>
+    pub fn one(&self) -> Option<&'a [u8]>
         ensures { option_copied result ≡ only (names_of self.now) }
     {
         if self.len() != 1 {

@@ -1,6 +1,6 @@
 use Rattle.std.proofs.Common.{None, Some}
 use Rattle.component_extension.specs.Items.{machine_by}
-use Rattle.component_extension.proofs.Loops.{numbered-folded}
+use Rattle.package_index.proofs.Loops.{numbered-folded}
 use Rattle.component_extension.proofs.error_model.machine_of.Goals as goal
 
 pub loop-scope-preserved : goal.loop-scope-preserved

@@ -1,7 +1,7 @@
 use Rattle.std.proofs.Common.{[]}
 use Rattle.component_extension.specs.Items.{scoped_by}
 use Rattle.component_extension.specs.Rows.{put}
-use Rattle.component_extension.proofs.Loops.{numbered-folded}
+use Rattle.package_index.proofs.Loops.{numbered-folded}
 use Rattle.component_extension.proofs.items.gathered.Goals as goal
 
 pub loop-scope-preserved : goal.loop-scope-preserved

@@ -1,4 +1,4 @@
-use Rattle.component_extension.proofs.Loops.{noting-more}
+use Rattle.package_index.proofs.Loops.{noting-more}
 use Rattle.component_extension.proofs.limits.note_all.Goals as goal
 
 pub loop-member-preserved : goal.loop-member-preserved

@@ -1,6 +1,6 @@
 use Rattle.std.proofs.Common.{sym, ap, ◌∙◌, ◌++◌}
 use Rattle.component_extension.specs.Members.{declared_by}
-use Rattle.component_extension.proofs.Loops.{numbered-more}
+use Rattle.package_index.proofs.Loops.{numbered-more}
 use Rattle.component_extension.proofs.members.declarations.Goals as goal
 
 pub loop-level-preserved : goal.loop-level-preserved

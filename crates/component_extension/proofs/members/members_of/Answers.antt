@@ -1,6 +1,6 @@
 use Rattle.std.proofs.Common.{ap, ◌∙◌, sym, [], ◌∷◌, fold, filter}
 use Rattle.component_extension.specs.Members.{declare, stands}
-use Rattle.component_extension.proofs.Loops.{folded-more}
+use Rattle.package_index.proofs.Loops.{folded-more}
 use Rattle.component_extension.proofs.members.members_of.Goals as goal
 
 pub loop-declaration-preserved : goal.loop-declaration-preserved

@@ -1,8 +1,9 @@
 use Rattle.std.proofs.Common.{◌≡◌, not, ap, ◌∙◌}
 use Rattle.aadl_syntax.specs.declared.refusal.Code.TheVariants.{UnknownMember}
 use Rattle.aadl_syntax.specs.Order.{least, nearer}
-use Rattle.component_extension.specs.Members.{refused_so, stands}
-use Rattle.component_extension.proofs.Loops.{noting-more}
+use Rattle.component_extension.specs.Members.{stands}
+use Rattle.package_index.specs.Lookup.{refused_so}
+use Rattle.package_index.proofs.Loops.{noting-more}
 use Rattle.component_extension.proofs.members.note_unknown.Goals as goal
 
 pub loop-declaration-preserved : goal.loop-declaration-preserved

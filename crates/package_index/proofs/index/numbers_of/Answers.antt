@@ -18,12 +18,12 @@ loop-number-preserved c =
     let number = c.loop-number.number in
     let key : Words = Identifiers c.items.result in
     let name : names_of key ≡ unit.name = c.items.ensures.items ∙ ap (λ u. u.name) c.unit-unit.ensures in
-    let noted = c.note_again.ensures ∙ ap (λ spot. nearer c.loop-number.first (least (again_at (not c.in_ok-is_new.is_new) spot))) (ap (λ u. u.spot) c.unit-unit.ensures) in
+    let noted = c.note_if.ensures ∙ ap (λ spot. nearer c.loop-number.first (least (again_at (not c.in_ok-is_new.is_new) spot))) (ap (λ u. u.spot) c.unit-unit.ensures) in
     let again = again-is has_words same_words (take number units) unit key (get same_words c.loop-number.table) (get same_words c.add.new.table) c.loop-number.invariant.table number _ c.in_ok-is_new.ensures in
     record {
       table = knows-more has_words same_words units number unit key (get same_words c.loop-number.table) (get same_words c.add.new.table) _ c.loop-number-test.true c.index-packages-number.is
           (λ other. words_agrees unit key other name) (words_alike key) c.loop-number.invariant.table c.in_ok-is_new.ensures;
-      first = again-more (λ later earlier. has_name later.name earlier) (λ u. u.spot) units number unit c.loop-number.first c.note_again.new.first _ c.loop-number-test.true c.index-packages-number.is
+      first = again-more (λ later earlier. has_name later.name earlier) (λ u. u.spot) units number unit c.loop-number.first c.note_if.new.first _ c.loop-number-test.true c.index-packages-number.is
           (noted ∙ ap (λ is. nearer c.loop-number.first (least (again_at is unit.spot))) (again ∙ same_packages unit key (take number units) name)) c.loop-number.invariant.first;
     }
 

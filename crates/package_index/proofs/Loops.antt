@@ -8,7 +8,7 @@ use Rattle.std.proofs.lemmas.Grind.{flat_map-append, fold-append}
 use Rattle.aadl_syntax.specs.declared.refusal.Refusal.{Refusal}
 use Rattle.aadl_syntax.specs.Order.{least, nearer}
 use Rattle.aadl_syntax.proofs.OrderLaws.{nearer-none, noted-more}
-use Rattle.component_extension.specs.Rows.{numbered_from}
+use Rattle.package_index.specs.Numbered.{numbered_from}
 
 or-none : (b : Bool) → (b || false) ≡ b
 or-none true = refl

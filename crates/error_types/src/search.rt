@@ -1,0 +1,172 @@
+ghost use Rattle.std.specs.Prelude.{◌≡◌, ◌∷◌, [], ℕ, false, List as Items, IfOk, OnOk};
+ghost use Rattle.aadl_syntax.specs.Order.{least, nearer};
+ghost use Rattle.error_types.specs.declared.id.Looked.TheVariants.{Nowhere};
+ghost use Rattle.error_types.specs.Course.{before, left, way_of};
+ghost use Rattle.error_types.specs.Libraries.{Library as Text};
+ghost use Rattle.error_types.specs.Leaving.{Leads};
+ghost use Rattle.error_types.specs.Search.{extended, found_at, is_number_in, own_item, search, unknown_in};
+
+use crate::course::{Course, Left, add_all};
+use crate::id::{ItemId, Looked};
+use crate::library::Library;
+use aadl_syntax::{FirstRefusal, List, Mem, Refusal};
+use std::alloc::{AllocError, Global};
+
+/// Where a search is after a step: on its way, or at its end, with what it found and its refusals.
+#[derive(Drop)]
+pub(crate) enum Step<'t> {
+    Next(Course<'t>),
+    Ended(Looked, List<Refusal>),
+}
+
+/// What the search for a name in a library finds. The refusals of the names of libraries that it meets are noted.
+pub(crate) fn search(
+    alloc: Global,
+    libraries: &[Library<'_>],
+    name: &[u8],
+    number: u32,
+    first: &mut FirstRefusal,
+) -> Mem<Looked>
+    ensures found { IfOk result (λ looked. looked ≡ (search libraries.now name.now number).found) }
+    ensures first { OnOk result (first.new ≡ nearer first.old (least (search libraries.now name.now number).faults)) }
+{
+    let own = own_item(libraries, name, number);
+    if let Looked::Nowhere = own {
+        return search_on(alloc, libraries, name, number, first);
+    }
+    note_all(first, unknown_in(libraries, number));
+    Ok(own)
+}
+
+/// The same in a library that has no item of the name itself.
+fn search_on(
+    alloc: Global,
+    libraries: &[Library<'_>],
+    name: &[u8],
+    number: u32,
+    first: &mut FirstRefusal,
+) -> Mem<Looked>
+    requires { own_item libraries.now name.now number ≡ Nowhere }
+    ensures found { IfOk result (λ looked. looked ≡ (search libraries.now name.now number).found) }
+    ensures first { OnOk result (first.new ≡ nearer first.old (least (search libraries.now name.now number).faults)) }
+{
+    let rest = extended(libraries, number);
+    let mut course = Course::at(alloc, number, rest, unknown_in(libraries, number))?;
+    for _ in 0..u64::MAX {
+        match step(libraries, name, course)? {
+            Step::Next(next) => course = next,
+            Step::Ended(looked, faults) => {
+                note_all(first, faults.items());
+                return Ok(looked);
+            }
+        }
+    }
+    Err(AllocError)
+}
+
+/// A step of a search: to the next library that is left, or back.
+fn step<'t>(libraries: &'t [Library<'_>], name: &[u8], mut course: Course<'t>) -> Mem<Step<'t>>
+    ensures { IfOk result (Leads libraries.now name.now (left libraries.now name.now course.entry)) }
+{
+    match course.next() {
+        Some(library) => meet(libraries, name, course, library),
+        None => back(course),
+    }
+}
+
+/// A search that has nothing left at its top goes back.
+fn back(course: Course<'_>) -> Mem<Step<'_>>
+    requires { course.top.rest ≡ [] }
+    ensures { IfOk result (λ step. (libraries : Items Text) (name : Items ℕ) → Leads libraries name (left libraries name course) step) }
+{
+    match course.leave()? {
+        Left::On(next) => Ok(Step::Next(next)),
+        Left::Out(faults) => Ok(Step::Ended(Looked::Nowhere, faults)),
+    }
+}
+
+/// A search comes to a library: it passes by one that was searched in vain, and ends at one that is being searched.
+fn meet<'t>(
+    libraries: &'t [Library<'_>],
+    name: &[u8],
+    course: Course<'t>,
+    library: u32,
+) -> Mem<Step<'t>>
+    ensures { IfOk result (Leads libraries.now name.now (left libraries.now name.now (before library course))) }
+{
+    match course.mark(library) {
+        None => enter(libraries, name, course, library),
+        Some(false) => Ok(Step::Next(course)),
+        Some(true) => Ok(Step::Ended(Looked::Circular, course.into_faults())),
+    }
+}
+
+/// A search enters a library: it ends with an item of the library's own, or goes on to the libraries that this extends.
+fn enter<'t>(
+    libraries: &'t [Library<'_>],
+    name: &[u8],
+    course: Course<'t>,
+    library: u32,
+) -> Mem<Step<'t>>
+    requires new { is_number_in course.vain library ≡ false }
+    requires apart { is_number_in (way_of (course.top ∷ course.below)) library ≡ false }
+    ensures { IfOk result (Leads libraries.now name.now (left libraries.now name.now (before library course))) }
+{
+    let unknown = unknown_in(libraries, library);
+    let own = own_item(libraries, name, library);
+    if let Looked::Nowhere = own {
+        let rest = extended(libraries, library);
+        return Ok(Step::Next(course.enter(library, rest, unknown)?));
+    }
+    let mut faults = course.into_faults();
+    add_all(&mut faults, unknown)?;
+    Ok(Step::Ended(own, faults))
+}
+
+/// The first item of a library's own that has the name.
+fn own_item(libraries: &[Library<'_>], name: &[u8], number: u32) -> Looked
+    ensures { result ≡ own_item libraries.now name.now number }
+{
+    match place(libraries, name, number) {
+        Some(item) => Looked::Found(ItemId {
+            package: number,
+            item,
+        }),
+        None => Looked::Nowhere,
+    }
+}
+
+fn place(libraries: &[Library<'_>], name: &[u8], number: u32) -> Option<u32>
+    ensures { found_at number result ≡ own_item libraries.now name.now number }
+{
+    libraries.get(number as usize)?.place(name)
+}
+
+/// The libraries that a library extends.
+fn extended<'t>(libraries: &'t [Library<'_>], number: u32) -> &'t [u32]
+    ensures { result.now ≡ extended libraries.now number }
+{
+    match libraries.get(number as usize) {
+        Some(library) => library.extends(),
+        None => &[],
+    }
+}
+
+/// The refusals of the names of libraries that a library uses and extends.
+fn unknown_in<'t>(libraries: &'t [Library<'_>], number: u32) -> &'t [Refusal]
+    ensures { result.now ≡ unknown_in libraries.now number }
+{
+    match libraries.get(number as usize) {
+        Some(library) => library.unknown(),
+        None => &[],
+    }
+}
+
+/// Notes refusals.
+pub(crate) fn note_all(first: &mut FirstRefusal, refusals: &[Refusal])
+    ensures { first.new ≡ nearer first.old (least refusals.now) }
+{
+    for refusal in refusals {
+        first.note(*refusal);
+    }
+}
