@@ -1,7 +1,8 @@
 ghost use Rattle.std.specs.Prelude.{◌≡◌, ◌++◌, IfOk, OnOk, true, flat_map, option_copied, option_map, option_and_then, option_to_list, slice_get};
 ghost use Rattle.aadl_syntax.specs.Order.{least, nearer};
 ghost use Rattle.aadl_syntax.specs.declared.refusal.Code.TheVariants.{Mapping};
-ghost use Rattle.component_extension.specs.Members.{refused_so, refused_there};
+ghost use Rattle.package_index.specs.Lookup.{refused_so};
+ghost use Rattle.component_extension.specs.Members.{refused_there};
 ghost use Rattle.propagation_points.specs.States.{state_faults, state_named};
 ghost use Rattle.error_flows.specs.declared.meaning.FlowMeaning.TheVariants.{Event, State};
 ghost use Rattle.error_flows.specs.Flows.{all_flow_faults, faults_in, faults_of_flows, flow_faults, flow_meaning, flows_of, meanings, path_meaning, reached_in, setting_of, source_meaning, when_faults};
@@ -10,8 +11,9 @@ use crate::meaning::FlowMeaning;
 use aadl_syntax::{Code, FirstRefusal, Flow, FlowKind, Identifier, List, Mem, Spot, StateRef};
 use component_extension::{Effective, InClause};
 use error_types::{Scope, TypeTable};
+use package_index::note_if;
 use propagation_points::{
-    PointUse, Points, Reach, ReachedPoint, StateNames, note_at, note_if, reached, scopes_of,
+    PointUse, Points, Reach, ReachedPoint, StateNames, note_at, reached, scopes_of,
 };
 use std::alloc::Global;
 use std::marker::Model;
@@ -28,7 +30,8 @@ impl<'s, 'a> Model for Setting<'s, 'a> {
     ghost use Rattle.std.specs.Prelude.{option_copied};
     ghost use Rattle.std.specs.Coded.{codes};
     ghost use Rattle.propagation_points.specs.contracts.side.Side as side;
-    ghost use Rattle.component_extension.specs.Members.{refused_so, refused_there};
+    ghost use Rattle.package_index.specs.Lookup.{refused_so};
+    ghost use Rattle.component_extension.specs.Members.{refused_there};
     ghost use Rattle.propagation_points.specs.States.{state_faults, state_named};
     ghost use Rattle.error_flows.specs.declared.meaning.FlowMeaning.TheVariants.{Event, State};
     ghost use Rattle.error_flows.specs.Flows.{Setting as Place};

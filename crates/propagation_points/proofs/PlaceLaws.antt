@@ -8,10 +8,9 @@ use Rattle.std.proofs.lemmas.List.Folds.{list_any_at}
 use Rattle.std.proofs.lemmas.List.Quantifiers.{all_pairs_push}
 use Rattle.std.proofs.lemmas.Slice.Eq.{bytes_eq-Decides}
 use Rattle.aadl_syntax.specs.Name.{is_same_text}
-use Rattle.package_index.specs.Tables.{Knows}
+use Rattle.package_index.specs.Tables.{Knows, same_text}
 use Rattle.package_index.proofs.KnowsLaws.{more-place, some-place}
-use Rattle.component_extension.specs.Members.{same_text}
-use Rattle.component_extension.proofs.Loops.{fold-more}
+use Rattle.package_index.proofs.Loops.{fold-more}
 use Rattle.propagation_points.specs.Points.{NamesDiffer}
 use Rattle.propagation_points.specs.Tables.{KnowsNames, or_place}
 

@@ -13,11 +13,11 @@ use Rattle.aadl_syntax.specs.declared.error_model.TypeSet.{TypeSet}
 use Rattle.aadl_syntax.specs.declared.error_model.UserPoint.{UserPoint}
 use Rattle.aadl_syntax.specs.declared.refusal.Code.TheVariants.{FeatureGroup, UnknownPoint}
 use Rattle.aadl_syntax.specs.declared.refusal.Refusal.{Refusal}
-use Rattle.package_index.specs.Lookup.{place_of, refusal}
+use Rattle.package_index.specs.Lookup.{place_of, refusal, refused_so}
 use Rattle.package_index.specs.Names.{only}
 use Rattle.component_extension.specs.declared.effective.Effective.{Effective}
 use Rattle.component_extension.specs.Items.{Clause, Scoped}
-use Rattle.component_extension.specs.Members.{Member, refused_so}
+use Rattle.component_extension.specs.Members.{Member}
 use Rattle.error_types.specs.declared.scope.Scope.{Scope}
 use Rattle.error_types.specs.Libraries.{Table}
 use Rattle.error_types.specs.Types.{denoted, text_scope}

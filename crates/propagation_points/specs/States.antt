@@ -4,7 +4,8 @@ use Rattle.aadl_syntax.specs.Name.{is_same_text}
 use Rattle.aadl_syntax.specs.declared.error_model.StateRef.{StateRef}
 use Rattle.aadl_syntax.specs.declared.refusal.Code.TheVariants.{Typed, UnknownState}
 use Rattle.aadl_syntax.specs.declared.refusal.Refusal.{Refusal}
-use Rattle.component_extension.specs.Members.{refused_so, refused_there}
+use Rattle.package_index.specs.Lookup.{refused_so}
+use Rattle.component_extension.specs.Members.{refused_there}
 use Rattle.propagation_points.specs.Points.{keep_at}
 
 -- the number of the state of a name

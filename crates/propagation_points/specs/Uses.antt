@@ -9,7 +9,7 @@ use Rattle.aadl_syntax.specs.declared.refusal.Code.{Code}
 use Rattle.aadl_syntax.specs.declared.refusal.Code.TheVariants.{NotContained, UnknownPoint, UnknownTrigger}
 use Rattle.aadl_syntax.specs.declared.refusal.Refusal.{Refusal}
 use Rattle.package_index.specs.Names.{only}
-use Rattle.component_extension.specs.Members.{refused_so}
+use Rattle.package_index.specs.Lookup.{refused_so}
 use Rattle.error_types.specs.declared.scope.Scope.{Scope}
 use Rattle.error_types.specs.Libraries.{Table}
 use Rattle.error_types.specs.Search.{is_number_in}

@@ -11,7 +11,7 @@ mod uses;
 
 pub use declared::scopes_of;
 pub use point::Point;
-pub use points::{Points, note_if, points_of};
+pub use points::{Points, points_of};
 pub use side::{Reach, Side};
 pub use states::{StateNames, note_at};
 pub use uses::{PointUse, ReachedPoint, reached};

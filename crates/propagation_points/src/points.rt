@@ -1,6 +1,6 @@
 ghost use Rattle.std.specs.Prelude.{◌≡◌, [], IfOk, OnOk, flat_map, map, fold, option_copied, option_map};
 ghost use Rattle.aadl_syntax.specs.Order.{least, nearer};
-ghost use Rattle.component_extension.specs.Members.{refused_so};
+ghost use Rattle.package_index.specs.Lookup.{refused_so};
 ghost use Rattle.package_index.specs.Names.{only};
 ghost use Rattle.propagation_points.specs.Points.{NamesDiffer, fault_at, keep_first, open_points, place_named, point_faults, point_named, points_of, propagation_faults, scopes_of, side_of, side_with, with_sides};
 
@@ -8,9 +8,10 @@ use crate::declared::DeclaredSides;
 use crate::open_point::{OpenPoint, only_name, open_points};
 use crate::point::Point;
 use crate::side::Side;
-use aadl_syntax::{Code, FirstRefusal, List, Mem, Place, PointItem, Refusal, Spot};
+use aadl_syntax::{Code, FirstRefusal, List, Mem, PointItem};
 use component_extension::{Effective, InClause};
 use error_types::TypeTable;
+use package_index::note_if;
 use std::alloc::Global;
 use std::collections::HashMap;
 use std::marker::Model;
@@ -27,7 +28,7 @@ impl<'a> Model for Points<'a> {
     ghost use Rattle.std.specs.Prelude.{List};
     ghost use Rattle.std.specs.Coded.{codes};
     ghost use Rattle.std.specs.HashMap.{get};
-    ghost use Rattle.component_extension.specs.Members.{same_text};
+    ghost use Rattle.package_index.specs.Tables.{same_text};
     ghost use Rattle.propagation_points.specs.contracts.side.Side as side;
     ghost use Rattle.propagation_points.specs.Points.{Point as Sides};
     ghost use Rattle.propagation_points.specs.Tables.{KnowsNames};
@@ -201,21 +202,5 @@ fn note_propagation(first: &mut FirstRefusal, points: &Points, propagation: &Poi
             note_if(first, is_unknown, Code::UnknownPoint, spot);
         }
         None => note_if(first, true, Code::FeatureGroup, spot),
-    }
-}
-
-/// Notes a refusal at a place, where it stands.
-pub fn note_if(first: &mut FirstRefusal, stands: bool, code: Code, spot: Spot)
-    ensures { first.new ≡ nearer first.old (least (refused_so stands code spot)) }
-{
-    if stands {
-        first.note(Refusal {
-            code,
-            place: Place::At {
-                file: spot.file,
-                at: spot.at,
-            },
-            limit: 0,
-        });
     }
 }

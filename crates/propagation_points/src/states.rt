@@ -4,8 +4,8 @@ ghost use Rattle.aadl_syntax.specs.Order.{least, nearer};
 ghost use Rattle.component_extension.specs.Members.{refused_there};
 ghost use Rattle.propagation_points.specs.States.{keep_name, state_faults, state_named};
 
-use crate::points::note_if;
 use aadl_syntax::{Code, FirstRefusal, Identifier, List, Mem, Spot, StateRef, TypeSet};
+use package_index::note_if;
 use std::alloc::Global;
 use std::collections::HashMap;
 use std::marker::Model;
@@ -21,7 +21,7 @@ pub struct StateNames<'a> {
 impl<'a> Model for StateNames<'a> {
     ghost use Rattle.std.specs.Prelude.{List, ℕ, map};
     ghost use Rattle.std.specs.HashMap.{get};
-    ghost use Rattle.component_extension.specs.Members.{same_text};
+    ghost use Rattle.package_index.specs.Tables.{same_text};
     ghost use Rattle.propagation_points.specs.Tables.{KnowsNames};
 
     ghost Value = { List (List ℕ) };

@@ -4,10 +4,11 @@ ghost use Rattle.propagation_points.specs.Uses.{is_absent, is_outside, reach_of,
 
 use crate::declared::types_in;
 use crate::open_point::only_name;
-use crate::points::{Points, note_if};
+use crate::points::Points;
 use crate::side::{Reach, Side, has_other};
 use aadl_syntax::{Atom, Code, FirstRefusal, Identifier, List, Mem, PointRef, Spot, TypeSet};
 use error_types::{Scope, TypeTable};
+use package_index::note_if;
 use std::alloc::Global;
 use std::marker::Model;
 

@@ -1,6 +1,6 @@
 use Rattle.std.proofs.Common.{◌≡◌, ◌++◌, [], option_to_list, ◌∙◌}
 use Rattle.aadl_syntax.specs.Order.{least, nearer}
-use Rattle.component_extension.proofs.Loops.{gathered-more, noting-more}
+use Rattle.package_index.proofs.Loops.{gathered-more, noting-more}
 use Rattle.error_flows.specs.Flows.{flow_faults, flow_meaning, setting_of}
 use Rattle.error_flows.proofs.flows.meanings.Goals as goal
 

@@ -1,7 +1,7 @@
 use Rattle.std.proofs.Common.{ap, ◌∙◌}
 use Rattle.aadl_syntax.specs.Order.{least, nearer}
 use Rattle.package_index.specs.Names.{only}
-use Rattle.component_extension.proofs.Loops.{noting-more}
+use Rattle.package_index.proofs.Loops.{noting-more}
 use Rattle.propagation_points.specs.Points.{fault_at, propagation_faults}
 use Rattle.propagation_points.proofs.points.note_propagations.Goals as goal
 

@@ -1,7 +1,7 @@
 use Rattle.std.proofs.Common.{ℕ, ◌≡◌, ◌∷◌, List, [], length, map, None, Some, cond, is_some, subst, sym, ap, ◌∙◌}
 use Rattle.std.proofs.lemmas.List.{length-map, map-append}
 use Rattle.std.specs.HashMap.{get}
-use Rattle.component_extension.specs.Members.{same_text}
+use Rattle.package_index.specs.Tables.{same_text}
 use Rattle.propagation_points.specs.States.{state_named}
 use Rattle.propagation_points.specs.Tables.{KnowsNames}
 use Rattle.propagation_points.proofs.PlaceLaws.{named-more, none-of}
