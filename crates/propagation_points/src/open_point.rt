@@ -1,4 +1,4 @@
-ghost use Rattle.std.specs.Prelude.{◌≡◌, ◌++◌, [], cond, flat_map, map, None, Some, IfOk, OnOk, option_copied};
+ghost use Rattle.std.specs.Prelude.{◌≡◌, ◌++◌, cond, flat_map, map, None, Some, IfOk, OnOk, option_copied};
 ghost use Rattle.std.specs.List.{list_any};
 ghost use Rattle.package_index.specs.Names.{only};
 ghost use Rattle.propagation_points.specs.Points.{feature_point, open_points, opens_inward, opens_outward, point_words, stands_for, is_text, user_point, word_point};

@@ -2,7 +2,7 @@ ghost use Rattle.std.specs.Prelude.{◌≡◌, [], IfOk, OnOk, flat_map, map, fo
 ghost use Rattle.aadl_syntax.specs.Order.{least, nearer};
 ghost use Rattle.package_index.specs.Lookup.{refused_so};
 ghost use Rattle.package_index.specs.Names.{only};
-ghost use Rattle.propagation_points.specs.Points.{NamesDiffer, fault_at, keep_first, open_points, place_named, point_faults, point_named, points_of, propagation_faults, scopes_of, side_of, side_with, with_sides};
+ghost use Rattle.propagation_points.specs.Points.{NamesDiffer, fault_at, keep_first, place_named, point_faults, point_named, points_of, propagation_faults, side_of, side_with, with_sides};
 
 use crate::declared::DeclaredSides;
 use crate::open_point::{OpenPoint, only_name, open_points};
