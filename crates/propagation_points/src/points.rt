@@ -1,6 +1,5 @@
 ghost use Rattle.std.specs.Prelude.{◌≡◌, [], IfOk, OnOk, flat_map, map, fold, option_copied, option_map};
 ghost use Rattle.aadl_syntax.specs.Order.{least, nearer};
-ghost use Rattle.package_index.specs.Lookup.{refused_so};
 ghost use Rattle.package_index.specs.Names.{only};
 ghost use Rattle.propagation_points.specs.Points.{NamesDiffer, fault_at, keep_first, place_named, point_faults, point_named, points_of, propagation_faults, side_of, side_with, with_sides};
 
