@@ -1,5 +1,6 @@
 -- The steps of a search for a name.
 use Rattle.std.proofs.Common.{ℕ, zero, suc, ◌+◌, ◌-◌, ◌^◌, ◌<◌, ◌≡◌, Bool, true, false, ◌||◌, cond, List, [], ◌∷◌, ◌++◌, length, fold, Option, Some, None, is_some, refl, sym, ap, ◌∙◌, arith}
+use Rattle.aadl_syntax.specs.Order.{nearer}
 use Rattle.aadl_syntax.specs.declared.refusal.Refusal.{Refusal}
 use Rattle.error_types.specs.declared.id.Looked.{Looked}
 use Rattle.error_types.specs.declared.id.Looked.TheVariants.{Found, Nowhere, Circular}
@@ -38,14 +39,14 @@ module _ (libraries : List Library) (name : List ℕ) where
 
   -- ---- one step
 
-  met : ℕ → List ℕ → Search → ℕ → Search
+  abbrev met : ℕ → List ℕ → Search → ℕ → Search
   met steps way so library = past library (fold (searched steps libraries name (library ∷ way)) (at_library libraries name so library) (extended libraries library))
 
-  one_step : (steps one : ℕ) (way vain : List ℕ) (faults : List Refusal) (library : ℕ) → steps ≡ suc one
-      → searched steps libraries name way (record { found = Nowhere; vain = vain; faults = faults }) library
-        ≡ cond (is_number_in vain library) (record { found = Nowhere; vain = vain; faults = faults }) (cond (is_number_in way library) (record { found = Circular; vain = vain; faults = faults }) (met one way (record { found = Nowhere; vain = vain; faults = faults }) library))
+  one_step : (steps one : ℕ) (way vain : List ℕ) (first : Option Refusal) (library : ℕ) → steps ≡ suc one
+      → searched steps libraries name way (record { found = Nowhere; vain = vain; first = first }) library
+        ≡ cond (is_number_in vain library) (record { found = Nowhere; vain = vain; first = first }) (cond (is_number_in way library) (record { found = Circular; vain = vain; first = first }) (met one way (record { found = Nowhere; vain = vain; first = first }) library))
   unfolding searched
-  one_step steps one way vain faults library more = ap (λ n. searched n libraries name way (record { found = Nowhere; vain = vain; faults = faults }) library) more
+  one_step steps one way vain first library more = ap (λ n. searched n libraries name way (record { found = Nowhere; vain = vain; first = first }) library) more
 
   module _ (course : Course) (library : ℕ) (few : length course.below < 2 ^ 32) where
     abbrev way : List ℕ
@@ -64,7 +65,7 @@ module _ (libraries : List Library) (name : List ℕ) where
     stepped : left libraries name (before library course) ≡ after (cond (is_number_in course.vain library) (so_far course) (cond (is_number_in way library) (turned (so_far course)) (met deeper way (so_far course) library)))
     stepped =
         let more : steps ≡ suc deeper = omega (arith, few) in
-        ap after (one_step steps deeper way course.vain course.faults library more)
+        ap after (one_step steps deeper way course.vain course.first library more)
 
     pub passed-by : is_number_in course.vain library ≡ true → left libraries name (before library course) ≡ left libraries name course
     passed-by vain = stepped ∙ ap (λ b. after (cond b (so_far course) (cond (is_number_in way library) (turned (so_far course)) (met deeper way (so_far course) library)))) vain
@@ -86,7 +87,7 @@ module _ (libraries : List Library) (name : List ℕ) where
 
       pub goes-on : own_item libraries name library ≡ Nowhere → left libraries name (entered course library (extended libraries library) (unknown_in libraries library)) ≡ left libraries name (before library course)
       goes-on none =
-          ap (λ own. after (past library (fold (searched deeper libraries name (library ∷ way)) (record { found = own; vain = course.vain; faults = course.faults ++ unknown_in libraries library }) (extended libraries library)))) (sym none)
+          ap (λ own. after (past library (fold (searched deeper libraries name (library ∷ way)) (record { found = own; vain = course.vain; first = nearer course.first (unknown_in libraries library) }) (extended libraries library)))) (sym none)
           ∙ sym into
 
       pub ends-there : (own : Looked) → own ≡ own_item libraries name library → ((s r : Search) → unless_ended own s r ≡ s) → left libraries name (before library course) ≡ at_library libraries name (so_far course) library
@@ -97,24 +98,24 @@ module _ (libraries : List Library) (name : List ℕ) where
 
   -- ---- back
 
-  pub back-on : (course : Course) (top : Frame) (below : List Frame) (vain : List ℕ) (faults : List Refusal) → course.top.rest ≡ [] → course.below ≡ top ∷ below → vain ≡ course.vain ++ course.top.library ∷ [] → faults ≡ course.faults
-      → left libraries name (record { top = top; below = below; vain = vain; faults = faults }) ≡ left libraries name course
-  back-on course top below vain faults none is v f =
-      (λ i. finished libraries name (top ∷ below) (record { found = Nowhere; vain = v i; faults = f i }))
+  pub back-on : (course : Course) (top : Frame) (below : List Frame) (vain : List ℕ) (first : Option Refusal) → course.top.rest ≡ [] → course.below ≡ top ∷ below → vain ≡ course.vain ++ course.top.library ∷ [] → first ≡ course.first
+      → left libraries name (record { top = top; below = below; vain = vain; first = first }) ≡ left libraries name course
+  back-on course top below vain first none is v f =
+      (λ i. finished libraries name (top ∷ below) (record { found = Nowhere; vain = v i; first = f i }))
       ∙ (λ i. finished libraries name (sym is i) (past course.top.library (fold (searched (2 ^ 64 - (length course.below + 1)) libraries name (way_of (course.top ∷ course.below))) (so_far course) (sym none i))))
 
-  pub back-out : (course : Course) → course.top.rest ≡ [] → course.below ≡ [] → left libraries name course ≡ record { found = Nowhere; vain = course.vain ++ course.top.library ∷ []; faults = course.faults }
+  pub back-out : (course : Course) → course.top.rest ≡ [] → course.below ≡ [] → left libraries name course ≡ record { found = Nowhere; vain = course.vain ++ course.top.library ∷ []; first = course.first }
   back-out course none is =
       λ i. finished libraries name (is i) (past course.top.library (fold (searched (2 ^ 64 - (length course.below + 1)) libraries name (way_of (course.top ∷ course.below))) (so_far course) (none i)))
 
   -- ---- the beginning
 
   begun : (number : ℕ) → search libraries name number ≡ met (2 ^ 64 - 1) [] no_search number
-  begun number = one_step (2 ^ 64) (2 ^ 64 - 1) [] [] [] number refl
+  begun number = one_step (2 ^ 64) (2 ^ 64 - 1) [] [] None number refl
 
-  pub begins : (number : ℕ) → own_item libraries name number ≡ Nowhere → left libraries name (record { top = record { library = number; rest = extended libraries number }; below = []; vain = []; faults = unknown_in libraries number }) ≡ search libraries name number
+  pub begins : (number : ℕ) → own_item libraries name number ≡ Nowhere → left libraries name (record { top = record { library = number; rest = extended libraries number }; below = []; vain = []; first = unknown_in libraries number }) ≡ search libraries name number
   begins number none =
-      ap (λ own. past number (fold (searched (2 ^ 64 - 1) libraries name (number ∷ [])) (record { found = own; vain = []; faults = unknown_in libraries number }) (extended libraries number))) (sym none)
+      ap (λ own. past number (fold (searched (2 ^ 64 - 1) libraries name (number ∷ [])) (record { found = own; vain = []; first = unknown_in libraries number }) (extended libraries number))) (sym none)
       ∙ sym (begun number)
 
   pub ends-at-once : (number : ℕ) (own : Looked) → own ≡ own_item libraries name number → ((s r : Search) → unless_ended own s r ≡ s) → search libraries name number ≡ at_library libraries name no_search number

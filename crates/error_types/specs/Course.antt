@@ -1,5 +1,6 @@
 -- A search for a name that is under way, without recursion: what is left of it.
-use Rattle.std.specs.Prelude.{◌≡◌, ℕ, ◌+◌, ◌-◌, ◌^◌, Bool, true, false, ◌||◌, List, [], ◌∷◌, length, map, fold, Option, Some, None, is_some}
+use Rattle.std.specs.Prelude.{◌≡◌, ℕ, ◌+◌, ◌-◌, ◌^◌, Bool, true, false, ◌||◌, List, [], ◌∷◌, ◌++◌, length, map, fold, Option, Some, None, is_some}
+use Rattle.aadl_syntax.specs.Order.{nearer}
 use Rattle.aadl_syntax.specs.declared.refusal.Refusal.{Refusal}
 use Rattle.error_types.specs.declared.id.Looked.{Looked}
 use Rattle.error_types.specs.declared.id.Looked.TheVariants.{Nowhere}
@@ -12,12 +13,12 @@ pub record Frame : Type 0 where
   pub rest : List ℕ
 
 -- A search under way: the library that is being searched and those for which it is searched, the nearest first; those that
--- were searched in vain, and the refusals so far.
+-- were searched in vain, and the first refusal so far.
 pub record Course : Type 0 where
   pub top : Frame
   pub below : List Frame
   pub vain : List ℕ
-  pub faults : List Refusal
+  pub first : Option Refusal
 
 -- the libraries that are being searched
 abbrev pub way_of : List Frame → List ℕ
@@ -31,7 +32,7 @@ finished libraries name (frame ∷ below) search =
 
 -- the search with nothing found so far
 abbrev pub so_far : Course → Search
-so_far course = record { found = Nowhere; vain = course.vain; faults = course.faults }
+so_far course = record { found = Nowhere; vain = course.vain; first = course.first }
 
 -- what the search comes to
 abbrev pub left : List Library → List ℕ → Course → Search
@@ -58,7 +59,7 @@ IsMarked course table = Marks (is_number_in course.vain) (is_number_in (way_of (
 
 -- the course with other libraries left at its top
 abbrev pub with_rest : List ℕ → Course → Course
-with_rest rest course = record { top = record { library = course.top.library; rest = rest }; below = course.below; vain = course.vain; faults = course.faults }
+with_rest rest course = record { top = record { library = course.top.library; rest = rest }; below = course.below; vain = course.vain; first = course.first }
 
 -- The next library is taken from those that are left at the top, or there is none.
 abbrev pub Takes : Course → Option ℕ → Course → Type 0
@@ -66,14 +67,14 @@ Takes old None new = (old.top.rest ≡ []) × (new ≡ old)
 Takes old (Some library) new = (old.top.rest ≡ library ∷ new.top.rest) × (new ≡ with_rest new.top.rest old)
 
 -- the course once it entered a library, which extends these
-abbrev pub entered : Course → ℕ → List ℕ → List Refusal → Course
-entered course library rest unknown = record { top = record { library = library; rest = rest }; below = course.top ∷ course.below; vain = course.vain; faults = course.faults ++ unknown }
+abbrev pub entered : Course → ℕ → List ℕ → Option Refusal → Course
+entered course library rest unknown = record { top = record { library = library; rest = rest }; below = course.top ∷ course.below; vain = course.vain; first = nearer course.first unknown }
 
 -- The library at the top was searched in vain, and the search goes back to that for which it was searched.
 pub record IsBack (course next : Course) : Type 0 where
   pub below : course.below ≡ next.top ∷ next.below
   pub vain : next.vain ≡ course.vain ++ course.top.library ∷ []
-  pub faults : next.faults ≡ course.faults
+  pub first : next.first ≡ course.first
 
 -- the course before it took this library from those that were left at its top
 abbrev pub before : ℕ → Course → Course

@@ -2,6 +2,7 @@
 use Rattle.std.specs.Prelude.{◌≡◌, ℕ, ◌+◌, ◌<◌, Bool, true, false, cond, ◌&&◌, not, nat_eq, List, [], ◌∷◌, ◌++◌, length, map, flat_map, position, slice_get, Option, Some, None, option_map, option_and_then, option_to_list, is_none, codes}
 use Rattle.std.specs.List.{list_any}
 use Rattle.aadl_syntax.specs.Name.{is_same_text}
+use Rattle.aadl_syntax.specs.Order.{least}
 use Rattle.aadl_syntax.specs.declared.core_model.PackageUnit.{PackageUnit}
 use Rattle.aadl_syntax.specs.declared.error_model.TypeItem.{TypeItem}
 use Rattle.aadl_syntax.specs.declared.error_model.TypeKind.{TypeKind}
@@ -34,13 +35,13 @@ unknown_libraries packages from references = flat_map (λ reference. refused_so 
 
 -- ---- libraries
 
--- A library: the items of its blocks, the libraries that it extends, where its text looks for a bare name, and the refusals of
--- its names of libraries.
+-- A library: the items of its blocks, the libraries that it extends, where its text looks for a bare name, and the first
+-- refusal of its names of libraries.
 pub record Library : Type 0 where
   pub items : List TypeItem
   pub extends : List ℕ
   pub scope : Scope
-  pub unknown : List Refusal
+  pub unknown : Option Refusal
 
 -- the items of blocks
 abbrev pub items_of : List TypesBlock → List TypeItem
@@ -65,7 +66,7 @@ library_of packages number unit = record {
   items = items_of unit.library.blocks;
   extends = extended_by packages number unit.library.blocks;
   scope = record { «package» = number; libraries = number ∷ used_by packages number unit.library.blocks };
-  unknown = unknown_to packages number unit.library.blocks;
+  unknown = least (unknown_to packages number unit.library.blocks);
 }
 
 -- the libraries of all packages, in order

@@ -1,5 +1,6 @@
 -- What the names of a written set lead to: the types that they name, and what is refused on the way.
 use Rattle.std.specs.Prelude.{ℕ, zero, suc, ◌^◌, Bool, true, false, cond, ◌&&◌, List, [], ◌∷◌, ◌++◌, map, flat_map, fold, slice_get, Option, Some, None, option_to_list}
+use Rattle.aadl_syntax.specs.Order.{least, nearer}
 use Rattle.aadl_syntax.specs.declared.error_model.Term.{Term}
 use Rattle.aadl_syntax.specs.declared.error_model.Term.TheVariants.{NoError, One, Product}
 use Rattle.aadl_syntax.specs.declared.error_model.TypeItem.{TypeItem}
@@ -69,41 +70,41 @@ library_scope table number = scope_of (slice_get table.libraries number)
 
 -- ---- the walk
 
--- A walk so far: the items that it followed to their end, the types that it met, and the refusals.
+-- A walk so far: the items that it followed to their end, the types that it met, and the first refusal.
 pub record Walk : Type 0 where
   pub followed : List ItemId
   pub types : List ℕ
-  pub faults : List Refusal
+  pub first : Option Refusal
 
 -- the walk once it is at an item
 abbrev pub at_item : Table → Walk → ItemId → Walk
 at_item table walk id = record {
   followed = walk.followed;
   types = walk.types ++ option_to_list (number_of table id);
-  faults = walk.faults ++ of_item products_of (item_at table.libraries id);
+  first = nearer walk.first (least (of_item products_of (item_at table.libraries id)));
 }
 
 -- the walk once it followed an item to its end
 abbrev pub past_item : ItemId → Walk → Walk
-past_item id walk = record { followed = walk.followed ++ id ∷ []; types = walk.types; faults = walk.faults }
+past_item id walk = record { followed = walk.followed ++ id ∷ []; types = walk.types; first = walk.first }
 
--- the walk with more refusals
-abbrev pub with_faults : Walk → List Refusal → Walk
-with_faults walk faults = record { followed = walk.followed; types = walk.types; faults = walk.faults ++ faults }
+-- the walk with a further refusal, if there is one
+abbrev pub with_fault : Walk → Option Refusal → Walk
+with_fault walk fault = record { followed = walk.followed; types = walk.types; first = nearer walk.first fault }
 
 -- The walk goes on to what a name means: N7 where it must be a type and is a set, N8 where it is an item on the way, both at
 -- the name. An item that was followed to its end is passed by.
 abbrev pub arrived : (Walk → ItemId → Walk) → Table → List ItemId → Need → Walk → Option ItemId → Walk
 arrived follow table way need walk None = walk
 arrived follow table way need walk (Some id) =
-    cond (need.of_type && is_set_item (item_at table.libraries id)) (with_faults walk (refusal UnknownType (place_of need.reference.spot) ∷ []))
+    cond (need.of_type && is_set_item (item_at table.libraries id)) (with_fault walk (Some (refusal UnknownType (place_of need.reference.spot))))
     (cond (is_item_in walk.followed id) walk
-    (cond (is_item_in way id) (with_faults walk (refusal CyclicType (place_of need.reference.spot) ∷ [])) (follow walk id)))
+    (cond (is_item_in way id) (with_fault walk (Some (refusal CyclicType (place_of need.reference.spot)))) (follow walk id)))
 
 -- the walk goes on to a name in a text
 abbrev pub walked : (Walk → ItemId → Walk) → Table → List ItemId → Scope → Walk → Need → Walk
 walked follow table way scope walk need =
-    arrived follow table way need (with_faults walk (named table scope need.reference).faults) (named table scope need.reference).target
+    arrived follow table way need (with_fault walk (named table scope need.reference).first) (named table scope need.reference).target
 
 -- The walk through an item, in at most so many steps, depth first in the order of the text. `way` are the items that are
 -- being followed.
@@ -114,7 +115,7 @@ follow (suc steps) table way walk id =
 
 -- nothing is walked yet
 abbrev pub no_walk : Walk
-no_walk = record { followed = []; types = []; faults = [] }
+no_walk = record { followed = []; types = []; first = None }
 
 -- The walk through an item. No index has as many as 2^64 items, so it always comes to its end.
 abbrev pub walk_from : Table → ItemId → Walk
@@ -122,20 +123,32 @@ walk_from table id = follow (2 ^ 64) table [] no_walk id
 
 -- ---- written sets
 
--- the walk of a name of a written set: each begins a walk of its own
-abbrev pub name_walk : Table → Scope → Ref → Walk
-name_walk table scope reference = walked (follow (2 ^ 64) table []) table [] scope no_walk (record { of_type = false; reference = reference })
+-- the walk through what a name means
+abbrev pub reached : Table → Option ItemId → Walk
+reached table None = no_walk
+reached table (Some id) = walk_from table id
 
--- the walk of a term of a written set
-abbrev pub term_walk : Table → Scope → Term → Walk
-term_walk table scope (NoError spot) = no_walk
-term_walk table scope (One reference) = name_walk table scope reference
-term_walk table scope (Product spot) = record { followed = []; types = []; faults = refusal TypeProduct (place_of spot) ∷ [] }
+-- the types that a term of a written set names: its name begins a walk of its own
+abbrev pub term_types : Table → Scope → Term → List ℕ
+term_types table scope (NoError spot) = []
+term_types table scope (One reference) = (reached table (named table scope reference).target).types
+term_types table scope (Product spot) = []
+
+-- the first refusal of a term
+abbrev pub term_first : Table → Scope → Term → Option Refusal
+term_first table scope (NoError spot) = None
+term_first table scope (One reference) = nearer (named table scope reference).first (reached table (named table scope reference).target).first
+term_first table scope (Product spot) = Some (refusal TypeProduct (place_of spot))
 
 -- the types that a written set names
 abbrev pub set_types : Table → Scope → TypeSet → List ℕ
-set_types table scope set = flat_map (λ term. (term_walk table scope term).types) set.terms
+set_types table scope set = flat_map (term_types table scope) set.terms
 
--- The refusals of a written set: N2, N7, N8 and P4 of its terms.
-abbrev pub set_faults : Table → Scope → TypeSet → List Refusal
-set_faults table scope set = flat_map (λ term. (term_walk table scope term).faults) set.terms
+-- the first refusal of terms
+abbrev pub terms_first : Table → Scope → List Term → Option Refusal
+terms_first table scope [] = None
+terms_first table scope (term ∷ terms) = nearer (term_first table scope term) (terms_first table scope terms)
+
+-- The first refusal of a written set: N2, N7, N8 and P4 of its terms.
+abbrev pub set_first : Table → Scope → TypeSet → Option Refusal
+set_first table scope set = terms_first table scope set.terms

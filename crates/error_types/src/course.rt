@@ -1,9 +1,10 @@
-ghost use Rattle.std.specs.Prelude.{◌≡◌, ◌∷◌, ◌++◌, [], ◌||◌, false, is_some, IfOk, OnOk, MatchOption};
+ghost use Rattle.std.specs.Prelude.{◌≡◌, ◌<◌, ◌^◌, ◌∷◌, [], ◌||◌, false, is_some, length, IfOk};
+ghost use Rattle.aadl_syntax.specs.Order.{nearer};
 ghost use Rattle.error_types.specs.Course.{Takes, entered, is_vain, way_of};
 ghost use Rattle.error_types.specs.Leaving.{Leaves};
 ghost use Rattle.error_types.specs.Search.{is_number_in};
 
-use aadl_syntax::{List, Mem, Refusal};
+use aadl_syntax::{FirstRefusal, Mem, Refusal};
 use std::alloc::{AllocError, Global};
 use std::collections::HashMap;
 use std::marker::Model;
@@ -30,7 +31,7 @@ pub(crate) struct Course<'t> {
     below: Vec<Frame<'t>>,
     marks: HashMap<u32, bool>,
     vain: Vec<u32>,
-    faults: List<Refusal>,
+    first: FirstRefusal,
 }
 
 impl<'t> Model for Course<'t> {
@@ -40,18 +41,18 @@ impl<'t> Model for Course<'t> {
 
     ghost Value = { Way };
 
-    ghost view = { λ c. record { top = c.top; below = reverse c.below.items; vain = c.vain.items; faults = c.faults } };
+    ghost view = { λ c. record { top = c.top; below = reverse c.below.items; vain = c.vain.items; first = c.first } };
 
-    ghost invariant = { λ c. IsMarked (record { top = c.top; below = reverse c.below.items; vain = c.vain.items; faults = c.faults }) (get nat_eq c.marks)
+    ghost invariant = { λ c. IsMarked (record { top = c.top; below = reverse c.below.items; vain = c.vain.items; first = c.first }) (get nat_eq c.marks)
         × (length c.below.items < 2 ^ 32) };
 }
 
 /// Where a search is once a library was searched in vain: at the library for which it was searched, or at its end, with its
-/// refusals.
+/// first refusal.
 #[derive(Drop)]
 pub(crate) enum Left<'t> {
     On(Course<'t>),
-    Out(List<Refusal>),
+    Out(FirstRefusal),
 }
 
 impl<'t> Course<'t> {
@@ -60,19 +61,18 @@ impl<'t> Course<'t> {
         alloc: Global,
         library: u32,
         rest: &'t [u32],
-        unknown: &[Refusal],
+        first: FirstRefusal,
     ) -> Mem<Course<'t>>
-        ensures { IfOk result (λ course. course ≡ record { top = record { library = library; rest = rest.now }; below = []; vain = []; faults = unknown.now }) }
+        ensures { IfOk result (λ course. course ≡ record { top = record { library = library; rest = rest.now }; below = []; vain = []; first = first }) }
     {
         let mut marks = HashMap::new(alloc);
         marks.insert(library, true)?;
-        let faults = List::of(Vec::from_slice(alloc, unknown)?)?;
         Ok(Course {
             top: Frame { library, rest },
             below: Vec::new(alloc),
             marks,
             vain: Vec::new(alloc),
-            faults,
+            first,
         })
     }
 
@@ -91,6 +91,7 @@ impl<'t> Course<'t> {
 
     /// Whether a library was searched in vain, or is being searched; none where it is neither.
     pub(crate) fn mark(&self, library: u32) -> Option<bool>
+        ensures few { length self.now.below < 2 ^ 32 }
         ensures done { is_vain result ≡ is_number_in self.now.vain library }
         ensures entered { is_some result ≡ (is_number_in self.now.vain library || is_number_in (way_of (self.now.top ∷ self.now.below)) library) }
     {
@@ -102,46 +103,46 @@ impl<'t> Course<'t> {
         self,
         library: u32,
         rest: &'t [u32],
-        unknown: &[Refusal],
+        unknown: Option<Refusal>,
     ) -> Mem<Course<'t>>
         requires { is_number_in self.vain library ≡ false }
-        ensures { IfOk result (λ course. course ≡ entered self library rest.now unknown.now) }
+        ensures { IfOk result (λ course. course ≡ entered self.entry library rest.now unknown) }
     {
         let Course {
             top,
             mut below,
             mut marks,
             vain,
-            mut faults,
+            mut first,
         } = self;
         if below.len() >= 4_294_967_295 {
             return Err(AllocError);
         }
         marks.insert(library, true)?;
         below.push(top)?;
-        add_all(&mut faults, unknown)?;
+        note_some(&mut first, unknown);
         Ok(Course {
             top: Frame { library, rest },
             below,
             marks,
             vain,
-            faults,
+            first,
         })
     }
 
     /// Leaves the library at the top, which was searched in vain.
     pub(crate) fn leave(self) -> Mem<Left<'t>>
-        ensures { IfOk result (Leaves self) }
+        ensures { IfOk result (Leaves self.entry) }
     {
         let Course {
             top,
             mut below,
             mut marks,
             mut vain,
-            faults,
+            first,
         } = self;
         let Some(next) = below.pop() else {
-            return Ok(Left::Out(faults));
+            return Ok(Left::Out(first));
         };
         marks.insert(top.library, false)?;
         vain.push(top.library)?;
@@ -150,24 +151,30 @@ impl<'t> Course<'t> {
             below,
             marks,
             vain,
-            faults,
+            first,
         }))
     }
 
-    /// The refusals so far.
-    pub(crate) fn into_faults(self) -> List<Refusal>
-        ensures { result ≡ self.faults }
+    /// The first refusal so far.
+    pub(crate) fn first(self) -> FirstRefusal
+        ensures { result ≡ self.entry.first }
     {
-        self.faults
+        self.first
     }
 }
 
-/// Adds refusals.
-pub(crate) fn add_all(refusals: &mut List<Refusal>, more: &[Refusal]) -> Mem<()>
-    ensures { OnOk result (refusals.new ≡ refusals.old ++ more.now) }
+/// Notes a refusal, if there is one.
+pub(crate) fn note_some(first: &mut FirstRefusal, refusal: Option<Refusal>)
+    ensures { first.new ≡ nearer first.old refusal }
 {
-    for refusal in more {
-        refusals.push(*refusal)?;
+    if let Some(refusal) = refusal {
+        first.note(refusal);
     }
-    Ok(())
+}
+
+/// The first refusal that was noted.
+pub(crate) fn first_of(first: &FirstRefusal) -> Option<Refusal>
+    ensures { result ≡ first.now }
+{
+    first.settle().err()
 }

@@ -1,16 +1,16 @@
 ghost use Rattle.std.specs.Prelude.{◌≡◌, ◌<◌, ◌^◌, ◌∷◌, ◌++◌, length, flat_map, option_copied, option_to_list, position, slice_get, IfOk, OnOk};
 ghost use Rattle.std.specs.HashMap.{get};
 ghost use Rattle.aadl_syntax.specs.Order.{least, nearer};
-ghost use Rattle.package_index.specs.Lookup.{refused_so};
 ghost use Rattle.package_index.specs.Tables.{Knows, same_text};
 ghost use Rattle.error_types.specs.Libraries.{extended_by, has_item_name, items_of, libraries_named, library_named, library_of, libraries_of, unknown_libraries, unknown_to, used_by};
 ghost use Rattle.error_types.specs.Tables.{has_item_text};
 
+use crate::course::first_of;
 use crate::scope::Scope;
 use aadl_syntax::{
-    Code, FirstRefusal, List, Mem, PackageUnit, Ref, Refusal, Spot, TypeItem, TypesBlock,
+    Code, FirstRefusal, List, Mem, PackageUnit, Ref, Refusal, TypeItem, TypesBlock,
 };
-use package_index::{Index, Words, add, note_if, refusal};
+use package_index::{Index, Words, add, note_if};
 use std::alloc::Global;
 use std::collections::HashMap;
 use std::marker::Model;
@@ -38,14 +38,14 @@ impl<'a> ItemText<'a> {
 }
 
 /// A library with the table of its names. Contracts see its items, the libraries that it extends, where its text looks for a
-/// bare name, and the refusals of its names of libraries.
+/// bare name, and the first refusal of its names of libraries.
 #[derive(Drop)]
 pub(crate) struct Library<'a> {
     items: List<ItemText<'a>>,
     places: HashMap<&'a [u8], u32>,
     extends: List<u32>,
     scope: Scope,
-    unknown: List<Refusal>,
+    unknown: FirstRefusal,
 }
 
 impl<'a> Model for Library<'a> {
@@ -76,7 +76,7 @@ impl<'a> Library<'a> {
         let places = places_of(alloc, items.items())?;
         let extends = extended_by(alloc, index, number, blocks)?;
         let libraries = searched_by(alloc, index, number, blocks)?;
-        let unknown = unknown_to(alloc, index, number, blocks)?;
+        let unknown = unknown_to(index, number, blocks);
         Ok(Library {
             items,
             places,
@@ -125,11 +125,11 @@ impl<'a> Library<'a> {
         &self.scope
     }
 
-    /// The refusals of its names of libraries.
-    pub(crate) fn unknown(&self) -> &[Refusal]
-        ensures { result.now ≡ self.now.unknown }
+    /// The first refusal of its names of libraries.
+    pub(crate) fn unknown(&self) -> Option<Refusal>
+        ensures { result ≡ self.now.unknown }
     {
-        self.unknown.items()
+        first_of(&self.unknown)
     }
 }
 
@@ -198,20 +198,23 @@ fn searched_by(alloc: Global, index: &Index, home: u32, blocks: &[TypesBlock]) -
     Ok(libraries)
 }
 
-fn unknown_to(
-    alloc: Global,
-    index: &Index,
-    home: u32,
-    blocks: &[TypesBlock],
-) -> Mem<List<Refusal>>
-    ensures { IfOk result (λ refusals. refusals ≡ unknown_to index.now home blocks.now) }
+fn unknown_to(index: &Index, home: u32, blocks: &[TypesBlock]) -> FirstRefusal
+    ensures { result ≡ least (unknown_to index.now home blocks.now) }
 {
-    let mut refusals = List::new(alloc);
+    let mut first = FirstRefusal::new();
     for block in blocks {
-        add_unknown(index, home, block.uses.items(), &mut refusals)?;
-        add_unknown(index, home, block.extends.items(), &mut refusals)?;
+        note_block(index, home, block, &mut first);
     }
-    Ok(refusals)
+    first
+}
+
+/// Notes N2 at each name of a library that a block uses or extends, and that means none.
+#[tactic(auto, using(crate::proofs::Noting::noted_more))]
+fn note_block(index: &Index, home: u32, block: &TypesBlock, first: &mut FirstRefusal)
+    ensures { first.new ≡ nearer first.old (least (unknown_libraries index.now home block.now.uses ++ unknown_libraries index.now home block.now.extends)) }
+{
+    note_unknown(index, home, block.uses.items(), first);
+    note_unknown(index, home, block.extends.items(), first);
 }
 
 /// The library that a name means in a text of a package.
@@ -242,32 +245,6 @@ pub(crate) fn push_some(numbers: &mut List<u32>, number: Option<u32>) -> Mem<()>
 {
     if let Some(number) = number {
         numbers.push(number)?;
-    }
-    Ok(())
-}
-
-/// Adds N2 at each name that means no library in a text of a package.
-fn add_unknown(
-    index: &Index,
-    home: u32,
-    references: &[Ref],
-    refusals: &mut List<Refusal>,
-) -> Mem<()>
-    ensures { OnOk result (refusals.new ≡ refusals.old ++ unknown_libraries index.now home references.now) }
-{
-    for reference in references {
-        let is_unknown = library_named(index, home, reference).is_none();
-        push_if(refusals, is_unknown, Code::UnknownPackage, reference.spot)?;
-    }
-    Ok(())
-}
-
-/// Adds a refusal at a name, where this is so.
-fn push_if(refusals: &mut List<Refusal>, is_so: bool, code: Code, spot: Spot) -> Mem<()>
-    ensures { OnOk result (refusals.new ≡ refusals.old ++ refused_so is_so code spot) }
-{
-    if is_so {
-        refusals.push(refusal(code, spot))?;
     }
     Ok(())
 }

@@ -1,25 +1,25 @@
-ghost use Rattle.std.specs.Prelude.{◌≡◌, ◌∷◌, [], ℕ, false, List as Items, IfOk, OnOk};
-ghost use Rattle.aadl_syntax.specs.Order.{least, nearer};
+ghost use Rattle.std.specs.Prelude.{◌≡◌, ◌<◌, ◌^◌, ◌∷◌, [], ℕ, false, length, List as Items, IfOk, OnOk};
+ghost use Rattle.aadl_syntax.specs.Order.{nearer};
 ghost use Rattle.error_types.specs.declared.id.Looked.TheVariants.{Nowhere};
 ghost use Rattle.error_types.specs.Course.{before, left, way_of};
 ghost use Rattle.error_types.specs.Libraries.{Library as Text};
 ghost use Rattle.error_types.specs.Leaving.{Leads};
 ghost use Rattle.error_types.specs.Search.{extended, found_at, is_number_in, own_item, search, unknown_in};
 
-use crate::course::{Course, Left, add_all};
+use crate::course::{Course, Left, first_of, note_some};
 use crate::id::{ItemId, Looked};
 use crate::library::Library;
-use aadl_syntax::{FirstRefusal, List, Mem, Refusal};
+use aadl_syntax::{FirstRefusal, Mem, Refusal};
 use std::alloc::{AllocError, Global};
 
-/// Where a search is after a step: on its way, or at its end, with what it found and its refusals.
+/// Where a search is after a step: on its way, or at its end, with what it found and its first refusal.
 #[derive(Drop)]
 pub(crate) enum Step<'t> {
     Next(Course<'t>),
-    Ended(Looked, List<Refusal>),
+    Ended(Looked, FirstRefusal),
 }
 
-/// What the search for a name in a library finds. The refusals of the names of libraries that it meets are noted.
+/// What the search for a name in a library finds. The first refusal of the names of libraries that it meets is noted.
 pub(crate) fn search(
     alloc: Global,
     libraries: &[Library<'_>],
@@ -28,13 +28,13 @@ pub(crate) fn search(
     first: &mut FirstRefusal,
 ) -> Mem<Looked>
     ensures found { IfOk result (λ looked. looked ≡ (search libraries.now name.now number).found) }
-    ensures first { OnOk result (first.new ≡ nearer first.old (least (search libraries.now name.now number).faults)) }
+    ensures first { OnOk result (first.new ≡ nearer first.old (search libraries.now name.now number).first) }
 {
     let own = own_item(libraries, name, number);
     if let Looked::Nowhere = own {
         return search_on(alloc, libraries, name, number, first);
     }
-    note_all(first, unknown_in(libraries, number));
+    note_some(first, unknown_in(libraries, number));
     Ok(own)
 }
 
@@ -48,15 +48,17 @@ fn search_on(
 ) -> Mem<Looked>
     requires { own_item libraries.now name.now number ≡ Nowhere }
     ensures found { IfOk result (λ looked. looked ≡ (search libraries.now name.now number).found) }
-    ensures first { OnOk result (first.new ≡ nearer first.old (least (search libraries.now name.now number).faults)) }
+    ensures first { OnOk result (first.new ≡ nearer first.old (search libraries.now name.now number).first) }
 {
     let rest = extended(libraries, number);
-    let mut course = Course::at(alloc, number, rest, unknown_in(libraries, number))?;
+    let mut noted = FirstRefusal::new();
+    note_some(&mut noted, unknown_in(libraries, number));
+    let mut course = Course::at(alloc, number, rest, noted)?;
     for _ in 0..u64::MAX {
-        match step(libraries, name, course)? {
+        match advanced(libraries, name, course)? {
             Step::Next(next) => course = next,
-            Step::Ended(looked, faults) => {
-                note_all(first, faults.items());
+            Step::Ended(looked, noted) => {
+                note_some(first, first_of(&noted));
                 return Ok(looked);
             }
         }
@@ -65,7 +67,7 @@ fn search_on(
 }
 
 /// A step of a search: to the next library that is left, or back.
-fn step<'t>(libraries: &'t [Library<'_>], name: &[u8], mut course: Course<'t>) -> Mem<Step<'t>>
+fn advanced<'t>(libraries: &'t [Library<'_>], name: &[u8], mut course: Course<'t>) -> Mem<Step<'t>>
     ensures { IfOk result (Leads libraries.now name.now (left libraries.now name.now course.entry)) }
 {
     match course.next() {
@@ -77,11 +79,11 @@ fn step<'t>(libraries: &'t [Library<'_>], name: &[u8], mut course: Course<'t>) -
 /// A search that has nothing left at its top goes back.
 fn back(course: Course<'_>) -> Mem<Step<'_>>
     requires { course.top.rest ≡ [] }
-    ensures { IfOk result (λ step. (libraries : Items Text) (name : Items ℕ) → Leads libraries name (left libraries name course) step) }
+    ensures { IfOk result (λ step. (libraries : Items Text) (name : Items ℕ) → Leads libraries name (left libraries name course.entry) step) }
 {
     match course.leave()? {
         Left::On(next) => Ok(Step::Next(next)),
-        Left::Out(faults) => Ok(Step::Ended(Looked::Nowhere, faults)),
+        Left::Out(first) => Ok(Step::Ended(Looked::Nowhere, first)),
     }
 }
 
@@ -92,12 +94,12 @@ fn meet<'t>(
     course: Course<'t>,
     library: u32,
 ) -> Mem<Step<'t>>
-    ensures { IfOk result (Leads libraries.now name.now (left libraries.now name.now (before library course))) }
+    ensures { IfOk result (Leads libraries.now name.now (left libraries.now name.now (before library course.entry))) }
 {
     match course.mark(library) {
         None => enter(libraries, name, course, library),
         Some(false) => Ok(Step::Next(course)),
-        Some(true) => Ok(Step::Ended(Looked::Circular, course.into_faults())),
+        Some(true) => Ok(Step::Ended(Looked::Circular, course.first())),
     }
 }
 
@@ -108,9 +110,10 @@ fn enter<'t>(
     course: Course<'t>,
     library: u32,
 ) -> Mem<Step<'t>>
+    requires few { length course.below < 2 ^ 32 }
     requires new { is_number_in course.vain library ≡ false }
     requires apart { is_number_in (way_of (course.top ∷ course.below)) library ≡ false }
-    ensures { IfOk result (Leads libraries.now name.now (left libraries.now name.now (before library course))) }
+    ensures { IfOk result (Leads libraries.now name.now (left libraries.now name.now (before library course.entry))) }
 {
     let unknown = unknown_in(libraries, library);
     let own = own_item(libraries, name, library);
@@ -118,9 +121,9 @@ fn enter<'t>(
         let rest = extended(libraries, library);
         return Ok(Step::Next(course.enter(library, rest, unknown)?));
     }
-    let mut faults = course.into_faults();
-    add_all(&mut faults, unknown)?;
-    Ok(Step::Ended(own, faults))
+    let mut first = course.first();
+    note_some(&mut first, unknown);
+    Ok(Step::Ended(own, first))
 }
 
 /// The first item of a library's own that has the name.
@@ -152,21 +155,9 @@ fn extended<'t>(libraries: &'t [Library<'_>], number: u32) -> &'t [u32]
     }
 }
 
-/// The refusals of the names of libraries that a library uses and extends.
-fn unknown_in<'t>(libraries: &'t [Library<'_>], number: u32) -> &'t [Refusal]
-    ensures { result.now ≡ unknown_in libraries.now number }
+/// The first refusal of the names of libraries that a library uses and extends.
+fn unknown_in(libraries: &[Library<'_>], number: u32) -> Option<Refusal>
+    ensures { result ≡ unknown_in libraries.now number }
 {
-    match libraries.get(number as usize) {
-        Some(library) => library.unknown(),
-        None => &[],
-    }
-}
-
-/// Notes refusals.
-pub(crate) fn note_all(first: &mut FirstRefusal, refusals: &[Refusal])
-    ensures { first.new ≡ nearer first.old (least refusals.now) }
-{
-    for refusal in refusals {
-        first.note(*refusal);
-    }
+    libraries.get(number as usize)?.unknown()
 }

@@ -1,9 +1,9 @@
 ghost use Rattle.std.specs.Prelude.{◌≡◌, ◌≤◌, IfOk, IfErr, OnOk, length};
-ghost use Rattle.aadl_syntax.specs.Order.{least, nearer};
+ghost use Rattle.aadl_syntax.specs.Order.{nearer};
 ghost use Rattle.package_index.specs.Duplicates.{IsRefused};
 ghost use Rattle.error_types.specs.Libraries.{HasTooManyTypes, declared_types, greatest_types, libraries_of, table_of};
 ghost use Rattle.error_types.specs.Types.{denoted, text_scope};
-ghost use Rattle.error_types.specs.Walk.{set_faults};
+ghost use Rattle.error_types.specs.Walk.{set_first};
 
 use crate::scope::Scope;
 use aadl_syntax::{Answer, FirstRefusal, List, Mem, Ref, Stop, TypeSet};
@@ -48,7 +48,7 @@ impl<'i, 'a> TypeTable<'i, 'a> {
         Err(AllocError)
     }
 
-    /// The types that a written set denotes in a text, rising. Its refusals are noted: N2, N7, N8 and P4 of its terms.
+    /// The types that a written set denotes in a text, rising. Its first refusal is noted: N2, N7, N8 and P4 of its terms.
     pub fn denote(
         &mut self,
         alloc: Global,
@@ -58,7 +58,7 @@ impl<'i, 'a> TypeTable<'i, 'a> {
     ) -> Mem<List<u32>>
         ensures kept { self.new ≡ self.old }
         ensures denoted { IfOk result (λ types. types ≡ denoted self.old scope.now set.now) }
-        ensures first { OnOk result (first.new ≡ nearer first.old (least (set_faults self.old scope.now set.now))) }
+        ensures first { OnOk result (first.new ≡ nearer first.old (set_first self.old scope.now set.now)) }
     {
         Err(AllocError)
     }
