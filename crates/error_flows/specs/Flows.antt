@@ -1,5 +1,5 @@
 -- The error flows of a component: what each means, and what is refused (EMV2: error sources, sinks and paths).
-use Rattle.std.specs.Prelude.{ℕ, true, false, List, [], ◌++◌, flat_map, slice_get, Option, Some, None, option_map, option_and_then, option_to_list}
+use Rattle.std.specs.Prelude.{ℕ, true, false, List, [], ◌++◌, flat_map, Option, Some, None, option_map, option_and_then, option_to_list}
 use Rattle.aadl_syntax.specs.declared.error_model.Flow.{Flow}
 use Rattle.aadl_syntax.specs.declared.error_model.FlowKind.{FlowKind}
 use Rattle.aadl_syntax.specs.declared.error_model.FlowKind.TheVariants.{Source, Sink, Path}
@@ -16,24 +16,11 @@ use Rattle.propagation_points.specs.declared.side.Reach.{Reach}
 use Rattle.propagation_points.specs.declared.side.Reach.TheVariants.{Whole, Only}
 use Rattle.propagation_points.specs.declared.uses.ReachedPoint.{ReachedPoint}
 use Rattle.propagation_points.specs.Points.{Point, scopes_of}
+use Rattle.propagation_points.specs.Settings.{Setting, clause_setting, faults_in, reached_in}
 use Rattle.propagation_points.specs.States.{state_faults, state_named}
-use Rattle.propagation_points.specs.Uses.{PointUse, point_use, reached, use_faults}
+use Rattle.propagation_points.specs.Uses.{point_use}
 use Rattle.error_flows.specs.declared.meaning.FlowMeaning.{FlowMeaning}
 use Rattle.error_flows.specs.declared.meaning.FlowMeaning.TheVariants.{Event, State, Carry, Change}
-
--- Where flows stand: the points and the states of the component, and the text in which a flow is read.
-pub record Setting : Type 0 where
-  pub points : List Point
-  pub states : List (List ℕ)
-  pub scope : Option Scope
-
--- what a use of a point reaches in a setting
-abbrev pub reached_in : Table → Setting → PointUse → Option ReachedPoint
-reached_in table setting used = reached table setting.points setting.scope used
-
--- the refusals of a use of a point in a setting
-abbrev pub faults_in : Table → Setting → PointUse → List Refusal
-faults_in table setting used = use_faults table setting.points setting.scope used
 
 -- ---- meaning
 
@@ -71,18 +58,14 @@ flow_faults table setting (Path from from_set to to_set mapping) =
 
 -- ---- the flows of a component
 
--- the setting of a flow among texts
-abbrev pub setting_of : List Point → List (List ℕ) → List Scope → Scoped Flow → Setting
-setting_of points states scopes flow = record { points = points; states = states; scope = slice_get scopes flow.scope }
-
 -- The meanings of flows, in order.
 abbrev pub meanings : Table → List Point → List (List ℕ) → List Scope → List (Scoped Flow) → List FlowMeaning
 meanings table points states scopes flows =
-    flat_map (λ flow. option_to_list (flow_meaning table (setting_of points states scopes flow) flow.item.name flow.item.kind)) flows
+    flat_map (λ flow. option_to_list (flow_meaning table (clause_setting points states scopes flow.scope) flow.item.name flow.item.kind)) flows
 
 -- The refusals of flows.
 abbrev pub faults_of_flows : Table → List Point → List (List ℕ) → List Scope → List (Scoped Flow) → List Refusal
-faults_of_flows table points states scopes flows = flat_map (λ flow. flow_faults table (setting_of points states scopes flow) flow.item.kind) flows
+faults_of_flows table points states scopes flows = flat_map (λ flow. flow_faults table (clause_setting points states scopes flow.scope) flow.item.kind) flows
 
 -- The flows of a component with these points and states, sinks left out.
 abbrev pub flows_of : Table → List Point → List (List ℕ) → Effective → List FlowMeaning

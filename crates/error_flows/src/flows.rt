@@ -1,11 +1,12 @@
-ghost use Rattle.std.specs.Prelude.{◌≡◌, ◌++◌, IfOk, OnOk, true, flat_map, option_copied, option_map, option_and_then, option_to_list, slice_get};
+ghost use Rattle.std.specs.Prelude.{◌≡◌, ◌++◌, IfOk, OnOk, true, flat_map, option_map, option_and_then, option_to_list};
 ghost use Rattle.aadl_syntax.specs.Order.{least, nearer};
 ghost use Rattle.aadl_syntax.specs.declared.refusal.Code.TheVariants.{Mapping};
 ghost use Rattle.package_index.specs.Lookup.{refused_so};
 ghost use Rattle.component_extension.specs.Members.{refused_there};
+ghost use Rattle.propagation_points.specs.Settings.{faults_in, reached_in};
 ghost use Rattle.propagation_points.specs.States.{state_faults, state_named};
 ghost use Rattle.error_flows.specs.declared.meaning.FlowMeaning.TheVariants.{Event, State};
-ghost use Rattle.error_flows.specs.Flows.{all_flow_faults, faults_in, faults_of_flows, flow_faults, flow_meaning, flows_of, meanings, path_meaning, reached_in, setting_of, source_meaning, when_faults};
+ghost use Rattle.error_flows.specs.Flows.{all_flow_faults, faults_of_flows, flow_faults, flow_meaning, flows_of, meanings, path_meaning, source_meaning, when_faults};
 
 use crate::meaning::FlowMeaning;
 use aadl_syntax::{Code, FirstRefusal, Flow, FlowKind, Identifier, List, Mem, Spot, StateRef};
@@ -13,52 +14,9 @@ use component_extension::{Effective, InClause};
 use error_types::{Scope, TypeTable};
 use package_index::note_if;
 use propagation_points::{
-    PointUse, Points, Reach, ReachedPoint, StateNames, note_at, reached, scopes_of,
+    PointUse, Points, Reach, ReachedPoint, Setting, StateNames, note_at, scopes_of,
 };
 use std::alloc::Global;
-use std::marker::Model;
-
-/// Where a flow stands: the points and the states of the component, and the text in which the flow is read.
-#[derive(Drop)]
-struct Setting<'s, 'a> {
-    points: &'s Points<'a>,
-    states: &'s StateNames<'a>,
-    scope: Option<&'s Scope>,
-}
-
-impl<'s, 'a> Model for Setting<'s, 'a> {
-    ghost use Rattle.std.specs.Prelude.{option_copied};
-    ghost use Rattle.std.specs.Coded.{codes};
-    ghost use Rattle.propagation_points.specs.contracts.side.Side as side;
-    ghost use Rattle.package_index.specs.Lookup.{refused_so};
-    ghost use Rattle.component_extension.specs.Members.{refused_there};
-    ghost use Rattle.propagation_points.specs.States.{state_faults, state_named};
-    ghost use Rattle.error_flows.specs.declared.meaning.FlowMeaning.TheVariants.{Event, State};
-    ghost use Rattle.error_flows.specs.Flows.{Setting as Place};
-
-    ghost Value = { Place };
-
-    ghost coded = { Prim.hlevel (codes, side.the_row.coded) };
-
-    ghost view = { λ s. record { points = s.points.now; states = s.states.now; scope = option_copied s.scope } };
-}
-
-impl<'s, 'a> Setting<'s, 'a> {
-    /// What a use of a point reaches. Its refusals are noted.
-    fn reached(
-        &self,
-        alloc: Global,
-        types: &mut TypeTable<'_, 'a>,
-        used: &PointUse<'a>,
-        first: &mut FirstRefusal,
-    ) -> Mem<Option<ReachedPoint>>
-        ensures kept { types.new ≡ types.old }
-        ensures reached { IfOk result (λ found. found ≡ reached_in types.old self.now used.now) }
-        ensures first { OnOk result (first.new ≡ nearer first.old (least (faults_in types.old self.now used.now))) }
-    {
-        reached(alloc, self.points, types, self.scope, used, first)
-    }
-}
 
 /// The meanings of the flows of a component, in order, sinks left out.
 ///
@@ -108,31 +66,10 @@ fn meanings<'s, 'a>(
 {
     let mut found = List::new(alloc);
     for flow in flows {
-        let setting = setting_of(points, states, scopes, flow);
+        let setting = Setting::of_clause(points, states, scopes, flow.scope());
         add_meaning(alloc, &mut found, types, &setting, flow.item(), first)?;
     }
     Ok(found)
-}
-
-fn setting_of<'s, 'a>(
-    points: &'s Points<'a>,
-    states: &'s StateNames<'a>,
-    scopes: &'s [Scope],
-    flow: &InClause<'a, Flow>,
-) -> Setting<'s, 'a>
-    ensures { result ≡ setting_of points.now states.now scopes.now flow.now }
-{
-    Setting {
-        points,
-        states,
-        scope: scope_at(scopes, flow.scope()),
-    }
-}
-
-fn scope_at(scopes: &[Scope], number: usize) -> Option<&Scope>
-    ensures { option_copied result ≡ slice_get scopes.now number }
-{
-    scopes.get(number)
 }
 
 /// Adds the meaning of a flow, if it has one. Its refusals are noted.
@@ -228,7 +165,7 @@ fn state_source(
     ensures meaning { result ≡ option_and_then (λ reached. option_map (λ number. State number reached) (state_named setting.now.states state.now.name)) reached }
     ensures first { first.new ≡ nearer first.old (least (state_faults setting.now.states state.now)) }
 {
-    let number = setting.states.refer(state, first);
+    let number = setting.refer(state, first);
     Some(FlowMeaning::State(number?, reached?))
 }
 

@@ -3,7 +3,8 @@ use Rattle.aadl_syntax.specs.declared.refusal.Code.TheVariants.{Mapping}
 use Rattle.aadl_syntax.specs.Order.{least, nearer}
 use Rattle.component_extension.specs.Members.{refused_there}
 use Rattle.propagation_points.specs.Uses.{point_use}
-use Rattle.error_flows.specs.Flows.{faults_in, flow_faults}
+use Rattle.propagation_points.specs.Settings.{faults_in}
+use Rattle.error_flows.specs.Flows.{flow_faults}
 use Rattle.error_flows.proofs.flows.meaning_of.Goals as goal
 
 pub returns-in-Path-clause-first : goal.returns-in-Path-clause-first

@@ -3,7 +3,7 @@ use Rattle.aadl_syntax.specs.declared.refusal.Code.TheVariants.{Mapping}
 use Rattle.aadl_syntax.specs.Order.{least, nearer}
 use Rattle.aadl_syntax.proofs.OrderLaws.{noted-more}
 use Rattle.component_extension.specs.Members.{refused_there}
-use Rattle.error_flows.specs.Flows.{faults_in}
+use Rattle.propagation_points.specs.Settings.{faults_in}
 use Rattle.error_flows.proofs.flows.path.Goals as goal
 
 pub returns-clause-first : goal.returns-clause-first
