@@ -1,0 +1,17 @@
+use Rattle.std.proofs.Common.{◌≡◌, ◌++◌, true, OnOk, subst, sym}
+use Rattle.aadl_syntax.specs.declared.refusal.Code.TheVariants.{Mapping}
+use Rattle.aadl_syntax.specs.Order.{least, nearer}
+use Rattle.component_extension.specs.Members.{refused_there}
+use Rattle.propagation_points.specs.Uses.{point_use}
+use Rattle.propagation_points.specs.Settings.{faults_in}
+use Rattle.error_flows.specs.Flows.{flow_faults}
+use Rattle.error_flows.proofs.flows.meaning_of.Goals as goal
+
+pub returns-in-Path-clause-first : goal.returns-in-Path-clause-first
+returns-in-Path-clause-first c =
+    let table = c.args.types.now in
+    let setting = c.args.setting.now in
+    let mapping = refused_there Mapping c.in-Path.mapping in
+    subst (λ kind. OnOk c.path.result (c.path.new.first ≡ nearer c.args.first.now (least (flow_faults table setting kind)))) (sym c.in-Path.is)
+    (subst (λ start. OnOk c.path.result (c.path.new.first ≡ nearer c.args.first.now (least (faults_in table setting start ++ (faults_in table setting (point_use c.in-Path.to true c.in-Path.to_set) ++ mapping))))) c.new-start.ensures
+    (subst (λ end. OnOk c.path.result (c.path.new.first ≡ nearer c.args.first.now (least (faults_in table setting c.new-start.result ++ (faults_in table setting end ++ mapping))))) c.new-end.ensures c.path.ensures.first))

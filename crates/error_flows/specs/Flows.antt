@@ -1,0 +1,77 @@
+-- The error flows of a component: what each means, and what is refused (EMV2: error sources, sinks and paths).
+use Rattle.std.specs.Prelude.{ℕ, true, false, List, [], ◌++◌, flat_map, Option, Some, None, option_map, option_and_then, option_to_list}
+use Rattle.aadl_syntax.specs.declared.error_model.Flow.{Flow}
+use Rattle.aadl_syntax.specs.declared.error_model.FlowKind.{FlowKind}
+use Rattle.aadl_syntax.specs.declared.error_model.FlowKind.TheVariants.{Source, Sink, Path}
+use Rattle.aadl_syntax.specs.declared.error_model.StateRef.{StateRef}
+use Rattle.aadl_syntax.specs.declared.refusal.Code.TheVariants.{Mapping}
+use Rattle.aadl_syntax.specs.declared.refusal.Refusal.{Refusal}
+use Rattle.component_extension.specs.declared.effective.Effective.{Effective}
+use Rattle.component_extension.specs.Items.{Scoped}
+use Rattle.package_index.specs.Lookup.{refused_so}
+use Rattle.component_extension.specs.Members.{refused_there}
+use Rattle.error_types.specs.declared.scope.Scope.{Scope}
+use Rattle.error_types.specs.Libraries.{Table}
+use Rattle.propagation_points.specs.declared.side.Reach.{Reach}
+use Rattle.propagation_points.specs.declared.side.Reach.TheVariants.{Whole, Only}
+use Rattle.propagation_points.specs.declared.uses.ReachedPoint.{ReachedPoint}
+use Rattle.propagation_points.specs.Points.{Point, scopes_of}
+use Rattle.propagation_points.specs.Settings.{Setting, clause_setting, faults_in, reached_in}
+use Rattle.propagation_points.specs.States.{state_faults, state_named}
+use Rattle.propagation_points.specs.Uses.{point_use}
+use Rattle.error_flows.specs.declared.meaning.FlowMeaning.{FlowMeaning}
+use Rattle.error_flows.specs.declared.meaning.FlowMeaning.TheVariants.{Event, State, Carry, Change}
+
+-- ---- meaning
+
+-- A source of this name is an event of its own, or where it names a state that state is what comes out.
+abbrev pub source_meaning : Setting → List ℕ → Option StateRef → ReachedPoint → Option FlowMeaning
+source_meaning setting name None reached = Some (Event name reached)
+source_meaning setting name (Some state) reached = option_map (λ number. State number reached) (state_named setting.states state.name)
+
+-- A path without a set at its end carries each type to its end, and one with a set makes the types of the set of what it takes.
+abbrev pub path_meaning : ReachedPoint → ℕ → Reach → FlowMeaning
+path_meaning from to Whole = Carry from to
+path_meaning from to (Only types) = Change from to types
+
+-- The meaning of a flow in a setting; a sink has none.
+abbrev pub flow_meaning : Table → Setting → List ℕ → FlowKind → Option FlowMeaning
+flow_meaning table setting name (Source point set state) = option_and_then (source_meaning setting name state) (reached_in table setting (point_use point true set))
+flow_meaning table setting name (Sink point set) = None
+flow_meaning table setting name (Path from from_set to to_set mapping) =
+    option_and_then (λ start. option_map (λ end. path_meaning start end.point end.types) (reached_in table setting (point_use to true to_set))) (reached_in table setting (point_use from false from_set))
+
+-- ---- refusals
+
+-- N11 and P10 at the state of a source, if it names one
+abbrev pub when_faults : Setting → Option StateRef → List Refusal
+when_faults setting None = []
+when_faults setting (Some state) = state_faults setting.states state
+
+-- The refusals of a flow in a setting: N9 and N10 of its points and sets, N11 and P10 of the state of a source, and P11 at the
+-- mappings that a path uses.
+abbrev pub flow_faults : Table → Setting → FlowKind → List Refusal
+flow_faults table setting (Source point set state) = faults_in table setting (point_use point true set) ++ when_faults setting state
+flow_faults table setting (Sink point set) = faults_in table setting (point_use point false set)
+flow_faults table setting (Path from from_set to to_set mapping) =
+    faults_in table setting (point_use from false from_set) ++ (faults_in table setting (point_use to true to_set) ++ refused_there Mapping mapping)
+
+-- ---- the flows of a component
+
+-- The meanings of flows, in order.
+abbrev pub meanings : Table → List Point → List (List ℕ) → List Scope → List (Scoped Flow) → List FlowMeaning
+meanings table points states scopes flows =
+    flat_map (λ flow. option_to_list (flow_meaning table (clause_setting points states scopes flow.scope) flow.item.name flow.item.kind)) flows
+
+-- The refusals of flows.
+abbrev pub faults_of_flows : Table → List Point → List (List ℕ) → List Scope → List (Scoped Flow) → List Refusal
+faults_of_flows table points states scopes flows = flat_map (λ flow. flow_faults table (clause_setting points states scopes flow.scope) flow.item.kind) flows
+
+-- The flows of a component with these points and states, sinks left out.
+abbrev pub flows_of : Table → List Point → List (List ℕ) → Effective → List FlowMeaning
+flows_of table points states effective = meanings table points states (scopes_of table.packages effective.clauses) effective.propagations.flows
+
+-- The refusals of the flows of a component: those of each flow, and P11 at each use of mappings by a clause.
+abbrev pub all_flow_faults : Table → List Point → List (List ℕ) → Effective → List Refusal
+all_flow_faults table points states effective =
+    faults_of_flows table points states (scopes_of table.packages effective.clauses) effective.propagations.flows ++ flat_map (refused_so true Mapping) effective.others.mappings

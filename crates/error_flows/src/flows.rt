@@ -1,0 +1,202 @@
+ghost use Rattle.std.specs.Prelude.{◌≡◌, ◌++◌, IfOk, OnOk, true, flat_map, option_map, option_and_then, option_to_list};
+ghost use Rattle.aadl_syntax.specs.Order.{least, nearer};
+ghost use Rattle.aadl_syntax.specs.declared.refusal.Code.TheVariants.{Mapping};
+ghost use Rattle.package_index.specs.Lookup.{refused_so};
+ghost use Rattle.component_extension.specs.Members.{refused_there};
+ghost use Rattle.propagation_points.specs.Settings.{faults_in, reached_in};
+ghost use Rattle.propagation_points.specs.States.{state_faults, state_named};
+ghost use Rattle.error_flows.specs.declared.meaning.FlowMeaning.TheVariants.{Event, State};
+ghost use Rattle.error_flows.specs.Flows.{all_flow_faults, faults_of_flows, flow_faults, flow_meaning, flows_of, meanings, path_meaning, source_meaning, when_faults};
+
+use crate::meaning::FlowMeaning;
+use aadl_syntax::{Code, FirstRefusal, Flow, FlowKind, Identifier, List, Mem, Spot, StateRef};
+use component_extension::{Effective, InClause};
+use error_types::{Scope, TypeTable};
+use package_index::note_if;
+use propagation_points::{
+    PointUse, Points, Reach, ReachedPoint, Setting, StateNames, note_at, scopes_of,
+};
+use std::alloc::Global;
+
+/// The meanings of the flows of a component, in order, sinks left out.
+///
+/// The refusals of its flows are noted: N9 at a point that the component does not have, or not on the side that is used,
+/// N10 at a set with a type that is not declared for its side, N11 at a state that the component does not have, P10 at a
+/// set behind a state, and P11 at each use of mappings, by a path or by a clause.
+pub fn flows_of<'a>(
+    alloc: Global,
+    effective: &Effective<'a>,
+    types: &mut TypeTable<'_, 'a>,
+    points: &Points<'a>,
+    states: &StateNames<'a>,
+    first: &mut FirstRefusal,
+) -> Mem<List<FlowMeaning>>
+    ensures kept { types.new ≡ types.old }
+    ensures flows { IfOk result (λ flows. flows ≡ flows_of types.old points.now states.now effective.now) }
+    ensures first { OnOk result (first.new ≡ nearer first.old (least (all_flow_faults types.old points.now states.now effective.now))) }
+{
+    let scopes = scopes_of(alloc, types, effective.clauses.items())?;
+    let flows = effective.propagations.flows.items();
+    let found = meanings(alloc, types, points, states, scopes.items(), flows, first)?;
+    note_mappings(first, effective.others.mappings.items());
+    Ok(found)
+}
+
+/// Notes each use of mappings by a clause.
+fn note_mappings(first: &mut FirstRefusal, mappings: &[Spot])
+    ensures { first.new ≡ nearer first.old (least (flat_map (refused_so true Mapping) mappings.now)) }
+{
+    for spot in mappings {
+        note_if(first, true, Code::Mapping, *spot);
+    }
+}
+
+fn meanings<'s, 'a>(
+    alloc: Global,
+    types: &mut TypeTable<'_, 'a>,
+    points: &'s Points<'a>,
+    states: &'s StateNames<'a>,
+    scopes: &'s [Scope],
+    flows: &[InClause<'a, Flow>],
+    first: &mut FirstRefusal,
+) -> Mem<List<FlowMeaning>>
+    ensures kept { types.new ≡ types.old }
+    ensures flows { IfOk result (λ found. found ≡ meanings types.old points.now states.now scopes.now flows.now) }
+    ensures first { OnOk result (first.new ≡ nearer first.old (least (faults_of_flows types.old points.now states.now scopes.now flows.now))) }
+{
+    let mut found = List::new(alloc);
+    for flow in flows {
+        let setting = Setting::of_clause(points, states, scopes, flow.scope());
+        add_meaning(alloc, &mut found, types, &setting, flow.item(), first)?;
+    }
+    Ok(found)
+}
+
+/// Adds the meaning of a flow, if it has one. Its refusals are noted.
+fn add_meaning<'a>(
+    alloc: Global,
+    found: &mut List<FlowMeaning>,
+    types: &mut TypeTable<'_, 'a>,
+    setting: &Setting<'_, 'a>,
+    flow: &'a Flow,
+    first: &mut FirstRefusal,
+) -> Mem<()>
+    ensures kept { types.new ≡ types.old }
+    ensures found { OnOk result (found.new ≡ found.old ++ option_to_list (flow_meaning types.old setting.now flow.now.name flow.now.kind)) }
+    ensures first { OnOk result (first.new ≡ nearer first.old (least (flow_faults types.old setting.now flow.now.kind))) }
+{
+    if let Some(meaning) = meaning_of(alloc, types, setting, flow, first)? {
+        found.push(meaning)?;
+    }
+    Ok(())
+}
+
+fn meaning_of<'a>(
+    alloc: Global,
+    types: &mut TypeTable<'_, 'a>,
+    setting: &Setting<'_, 'a>,
+    flow: &'a Flow,
+    first: &mut FirstRefusal,
+) -> Mem<Option<FlowMeaning>>
+    ensures kept { types.new ≡ types.old }
+    ensures meaning { IfOk result (λ meaning. meaning ≡ flow_meaning types.old setting.now flow.now.name flow.now.kind) }
+    ensures first { OnOk result (first.new ≡ nearer first.old (least (flow_faults types.old setting.now flow.now.kind))) }
+{
+    match &flow.kind {
+        FlowKind::Source(point, set, state) => {
+            let used = PointUse::new(point, true, set);
+            source(alloc, types, setting, &flow.name, &used, state, first)
+        }
+        FlowKind::Sink(point, set) => {
+            let used = PointUse::new(point, false, set);
+            setting.reached(alloc, types, &used, first)?;
+            Ok(None)
+        }
+        FlowKind::Path(from, from_set, to, to_set, mapping) => {
+            let start = PointUse::new(from, false, from_set);
+            let end = PointUse::new(to, true, to_set);
+            path(alloc, types, setting, &start, &end, *mapping, first)
+        }
+    }
+}
+
+/// The meaning of a source at a point, in a state where it names one.
+#[tactic(auto, using(component_extension::proofs::Noting::noted_more))]
+fn source<'a>(
+    alloc: Global,
+    types: &mut TypeTable<'_, 'a>,
+    setting: &Setting<'_, 'a>,
+    name: &Identifier,
+    used: &PointUse<'a>,
+    state: &Option<StateRef>,
+    first: &mut FirstRefusal,
+) -> Mem<Option<FlowMeaning>>
+    ensures kept { types.new ≡ types.old }
+    ensures meaning { IfOk result (λ meaning. meaning ≡ option_and_then (source_meaning setting.now name.now state.now) (reached_in types.old setting.now used.now)) }
+    ensures first { OnOk result (first.new ≡ nearer first.old (least (faults_in types.old setting.now used.now ++ when_faults setting.now state.now))) }
+{
+    let reached = setting.reached(alloc, types, used, first)?;
+    match state {
+        Some(state) => Ok(state_source(setting, state, reached, first)),
+        None => event_source(alloc, name, reached),
+    }
+}
+
+fn event_source(
+    alloc: Global,
+    name: &Identifier,
+    reached: Option<ReachedPoint>,
+) -> Mem<Option<FlowMeaning>>
+    ensures { IfOk result (λ meaning. meaning ≡ option_map (λ reached. Event name.now reached) reached) }
+{
+    match reached {
+        Some(reached) => Ok(Some(FlowMeaning::Event(Identifier::of(alloc, name.text())?, reached))),
+        None => Ok(None),
+    }
+}
+
+/// The meaning of a source in a state. The refusals of the state are noted.
+fn state_source(
+    setting: &Setting,
+    state: &StateRef,
+    reached: Option<ReachedPoint>,
+    first: &mut FirstRefusal,
+) -> Option<FlowMeaning>
+    ensures meaning { result ≡ option_and_then (λ reached. option_map (λ number. State number reached) (state_named setting.now.states state.now.name)) reached }
+    ensures first { first.new ≡ nearer first.old (least (state_faults setting.now.states state.now)) }
+{
+    let number = setting.refer(state, first);
+    Some(FlowMeaning::State(number?, reached?))
+}
+
+/// The meaning of a path from a start to an end.
+#[tactic(auto, using(component_extension::proofs::Noting::noted_more))]
+fn path<'a>(
+    alloc: Global,
+    types: &mut TypeTable<'_, 'a>,
+    setting: &Setting<'_, 'a>,
+    start: &PointUse<'a>,
+    end: &PointUse<'a>,
+    mapping: Option<Spot>,
+    first: &mut FirstRefusal,
+) -> Mem<Option<FlowMeaning>>
+    ensures kept { types.new ≡ types.old }
+    ensures meaning { IfOk result (λ meaning. meaning ≡ option_and_then (λ start. option_map (λ end. path_meaning start end.point end.types) (reached_in types.old setting.now end.now)) (reached_in types.old setting.now start.now)) }
+    ensures first { OnOk result (first.new ≡ nearer first.old (least (faults_in types.old setting.now start.now ++ (faults_in types.old setting.now end.now ++ refused_there Mapping mapping)))) }
+{
+    let from = setting.reached(alloc, types, start, first)?;
+    let to = setting.reached(alloc, types, end, first)?;
+    note_at(first, Code::Mapping, mapping);
+    Ok(path_meaning(from, to))
+}
+
+fn path_meaning(from: Option<ReachedPoint>, to: Option<ReachedPoint>) -> Option<FlowMeaning>
+    ensures { result ≡ option_and_then (λ start. option_map (λ end. path_meaning start end.point end.types) to) from }
+{
+    let from = from?;
+    let ReachedPoint { point, types } = to?;
+    match types {
+        Reach::Whole => Some(FlowMeaning::Carry(from, point)),
+        Reach::Only(types) => Some(FlowMeaning::Change(from, point, types)),
+    }
+}

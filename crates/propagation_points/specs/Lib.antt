@@ -1,0 +1,5 @@
+pub mod Points
+pub mod Uses
+pub mod States
+pub mod Settings
+pub mod Tables

@@ -1,0 +1,26 @@
+-- Where items stand that name points and states.
+use Rattle.std.specs.Prelude.{ℕ, List, slice_get, Option}
+use Rattle.aadl_syntax.specs.declared.refusal.Refusal.{Refusal}
+use Rattle.error_types.specs.declared.scope.Scope.{Scope}
+use Rattle.error_types.specs.Libraries.{Table}
+use Rattle.propagation_points.specs.declared.uses.ReachedPoint.{ReachedPoint}
+use Rattle.propagation_points.specs.Points.{Point}
+use Rattle.propagation_points.specs.Uses.{PointUse, reached, use_faults}
+
+-- A setting: the points and the states of the component, and the text in which an item is read.
+pub record Setting : Type 0 where
+  pub points : List Point
+  pub states : List (List ℕ)
+  pub scope : Option Scope
+
+-- the setting of the items of a clause, which has this number among the texts
+abbrev pub clause_setting : List Point → List (List ℕ) → List Scope → ℕ → Setting
+clause_setting points states scopes number = record { points = points; states = states; scope = slice_get scopes number }
+
+-- what a use of a point reaches in a setting
+abbrev pub reached_in : Table → Setting → PointUse → Option ReachedPoint
+reached_in table setting used = reached table setting.points setting.scope used
+
+-- the refusals of a use of a point in a setting
+abbrev pub faults_in : Table → Setting → PointUse → List Refusal
+faults_in table setting used = use_faults table setting.points setting.scope used
