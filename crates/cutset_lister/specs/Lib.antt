@@ -1,1 +1,4 @@
 pub mod Listed
+pub mod Trails
+pub mod Walks
+pub mod Lending

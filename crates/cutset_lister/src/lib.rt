@@ -2,6 +2,11 @@
 #![tactic(auto)]
 
 mod in_order;
+mod moves;
+mod parts;
+mod path;
 mod reading;
+mod walk;
 
 pub use in_order::listing;
+pub use walk::Listing;
