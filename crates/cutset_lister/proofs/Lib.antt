@@ -6,3 +6,5 @@ pub mod Counting
 pub mod Going
 pub mod Skipping
 pub mod Seeking
+pub mod Buffers
+pub mod Scans

@@ -2,3 +2,5 @@ pub mod Listed
 pub mod Trails
 pub mod Walks
 pub mod Lending
+pub mod SetText
+pub mod Scanning
