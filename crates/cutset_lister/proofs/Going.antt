@@ -1,5 +1,5 @@
 -- A listing on its way: where it begins, and what each move leaves.
-use Rattle.std.proofs.Common.{◌≡◌, ℕ, ◌+◌, ◌-◌, ◌<◌, ◌≤◌, ◌↔◌, List, [], ◌∷◌, ◌++◌, length, drop, Contains, IsTrue, refl, sym, ap, ◌∙◌, subst, arith}
+use Rattle.std.proofs.Common.{◌≡◌, ℕ, ◌+◌, ◌-◌, ◌≤◌, ◌↔◌, List, [], ◌++◌, length, drop, Contains, IsTrue, refl, sym, ap, ◌∙◌, subst, arith}
 use Rattle.std.specs.List.{AllByRecursion, flat_map}
 use Rattle.fault_system.specs.Listings.{IsInListingOrder}
 use Rattle.fault_system.proofs.Elements.{each-made, contains_In}
@@ -8,7 +8,7 @@ use Rattle.zdd_store.specs.Store.{Families, IsIn, IsSound, family_at, family_of}
 use Rattle.zdd_store.specs.declared.id.Id.{Id}
 use Rattle.zdd_store.proofs.Orders.{all_contained}
 use Rattle.cutset_lister.specs.Trails.{Trail, IsPlace, SameLeft, left_below, greatest_size}
-use Rattle.cutset_lister.specs.Walks.{Walk, AreSizes, IsSameListing, IsStarted, all_sets, event_count, sets_left}
+use Rattle.cutset_lister.specs.Walks.{Walk, AreSizes, IsSameListing, IsStarted, sets_left}
 use Rattle.cutset_lister.proofs.BySize.{all_listed_sizes, none-most}
 use Rattle.cutset_lister.proofs.Counting.{within-shorter}
 use Rattle.cutset_lister.proofs.Sorted.{all_listed, all_ordered}
@@ -55,13 +55,11 @@ pub begins_left : (store : Families) (parts : List Id) (path : Trail) (room : �
     → left_below store path.frames (family_at store 0) ++ flat_map (family_of store) parts ≡ flat_map (family_of store) parts
 begins_left store parts path room sound is = ap (λ f. f ++ flat_map (family_of store) parts) (left-begin store path (family_at store 0) (ap (λ p. p.frames) is) ∙ sound.empty)
 
--- on to the next part, where nothing is left of the one before
-pub next_same : (store : Families) (walk : Walk) (begun : ℕ) (path : Trail) (middle rest : Id) → SameLeft walk.path path walk.rest middle → path.frames ≡ [] → IsStarted store walk → IsIn store rest
-    → greatest_size (family_of store rest) ≤ length walk.parts - 1 → IsSameListing store walk (record { parts = walk.parts; begun = begun; path = path; rest = rest })
-next_same store walk begun path middle rest same none started here few =
-    let room = same.room in
+-- from a started listing to another place of it
+pub moved : (store : Families) (walk : Walk) (begun : ℕ) (path : Trail) (rest : Id) → IsStarted store walk → path.room ≡ walk.path.room → IsPlace store path rest
+    → IsSameListing store walk (record { parts = walk.parts; begun = begun; path = path; rest = rest })
+moved store walk begun path rest started room place =
     let count = started.part_count in
-    let events = started.events_are in
     record {
       all = refl;
       events = room;
@@ -70,11 +68,19 @@ next_same store walk begun path middle rest same none started here few =
         events = started.events;
         parts = started.parts;
         part_count = omega arith;
-        events_are = events ∙ sym room;
+        events_are = started.events_are ∙ sym room;
         within = started.within;
-        place = place_begin store path rest none here (omega arith);
+        place = place;
       };
     }
+
+-- on to the next part, where nothing is left of the one before
+pub next_same : (store : Families) (walk : Walk) (begun : ℕ) (path : Trail) (middle rest : Id) → SameLeft walk.path path walk.rest middle → path.frames ≡ [] → IsStarted store walk → IsIn store rest
+    → greatest_size (family_of store rest) ≤ length walk.parts - 1 → IsSameListing store walk (record { parts = walk.parts; begun = begun; path = path; rest = rest })
+next_same store walk begun path middle rest same none started here few =
+    let room = same.room in
+    let count = started.part_count in
+    moved store walk begun path rest started same.room (place_begin store path rest none here (omega arith))
 
 pub next_left : (store : Families) (walk : Walk) (begun : ℕ) (path : Trail) (middle rest : Id) → IsSound store → SameLeft walk.path path walk.rest middle → middle.position ≡ 0 → path.frames ≡ []
     → family_of store rest ++ flat_map (family_of store) (drop begun walk.parts) ≡ flat_map (family_of store) (drop walk.begun walk.parts)
@@ -95,18 +101,5 @@ none_left store walk result sound rest is end =
 pub went_same : (store : Families) (before walk : Walk) (path : Trail) (rest : Id) → IsSameListing store before walk → path.room ≡ walk.path.room → IsPlace store path rest
     → IsSameListing store before (record { parts = walk.parts; begun = walk.begun; path = path; rest = rest })
 went_same store before walk path rest same room place =
-    let started = same.started in
-    let count = started.part_count in
-    record {
-      all = same.all;
-      events = room ∙ same.events;
-      started = record {
-        family = started.family;
-        events = started.events;
-        parts = started.parts;
-        part_count = omega arith;
-        events_are = started.events_are ∙ sym room;
-        within = started.within;
-        place = place;
-      };
-    }
+    let on = moved store walk walk.begun path rest same.started room place in
+    record { all = on.all ∙ same.all; events = on.events ∙ same.events; started = on.started }

@@ -8,3 +8,4 @@ pub mod Skipping
 pub mod Seeking
 pub mod Buffers
 pub mod Scans
+pub mod Grown

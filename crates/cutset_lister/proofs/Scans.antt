@@ -1,9 +1,9 @@
 -- How a walk over the events reads a text.
-use Rattle.std.proofs.Common.{◌≡◌, ◌≢◌, ℕ, zero, suc, ◌+◌, ◌<◌, ◌≤◌, Bool, true, false, List, [], ◌∷◌, ◌++◌, length, length-append, map, take, drop, slice_index_or, Contains, All, AllPairs, Option, Some, slice_get, ⊎_elim, inl, inr, refl, sym, ap, ◌∙◌, subst, arith, append_assoc, append-nil, add-one, eqb-true}
+use Rattle.std.proofs.Common.{◌≡◌, ℕ, zero, suc, ◌+◌, ◌<◌, ◌≤◌, Bool, true, false, List, [], ◌∷◌, ◌++◌, length, map, take, drop, slice_index_or, Contains, Some, slice_get, ⊎_elim, refl, sym, ap, ◌∙◌, subst, arith, append_assoc, append-nil, add-one}
 use Rattle.std.specs.Prelude.{MatchBool, unwrap_or, codes}
 use Rattle.std.specs.Option.{option_map}
-use Rattle.std.specs.List.{AllByRecursion, flat_map, join_with_byte}
-use Rattle.std.proofs.Math.Seq.{drop-cons, take-append_seam, drop-append_seam}
+use Rattle.std.specs.List.{AllByRecursion}
+use Rattle.std.proofs.Math.Seq.{drop-cons, drop-append_seam}
 use Rattle.std.proofs.Math.ListN.{drop_of_length-le}
 use Rattle.std.proofs.lemmas.Bool.{cases_lt, false≢true}
 use Rattle.std.proofs.lemmas.List.{take-append-drop, drop-drop, length-map}
@@ -12,7 +12,6 @@ use Rattle.std.proofs.lemmas.Option.{get_or_from_slice_get, slice_get-map, unwra
 use Rattle.fault_system.specs.Systems.{System, IsSystem, NamesDiffer}
 use Rattle.fault_system.specs.CutSets.{IsEventSet, RisesWithin}
 use Rattle.fault_system.specs.declared.formula.EventInfo.{EventInfo}
-use Rattle.fault_system.proofs.CutSetLaws.{RisesWithin-lower}
 use Rattle.fault_system.proofs.Elements.{contains_In, each-made}
 use Rattle.cutset_lister.specs.SetText.{HasTokenNames, IsTokenName, IsSetOfText, event_name, set_text}
 use Rattle.cutset_lister.specs.Scanning.{Ends, GoesOn, IsNext, Scanned, names_text}

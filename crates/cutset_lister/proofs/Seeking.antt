@@ -1,5 +1,5 @@
 -- The sets of all sizes before which a given one stands.
-use Rattle.std.proofs.Common.{◌≡◌, ℕ, zero, suc, ◌+◌, ◌*◌, ◌<◌, ◌≤◌, Bool, true, false, cond, List, [], ◌∷◌, ◌++◌, length, drop, slice_index_or, filter, Contains, IsTrue, ⊎_elim, inl, inr, refl, sym, ap, ◌∙◌, subst, arith, eqb-true, eq-eqb, ltb-true, lt-ltb, add-one}
+use Rattle.std.proofs.Common.{◌≡◌, ℕ, zero, suc, ◌+◌, ◌*◌, ◌<◌, ◌≤◌, Bool, true, false, List, [], ◌∷◌, ◌++◌, length, drop, slice_index_or, filter, Contains, IsTrue, ⊎_elim, refl, sym, ap, ◌∙◌, subst, arith, eqb-true, eq-eqb, ltb-true, lt-ltb, add-one}
 use Rattle.std.specs.Prelude.{nat_lt, ◌==◌, ◌&&◌, ◌||◌}
 use Rattle.std.proofs.lemmas.Bool.{false≢true}
 use Rattle.std.proofs.lemmas.List.Elements.{filter-append}
@@ -8,13 +8,14 @@ use Rattle.fault_system.specs.Listings.{is_lower, is_before}
 use Rattle.fault_system.proofs.Elements.{In, In-append, In-contains, In-filter, each-at, each-made}
 use Rattle.zdd_store.specs.Family.{Family, precedes, is_within}
 use Rattle.zdd_store.specs.Answers.{sets_of}
-use Rattle.zdd_store.specs.Store.{Families, IsIn, IsSound, family_at, family_of}
+use Rattle.zdd_store.specs.Store.{Families, IsIn, IsSound, family_of}
 use Rattle.zdd_store.specs.declared.id.Id.{Id}
 use Rattle.zdd_families.proofs.Joins.{filter_keeps, filter_drops, same_filter}
-use Rattle.cutset_lister.specs.Trails.{Trail, IsPlace, left_below, greatest_size}
-use Rattle.cutset_lister.specs.Walks.{Walk, AreSizes, IsSameListing, IsStarted, all_sets, sets_left}
+use Rattle.cutset_lister.specs.Trails.{Trail, left_below, greatest_size}
+use Rattle.cutset_lister.specs.Walks.{Walk, AreSizes, IsSameListing, IsStarted, all_sets}
 use Rattle.cutset_lister.proofs.Below.{size-of}
 use Rattle.cutset_lister.proofs.BySize.{none-most, size-most, sets_of-most, sets_of-size}
+use Rattle.cutset_lister.proofs.Going.{moved}
 use Rattle.cutset_lister.proofs.Skipping.{AreAmong}
 
 -- of sets of one size, the order of families is that of listings
@@ -121,19 +122,7 @@ module _ (store : Families) (walk : Walk) (part : Id) (after : List ℕ) (sound 
       in
       let less : greatest_size (filter (precedes after) (family_of store part)) ≤ greatest_size (family_of store part) = filter-most (precedes after) (family_of store part) in
       let same : greatest_size (left_below store path.frames (family_of store rest)) ≡ greatest_size (filter (precedes after) (family_of store part)) = ap greatest_size left in
-      record {
-        all = refl;
-        events = room;
-        started = record {
-          family = started.family;
-          events = started.events;
-          parts = started.parts;
-          part_count = omega arith;
-          events_are = started.events_are ∙ sym room;
-          within = started.within;
-          place = record { frames_in = frames_in; rest_in = here; short = omega arith };
-        };
-      }
+      moved store walk (length after + 1) path rest started room (record { frames_in = frames_in; rest_in = here; short = omega arith })
 
   pub sought_steps : (before steps : ℕ) → ((events : List ℕ) → AreAmong events (family_of store part) → steps ≤ before + length events + 1) → steps ≤ before + 2 * (walk.path.room + 1)
   sought_steps before steps few =

@@ -1,5 +1,5 @@
 -- Past the sets before which a given one does not stand.
-use Rattle.std.proofs.Common.{◌≡◌, ℕ, zero, suc, ◌+◌, ◌<◌, ◌≤◌, Bool, true, false, List, [], ◌∷◌, ◌++◌, length, length-append, drop, slice_index_or, filter, Contains, IsTrue, refl, sym, ap, ◌∙◌, subst, arith, eqb-true, eq-eqb, ltb-true, lt-ltb, add-one}
+use Rattle.std.proofs.Common.{◌≡◌, ℕ, zero, suc, ◌+◌, ◌<◌, ◌≤◌, Bool, true, false, List, [], ◌∷◌, ◌++◌, length, length-append, drop, slice_index_or, filter, IsTrue, refl, sym, ap, ◌∙◌, subst, arith, eqb-true, eq-eqb, ltb-true, lt-ltb, add-one}
 use Rattle.std.specs.Prelude.{nat_lt, ◌==◌, ◌&&◌, ◌||◌}
 use Rattle.std.proofs.Math.Seq.{drop-cons}
 use Rattle.std.proofs.Math.ListN.{drop_of_length-le}
@@ -13,10 +13,8 @@ use Rattle.zdd_store.proofs.Branches.{with_var, branch-empty, branch-with_var}
 use Rattle.zdd_store.proofs.Growing.{some_set}
 use Rattle.zdd_store.proofs.Orders.{all_contained}
 use Rattle.zdd_families.proofs.Above.{above}
-use Rattle.zdd_families.proofs.Booleans.{and_cases, same_test}
 use Rattle.zdd_families.proofs.Joins.{filter-branch, filter_keeps, filter_drops, same_filter}
 use Rattle.zdd_families.proofs.Subsets.{has_first, has_rest, within_has, within_from}
-use Rattle.cutset_lister.specs.declared.path.Frame.{Frame}
 use Rattle.cutset_lister.specs.Trails.{Trail, left_below}
 use Rattle.cutset_lister.proofs.Below.{frames-push, left-push}
 use Rattle.cutset_lister.proofs.Counting.{above-fewer, above-most}

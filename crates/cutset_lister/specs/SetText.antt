@@ -2,7 +2,6 @@
 use Rattle.std.specs.Prelude.{ℕ, ◌≡◌, ◌≢◌, List, [], ◌∷◌, map, codes, unwrap_or, slice_get, All, Contains}
 use Rattle.std.specs.Option.{option_map}
 use Rattle.std.specs.List.{join_with_byte}
-use Rattle.aadl_syntax.specs.declared.refusal.Refusal.{Refusal}
 use Rattle.aadl_syntax.specs.declared.refusal.Stop.{Stop}
 use Rattle.aadl_syntax.specs.declared.refusal.Stop.TheVariants.{Refused, Memory}
 use Rattle.aadl_syntax.specs.declared.refusal.Code.TheVariants.{BadToken}

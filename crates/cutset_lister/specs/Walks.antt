@@ -1,5 +1,5 @@
 -- A listing as it goes: all its sets, and those that are left.
-use Rattle.std.specs.Prelude.{ℕ, ◌+◌, ◌≡◌, IsTrue, List, [], ◌∷◌, ◌++◌, length, drop, Option, MatchOption, IfNone, ⊤}
+use Rattle.std.specs.Prelude.{ℕ, ◌+◌, ◌≡◌, IsTrue, List, [], ◌∷◌, ◌++◌, length, drop}
 use Rattle.std.specs.List.{AllByRecursion, flat_map}
 use Rattle.zdd_store.specs.Family.{Family, is_within}
 use Rattle.zdd_store.specs.Answers.{sets_of}
@@ -47,3 +47,9 @@ pub record IsSameListing (store : Families) (before after : Walk) : Type 0 where
   pub all : all_sets store after ≡ all_sets store before
   pub events : event_count after ≡ event_count before
   pub started : IsStarted store after
+
+-- in a store that grew a started listing has the sets that it had
+pub record StaysStarted (before after : Families) (walk : Walk) : Type 0 where
+  pub started : IsStarted after walk
+  pub all : all_sets after walk ≡ all_sets before walk
+  pub left : sets_left after walk ≡ sets_left before walk

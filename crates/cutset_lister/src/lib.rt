@@ -2,6 +2,7 @@
 #![tactic(auto)]
 
 mod in_order;
+mod laws;
 mod moves;
 mod parts;
 mod path;
@@ -10,5 +11,6 @@ mod tokens;
 mod walk;
 
 pub use in_order::listing;
+pub use laws::stays_started;
 pub use tokens::{read_token, write_token};
 pub use walk::Listing;

@@ -1,4 +1,4 @@
-use Rattle.std.proofs.Common.{◌≤◌, arith}
+use Rattle.std.proofs.Common.{arith}
 use Rattle.cutset_lister.proofs.Below.{descended, descended_first, descended_place, descended_steps, less-room, room-node}
 use Rattle.cutset_lister.proofs.moves.descend.Goals as goal
 

@@ -1,5 +1,5 @@
 use Rattle.std.proofs.Common.{arith, refl, rules, sym}
-use Rattle.cutset_lister.proofs.Skipping.{skip_begins, skipped_all, skipped_greater, skipped_none, skipped_steps, skipped_terminal, skips_down, skips_lower}
+use Rattle.cutset_lister.proofs.Skipping.{skip_begins, skipped_all, skipped_greater, skipped_none, skipped_terminal, skips_down, skips_lower}
 use Rattle.cutset_lister.proofs.moves.skip.Goals as goal
 
 pub returns-then-eq-clause-left : goal.returns-then-eq-clause-left

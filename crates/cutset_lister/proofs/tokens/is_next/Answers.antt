@@ -1,4 +1,4 @@
-use Rattle.std.proofs.Common.{arith, rules, eqb-true, eq-eqb, length, nat_eq, slice_index_or, true}
+use Rattle.std.proofs.Common.{arith, rules, eqb-true, eq-eqb, length, nat_eq, slice_index_or}
 use Rattle.cutset_lister.proofs.Scans.{is_next-at}
 use Rattle.cutset_lister.proofs.tokens.is_next.Goals as goal
 

@@ -1,6 +1,6 @@
 use Rattle.std.proofs.Common.{◌≡◌, ◌∷◌, rules}
 use Rattle.std.specs.Prelude.{vec_capacity}
-use Rattle.cutset_lister.specs.Scanning.{AddsText, names_text}
+use Rattle.cutset_lister.specs.Scanning.{names_text}
 use Rattle.cutset_lister.specs.SetText.{event_name, set_text}
 use Rattle.cutset_lister.proofs.Buffers.{adds_or_lacks}
 use Rattle.cutset_lister.proofs.Scans.{set_text-first}

@@ -1,7 +1,6 @@
-use Rattle.std.proofs.Common.{◌≡◌, ◌∙◌, arith, refl, rules}
+use Rattle.std.proofs.Common.{◌≡◌, ◌∙◌, refl, rules}
 use Rattle.std.specs.Prelude.{codes}
 use Rattle.cutset_lister.proofs.Scans.{none-one, scan-found, scan-none, scan-one}
-use Rattle.cutset_lister.specs.SetText.{IsSetOfText}
 use Rattle.cutset_lister.proofs.tokens.read_token.Goals as goal
 
 pub returns-then-is_same-clause-one : goal.returns-then-is_same-clause-one

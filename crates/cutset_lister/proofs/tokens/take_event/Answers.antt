@@ -1,4 +1,4 @@
-use Rattle.std.proofs.Common.{arith, length, le_refl}
+use Rattle.std.proofs.Common.{length, le_refl}
 use Rattle.std.specs.List.{between}
 use Rattle.std.proofs.lemmas.Slice.{between_to_end}
 use Rattle.cutset_lister.proofs.Scans.{scan-not, scan-past, scan-takes}

@@ -1,4 +1,4 @@
-use Rattle.std.proofs.Common.{rules, ◌∙◌}
+use Rattle.std.proofs.Common.{rules}
 use Rattle.cutset_lister.proofs.Going.{next_left, next_same}
 use Rattle.cutset_lister.proofs.walk.Listing.first_family.Goals as goal
 

@@ -1,5 +1,4 @@
 use Rattle.std.proofs.Common.{ap, ◌∙◌, length, slice_index_or}
-use Rattle.cutset_lister.specs.Walks.{IsStarted}
 use Rattle.cutset_lister.proofs.Seeking.{sought_in, sought_left, sought_same, sought_steps}
 use Rattle.cutset_lister.proofs.walk.Listing.seek.Goals as goal
 
