@@ -32,7 +32,8 @@ abbrev pub AreSizes : Families → Family → ℕ → List Id → Type 0
 AreSizes store family size [] = Unit {0}
 AreSizes store family size (id ∷ ids) = IsIn store id × (family_of store id ≡ sets_of size family) × AreSizes store family (size + 1) ids
 
--- a listing was started on this store, or on one from which it grew
+-- A listing was started on this store, or on one from which it grew: its parts have the sets of each size of some family whose
+-- numbers are among so many events, and its place is one of this store.
 pub record IsStarted (store : Families) (walk : Walk) : Type 0 where
   pub family : Family
   pub events : List ℕ
