@@ -21,7 +21,6 @@ pub(crate) fn parts_by_size(alloc: Global, store: &mut Store, family: Id, most: 
     ensures kept { Keeps store.old store.new }
 {
     let mut parts = Vec::new(alloc);
-    parts.reserve_exact(most as usize + 1)?;
     for size in 0..most + 1 {
         let part = of_size(store, family, size)?;
         parts.push(part)?;

@@ -7,7 +7,7 @@ use std::marker::Model;
 use zdd_store::Id;
 
 /// A number of a set, and the family of what may stand in place of it and the numbers behind it.
-#[derive(Clone, Copy, Debug, PartialEq, Eq)]
+#[derive(Clone, Copy)]
 pub struct Frame {
     pub number: u32,
     pub low: Id,
