@@ -76,7 +76,7 @@ ordered_listed (suc k) family o =
     order-append (listed k family) (sets_of k family) (ordered_listed k family o) (ordered_size k family o) (λ a b i j. before_made a b (inl (shorter k a b (in_listed k family a i).1 (of_size k family b j))))
 
 -- the sets of one size more
-listed_more : (size : ℕ) (family : Family) → listed size family ++ sets_of size family ≡ listed (size + 1) family
+pub listed_more : (size : ℕ) (family : Family) → listed size family ++ sets_of size family ≡ listed (size + 1) family
 unfolding listed
 listed_more size family = ap (λ k. listed k family) (sym (add-one size))
 

@@ -1,0 +1,37 @@
+-- The texts of sets of events, which are page tokens.
+use Rattle.std.specs.Prelude.{ℕ, ◌≡◌, ◌≢◌, List, [], ◌∷◌, map, codes, unwrap_or, slice_get, All, Contains}
+use Rattle.std.specs.Option.{option_map}
+use Rattle.std.specs.List.{join_with_byte}
+use Rattle.aadl_syntax.specs.declared.refusal.Stop.{Stop}
+use Rattle.aadl_syntax.specs.declared.refusal.Stop.TheVariants.{Refused, Memory}
+use Rattle.aadl_syntax.specs.declared.refusal.Code.TheVariants.{BadToken}
+use Rattle.aadl_syntax.specs.declared.refusal.Place.TheVariants.{Words}
+use Rattle.fault_system.specs.Systems.{System}
+use Rattle.fault_system.specs.CutSets.{IsEventSet}
+
+-- the name of an event by its number
+abbrev pub event_name : System → ℕ → List ℕ
+event_name system number = unwrap_or (option_map (λ event. event.name) (slice_get system.events number)) []
+
+-- a set's text: the names of its events in order with `+` between them, or `none` for the empty set
+abbrev pub set_text : System → List ℕ → List ℕ
+set_text system [] = codes "none"
+set_text system (event ∷ events) = join_with_byte 43 (map (event_name system) (event ∷ events))
+
+-- a name that no text of a set can mean in another way: it is not `none`, and it holds no `+`
+abbrev pub IsTokenName : List ℕ → Type 0
+IsTokenName name = (name ≢ codes "none") × (Contains name 43 → ⊥)
+
+-- each event of the system has such a name
+abbrev pub HasTokenNames : System → Type 0
+HasTokenNames system = All (λ event. IsTokenName event.name) system.events
+
+-- the set is a rising list of events of the system, and has this text
+abbrev pub IsSetOfText : System → List ℕ → List ℕ → Type 0
+IsSetOfText system text set = IsEventSet system set × (set_text system set ≡ text)
+
+-- K1: no set has the text, and this is the refusal; want of memory says nothing
+abbrev pub IsBadToken : System → List ℕ → Stop → Type 0
+IsBadToken system text Memory = Unit {0}
+IsBadToken system text (Refused refusal) =
+    ((set : List ℕ) → IsSetOfText system text set → ⊥) × (refusal ≡ record { code = BadToken; place = Words; limit = 0 })
