@@ -5,7 +5,7 @@ ghost use Rattle.aadl_syntax.specs.Order.{least, nearer};
 ghost use Rattle.aadl_syntax.specs.declared.refusal.Code.TheVariants.{DuplicateName};
 ghost use Rattle.std.specs.List.{list_any};
 ghost use Rattle.component_extension.specs.Members.{KnowsMarks, comes_before, duplicates, is_before, is_earlier, mark_of, marks_of};
-    ghost use Rattle.package_index.specs.Tables.{same_text};
+ghost use Rattle.package_index.specs.Tables.{same_text};
 
 use crate::declaration::{Declaration, PlainName};
 use crate::member::MemberKind;

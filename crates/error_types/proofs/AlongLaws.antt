@@ -1,12 +1,12 @@
 -- The search for a name in libraries, one after the other.
-use Rattle.std.proofs.Common.{ℕ, suc, ◌+◌, ◌≡◌, ◌<◌, List, [], ◌∷◌, length, drop, get_or, Option, refl, sym, ap, ◌∙◌, add-one, drop-cons}
+use Rattle.std.proofs.Common.{ℕ, suc, ◌+◌, ◌≡◌, ◌<◌, List, ◌∷◌, length, drop, get_or, Option, sym, ap, ◌∙◌, add-one, drop-cons}
 use Rattle.aadl_syntax.specs.declared.refusal.Refusal.{Refusal}
 use Rattle.aadl_syntax.specs.Order.{nearer}
 use Rattle.error_types.proofs.Nearer.{nearer-assoc}
 use Rattle.error_types.specs.declared.id.Looked.{Looked}
 use Rattle.error_types.specs.declared.id.Looked.TheVariants.{Nowhere}
 use Rattle.error_types.specs.Libraries.{Library}
-use Rattle.error_types.specs.Search.{Hit, or_hit, search, search_along}
+use Rattle.error_types.specs.Search.{or_hit, search, search_along}
 
 module _ (libraries : List Library) (name : List ℕ) (numbers : List ℕ) (i number : ℕ) (within : i < length numbers) (is : number ≡ get_or numbers i number) where
   split : drop i numbers ≡ number ∷ drop (i + 1) numbers

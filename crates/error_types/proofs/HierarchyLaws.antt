@@ -3,12 +3,11 @@ use Rattle.std.proofs.Common.{ℕ, zero, suc, ◌+◌, ◌-◌, ◌^◌, ◌<◌
 use Rattle.std.proofs.lemmas.Bool.Decides.{Decides-eqb}
 use Rattle.aadl_syntax.specs.declared.place.Ref.{Ref}
 use Rattle.error_types.specs.declared.scope.Scope.{Scope}
-use Rattle.error_types.specs.declared.id.ItemId.{ItemId}
 use Rattle.error_types.specs.Libraries.{Table}
 use Rattle.error_types.specs.Search.{named}
 use Rattle.std.specs.List.{list_any}
 use Rattle.aadl_syntax.specs.declared.error_model.TypeSet.{TypeSet}
-use Rattle.error_types.specs.Types.{base_in, base_of, denoted, is_base_so, is_below, is_below_by, is_below_in, numbers_below, type_at, type_named}
+use Rattle.error_types.specs.Types.{base_of, denoted, is_base_so, is_below, is_below_by, is_below_in, numbers_below, type_at, type_named}
 use Rattle.error_types.specs.Walk.{set_types}
 
 -- ---- one step

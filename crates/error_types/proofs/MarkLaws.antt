@@ -30,7 +30,7 @@ module _ {Key Item : Type 0} (same : Item → Key → Bool) where
         ∙ sym (ap (list_any (λ item. same item key)) more ∙ list_any-append (λ item. same item key) done (top ∷ []));
     entered = λ key.
         some-left (same top key) (list_any (λ item. same item key) done) (list_any (λ item. same item key) way_now) (old key) (now key) (is key)
-          (marks.entered key ∙ ap (λ items. list_any (λ item. same item key) done || list_any (λ item. same item key) items) less)
+        (marks.entered key ∙ ap (λ items. list_any (λ item. same item key) done || list_any (λ item. same item key) items) less)
         ∙ ap (λ b. b || list_any (λ item. same item key) way_now) (sym (ap (list_any (λ item. same item key)) more ∙ list_any-append (λ item. same item key) done (top ∷ [])));
   }
 
@@ -69,4 +69,4 @@ pub marks-first : {Key Item : Type 0} (same : Item → Key → Bool) (top : Item
     → Marks (λ key. list_any (λ item. same item key) done) (λ key. list_any (λ item. same item key) way) now
 marks-first same top done way old now no_done one none is =
     marks-entered same top done [] way old now one is (λ key _. ap (list_any (λ item. same item key)) no_done)
-      (record { done = λ key. ap is_vain (none key) ∙ sym (ap (list_any (λ item. same item key)) no_done); entered = λ key. ap is_some (none key) ∙ sym (ap (λ items. list_any (λ item. same item key) items || false) no_done) })
+    (record { done = λ key. ap is_vain (none key) ∙ sym (ap (list_any (λ item. same item key)) no_done); entered = λ key. ap is_some (none key) ∙ sym (ap (λ items. list_any (λ item. same item key) items || false) no_done) })

@@ -1,9 +1,9 @@
 -- The steps of a search for a name.
-use Rattle.std.proofs.Common.{ℕ, zero, suc, ◌+◌, ◌-◌, ◌^◌, ◌<◌, ◌≡◌, Bool, true, false, ◌||◌, cond, List, [], ◌∷◌, ◌++◌, length, fold, Option, Some, None, is_some, refl, sym, ap, ◌∙◌, arith}
+use Rattle.std.proofs.Common.{ℕ, zero, suc, ◌+◌, ◌-◌, ◌^◌, ◌<◌, ◌≡◌, true, false, cond, List, [], ◌∷◌, ◌++◌, length, fold, Option, None, refl, sym, ap, ◌∙◌, arith}
 use Rattle.aadl_syntax.specs.Order.{nearer}
 use Rattle.aadl_syntax.specs.declared.refusal.Refusal.{Refusal}
 use Rattle.error_types.specs.declared.id.Looked.{Looked}
-use Rattle.error_types.specs.declared.id.Looked.TheVariants.{Found, Nowhere, Circular}
+use Rattle.error_types.specs.declared.id.Looked.TheVariants.{Nowhere, Circular}
 use Rattle.error_types.specs.Course.{Course, Frame, before, entered, finished, left, so_far, way_of}
 use Rattle.error_types.specs.Libraries.{Library}
 use Rattle.error_types.specs.Search.{Search, at_library, extended, is_number_in, no_search, own_item, past, search, searched, turned, unknown_in, unless_ended}
@@ -44,7 +44,7 @@ module _ (libraries : List Library) (name : List ℕ) where
 
   one_step : (steps one : ℕ) (way vain : List ℕ) (first : Option Refusal) (library : ℕ) → steps ≡ suc one
       → searched steps libraries name way (record { found = Nowhere; vain = vain; first = first }) library
-        ≡ cond (is_number_in vain library) (record { found = Nowhere; vain = vain; first = first }) (cond (is_number_in way library) (record { found = Circular; vain = vain; first = first }) (met one way (record { found = Nowhere; vain = vain; first = first }) library))
+      ≡ cond (is_number_in vain library) (record { found = Nowhere; vain = vain; first = first }) (cond (is_number_in way library) (record { found = Circular; vain = vain; first = first }) (met one way (record { found = Nowhere; vain = vain; first = first }) library))
   unfolding searched
   one_step steps one way vain first library more = ap (λ n. searched n libraries name way (record { found = Nowhere; vain = vain; first = first }) library) more
 

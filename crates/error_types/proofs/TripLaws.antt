@@ -1,6 +1,6 @@
 -- The steps of a walk through items.
-use Rattle.std.proofs.Common.{ℕ, zero, suc, ◌+◌, ◌-◌, ◌^◌, ◌<◌, ◌≡◌, Bool, true, false, ◌&&◌, cond, List, [], ◌∷◌, ◌++◌, length, fold, Option, Some, None, option_to_list, refl, sym, ap, ◌∙◌, arith}
-use Rattle.aadl_syntax.specs.Order.{least, nearer}
+use Rattle.std.proofs.Common.{ℕ, suc, ◌+◌, ◌-◌, ◌^◌, ◌<◌, ◌≡◌, Bool, true, false, ◌&&◌, cond, List, [], ◌∷◌, ◌++◌, length, fold, Option, Some, None, option_to_list, refl, sym, ap, ◌∙◌, arith}
+use Rattle.aadl_syntax.specs.Order.{least}
 use Rattle.aadl_syntax.specs.declared.refusal.Code.TheVariants.{CyclicType, UnknownType}
 use Rattle.aadl_syntax.specs.declared.refusal.Refusal.{Refusal}
 use Rattle.package_index.specs.Lookup.{place_of, refusal}

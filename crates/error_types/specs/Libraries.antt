@@ -1,5 +1,5 @@
 -- The error types that libraries declare (EMV2: error type libraries).
-use Rattle.std.specs.Prelude.{◌≡◌, ⊤, ℕ, ◌+◌, ◌<◌, Bool, true, false, cond, ◌&&◌, ◌||◌, nat_eq, List, [], ◌∷◌, ◌++◌, length, map, flat_map, position, slice_get, Option, Some, None, option_map, option_and_then, option_to_list, is_none, codes}
+use Rattle.std.specs.Prelude.{◌≡◌, ⊤, ℕ, ◌<◌, Bool, true, false, cond, ◌&&◌, ◌||◌, nat_eq, List, [], ◌∷◌, ◌++◌, length, flat_map, position, slice_get, Option, Some, None, option_and_then, option_to_list, is_none}
 use Rattle.std.specs.List.{list_any}
 use Rattle.aadl_syntax.specs.Name.{is_same_text}
 use Rattle.aadl_syntax.specs.Order.{least}
@@ -9,8 +9,6 @@ use Rattle.aadl_syntax.specs.declared.error_model.TypeKind.{TypeKind}
 use Rattle.aadl_syntax.specs.declared.error_model.TypeKind.TheVariants.{Plain, Alias, Set, SetAlias}
 use Rattle.aadl_syntax.specs.declared.error_model.TypesBlock.{TypesBlock}
 use Rattle.aadl_syntax.specs.declared.place.Ref.{Ref}
-use Rattle.aadl_syntax.specs.declared.place.Spot.{Spot}
-use Rattle.aadl_syntax.specs.declared.refusal.Code.{Code}
 use Rattle.aadl_syntax.specs.declared.refusal.Code.TheVariants.{UnknownPackage, TooManyTypes}
 use Rattle.aadl_syntax.specs.declared.refusal.Place.TheVariants.{Words}
 use Rattle.aadl_syntax.specs.declared.refusal.Refusal.{Refusal}

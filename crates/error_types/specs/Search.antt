@@ -1,5 +1,5 @@
 -- What the name of an error type means where it stands.
-use Rattle.std.specs.Prelude.{ℕ, zero, suc, ◌^◌, Bool, true, false, cond, nat_eq, List, [], ◌∷◌, ◌++◌, fold, position, slice_get, Option, Some, None, option_map, option_and_then}
+use Rattle.std.specs.Prelude.{ℕ, zero, suc, ◌^◌, Bool, cond, nat_eq, List, [], ◌∷◌, ◌++◌, fold, position, slice_get, Option, Some, None, option_map, option_and_then}
 use Rattle.std.specs.List.{list_any}
 use Rattle.aadl_syntax.specs.Order.{nearer}
 use Rattle.aadl_syntax.specs.declared.place.Ref.{Ref}

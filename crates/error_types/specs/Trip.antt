@@ -1,10 +1,10 @@
 -- A walk through items that is under way, without recursion: what is left of it.
-use Rattle.std.specs.Prelude.{◌≡◌, ℕ, ◌+◌, ◌-◌, ◌^◌, List, [], ◌∷◌, ◌++◌, Bool, length, map, fold, Option, Some, None, option_to_list}
+use Rattle.std.specs.Prelude.{◌≡◌, ℕ, ◌+◌, ◌-◌, ◌^◌, List, [], ◌∷◌, ◌++◌, Bool, length, map, fold, Option, Some, option_to_list}
 use Rattle.aadl_syntax.specs.Order.{nearer}
 use Rattle.aadl_syntax.specs.declared.refusal.Refusal.{Refusal}
 use Rattle.error_types.specs.declared.id.ItemId.{ItemId}
 use Rattle.error_types.specs.Course.{Marks}
-use Rattle.error_types.specs.Libraries.{Table, is_same_item}
+use Rattle.error_types.specs.Libraries.{Table}
 use Rattle.error_types.specs.Tables.{has_number}
 use Rattle.error_types.specs.Walk.{Need, Walk, arrived, follow, library_scope, past_item, walked}
 use Rattle.std.specs.List.{list_any}
@@ -79,4 +79,4 @@ arrival through table need trip id =
     walked_out through table trip.below
     (past_item trip.top.item
     (fold (walked (follow (2 ^ 64 - (length trip.below + 1)) through table (items_on (trip.top ∷ trip.below))) table (items_on (trip.top ∷ trip.below)) (library_scope table trip.top.item.«package»))
-        (arrived (follow (2 ^ 64 - (length trip.below + 1)) through table (items_on (trip.top ∷ trip.below))) table (items_on (trip.top ∷ trip.below)) need (walk_so_far trip) (Some id)) trip.top.rest))
+    (arrived (follow (2 ^ 64 - (length trip.below + 1)) through table (items_on (trip.top ∷ trip.below))) table (items_on (trip.top ∷ trip.below)) need (walk_so_far trip) (Some id)) trip.top.rest))

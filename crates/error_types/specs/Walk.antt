@@ -13,8 +13,8 @@ use Rattle.aadl_syntax.specs.declared.refusal.Refusal.{Refusal}
 use Rattle.package_index.specs.Lookup.{place_of, refusal}
 use Rattle.error_types.specs.declared.id.ItemId.{ItemId}
 use Rattle.error_types.specs.declared.scope.Scope.{Scope}
-use Rattle.error_types.specs.Libraries.{Library, Table, is_item_in, is_set, item_at, number_of, of_library}
-use Rattle.error_types.specs.Search.{Named, named}
+use Rattle.error_types.specs.Libraries.{Library, Table, is_item_in, is_set, item_at, number_of}
+use Rattle.error_types.specs.Search.{named}
 
 -- ---- what an item names
 

@@ -96,17 +96,17 @@ fn add_reached(
 }
 
 /// The types that are below one of these, rising.
-pub(crate) fn below_any(
-    alloc: Global,
-    bases: &[Option<u32>],
-    types: &[u32],
-) -> Mem<List<u32>>
+pub(crate) fn below_any(alloc: Global, bases: &[Option<u32>], types: &[u32]) -> Mem<List<u32>>
     requires { length bases.now < 2 ^ 32 }
     ensures { IfOk result (λ lows. lows ≡ filter (λ low. list_any (is_below_by bases.now low) types.now) (numbers_below (length bases.now))) }
 {
     let mut lows = List::new(alloc);
     for low in 0..bases.len() {
-        push_if(&mut lows, is_below_any(bases, low as u32, types), low as u32)?;
+        push_if(
+            &mut lows,
+            is_below_any(bases, low as u32, types),
+            low as u32,
+        )?;
     }
     Ok(lows)
 }

@@ -17,10 +17,7 @@ pub(crate) enum Meant<'a> {
 }
 
 /// The types that the types extend, in order.
-pub(crate) fn bases_of(
-    alloc: Global,
-    declarations: &Declarations<'_, '_>,
-) -> Mem<List<Option<u32>>>
+pub(crate) fn bases_of(alloc: Global, declarations: &Declarations<'_, '_>) -> Mem<List<Option<u32>>>
     ensures { IfOk result (λ bases. bases ≡ map (base_of declarations.now) declarations.now.types) }
 {
     let mut bases = List::new(alloc);
@@ -32,11 +29,7 @@ pub(crate) fn bases_of(
 }
 
 /// The type that the type of an item extends.
-fn base_of(
-    alloc: Global,
-    declarations: &Declarations<'_, '_>,
-    id: ItemId,
-) -> Mem<Option<u32>>
+fn base_of(alloc: Global, declarations: &Declarations<'_, '_>, id: ItemId) -> Mem<Option<u32>>
     ensures { IfOk result (λ base. base ≡ base_of declarations.now id) }
 {
     match declarations.item(id) {

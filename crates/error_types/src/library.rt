@@ -7,9 +7,7 @@ ghost use Rattle.error_types.specs.Tables.{has_item_text};
 
 use crate::course::first_of;
 use crate::scope::Scope;
-use aadl_syntax::{
-    Code, FirstRefusal, List, Mem, PackageUnit, Ref, Refusal, TypeItem, TypesBlock,
-};
+use aadl_syntax::{Code, FirstRefusal, List, Mem, PackageUnit, Ref, Refusal, TypeItem, TypesBlock};
 use package_index::{Index, Words, add, note_if};
 use std::alloc::Global;
 use std::collections::HashMap;
@@ -250,12 +248,7 @@ pub(crate) fn push_some(numbers: &mut List<u32>, number: Option<u32>) -> Mem<()>
 }
 
 /// Notes N2 at each name that means no library in a text of a package.
-pub(crate) fn note_unknown(
-    index: &Index,
-    home: u32,
-    references: &[Ref],
-    first: &mut FirstRefusal,
-)
+pub(crate) fn note_unknown(index: &Index, home: u32, references: &[Ref], first: &mut FirstRefusal)
     ensures { first.new ≡ nearer first.old (least (unknown_libraries index.now home references.now)) }
 {
     for reference in references {

@@ -13,11 +13,7 @@ use std::collections::HashMap;
 
 /// The types of all libraries, in the order of the files and of the text: of those of one name in a library the first, or
 /// each.
-pub(crate) fn types_by(
-    alloc: Global,
-    each: bool,
-    libraries: &[Library<'_>],
-) -> Mem<List<ItemId>>
+pub(crate) fn types_by(alloc: Global, each: bool, libraries: &[Library<'_>]) -> Mem<List<ItemId>>
     requires { length libraries.now < 2 ^ 32 }
     ensures { IfOk result (λ types. types ≡ types_by each libraries.now) }
 {

@@ -11,9 +11,7 @@ use crate::hierarchy::bases_of;
 use crate::library::{Library, add_named, note_unknown};
 use crate::numbers::types_by;
 use crate::scope::Scope;
-use aadl_syntax::{
-    Answer, Code, FirstRefusal, List, Mem, Place, Ref, Refusal, Stop, TypeSet,
-};
+use aadl_syntax::{Answer, Code, FirstRefusal, List, Mem, Place, Ref, Refusal, Stop, TypeSet};
 use package_index::Index;
 use std::alloc::Global;
 use std::marker::Model;

@@ -80,11 +80,7 @@ fn onward<'a>(
 }
 
 /// A walk that has nothing left at its top goes back.
-fn back<'a>(
-    through: bool,
-    declarations: &Declarations<'_, 'a>,
-    trip: Trip<'a>,
-) -> Mem<Stage<'a>>
+fn back<'a>(through: bool, declarations: &Declarations<'_, 'a>, trip: Trip<'a>) -> Mem<Stage<'a>>
     requires { trip.top.rest ≡ [] }
     ensures { IfOk result (LeadsWalk through declarations.now (walk_left through declarations.now trip.entry)) }
 {

@@ -27,9 +27,10 @@ use Rattle.phases.specs.Meets.{IsMemory}
 use Rattle.phases.specs.Phases.{Passes, Stops, answers, tests}
 use Rattle.phases.specs.Stopped.{status_of}
 use Rattle.phases.specs.declared.status.Status.TheVariants.{Refused}
+use Rattle.error_types.specs.Libraries.{HasTooManyTypes, declared_types, greatest_types, libraries_of}
 use Rattle.fta_run.specs.Due.{root_tests}
 use Rattle.fta_run.specs.Files.{of_words}
-use Rattle.fta_run.specs.Model.{AreOfForm, Form, HasDuplicate, HasFault, IsFactNamed, LacksTarget, root_named}
+use Rattle.fta_run.specs.Model.{AreOfForm, Form, HasDuplicate, HasFault, HasManyTypes, IsFactNamed, LacksTarget, root_named}
 
 -- one file is of the form of its units
 form_of_one : {R : Type 0} (found : Option R) (shown : R → Form) (files : List (List FileUnit)) (units : List FileUnit) → files ≡ units ∷ []
@@ -102,6 +103,18 @@ classifier_right files packages id same none =
   where
     none_there : (refusal : Refusal) → Contains [] refusal → ⊥
     none_there refusal c = omega (arith, c.1)
+
+-- too many error types are declared
+pub types_stop : (files : List (List FileUnit)) (packages : List PackageUnit) (why : Stop) → packages ≡ packages_of files → IsRefused (HasTooManyTypes packages) why → Stops (tests (HasManyTypes files)) (status_of why) ⊎ IsMemory (status_of why)
+types_stop files packages (stop.Refused refusal) same first =
+    inl (record { stopped = (refusal, subst (λ (ps : List PackageUnit). IsFirst (HasTooManyTypes ps) refusal) same first, refl) })
+types_stop files packages stop.Memory same first = inr refl
+
+-- not too many are declared
+pub types_right : (files : List (List FileUnit)) (packages : List PackageUnit) → packages ≡ packages_of files → length (declared_types (libraries_of packages)) ≤ greatest_types → Passes (tests (HasManyTypes files)) (tt {0})
+types_right files packages same few =
+    let all : length (declared_types (libraries_of (packages_of files))) ≤ greatest_types = subst (λ (ps : List PackageUnit). length (declared_types (libraries_of ps)) ≤ greatest_types) same few in
+    record { passed = λ refusal over. omega (arith, all, over.many) }
 
 -- ---- the target
 

@@ -17,7 +17,7 @@ use Rattle.phases.proofs.Leaves.{decided_answers, decided_computes, decided_find
 use Rattle.phases.proofs.Decided as decided
 use Rattle.fta_run.specs.Words.{Check, Command, Cuts, IsCommand, files_of}
 use Rattle.fta_run.specs.Files.{AreTokens, AreUnits, HasTooLong, HasTooMuch, LacksTokens, LacksUnits, MayContain, NamesTooMany}
-use Rattle.fta_run.specs.Model.{AreOfForm, HasDuplicate, HasFault, IsFactNamed, LacksTarget, root_named}
+use Rattle.fta_run.specs.Model.{AreOfForm, HasDuplicate, HasFault, HasManyTypes, IsFactNamed, LacksTarget, root_named}
 use Rattle.fta_run.specs.Due.{command_text, cuts_text, due, system_at, system_in, texts_of, units_of}
 use Rattle.fta_run.specs.Answers.{AllTold, IsOutput, IsSameStatus}
 use Rattle.fta_run.proofs.Roots.{one_command}
@@ -63,7 +63,7 @@ system_decided root texts = (
   λ files have. (
     (
       decided_tests IsSameStatus itself (HasDuplicate files),
-      λ _ clear. (decided_computes IsSameStatus itself (root_named files root), λ id named. decided_tests IsSameStatus itself (HasFault files id)),
+      λ _ clear. (decided_computes IsSameStatus itself (root_named files root), λ id named. (decided_tests IsSameStatus itself (HasFault files id), λ _ right. decided_tests IsSameStatus itself (HasManyTypes files))),
     ),
     λ _ at. (decided_finds IsSameStatus itself (AreOfForm files) NotYet (one_form_of files), λ form is. tt),
   ),

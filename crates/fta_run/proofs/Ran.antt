@@ -16,7 +16,7 @@ use Rattle.fault_system.specs.Systems.{System}
 use Rattle.backward_slice.specs.Slices.{HasLargeSlice}
 use Rattle.fta_run.specs.Words.{Check, Command, Cuts, files_of, GiveCommand, GiveNoCommand, IsCommand, file_words}
 use Rattle.fta_run.specs.Files.{HasTooLong, HasTooMuch, LacksTokens, LacksUnits, NamesTooMany, most_files, of_words}
-use Rattle.fta_run.specs.Model.{HasDuplicate, HasFault, LacksTarget, root_named}
+use Rattle.fta_run.specs.Model.{HasDuplicate, HasFault, HasManyTypes, LacksTarget, root_named}
 use Rattle.fta_run.specs.Due.{command_text, cuts_text, due, system_at, system_in, texts_of}
 use Rattle.fta_run.specs.Answers.{AllTold, AnswersWords, IsJustified, IsManyAnswer, IsSameStatus, MayCome}
 use Rattle.fta_run.specs.Steps.{IsReadEnd, Prints, Runs, RunsBut, ended}
@@ -48,7 +48,7 @@ system_later root texts = (
   λ files have. (
     (
       refusal_later (IsFirst (HasDuplicate files)),
-      λ _ clear. (refusal_later (λ refusal. root_named files root ≡ Err refusal), λ id named. refusal_later (IsFirst (HasFault files id))),
+      λ _ clear. (refusal_later (λ refusal. root_named files root ≡ Err refusal), λ id named. (refusal_later (IsFirst (HasFault files id)), λ _ right. refusal_later (IsFirst (HasManyTypes files)))),
     ),
     λ _ at. ((λ s none. inr none.0), λ form is. tt),
   ),

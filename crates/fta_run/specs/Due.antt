@@ -10,7 +10,7 @@ use Rattle.fault_system.specs.Listings.{IsListing}
 use Rattle.first_form.specs.Meaning.{system_of}
 use Rattle.fta_run.specs.Words.{Command, Check, Cuts, IsCommand}
 use Rattle.fta_run.specs.Files.{MayContain, NamesTooMany, HasTooLong, HasTooMuch, AreTokens, LacksTokens, AreUnits, LacksUnits}
-use Rattle.fta_run.specs.Model.{AreOfForm, HasDuplicate, HasFault, IsFactNamed, LacksTarget, root_named}
+use Rattle.fta_run.specs.Model.{AreOfForm, HasDuplicate, HasFault, HasManyTypes, IsFactNamed, LacksTarget, root_named}
 use Rattle.fta_run.specs.Text.{listing_text, numbers_text}
 
 -- the texts of the files, which are not too many, none too long, and not too long together
@@ -28,13 +28,14 @@ units_of texts = do
   tokens ← answers (AreTokens texts) (LacksTokens texts)
   rejects (AreUnits tokens) (LacksUnits texts tokens)
 
--- what is tested of the names in these files: nothing is declared again, and the root is a classifier whose chain and members
--- have no fault
+-- what is tested of the names in these files: nothing is declared again, the root is a classifier whose chain and members have
+-- no fault, and the libraries do not declare too many error types
 abbrev pub root_tests : Root → List (List FileUnit) → Phase (Unit {0})
 root_tests root files = do
   _ ← tests (HasDuplicate files)
   id ← computes (root_named files root)
-  tests (HasFault files id)
+  _ ← tests (HasFault files id)
+  tests (HasManyTypes files)
 
 -- the system of the root in files of these texts, which are of the first form: it has one classifier, so that is the root
 abbrev pub system_at : Root → List (List ℕ) → Phase System

@@ -10,6 +10,7 @@ use Rattle.aadl_syntax.specs.declared.refusal.Refusal.{Refusal}
 use Rattle.fault_system.specs.Systems.{System}
 use Rattle.fault_system.specs.declared.formula.FactInfo.{FactInfo}
 use Rattle.component_extension.specs.Items.{classifier_faults}
+use Rattle.error_types.specs.Libraries.{HasTooManyTypes}
 use Rattle.first_form.specs.Form.{IsFirstForm}
 use Rattle.package_index.specs.Duplicates.{IsDuplicate}
 use Rattle.package_index.specs.Lookup.{look_classifier, packages_of, refused_at}
@@ -28,6 +29,10 @@ root_named files root = refused_at Words (look_classifier (packages_of files) No
 -- along it (N5, N6, P1, P2 or P3).
 abbrev pub HasFault : List (List FileUnit) → ClassifierId → Refusal → Type 0
 HasFault files id = Contains (classifier_faults (packages_of files) id)
+
+-- M8: the libraries of the files declare too many error types.
+abbrev pub HasManyTypes : List (List FileUnit) → Refusal → Type 0
+HasManyTypes files = HasTooManyTypes (packages_of files)
 
 -- the parts of units of the first form: the name of the package, the machine, and the classifier that uses it
 pub record Form : Type 0 where

@@ -11,6 +11,7 @@ ghost use Rattle.fta_run.specs.Shown.{form_shown};
 use crate::input::{Texts, of_words, units_of_texts};
 use aadl_syntax::{Code, List, Mem, Name, Root, Unit, is_same};
 use component_extension::Effective;
+use error_types::TypeTable;
 use fault_system::FaultSystem;
 use first_form::{FirstForm, first_form, system_of};
 use package_index::Index;
@@ -28,14 +29,15 @@ pub fn system_at(alloc: Global, root: &Root, texts: &Texts) -> Result<FaultSyste
     Ok(system)
 }
 
-/// Refuses files in which something is declared again, and a root that is no classifier of them, or one whose chain or whose
-/// members have a fault.
+/// Refuses files in which something is declared again, a root that is no classifier of them, or one whose chain or whose members
+/// have a fault, and files that declare too many error types.
 fn test_root(alloc: Global, files: &List<List<Unit>>, root: &Root) -> Result<(), Status>
     ensures { Meets (root_tests root.now files.now) result }
 {
     let index = Index::new(alloc, files.items())?;
     let id = index.root(root)?;
     let _effective = Effective::of(alloc, &index, id)?;
+    let _types = TypeTable::new(alloc, &index)?;
     Ok(())
 }
 

@@ -7,11 +7,7 @@ use std::collections::HashMap;
 use std::hash::Hash;
 
 /// Gives a key a number, where it has none yet, and says whether it had none.
-pub fn add<K: Eq + Hash + Drop>(
-    table: &mut HashMap<K, u32>,
-    key: K,
-    number: u32,
-) -> Mem<bool>
+pub fn add<K: Eq + Hash + Drop>(table: &mut HashMap<K, u32>, key: K, number: u32) -> Mem<bool>
     ensures { IfOk result (Added K.eq (get K.eq table.old) (get K.eq table.new) key number) }
 {
     if table.contains_key(&key) {

@@ -1,4 +1,4 @@
-use Rattle.std.proofs.Common.{length, sym, ap, ◌∙◌}
+use Rattle.std.proofs.Common.{length, sym, ◌∙◌}
 use Rattle.error_types.specs.Types.{base_in}
 use Rattle.error_types.proofs.HierarchyLaws.{all-steps, has-base, has-no-base, is-itself, is-other, is-same}
 use Rattle.error_types.proofs.hierarchy.is_below.Goals as goal

@@ -1,4 +1,4 @@
-use Rattle.std.proofs.Common.{◌≡◌, ◌-◌, ◌+◌, ◌^◌, arith, sym, ap, ◌∙◌, subst}
+use Rattle.std.proofs.Common.{◌-◌, ◌+◌, ◌^◌, arith, sym, ◌∙◌, subst}
 use Rattle.error_types.specs.Meant.{IsMeant}
 use Rattle.error_types.specs.Search.{named}
 use Rattle.error_types.specs.Types.{type_named}

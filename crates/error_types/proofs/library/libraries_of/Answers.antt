@@ -1,5 +1,4 @@
 use Rattle.std.proofs.Common.{◌≡◌, ◌<◌, ◌∷◌, [], ◌++◌, length, get_or, sym, ap, ◌∙◌, subst}
-use Rattle.package_index.specs.Numbered.{numbered_from}
 use Rattle.package_index.proofs.Loops.{numbered-more}
 use Rattle.error_types.specs.Libraries.{library_of}
 use Rattle.error_types.proofs.library.libraries_of.Goals as goal

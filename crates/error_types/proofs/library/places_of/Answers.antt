@@ -1,8 +1,7 @@
-use Rattle.std.proofs.Common.{ℕ, ◌≡◌, true, nat_eq, List, Bor, sym, ap, ◌∙◌}
-use Rattle.std.specs.Cmp.Lexicographic.{pointwise}
+use Rattle.std.proofs.Common.{ap, ◌∙◌}
 use Rattle.std.specs.HashMap.{get}
 use Rattle.package_index.specs.Tables.{same_text}
-use Rattle.package_index.proofs.KnowsLaws.{knows-more, knows-all}
+use Rattle.package_index.proofs.KnowsLaws.{knows-more}
 use Rattle.error_types.specs.Tables.{has_item_text}
 use Rattle.error_types.proofs.Keys.{item_agrees, item_alike}
 use Rattle.error_types.proofs.library.places_of.Goals as goal

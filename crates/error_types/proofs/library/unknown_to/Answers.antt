@@ -1,4 +1,4 @@
-use Rattle.std.proofs.Common.{◌++◌, sym, ap, ◌∙◌}
+use Rattle.std.proofs.Common.{◌++◌}
 use Rattle.package_index.proofs.Loops.{noting-more}
 use Rattle.error_types.specs.Libraries.{unknown_libraries}
 use Rattle.error_types.proofs.library.unknown_to.Goals as goal

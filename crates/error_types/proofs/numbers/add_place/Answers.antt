@@ -1,4 +1,4 @@
-use Rattle.std.proofs.Common.{◌≡◌, sym, ap, ◌∙◌}
+use Rattle.std.proofs.Common.{sym, ap, ◌∙◌}
 use Rattle.std.specs.HashMap.{get}
 use Rattle.package_index.specs.Tables.{same_text}
 use Rattle.package_index.proofs.KnowsLaws.{knows-more}

@@ -1,4 +1,4 @@
-use Rattle.std.proofs.Common.{◌≡◌, [], ◌∷◌, ◌++◌, cond, sym, ap, ◌∙◌, take}
+use Rattle.std.proofs.Common.{[], ◌∷◌, ◌++◌, cond, sym, ap, ◌∙◌, take}
 use Rattle.std.proofs.lemmas.List.{append_assoc}
 use Rattle.package_index.specs.Numbered.{numbered_from}
 use Rattle.package_index.proofs.Loops.{numbered-more}

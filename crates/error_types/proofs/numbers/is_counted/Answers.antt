@@ -1,4 +1,4 @@
-use Rattle.std.proofs.Common.{◌≡◌, ◌&&◌, ◌||◌, position, sym, ap, ◌∙◌}
+use Rattle.std.proofs.Common.{◌&&◌, ◌||◌, position, sym, ap, ◌∙◌}
 use Rattle.error_types.specs.Libraries.{is_place, is_type, is_type_named}
 use Rattle.error_types.proofs.numbers.is_counted.Goals as goal
 

@@ -1,4 +1,4 @@
-use Rattle.std.proofs.Common.{◌++◌, sym, ap, ◌∙◌}
+use Rattle.std.proofs.Common.{◌++◌, sym, ◌∙◌}
 use Rattle.package_index.proofs.Loops.{numbered-more}
 use Rattle.error_types.specs.Libraries.{types_in}
 use Rattle.error_types.proofs.numbers.types_by.Goals as goal

@@ -1,4 +1,4 @@
-use Rattle.std.proofs.Common.{◌≡◌, List, ℕ, Result, IfOk, sym, ap, ◌∙◌, subst}
+use Rattle.std.proofs.Common.{subst}
 use Rattle.error_types.specs.Course.{left}
 use Rattle.error_types.specs.Leaving.{Leads}
 use Rattle.std.proofs.lemmas.Result.{IfOk-weaker}

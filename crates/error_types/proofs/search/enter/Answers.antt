@@ -15,8 +15,7 @@ returns-in-Nowhere c =
 
 pub returns : goal.returns
 returns c =
-    let whole = ends-there c.args.libraries.now c.args.name.now c.args.course c.args.library c.requires.few c.requires.new c.requires.apart c.own_item-own.result c.own_item-own.ensures (ends c.own_item-own.result c.in_default.not-Nowhere) in
-    (
+    let whole = ends-there c.args.libraries.now c.args.name.now c.args.course c.args.library c.requires.few c.requires.new c.requires.apart c.own_item-own.result c.own_item-own.ensures (ends c.own_item-own.result c.in_default.not-Nowhere) in (
       ap (λ search. search.found) whole ∙ sym c.own_item-own.ensures,
-      ap (λ search. search.first) whole ∙ sym (c.note_some.ensures ∙ (λ i. nearer (c.first-first.ensures i) (c.unknown_in-unknown.ensures i)))
+      ap (λ search. search.first) whole ∙ sym (c.note_some.ensures ∙ (λ i. nearer (c.first-first.ensures i) (c.unknown_in-unknown.ensures i))),
     )

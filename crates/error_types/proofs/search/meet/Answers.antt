@@ -1,4 +1,4 @@
-use Rattle.std.proofs.Common.{◌≡◌, true, false, Some, is_some, ◌||◌, ◌∷◌, refl, sym, ap, ◌∙◌}
+use Rattle.std.proofs.Common.{◌≡◌, true, false, Some, is_some, ◌||◌, ◌∷◌, sym, ap, ◌∙◌}
 use Rattle.error_types.specs.Course.{is_vain, way_of}
 use Rattle.error_types.specs.Search.{is_number_in}
 use Rattle.error_types.proofs.SearchLaws.{came-back, passed-by}
@@ -10,7 +10,7 @@ returns-in-Some-true c =
     let is = c.in-Some-true.is ∙ ap Some c.in-Some-true.field-0-test in
     let new : is_number_in course.vain c.args.library ≡ false = sym c.mark.ensures.done ∙ ap is_vain is in
     let on : is_number_in (way_of (course.top ∷ course.below)) c.args.library ≡ true =
-        sym (ap (λ b. b || is_number_in (way_of (course.top ∷ course.below)) c.args.library) new) ∙ sym c.mark.ensures.entered ∙ ap is_some is in
+    sym (ap (λ b. b || is_number_in (way_of (course.top ∷ course.below)) c.args.library) new) ∙ sym c.mark.ensures.entered ∙ ap is_some is in
     let whole = came-back c.args.libraries.now c.args.name.now course c.args.library c.mark.ensures.few new on in
     (ap (λ search. search.found) whole, ap (λ search. search.first) whole ∙ sym c.first.ensures)
 

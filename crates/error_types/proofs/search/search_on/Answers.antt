@@ -10,12 +10,11 @@ pub loop-init : goal.loop-init
 loop-init c =
     let libraries = c.args.libraries.now in
     let name = c.args.name.now in
-    let first : c.note_some.new.first ≡ unknown_in libraries c.args.number = c.note_some.ensures ∙ (λ i. nearer (c.new-noted.ensures i) (c.unknown_in.ensures i)) in
-    (
+    let first : c.note_some.new.first ≡ unknown_in libraries c.args.number = c.note_some.ensures ∙ (λ i. nearer (c.new-noted.ensures i) (c.unknown_in.ensures i)) in (
       ap (left libraries name) c.in_ok-course.ensures
-      ∙ (λ i. left libraries name (record { top = record { library = c.args.number; rest = c.extended-rest.ensures i }; below = []; vain = []; first = first i }))
-      ∙ begins libraries name c.args.number c.requires,
-      refl
+          ∙ (λ i. left libraries name (record { top = record { library = c.args.number; rest = c.extended-rest.ensures i }; below = []; vain = []; first = first i }))
+          ∙ begins libraries name c.args.number c.requires,
+      refl,
     )
 
 pub returns-in-Ended-clause-first : goal.returns-in-Ended-clause-first

@@ -1,4 +1,4 @@
-use Rattle.std.proofs.Common.{◌≡◌, [], ◌++◌, option_to_list, sym, ap, ◌∙◌}
+use Rattle.std.proofs.Common.{[], ◌++◌, option_to_list, ap, ◌∙◌}
 use Rattle.std.proofs.lemmas.Result.{IfOk-weaker}
 use Rattle.aadl_syntax.specs.Order.{least}
 use Rattle.error_types.specs.Trip.{walk_left}
@@ -13,7 +13,7 @@ returns c =
     let needs = c.needs_of.ensures ∙ ap (of_item (needs_of c.args.through)) c.item-item.ensures in
     let first = c.products_of.ensures ∙ ap (λ item. least (of_item products_of item)) c.item-item.ensures in
     IfOk-weaker c.at.result _ _ (λ trip is.
-      ap (walk_left c.args.through table) is
-      ∙ (λ i. walk_left c.args.through table (record { top = record { item = c.args.id; rest = needs i }; below = []; followed = []; types = types i; first = first i }))
-      ∙ starts c.args.through table c.args.id)
-      c.at.ensures
+    ap (walk_left c.args.through table) is
+    ∙ (λ i. walk_left c.args.through table (record { top = record { item = c.args.id; rest = needs i }; below = []; followed = []; types = types i; first = first i }))
+    ∙ starts c.args.through table c.args.id)
+    c.at.ensures

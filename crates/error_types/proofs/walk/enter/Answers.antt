@@ -1,4 +1,4 @@
-use Rattle.std.proofs.Common.{◌≡◌, sym, ap, ◌∙◌}
+use Rattle.std.proofs.Common.{ap, ◌∙◌}
 use Rattle.aadl_syntax.specs.Order.{least}
 use Rattle.error_types.specs.Trip.{at_visit, walk_left}
 use Rattle.error_types.specs.Walk.{needs_of, of_item, products_of}
