@@ -1,10 +1,12 @@
 pub mod AlongLaws
 pub mod Ends
+pub mod Examples
 pub mod HierarchyLaws
 pub mod Keys
 pub mod MarkLaws
 pub mod Nearer
 pub mod Noting
+pub mod Sample
 pub mod SearchLaws
 pub mod TermLaws
 pub mod TripLaws

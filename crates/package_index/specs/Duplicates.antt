@@ -1,5 +1,5 @@
 -- Packages of one name, and classifiers of one name in a package.
-use Rattle.std.specs.Prelude.{◌≡◌, ◌⊎◌, Any, Bool, true, false, List, [], ◌∷◌, ◌++◌, flat_map, Contains, ⊤}
+use Rattle.std.specs.Prelude.{◌≡◌, ◌⊎◌, Any, Bool, true, List, [], ◌∷◌, ◌++◌, flat_map, Contains, ⊤}
 use Rattle.std.specs.List.{list_any}
 use Rattle.aadl_syntax.specs.declared.core_model.Decl.{Decl}
 use Rattle.aadl_syntax.specs.declared.core_model.PackageUnit.{PackageUnit}

@@ -125,3 +125,21 @@ after_in = refl
 
 nothing_reached : reached table all_points text (point_use (point_at 1 (codes "o" ∷ [])) false None) ≡ None
 nothing_reached = refl
+
+-- ---- a source
+
+-- a device whose one port goes out, with a set declared for it
+abbrev source : Decl
+source = device_of (codes "src") (feature_of (codes "o") Outward ∷ []) (clause_of (propagation_at 1 (codes "o" ∷ []) false true (codes "lost" ∷ codes "badvalue" ∷ []) ∷ []) [] [])
+
+abbrev source_points : List Point
+source_points = record { name = codes "o"; inward = Absent; outward = Declared (2 ∷ 3 ∷ []) } ∷ []
+
+-- the alias stands for its type
+points_of_source : points_of table (effective_of source) ≡ source_points
+unfolding searched follow type_named is_below_in
+points_of_source = refl
+
+no_faults_of_source : point_faults table (effective_of source) ≡ []
+unfolding searched follow type_named is_below_in
+no_faults_of_source = refl
