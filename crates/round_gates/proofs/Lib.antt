@@ -1,0 +1,3 @@
+pub mod Kept
+pub mod LastStage
+pub mod Rules

@@ -1,0 +1,4 @@
+pub mod Nodes
+pub mod Walks
+pub mod Stages
+pub mod Truths

@@ -1,0 +1,10 @@
+//! The static fault tree of a target whose facts may feed each other: each block of facts is unrolled into stages, each
+//! stage of a fact is a tree of nodes, and simplification leaves the gates that are needed.
+#![tactic(auto)]
+
+mod joining;
+mod laws;
+mod node;
+mod walking;
+
+pub use laws::last_stage;
