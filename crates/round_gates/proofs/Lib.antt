@@ -2,3 +2,4 @@ pub mod Kept
 pub mod LastStage
 pub mod Rules
 pub mod WalkTruth
+pub mod StageTruth
