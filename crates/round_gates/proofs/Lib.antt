@@ -3,3 +3,4 @@ pub mod LastStage
 pub mod Rules
 pub mod WalkTruth
 pub mod StageTruth
+pub mod Ordered

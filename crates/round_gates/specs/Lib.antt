@@ -2,3 +2,4 @@ pub mod Nodes
 pub mod Walks
 pub mod Stages
 pub mod Truths
+pub mod Lines
