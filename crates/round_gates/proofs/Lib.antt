@@ -4,3 +4,4 @@ pub mod Rules
 pub mod WalkTruth
 pub mod StageTruth
 pub mod Ordered
+pub mod Writing

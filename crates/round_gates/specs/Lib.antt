@@ -3,3 +3,4 @@ pub mod Walks
 pub mod Stages
 pub mod Truths
 pub mod Lines
+pub mod Unrolled

@@ -5,6 +5,7 @@
 mod joining;
 mod laws;
 mod node;
+mod unrolling;
 mod walking;
 
 pub use laws::last_stage;
