@@ -5,3 +5,4 @@ pub mod WalkTruth
 pub mod StageTruth
 pub mod Ordered
 pub mod Writing
+pub mod Steps
