@@ -6,3 +6,4 @@ pub mod StageTruth
 pub mod Ordered
 pub mod Writing
 pub mod Steps
+pub mod Gathering

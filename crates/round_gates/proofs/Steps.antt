@@ -166,6 +166,18 @@ module _ (system : System) (is_system : IsSystem system) (facts : List ℕ) (num
           by found fact true e = found fact e
           by found fact false e = known-more (length system.events) lines _ (node_in nodes fact) (is.known fact)
 
+  -- the same as the code has it
+  pub stage-next-of : (block : ℕ) → block < 4294967295 → (stage : ℕ) → stage < size_of numbers block → (nodes new : List Node) (lines after : List Line) (own : List ℕ) → own ≡ members_of numbers block facts
+      → AreUnrolled system numbers (stage_nodes system numbers (low_nodes system numbers block) block stage) nodes lines → length new ≡ length nodes
+      → ((fact : ℕ) → node_in new fact ≡ written (map (found_in system (node_in nodes) (stage + 1)) own) (node_in nodes) fact)
+      → after ≡ lines ++ flat_map (lines_in system (node_in nodes) (stage + 1)) own
+      → AreUnrolled system numbers (stage_nodes system numbers (low_nodes system numbers block) block (stage + 1)) new after
+  stage-next-of block small stage more nodes new lines after own same is long wrote made =
+      subst (λ (s : ℕ). AreUnrolled system numbers (stage_nodes system numbers (low_nodes system numbers block) block s) new after) (sym (add-one stage))
+      (stage-next block small stage more nodes new lines after is long
+        (λ fact. wrote fact ∙ ap (λ ms. written (map (found_in system (node_in nodes) (stage + 1)) ms) (node_in nodes) fact) same)
+        (made ∙ ap (λ ms. lines ++ flat_map (lines_in system (node_in nodes) (stage + 1)) ms) same))
+
   -- a fact of no lower block has no node yet
   low-none : (block fact : ℕ) → block ≤ number_of numbers fact → low_nodes system numbers block fact ≡ Never
   low-none zero fact h = low-zero system numbers fact
@@ -216,3 +228,15 @@ module _ (system : System) (is_system : IsSystem system) (facts : List ℕ) (num
         ordered = tt;
         known = λ fact. subst (IsKnown (length system.events) []) (sym (none fact)) tt;
       }
+
+  -- when all blocks are done
+  pub unrolling-of : (count : ℕ) → All (λ fact. number_of numbers fact < 4294967295 → number_of numbers fact < count) facts → (nodes : List Node) (lines : List Line) → AreUnrolled system numbers (low_nodes system numbers count) nodes lines → IsUnrolling system facts numbers nodes lines
+  unrolling-of count above nodes lines is =
+      record {
+        last = λ fact inside. is.nodes_are fact ∙ low-last fact count (below fact inside);
+        gates = is.gates;
+        ordered = is.ordered;
+        known = is.known;
+      } where
+        below : (fact : ℕ) → Contains facts fact → number_of numbers fact < count
+        below fact inside = subst (λ (n : ℕ). number_of numbers n < 4294967295 → number_of numbers n < count) inside.2 (above inside.0 fact inside.1) ((blocks.inside fact).0 inside)
