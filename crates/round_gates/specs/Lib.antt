@@ -4,3 +4,4 @@ pub mod Stages
 pub mod Truths
 pub mod Lines
 pub mod Unrolled
+pub mod Reached

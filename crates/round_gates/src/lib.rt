@@ -5,6 +5,7 @@
 mod joining;
 mod laws;
 mod node;
+mod reaching;
 mod unrolling;
 mod walking;
 

@@ -12,7 +12,7 @@ pub enum GateKind {
 }
 
 /// The name of a gate: a fact, a stage of it, and a place in its formula, counted in preorder from 0.
-#[derive(Clone, Copy, PartialEq, Eq, Hash)]
+#[derive(Clone, Copy, PartialEq, Eq, PartialOrd, Ord, Hash)]
 pub(crate) struct GateKey {
     pub fact: u32,
     pub stage: u32,
