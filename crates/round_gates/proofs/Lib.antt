@@ -7,3 +7,4 @@ pub mod Ordered
 pub mod Writing
 pub mod Steps
 pub mod Gathering
+pub mod Reaches

@@ -16,7 +16,7 @@ use Rattle.round_gates.specs.declared.node.Node.TheVariants.{Always, Never, Basi
 use Rattle.round_gates.specs.Nodes.{same_key, same_node, has_node, without, new_ones, each_once, gathered, all_of, any_of, always_in, varying, least_left, least_of}
 use Rattle.round_gates.specs.Truths.{GateSet, node_true, kind_true, join_true}
 
-key_exact : (a b : GateKey) → same_key a b ≡ true → a ≡ b
+pub key_exact : (a b : GateKey) → same_key a b ≡ true → a ≡ b
 key_exact a b e =
     let one = and_parts (a.fact == b.fact) _ e in
     let two = and_parts (a.stage == b.stage) _ one.1 in

@@ -1,5 +1,5 @@
 -- The gates that are reached from one of them, by their names.
-use Rattle.std.specs.Prelude.{ℕ, ◌+◌, ◌<◌, ◌≤◌, ◌≡◌, Bool, true, ◌||◌, List, [], ◌∷◌, length, Option, Some, None, if◌then◌else◌}
+use Rattle.std.specs.Prelude.{ℕ, ◌+◌, ◌<◌, ◌≤◌, ◌≡◌, Bool, true, false, ◌||◌, ◌&&◌, ◌==◌, List, [], ◌∷◌, length, Option, Some, None, if◌then◌else◌}
 use Rattle.std.specs.List.{list_any}
 use Rattle.round_gates.specs.declared.node.GateKey.{GateKey}
 use Rattle.round_gates.specs.declared.node.Line.{Line}
@@ -51,3 +51,19 @@ pub record AreReachedFrom (lines : List Line) (top : GateKey) (next : ℕ) (keys
 pub record AreReached (lines : List Line) (top : GateKey) (keys : List GateKey) : Type 0 where
   pub right : (key : GateKey) → has_key keys key ≡ true → IsReached lines top key
   pub all : (key : GateKey) → IsReached lines top key → has_key keys key ≡ true
+
+-- the gates that are inputs of a gate have places before it
+abbrev pub AreBehind : List Line → Type 0
+AreBehind lines =
+    (key other : GateKey) (place : ℕ) (line : Line) → place_from 0 lines key ≡ Some place → first_line lines key ≡ Some line → has_node line.inputs (Gate other) ≡ true
+    → (before : ℕ) × (place_from 0 lines other ≡ Some before) × (before < place)
+
+-- whether a place is the one that was found
+abbrev pub is_place : Option ℕ → ℕ → Bool
+is_place None place = false
+is_place (Some found) place = found == place
+
+-- the names with those that are inputs of a gate, where it is the first of its name and its name is among them
+abbrev pub IsVisited : Bool → Line → List GateKey → List GateKey → Type 0
+IsVisited first line old new =
+    (key : GateKey) → has_key new key ≡ has_key old key || ((first && has_key old line.key) && has_node line.inputs (Gate key))

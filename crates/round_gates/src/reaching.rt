@@ -1,12 +1,12 @@
 //! The gates that are reached from the last stage of a target, and no others.
 
-ghost use Rattle.std.specs.Prelude.{◌≡◌, ◌+◌, ◌<◌, ◌^◌, ◌||◌, ◌∷◌, [], IfOk, OnOk, length, true, option_copied, if◌then◌else◌};
+ghost use Rattle.std.specs.Prelude.{◌≡◌, ◌+◌, ◌<◌, ◌^◌, ◌||◌, ◌∷◌, [], IfOk, OnOk, length, true, option_copied};
 ghost use Rattle.std.specs.HashMap.{get};
 ghost use Rattle.round_gates.specs.declared.node.GateKey.{GateKey as Key};
 ghost use Rattle.round_gates.specs.contracts.node.GateKeyPartialEq.TheImpl.{eq-value as key_eq};
 ghost use Rattle.round_gates.specs.Nodes.{has_node, same_key};
 ghost use Rattle.round_gates.specs.Lines.{InOrder, has_line};
-ghost use Rattle.round_gates.specs.Reached.{AreReached, AreReachedFrom, first_some, has_key, place_from, place_if};
+ghost use Rattle.round_gates.specs.Reached.{AreBehind, AreReached, AreReachedFrom, IsVisited, first_some, is_place, has_key, place_from, place_if};
 
 use crate::node::{GateKey, Line, Node};
 use aadl_syntax::Mem;
@@ -60,4 +60,47 @@ fn add_input(keys: &mut IndexSet<GateKey>, input: Node) -> Mem<()>
         }
         _ => Ok(()),
     }
+}
+
+/// Whether a place is that of the first gate of a name.
+fn is_first(places: &HashMap<GateKey, u32>, key: GateKey, place: u32) -> bool
+    ensures { result ≡ is_place (get key_eq.it places.now key) place }
+{
+    match places.get(&key) {
+        Some(found) => *found == place,
+        None => false,
+    }
+}
+
+/// Adds the inputs of a gate if it is reached.
+fn visit(keys: &mut IndexSet<GateKey>, line: &Line, is_first: bool) -> Mem<()>
+    ensures { OnOk result (IsVisited is_first line.now keys.old.keys keys.new.keys) }
+{
+    if is_first && keys.contains(&line.key) {
+        add_inputs(keys, line.inputs.items())?;
+    }
+    Ok(())
+}
+
+/// The names of the gates that are reached from one, in a pass from the last gate to the first.
+pub(crate) fn reached(
+    alloc: Global,
+    lines: &[Line],
+    places: &HashMap<GateKey, u32>,
+    top: GateKey,
+) -> Mem<IndexSet<GateKey>>
+    requires few { length lines.now < 2 ^ 32 }
+    requires places { (key : Key) → get key_eq.it places.now key ≡ place_from 0 lines.now key }
+    requires behind { AreBehind lines.now }
+    ensures { IfOk result (λ keys. AreReached lines.now top keys.keys) }
+{
+    let mut keys = IndexSet::new(alloc);
+    keys.insert(top)?;
+    let count = lines.len();
+    for done in 0..count {
+        let place = count - 1 - done;
+        let line = &lines[place];
+        visit(&mut keys, line, is_first(places, line.key, place as u32))?;
+    }
+    Ok(keys)
 }
