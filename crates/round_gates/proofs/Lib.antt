@@ -8,3 +8,4 @@ pub mod Writing
 pub mod Steps
 pub mod Gathering
 pub mod Reaches
+pub mod Numbers

@@ -1,7 +1,10 @@
 -- Which gates are reached, found by one pass from the last gate to the first.
-use Rattle.std.proofs.Common.{ℕ, zero, suc, ◌+◌, ◌-◌, ◌≡◌, ◌<◌, ◌≤◌, ◌⊎◌, Bool, true, false, cond, ◌&&◌, ◌||◌, ◌==◌, List, [], ◌∷◌, ◌++◌, length, get_or, Option, Some, None, inl, inr, ⊎_elim, ap, ◌∙◌, sym, subst, refl, arith, add-one, append_assoc, length-append}
+use Rattle.std.proofs.Common.{ℕ, zero, suc, ◌+◌, ◌-◌, ◌≡◌, ◌<◌, ◌≤◌, ◌⊎◌, Bool, true, false, cond, ◌&&◌, ◌||◌, ◌==◌, List, [], ◌∷◌, ◌++◌, length, get_or, slice_get, Option, Some, None, inl, inr, ⊎_elim, ap, ◌∙◌, sym, subst, refl, arith, add-one, append_assoc, length-append}
 use Rattle.std.proofs.lemmas.Bool.{false≢true, eqb-true, eq-eqb, or_cases, and_parts, cases_order}
+use Rattle.std.proofs.lemmas.Option.{slice_get-get_or}
 use Rattle.std.specs.List.{AllByRecursion, list_any}
+use Rattle.std.specs.Option.{option_and_then}
+use Rattle.round_gates.specs.declared.node.GateKind.TheVariants.{Or}
 use Rattle.round_gates.specs.declared.node.GateKey.{GateKey}
 use Rattle.round_gates.specs.declared.node.Line.{Line}
 use Rattle.round_gates.specs.declared.node.Node.{Node}
@@ -172,3 +175,22 @@ module _ (lines : List Line) (top : GateKey) where
             all_three true true c e f g = g
             all_three true false c e f g = absurd (false≢true f)
             all_three false b c e f g = absurd (false≢true e)
+
+-- the gate at the place of a name is the first of that name
+pub line-at : (lines : List Line) (key : GateKey) (found : Option ℕ) → found ≡ place_from 0 lines key → option_and_then (slice_get lines) found ≡ first_line lines key
+line-at lines key None e = sym (no_line lines 0 (sym e))
+  where
+    no_line : (ls : List Line) (from : ℕ) → place_from from ls key ≡ None → first_line ls key ≡ None
+    no_line [] from h = refl
+    no_line (l ∷ ls) from h = by (is_named key l) h (no_line ls (from + 1))
+      where
+        by : (b : Bool) → cond b (Some from) (place_from (from + 1) ls key) ≡ None → (place_from (from + 1) ls key ≡ None → first_line ls key ≡ None) → cond b (Some l) (first_line ls key) ≡ None
+        by true h rest = cc
+        by false h rest = rest h
+line-at lines key (Some place) e =
+    let s = stands lines key 0 place (sym e) in
+    let same : place ≡ s.index = omega (arith, s.place_is) in
+    ap (slice_get lines) same ∙ slice_get-get_or lines s.index nothing s.inside ∙ sym (s.line_is nothing)
+  where
+    nothing : Line
+    nothing = record { key = key; kind = Or; inputs = [] }

@@ -5,3 +5,4 @@ pub mod Truths
 pub mod Lines
 pub mod Unrolled
 pub mod Reached
+pub mod Trees

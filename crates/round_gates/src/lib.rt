@@ -2,10 +2,12 @@
 //! stage of a fact is a tree of nodes, and simplification leaves the gates that are needed.
 #![tactic(auto)]
 
+mod building;
 mod joining;
 mod laws;
 mod node;
 mod reaching;
+mod tree;
 mod unrolling;
 mod walking;
 
