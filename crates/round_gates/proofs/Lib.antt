@@ -9,3 +9,5 @@ pub mod Steps
 pub mod Gathering
 pub mod Reaches
 pub mod Numbers
+pub mod Names
+pub mod TreeLaws

@@ -2,6 +2,8 @@
 
 ghost use Rattle.std.specs.Prelude.{◌≡◌, ◌+◌, ◌<◌, ◌^◌, ◌||◌, ◌∷◌, [], IfOk, OnOk, length, true, option_copied};
 ghost use Rattle.std.specs.HashMap.{get};
+ghost use Rattle.std.specs.List.{IsDistinct};
+ghost use Rattle.round_gates.specs.Trees.{NamesRise};
 ghost use Rattle.round_gates.specs.declared.node.GateKey.{GateKey as Key};
 ghost use Rattle.round_gates.specs.contracts.node.GateKeyPartialEq.TheImpl.{eq-value as key_eq};
 ghost use Rattle.round_gates.specs.Nodes.{has_node, same_key};
@@ -102,5 +104,24 @@ pub(crate) fn reached(
         let line = &lines[place];
         visit(&mut keys, line, is_first(places, line.key, place as u32))?;
     }
+    Ok(keys)
+}
+
+/// The names of the gates that are reached from one, by fact, stage and place.
+pub(crate) fn reached_in_order(
+    alloc: Global,
+    lines: &[Line],
+    places: &HashMap<GateKey, u32>,
+    top: GateKey,
+) -> Mem<IndexSet<GateKey>>
+    requires few { length lines.now < 2 ^ 32 }
+    requires places { (key : Key) → get key_eq.it places.now key ≡ place_from 0 lines.now key }
+    requires behind { AreBehind lines.now }
+    ensures reached { IfOk result (λ keys. AreReached lines.now top keys.keys) }
+    ensures distinct { IfOk result (λ keys. IsDistinct same_key keys.keys) }
+    ensures rise { IfOk result (λ keys. NamesRise keys.keys) }
+{
+    let mut keys = reached(alloc, lines, places, top)?;
+    keys.sort()?;
     Ok(keys)
 }
