@@ -22,7 +22,7 @@ use Rattle.round_gates.specs.Nodes.{same_key, same_node, has_node}
 use Rattle.round_gates.specs.Lines.{is_named, has_line, IsInput, InOrder}
 use Rattle.round_gates.specs.Reached.{has_key, place_from, first_line, HasInputs, IsReached, AreReached}
 use Rattle.round_gates.specs.Stages.{IsAmong, IsGateOf}
-use Rattle.round_gates.specs.Trees.{NamesRise, key_of, key_in, node_of, line_of, is_gate, has_gate, HasInputGates, LeadsTo, IsGateTree, place_of, input_for, gate_with, gate_for, tree_of}
+use Rattle.round_gates.specs.Trees.{NamesRise, key_of, key_in, node_of, line_of, is_gate, has_gate, events_in, HasInputGates, LeadsTo, IsGateTree, place_of, input_for, gate_with, gate_for, tree_of}
 use Rattle.round_gates.proofs.Names.{place-in, place-at, has-at}
 use Rattle.round_gates.proofs.Ordered.{key_same}
 use Rattle.round_gates.proofs.Reaches.{stands, found-place, line-place, behind-of}
@@ -212,3 +212,91 @@ module _ (events : ℕ) (lines : List Line) (top : GateKey) (keys : List GateKey
       name line nodes.Never first input is has inside = absurd (false≢true is)
       name line (nodes.Basic k) first input is has inside = absurd (false≢true is)
       name line (nodes.Gate next) first input is has inside = (line, next, first, input, sym (eqb-true _ _ is), has-inputs (key_at n) next line has first input, inside)
+
+  -- the place of a gate among all gates: those of its inputs are lower
+  abbrev rank : ℕ → ℕ
+  rank n = unwrap_or (place_from 0 lines (key_at n)) 0
+
+  pub rank-falls : (n m : ℕ) (gate : Gate) → slice_get gates n ≡ Some gate → has_gate gate.inputs m ≡ true → rank m < rank n
+  rank-falls n m gate at input =
+      let r = input-name n m gate at input in
+      let p = found-place lines (key_at n) 0 r.0 r.2 in
+      let b = behind-of events lines ordered (key_at n) r.1 p.0 r.0 p.1 r.2 r.3 in
+      let name : key_at m ≡ r.1 = ap key_at r.4 ∙ (place-in keys r.1 no_key r.5).1 in
+      let rank_n : rank n ≡ p.0 = ap (λ found. unwrap_or found 0) p.1 in
+      let rank_m : rank m ≡ b.0 = ap (λ (k : GateKey). unwrap_or (place_from 0 lines k) 0) name ∙ ap (λ found. unwrap_or found 0) b.1 in
+      omega (arith, b.2)
+
+  not-back : (n m : ℕ) (gate : Gate) → slice_get gates n ≡ Some gate → has_gate gate.inputs m ≡ true → LeadsTo gates m n → ⊥
+  not-back n m gate at input leads =
+      let less = rank-falls n m gate at input in
+      let low : rank n ≤ rank m = leb-true _ _ (leads (λ k. nat_le (rank k) (rank m))
+        (λ k j g in_set at_k in_k. let h : rank k ≤ rank m = leb-true _ _ in_set in let f = rank-falls k j g at_k in_k in le-leb _ _ (omega arith))
+        (le-leb _ _ (omega arith))) in
+      omega arith
+
+  gate-of-node : (ns : List Node) (next : GateKey) → has_node ns (nodes.Gate next) ≡ true → has_gate (map (input_for keys) ns) (place_of keys next) ≡ true
+  gate-of-node [] next e = absurd (false≢true e)
+  gate-of-node (n ∷ ns) next e = by (same_node (nodes.Gate next) n) refl e (gate-of-node ns next)
+    where
+      here : (b c : Bool) → b ≡ true → b || c ≡ true
+      here true c e = refl
+      here false c e = absurd (false≢true e)
+
+      there : (b c : Bool) → c ≡ true → b || c ≡ true
+      there true c e = refl
+      there false c e = e
+
+      by : (b : Bool) → same_node (nodes.Gate next) n ≡ b → b || has_node ns (nodes.Gate next) ≡ true → (has_node ns (nodes.Gate next) ≡ true → has_gate (map (input_for keys) ns) (place_of keys next) ≡ true)
+          → is_gate (place_of keys next) (input_for keys n) || has_gate (map (input_for keys) ns) (place_of keys next) ≡ true
+      by true is found rest =
+          here _ _ (ap (λ (node : Node). is_gate (place_of keys next) (input_for keys node)) (sym (node_exact (nodes.Gate next) n is)) ∙ eq-eqb (place_of keys next) (place_of keys next) refl)
+      by false is found rest = there (is_gate (place_of keys next) (input_for keys n)) _ (rest found)
+
+  top-has : has_key keys top ≡ true
+  top-has = is.all top (λ set closed h. h)
+
+  all-reached : (n : ℕ) → n < length keys → LeadsTo gates (place_of keys top) n
+  all-reached n inside set closed at_top =
+      let r = is.right (key_at n) (has-at keys n no_key inside) reach step (and_from _ _ top-has at_top) in
+      ap set (sym (place-at keys distinct n no_key inside)) ∙ (and_parts (has_key keys (key_at n)) _ r).1
+    where
+      reach : GateKey → Bool
+      reach key = has_key keys key && set (place_of keys key)
+
+      step : HasInputs lines reach
+      step key next line in_reach first input =
+          let parts = and_parts (has_key keys key) (set (place_of keys key)) in_reach in
+          let p = place-in keys key no_key parts.0 in
+          let gate : slice_get gates (place_of keys key) ≡ Some (gate_with keys key (Some line)) =
+          gate_at (place_of keys key) p.0 ∙ ap (λ (k : GateKey). Some (gate_for lines keys k)) p.1 ∙ ap (λ found. Some (gate_with keys key found)) first in
+          and_from _ _ (has-inputs key next line parts.0 first input)
+          (closed (place_of keys key) (place_of keys next) (gate_with keys key (Some line)) parts.1 gate (gate-of-node line.inputs next input))
+
+  module _ (system : System) (numbers : BlockNumbers) (are : AllByRecursion (IsGateOf system numbers) lines) (many : events ≡ length system.events) where
+    pub gate-is : (n : ℕ) (gate : Gate) → slice_get gates n ≡ Some gate → IsGateOf system numbers (line_of gates gate)
+    gate-is n gate at =
+        let found = record_at n gate at in
+        let own = line-at-position n found.0 in
+        let back : line_of gates gate ≡ own.0 = ap (line_of gates) found.1 ∙ line-back (key_at n) own.0 (has-at keys n no_key found.0) own.1 in
+        subst (IsGateOf system numbers) (sym back) (among-all (IsGateOf system numbers) lines own.0 are (first-among lines (key_at n) own.0 own.1).0)
+
+    -- the tree of these gates is that of the top
+    pub gate-tree : NamesRise keys → IsGateTree system numbers top (tree_of events lines keys top)
+    gate-tree rise =
+        let p = place-in keys top no_key top-has in
+        let long : length gates ≡ length keys = length-map keys (gate_for lines keys) in
+        record {
+          top_in = omega (arith, p.0);
+          top_is = key-in (place_of keys top) ∙ p.1;
+          gates_are = gate-is;
+          inputs_in = λ n m gate at input.
+              let r = input-name n m gate at input in
+              let q = place-in keys r.1 no_key r.5 in
+              let same : m ≡ place_of keys r.1 = r.4 in
+              omega (arith, q.0);
+          rise = subst NamesRise (sym (keys-of keys)) rise;
+          reached = λ n inside. all-reached n (omega arith);
+          acyclic = not-back;
+          events = ap (λ (k : ℕ). events_in k gates) many;
+        }
