@@ -6,3 +6,4 @@ pub mod Lines
 pub mod Unrolled
 pub mod Reached
 pub mod Trees
+pub mod Staged

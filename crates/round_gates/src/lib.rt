@@ -5,6 +5,7 @@
 mod building;
 mod joining;
 mod laws;
+mod limits;
 mod node;
 mod reaching;
 mod tree;
