@@ -11,3 +11,4 @@ pub mod Reaches
 pub mod Numbers
 pub mod Names
 pub mod TreeLaws
+pub mod Growing

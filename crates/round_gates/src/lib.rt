@@ -3,11 +3,13 @@
 #![tactic(auto)]
 
 mod building;
+mod constants;
 mod joining;
 mod laws;
 mod limits;
 mod node;
 mod reaching;
+mod staging;
 mod tree;
 mod unrolling;
 mod walking;

@@ -1,6 +1,6 @@
 //! How many places all stages of a slice have.
 
-ghost use Rattle.std.specs.Prelude.{◌≡◌, ◌+◌, ◌<◌, ◌≤◌, ◌↔◌, MatchOption, IsTrue, map};
+ghost use Rattle.std.specs.Prelude.{◌≡◌, ◌+◌, ◌*◌, ◌<◌, ◌≤◌, ◌↔◌, All, MatchOption, IsTrue, map};
 ghost use Rattle.dependency_blocks.specs.Blocks.{number_of, size_of};
 ghost use Rattle.round_gates.specs.Walks.{places, total};
 ghost use Rattle.round_gates.specs.Staged.{stage_places, all_places, most_places};
@@ -46,4 +46,54 @@ fn take_all_places(parts: &[Formula], left: u64) -> Option<u64>
         rest = take_places(part, rest)?;
     }
     Some(rest)
+}
+
+/// How many facts are in the block of a fact.
+pub(crate) fn block_size(blocks: &Blocks, fact: u32) -> u32
+    requires { number_of blocks.now fact < 4294967295 }
+    ensures { result ≡ size_of blocks.now (number_of blocks.now fact) }
+{
+    match blocks.block_of(fact) {
+        Some(block) => blocks.size(block).unwrap_or(0),
+        None => 0,
+    }
+}
+
+/// What is left of a number after the places of all stages of a fact are taken; none where they are more.
+fn take_stages(system: &FaultSystem, blocks: &Blocks, fact: u32, left: u64) -> Option<u64>
+    requires few { left ≤ most_places }
+    requires inside { number_of blocks.now fact < 4294967295 }
+    ensures { MatchOption result (left < stage_places system.now blocks.now fact)
+        (λ rest. rest + stage_places system.now blocks.now fact ≡ left) }
+{
+    let size = block_size(blocks, fact);
+    match system.fact(fact) {
+        Some(info) if size > 0 => take_times(&info.formula, size, left),
+        _ => Some(left),
+    }
+}
+
+/// What is left of a number after the places of a formula are taken so many times; none where they are more.
+fn take_times(formula: &Formula, times: u32, left: u64) -> Option<u64>
+    requires few { left ≤ most_places }
+    requires some { 0 < times }
+    ensures { MatchOption result (left < times * places formula.now) (λ rest. rest + times * places formula.now ≡ left) }
+{
+    let rest = take_places(formula, left)?;
+    left.checked_sub(u64::from(times) * (left - rest))
+}
+
+/// Whether all stages of some facts have at most 8,000,000 places together.
+pub(crate) fn are_few(system: &FaultSystem, blocks: &Blocks, facts: &[u32]) -> bool
+    requires { All (λ fact. number_of blocks.now fact < 4294967295) facts.now }
+    ensures { IsTrue result ↔ (all_places system.now blocks.now facts.now ≤ most_places) }
+{
+    let mut left = MOST_PLACES;
+    for fact in facts {
+        match take_stages(system, blocks, *fact, left) {
+            Some(rest) => left = rest,
+            None => return false,
+        }
+    }
+    true
 }

@@ -25,7 +25,7 @@ struct FoundParts {
 }
 
 /// The node at a number.
-fn node_in(nodes: &[Node], fact: u32) -> Node
+pub(crate) fn node_in(nodes: &[Node], fact: u32) -> Node
     ensures { result ≡ node_in nodes.now fact }
 {
     match nodes.get(fact as usize) {
