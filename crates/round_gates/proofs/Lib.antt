@@ -12,3 +12,4 @@ pub mod Numbers
 pub mod Names
 pub mod TreeLaws
 pub mod Growing
+pub mod Wholes

@@ -15,3 +15,6 @@ mod unrolling;
 mod walking;
 
 pub use laws::last_stage;
+pub use node::GateKind;
+pub use staging::staged;
+pub use tree::{Gate, GateAnswer, Input, Tree};
