@@ -1,10 +1,10 @@
 -- The facts of blocks, gathered in one pass.
-use Rattle.std.proofs.Common.{ℕ, zero, suc, ◌+◌, ◌≡◌, ◌<◌, ◌≤◌, ◌⊎◌, List, [], ◌∷◌, ◌++◌, length, map, filter, take, drop, replicate, Option, Some, None, IfSome, MatchOption, get_or, slice_index_or, ⊎_elim, ap, ◌∙◌, sym, subst, refl, arith, append-nil}
+use Rattle.std.proofs.Common.{ℕ, zero, suc, ◌+◌, ◌≡◌, ◌<◌, List, [], ◌∷◌, ◌++◌, length, filter, take, Option, Some, None, IfSome, MatchOption, get_or, ⊎_elim, ap, ◌∙◌, sym, subst, refl, arith}
 use Rattle.std.proofs.lemmas.Bool.{cases_order}
 use Rattle.std.proofs.lemmas.List.{take_more}
 use Rattle.std.proofs.lemmas.List.Elements.{filter-append}
 use Rattle.std.proofs.Math.Seq.{take-append_seam}
-use Rattle.dependency_blocks.specs.Blocks.{BlockNumbers, number_of}
+use Rattle.dependency_blocks.specs.Blocks.{BlockNumbers}
 use Rattle.round_gates.specs.Stages.{in_block}
 use Rattle.round_gates.specs.Unrolled.{members_of}
 

@@ -1,13 +1,12 @@
 -- A target that holds under no event always holds, and one that does not hold under all events never does.
-use Rattle.std.proofs.Common.{ℕ, zero, suc, ◌≡◌, ◌<◌, ◌≤◌, ◌⊎◌, Bool, true, false, List, [], ◌∷◌, length, replicate, get_or, ⊎_elim, ap, ◌∙◌, sym, subst, refl, arith}
+use Rattle.std.proofs.Common.{ℕ, zero, suc, ◌≡◌, ◌<◌, ◌≤◌, Bool, true, false, List, [], ◌∷◌, length, replicate, ⊎_elim, ap, ◌∙◌, sym, refl, arith}
 use Rattle.std.proofs.lemmas.Bool.{false≢true, cases_order}
 use Rattle.std.proofs.lemmas.List.{get_or-replicate, length-replicate}
 use Rattle.fault_system.specs.Truth.{NumberSet, Has, member}
-use Rattle.fault_system.specs.Systems.{System, Holds, holds_of}
+use Rattle.fault_system.specs.Systems.{System, holds_of}
 use Rattle.fault_system.specs.CutSets.{makes_hold}
 use Rattle.fault_system.proofs.Marks.{Below-member}
 use Rattle.fault_system.proofs.HoldsLaws.{applied-grows, holds_of-closed, holds_of-exact}
-use Rattle.fault_system.proofs.TruthLaws.{same_answer}
 use Rattle.round_gates.specs.Staged.{IsConstant, IsVarying}
 
 -- what holds under some events holds under more

@@ -1,7 +1,6 @@
 -- Nodes kept once, one after another.
 use Rattle.std.proofs.Common.{ℕ, suc, ◌+◌, ◌≡◌, ◌<◌, Bool, true, false, cond, not, List, [], ◌∷◌, ◌++◌, length, get_or, drop, append-nil, Result, Ok, Err, OnOk, refl, sym, ap, ◌∙◌, append_assoc, add-one, drop-cons}
 use Rattle.std.specs.List.{list_any}
-use Rattle.round_gates.specs.declared.node.GateKey.{GateKey}
 use Rattle.round_gates.specs.declared.node.Node.{Node}
 use Rattle.round_gates.specs.declared.node.Node.TheVariants.{Always, Never, Basic, Gate}
 use Rattle.round_gates.specs.contracts.node.NodePartialEq.TheImpl.{eq-value as node_eq}

@@ -1,5 +1,5 @@
 -- Names of gates in order, and their positions.
-use Rattle.std.proofs.Common.{ℕ, zero, suc, ◌+◌, ◌≡◌, ◌<◌, ◌≤◌, ◌⊎◌, Bool, true, false, cond, not, ◌||◌, nat_lt, List, [], ◌∷◌, length, get_or, Option, Some, None, unwrap_or, position, ⊎_elim, ap, ◌∙◌, sym, subst, refl, arith, rules, tests}
+use Rattle.std.proofs.Common.{ℕ, zero, suc, ◌+◌, ◌≡◌, ◌<◌, Bool, true, false, cond, not, ◌||◌, nat_lt, List, [], ◌∷◌, length, get_or, Some, None, unwrap_or, ⊎_elim, ap, ◌∙◌, sym, subst, refl, arith, rules, tests}
 use Rattle.std.proofs.lemmas.Bool.{false≢true, cases_order}
 use Rattle.std.proofs.lemmas.Cmp.{nat_cmp_total, on_total, then_total}
 use Rattle.std.proofs.lemmas.List.Folds.{list_any_at}
@@ -85,9 +85,9 @@ pub place-at : (keys : List GateKey) → IsDistinct same_key keys → (n : ℕ) 
 place-at keys distinct n d fits =
     let r = place-in keys (get_or keys n d) d (has-at keys n d fits) in
     ⊎_elim (λ e. e) (λ apart. ⊎_elim
-        (λ less. absurd (false≢true (sym (distinct-at same_key keys distinct _ n d less fits) ∙ ap (λ (k : GateKey). same_key k (get_or keys n d)) r.1 ∙ key_same (get_or keys n d))))
-        (λ more. absurd (false≢true (sym (distinct-at same_key keys distinct n _ d more r.0) ∙ ap (same_key (get_or keys n d)) r.1 ∙ key_same (get_or keys n d))))
-        apart)
+    (λ less. absurd (false≢true (sym (distinct-at same_key keys distinct _ n d less fits) ∙ ap (λ (k : GateKey). same_key k (get_or keys n d)) r.1 ∙ key_same (get_or keys n d))))
+    (λ more. absurd (false≢true (sym (distinct-at same_key keys distinct n _ d more r.0) ∙ ap (same_key (get_or keys n d)) r.1 ∙ key_same (get_or keys n d))))
+    apart)
     (cases_order (place_of keys (get_or keys n d)) n)
 
 pub cmp-is : (a b : GateKey) → cmp-value.it a b ≡ key_cmp a b

@@ -1,7 +1,7 @@
 -- The gates of a walk stand in order, each behind those that it names.
-use Rattle.std.proofs.Common.{ℕ, ◌+◌, ◌-◌, ◌≡◌, ◌<◌, Bool, true, false, cond, not, ◌&&◌, ◌||◌, ◌==◌, nat_lt, List, [], ◌∷◌, ◌++◌, map, length, ap, ◌∙◌, sym, subst, refl, append_assoc, append-nil, arith}
+use Rattle.std.proofs.Common.{ℕ, ◌+◌, ◌-◌, ◌≡◌, Bool, true, false, cond, not, ◌&&◌, ◌||◌, ◌==◌, nat_lt, List, [], ◌∷◌, ◌++◌, map, length, sym, subst, refl, append_assoc, append-nil}
 use Rattle.std.proofs.lemmas.Bool.{false≢true, ltb-true, eq-eqb, and_parts}
-use Rattle.std.specs.List.{list_all, list_any, AllByRecursion}
+use Rattle.std.specs.List.{list_all, AllByRecursion}
 use Rattle.fault_system.specs.Truth.{in_range, in_range_step}
 use Rattle.fault_system.specs.declared.formula.Formula.{Formula, map-Formula, roll-Formula, fold-roll-Formula, ind-Formula}
 use Rattle.fault_system.specs.declared.formula.Formula.TheOpen.{Formula-F, True, Event, Fact, And, Or, AtLeast}
@@ -16,7 +16,7 @@ use Rattle.round_gates.specs.declared.node.Node.TheVariants.{Always, Never, Basi
 use Rattle.round_gates.specs.declared.node.Part.{Part}
 use Rattle.round_gates.specs.declared.node.Stage.{Stage}
 use Rattle.round_gates.specs.Nodes.{same_key, same_node, has_node, without, new_ones, each_once, gathered, all_of, any_of, always_in, varying, least_left, least_of}
-use Rattle.round_gates.specs.Walks.{Walked, Parts, key_at, parts_of, nodes_of, varying_parts, node_at, line_at, with_seen, input_of, repeat_of, wrapped, repeats, counted_lines, walk, walk_step}
+use Rattle.round_gates.specs.Walks.{Walked, Parts, key_at, parts_of, nodes_of, varying_parts, node_at, line_at, with_seen, repeat_of, wrapped, repeats, counted_lines, walk, walk_step}
 use Rattle.round_gates.specs.Lines.{is_named, has_line, IsKnown, IsInput, InOrder}
 
 pub or_left : (b c : Bool) → b ≡ true → b || c ≡ true
@@ -192,10 +192,11 @@ module _ (events : ℕ) where
 
     wrapped-inputs : (before : List Line) (seen : List Node) (parts : List Part) → AllByRecursion (λ part. IsInput events before part.node) parts → AllByRecursion (IsInput events (before ++ repeats stage seen parts)) (wrapped stage seen parts)
     wrapped-inputs before seen [] h = tt
-    wrapped-inputs before seen (part ∷ parts) h =
-        (first (has_node seen part.node),
-          subst (λ (lines : List Line). AllByRecursion (IsInput events lines) (wrapped stage (with_seen seen part.node) parts)) (append_assoc before (repeat_of stage seen part) _)
-          (wrapped-inputs (before ++ repeat_of stage seen part) (with_seen seen part.node) parts (input-parts-more before (repeat_of stage seen part) parts h.1)))
+    wrapped-inputs before seen (part ∷ parts) h = (
+      first (has_node seen part.node),
+      subst (λ (lines : List Line). AllByRecursion (IsInput events lines) (wrapped stage (with_seen seen part.node) parts)) (append_assoc before (repeat_of stage seen part) _)
+          (wrapped-inputs (before ++ repeat_of stage seen part) (with_seen seen part.node) parts (input-parts-more before (repeat_of stage seen part) parts h.1)),
+    )
       where
         first : (b : Bool) → IsInput events (before ++ (cond b (record { key = key_at stage part.place; kind = kinds.Or; inputs = part.node ∷ [] } ∷ []) [] ++ repeats stage (with_seen seen part.node) parts)) (cond b (Gate (key_at stage part.place)) part.node)
         first true = has_back before _ (key_at stage part.place) (or_left _ _ (key_same (key_at stage part.place)))
@@ -256,10 +257,13 @@ module _ (events : ℕ) where
           let next = (walk stage look p.0 start).next in
           let one = p.1 both.0 before looks start in
           let rest = parts-ordered ps both.1 (before ++ first) (λ n. known-more before first (look n) (looks n)) next in
-          let same : (before ++ first) ++ (all_parts ps next).lines ≡ before ++ (first ++ (all_parts ps next).lines) = append_assoc before first (all_parts ps next).lines in
-          (order-append before first _ one.0 rest.0,
-            (subst (λ (lines : List Line). IsKnown events lines (walk stage look p.0 start).node) same (known-more (before ++ first) (all_parts ps next).lines (walk stage look p.0 start).node one.1),
-              subst (λ (lines : List Line). AllByRecursion (IsKnown events lines) (nodes_of (all_parts ps next).parts)) same rest.1))
+          let same : (before ++ first) ++ (all_parts ps next).lines ≡ before ++ (first ++ (all_parts ps next).lines) = append_assoc before first (all_parts ps next).lines in (
+            order-append before first _ one.0 rest.0,
+            (
+              subst (λ (lines : List Line). IsKnown events lines (walk stage look p.0 start).node) same (known-more (before ++ first) (all_parts ps next).lines (walk stage look p.0 start).node one.1),
+              subst (λ (lines : List Line). AllByRecursion (IsKnown events lines) (nodes_of (all_parts ps next).parts)) same rest.1,
+            ),
+          )
 
       abbrev Layer : Formula-F Formula → Type 0
       Layer x = OrderedFrom (walk_step stage look (map-Formula Formula (ℕ → Walked) (walk stage look) x)) (in_range_step facts events (map-Formula Formula Bool (in_range facts events) x))

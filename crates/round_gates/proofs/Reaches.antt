@@ -1,18 +1,17 @@
 -- Which gates are reached, found by one pass from the last gate to the first.
-use Rattle.std.proofs.Common.{ℕ, zero, suc, ◌+◌, ◌-◌, ◌≡◌, ◌<◌, ◌≤◌, ◌⊎◌, Bool, true, false, cond, ◌&&◌, ◌||◌, ◌==◌, List, [], ◌∷◌, ◌++◌, length, get_or, slice_get, Option, Some, None, inl, inr, ⊎_elim, ap, ◌∙◌, sym, subst, refl, arith, add-one, append_assoc, length-append}
+use Rattle.std.proofs.Common.{ℕ, suc, ◌+◌, ◌≡◌, ◌<◌, ◌≤◌, ◌⊎◌, Bool, true, false, cond, ◌&&◌, ◌||◌, List, [], ◌∷◌, ◌++◌, length, get_or, slice_get, Option, Some, None, ⊎_elim, ap, ◌∙◌, sym, subst, refl, arith, append_assoc, length-append}
 use Rattle.std.proofs.lemmas.Bool.{false≢true, eqb-true, eq-eqb, or_cases, and_parts, cases_order}
 use Rattle.std.proofs.lemmas.Option.{slice_get-get_or}
-use Rattle.std.specs.List.{AllByRecursion, list_any}
+use Rattle.std.specs.List.{AllByRecursion}
 use Rattle.std.specs.Option.{option_and_then}
 use Rattle.round_gates.specs.declared.node.GateKind.TheVariants.{Or}
 use Rattle.round_gates.specs.declared.node.GateKey.{GateKey}
 use Rattle.round_gates.specs.declared.node.Line.{Line}
 use Rattle.round_gates.specs.declared.node.Node.{Node}
-use Rattle.round_gates.specs.declared.node.Node.TheVariants.{Always, Never, Basic, Gate}
+use Rattle.round_gates.specs.declared.node.Node.TheVariants.{Gate}
 use Rattle.round_gates.specs.Nodes.{same_key, same_node, has_node}
 use Rattle.round_gates.specs.Lines.{is_named, has_line, IsInput, InOrder}
-use Rattle.round_gates.specs.Truths.{GateSet}
-use Rattle.round_gates.specs.Reached.{has_key, place_from, first_line, HasInputs, IsReached, AreReachedFrom, AreReached, AreBehind, is_place, IsVisited}
+use Rattle.round_gates.specs.Reached.{has_key, place_from, first_line, IsReached, AreReachedFrom, AreReached, AreBehind, is_place, IsVisited}
 use Rattle.round_gates.proofs.Ordered.{or_left, or_right, key_same}
 use Rattle.round_gates.proofs.Rules.{key_exact, node_exact}
 
@@ -161,13 +160,13 @@ module _ (lines : List Line) (top : GateKey) where
         later key other place l was at first input cases past =
             ⊎_elim
             (λ here.
-                let s = stands lines key 0 place at in
-                let same : s.index ≡ i = omega (arith, s.place_is) in
-                let line_same : get_or lines s.index line ≡ line = ap (λ (n : ℕ). get_or lines n line) same ∙ sym line_is in
-                let key_is : line.key ≡ key = ap (λ (x : Line). x.key) (sym line_same) ∙ key_exact _ key (s.named line) in
-                let l_is : l ≡ line = some_inner l line (sym first ∙ s.line_is line ∙ ap Some line_same) in
-                let is_first_one : is_first ≡ true = first_is ∙ ap (λ (k : GateKey). is_place (place_from 0 lines k) i) key_is ∙ ap (λ found. is_place found i) at ∙ eq-eqb place i (sym here) in
-                visited other ∙ or_right _ _ (all_three is_first (has_key old line.key) _ is_first_one (ap (has_key old) key_is ∙ was) (ap (λ (x : Line). has_node x.inputs (Gate other)) (sym l_is) ∙ input)))
+            let s = stands lines key 0 place at in
+            let same : s.index ≡ i = omega (arith, s.place_is) in
+            let line_same : get_or lines s.index line ≡ line = ap (λ (n : ℕ). get_or lines n line) same ∙ sym line_is in
+            let key_is : line.key ≡ key = ap (λ (x : Line). x.key) (sym line_same) ∙ key_exact _ key (s.named line) in
+            let l_is : l ≡ line = some_inner l line (sym first ∙ s.line_is line ∙ ap Some line_same) in
+            let is_first_one : is_first ≡ true = first_is ∙ ap (λ (k : GateKey). is_place (place_from 0 lines k) i) key_is ∙ ap (λ found. is_place found i) at ∙ eq-eqb place i (sym here) in
+            visited other ∙ or_right _ _ (all_three is_first (has_key old line.key) _ is_first_one (ap (has_key old) key_is ∙ was) (ap (λ (x : Line). has_node x.inputs (Gate other)) (sym l_is) ∙ input)))
             (λ apart. ⊎_elim (λ less. kept other (is.done key other place l was at (omega arith) first input)) (λ more. absurd (omega arith)) apart)
             cases
           where

@@ -1,20 +1,17 @@
 -- The rules keep the truth.
-use Rattle.std.proofs.Common.{ℕ, zero, suc, ◌+◌, ◌-◌, ◌≡◌, ◌<◌, ◌≤◌, Bool, true, false, cond, not, ◌&&◌, ◌||◌, ◌==◌, nat_le, nat_lt, leb, le-leb, leb-true, List, [], ◌∷◌, ◌++◌, map, length, ap, ◌∙◌, sym, subst, refl, arith, rules, tests}
+use Rattle.std.proofs.Common.{ℕ, ◌+◌, ◌-◌, ◌≡◌, ◌<◌, ◌≤◌, Bool, true, false, cond, ◌&&◌, ◌||◌, ◌==◌, nat_le, nat_lt, le-leb, leb-true, List, [], ◌∷◌, ◌++◌, map, length, ap, ◌∙◌, sym, refl, arith, rules, tests}
 use Rattle.std.proofs.lemmas.Bool.{false≢true, ltb-true, eqb-true, and_parts}
-use Rattle.std.proofs.lemmas.List.{map-append}
 use Rattle.std.specs.List.{list_all, list_any}
 use lib.ListN.{length-map}
 use Rattle.fault_system.specs.Truth.{NumberSet, count_true}
 use Rattle.fault_system.proofs.TruthLaws.{same_answer, count_true-le, nat_le-all, nat_le-any}
 use Rattle.round_gates.specs.declared.node.GateKey.{GateKey}
-use Rattle.round_gates.specs.declared.node.GateKind.{GateKind}
 use Rattle.round_gates.specs.declared.node.GateKind.TheVariants.{And, Or, AtLeast}
-use Rattle.round_gates.specs.declared.node.Join.{Join}
 use Rattle.round_gates.specs.declared.node.Join.TheVariants.{Plain, Made}
 use Rattle.round_gates.specs.declared.node.Node.{Node}
 use Rattle.round_gates.specs.declared.node.Node.TheVariants.{Always, Never, Basic, Gate}
 use Rattle.round_gates.specs.Nodes.{same_key, same_node, has_node, without, new_ones, each_once, gathered, all_of, any_of, always_in, varying, least_left, least_of}
-use Rattle.round_gates.specs.Truths.{GateSet, node_true, kind_true, join_true}
+use Rattle.round_gates.specs.Truths.{GateSet, node_true, join_true}
 
 pub key_exact : (a b : GateKey) → same_key a b ≡ true → a ≡ b
 key_exact a b e =

@@ -1,23 +1,22 @@
 -- The gates of all stages are met together: there is a truth of gates under which each gate of a stage is met and the last
 -- node of a fact is true exactly where the fact holds.
-use Rattle.std.proofs.Common.{ℕ, zero, suc, ◌+◌, ◌-◌, ◌≡◌, ◌<◌, ◌≤◌, ◌⊎◌, Bool, true, false, cond, ◌&&◌, ◌==◌, List, [], ◌∷◌, map, length, slice_get, Option, Some, None, Contains, ⊎_elim, ap, ◌∙◌, sym, subst, refl, arith}
+use Rattle.std.proofs.Common.{ℕ, zero, suc, ◌+◌, ◌-◌, ◌≡◌, ◌<◌, ◌≤◌, ◌⊎◌, Bool, true, false, cond, ◌&&◌, List, [], ◌∷◌, map, slice_get, Option, Some, None, Contains, ⊎_elim, ap, ◌∙◌, sym, subst, refl, arith}
 use Rattle.std.proofs.lemmas.Bool.{false≢true, eqb-true, eq-eqb, ne_eqb, cases_order}
 use Rattle.std.specs.List.{AllByRecursion}
-use Rattle.fault_system.specs.Truth.{NumberSet, Has, member, truth, occurs}
+use Rattle.fault_system.specs.Truth.{NumberSet, member, truth, occurs}
 use Rattle.fault_system.specs.Systems.{System, applied, holds_of}
 use Rattle.fault_system.specs.declared.formula.FactInfo.{FactInfo}
 use Rattle.backward_slice.specs.Slices.{IsFact}
 use Rattle.dependency_blocks.specs.Blocks.{BlockNumbers, IsBlocks, number_of, size_of}
-use Rattle.round_gates.specs.declared.node.GateKey.{GateKey}
 use Rattle.round_gates.specs.declared.node.Line.{Line}
 use Rattle.round_gates.specs.declared.node.Node.{Node}
-use Rattle.round_gates.specs.declared.node.Node.TheVariants.{Always, Never, Basic, Gate}
+use Rattle.round_gates.specs.declared.node.Node.TheVariants.{Never}
 use Rattle.round_gates.specs.declared.node.Stage.{Stage}
-use Rattle.round_gates.specs.Walks.{Walked, key_at, walk}
-use Rattle.round_gates.specs.Stages.{in_block, kept_marks, joined_marks, stage_truth, formula_walk, fact_walk, stage_nodes, low_nodes, last_node, looks_of, IsStage, gates_of, IsAmong, IsGateOf}
+use Rattle.round_gates.specs.Walks.{walk}
+use Rattle.round_gates.specs.Stages.{in_block, joined_marks, stage_truth, formula_walk, fact_walk, stage_nodes, low_nodes, last_node, looks_of, IsAmong, IsGateOf}
 use Rattle.round_gates.specs.Truths.{GateSet, node_true, IsMet}
 use Rattle.round_gates.proofs.LastStage.{member-kept, last-stage}
-use Rattle.round_gates.proofs.WalkTruth.{LooksRight, Kept, walk-kept}
+use Rattle.round_gates.proofs.WalkTruth.{LooksRight, walk-kept}
 
 pub member-map : {X : Type 0} (f : X → Bool) (xs : List X) (n : ℕ) (x : X) → slice_get xs n ≡ Some x → member (map f xs) n ≡ f x
 member-map f [] n x e = cc
@@ -165,8 +164,8 @@ module _ (system : System) (facts : List ℕ) (numbers : BlockNumbers) (blocks :
           ∙ given.0
           ∙ ap (λ (facts : NumberSet). truth events facts info.formula) (true_in-is here block stage e before)
           ∙ sym (member-kept (in_block numbers block) _ fact
-            ∙ ap (λ b. b && member (applied system events (joined_marks (in_block numbers block) (stage_truth system events (in_block numbers block) stage) holds)) fact) (eq-eqb _ _ e)
-            ∙ member-map (λ other. truth events (joined_marks (in_block numbers block) (stage_truth system events (in_block numbers block) stage) holds) other.formula) system.facts fact info at)
+          ∙ ap (λ b. b && member (applied system events (joined_marks (in_block numbers block) (stage_truth system events (in_block numbers block) stage) holds)) fact) (eq-eqb _ _ e)
+          ∙ member-map (λ other. truth events (joined_marks (in_block numbers block) (stage_truth system events (in_block numbers block) stage) holds) other.formula) system.facts fact info at)
 
   -- the last nodes of the facts in blocks below a number are right
   low-right : (bound : ℕ) → bound ≤ 4294967295 → LowRight bound
@@ -176,14 +175,14 @@ module _ (system : System) (facts : List ℕ) (numbers : BlockNumbers) (blocks :
       by : (number_of numbers fact ≡ block) ⊎ ((number_of numbers fact < block) ⊎ (block < number_of numbers fact)) → LowRight block → val (low_nodes system numbers (suc block) fact) ≡ member holds fact
       by cases low = ⊎_elim
           (λ here.
-              ap val (low-suc system numbers block fact)
-              ∙ stage-right block (omega arith) low (size_of numbers block) fact here
-              ∙ last-stage system numbers events block fact (omega arith) here)
+          ap val (low-suc system numbers block fact)
+          ∙ stage-right block (omega arith) low (size_of numbers block) fact here
+          ∙ last-stage system numbers events block fact (omega arith) here)
           (λ other. ⊎_elim
-              (λ lower.
-                  ap val (low-suc system numbers block fact ∙ stage-out system numbers (low_nodes system numbers block) block (size_of numbers block) fact (ne_eqb _ _ (λ e. omega arith)))
-                  ∙ low fact lower)
-              (λ higher. absurd (omega arith)) other)
+          (λ lower.
+          ap val (low-suc system numbers block fact ∙ stage-out system numbers (low_nodes system numbers block) block (size_of numbers block) fact (ne_eqb _ _ (λ e. omega arith)))
+          ∙ low fact lower)
+          (λ higher. absurd (omega arith)) other)
           cases
 
   -- the node of the last stage of a fact is true exactly where the fact holds

@@ -1,22 +1,21 @@
 -- From one stage of a block to the next, and from one block to the next.
-use Rattle.std.proofs.Common.{ℕ, zero, suc, ◌+◌, ◌-◌, ◌≡◌, ◌<◌, ◌≤◌, ◌⊎◌, Bool, true, false, cond, ◌&&◌, ◌||◌, ◌==◌, List, [], ◌∷◌, ◌++◌, length, map, filter, All, Contains, Option, Some, None, slice_get, flat_map, inl, inr, ⊎_elim, ap, ◌∙◌, sym, subst, refl, arith, add-one, append_assoc, append-nil}
-use Rattle.std.proofs.lemmas.Bool.{false≢true, eqb-true, eq-eqb, ne_eqb, cases_order, and_parts}
+use Rattle.std.proofs.Common.{ℕ, zero, suc, ◌+◌, ◌-◌, ◌≡◌, ◌<◌, ◌≤◌, ◌⊎◌, Bool, true, false, cond, ◌&&◌, ◌||◌, ◌==◌, List, [], ◌∷◌, ◌++◌, length, map, All, Contains, Option, Some, None, slice_get, flat_map, inl, inr, ap, ◌∙◌, sym, subst, refl, arith, add-one, append_assoc}
+use Rattle.std.proofs.lemmas.Bool.{false≢true, eqb-true, eq-eqb, ne_eqb}
 use Rattle.std.proofs.lemmas.List.Concat.{flat_map-cons}
 use Rattle.std.proofs.lemmas.List.Folds.{list_any_at}
 use Rattle.std.specs.List.{AllByRecursion}
-use Rattle.fault_system.specs.Truth.{set_of, in_range}
+use Rattle.fault_system.specs.Truth.{set_of}
 use Rattle.fault_system.specs.Systems.{System, IsSystem}
 use Rattle.fault_system.specs.declared.formula.FactInfo.{FactInfo}
-use Rattle.backward_slice.specs.Slices.{IsFact}
 use Rattle.backward_slice.proofs.Reached.{fact-in_range}
 use Rattle.dependency_blocks.specs.Blocks.{BlockNumbers, IsBlocks, number_of, size_of}
 use Rattle.round_gates.specs.declared.node.Line.{Line}
 use Rattle.round_gates.specs.declared.node.Node.{Node}
-use Rattle.round_gates.specs.declared.node.Node.TheVariants.{Always, Never, Basic, Gate}
+use Rattle.round_gates.specs.declared.node.Node.TheVariants.{Never}
 use Rattle.round_gates.specs.declared.node.Stage.{Stage}
-use Rattle.round_gates.specs.Walks.{Walked, walk, node_in}
+use Rattle.round_gates.specs.Walks.{node_in}
 use Rattle.round_gates.specs.Lines.{IsKnown, InOrder}
-use Rattle.round_gates.specs.Stages.{in_block, formula_walk, fact_walk, stage_nodes, low_nodes, last_node, looks_of, IsStage, gates_of, IsAmong, IsGateOf}
+use Rattle.round_gates.specs.Stages.{in_block, formula_walk, fact_walk, stage_nodes, low_nodes, last_node, looks_of, IsAmong, IsGateOf}
 use Rattle.round_gates.specs.Unrolled.{members_of, stage_at, found_in, lines_in, written, AreUnrolled, IsUnrolling}
 use Rattle.round_gates.proofs.Ordered.{known-more, order-append, walk-ordered}
 use Rattle.round_gates.proofs.StageTruth.{stage-out, stage-first, stage-in, low-zero, low-suc}
@@ -64,9 +63,10 @@ module _ (system : System) (is_system : IsSystem system) where
     facts-ordered [] before looks = (tt, λ fact e. absurd (false≢true e))
     facts-ordered (m ∷ members) before looks =
         let one = fact-ordered look (stage_at stage m) before looks in
-        let rest = facts-ordered members (before ++ own m) (λ n. known-more events before (own m) (look n) (looks n)) in
-        (subst (λ (lines : List Line). InOrder events before lines) (sym (flat_map-cons own m members)) (order-append events before (own m) (flat_map own members) one.0 rest.0),
-          λ fact e. subst (λ (lines : List Line). IsKnown events (before ++ lines) (found_in system look stage fact).node) (sym (flat_map-cons own m members)) (by one.1 rest.1 fact e (m == fact) refl))
+        let rest = facts-ordered members (before ++ own m) (λ n. known-more events before (own m) (look n) (looks n)) in (
+          subst (λ (lines : List Line). InOrder events before lines) (sym (flat_map-cons own m members)) (order-append events before (own m) (flat_map own members) one.0 rest.0),
+          λ fact e. subst (λ (lines : List Line). IsKnown events (before ++ lines) (found_in system look stage fact).node) (sym (flat_map-cons own m members)) (by one.1 rest.1 fact e (m == fact) refl),
+        )
       where
         by : IsKnown events (before ++ own m) (found_in system look stage m).node
             → ((fact : ℕ) → set_of members fact ≡ true → IsKnown events ((before ++ own m) ++ flat_map own members) (found_in system look stage fact).node)
@@ -74,7 +74,7 @@ module _ (system : System) (is_system : IsSystem system) where
         by one rest fact e true is =
             subst (λ (lines : List Line). IsKnown events lines (found_in system look stage fact).node) (append_assoc before (own m) (flat_map own members))
             (known-more events (before ++ own m) (flat_map own members) (found_in system look stage fact).node
-              (subst (λ (n : ℕ). IsKnown events (before ++ own m) (found_in system look stage n).node) (eqb-true _ _ is) one))
+            (subst (λ (n : ℕ). IsKnown events (before ++ own m) (found_in system look stage n).node) (eqb-true _ _ is) one))
         by one rest fact e false is =
             subst (λ (lines : List Line). IsKnown events lines (found_in system look stage fact).node) (append_assoc before (own m) (flat_map own members))
             (rest fact (not_here (m == fact) (set_of members fact) is e))
@@ -108,10 +108,11 @@ module _ (system : System) (is_system : IsSystem system) (facts : List ℕ) (num
           let before : stage + 1 - 1 ≡ stage = omega arith in
           let looks : looks_of system numbers here ≡ node_in nodes = looks_same same before in
           all-map (λ line. IsAmong line (lines_in system (node_in nodes) (stage + 1) fact)) (IsGateOf system numbers)
-          (λ line among.
-              (here,
-                record { inside = omega arith; from_one = omega arith; to_last = subst (λ (b : ℕ). stage + 1 ≤ size_of numbers b) (sym same) (omega arith) },
-                subst (λ (look : ℕ → Node). IsAmong line (fact_walk system look here).lines) (sym looks) among))
+          (λ line among. (
+            here,
+            record { inside = omega arith; from_one = omega arith; to_last = subst (λ (b : ℕ). stage + 1 ≤ size_of numbers b) (sym same) (omega arith) },
+            subst (λ (look : ℕ → Node). IsAmong line (fact_walk system look here).lines) (sym looks) among,
+          ))
           (lines_in system (node_in nodes) (stage + 1) fact) (all-among (lines_in system (node_in nodes) (stage + 1) fact))
         where
           looks_same : number_of numbers fact ≡ block → stage + 1 - 1 ≡ stage → looks_of system numbers (stage_at (stage + 1) fact) ≡ node_in nodes
@@ -122,7 +123,7 @@ module _ (system : System) (is_system : IsSystem system) (facts : List ℕ) (num
       all-gates (m ∷ ms) inside =
           subst (AllByRecursion (IsGateOf system numbers)) (sym (flat_map-cons (lines_in system (node_in nodes) (stage + 1)) m ms))
           (all-append (IsGateOf system numbers) (lines_in system (node_in nodes) (stage + 1) m) _ (member-gates m (inside m (here (m == m) (set_of ms m) (eq-eqb m m refl))))
-            (all-gates ms (λ fact e. inside fact (there (m == fact) (set_of ms fact) e))))
+          (all-gates ms (λ fact e. inside fact (there (m == fact) (set_of ms fact) e))))
         where
           here : (b c : Bool) → b ≡ true → b || c ≡ true
           here true c e = refl
@@ -175,8 +176,8 @@ module _ (system : System) (is_system : IsSystem system) (facts : List ℕ) (num
   stage-next-of block small stage more nodes new lines after own same is long wrote made =
       subst (λ (s : ℕ). AreUnrolled system numbers (stage_nodes system numbers (low_nodes system numbers block) block s) new after) (sym (add-one stage))
       (stage-next block small stage more nodes new lines after is long
-        (λ fact. wrote fact ∙ ap (λ ms. written (map (found_in system (node_in nodes) (stage + 1)) ms) (node_in nodes) fact) same)
-        (made ∙ ap (λ ms. lines ++ flat_map (lines_in system (node_in nodes) (stage + 1)) ms) same))
+      (λ fact. wrote fact ∙ ap (λ ms. written (map (found_in system (node_in nodes) (stage + 1)) ms) (node_in nodes) fact) same)
+      (made ∙ ap (λ ms. lines ++ flat_map (lines_in system (node_in nodes) (stage + 1)) ms) same))
 
   -- a fact of no lower block has no node yet
   low-none : (block fact : ℕ) → block ≤ number_of numbers fact → low_nodes system numbers block fact ≡ Never

@@ -1,11 +1,11 @@
 -- The gates that are reached, in order, are a tree of their top.
 use Rattle.std.proofs.Common.{ℕ, zero, suc, ◌+◌, ◌≡◌, ◌<◌, ◌≤◌, ◌⊎◌, ◌↔◌, Bool, true, false, cond, ◌||◌, ◌&&◌, ◌==◌, nat_le, List, [], ◌∷◌, ◌++◌, length, map, get_or, slice_get, Option, Some, None, unwrap_or, inl, inr, ⊎_elim, ap, ◌∙◌, sym, subst, refl, arith, le-leb, leb-true}
-use Rattle.std.proofs.lemmas.Bool.{false≢true, eqb-true, eq-eqb, and_parts, and_from, or_cases}
+use Rattle.std.proofs.lemmas.Bool.{false≢true, eqb-true, eq-eqb, and_parts, and_from}
 use Rattle.std.proofs.lemmas.List.{get_or-map}
 use Rattle.std.proofs.lemmas.Option.{slice_get-get_or, slice_get_within, get_or_from_slice_get}
-use Rattle.std.specs.List.{list_any, IsDistinct, AllByRecursion}
+use Rattle.std.specs.List.{IsDistinct, AllByRecursion}
 use lib.ListN.{length-map}
-use Rattle.fault_system.specs.Truth.{NumberSet, Has, member}
+use Rattle.fault_system.specs.Truth.{NumberSet, member}
 use Rattle.fault_system.specs.Systems.{System, Holds, holds_of}
 use Rattle.fault_system.proofs.HoldsLaws.{holds_of-exact}
 use Rattle.fault_system.proofs.Marks.{Below, Below-all, Below-any, Below-at_least}
@@ -20,16 +20,15 @@ use Rattle.round_gates.specs.declared.node.Node.TheVariants as nodes
 use Rattle.round_gates.specs.declared.tree.Gate.{Gate}
 use Rattle.round_gates.specs.declared.tree.Input.{Input}
 use Rattle.round_gates.specs.declared.tree.Input.TheVariants as inputs
-use Rattle.round_gates.specs.declared.tree.Tree.{Tree}
 use Rattle.round_gates.specs.Nodes.{same_key, same_node, has_node}
 use Rattle.round_gates.specs.Lines.{is_named, has_line, IsInput, InOrder}
-use Rattle.round_gates.specs.Reached.{has_key, place_from, first_line, HasInputs, IsReached, AreReached}
+use Rattle.round_gates.specs.Reached.{has_key, place_from, first_line, HasInputs, AreReached}
 use Rattle.round_gates.specs.Stages.{IsAmong, IsGateOf, last_node}
 use Rattle.round_gates.specs.Truths.{GateSet, node_true, kind_true}
-use Rattle.round_gates.specs.Trees.{NamesRise, key_of, key_in, node_of, line_of, is_gate, has_gate, events_in, HasInputGates, LeadsTo, IsGateTree, TreeHolds, IsClosedTree, gate_true, input_true, place_of, input_for, gate_with, gate_for, tree_of}
+use Rattle.round_gates.specs.Trees.{NamesRise, key_of, key_in, node_of, line_of, is_gate, has_gate, events_in, LeadsTo, IsGateTree, TreeHolds, IsClosedTree, gate_true, input_true, place_of, input_for, gate_with, gate_for, tree_of}
 use Rattle.round_gates.proofs.Names.{place-in, place-at, has-at}
 use Rattle.round_gates.proofs.Ordered.{key_same}
-use Rattle.round_gates.proofs.Reaches.{stands, found-place, line-place, behind-of}
+use Rattle.round_gates.proofs.Reaches.{found-place, behind-of}
 use Rattle.round_gates.proofs.Rules.{key_exact, node_exact}
 use Rattle.round_gates.proofs.StageTruth.{among-all, gate_values, gate-met, last-right}
 
@@ -147,9 +146,9 @@ module _ (events : ℕ) (lines : List Line) (top : GateKey) (keys : List GateKey
   line-back key line has first =
       ap (λ found. line_of gates (gate_with keys key found)) first
       ∙ whole key line.kind (map (node_of gates) (map (input_for keys) line.inputs)) line.key line.inputs (sym among.1)
-        (nodes-back line.inputs (λ node e.
-          let proper = order-inputs events [] lines ordered line among.0 node e in
-          node-back node proper.0 proper.1 (λ next same. has-inputs key next line has first (ap (has_node line.inputs) (sym same) ∙ e))))
+      (nodes-back line.inputs (λ node e.
+      let proper = order-inputs events [] lines ordered line among.0 node e in
+      node-back node proper.0 proper.1 (λ next same. has-inputs key next line has first (ap (has_node line.inputs) (sym same) ∙ e))))
     where
       among : IsAmong line lines × (line.key ≡ key)
       among = first-among lines key line first
@@ -235,8 +234,8 @@ module _ (events : ℕ) (lines : List Line) (top : GateKey) (keys : List GateKey
   not-back n m gate at input leads =
       let less = rank-falls n m gate at input in
       let low : rank n ≤ rank m = leb-true _ _ (leads (λ k. nat_le (rank k) (rank m))
-        (λ k j g in_set at_k in_k. let h : rank k ≤ rank m = leb-true _ _ in_set in let f = rank-falls k j g at_k in_k in le-leb _ _ (omega arith))
-        (le-leb _ _ (omega arith))) in
+      (λ k j g in_set at_k in_k. let h : rank k ≤ rank m = leb-true _ _ in_set in let f = rank-falls k j g at_k in_k in le-leb _ _ (omega arith))
+      (le-leb _ _ (omega arith))) in
       omega arith
 
   gate-of-node : (ns : List Node) (next : GateKey) → has_node ns (nodes.Gate next) ≡ true → has_gate (map (input_for keys) ns) (place_of keys next) ≡ true
@@ -370,13 +369,15 @@ module _ (events : ℕ) (lines : List Line) (top : GateKey) (keys : List GateKey
       -- the tree is true exactly where its top is
       tree-value : TreeHolds (tree_of events lines keys top) es ↔ (values top ≡ true)
       tree-value =
-          let p = place-in keys top no_key top-has in
-          ((λ holds. ap values (sym p.1) ∙ holds true_at (λ n gate at e. gate-value n gate at ∙ e)),
-            (λ e set closed. in-closed set closed (rank (place_of keys top) + 1) (place_of keys top) (omega arith) p.0 (ap values p.1 ∙ e)))
+          let p = place-in keys top no_key top-has in (
+            (λ holds. ap values (sym p.1) ∙ holds true_at (λ n gate at e. gate-value n gate at ∙ e)),
+            (λ e set closed. in-closed set closed (rank (place_of keys top) + 1) (place_of keys top) (omega arith) p.0 (ap values p.1 ∙ e)),
+          )
 
       -- the tree is true exactly where the target holds
       pub tree-holds : (target : ℕ) → number_of numbers target < 4294967295 → last_node system numbers target ≡ nodes.Gate top → TreeHolds (tree_of events lines keys top) es ↔ Holds system es target
       tree-holds target inside last =
-          let value : values top ≡ member (holds_of system es) target = ap (node_true es values) (sym last) ∙ last-right system facts numbers blocks es target inside in
-          ((λ holds. (holds_of-exact system es target).0 (sym value ∙ tree-value.0 holds)),
-            (λ holds. tree-value.1 (value ∙ (holds_of-exact system es target).1 holds)))
+          let value : values top ≡ member (holds_of system es) target = ap (node_true es values) (sym last) ∙ last-right system facts numbers blocks es target inside in (
+            (λ holds. (holds_of-exact system es target).0 (sym value ∙ tree-value.0 holds)),
+            (λ holds. tree-value.1 (value ∙ (holds_of-exact system es target).1 holds)),
+          )

@@ -1,12 +1,11 @@
 -- The walk of a formula keeps its truth: there is a truth of the gates of its places under which each gate is met and its
 -- node is true exactly where the formula is.
-use Rattle.std.proofs.Common.{ℕ, zero, suc, ◌+◌, ◌-◌, ◌≡◌, ◌<◌, ◌≤◌, ◌⊎◌, Bool, true, false, cond, not, ◌&&◌, ◌||◌, ◌==◌, nat_le, nat_lt, List, [], ◌∷◌, ◌++◌, map, length, inl, inr, ap, ◌∙◌, sym, subst, refl, arith, rules, tests}
-use Rattle.std.proofs.lemmas.Bool.{false≢true, ltb-true, eqb-true, ne_eqb, eq-eqb, or_cases}
+use Rattle.std.proofs.Common.{ℕ, ◌+◌, ◌-◌, ◌≡◌, ◌<◌, ◌≤◌, Bool, true, false, cond, not, ◌||◌, ◌==◌, nat_le, nat_lt, List, [], ◌∷◌, ◌++◌, map, length, ap, ◌∙◌, sym, subst, refl, arith, rules, tests}
+use Rattle.std.proofs.lemmas.Bool.{false≢true, ne_eqb, eq-eqb}
 use Rattle.std.specs.List.{list_all, list_any, AllByRecursion}
-use Rattle.fault_system.specs.Truth.{NumberSet, Has, count_true, truth, truth_step, occurs, occurs_step}
+use Rattle.fault_system.specs.Truth.{NumberSet, count_true, truth, truth_step, occurs, occurs_step}
 use Rattle.fault_system.specs.declared.formula.Formula.{Formula, map-Formula, roll-Formula, fold-roll-Formula, ind-Formula}
 use Rattle.fault_system.specs.declared.formula.Formula.TheOpen.{Formula-F, True, Event, Fact, And, Or, AtLeast}
-use Rattle.round_gates.specs.declared.node.GateKey.{GateKey}
 use Rattle.round_gates.specs.declared.node.GateKind.{GateKind}
 use Rattle.round_gates.specs.declared.node.GateKind.TheVariants as kinds
 use Rattle.round_gates.specs.declared.node.Join.{Join}
@@ -17,8 +16,8 @@ use Rattle.round_gates.specs.declared.node.Node.TheVariants.{Always, Never, Basi
 use Rattle.round_gates.specs.declared.node.Part.{Part}
 use Rattle.round_gates.specs.declared.node.Stage.{Stage}
 use Rattle.round_gates.specs.Nodes.{same_node, has_node, without, gathered, each_once, varying, all_of, any_of, least_left, least_of, always_in}
-use Rattle.round_gates.specs.Walks.{Walked, Parts, key_at, parts_of, nodes_of, varying_parts, node_at, line_at, with_seen, input_of, repeat_of, wrapped, repeats, counted_lines, walk, walk_step}
-use Rattle.round_gates.specs.Truths.{GateSet, node_true, kind_true, join_true, IsMet}
+use Rattle.round_gates.specs.Walks.{Walked, Parts, key_at, parts_of, nodes_of, varying_parts, node_at, line_at, with_seen, wrapped, repeats, counted_lines, walk, walk_step}
+use Rattle.round_gates.specs.Truths.{GateSet, node_true, join_true, IsMet}
 use Rattle.round_gates.proofs.Rules.{all_of-keeps, any_of-keeps, least_of-keeps}
 
 pub all-append : {X : Type 0} (P : X → Type 0) (xs ys : List X) → AllByRecursion P xs → AllByRecursion P ys → AllByRecursion P (xs ++ ys)
@@ -169,9 +168,11 @@ module _ (events : NumberSet) (stage : Stage) where
     counted-met k place parts (Made kinds.And inputs) t here is right e = (here ∙ sym is, tt)
     counted-met k place parts (Made kinds.Or inputs) t here is right e = (here ∙ sym is, tt)
     counted-met k place parts (Made (kinds.AtLeast j) inputs) t here is right e =
-        all-append (IsMet events gates) (repeats stage [] (varying_parts parts)) _ (repeats-met [] (varying_parts parts) (varying-right parts right))
-        (here ∙ sym is ∙ ap (λ ns. nat_le j (count_true (map val ns))) (counted-inputs (k - always_in (nodes_of parts)) (varying (nodes_of parts)) inputs j e ∙ sym (nodes-varying parts))
-          ∙ ap (λ bs. nat_le j (count_true bs)) (sym (wrapped-right [] (varying_parts parts) (varying-right parts right))), tt)
+        all-append (IsMet events gates) (repeats stage [] (varying_parts parts)) _ (repeats-met [] (varying_parts parts) (varying-right parts right)) (
+          here ∙ sym is ∙ ap (λ ns. nat_le j (count_true (map val ns))) (counted-inputs (k - always_in (nodes_of parts)) (varying (nodes_of parts)) inputs j e ∙ sym (nodes-varying parts))
+              ∙ ap (λ bs. nat_le j (count_true bs)) (sym (wrapped-right [] (varying_parts parts) (varying-right parts right))),
+          tt,
+        )
 
   module _ (look : ℕ → Node) (facts : NumberSet) where
     -- a gate or a node at a place, behind its parts
@@ -254,7 +255,7 @@ module _ (events : NumberSet) (stage : Stage) where
     rolled x kept =
         subst (λ (walked : ℕ → Walked). KeptFrom walked (truth events facts (roll-Formula x)) (λ n. occurs n (roll-Formula x))) (sym (fold-roll-Formula (ℕ → Walked) (walk_step stage look) x))
         (subst (λ (is : Bool). KeptFrom (walk_step stage look (map-Formula Formula (ℕ → Walked) (walk stage look) x)) is (λ n. occurs n (roll-Formula x))) (sym (fold-roll-Formula Bool (truth_step events facts) x))
-          (subst (λ (occur : NumberSet). KeptFrom (walk_step stage look (map-Formula Formula (ℕ → Walked) (walk stage look) x)) (truth_step events facts (map-Formula Formula Bool (truth events facts) x)) occur) (λ i n. sym (fold-roll-Formula Bool (occurs_step n) x) i) kept))
+        (subst (λ (occur : NumberSet). KeptFrom (walk_step stage look (map-Formula Formula (ℕ → Walked) (walk stage look) x)) (truth_step events facts (map-Formula Formula Bool (truth events facts) x)) occur) (λ i n. sym (fold-roll-Formula Bool (occurs_step n) x) i) kept))
 
     -- the walk of a formula keeps its truth
     pub walk-kept : (f : Formula) (start : ℕ) → Kept events stage look facts (walk stage look f start) start (truth events facts f) (λ n. occurs n f)

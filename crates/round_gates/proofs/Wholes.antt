@@ -1,5 +1,5 @@
 -- What the tree of a target takes from its slice, its blocks and its places.
-use Rattle.std.proofs.Common.{ℕ, zero, suc, ◌+◌, ◌*◌, ◌≡◌, ◌<◌, ◌≤◌, ◌⊎◌, ◌↔◌, Bool, true, false, cond, ◌||◌, ◌==◌, List, [], ◌∷◌, length, map, get_or, slice_get, All, Contains, Result, Ok, Err, IfOk, Option, Some, None, ap, ◌∙◌, sym, subst, refl, arith}
+use Rattle.std.proofs.Common.{ℕ, zero, suc, ◌+◌, ◌*◌, ◌≡◌, ◌<◌, ◌≤◌, ◌↔◌, Bool, true, false, cond, ◌||◌, ◌==◌, List, [], ◌∷◌, length, map, get_or, All, Contains, Result, Ok, Err, IfOk, Some, ap, ◌∙◌, sym, subst, refl, arith}
 use Rattle.std.proofs.lemmas.Bool.{false≢true, eq-eqb}
 use Rattle.std.proofs.lemmas.List.{get_or_default}
 use Rattle.std.proofs.lemmas.List.Sums.{sum_by-cons}
@@ -12,7 +12,6 @@ use Rattle.backward_slice.specs.declared.parts.Slice.{Slice}
 use Rattle.dependency_blocks.specs.Blocks.{BlockNumbers, IsBlocks, number_of, size_of}
 use Rattle.round_gates.specs.declared.node.Node.TheVariants as nodes
 use Rattle.round_gates.specs.declared.tree.Gate.{Gate}
-use Rattle.round_gates.specs.declared.tree.Tree.{Tree}
 use Rattle.round_gates.specs.Stages.{last_node}
 use Rattle.round_gates.specs.Staged.{fact_places, stage_places, all_places, most_places}
 use Rattle.round_gates.specs.Trees.{TreeHolds, IsClosedTree, gate_true, event_tree}

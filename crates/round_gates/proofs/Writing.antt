@@ -1,8 +1,6 @@
 -- Nodes by number, as they are written.
-use Rattle.std.proofs.Common.{ℕ, zero, suc, ◌+◌, ◌≡◌, ◌<◌, Bool, true, false, cond, ◌&&◌, ◌||◌, ◌==◌, List, [], ◌∷◌, length, map, filter, take, drop, All, get_or, set, ap, ◌∙◌, sym, subst, refl, arith, get_or-set_same, get_or-set_other}
+use Rattle.std.proofs.Common.{ℕ, zero, suc, ◌+◌, ◌≡◌, ◌<◌, Bool, true, false, cond, ◌&&◌, ◌||◌, ◌==◌, List, [], ◌∷◌, length, map, filter, drop, All, get_or, set, ap, ◌∙◌, sym, subst, refl, arith, get_or-set_same, get_or-set_other}
 use Rattle.std.proofs.lemmas.Bool.{false≢true, eqb-true, eq-eqb}
-use Rattle.std.proofs.lemmas.List.{get_or-map}
-use Rattle.std.specs.List.{list_any}
 use Rattle.fault_system.specs.Truth.{set_of}
 use Rattle.fault_system.specs.Systems.{System}
 use Rattle.round_gates.specs.declared.node.Node.{Node}

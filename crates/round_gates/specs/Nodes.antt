@@ -1,5 +1,5 @@
 -- Nodes, and the rules by which the nodes of parts become a node or a gate.
-use Rattle.std.specs.Prelude.{ℕ, zero, suc, ◌+◌, ◌-◌, ◌≡◌, Bool, true, false, List, [], ◌∷◌, ◌++◌, length, map, filter, nat_lt, ◌==◌, ◌&&◌, ◌||◌, not, if◌then◌else◌}
+use Rattle.std.specs.Prelude.{ℕ, ◌+◌, ◌-◌, Bool, true, false, List, [], ◌∷◌, ◌++◌, length, filter, nat_lt, ◌==◌, ◌&&◌, not, if◌then◌else◌}
 use Rattle.std.specs.List.{list_any}
 use Rattle.round_gates.specs.declared.node.GateKey.{GateKey}
 use Rattle.round_gates.specs.declared.node.GateKind.{GateKind}

@@ -1,5 +1,5 @@
 -- When a target is constant, when its tree may be too large, and what is answered.
-use Rattle.std.specs.Prelude.{ℕ, ◌+◌, ◌*◌, ◌<◌, ◌≤◌, ◌≡◌, Bool, List, [], ◌∷◌, length, map, slice_get, Option, Some, None}
+use Rattle.std.specs.Prelude.{ℕ, ◌*◌, ◌<◌, ◌≡◌, Bool, List, length, map, slice_get, Option, Some, None}
 use Rattle.aadl_syntax.specs.declared.refusal.Code.TheVariants.{TooManyGates}
 use Rattle.aadl_syntax.specs.declared.refusal.Place.TheVariants.{Words}
 use Rattle.aadl_syntax.specs.declared.refusal.Refusal.{Refusal}

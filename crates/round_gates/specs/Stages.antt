@@ -1,9 +1,8 @@
 -- Stages of the facts of a block.
-use Rattle.std.specs.Prelude.{ℕ, zero, suc, ◌+◌, ◌-◌, ◌⊎◌, ◌<◌, ◌≤◌, ◌≡◌, Bool, true, false, List, [], ◌∷◌, map, length, ◌&&◌, ◌==◌, if◌then◌else◌, slice_get, Option, Some, None}
-use Rattle.fault_system.specs.Truth.{NumberSet, member, truth}
+use Rattle.std.specs.Prelude.{ℕ, zero, suc, ◌+◌, ◌-◌, ◌⊎◌, ◌<◌, ◌≤◌, ◌≡◌, Bool, false, List, [], ◌∷◌, map, ◌&&◌, ◌==◌, if◌then◌else◌, slice_get, Option, Some, None}
+use Rattle.fault_system.specs.Truth.{NumberSet, member}
 use Rattle.fault_system.specs.Systems.{System, applied, holds_of}
 use Rattle.fault_system.specs.declared.formula.FactInfo.{FactInfo}
-use Rattle.backward_slice.specs.Slices.{IsFact}
 use Rattle.dependency_blocks.specs.Blocks.{BlockNumbers, number_of, size_of}
 use Rattle.round_gates.specs.declared.node.Line.{Line}
 use Rattle.round_gates.specs.declared.node.Node.{Node}

@@ -1,5 +1,5 @@
 -- When nodes and gates are true, under a set of events and the truth of gates by their names.
-use Rattle.std.specs.Prelude.{ℕ, ◌≡◌, Bool, true, false, List, map, nat_le}
+use Rattle.std.specs.Prelude.{◌≡◌, Bool, true, false, List, map, nat_le}
 use Rattle.std.specs.List.{list_all, list_any}
 use Rattle.fault_system.specs.Truth.{NumberSet, count_true}
 use Rattle.round_gates.specs.declared.node.GateKey.{GateKey}

@@ -1,16 +1,16 @@
 -- The stages of all blocks, one after another, from the lowest block on.
-use Rattle.std.specs.Prelude.{ℕ, ◌+◌, ◌<◌, ◌≡◌, ◌^◌, List, [], ◌∷◌, length, map, filter, flat_map, Contains, All, ◌==◌, if◌then◌else◌}
+use Rattle.std.specs.Prelude.{ℕ, ◌<◌, ◌≡◌, ◌^◌, List, [], ◌∷◌, length, filter, Contains, ◌==◌, if◌then◌else◌}
 use Rattle.std.specs.List.{AllByRecursion}
 use Rattle.fault_system.specs.Systems.{System}
 use Rattle.fault_system.specs.declared.formula.FactInfo.{FactInfo}
 use Rattle.backward_slice.specs.Slices.{IsFact}
-use Rattle.dependency_blocks.specs.Blocks.{BlockNumbers, number_of, size_of}
+use Rattle.dependency_blocks.specs.Blocks.{BlockNumbers}
 use Rattle.round_gates.specs.declared.node.Line.{Line}
 use Rattle.round_gates.specs.declared.node.Node.{Node}
 use Rattle.round_gates.specs.declared.node.Part.{Part}
 use Rattle.round_gates.specs.declared.node.Stage.{Stage}
 use Rattle.round_gates.specs.Walks.{places, node_in}
-use Rattle.round_gates.specs.Stages.{in_block, fact_walk, stage_nodes, low_nodes, last_node, IsGateOf}
+use Rattle.round_gates.specs.Stages.{in_block, fact_walk, last_node, IsGateOf}
 use Rattle.round_gates.specs.Lines.{IsKnown, InOrder}
 
 -- the formula of a fact has fewer than 2 ^ 32 places

@@ -1,9 +1,8 @@
 -- The node of each place of a formula in a stage, and the gates of the stage.
-use Rattle.std.specs.Prelude.{ℕ, ◌+◌, ◌<◌, ◌≡◌, ◌^◌, Bool, true, false, List, [], ◌∷◌, ◌++◌, map, filter, ◌||◌, not, if◌then◌else◌, slice_index_or}
+use Rattle.std.specs.Prelude.{ℕ, ◌+◌, ◌≡◌, List, [], ◌∷◌, ◌++◌, map, filter, ◌||◌, not, if◌then◌else◌, slice_index_or}
 use Rattle.fault_system.specs.declared.formula.Formula.{Formula, fold-Formula}
 use Rattle.fault_system.specs.declared.formula.Formula.TheOpen.{Formula-F, True, Event, Fact, And, Or, AtLeast}
 use Rattle.round_gates.specs.declared.node.GateKey.{GateKey}
-use Rattle.round_gates.specs.declared.node.GateKind.{GateKind}
 use Rattle.round_gates.specs.declared.node.GateKind.TheVariants as kinds
 use Rattle.round_gates.specs.declared.node.Join.{Join}
 use Rattle.round_gates.specs.declared.node.Join.TheVariants.{Plain, Made}

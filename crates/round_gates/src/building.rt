@@ -60,8 +60,13 @@ fn gate_with(
     nodes: &[Node],
 ) -> Mem<Gate>
     requires { length keys.now.keys < 2 ^ 32 }
-    ensures { IfOk result (λ gate. gate ≡ record { fact = key.fact; stage = key.stage; place = key.place; kind = kind;
-        inputs = map (input_for keys.now.keys) nodes.now }) }
+    ensures { IfOk result (λ gate. gate ≡ record {
+      fact = key.fact;
+      stage = key.stage;
+      place = key.place;
+      kind = kind;
+      inputs = map (input_for keys.now.keys) nodes.now;
+    }) }
 {
     let inputs = inputs_for(alloc, keys, nodes)?;
     Ok(Gate {

@@ -151,7 +151,16 @@ fn run_blocks(
     ensures { OnOk result (AreUnrolled system.now blocks.now (low_nodes system.now blocks.now (length lists.now)) nodes.new lines.new.items) }
 {
     for (block, members) in lists.iter().enumerate() {
-        run_block(alloc, system, slice, blocks, block as u32, members.items(), nodes, lines)?;
+        run_block(
+            alloc,
+            system,
+            slice,
+            blocks,
+            block as u32,
+            members.items(),
+            nodes,
+            lines,
+        )?;
     }
     Ok(())
 }

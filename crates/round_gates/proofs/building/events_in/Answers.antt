@@ -1,4 +1,4 @@
-use Rattle.std.proofs.Common.{◌≡◌, ℕ, List, IfOk, ◌<◌, ◌||◌, ◌∙◌, length, false, get_or, filter, replicate, ap, subst, sym, arith}
+use Rattle.std.proofs.Common.{◌≡◌, ℕ, List, IfOk, ◌||◌, ◌∙◌, length, false, filter, ap, subst, arith}
 use Rattle.std.specs.List.{list_any, range_with_len}
 use Rattle.std.proofs.lemmas.List.{get_or-replicate, length-replicate}
 use Rattle.fault_system.specs.Truth.{member}

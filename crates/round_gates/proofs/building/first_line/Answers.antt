@@ -1,4 +1,4 @@
-use Rattle.std.proofs.Common.{◌≡◌, ◌∙◌, Some, None, slice_get, option_copied, rules}
+use Rattle.std.proofs.Common.{◌∙◌, Some, None}
 use Rattle.round_gates.proofs.Reaches.{line-at}
 use Rattle.round_gates.proofs.building.first_line.Goals as goal
 

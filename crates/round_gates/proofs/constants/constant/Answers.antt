@@ -1,5 +1,4 @@
-use Rattle.std.proofs.Common.{◌≡◌, ◌<◌, ◌∙◌, ℕ, length, replicate, true, false, ap, sym, arith}
-use Rattle.fault_system.specs.Truth.{member}
+use Rattle.std.proofs.Common.{◌<◌, ◌∙◌, replicate, false, ap, sym, arith}
 use Rattle.round_gates.proofs.Growing.{always, never}
 use Rattle.round_gates.proofs.constants.constant.Goals as goal
 

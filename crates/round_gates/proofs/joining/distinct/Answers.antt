@@ -1,5 +1,4 @@
 use Rattle.std.proofs.Common.{get_or, rules}
-use Rattle.std.proofs.lemmas.List.{get_or_read}
 use Rattle.round_gates.specs.declared.node.Node.TheVariants.{Always}
 use Rattle.round_gates.proofs.Kept.{kept-next}
 use Rattle.round_gates.proofs.joining.distinct.Goals as goal

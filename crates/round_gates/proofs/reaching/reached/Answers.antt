@@ -21,8 +21,8 @@ loop-done-preserved c =
     let after : length c.args.lines.now - (c.loop-done.done + 1) ≡ i = omega arith in
     subst (λ (n : ℕ). AreReachedFrom c.args.lines.now c.args.top n c.visit.new.keys.keys) (sym after)
     (reached-next c.args.lines.now c.args.top c.requires.behind i c.index-lines-place.result fits c.index-lines-place.is c.loop-done.keys.keys c.visit.new.keys.keys c.is_first.result
-      (c.is_first.ensures ∙ ap (λ found. is_place found i) (c.requires.places c.index-lines-place.result.key)) c.in_ok-visit.ensures
-      (subst (λ (n : ℕ). AreReachedFrom c.args.lines.now c.args.top n c.loop-done.keys.keys) before c.loop-done.invariant))
+    (c.is_first.ensures ∙ ap (λ found. is_place found i) (c.requires.places c.index-lines-place.result.key)) c.in_ok-visit.ensures
+    (subst (λ (n : ℕ). AreReachedFrom c.args.lines.now c.args.top n c.loop-done.keys.keys) before c.loop-done.invariant))
 
 pub returns : goal.returns
 returns c =

@@ -1,8 +1,7 @@
-use Rattle.std.proofs.Common.{◌≡◌, ◌∙◌, ℕ, List, IfOk, ap, sym, subst}
+use Rattle.std.proofs.Common.{◌∙◌, List, IfOk, ap, sym, subst}
 use Rattle.round_gates.specs.declared.node.Node.{Node}
 use Rattle.round_gates.specs.declared.tree.Tree.{Tree}
 use Rattle.round_gates.specs.Trees.{IsTreeOf}
-use Rattle.round_gates.specs.Stages.{last_node}
 use Rattle.round_gates.specs.Walks.{node_in}
 use Rattle.round_gates.proofs.Wholes.{few-small, rises-below, target-inside}
 use Rattle.round_gates.proofs.staging.whole_tree.Goals as goal

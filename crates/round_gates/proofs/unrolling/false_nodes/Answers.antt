@@ -1,4 +1,4 @@
-use Rattle.std.proofs.Common.{◌≡◌, ◌+◌, ◌∙◌, ◌++◌, ◌∷◌, [], List, ℕ, length, get_or, ap, arith, length-append}
+use Rattle.std.proofs.Common.{◌+◌, ◌∙◌, ◌∷◌, [], List, length, ap, length-append}
 use Rattle.round_gates.specs.declared.node.Node.{Node}
 use Rattle.round_gates.specs.declared.node.Node.TheVariants.{Never}
 use Rattle.round_gates.specs.Walks.{node_in}

@@ -1,7 +1,7 @@
-use Rattle.std.proofs.Common.{◌≡◌, ◌<◌, ℕ, List, filter, length, All, subst, sym, arith, add-one}
+use Rattle.std.proofs.Common.{◌≡◌, ◌<◌, ℕ, List, filter, length, All, subst, sym, arith}
 use Rattle.std.proofs.lemmas.List.Elements.{All-filter}
-use Rattle.round_gates.specs.Stages.{in_block, stage_nodes, low_nodes}
-use Rattle.round_gates.specs.Unrolled.{IsSmall, AreUnrolled}
+use Rattle.round_gates.specs.Stages.{in_block}
+use Rattle.round_gates.specs.Unrolled.{IsSmall}
 use Rattle.round_gates.proofs.Steps.{block-first, block-last, stage-next-of}
 use Rattle.round_gates.proofs.unrolling.run_block.Goals as goal
 
@@ -17,7 +17,7 @@ pub run_stage-requires-clause-inside : goal.run_stage-requires-clause-inside
 run_stage-requires-clause-inside c =
     subst (λ (ms : List ℕ). All (λ fact. fact < length c.loop-stage.nodes) ms) (sym c.requires.members)
     (subst (λ (most : ℕ). All (λ fact. fact < most) (filter (in_block c.args.blocks.now c.args.block) c.args.slice.now.facts)) (sym c.loop-stage.invariant.long)
-      (All-filter (in_block c.args.blocks.now c.args.block) (λ fact. fact < length c.args.system.now.facts) c.args.slice.now.facts c.requires.inside))
+    (All-filter (in_block c.args.blocks.now c.args.block) (λ fact. fact < length c.args.system.now.facts) c.args.slice.now.facts c.requires.inside))
 
 pub loop-stage-preserved : goal.loop-stage-preserved
 loop-stage-preserved c =
