@@ -13,3 +13,4 @@ pub mod Names
 pub mod TreeLaws
 pub mod Growing
 pub mod Wholes
+pub mod Once
