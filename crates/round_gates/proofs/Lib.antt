@@ -14,3 +14,4 @@ pub mod TreeLaws
 pub mod Growing
 pub mod Wholes
 pub mod Once
+pub mod OnceStages

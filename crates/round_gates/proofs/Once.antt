@@ -157,12 +157,12 @@ least_left-once k nodes = none (k == 0)
     none false = few (nat_lt (length nodes) k)
 
 -- what holds of constants and of the nodes of the parts holds of the node that a rule gives
-abbrev NodeHas : (Node → Type 0) → Join → Type 0
+abbrev pub NodeHas : (Node → Type 0) → Join → Type 0
 NodeHas P (Plain node) = P node
 NodeHas P (Made kind inputs) = Unit {0}
 
 module _ (P : Node → Type 0) (always : P Always) (never : P Never) where
-  abbrev JoinHas : Join → Type 0
+  abbrev pub JoinHas : Join → Type 0
   JoinHas = NodeHas P
 
   without-has : (c : Node) (nodes : List Node) → AllByRecursion P nodes → AllByRecursion P (without c nodes)
@@ -186,14 +186,14 @@ module _ (P : Node → Type 0) (always : P Always) (never : P Never) where
   gathered-has kind none (x ∷ []) n h = h.0
   gathered-has kind none (x ∷ y ∷ nodes) n h = tt
 
-  all_of-has : (nodes : List Node) → AllByRecursion P nodes → JoinHas (all_of nodes)
+  pub all_of-has : (nodes : List Node) → AllByRecursion P nodes → JoinHas (all_of nodes)
   all_of-has nodes h = by (has_node nodes Never)
     where
       by : (b : Bool) → JoinHas (cond b (Plain Never) (gathered kinds.And Always (each_once (without Always nodes))))
       by true = never
       by false = gathered-has kinds.And Always _ always (new-has [] _ (without-has Always nodes h))
 
-  any_of-has : (nodes : List Node) → AllByRecursion P nodes → JoinHas (any_of nodes)
+  pub any_of-has : (nodes : List Node) → AllByRecursion P nodes → JoinHas (any_of nodes)
   any_of-has nodes h = by (has_node nodes Always)
     where
       by : (b : Bool) → JoinHas (cond b (Plain Always) (gathered kinds.Or Never (each_once (without Never nodes))))
@@ -219,7 +219,7 @@ module _ (P : Node → Type 0) (always : P Always) (never : P Never) where
       none true = always
       none false = few (nat_lt (length nodes) k)
 
-  least_of-has : (k : ℕ) (nodes : List Node) → AllByRecursion P nodes → JoinHas (least_of k nodes)
+  pub least_of-has : (k : ℕ) (nodes : List Node) → AllByRecursion P nodes → JoinHas (least_of k nodes)
   least_of-has k nodes h = least_left-has (k - always_in nodes) (varying nodes) (without-has Never _ (without-has Always nodes h))
 
 module _ (stage : Stage) where

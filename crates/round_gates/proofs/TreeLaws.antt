@@ -27,6 +27,7 @@ use Rattle.round_gates.specs.Stages.{IsAmong, IsGateOf, last_node}
 use Rattle.round_gates.specs.Truths.{GateSet, node_true, kind_true}
 use Rattle.round_gates.specs.Trees.{NamesRise, key_of, key_in, node_of, line_of, is_gate, has_gate, events_in, LeadsTo, IsGateTree, TreeHolds, IsClosedTree, gate_true, input_true, place_of, input_for, gate_with, gate_for, tree_of}
 use Rattle.round_gates.proofs.Names.{place-in, place-at, has-at}
+use Rattle.round_gates.proofs.OnceStages.{gate-once, inputs-once}
 use Rattle.round_gates.proofs.Ordered.{key_same}
 use Rattle.round_gates.proofs.Reaches.{found-place, behind-of}
 use Rattle.round_gates.proofs.Rules.{key_exact, node_exact}
@@ -293,6 +294,7 @@ module _ (events : ℕ) (lines : List Line) (top : GateKey) (keys : List GateKey
           top_in = omega (arith, p.0);
           top_is = key-in (place_of keys top) ∙ p.1;
           gates_are = gate-is;
+          inputs_once = λ n gate at. inputs-once (node_of gates) gate.inputs (gate-once system numbers (line_of gates gate) (gate-is n gate at));
           inputs_in = λ n m gate at input.
               let r = input-name n m gate at input in
               let q = place-in keys r.1 no_key r.5 in

@@ -1,6 +1,6 @@
 -- The tree of a target, and when a tree is true.
-use Rattle.std.specs.Prelude.{ℕ, ◌+◌, ◌<◌, ◌≡◌, Bool, true, false, List, [], ◌∷◌, length, map, filter, slice_get, slice_index_or, Option, Some, None, unwrap_or, position, ◌==◌}
-use Rattle.std.specs.List.{list_any, range_with_len}
+use Rattle.std.specs.Prelude.{ℕ, ◌+◌, ◌<◌, ◌≡◌, ◌≢◌, Bool, true, false, List, [], ◌∷◌, length, map, filter, slice_get, slice_index_or, Option, Some, None, unwrap_or, position, ◌==◌}
+use Rattle.std.specs.List.{AllByRecursion, list_any, range_with_len}
 use Rattle.std.specs.Ordering.{nat_cmp, ordering_then}
 use Rattle.std.specs.declared.cmp.Ordering.{Ordering}
 use Rattle.std.specs.declared.cmp.Ordering.TheVariants.{Less}
@@ -56,6 +56,11 @@ abbrev pub is_event : ℕ → Input → Bool
 is_event n (inputs.Event m) = m == n
 is_event n (inputs.Gate m) = false
 
+-- no input comes twice
+abbrev pub InputsOnce : List Input → Type 0
+InputsOnce [] = Unit {0}
+InputsOnce (input ∷ inputs) = AllByRecursion (λ other. input ≢ other) inputs × InputsOnce inputs
+
 -- whether the gate at a position is among some inputs
 abbrev pub has_gate : List Input → ℕ → Bool
 has_gate inputs n = list_any (is_gate n) inputs
@@ -73,12 +78,13 @@ HasInputGates gates set =
 abbrev pub LeadsTo : List Gate → ℕ → ℕ → Type 0
 LeadsTo gates from to = (set : NumberSet) → HasInputGates gates set → Has set from → Has set to
 
--- The gates of a tree whose top has a name: each is a gate of a stage with exactly its inputs, they rise by fact, stage and
--- place, exactly those that the top leads to are there, and none leads back to itself.
+-- The gates of a tree whose top has a name: each is a gate of a stage with exactly its inputs, none of them twice; they rise
+-- by fact, stage and place; exactly those that the top leads to are there; and none leads back to itself.
 pub record IsGateTree (system : System) (numbers : BlockNumbers) (top : GateKey) (tree : Tree) : Type 0 where
   pub top_in : tree.top < length tree.gates
   pub top_is : key_in tree.gates tree.top ≡ top
   pub gates_are : (n : ℕ) (gate : Gate) → slice_get tree.gates n ≡ Some gate → IsGateOf system numbers (line_of tree.gates gate)
+  pub inputs_once : (n : ℕ) (gate : Gate) → slice_get tree.gates n ≡ Some gate → InputsOnce gate.inputs
   pub inputs_in : (n m : ℕ) (gate : Gate) → slice_get tree.gates n ≡ Some gate → has_gate gate.inputs m ≡ true → m < length tree.gates
   pub rise : NamesRise (map key_of tree.gates)
   pub reached : (n : ℕ) → n < length tree.gates → LeadsTo tree.gates tree.top n
