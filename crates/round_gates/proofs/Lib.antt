@@ -15,3 +15,4 @@ pub mod Growing
 pub mod Wholes
 pub mod Once
 pub mod OnceStages
+pub mod Examples

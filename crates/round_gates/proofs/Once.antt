@@ -1,12 +1,9 @@
 -- No gate has an input twice.
-use Rattle.std.proofs.Common.{ℕ, zero, suc, ◌+◌, ◌-◌, ◌≡◌, ◌≢◌, ◌<◌, ◌≤◌, ◌⊎◌, Bool, true, false, cond, not, ◌||◌, ◌==◌, nat_lt, List, [], ◌∷◌, ◌++◌, map, length, slice_get, Option, Some, None, inl, inr, ⊎_elim, ap, ◌∙◌, sym, subst, refl, arith}
-use Rattle.std.proofs.lemmas.Bool.{false≢true, eqb-true, eq-eqb, ne_eqb}
-use Rattle.std.specs.List.{list_any, AllByRecursion}
-use Rattle.fault_system.specs.Systems.{System}
-use Rattle.fault_system.specs.declared.formula.FactInfo.{FactInfo}
+use Rattle.std.proofs.Common.{ℕ, ◌+◌, ◌-◌, ◌≡◌, ◌≢◌, ◌<◌, ◌≤◌, Bool, true, false, cond, not, ◌||◌, ◌==◌, nat_lt, List, [], ◌∷◌, ◌++◌, map, length, ap, ◌∙◌, sym, subst, refl, arith}
+use Rattle.std.proofs.lemmas.Bool.{false≢true, eq-eqb}
+use Rattle.std.specs.List.{AllByRecursion}
 use Rattle.fault_system.specs.declared.formula.Formula.{Formula, map-Formula, roll-Formula, fold-roll-Formula, ind-Formula}
 use Rattle.fault_system.specs.declared.formula.Formula.TheOpen.{Formula-F, True, Event, Fact, And, Or, AtLeast}
-use Rattle.dependency_blocks.specs.Blocks.{BlockNumbers, number_of, size_of}
 use Rattle.round_gates.specs.declared.node.GateKey.{GateKey}
 use Rattle.round_gates.specs.declared.node.GateKind.{GateKind}
 use Rattle.round_gates.specs.declared.node.GateKind.TheVariants as kinds
@@ -18,7 +15,7 @@ use Rattle.round_gates.specs.declared.node.Node.TheVariants.{Always, Never, Basi
 use Rattle.round_gates.specs.declared.node.Part.{Part}
 use Rattle.round_gates.specs.declared.node.Stage.{Stage}
 use Rattle.round_gates.specs.Nodes.{same_node, has_node, without, new_ones, each_once, gathered, all_of, any_of, always_in, varying, least_left, least_of}
-use Rattle.round_gates.specs.Walks.{Walked, Parts, key_at, parts_of, nodes_of, varying_parts, node_at, line_at, with_seen, input_of, repeat_of, wrapped, repeats, counted_lines, walk, walk_step}
+use Rattle.round_gates.specs.Walks.{Walked, Parts, key_at, parts_of, nodes_of, varying_parts, node_at, line_at, with_seen, wrapped, repeats, counted_lines, walk, walk_step}
 use Rattle.round_gates.proofs.Ordered.{key_same}
 use Rattle.round_gates.proofs.WalkTruth.{all-append}
 
@@ -47,9 +44,10 @@ there false c e = e
 -- a node that is not seen differs from all that are
 not-seen : (seen : List Node) (node : Node) → has_node seen node ≡ false → AllByRecursion (λ s. s ≢ node) seen
 not-seen [] node e = tt
-not-seen (s ∷ seen) node e =
-    ((λ same. false≢true (sym e ∙ here (same_node node s) _ (ap (same_node node) same ∙ node_same node))),
-      not-seen seen node (tail (same_node node s) (has_node seen node) e))
+not-seen (s ∷ seen) node e = (
+  (λ same. false≢true (sym e ∙ here (same_node node s) _ (ap (same_node node) same ∙ node_same node))),
+  not-seen seen node (tail (same_node node s) (has_node seen node) e),
+)
   where
     tail : (b c : Bool) → b || c ≡ false → c ≡ false
     tail true c h = absurd (false≢true (sym h))
@@ -79,9 +77,10 @@ new-once seen (node ∷ nodes) = by (has_node seen node) refl (new-once seen nod
         → NodesOnce (new_ones (seen ++ node ∷ []) nodes) × AllByRecursion (Fresh (seen ++ node ∷ [])) (new_ones (seen ++ node ∷ []) nodes)
         → NodesOnce (cond b (new_ones seen nodes) (node ∷ new_ones (seen ++ node ∷ []) nodes)) × AllByRecursion (Fresh seen) (cond b (new_ones seen nodes) (node ∷ new_ones (seen ++ node ∷ []) nodes))
     by true is same more = same
-    by false is same more =
-        ((all-map (Fresh (seen ++ node ∷ [])) (λ y. node ≢ y) (λ y f. all-last (λ s. s ≢ y) seen node f) _ more.1, more.0),
-          (not-seen seen node is, all-map (Fresh (seen ++ node ∷ [])) (Fresh seen) (λ y f. all-front (λ s. s ≢ y) seen (node ∷ []) f) _ more.1))
+    by false is same more = (
+      (all-map (Fresh (seen ++ node ∷ [])) (λ y. node ≢ y) (λ y f. all-last (λ s. s ≢ y) seen node f) _ more.1, more.0),
+      (not-seen seen node is, all-map (Fresh (seen ++ node ∷ [])) (Fresh seen) (λ y f. all-front (λ s. s ≢ y) seen (node ∷ []) f) _ more.1),
+    )
 
 -- no rule but that of a count makes a gate that counts
 gathered_no : (kind : GateKind) (none : Node) (nodes : List Node) (k : ℕ) (inputs : List Node) → (kind ≡ kinds.AtLeast k → ⊥) → gathered kind none nodes ≡ Made (kinds.AtLeast k) inputs → ⊥
@@ -253,9 +252,10 @@ module _ (stage : Stage) where
   parts-nodes low high [] h = tt
   parts-nodes low high (part ∷ parts) h =
       let mid = h.1.0 in
-      let rest = parts-below mid high parts h.1.1.2 in
-      (from-wider part.place mid low high part.node h.0 rest h.1.1.1,
-        all-map (From mid high) (From low high) (λ node f. from-wider mid high low high node (omega (arith, h.0, h.1.1.0)) (omega arith) f) (nodes_of parts) (parts-nodes mid high parts h.1.1.2))
+      let rest = parts-below mid high parts h.1.1.2 in (
+        from-wider part.place mid low high part.node h.0 rest h.1.1.1,
+        all-map (From mid high) (From low high) (λ node f. from-wider mid high low high node (omega (arith, h.0, h.1.1.0)) (omega arith) f) (nodes_of parts) (parts-nodes mid high parts h.1.1.2),
+      )
 
   varying-from : (low high : ℕ) (parts : List Part) → PartsFrom low high parts → PartsFrom low high (varying_parts parts)
   varying-from low high [] h = h
@@ -279,9 +279,9 @@ module _ (stage : Stage) where
       by (has_node seen part.node) refl
       (wrapped-once mid high seen parts (all-map (Before low) (Before mid) (λ s f p l. f p (omega (arith, from.0, from.1.1.0))) seen before) from.1.1.2)
       (wrapped-once mid high (seen ++ part.node ∷ []) parts
-        (all-append (Before mid) seen (part.node ∷ []) (all-map (Before low) (Before mid) (λ s f p l. f p (omega (arith, from.0, from.1.1.0))) seen before)
-          ((λ p l e. let r = from.1.1.1 p e in omega (arith, r.1)), tt))
-        from.1.1.2)
+      (all-append (Before mid) seen (part.node ∷ []) (all-map (Before low) (Before mid) (λ s f p l. f p (omega (arith, from.0, from.1.1.0))) seen before)
+      ((λ p l e. let r = from.1.1.1 p e in omega (arith, r.1)), tt))
+      from.1.1.2)
     where
       mid : ℕ
       mid = from.1.0
@@ -292,16 +292,22 @@ module _ (stage : Stage) where
           → NodesOnce (cond b (Gate (key_at stage part.place)) part.node ∷ wrapped stage (cond b seen (seen ++ part.node ∷ [])) parts)
           × AllByRecursion (Fresh seen) (cond b (Gate (key_at stage part.place)) part.node ∷ wrapped stage (cond b seen (seen ++ part.node ∷ [])) parts)
           × AllByRecursion (After low) (cond b (Gate (key_at stage part.place)) part.node ∷ wrapped stage (cond b seen (seen ++ part.node ∷ [])) parts)
-      by true is same more =
-          ((all-map (After from.1.0) (λ y. Gate (key_at stage part.place) ≢ y) (λ y f e. f part.place from.1.1.0 (sym e)) _ same.2, same.0),
-            (all-map (Before low) (λ s. s ≢ Gate (key_at stage part.place)) (λ s f e. f part.place from.0 e) seen before, same.1),
-            ((λ p l e. let q = place-same part.place p e in omega (arith, from.0)),
-              all-map (After from.1.0) (After low) (λ y f p l. f p (omega (arith, from.0, from.1.1.0))) _ same.2))
-      by false is same more =
-          ((all-map (Fresh (seen ++ part.node ∷ [])) (λ y. part.node ≢ y) (λ y f. all-last (λ s. s ≢ y) seen part.node f) _ more.1, more.0),
-            (not-seen seen part.node is, all-map (Fresh (seen ++ part.node ∷ [])) (Fresh seen) (λ y f. all-front (λ s. s ≢ y) seen (part.node ∷ []) f) _ more.1),
-            ((λ p l e. let r = from.1.1.1 p e in omega (arith, r.0, from.0)),
-              all-map (After from.1.0) (After low) (λ y f p l. f p (omega (arith, from.0, from.1.1.0))) _ more.2))
+      by true is same more = (
+        (all-map (After from.1.0) (λ y. Gate (key_at stage part.place) ≢ y) (λ y f e. f part.place from.1.1.0 (sym e)) _ same.2, same.0),
+        (all-map (Before low) (λ s. s ≢ Gate (key_at stage part.place)) (λ s f e. f part.place from.0 e) seen before, same.1),
+        (
+          (λ p l e. let q = place-same part.place p e in omega (arith, from.0)),
+          all-map (After from.1.0) (After low) (λ y f p l. f p (omega (arith, from.0, from.1.1.0))) _ same.2,
+        ),
+      )
+      by false is same more = (
+        (all-map (Fresh (seen ++ part.node ∷ [])) (λ y. part.node ≢ y) (λ y f. all-last (λ s. s ≢ y) seen part.node f) _ more.1, more.0),
+        (not-seen seen part.node is, all-map (Fresh (seen ++ part.node ∷ [])) (Fresh seen) (λ y f. all-front (λ s. s ≢ y) seen (part.node ∷ []) f) _ more.1),
+        (
+          (λ p l e. let r = from.1.1.1 p e in omega (arith, r.0, from.0)),
+          all-map (After from.1.0) (After low) (λ y f p l. f p (omega (arith, from.0, from.1.1.0))) _ more.2,
+        ),
+      )
 
   repeats-once : (seen : List Node) (parts : List Part) → AllByRecursion LineOnce (repeats stage seen parts)
   repeats-once seen [] = tt

@@ -1,5 +1,5 @@
 -- No gate of a stage has an input twice: no fact stands for a gate of the stage in which it is looked at.
-use Rattle.std.proofs.Common.{ℕ, zero, suc, ◌+◌, ◌-◌, ◌≡◌, ◌≢◌, ◌<◌, ◌≤◌, ◌⊎◌, Bool, true, false, cond, List, [], ◌∷◌, ◌++◌, map, slice_get, Option, Some, None, inl, inr, ⊎_elim, ap, ◌∙◌, sym, subst, refl, arith}
+use Rattle.std.proofs.Common.{ℕ, zero, suc, ◌+◌, ◌-◌, ◌≡◌, ◌≢◌, ◌<◌, ◌≤◌, ◌⊎◌, Bool, true, false, List, [], ◌∷◌, map, slice_get, Option, Some, None, inl, inr, ⊎_elim, ap, ◌∙◌, sym, subst, refl, arith}
 use Rattle.std.proofs.lemmas.Bool.{eqb-true}
 use Rattle.std.specs.List.{AllByRecursion}
 use Rattle.fault_system.specs.Systems.{System}
@@ -16,8 +16,8 @@ use Rattle.round_gates.specs.declared.node.Node.TheVariants.{Always, Never, Basi
 use Rattle.round_gates.specs.declared.node.Stage.{Stage}
 use Rattle.round_gates.specs.declared.tree.Input.{Input}
 use Rattle.round_gates.specs.Nodes.{all_of, any_of, least_of}
-use Rattle.round_gates.specs.Walks.{Walked, Parts, key_at, parts_of, nodes_of, node_at, walk, walk_step}
-use Rattle.round_gates.specs.Stages.{in_block, formula_walk, fact_walk, stage_nodes, low_nodes, looks_of, IsStage, gates_of, IsGateOf}
+use Rattle.round_gates.specs.Walks.{Walked, key_at, parts_of, nodes_of, node_at, walk, walk_step}
+use Rattle.round_gates.specs.Stages.{in_block, formula_walk, stage_nodes, low_nodes, looks_of, IsStage, gates_of, IsGateOf}
 use Rattle.round_gates.specs.Trees.{InputsOnce}
 use Rattle.round_gates.proofs.Once.{NodesOnce, LineOnce, NodeHas, all_of-has, any_of-has, least_of-has, walk-once}
 use Rattle.round_gates.proofs.StageTruth.{stage-out, stage-first, stage-in, low-zero, low-suc, among-all}
@@ -90,7 +90,7 @@ module _ (system : System) (numbers : BlockNumbers) where
           walk-has (record { fact = n; stage = suc stage }) (stage_nodes system numbers (low_nodes system numbers block) block stage) (Earlier block (suc stage)) (λ k h. cc) (λ k h. cc) (λ m k h. cc)
           (λ m. later block stage _ (before m))
           (λ p k h. let is = key-inner (key_at (record { fact = n; stage = suc stage }) p) k h in
-            inr (ap (λ (x : GateKey). number_of numbers x.fact) (sym is) ∙ same, subst (λ (x : GateKey). x.stage ≤ suc stage) is (omega arith)))
+          inr (ap (λ (x : GateKey). number_of numbers x.fact) (sym is) ∙ same, subst (λ (x : GateKey). x.stage ≤ suc stage) is (omega arith)))
           info.formula 0 k e
 
       by : (b : Bool) → in_block numbers block n ≡ b → ((m : ℕ) → Earlier block stage (stage_nodes system numbers (low_nodes system numbers block) block stage m))
