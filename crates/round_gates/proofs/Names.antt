@@ -16,7 +16,7 @@ use Rattle.round_gates.specs.contracts.node.GateKeyOrd.TheImpl.{cmp-value}
 use Rattle.round_gates.specs.Nodes.{same_key}
 use Rattle.round_gates.specs.Reached.{has_key}
 use Rattle.round_gates.specs.Trees.{key_cmp, NamesRise, place_of}
-use Rattle.round_gates.proofs.Ordered.{key_same}
+use Rattle.round_gates.proofs.Basics.{key_same}
 use Rattle.round_gates.proofs.Rules.{key_exact}
 
 keys_total : IsTotalOrder key_cmp

@@ -1,6 +1,6 @@
 -- No gate has an input twice.
 use Rattle.std.proofs.Common.{ℕ, ◌+◌, ◌-◌, ◌≡◌, ◌≢◌, ◌<◌, ◌≤◌, Bool, true, false, cond, not, ◌||◌, ◌==◌, nat_lt, List, [], ◌∷◌, ◌++◌, map, length, ap, ◌∙◌, sym, subst, refl, arith}
-use Rattle.std.proofs.lemmas.Bool.{false≢true, eq-eqb}
+use Rattle.std.proofs.lemmas.Bool.{false≢true}
 use Rattle.std.specs.List.{AllByRecursion}
 use Rattle.fault_system.specs.declared.formula.Formula.{Formula, map-Formula, roll-Formula, fold-roll-Formula, ind-Formula}
 use Rattle.fault_system.specs.declared.formula.Formula.TheOpen.{Formula-F, True, Event, Fact, And, Or, AtLeast}
@@ -16,8 +16,7 @@ use Rattle.round_gates.specs.declared.node.Part.{Part}
 use Rattle.round_gates.specs.declared.node.Stage.{Stage}
 use Rattle.round_gates.specs.Nodes.{same_node, has_node, without, new_ones, each_once, gathered, all_of, any_of, always_in, varying, least_left, least_of}
 use Rattle.round_gates.specs.Walks.{Walked, Parts, key_at, parts_of, nodes_of, varying_parts, node_at, line_at, with_seen, wrapped, repeats, counted_lines, walk, walk_step}
-use Rattle.round_gates.proofs.Ordered.{key_same}
-use Rattle.round_gates.proofs.WalkTruth.{all-append}
+use Rattle.round_gates.proofs.Basics.{all-append, all-map, node_same, or_left}
 
 -- the nodes of a list differ
 abbrev pub NodesOnce : List Node → Type 0
@@ -27,25 +26,11 @@ NodesOnce (x ∷ xs) = AllByRecursion (λ y. x ≢ y) xs × NodesOnce xs
 abbrev pub LineOnce : Line → Type 0
 LineOnce line = NodesOnce line.inputs
 
-node_same : (node : Node) → same_node node node ≡ true
-node_same Always = refl
-node_same Never = refl
-node_same (Basic m) = eq-eqb m m refl
-node_same (Gate k) = key_same k
-
-here : (b c : Bool) → b ≡ true → b || c ≡ true
-here true c e = refl
-here false c e = absurd (false≢true e)
-
-there : (b c : Bool) → c ≡ true → b || c ≡ true
-there true c e = refl
-there false c e = e
-
 -- a node that is not seen differs from all that are
 not-seen : (seen : List Node) (node : Node) → has_node seen node ≡ false → AllByRecursion (λ s. s ≢ node) seen
 not-seen [] node e = tt
 not-seen (s ∷ seen) node e = (
-  (λ same. false≢true (sym e ∙ here (same_node node s) _ (ap (same_node node) same ∙ node_same node))),
+  (λ same. false≢true (sym e ∙ or_left (same_node node s) _ (ap (same_node node) same ∙ node_same node))),
   not-seen seen node (tail (same_node node s) (has_node seen node) e),
 )
   where
@@ -60,10 +45,6 @@ all-front P (x ∷ xs) ys h = (h.0, all-front P xs ys h.1)
 all-last : {X : Type 0} (P : X → Type 0) (xs : List X) (y : X) → AllByRecursion P (xs ++ y ∷ []) → P y
 all-last P [] y h = h.0
 all-last P (x ∷ xs) y h = all-last P xs y h.1
-
-all-map : {X : Type 0} (P Q : X → Type 0) → ((x : X) → P x → Q x) → (xs : List X) → AllByRecursion P xs → AllByRecursion Q xs
-all-map P Q f [] h = tt
-all-map P Q f (x ∷ xs) h = (f x h.0, all-map P Q f xs h.1)
 
 -- none of the seen nodes is this one
 abbrev Fresh : List Node → Node → Type 0

@@ -1,6 +1,6 @@
 -- The gates of a walk stand in order, each behind those that it names.
-use Rattle.std.proofs.Common.{ℕ, ◌+◌, ◌-◌, ◌≡◌, Bool, true, false, cond, not, ◌&&◌, ◌||◌, ◌==◌, nat_lt, List, [], ◌∷◌, ◌++◌, map, length, sym, subst, refl, append_assoc, append-nil}
-use Rattle.std.proofs.lemmas.Bool.{false≢true, ltb-true, eq-eqb, and_parts}
+use Rattle.std.proofs.Common.{ℕ, ◌+◌, ◌-◌, ◌≡◌, Bool, true, false, cond, not, ◌||◌, ◌==◌, nat_lt, List, [], ◌∷◌, ◌++◌, map, length, sym, subst, refl, append_assoc, append-nil}
+use Rattle.std.proofs.lemmas.Bool.{false≢true, ltb-true, and_parts}
 use Rattle.std.specs.List.{list_all, AllByRecursion}
 use Rattle.fault_system.specs.Truth.{in_range, in_range_step}
 use Rattle.fault_system.specs.declared.formula.Formula.{Formula, map-Formula, roll-Formula, fold-roll-Formula, ind-Formula}
@@ -15,25 +15,10 @@ use Rattle.round_gates.specs.declared.node.Node.{Node}
 use Rattle.round_gates.specs.declared.node.Node.TheVariants.{Always, Never, Basic, Gate}
 use Rattle.round_gates.specs.declared.node.Part.{Part}
 use Rattle.round_gates.specs.declared.node.Stage.{Stage}
-use Rattle.round_gates.specs.Nodes.{same_key, same_node, has_node, without, new_ones, each_once, gathered, all_of, any_of, always_in, varying, least_left, least_of}
+use Rattle.round_gates.specs.Nodes.{same_node, has_node, without, new_ones, each_once, gathered, all_of, any_of, always_in, varying, least_left, least_of}
 use Rattle.round_gates.specs.Walks.{Walked, Parts, key_at, parts_of, nodes_of, varying_parts, node_at, line_at, with_seen, repeat_of, wrapped, repeats, counted_lines, walk, walk_step}
 use Rattle.round_gates.specs.Lines.{is_named, has_line, IsKnown, IsInput, InOrder}
-
-pub or_left : (b c : Bool) → b ≡ true → b || c ≡ true
-or_left true c e = refl
-or_left false c e = absurd (false≢true e)
-
-pub or_right : (b c : Bool) → c ≡ true → b || c ≡ true
-or_right true c e = refl
-or_right false c e = e
-
-pub key_same : (key : GateKey) → same_key key key ≡ true
-key_same key = and_all _ _ _ (eq-eqb key.fact key.fact refl) (eq-eqb key.stage key.stage refl) (eq-eqb key.place key.place refl)
-  where
-    and_all : (a b c : Bool) → a ≡ true → b ≡ true → c ≡ true → a && (b && c) ≡ true
-    and_all true true c e f g = g
-    and_all true false c e f g = f
-    and_all false b c e f g = e
+use Rattle.round_gates.proofs.Basics.{or_left, or_right, key_same}
 
 -- what a list of gates has, a longer one has
 pub has_front : (lines more : List Line) (key : GateKey) → has_line lines key ≡ true → has_line (lines ++ more) key ≡ true

@@ -12,8 +12,8 @@ use Rattle.round_gates.specs.declared.node.Node.TheVariants.{Gate}
 use Rattle.round_gates.specs.Nodes.{same_key, same_node, has_node}
 use Rattle.round_gates.specs.Lines.{is_named, has_line, IsInput, InOrder}
 use Rattle.round_gates.specs.Reached.{has_key, place_from, first_line, IsReached, AreReachedFrom, AreReached, AreBehind, is_place, IsVisited}
-use Rattle.round_gates.proofs.Ordered.{or_left, or_right, key_same}
 use Rattle.round_gates.proofs.Rules.{key_exact, node_exact}
+use Rattle.round_gates.proofs.Basics.{some_inner, or_left, or_right, key_same}
 
 -- where the first gate of a name is
 pub record StandsAt (lines : List Line) (key : GateKey) (from place : ℕ) : Type 0 where
@@ -22,9 +22,6 @@ pub record StandsAt (lines : List Line) (key : GateKey) (from place : ℕ) : Typ
   pub inside : index < length lines
   pub line_is : (d : Line) → first_line lines key ≡ Some (get_or lines index d)
   pub named : (d : Line) → same_key (get_or lines index d).key key ≡ true
-
-some_inner : {X : Type 0} (x y : X) → Some x ≡ Some y → x ≡ y
-some_inner x y h = cc
 
 pub stands : (lines : List Line) (key : GateKey) (from place : ℕ) → place_from from lines key ≡ Some place → StandsAt lines key from place
 stands [] key from place e = cc

@@ -12,6 +12,7 @@ use Rattle.round_gates.specs.declared.node.Node.{Node}
 use Rattle.round_gates.specs.declared.node.Node.TheVariants.{Always, Never, Basic, Gate}
 use Rattle.round_gates.specs.Nodes.{same_key, same_node, has_node, without, new_ones, each_once, gathered, all_of, any_of, always_in, varying, least_left, least_of}
 use Rattle.round_gates.specs.Truths.{GateSet, node_true, join_true}
+use Rattle.round_gates.proofs.Basics.{or_false}
 
 pub key_exact : (a b : GateKey) → same_key a b ≡ true → a ≡ b
 key_exact a b e =
@@ -67,10 +68,6 @@ any_more false false x y e = e
 and_true : (b : Bool) → b ≡ b && true
 and_true true = refl
 and_true false = refl
-
-or_false : (b : Bool) → b ≡ b || false
-or_false true = refl
-or_false false = refl
 
 not_true : (b : Bool) → (b ≡ true → ⊥) → false ≡ b
 not_true true h = absurd (h refl)

@@ -1,5 +1,5 @@
 -- From one stage of a block to the next, and from one block to the next.
-use Rattle.std.proofs.Common.{ℕ, zero, suc, ◌+◌, ◌-◌, ◌≡◌, ◌<◌, ◌≤◌, ◌⊎◌, Bool, true, false, cond, ◌&&◌, ◌||◌, ◌==◌, List, [], ◌∷◌, ◌++◌, length, map, All, Contains, Option, Some, None, slice_get, flat_map, inl, inr, ap, ◌∙◌, sym, subst, refl, arith, add-one, append_assoc}
+use Rattle.std.proofs.Common.{ℕ, zero, suc, ◌+◌, ◌-◌, ◌≡◌, ◌<◌, ◌≤◌, ◌⊎◌, Bool, true, false, cond, ◌&&◌, ◌==◌, List, [], ◌∷◌, ◌++◌, length, map, All, Contains, Option, Some, None, slice_get, flat_map, inl, inr, ap, ◌∙◌, sym, subst, refl, arith, add-one, append_assoc}
 use Rattle.std.proofs.lemmas.Bool.{false≢true, eqb-true, eq-eqb, ne_eqb}
 use Rattle.std.proofs.lemmas.List.Concat.{flat_map-cons}
 use Rattle.std.proofs.lemmas.List.Folds.{list_any_at}
@@ -19,8 +19,8 @@ use Rattle.round_gates.specs.Stages.{in_block, formula_walk, fact_walk, stage_no
 use Rattle.round_gates.specs.Unrolled.{members_of, stage_at, found_in, lines_in, written, AreUnrolled, IsUnrolling}
 use Rattle.round_gates.proofs.Ordered.{known-more, order-append, walk-ordered}
 use Rattle.round_gates.proofs.StageTruth.{stage-out, stage-first, stage-in, low-zero, low-suc}
-use Rattle.round_gates.proofs.WalkTruth.{all-append}
 use Rattle.round_gates.proofs.Writing.{written-is, set_of-filter}
+use Rattle.round_gates.proofs.Basics.{not_here, all-map, all-append, or_left, or_right}
 
 pub contained-in_set : (facts : List ℕ) (n : ℕ) → Contains facts n → set_of facts n ≡ true
 contained-in_set facts n (k, fits, is) = list_any_at (λ m. m == n) facts k n fits (eq-eqb _ _ is)
@@ -32,14 +32,6 @@ all-among {X} (x ∷ xs) = (inl refl, weaker xs (all-among xs))
     weaker : (ys : List X) → AllByRecursion (λ y. IsAmong y xs) ys → AllByRecursion (λ y. (y ≡ x) ⊎ IsAmong y xs) ys
     weaker [] h = tt
     weaker (y ∷ ys) h = (inr h.0, weaker ys h.1)
-
-pub not_here : (b c : Bool) → b ≡ false → b || c ≡ true → c ≡ true
-not_here true c e f = absurd (false≢true (sym e))
-not_here false c e f = f
-
-all-map : {X : Type 0} (P Q : X → Type 0) → ((x : X) → P x → Q x) → (xs : List X) → AllByRecursion P xs → AllByRecursion Q xs
-all-map P Q f [] h = tt
-all-map P Q f (x ∷ xs) h = (f x h.0, all-map P Q f xs h.1)
 
 module _ (system : System) (is_system : IsSystem system) where
   abbrev events : ℕ
@@ -122,16 +114,8 @@ module _ (system : System) (is_system : IsSystem system) (facts : List ℕ) (num
       all-gates [] inside = tt
       all-gates (m ∷ ms) inside =
           subst (AllByRecursion (IsGateOf system numbers)) (sym (flat_map-cons (lines_in system (node_in nodes) (stage + 1)) m ms))
-          (all-append (IsGateOf system numbers) (lines_in system (node_in nodes) (stage + 1) m) _ (member-gates m (inside m (here (m == m) (set_of ms m) (eq-eqb m m refl))))
-          (all-gates ms (λ fact e. inside fact (there (m == fact) (set_of ms fact) e))))
-        where
-          here : (b c : Bool) → b ≡ true → b || c ≡ true
-          here true c e = refl
-          here false c e = absurd (false≢true e)
-
-          there : (b c : Bool) → c ≡ true → b || c ≡ true
-          there true c e = refl
-          there false c e = e
+          (all-append (IsGateOf system numbers) (lines_in system (node_in nodes) (stage + 1) m) _ (member-gates m (inside m (or_left (m == m) (set_of ms m) (eq-eqb m m refl))))
+          (all-gates ms (λ fact e. inside fact (or_right (m == fact) (set_of ms fact) e))))
 
       next-node : (fact : ℕ) → cond (set_of members fact) (found_in system (node_in nodes) (stage + 1) fact).node (node_in nodes fact) ≡ now (suc stage) fact
       next-node fact = ap (λ b. cond b (found_in system (node_in nodes) (stage + 1) fact).node (node_in nodes fact)) (member-is fact) ∙ by (in_block numbers block fact) refl

@@ -28,19 +28,16 @@ use Rattle.round_gates.specs.Truths.{GateSet, node_true, kind_true}
 use Rattle.round_gates.specs.Trees.{NamesRise, key_of, key_in, node_of, line_of, is_gate, has_gate, events_in, LeadsTo, IsGateTree, TreeHolds, IsClosedTree, gate_true, input_true, place_of, input_for, gate_with, gate_for, tree_of}
 use Rattle.round_gates.proofs.Names.{place-in, place-at, has-at}
 use Rattle.round_gates.proofs.OnceStages.{gate-once, inputs-once}
-use Rattle.round_gates.proofs.Ordered.{key_same}
 use Rattle.round_gates.proofs.Reaches.{found-place, behind-of}
 use Rattle.round_gates.proofs.Rules.{key_exact, node_exact}
 use Rattle.round_gates.proofs.StageTruth.{among-all, gate_values, gate-met, last-right}
+use Rattle.round_gates.proofs.Basics.{some_inner, or_left, or_right, node_same}
 
 abbrev make_line : GateKey → GateKind → List Node → Line
 make_line key kind ns = record { key = key; kind = kind; inputs = ns }
 
 abbrev no_key : GateKey
 no_key = record { fact = 0; stage = 0; place = 0 }
-
-some_inner : {X : Type 0} (x y : X) → Some x ≡ Some y → x ≡ y
-some_inner x y h = cc
 
 -- the gate of a name is among the gates
 first-among : (lines : List Line) (key : GateKey) (line : Line) → first_line lines key ≡ Some line → IsAmong line lines × (line.key ≡ key)
@@ -126,21 +123,7 @@ module _ (events : ℕ) (lines : List Line) (top : GateKey) (keys : List GateKey
 
   nodes-back : (ns : List Node) → ((node : Node) → has_node ns node ≡ true → node_of gates (input_for keys node) ≡ node) → map (node_of gates) (map (input_for keys) ns) ≡ ns
   nodes-back [] each = refl
-  nodes-back (n ∷ ns) each = λ i. each n (here (same_node n n) (has_node ns n) (node_same n)) i ∷ nodes-back ns (λ node e. each node (there (same_node node n) (has_node ns node) e)) i
-    where
-      here : (b c : Bool) → b ≡ true → b || c ≡ true
-      here true c e = refl
-      here false c e = absurd (false≢true e)
-
-      there : (b c : Bool) → c ≡ true → b || c ≡ true
-      there true c e = refl
-      there false c e = e
-
-      node_same : (node : Node) → same_node node node ≡ true
-      node_same nodes.Always = refl
-      node_same nodes.Never = refl
-      node_same (nodes.Basic m) = eq-eqb m m refl
-      node_same (nodes.Gate k) = key_same k
+  nodes-back (n ∷ ns) each = λ i. each n (or_left (same_node n n) (has_node ns n) (node_same n)) i ∷ nodes-back ns (λ node e. each node (or_right (same_node node n) (has_node ns node) e)) i
 
   -- a gate with its inputs as nodes is the first gate of its name
   line-back : (key : GateKey) (line : Line) → has_key keys key ≡ true → first_line lines key ≡ Some line → line_of gates (gate_for lines keys key) ≡ line
@@ -179,25 +162,11 @@ module _ (events : ℕ) (lines : List Line) (top : GateKey) (keys : List GateKey
   gate-input [] m e = absurd (false≢true e)
   gate-input (n ∷ ns) m e = by (is_gate m (input_for keys n)) refl e (gate-input ns m)
     where
-      node_same : (node : Node) → same_node node node ≡ true
-      node_same nodes.Always = refl
-      node_same nodes.Never = refl
-      node_same (nodes.Basic k) = eq-eqb k k refl
-      node_same (nodes.Gate k) = key_same k
-
-      here : (b c : Bool) → b ≡ true → b || c ≡ true
-      here true c e = refl
-      here false c e = absurd (false≢true e)
-
-      there : (b c : Bool) → c ≡ true → b || c ≡ true
-      there true c e = refl
-      there false c e = e
-
       by : (b : Bool) → is_gate m (input_for keys n) ≡ b → b || has_gate (map (input_for keys) ns) m ≡ true
           → (has_gate (map (input_for keys) ns) m ≡ true → (node : Node) × (has_node ns node ≡ true) × (is_gate m (input_for keys node) ≡ true))
           → (node : Node) × (same_node node n || has_node ns node ≡ true) × (is_gate m (input_for keys node) ≡ true)
-      by true is found rest = (n, here (same_node n n) (has_node ns n) (node_same n), is)
-      by false is found rest = let r = rest found in (r.0, there (same_node r.0 n) (has_node ns r.0) r.1, r.2)
+      by true is found rest = (n, or_left (same_node n n) (has_node ns n) (node_same n), is)
+      by false is found rest = let r = rest found in (r.0, or_right (same_node r.0 n) (has_node ns r.0) r.1, r.2)
 
   -- the name of an input that is the gate at a position
   input-name : (n m : ℕ) (gate : Gate) → slice_get gates n ≡ Some gate → has_gate gate.inputs m ≡ true
@@ -243,19 +212,11 @@ module _ (events : ℕ) (lines : List Line) (top : GateKey) (keys : List GateKey
   gate-of-node [] next e = absurd (false≢true e)
   gate-of-node (n ∷ ns) next e = by (same_node (nodes.Gate next) n) refl e (gate-of-node ns next)
     where
-      here : (b c : Bool) → b ≡ true → b || c ≡ true
-      here true c e = refl
-      here false c e = absurd (false≢true e)
-
-      there : (b c : Bool) → c ≡ true → b || c ≡ true
-      there true c e = refl
-      there false c e = e
-
       by : (b : Bool) → same_node (nodes.Gate next) n ≡ b → b || has_node ns (nodes.Gate next) ≡ true → (has_node ns (nodes.Gate next) ≡ true → has_gate (map (input_for keys) ns) (place_of keys next) ≡ true)
           → is_gate (place_of keys next) (input_for keys n) || has_gate (map (input_for keys) ns) (place_of keys next) ≡ true
       by true is found rest =
-          here _ _ (ap (λ (node : Node). is_gate (place_of keys next) (input_for keys node)) (sym (node_exact (nodes.Gate next) n is)) ∙ eq-eqb (place_of keys next) (place_of keys next) refl)
-      by false is found rest = there (is_gate (place_of keys next) (input_for keys n)) _ (rest found)
+          or_left _ _ (ap (λ (node : Node). is_gate (place_of keys next) (input_for keys node)) (sym (node_exact (nodes.Gate next) n is)) ∙ eq-eqb (place_of keys next) (place_of keys next) refl)
+      by false is found rest = or_right (is_gate (place_of keys next) (input_for keys n)) _ (rest found)
 
   top-has : has_key keys top ≡ true
   top-has = is.all top (λ set closed h. h)
@@ -341,15 +302,7 @@ module _ (events : ℕ) (lines : List Line) (top : GateKey) (keys : List GateKey
       inputs-below set [] each = tt
       inputs-below set (inputs.Event n ∷ ins) each = ((λ e. e), inputs-below set ins each)
       inputs-below set (inputs.Gate n ∷ ins) each =
-          (each n (here (n == n) (has_gate ins n) (eq-eqb n n refl)), inputs-below set ins (λ m e. each m (there (n == m) (has_gate ins m) e)))
-        where
-          here : (b c : Bool) → b ≡ true → b || c ≡ true
-          here true c e = refl
-          here false c e = absurd (false≢true e)
-
-          there : (b c : Bool) → c ≡ true → b || c ≡ true
-          there true c e = refl
-          there false c e = e
+          (each n (or_left (n == n) (has_gate ins n) (eq-eqb n n refl)), inputs-below set ins (λ m e. each m (or_right (n == m) (has_gate ins m) e)))
 
       -- a true gate is in each closed set
       in-closed : (set : NumberSet) → IsClosedTree gates es set → (bound n : ℕ) → rank n < bound → n < length keys → true_at n ≡ true → set n ≡ true

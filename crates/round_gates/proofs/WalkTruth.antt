@@ -1,7 +1,7 @@
 -- The walk of a formula keeps its truth: there is a truth of the gates of its places under which each gate is met and its
 -- node is true exactly where the formula is.
 use Rattle.std.proofs.Common.{ℕ, ◌+◌, ◌-◌, ◌≡◌, ◌<◌, ◌≤◌, Bool, true, false, cond, not, ◌||◌, ◌==◌, nat_le, nat_lt, List, [], ◌∷◌, ◌++◌, map, length, ap, ◌∙◌, sym, subst, refl, arith, rules, tests}
-use Rattle.std.proofs.lemmas.Bool.{false≢true, ne_eqb, eq-eqb}
+use Rattle.std.proofs.lemmas.Bool.{ne_eqb, eq-eqb}
 use Rattle.std.specs.List.{list_all, list_any, AllByRecursion}
 use Rattle.fault_system.specs.Truth.{NumberSet, count_true, truth, truth_step, occurs, occurs_step}
 use Rattle.fault_system.specs.declared.formula.Formula.{Formula, map-Formula, roll-Formula, fold-roll-Formula, ind-Formula}
@@ -19,10 +19,7 @@ use Rattle.round_gates.specs.Nodes.{same_node, has_node, without, gathered, each
 use Rattle.round_gates.specs.Walks.{Walked, Parts, key_at, parts_of, nodes_of, varying_parts, node_at, line_at, with_seen, wrapped, repeats, counted_lines, walk, walk_step}
 use Rattle.round_gates.specs.Truths.{GateSet, node_true, join_true, IsMet}
 use Rattle.round_gates.proofs.Rules.{all_of-keeps, any_of-keeps, least_of-keeps}
-
-pub all-append : {X : Type 0} (P : X → Type 0) (xs ys : List X) → AllByRecursion P xs → AllByRecursion P ys → AllByRecursion P (xs ++ ys)
-all-append P [] ys a b = b
-all-append P (x ∷ xs) ys a b = (a.0, all-append P xs ys a.1 b)
+use Rattle.round_gates.proofs.Basics.{all-append, or_left, or_right, or_false}
 
 -- what the rule of a count makes a gate of are the nodes that are not constant
 module _ (k : ℕ) where
@@ -111,14 +108,6 @@ below a b h = search (rules, tests)
 not_below : (a b : ℕ) → b ≤ a → nat_lt a b ≡ false
 not_below a b h = search (rules, tests)
 
-or_left : (b c : Bool) → b ≡ true → b || c ≡ true
-or_left true c e = refl
-or_left false c e = absurd (false≢true e)
-
-or_right : (b c : Bool) → c ≡ true → b || c ≡ true
-or_right true c e = refl
-or_right false c e = e
-
 module _ (events : NumberSet) (stage : Stage) where
   module _ (gates : GateSet) where
     abbrev val : Node → Bool
@@ -141,10 +130,6 @@ module _ (events : NumberSet) (stage : Stage) where
         by : (b : Bool) → val (cond b (Gate (key_at stage part.place)) part.node) ≡ val part.node
         by true = h.0
         by false = refl
-
-    or_false : (b : Bool) → b ≡ b || false
-    or_false true = refl
-    or_false false = refl
 
     repeats-met : (seen : List Node) (parts : List Part) → AllByRecursion (PlaceRight events stage gates) parts → AllByRecursion (IsMet events gates) (repeats stage seen parts)
     repeats-met seen [] h = tt

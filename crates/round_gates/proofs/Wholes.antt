@@ -1,5 +1,5 @@
 -- What the tree of a target takes from its slice, its blocks and its places.
-use Rattle.std.proofs.Common.{ℕ, zero, suc, ◌+◌, ◌*◌, ◌≡◌, ◌<◌, ◌≤◌, ◌↔◌, Bool, true, false, cond, ◌||◌, ◌==◌, List, [], ◌∷◌, length, map, get_or, All, Contains, Result, Ok, Err, IfOk, Some, ap, ◌∙◌, sym, subst, refl, arith}
+use Rattle.std.proofs.Common.{ℕ, zero, suc, ◌+◌, ◌*◌, ◌≡◌, ◌<◌, ◌≤◌, ◌↔◌, Bool, true, false, cond, ◌==◌, List, [], ◌∷◌, length, map, get_or, All, Contains, Result, Ok, Err, IfOk, Some, ap, ◌∙◌, sym, subst, refl, arith}
 use Rattle.std.proofs.lemmas.Bool.{false≢true, eq-eqb}
 use Rattle.std.proofs.lemmas.List.{get_or_default}
 use Rattle.std.proofs.lemmas.List.Sums.{sum_by-cons}
@@ -19,6 +19,7 @@ use Rattle.round_gates.specs.Truths.{node_true}
 use Rattle.round_gates.specs.Unrolled.{IsSmall}
 use Rattle.round_gates.specs.Walks.{places, total}
 use Rattle.round_gates.proofs.StageTruth.{gate_values, last-right}
+use Rattle.round_gates.proofs.Basics.{or_false}
 
 -- what follows of an answer
 pub if_ok : {X E : Type 0} (P Q : X → Type 0) → ((x : X) → P x → Q x) → (r : Result X E) → IfOk r P → IfOk r Q
@@ -74,19 +75,15 @@ few-small system facts numbers inside few k d fits info at =
     same : (j : ℕ) → get_or facts k (get_or facts k d) ≡ get_or facts k d
     same j = get_or_default facts k (get_or facts k d) d fits
 
-or_false : (b : Bool) → b || false ≡ b
-or_false true = refl
-or_false false = refl
-
 -- the tree of an event is true exactly where the event is
 event-holds : (numbers : BlockNumbers) (target event : ℕ) (es : NumberSet) → TreeHolds (event_tree numbers target event) es ↔ (es event ≡ true)
 event-holds numbers target event es =
-    ((λ holds. holds (λ _. es event) closed), (λ e set is. is 0 _ refl (or_false (es event) ∙ e)))
+    ((λ holds. holds (λ _. es event) closed), (λ e set is. is 0 _ refl (sym (or_false (es event)) ∙ e)))
   where
     closed : IsClosedTree (event_tree numbers target event).gates es (λ _. es event)
     closed zero gate at e =
         let same = some_inner _ gate at in
-        sym (or_false (es event)) ∙ ap (gate_true es (λ _. es event)) same ∙ e
+        or_false (es event) ∙ ap (gate_true es (λ _. es event)) same ∙ e
       where
         some_inner : (x y : Gate) → Some x ≡ Some y → x ≡ y
         some_inner x y h = cc

@@ -20,8 +20,42 @@ fn has_node(nodes: &[Node], node: Node) -> bool
     false
 }
 
+/// The greatest number of nodes that are compared one by one.
+const FEW: usize = 8;
+
 /// The nodes of a list, each once, without one of them.
 fn distinct(alloc: Global, nodes: &[Node], dropped: Node) -> Mem<List<Node>>
+    ensures { IfOk result (λ kept. kept ≡ each_once (without dropped nodes.now)) }
+{
+    if nodes.len() <= FEW {
+        distinct_few(alloc, nodes, dropped)
+    } else {
+        distinct_many(alloc, nodes, dropped)
+    }
+}
+
+/// The same by comparing each node with all that are kept.
+fn distinct_few(alloc: Global, nodes: &[Node], dropped: Node) -> Mem<List<Node>>
+    ensures { IfOk result (λ kept. kept ≡ each_once (without dropped nodes.now)) }
+{
+    let mut kept = List::new(alloc);
+    for node in nodes {
+        keep(&mut kept, *node, dropped)?;
+    }
+    Ok(kept)
+}
+
+fn keep(kept: &mut List<Node>, node: Node, dropped: Node) -> Mem<()>
+    ensures { OnOk result (kept.new ≡ kept_key kept.old node dropped) }
+{
+    if dropped == node || has_node(kept.items(), node) {
+        return Ok(());
+    }
+    kept.push(node)
+}
+
+/// The same by a set of those that are kept.
+fn distinct_many(alloc: Global, nodes: &[Node], dropped: Node) -> Mem<List<Node>>
     ensures { IfOk result (λ kept. kept ≡ each_once (without dropped nodes.now)) }
 {
     let mut seen = IndexSet::new(alloc);
