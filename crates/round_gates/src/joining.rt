@@ -38,20 +38,21 @@ fn distinct(alloc: Global, nodes: &[Node], dropped: Node) -> Mem<List<Node>>
 fn distinct_few(alloc: Global, nodes: &[Node], dropped: Node) -> Mem<List<Node>>
     ensures { IfOk result (λ kept. kept ≡ each_once (without dropped nodes.now)) }
 {
-    let mut kept = List::new(alloc);
+    let mut kept = Vec::with_capacity(alloc, nodes.len())?;
     for node in nodes {
         keep(&mut kept, *node, dropped)?;
     }
-    Ok(kept)
+    List::of(kept)
 }
 
-fn keep(kept: &mut List<Node>, node: Node, dropped: Node) -> Mem<()>
-    ensures { OnOk result (kept.new ≡ kept_key kept.old node dropped) }
+fn keep(kept: &mut Vec<Node>, node: Node, dropped: Node) -> Mem<()>
+    ensures { OnOk result (kept.new.items ≡ kept_key kept.old.items node dropped) }
 {
-    if dropped == node || has_node(kept.items(), node) {
+    if dropped == node || has_node(kept.as_slice(), node) {
         return Ok(());
     }
-    kept.push(node)
+    kept.push(node)?;
+    Ok(())
 }
 
 /// The same by a set of those that are kept.

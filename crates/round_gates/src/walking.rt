@@ -48,11 +48,11 @@ fn key_at(stage: Stage, place: u32) -> GateKey
 fn nodes_of(alloc: Global, parts: &[Part]) -> Mem<List<Node>>
     ensures { IfOk result (λ nodes. nodes ≡ nodes_of parts.now) }
 {
-    let mut nodes = List::new(alloc);
+    let mut nodes = Vec::with_capacity(alloc, parts.len())?;
     for part in parts {
         nodes.push(part.node)?;
     }
-    Ok(nodes)
+    List::of(nodes)
 }
 
 /// The node that a rule gives at a place; a gate that it makes goes to the lines.
@@ -241,7 +241,7 @@ fn walk_parts(
         found.parts found.next lines.old.items lines.new.items) }
     ensures next { IfOk result (λ found. found.next ≡ place + total (map places parts.now)) }
 {
-    let mut list = List::new(alloc);
+    let mut list = Vec::with_capacity(alloc, parts.len())?;
     let mut next = place;
     for part in parts {
         let one = walk_formula(alloc, stage, looks, part, next, lines)?;
@@ -251,5 +251,6 @@ fn walk_parts(
         })?;
         next = one.next;
     }
-    Ok(FoundParts { parts: list, next })
+    let parts = List::of(list)?;
+    Ok(FoundParts { parts, next })
 }
