@@ -1,0 +1,6 @@
+use Rattle.round_gates.specs.Stages.{low_nodes}
+use Rattle.round_gates.specs.Unrolled.{AreUnrolled}
+use Rattle.round_gates.proofs.unrolling.run_blocks.Given as goal
+
+abbrev pub invariant-loop-block : goal.invariant-loop-block
+invariant-loop-block l = AreUnrolled l.system l.blocks (low_nodes l.system l.blocks l.block) l.nodes l.lines.items

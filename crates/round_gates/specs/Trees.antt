@@ -1,0 +1,158 @@
+-- The tree of a target, and when a tree is true.
+use Rattle.std.specs.Prelude.{ℕ, ◌+◌, ◌<◌, ◌≡◌, ◌≢◌, Bool, true, false, List, [], ◌∷◌, length, map, filter, slice_get, slice_index_or, Option, Some, None, unwrap_or, position, ◌==◌}
+use Rattle.std.specs.List.{AllByRecursion, list_any, range_with_len}
+use Rattle.std.specs.Ordering.{nat_cmp, ordering_then}
+use Rattle.std.specs.declared.cmp.Ordering.{Ordering}
+use Rattle.std.specs.declared.cmp.Ordering.TheVariants.{Less}
+use Rattle.fault_system.specs.Truth.{NumberSet, Has}
+use Rattle.fault_system.specs.Systems.{System}
+use Rattle.dependency_blocks.specs.Blocks.{BlockNumbers, number_of, size_of}
+use Rattle.round_gates.specs.declared.node.GateKey.{GateKey}
+use Rattle.round_gates.specs.declared.node.GateKind.TheVariants.{Or}
+use Rattle.round_gates.specs.declared.node.Line.{Line}
+use Rattle.round_gates.specs.declared.node.Node.{Node}
+use Rattle.round_gates.specs.declared.node.Node.TheVariants as nodes
+use Rattle.round_gates.specs.declared.tree.Gate.{Gate}
+use Rattle.round_gates.specs.declared.tree.Input.{Input}
+use Rattle.round_gates.specs.declared.tree.Input.TheVariants as inputs
+use Rattle.round_gates.specs.declared.tree.Tree.{Tree}
+use Rattle.round_gates.specs.Nodes.{same_key}
+use Rattle.round_gates.specs.Stages.{last_node, IsGateOf}
+use Rattle.round_gates.specs.Truths.{kind_true}
+use Rattle.round_gates.specs.Reached.{first_line}
+
+-- names of gates are compared by fact, then by stage, then by place
+abbrev pub key_cmp : GateKey → GateKey → Ordering
+key_cmp a b = ordering_then (nat_cmp a.fact b.fact) (ordering_then (nat_cmp a.stage b.stage) (nat_cmp a.place b.place))
+
+-- each name comes before the next
+abbrev pub NamesRise : List GateKey → Type 0
+NamesRise keys = (n : ℕ) (d : GateKey) → n + 1 < length keys → key_cmp (slice_index_or keys n d) (slice_index_or keys (n + 1) d) ≡ Less
+
+-- the name of a gate
+abbrev pub key_of : Gate → GateKey
+key_of gate = record { fact = gate.fact; stage = gate.stage; place = gate.place }
+
+-- the name of the gate at a position
+abbrev pub key_in : List Gate → ℕ → GateKey
+key_in gates n = slice_index_or (map key_of gates) n (record { fact = 0; stage = 0; place = 0 })
+
+-- the node that an input is
+abbrev pub node_of : List Gate → Input → Node
+node_of gates (inputs.Event n) = nodes.Basic n
+node_of gates (inputs.Gate n) = nodes.Gate (key_in gates n)
+
+-- a gate of a tree by its name, with its inputs as nodes
+abbrev pub line_of : List Gate → Gate → Line
+line_of gates gate = record { key = key_of gate; kind = gate.kind; inputs = map (node_of gates) gate.inputs }
+
+-- whether an input is the gate at a position
+abbrev pub is_gate : ℕ → Input → Bool
+is_gate n (inputs.Event m) = false
+is_gate n (inputs.Gate m) = m == n
+
+-- whether an input is the event of a number
+abbrev pub is_event : ℕ → Input → Bool
+is_event n (inputs.Event m) = m == n
+is_event n (inputs.Gate m) = false
+
+-- no input comes twice
+abbrev pub InputsOnce : List Input → Type 0
+InputsOnce [] = Unit {0}
+InputsOnce (input ∷ inputs) = AllByRecursion (λ other. input ≢ other) inputs × InputsOnce inputs
+
+-- whether the gate at a position is among some inputs
+abbrev pub has_gate : List Input → ℕ → Bool
+has_gate inputs n = list_any (is_gate n) inputs
+
+-- the numbers of the events that are inputs of some gates, of so many events, rising
+abbrev pub events_in : ℕ → List Gate → List ℕ
+events_in events gates = filter (λ n. list_any (λ gate. list_any (is_event n) gate.inputs) gates) (range_with_len 0 events)
+
+-- with each gate a set of positions has those of its inputs
+abbrev pub HasInputGates : List Gate → NumberSet → Type 0
+HasInputGates gates set =
+    (n m : ℕ) (gate : Gate) → Has set n → slice_get gates n ≡ Some gate → has_gate gate.inputs m ≡ true → Has set m
+
+-- one gate leads to another: it is the same, or it can be gone to the other by "is an input of"
+abbrev pub LeadsTo : List Gate → ℕ → ℕ → Type 0
+LeadsTo gates from to = (set : NumberSet) → HasInputGates gates set → Has set from → Has set to
+
+-- The gates of a tree whose top has a name: each is a gate of a stage with exactly its inputs, none of them twice; they rise
+-- by fact, stage and place; exactly those that the top leads to are there; and none leads back to itself.
+pub record IsGateTree (system : System) (numbers : BlockNumbers) (top : GateKey) (tree : Tree) : Type 0 where
+  pub top_in : tree.top < length tree.gates
+  pub top_is : key_in tree.gates tree.top ≡ top
+  pub gates_are : (n : ℕ) (gate : Gate) → slice_get tree.gates n ≡ Some gate → IsGateOf system numbers (line_of tree.gates gate)
+  pub inputs_once : (n : ℕ) (gate : Gate) → slice_get tree.gates n ≡ Some gate → InputsOnce gate.inputs
+  pub inputs_in : (n m : ℕ) (gate : Gate) → slice_get tree.gates n ≡ Some gate → has_gate gate.inputs m ≡ true → m < length tree.gates
+  pub rise : NamesRise (map key_of tree.gates)
+  pub reached : (n : ℕ) → n < length tree.gates → LeadsTo tree.gates tree.top n
+  pub acyclic : (n m : ℕ) (gate : Gate) → slice_get tree.gates n ≡ Some gate → has_gate gate.inputs m ≡ true → LeadsTo tree.gates m n → ⊥
+  pub events : tree.events ≡ events_in (length system.events) tree.gates
+
+-- the tree of one event: an `or` gate at the last stage of the target with this input
+abbrev pub event_tree : BlockNumbers → ℕ → ℕ → Tree
+event_tree numbers target event =
+    record {
+      top = 0;
+      gates = record { fact = target; stage = size_of numbers (number_of numbers target); place = 0; kind = Or; inputs = inputs.Event event ∷ [] } ∷ [];
+      events = event ∷ [];
+    }
+
+-- the tree of a node
+abbrev pub IsTreeOf : System → BlockNumbers → ℕ → Tree → Node → Type 0
+IsTreeOf system numbers target tree nodes.Always = ⊥
+IsTreeOf system numbers target tree nodes.Never = ⊥
+IsTreeOf system numbers target tree (nodes.Basic n) = tree ≡ event_tree numbers target n
+IsTreeOf system numbers target tree (nodes.Gate key) = IsGateTree system numbers key tree
+
+-- the tree of a target: that of the node of its last stage
+abbrev pub IsTree : System → BlockNumbers → ℕ → Tree → Type 0
+IsTree system numbers target tree = IsTreeOf system numbers target tree (last_node system numbers target)
+
+-- whether an input is true under a set of events and a set of gates
+abbrev pub input_true : NumberSet → NumberSet → Input → Bool
+input_true events gates (inputs.Event n) = events n
+input_true events gates (inputs.Gate n) = gates n
+
+-- whether a gate is true under a set of events and a set of gates
+abbrev pub gate_true : NumberSet → NumberSet → Gate → Bool
+gate_true events gates gate = kind_true gate.kind (map (input_true events gates) gate.inputs)
+
+-- a set of positions has each gate that is true under the events and the set
+abbrev pub IsClosedTree : List Gate → NumberSet → NumberSet → Type 0
+IsClosedTree gates events set = (n : ℕ) (gate : Gate) → slice_get gates n ≡ Some gate → gate_true events set gate ≡ true → Has set n
+
+-- a tree is true under a set of events if each such set has its top
+abbrev pub TreeHolds : Tree → NumberSet → Type 0
+TreeHolds tree events = (set : NumberSet) → IsClosedTree tree.gates events set → Has set tree.top
+
+-- the position of a name
+abbrev pub place_of : List GateKey → GateKey → ℕ
+place_of keys key = unwrap_or (position (λ other. same_key key other) keys) 0
+
+-- the input that a node is; a constant is no input
+abbrev pub input_for : List GateKey → Node → Input
+input_for keys nodes.Always = inputs.Event 0
+input_for keys nodes.Never = inputs.Event 0
+input_for keys (nodes.Basic n) = inputs.Event n
+input_for keys (nodes.Gate key) = inputs.Gate (place_of keys key)
+
+-- a gate with a name, made of one with nodes as inputs
+abbrev pub gate_with : List GateKey → GateKey → Option Line → Gate
+gate_with keys key None = record { fact = key.fact; stage = key.stage; place = key.place; kind = Or; inputs = [] }
+gate_with keys key (Some line) = record { fact = key.fact; stage = key.stage; place = key.place; kind = line.kind; inputs = map (input_for keys) line.inputs }
+
+-- the gate of a name
+abbrev pub gate_for : List Line → List GateKey → GateKey → Gate
+gate_for lines keys key = gate_with keys key (first_line lines key)
+
+-- the tree of these gates, by their names
+abbrev pub tree_of : ℕ → List Line → List GateKey → GateKey → Tree
+tree_of events lines keys top =
+    record {
+      top = place_of keys top;
+      gates = map (gate_for lines keys) keys;
+      events = events_in events (map (gate_for lines keys) keys);
+    }
