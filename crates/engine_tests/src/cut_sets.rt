@@ -85,7 +85,7 @@ fn list_family(store: &mut Store, sets: &[List<u32>], most: usize) -> Mem<Id>
 }
 
 // The slice of the third fact.
-fn part_of(rt: &impl Abort, alloc: Global, system: &FaultSystem) -> Mem<Slice>
+pub(crate) fn part_of(rt: &impl Abort, alloc: Global, system: &FaultSystem) -> Mem<Slice>
     ensures { IfOk result (λ part. IsSlice system.now part.target part) }
 {
     assert!(rt; system.facts() == 3);
@@ -198,7 +198,11 @@ fn list_of(alloc: Global, set: u32) -> Mem<List<u32>> {
     Ok(list)
 }
 
-fn case_system(rt: &impl Abort, alloc: Global, gates: [(u32, [u32; 3]); 3]) -> Mem<FaultSystem> {
+pub(crate) fn case_system(
+    rt: &impl Abort,
+    alloc: Global,
+    gates: [(u32, [u32; 3]); 3],
+) -> Mem<FaultSystem> {
     let mut formulas = Vec::new(alloc);
     for (kind, leaves) in gates {
         formulas.push(gate(alloc, kind, leaves, 0)?)?;

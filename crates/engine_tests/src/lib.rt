@@ -7,3 +7,5 @@ mod cut_sets;
 mod diagrams;
 #[cfg(test)]
 mod systems;
+#[cfg(test)]
+mod trees;
