@@ -55,7 +55,7 @@ within_rising low high (n ∷ ns) top h =
     let rest : n + 1 ≤ least_of ns = within_least (n + 1) high ns (omega (arith, h.1)) top h.2 in (omega arith, within_rising (n + 1) high ns top h.2)
 
 -- a set without a number
-leave : ℕ → List ℕ → List ℕ
+unfoldable pub leave : ℕ → List ℕ → List ℕ
 leave e set = filter (λ n. not (n == e)) set
 
 leave-length : (e : ℕ) (set : List ℕ) → length (leave e set) ≤ length set
@@ -66,7 +66,7 @@ leave-length e (n ∷ ns) = omega (arith, by (not (n == e)) (leave-length e ns))
   by true h = omega arith
   by false h = omega arith
 
-leave-has : (e : ℕ) (set : List ℕ) (x : ℕ) → (x ≡ e → ⊥) → has set x ≡ true → has (leave e set) x ≡ true
+pub leave-has : (e : ℕ) (set : List ℕ) (x : ℕ) → (x ≡ e → ⊥) → has set x ≡ true → has (leave e set) x ≡ true
 unfolding leave
 leave-has e [] x differ h = absurd (has_none x h)
 leave-has e (n ∷ ns) x differ h = by (n == e) refl (λ k. leave-has e ns x differ k) where
@@ -74,7 +74,7 @@ leave-has e (n ∷ ns) x differ h = by (n == e) refl (λ k. leave-has e ns x dif
   by true is rest = ⊎_elim (λ same. absurd (differ (sym same ∙ eqb-true n e is))) rest (has_cases n ns x h)
   by false is rest = ⊎_elim (λ same. subst (λ y. has (n ∷ filter (λ m. not (m == e)) ns) y ≡ true) same (has_first n _)) (λ k. has_rest n _ x (rest k)) (has_cases n ns x h)
 
-leave-none : (e : ℕ) (set : List ℕ) → has (leave e set) e ≡ true → ⊥
+pub leave-none : (e : ℕ) (set : List ℕ) → has (leave e set) e ≡ true → ⊥
 unfolding leave
 leave-none e [] h = has_none e h
 leave-none e (n ∷ ns) h = by (n == e) refl (leave-none e ns) h where
@@ -84,7 +84,7 @@ leave-none e (n ∷ ns) h = by (n == e) refl (leave-none e ns) h where
     eq_true : (a b : ℕ) → a ≡ b → (a == b) ≡ true
     eq_true a b same = eq-eqb a b same
 
-leave-within : (e : ℕ) (set : List ℕ) → is_within (leave e set) set ≡ true
+pub leave-within : (e : ℕ) (set : List ℕ) → is_within (leave e set) set ≡ true
 unfolding leave
 leave-within e set = within_from (leave e set) set (λ x h. kept set x h) where
   kept : (ns : List ℕ) (x : ℕ) → has (filter (λ m. not (m == e)) ns) x ≡ true → has ns x ≡ true

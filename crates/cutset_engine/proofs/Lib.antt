@@ -6,3 +6,4 @@ pub mod Rounds
 pub mod CutSets
 pub mod Ending
 pub mod Renamed
+pub mod InSlice

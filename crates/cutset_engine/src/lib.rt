@@ -15,5 +15,7 @@ mod filling;
 mod formulas;
 mod gates;
 mod inner_order;
+mod laws;
 
 pub use families::family;
+pub use laws::in_slice;
