@@ -17,7 +17,7 @@ use Rattle.propagation_points.specs.declared.side.Reach.TheVariants.{Whole, Only
 use Rattle.propagation_points.specs.declared.uses.ReachedPoint.{ReachedPoint}
 use Rattle.propagation_points.specs.Points.{Point, scopes_of}
 use Rattle.propagation_points.specs.Settings.{Setting, clause_setting, faults_in, reached_in}
-use Rattle.propagation_points.specs.States.{state_faults, state_named}
+use Rattle.propagation_points.specs.States.{state_faults, number_named}
 use Rattle.propagation_points.specs.Uses.{point_use}
 use Rattle.error_flows.specs.declared.meaning.FlowMeaning.{FlowMeaning}
 use Rattle.error_flows.specs.declared.meaning.FlowMeaning.TheVariants.{Event, State, Carry, Change}
@@ -27,7 +27,7 @@ use Rattle.error_flows.specs.declared.meaning.FlowMeaning.TheVariants.{Event, St
 -- A source of this name is an event of its own, or where it names a state that state is what comes out.
 abbrev pub source_meaning : Setting → List ℕ → Option StateRef → ReachedPoint → Option FlowMeaning
 source_meaning setting name None reached = Some (Event name reached)
-source_meaning setting name (Some state) reached = option_map (λ number. State number reached) (state_named setting.states state.name)
+source_meaning setting name (Some state) reached = option_map (λ number. State number reached) (number_named setting.states state.name)
 
 -- A path without a set at its end carries each type to its end, and one with a set makes the types of the set of what it takes.
 abbrev pub path_meaning : ReachedPoint → ℕ → Reach → FlowMeaning

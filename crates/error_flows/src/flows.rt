@@ -4,7 +4,7 @@ ghost use Rattle.aadl_syntax.specs.declared.refusal.Code.TheVariants.{Mapping};
 ghost use Rattle.package_index.specs.Lookup.{refused_so};
 ghost use Rattle.component_extension.specs.Members.{refused_there};
 ghost use Rattle.propagation_points.specs.Settings.{faults_in, reached_in};
-ghost use Rattle.propagation_points.specs.States.{state_faults, state_named};
+ghost use Rattle.propagation_points.specs.States.{state_faults, number_named};
 ghost use Rattle.error_flows.specs.declared.meaning.FlowMeaning.TheVariants.{Event, State};
 ghost use Rattle.error_flows.specs.Flows.{all_flow_faults, faults_of_flows, flow_faults, flow_meaning, flows_of, meanings, path_meaning, source_meaning, when_faults};
 
@@ -14,7 +14,7 @@ use component_extension::{Effective, InClause};
 use error_types::{Scope, TypeTable};
 use package_index::note_if;
 use propagation_points::{
-    PointUse, Points, Reach, ReachedPoint, Setting, StateNames, note_at, scopes_of,
+    PointUse, Points, Reach, ReachedPoint, Setting, NameTable, note_at, scopes_of,
 };
 use std::alloc::Global;
 
@@ -28,7 +28,7 @@ pub fn flows_of<'a>(
     effective: &Effective<'a>,
     types: &mut TypeTable<'_, 'a>,
     points: &Points<'a>,
-    states: &StateNames<'a>,
+    states: &NameTable<'a>,
     first: &mut FirstRefusal,
 ) -> Mem<List<FlowMeaning>>
     ensures kept { types.new ≡ types.old }
@@ -55,7 +55,7 @@ fn meanings<'s, 'a>(
     alloc: Global,
     types: &mut TypeTable<'_, 'a>,
     points: &'s Points<'a>,
-    states: &'s StateNames<'a>,
+    states: &'s NameTable<'a>,
     scopes: &'s [Scope],
     flows: &[InClause<'a, Flow>],
     first: &mut FirstRefusal,
@@ -162,7 +162,7 @@ fn state_source(
     reached: Option<ReachedPoint>,
     first: &mut FirstRefusal,
 ) -> Option<FlowMeaning>
-    ensures meaning { result ≡ option_and_then (λ reached. option_map (λ number. State number reached) (state_named setting.now.states state.now.name)) reached }
+    ensures meaning { result ≡ option_and_then (λ reached. option_map (λ number. State number reached) (number_named setting.now.states state.now.name)) reached }
     ensures first { first.new ≡ nearer first.old (least (state_faults setting.now.states state.now)) }
 {
     let number = setting.refer(state, first);

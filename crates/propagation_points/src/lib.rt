@@ -11,9 +11,10 @@ mod states;
 mod uses;
 
 pub use declared::scopes_of;
+pub use open_point::only_name;
 pub use point::Point;
 pub use points::{Points, points_of};
 pub use setting::Setting;
 pub use side::{Reach, Side};
-pub use states::{StateNames, note_at};
+pub use states::{NameTable, note_at, spot_of};
 pub use uses::{PointUse, ReachedPoint, reached};

@@ -175,7 +175,7 @@ fn word_in<'a>(propagation: &'a PointItem, word: &[u8]) -> Option<&'a Identifier
 }
 
 /// The name of a point that is not dotted.
-pub(crate) fn only_name(names: &[Identifier]) -> Option<&Identifier>
+pub fn only_name(names: &[Identifier]) -> Option<&Identifier>
     ensures { option_copied result ≡ only names.now }
 {
     if names.len() != 1 {

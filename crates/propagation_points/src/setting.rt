@@ -1,9 +1,9 @@
-ghost use Rattle.std.specs.Prelude.{◌≡◌, IfOk, OnOk, Some, option_copied, slice_get};
+ghost use Rattle.std.specs.Prelude.{◌≡◌, IfOk, OnOk, option_copied, slice_get};
 ghost use Rattle.aadl_syntax.specs.Order.{least, nearer};
-ghost use Rattle.propagation_points.specs.States.{state_faults, state_named};
+ghost use Rattle.propagation_points.specs.States.{state_faults, number_named};
 
 use crate::points::Points;
-use crate::states::StateNames;
+use crate::states::NameTable;
 use crate::uses::{PointUse, ReachedPoint, reached};
 use aadl_syntax::{FirstRefusal, Mem, StateRef};
 use error_types::{Scope, TypeTable};
@@ -15,7 +15,7 @@ use std::marker::Model;
 #[derive(Drop)]
 pub struct Setting<'s, 'a> {
     points: &'s Points<'a>,
-    states: &'s StateNames<'a>,
+    states: &'s NameTable<'a>,
     scope: Option<&'s Scope>,
 }
 
@@ -35,25 +35,25 @@ impl<'s, 'a> Model for Setting<'s, 'a> {
 impl<'s, 'a> Setting<'s, 'a> {
     ghost use Rattle.propagation_points.specs.Settings.{clause_setting, faults_in, reached_in};
 
-    /// The setting of items that are read in this text.
+    /// The setting of items that are read in this text, if there is one.
     pub fn new(
         points: &'s Points<'a>,
-        states: &'s StateNames<'a>,
-        scope: &'s Scope,
+        states: &'s NameTable<'a>,
+        scope: Option<&'s Scope>,
     ) -> Setting<'s, 'a>
-        ensures { result ≡ record { points = points.now; states = states.now; scope = Some scope.now } }
+        ensures { result ≡ record { points = points.now; states = states.now; scope = option_copied scope.entry } }
     {
         Setting {
             points,
             states,
-            scope: Some(scope),
+            scope,
         }
     }
 
     /// The setting of the items of a clause, which has this number among the texts.
     pub fn of_clause(
         points: &'s Points<'a>,
-        states: &'s StateNames<'a>,
+        states: &'s NameTable<'a>,
         scopes: &'s [Scope],
         number: usize,
     ) -> Setting<'s, 'a>
@@ -67,11 +67,11 @@ impl<'s, 'a> Setting<'s, 'a> {
     }
 
     /// What a use of a point reaches. Its refusals are noted.
-    pub fn reached(
+    pub fn reached<'t>(
         &self,
         alloc: Global,
-        types: &mut TypeTable<'_, 'a>,
-        used: &PointUse<'a>,
+        types: &mut TypeTable<'_, 't>,
+        used: &PointUse<'t>,
         first: &mut FirstRefusal,
     ) -> Mem<Option<ReachedPoint>>
         ensures kept { types.new ≡ types.old }
@@ -83,7 +83,7 @@ impl<'s, 'a> Setting<'s, 'a> {
 
     /// The number of the state to which a text refers. The refusals of the reference are noted.
     pub fn refer(&self, state: &StateRef, first: &mut FirstRefusal) -> Option<u32>
-        ensures number { result ≡ state_named self.now.states state.now.name }
+        ensures number { result ≡ number_named self.now.states state.now.name }
         ensures first { first.new ≡ nearer first.old (least (state_faults self.now.states state.now)) }
     {
         self.states.refer(state, first)

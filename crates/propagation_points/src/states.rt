@@ -2,7 +2,7 @@ ghost use Rattle.std.specs.Prelude.{◌≡◌, [], IfOk, map, option_map};
 ghost use Rattle.propagation_points.specs.Points.{NamesDiffer};
 ghost use Rattle.aadl_syntax.specs.Order.{least, nearer};
 ghost use Rattle.component_extension.specs.Members.{refused_there};
-ghost use Rattle.propagation_points.specs.States.{keep_name, state_faults, state_named};
+ghost use Rattle.propagation_points.specs.States.{keep_name, state_faults, number_named};
 
 use aadl_syntax::{Code, FirstRefusal, Identifier, List, Mem, Spot, StateRef, TypeSet};
 use package_index::note_if;
@@ -10,15 +10,15 @@ use std::alloc::Global;
 use std::collections::HashMap;
 use std::marker::Model;
 
-/// The names of the states of a component, in order, each once. Contracts see them as a list; a state is numbered by its
-/// place in it, from 0.
+/// The names of the states or of the events of a component, in order, each once. Contracts see them as a list; a name is
+/// numbered by its place in it, from 0.
 #[derive(Drop)]
-pub struct StateNames<'a> {
+pub struct NameTable<'a> {
     names: List<&'a Identifier>,
     places: HashMap<&'a [u8], u32>,
 }
 
-impl<'a> Model for StateNames<'a> {
+impl<'a> Model for NameTable<'a> {
     ghost use Rattle.std.specs.Prelude.{List, ℕ, map};
     ghost use Rattle.std.specs.HashMap.{get};
     ghost use Rattle.package_index.specs.Tables.{same_text};
@@ -31,46 +31,46 @@ impl<'a> Model for StateNames<'a> {
     ghost invariant = { λ s. KnowsNames (λ (state : List ℕ). state) (map (λ name. name.now) s.names) (get same_text s.places) };
 }
 
-impl<'a> StateNames<'a> {
-    /// No states.
-    pub fn new(alloc: Global) -> StateNames<'a>
+impl<'a> NameTable<'a> {
+    /// No names.
+    pub fn new(alloc: Global) -> NameTable<'a>
         ensures { result ≡ [] }
     {
-        StateNames {
+        NameTable {
             names: List::new(alloc),
             places: HashMap::new(alloc),
         }
     }
 
     /// The names with one more at the end, unless it is there.
-    pub fn with(self, name: &'a Identifier) -> Mem<StateNames<'a>>
-        ensures { IfOk result (λ states. states ≡ keep_name self.entry name.now) }
+    pub fn with(self, name: &'a Identifier) -> Mem<NameTable<'a>>
+        ensures { IfOk result (λ names. names ≡ keep_name self.entry name.now) }
     {
         let text = name.text();
         if self.number(text).is_some() {
             return Ok(self);
         }
-        let StateNames {
+        let NameTable {
             mut names,
             mut places,
         } = self;
         let count = names.items().len() as u32;
         places.insert(text, count)?;
         names.push(name)?;
-        Ok(StateNames { names, places })
+        Ok(NameTable { names, places })
     }
 
     /// The names, in order. No two are the same.
     pub fn names(&self) -> &[&'a Identifier]
         ensures names { map (λ name. name.now) result.now ≡ self.now }
-        ensures differ { NamesDiffer (λ state. state) self.now }
+        ensures differ { NamesDiffer (λ name. name) self.now }
     {
         self.names.items()
     }
 
-    /// The number of the state of a name.
+    /// The number of a name.
     pub fn number(&self, name: &[u8]) -> Option<u32>
-        ensures { result ≡ state_named self.now name.now }
+        ensures { result ≡ number_named self.now name.now }
     {
         self.places.get(name).copied()
     }
@@ -81,7 +81,7 @@ impl<'a> StateNames<'a> {
     /// behind it.
     #[tactic(auto, using(component_extension::proofs::Noting::noted_more))]
     pub fn refer(&self, state: &StateRef, first: &mut FirstRefusal) -> Option<u32>
-        ensures number { result ≡ state_named self.now state.now.name }
+        ensures number { result ≡ number_named self.now state.now.name }
         ensures first { first.new ≡ nearer first.old (least (state_faults self.now state.now)) }
     {
         let number = self.number(state.name.text());
@@ -91,7 +91,8 @@ impl<'a> StateNames<'a> {
     }
 }
 
-fn spot_of(set: &Option<TypeSet>) -> Option<Spot>
+/// Where a set stands, if there is one.
+pub fn spot_of(set: &Option<TypeSet>) -> Option<Spot>
     ensures { result ≡ option_map (λ set. set.spot) set.now }
 {
     match set {

@@ -1,0 +1,70 @@
+-- What the named parts of a composite state mean (EMV2: composite error behavior).
+use Rattle.std.specs.Prelude.{ℕ, Bool, true, cond, List, [], ◌∷◌, ◌++◌, Option, Some, None, is_none, option_and_then}
+use Rattle.aadl_syntax.specs.declared.error_model.Atom.{Atom}
+use Rattle.aadl_syntax.specs.declared.place.Spot.{Spot}
+use Rattle.aadl_syntax.specs.declared.refusal.Code.TheVariants.{UnknownState, UnknownSubcomponent}
+use Rattle.aadl_syntax.specs.declared.refusal.Refusal.{Refusal}
+use Rattle.package_index.specs.Lookup.{refused_so}
+use Rattle.package_index.specs.Names.{front, last}
+use Rattle.error_types.specs.Libraries.{Table}
+use Rattle.propagation_points.specs.Settings.{Setting, faults_in}
+use Rattle.propagation_points.specs.States.{number_named}
+use Rattle.propagation_points.specs.Uses.{atom_use}
+use Rattle.error_conditions.specs.declared.cause.Cause.{Cause}
+use Rattle.error_conditions.specs.declared.cause.Cause.TheVariants.{Any, State}
+use Rattle.error_conditions.specs.Conditions.{no_error_faults, point_meaning, typed_faults}
+
+-- The states of the component to which names of subcomponents lead, if they lead to one.
+abbrev pub StatesAt : Type 0
+StatesAt = List (List ℕ) → Option (List (List ℕ))
+
+-- Where a condition of composite states stands: the points and the states of the component, the text in which it is read, and
+-- what lies below the component.
+pub record CompositePlace (Below : Type 0) : Type 0 where
+  pub setting : Setting
+  pub below : Below
+
+-- ---- states below
+
+-- the states of the component below to which these names lead; without a name they lead to none
+abbrev pub below_at : StatesAt → List (List ℕ) → Option (List (List ℕ))
+below_at states_at [] = None
+below_at states_at (name ∷ names) = states_at (name ∷ names)
+
+-- the number of the state that the last of the names names, among these states, if there are any
+abbrev pub state_in : List (List ℕ) → Option (List (List ℕ)) → Option ℕ
+state_in names states = option_and_then (λ states. option_and_then (number_named states) (last names)) states
+
+-- the state that names mean, the last of them in the component to which the names before it lead
+abbrev pub state_at : StatesAt → List (List ℕ) → Option ℕ
+state_at states_at names = state_in names (below_at states_at (front names))
+
+-- it is in the state of this number; without such a state it is never true
+abbrev pub state_cause : List (List ℕ) → Option ℕ → Cause
+state_cause path None = Any []
+state_cause path (Some number) = State (record { path = path; state = number })
+
+-- the meaning of a named part that names a state of a component below
+abbrev pub state_named : StatesAt → Atom → Cause
+state_named states_at atom = state_cause (front atom.names) (state_at states_at atom.names)
+
+-- N13 where there is no such component below, N11 where it has no such state, both at the first name
+abbrev pub unknown_faults : List (List ℕ) → Spot → Option (List (List ℕ)) → List Refusal
+unknown_faults names spot None = refused_so true UnknownSubcomponent spot
+unknown_faults names spot (Some states) = refused_so (is_none (state_in names (Some states))) UnknownState spot
+
+-- the refusals of a named part that names a state of a component below
+abbrev pub state_named_faults : StatesAt → Atom → List Refusal
+state_named_faults states_at atom = unknown_faults atom.names atom.spot (below_at states_at (front atom.names)) ++ typed_faults atom
+
+-- ---- named parts
+
+-- What a named part of a composite state means: after `in` a point of the component itself, else a state of a component below.
+abbrev pub composite_meaning : StatesAt → Setting → Table → Atom → Cause
+composite_meaning states_at setting table atom = cond atom.inward (point_meaning table setting atom) (state_named states_at atom)
+
+-- The refusals of a named part of a composite state: P6 at a `noerror` of its set; of a point N9 and N10; of a state N13, N11
+-- and P10.
+abbrev pub composite_faults : StatesAt → Setting → Table → Atom → List Refusal
+composite_faults states_at setting table atom =
+    no_error_faults atom.set ++ cond atom.inward (faults_in table setting (atom_use atom)) (state_named_faults states_at atom)

@@ -1,0 +1,171 @@
+ghost use Rattle.std.specs.Prelude.{◌≡◌, IfOk, OnOk, Some, is_none, option_copied};
+ghost use Rattle.aadl_syntax.specs.Order.{least, nearer};
+ghost use Rattle.package_index.specs.Names.{front};
+ghost use Rattle.aadl_syntax.specs.declared.refusal.Code.TheVariants.{UnknownState};
+ghost use Rattle.package_index.specs.Lookup.{refused_so};
+ghost use Rattle.composite_states.specs.Below.{below_at, state_at, state_cause, state_in, state_named, state_named_faults, unknown_faults};
+
+use aadl_syntax::{Atom, Code, FirstRefusal, Identifier, List, Mem, Spot};
+use error_conditions::{Atoms, Cause, StateBelow, note_no_errors, note_typed, point_meaning};
+use error_types::TypeTable;
+use package_index::{Words, note_if};
+use propagation_points::{NameTable, Setting};
+use std::alloc::Global;
+use std::marker::Model;
+
+/// The states of the components below a component.
+pub trait StatesBelow<'a> {
+    ghost use Rattle.std.specs.Prelude.{◌≡◌, List, Option, ℕ, option_copied};
+
+    ghost states_at: { Self → List (List ℕ) → Option (List (List ℕ)) };
+
+    /// The names of the states of the component to which these names of subcomponents lead; `None` where they lead to none.
+    fn states_at(&self, path: &[Identifier]) -> Option<&NameTable<'a>>
+        ensures { option_copied result ≡ states_at self.now path.now };
+}
+
+/// Where a condition of composite states stands: the points and the states of the component, the text in which it is read, and
+/// what lies below the component.
+#[derive(Drop)]
+pub(crate) struct CompositePlace<'s, 'a, B> {
+    pub(crate) setting: Setting<'s, 'a>,
+    pub(crate) below: &'s B,
+}
+
+impl<'s, 'a, B> Model for CompositePlace<'s, 'a, B> {
+    ghost use Rattle.std.specs.Coded.{codes};
+    ghost use Rattle.propagation_points.specs.contracts.side.Side as side;
+    ghost use Rattle.composite_states.specs.Below.{CompositePlace as Place};
+
+    ghost Value = { Place B };
+
+    ghost coded = { Prim.hlevel (codes, side.the_row.coded, B.code) };
+
+    ghost view = { λ p. record { setting = p.setting; below = p.below.now } };
+}
+
+impl<'s, 'a, B: StatesBelow<'a>> Atoms for CompositePlace<'s, 'a, B> {
+    ghost use Rattle.composite_states.specs.Below.{composite_faults, composite_meaning};
+
+    ghost meaning = { λ place. composite_meaning (B.states_at place.below) place.setting };
+
+    ghost faults = { λ place. composite_faults (B.states_at place.below) place.setting };
+
+    #[tactic(auto, using(component_extension::proofs::Noting::noted_more))]
+    fn meaning<'t>(
+        &self,
+        alloc: Global,
+        types: &mut TypeTable<'_, 't>,
+        atom: &'t Atom,
+        first: &mut FirstRefusal,
+    ) -> Mem<Cause> {
+        note_no_errors(first, &atom.set);
+        if atom.inward {
+            return point_meaning(alloc, &self.setting, types, atom, first);
+        }
+        state_named(alloc, self.below, atom, first)
+    }
+}
+
+/// The meaning of a named part that names a state of a component below. Its refusals are noted.
+#[tactic(auto, using(component_extension::proofs::Noting::noted_more))]
+fn state_named<'a, B: StatesBelow<'a>>(
+    alloc: Global,
+    below: &B,
+    atom: &Atom,
+    first: &mut FirstRefusal,
+) -> Mem<Cause>
+    ensures meaning { IfOk result (λ cause. cause ≡ state_named (B.states_at below.now) atom.now) }
+    ensures first { OnOk result (first.new ≡ nearer first.old (least (state_named_faults (B.states_at below.now) atom.now))) }
+{
+    let names = atom.names.items();
+    let state = known_state(below, names, atom.spot, first);
+    note_typed(first, atom);
+    state_cause(alloc, path_of(names), state)
+}
+
+/// The number of the state that names mean. N13 or N11 is noted where they mean none.
+fn known_state<'a, B: StatesBelow<'a>>(
+    below: &B,
+    names: &[Identifier],
+    spot: Spot,
+    first: &mut FirstRefusal,
+) -> Option<u32>
+    ensures state { result ≡ state_at (B.states_at below.now) names.now }
+    ensures first { first.new ≡ nearer first.old (least (unknown_faults names.now spot (below_at (B.states_at below.now) (front names.now)))) }
+{
+    match below_at(below, path_of(names)) {
+        Some(states) => state_in(states, names, spot, first),
+        None => {
+            note_if(first, true, Code::UnknownSubcomponent, spot);
+            None
+        }
+    }
+}
+
+/// The states of the component below to which these names lead; without a name they lead to none.
+fn below_at<'b, 'a, B: StatesBelow<'a>>(
+    below: &'b B,
+    path: &[Identifier],
+) -> Option<&'b NameTable<'a>>
+    ensures { option_copied result ≡ below_at (B.states_at below.now) path.now }
+{
+    if path.len() == 0 {
+        return None;
+    }
+    below.states_at(path)
+}
+
+/// The number of the state that the last of the names names. N11 is noted where there is none.
+fn state_in(
+    states: &NameTable<'_>,
+    names: &[Identifier],
+    spot: Spot,
+    first: &mut FirstRefusal,
+) -> Option<u32>
+    ensures state { result ≡ state_in names.now (Some states.now) }
+    ensures first { first.new ≡ nearer first.old (least (refused_so (is_none (state_in names.now (Some states.now))) UnknownState spot)) }
+{
+    let number = number_of_last(states, names);
+    note_if(first, number.is_none(), Code::UnknownState, spot);
+    number
+}
+
+fn number_of_last(states: &NameTable<'_>, names: &[Identifier]) -> Option<u32>
+    ensures { result ≡ state_in names.now (Some states.now) }
+{
+    states.number(Words::Identifiers(names).last()?)
+}
+
+/// The names before the last.
+fn path_of(names: &[Identifier]) -> &[Identifier]
+    ensures { result.now ≡ front names.now }
+{
+    match names.len() {
+        0 => names,
+        count => &names[..count - 1],
+    }
+}
+
+/// It is in the state of this number; without such a state it is never true.
+fn state_cause(alloc: Global, path: &[Identifier], state: Option<u32>) -> Mem<Cause>
+    ensures { IfOk result (λ cause. cause ≡ state_cause path.now state) }
+{
+    match state {
+        Some(state) => Ok(Cause::State(StateBelow {
+            path: copied(alloc, path)?,
+            state,
+        })),
+        None => Ok(Cause::Any(List::new(alloc))),
+    }
+}
+
+fn copied(alloc: Global, names: &[Identifier]) -> Mem<List<Identifier>>
+    ensures { IfOk result (λ copies. copies ≡ names.now) }
+{
+    let mut copies = List::new(alloc);
+    for name in names {
+        copies.push(Identifier::of(alloc, name.text())?)?;
+    }
+    Ok(copies)
+}

@@ -1,0 +1,126 @@
+ghost use Rattle.std.specs.Prelude.{◌≡◌, ◌&&◌, ◌++◌, IfOk, OnOk, is_none, option_map, option_to_list, slice_index_or};
+ghost use Rattle.aadl_syntax.specs.Order.{least, nearer};
+ghost use Rattle.composite_states.specs.Composites.{clause_faults, clause_of, clauses_in, clauses_of, composite_clause_faults, condition_of, faults_in, is_not_initial, perhaps_faults};
+
+use crate::below::{CompositePlace, StatesBelow};
+use crate::meaning::ClauseMeaning;
+use aadl_syntax::{Code, Composite, Condition, FirstRefusal, List, Mem};
+use component_extension::{Effective, InClause};
+use error_behavior::States;
+use error_conditions::{Cause, cause_of};
+use error_types::{Scope, TypeTable};
+use package_index::note_if;
+use propagation_points::{Points, Setting, scopes_of};
+use std::alloc::Global;
+
+/// The composite clauses of a component with these points and states, in order, over the states of the components below.
+///
+/// Their refusals are noted: N13 at a name that leads to no component below, N11 at a state that is none, P10 at each set behind
+/// a state, N9 at a point that is none, N10 at a set with a type that is not declared for its side, P5 at each `orless`, P6 at
+/// each `noerror` in a condition, and P7 at each clause of `others` to a state that is not initial.
+pub fn clauses_of<'a, B: StatesBelow<'a>>(
+    alloc: Global,
+    effective: &Effective<'a>,
+    types: &mut TypeTable<'_, 'a>,
+    points: &Points<'a>,
+    states: &States<'a>,
+    below: &B,
+    first: &mut FirstRefusal,
+) -> Mem<List<ClauseMeaning>>
+    ensures kept { types.new ≡ types.old }
+    ensures clauses { IfOk result (λ clauses. clauses ≡ clauses_of (B.states_at below.now) types.old points.now states.now effective.now) }
+    ensures first { OnOk result (first.new ≡ nearer first.old (least (composite_clause_faults (B.states_at below.now) types.old points.now states.now effective.now))) }
+{
+    let scopes = scopes_of(alloc, types, effective.clauses.items())?;
+    let composites = effective.behavior.composites.items();
+    clauses_in(alloc, types, points, states, scopes.items(), below, composites, first)
+}
+
+fn clauses_in<'s, 'a, B: StatesBelow<'a>>(
+    alloc: Global,
+    types: &mut TypeTable<'_, 'a>,
+    points: &'s Points<'a>,
+    states: &'s States<'a>,
+    scopes: &'s [Scope],
+    below: &'s B,
+    composites: &[InClause<'a, Composite>],
+    first: &mut FirstRefusal,
+) -> Mem<List<ClauseMeaning>>
+    ensures kept { types.new ≡ types.old }
+    ensures clauses { IfOk result (λ clauses. clauses ≡ clauses_in (B.states_at below.now) types.old points.now states.now.names scopes.now composites.now) }
+    ensures first { OnOk result (first.new ≡ nearer first.old (least (faults_in (B.states_at below.now) types.old points.now states.now scopes.now composites.now))) }
+{
+    let mut clauses = List::new(alloc);
+    for composite in composites {
+        let setting = Setting::of_clause(points, &states.names, scopes, composite.scope());
+        let place = CompositePlace { setting, below };
+        let initial = states.initial.items();
+        add_clause(alloc, &mut clauses, types, &place, initial, composite.item(), first)?;
+    }
+    Ok(clauses)
+}
+
+/// Adds the meaning of a clause, if it has one. Its refusals are noted.
+#[tactic(auto, using(component_extension::proofs::Noting::noted_more))]
+fn add_clause<'a, B: StatesBelow<'a>>(
+    alloc: Global,
+    clauses: &mut List<ClauseMeaning>,
+    types: &mut TypeTable<'_, 'a>,
+    place: &CompositePlace<'_, 'a, B>,
+    initial: &[bool],
+    composite: &'a Composite,
+    first: &mut FirstRefusal,
+) -> Mem<()>
+    ensures kept { types.new ≡ types.old }
+    ensures clauses { OnOk result (clauses.new ≡ clauses.old ++ clause_of (B.states_at place.now.below) place.now.setting types.old composite.now) }
+    ensures first { OnOk result (first.new ≡ nearer first.old (least (clause_faults (B.states_at place.now.below) place.now.setting types.old initial.now composite.now))) }
+{
+    let condition = condition_of(alloc, types, place, &composite.condition, first)?;
+    let target = place.setting.refer(&composite.target, first);
+    let is_wrong = composite.condition.is_none() && is_not_initial(initial, target);
+    note_if(first, is_wrong, Code::Others, composite.spot);
+    add_meaning(clauses, target, condition)
+}
+
+fn add_meaning(
+    clauses: &mut List<ClauseMeaning>,
+    target: Option<u32>,
+    condition: Option<Cause>,
+) -> Mem<()>
+    ensures { OnOk result (clauses.new ≡ clauses.old ++ option_to_list (option_map (λ target. record { target = target; condition = condition }) target)) }
+{
+    if let Some(target) = target {
+        clauses.push(ClauseMeaning { target, condition })?;
+    }
+    Ok(())
+}
+
+fn is_not_initial(initial: &[bool], state: Option<u32>) -> bool
+    ensures { result ≡ is_not_initial initial.now state }
+{
+    match state {
+        Some(number) => match initial.get(number as usize) {
+            Some(is_initial) => !*is_initial,
+            None => false,
+        },
+        None => false,
+    }
+}
+
+/// The meaning of a condition, if there is one. Its refusals are noted.
+fn condition_of<'a, B: StatesBelow<'a>>(
+    alloc: Global,
+    types: &mut TypeTable<'_, 'a>,
+    place: &CompositePlace<'_, 'a, B>,
+    condition: &'a Option<Condition>,
+    first: &mut FirstRefusal,
+) -> Mem<Option<Cause>>
+    ensures kept { types.new ≡ types.old }
+    ensures condition { IfOk result (λ found. found ≡ condition_of (B.states_at place.now.below) place.now.setting types.old condition.now) }
+    ensures first { OnOk result (first.new ≡ nearer first.old (least (perhaps_faults (B.states_at place.now.below) place.now.setting types.old condition.now))) }
+{
+    match condition {
+        Some(condition) => Ok(Some(cause_of(alloc, place, types, condition, first)?)),
+        None => Ok(None),
+    }
+}

@@ -1,0 +1,11 @@
+//! The composite error states of a component: in which states of the components below, and on what comes in, it is in a state of
+//! its own.
+#![tactic(auto)]
+
+mod below;
+mod clauses;
+mod meaning;
+
+pub use below::StatesBelow;
+pub use clauses::clauses_of;
+pub use meaning::ClauseMeaning;

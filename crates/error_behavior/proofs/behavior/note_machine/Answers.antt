@@ -1,0 +1,15 @@
+use Rattle.std.proofs.Common.{flat_map, ap, ◌∙◌}
+use Rattle.aadl_syntax.specs.Order.{least, nearer}
+use Rattle.aadl_syntax.specs.declared.refusal.Code.TheVariants.{MachineExtends, Mapping}
+use Rattle.component_extension.specs.Members.{refused_there}
+use Rattle.error_conditions.proofs.Noted.{noted-four}
+use Rattle.error_behavior.specs.States.{event_faults, state_decl_faults}
+use Rattle.error_behavior.proofs.behavior.note_machine.Goals as goal
+
+pub returns : goal.returns
+returns c =
+    let decl = c.args.decl.now in
+    noted-four c.args.first.now c.note_at.new.first c.note_at-2.new.first (refused_there MachineExtends decl.extends) (refused_there Mapping decl.transforms) c.note_at.ensures c.note_at-2.ensures
+    c.note_events.new.first c.note_states.new.first (flat_map event_faults decl.events) (flat_map state_decl_faults decl.states)
+    (c.note_events.ensures ∙ ap (λ events. nearer c.note_at-2.new.first (least (flat_map event_faults events))) c.items.ensures.items)
+    (c.note_states.ensures ∙ ap (λ states. nearer c.note_events.new.first (least (flat_map state_decl_faults states))) c.items-2.ensures.items)

@@ -1,0 +1,7 @@
+use Rattle.std.proofs.Common.{◌≡◌, drop, flat_map}
+use Rattle.aadl_syntax.specs.Order.{least, nearer}
+use Rattle.error_behavior.specs.States.{event_faults}
+use Rattle.error_behavior.proofs.events.note_clause_events.Given as goal
+
+abbrev pub invariant-loop-event : goal.invariant-loop-event
+invariant-loop-event l = nearer l.first (least (flat_map (λ scoped. event_faults scoped.item) (drop l.event-index l.events))) ≡ nearer l.fn.first (least (flat_map (λ scoped. event_faults scoped.item) l.events))

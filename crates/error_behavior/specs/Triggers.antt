@@ -1,0 +1,52 @@
+-- What the named parts of a trigger mean (EMV2: error conditions over events and propagations).
+use Rattle.std.specs.Prelude.{ℕ, cond, List, ◌++◌, Option, Some, None, option_and_then}
+use Rattle.aadl_syntax.specs.declared.error_model.Atom.{Atom}
+use Rattle.aadl_syntax.specs.declared.refusal.Refusal.{Refusal}
+use Rattle.package_index.specs.Names.{only}
+use Rattle.error_types.specs.declared.scope.Scope.{Scope}
+use Rattle.error_types.specs.Libraries.{Table}
+use Rattle.propagation_points.specs.Points.{Point}
+use Rattle.propagation_points.specs.Settings.{Setting, faults_in}
+use Rattle.propagation_points.specs.States.{number_named}
+use Rattle.propagation_points.specs.Uses.{atom_use}
+use Rattle.error_conditions.specs.declared.cause.Cause.{Cause}
+use Rattle.error_conditions.specs.declared.cause.Cause.TheVariants.{Event}
+use Rattle.error_conditions.specs.Conditions.{no_error_faults, point_meaning, typed_faults}
+
+-- Where a trigger stands: the points and the states of the component, the text in which it is read, and the component's events.
+pub record TriggerPlace : Type 0 where
+  pub setting : Setting
+  pub events : List (List ℕ)
+
+-- What the triggers of a component may name: its points, its states and its events.
+pub record Vocabulary : Type 0 where
+  pub points : List Point
+  pub states : List (List ℕ)
+  pub events : List (List ℕ)
+
+-- the place of a trigger that is read in this text
+abbrev pub place_in : Vocabulary → Option Scope → TriggerPlace
+place_in words scope = record { setting = record { points = words.points; states = words.states; scope = scope }; events = words.events }
+
+-- the event that a named part names: after `in` none, and a dotted name is that of none
+abbrev pub event_named : List (List ℕ) → Atom → Option ℕ
+event_named events atom = cond atom.inward None (option_and_then (number_named events) (only atom.names))
+
+-- the meaning of a named part, where it names this event, or else a point
+abbrev pub event_or_point : Table → Setting → Atom → Option ℕ → Cause
+event_or_point table setting atom (Some event) = Event event
+event_or_point table setting atom None = point_meaning table setting atom
+
+-- What a named part of a trigger means: an event of the component, or else a point with an inward side.
+abbrev pub trigger_meaning : TriggerPlace → Table → Atom → Cause
+trigger_meaning place table atom = event_or_point table place.setting atom (event_named place.events atom)
+
+-- the refusals of a named part that names this event, or else a point
+abbrev pub event_or_point_faults : Table → Setting → Atom → Option ℕ → List Refusal
+event_or_point_faults table setting atom (Some event) = typed_faults atom
+event_or_point_faults table setting atom None = faults_in table setting (atom_use atom)
+
+-- The refusals of a named part of a trigger: P6 at a `noerror` of its set; P10 at the set of an event; of a point N9 after `in`,
+-- else N12, and N10.
+abbrev pub trigger_faults : TriggerPlace → Table → Atom → List Refusal
+trigger_faults place table atom = no_error_faults atom.set ++ event_or_point_faults table place.setting atom (event_named place.events atom)

@@ -1,0 +1,255 @@
+ghost use Rattle.std.specs.Prelude.{◌≡◌, ◌++◌, IfOk, OnOk, flat_map, option_copied, option_map, slice_get};
+ghost use Rattle.aadl_syntax.specs.Order.{least, nearer};
+ghost use Rattle.error_types.specs.Types.{text_scope};
+ghost use Rattle.error_behavior.specs.Behavior.{behavior_faults, behavior_of, behavior_with, clause_emissions, clause_outgoing_faults, clause_steps, clause_transition_faults, decl_faults, faults_with, machine_faults, machine_steps, step_faults, texts_of};
+ghost use Rattle.error_behavior.specs.States.{states_of};
+ghost use Rattle.error_behavior.specs.Steps.{step_of, transition_faults};
+
+use crate::events::{events_of, note_clause_events, note_events};
+use crate::machines::UsedMachine;
+use crate::states::note_states;
+use crate::steps::{Emission, Step};
+use crate::transitions::{add_emission, add_step};
+use crate::triggers::{TriggerPlace, Vocabulary};
+use aadl_syntax::{Code, FirstRefusal, List, MachineDecl, Mem, Outgoing, Transition};
+use component_extension::{Effective, InClause};
+use error_types::{Scope, TypeTable};
+use propagation_points::{NameTable, Points, note_at, scopes_of};
+use std::alloc::Global;
+
+/// The error behavior of a component: the names of its events, which are numbered by their places, from 0; its steps, those of
+/// its machine first; and its emissions.
+#[derive(Drop)]
+pub struct ErrorBehavior<'a> {
+    pub events: NameTable<'a>,
+    pub steps: List<Step>,
+    pub emissions: List<Emission>,
+}
+
+/// The texts of a component: that of its machine, if it uses one, and those of its clauses.
+#[derive(Drop)]
+pub struct Texts {
+    pub machine: Option<Scope>,
+    pub clauses: List<Scope>,
+}
+
+/// The error behavior of a component that uses this machine, if it uses one. The names are those of its states.
+///
+/// The refusals are noted: P12 where the machine extends another, P11 where it uses transformations, P8 at each recover or
+/// repair event, P10 at each set behind an event or a state, N11 at a state that is none, N12 at a name of a trigger that is
+/// neither an event nor a point with an inward side, N9 at a point that is none, N10 at a set with a type that is not declared
+/// for its side, P5 at each `orless`, and P6 at each `noerror` in a condition.
+pub fn behavior_of<'a>(
+    alloc: Global,
+    effective: &Effective<'a>,
+    machine: &Option<UsedMachine<'a>>,
+    states: &NameTable<'a>,
+    types: &mut TypeTable<'_, 'a>,
+    points: &Points<'a>,
+    first: &mut FirstRefusal,
+) -> Mem<ErrorBehavior<'a>>
+    requires { states.now ≡ (states_of machine.now).names }
+    ensures kept { types.new ≡ types.old }
+    ensures behavior { IfOk result (λ behavior. behavior ≡ behavior_of types.old points.now machine.now effective.now) }
+    ensures first { OnOk result (first.new ≡ nearer first.old (least (behavior_faults types.old points.now machine.now effective.now))) }
+{
+    let events = events_of(alloc, machine, effective)?;
+    let texts = texts_of(alloc, types, machine, effective)?;
+    let (steps, emissions) = meanings(
+        alloc, types, points, states, &events, &texts, machine, effective, first,
+    )?;
+    Ok(ErrorBehavior {
+        events,
+        steps,
+        emissions,
+    })
+}
+
+/// The texts of a component.
+fn texts_of(
+    alloc: Global,
+    types: &TypeTable<'_, '_>,
+    machine: &Option<UsedMachine<'_>>,
+    effective: &Effective<'_>,
+) -> Mem<Texts>
+    ensures { IfOk result (λ texts. texts ≡ texts_of types.now machine.now effective.now) }
+{
+    Ok(Texts {
+        machine: machine_text(alloc, types, machine)?,
+        clauses: scopes_of(alloc, types, effective.clauses.items())?,
+    })
+}
+
+fn machine_text(
+    alloc: Global,
+    types: &TypeTable<'_, '_>,
+    machine: &Option<UsedMachine<'_>>,
+) -> Mem<Option<Scope>>
+    ensures { IfOk result (λ scope. scope ≡ option_map (λ machine. text_scope types.now.packages machine.«package» machine.item.uses) machine.now) }
+{
+    match machine {
+        Some(machine) => {
+            let uses = machine.decl().uses.items();
+            Ok(Some(types.text_scope(alloc, machine.package(), uses)?))
+        }
+        None => Ok(None),
+    }
+}
+
+/// The steps and the emissions of a component with these points, states, events and texts. All refusals are noted.
+#[tactic(auto, using(component_extension::proofs::Noting::noted_more))]
+fn meanings<'s, 'a>(
+    alloc: Global,
+    types: &mut TypeTable<'_, 'a>,
+    points: &'s Points<'a>,
+    states: &'s NameTable<'a>,
+    events: &'s NameTable<'a>,
+    texts: &'s Texts,
+    machine: &Option<UsedMachine<'a>>,
+    effective: &Effective<'a>,
+    first: &mut FirstRefusal,
+) -> Mem<(List<Step>, List<Emission>)>
+    ensures kept { types.new ≡ types.old }
+    ensures steps { IfOk result (λ made. made.0 ≡ (behavior_with types.old (record { points = points.now; states = states.now; events = events.now }) texts.now machine.now effective.now).steps) }
+    ensures emissions { IfOk result (λ made. made.1 ≡ (behavior_with types.old (record { points = points.now; states = states.now; events = events.now }) texts.now machine.now effective.now).emissions) }
+    ensures first { OnOk result (first.new ≡ nearer first.old (least (faults_with types.old (record { points = points.now; states = states.now; events = events.now }) texts.now machine.now effective.now))) }
+{
+    let words = Vocabulary::new(points, states, events);
+    let steps = steps_of(alloc, types, &words, texts, machine, effective, first)?;
+    let outgoing = effective.behavior.outgoing.items();
+    let emissions = emissions_of(alloc, types, &words, texts, outgoing, first)?;
+    Ok((steps, emissions))
+}
+
+/// The steps of a machine, and then those of clauses. All refusals but those of outgoing conditions are noted.
+#[tactic(auto, using(component_extension::proofs::Noting::noted_more))]
+fn steps_of<'s, 'a>(
+    alloc: Global,
+    types: &mut TypeTable<'_, 'a>,
+    words: &Vocabulary<'s, 'a>,
+    texts: &'s Texts,
+    machine: &Option<UsedMachine<'a>>,
+    effective: &Effective<'a>,
+    first: &mut FirstRefusal,
+) -> Mem<List<Step>>
+    ensures kept { types.new ≡ types.old }
+    ensures steps { IfOk result (λ steps. steps ≡ machine_steps types.old words.now texts.now machine.now ++ clause_steps types.old words.now texts.now effective.now.behavior.transitions) }
+    ensures first { OnOk result (first.new ≡ nearer first.old (least (step_faults types.old words.now texts.now machine.now effective.now))) }
+{
+    let mut steps = machine_steps(alloc, types, words, texts, machine, first)?;
+    note_clause_events(first, effective.behavior.events.items());
+    let transitions = effective.behavior.transitions.items();
+    add_clause_steps(alloc, &mut steps, types, words, texts, transitions, first)?;
+    Ok(steps)
+}
+
+/// The steps of a machine, if there is one. Its refusals are noted.
+#[tactic(auto, using(component_extension::proofs::Noting::noted_more))]
+fn machine_steps<'s, 'a>(
+    alloc: Global,
+    types: &mut TypeTable<'_, 'a>,
+    words: &Vocabulary<'s, 'a>,
+    texts: &'s Texts,
+    machine: &Option<UsedMachine<'a>>,
+    first: &mut FirstRefusal,
+) -> Mem<List<Step>>
+    ensures kept { types.new ≡ types.old }
+    ensures steps { IfOk result (λ steps. steps ≡ machine_steps types.old words.now texts.now machine.now) }
+    ensures first { OnOk result (first.new ≡ nearer first.old (least (machine_faults types.old words.now texts.now machine.now))) }
+{
+    match machine {
+        Some(machine) => {
+            note_machine(first, machine.decl());
+            let place = words.place(machine_scope(texts));
+            steps_at(alloc, types, &place, machine.decl().transitions.items(), first)
+        }
+        None => Ok(List::new(alloc)),
+    }
+}
+
+fn machine_scope(texts: &Texts) -> Option<&Scope>
+    ensures { option_copied result ≡ texts.now.machine }
+{
+    match &texts.machine {
+        Some(scope) => Some(scope),
+        None => None,
+    }
+}
+
+fn clause_scope(texts: &Texts, number: usize) -> Option<&Scope>
+    ensures { option_copied result ≡ slice_get texts.now.clauses number }
+{
+    texts.clauses.items().get(number)
+}
+
+/// Notes the refusals of a declared machine, but for its transitions.
+#[tactic(auto, using(component_extension::proofs::Noting::noted_more))]
+fn note_machine(first: &mut FirstRefusal, decl: &MachineDecl)
+    ensures { first.new ≡ nearer first.old (least (decl_faults decl.now)) }
+{
+    note_at(first, Code::MachineExtends, decl.extends);
+    note_at(first, Code::Mapping, decl.transforms);
+    note_events(first, decl.events.items());
+    note_states(first, decl.states.items());
+}
+
+/// The steps of transitions that stand in one place. Their refusals are noted.
+fn steps_at<'a>(
+    alloc: Global,
+    types: &mut TypeTable<'_, 'a>,
+    place: &TriggerPlace<'_, 'a>,
+    transitions: &'a [Transition],
+    first: &mut FirstRefusal,
+) -> Mem<List<Step>>
+    ensures kept { types.new ≡ types.old }
+    ensures steps { IfOk result (λ steps. steps ≡ flat_map (step_of place.now types.old) transitions.now) }
+    ensures first { OnOk result (first.new ≡ nearer first.old (least (flat_map (transition_faults place.now types.old) transitions.now))) }
+{
+    let mut steps = List::new(alloc);
+    for transition in transitions {
+        add_step(alloc, &mut steps, types, place, transition, first)?;
+    }
+    Ok(steps)
+}
+
+/// Adds the steps of transitions of clauses. Their refusals are noted.
+fn add_clause_steps<'s, 'a>(
+    alloc: Global,
+    steps: &mut List<Step>,
+    types: &mut TypeTable<'_, 'a>,
+    words: &Vocabulary<'s, 'a>,
+    texts: &'s Texts,
+    transitions: &[InClause<'a, Transition>],
+    first: &mut FirstRefusal,
+) -> Mem<()>
+    ensures kept { types.new ≡ types.old }
+    ensures steps { OnOk result (steps.new ≡ steps.old ++ clause_steps types.old words.now texts.now transitions.now) }
+    ensures first { OnOk result (first.new ≡ nearer first.old (least (clause_transition_faults types.old words.now texts.now transitions.now))) }
+{
+    for transition in transitions {
+        let place = words.place(clause_scope(texts, transition.scope()));
+        add_step(alloc, steps, types, &place, transition.item(), first)?;
+    }
+    Ok(())
+}
+
+/// The emissions of outgoing conditions of clauses. Their refusals are noted.
+fn emissions_of<'s, 'a>(
+    alloc: Global,
+    types: &mut TypeTable<'_, 'a>,
+    words: &Vocabulary<'s, 'a>,
+    texts: &'s Texts,
+    outgoing: &[InClause<'a, Outgoing>],
+    first: &mut FirstRefusal,
+) -> Mem<List<Emission>>
+    ensures kept { types.new ≡ types.old }
+    ensures emissions { IfOk result (λ emissions. emissions ≡ clause_emissions types.old words.now texts.now outgoing.now) }
+    ensures first { OnOk result (first.new ≡ nearer first.old (least (clause_outgoing_faults types.old words.now texts.now outgoing.now))) }
+{
+    let mut emissions = List::new(alloc);
+    for condition in outgoing {
+        let place = words.place(clause_scope(texts, condition.scope()));
+        add_emission(alloc, &mut emissions, types, &place, condition.item(), first)?;
+    }
+    Ok(emissions)
+}

@@ -1,0 +1,174 @@
+ghost use Rattle.std.specs.Prelude.{◌≡◌, ◌++◌, IfOk, OnOk, flat_map, option_and_then, option_map, option_to_list};
+ghost use Rattle.aadl_syntax.specs.Order.{least, nearer};
+ghost use Rattle.propagation_points.specs.States.{state_faults};
+ghost use Rattle.error_conditions.specs.Conditions.{cause_of, condition_faults};
+ghost use Rattle.error_behavior.specs.Steps.{emission_of, origin_faults, origin_of, outgoing_faults, perhaps_faults, step_of, targets_of, transition_faults, trigger_of};
+ghost use Rattle.error_behavior.specs.Triggers.{trigger_faults, trigger_meaning};
+
+use crate::steps::{Emission, Origin, Step};
+use crate::triggers::TriggerPlace;
+use aadl_syntax::{Condition, FirstRefusal, List, Mem, Outgoing, StateRef, Transition};
+use error_conditions::{Cause, cause_of};
+use error_types::TypeTable;
+use propagation_points::{PointUse, ReachedPoint, Setting};
+use std::alloc::Global;
+
+/// From where a transition or an outgoing condition goes. The refusals of its state are noted.
+fn origin_of(setting: &Setting, state: &Option<StateRef>, first: &mut FirstRefusal) -> Option<Origin>
+    ensures origin { result ≡ origin_of setting.now.states state.now }
+    ensures first { first.new ≡ nearer first.old (least (origin_faults setting.now.states state.now)) }
+{
+    match state {
+        Some(state) => {
+            let number = setting.refer(state, first);
+            Some(Origin::From(number?))
+        }
+        None => Some(Origin::Always),
+    }
+}
+
+/// The states to which a transition leads. The refusals of their names are noted.
+fn targets_of(
+    alloc: Global,
+    setting: &Setting,
+    targets: &[StateRef],
+    first: &mut FirstRefusal,
+) -> Mem<List<u32>>
+    ensures targets { IfOk result (λ numbers. numbers ≡ targets_of setting.now.states targets.now) }
+    ensures first { OnOk result (first.new ≡ nearer first.old (least (flat_map (state_faults setting.now.states) targets.now))) }
+{
+    let mut numbers = List::new(alloc);
+    for target in targets {
+        add_target(&mut numbers, setting.refer(target, first))?;
+    }
+    Ok(numbers)
+}
+
+fn add_target(numbers: &mut List<u32>, target: Option<u32>) -> Mem<()>
+    ensures { OnOk result (numbers.new ≡ numbers.old ++ option_to_list target) }
+{
+    if let Some(number) = target {
+        numbers.push(number)?;
+    }
+    Ok(())
+}
+
+/// Adds the step of a transition, if it has one. Its refusals are noted.
+pub(crate) fn add_step<'a>(
+    alloc: Global,
+    steps: &mut List<Step>,
+    types: &mut TypeTable<'_, 'a>,
+    place: &TriggerPlace<'_, 'a>,
+    transition: &'a Transition,
+    first: &mut FirstRefusal,
+) -> Mem<()>
+    ensures kept { types.new ≡ types.old }
+    ensures steps { OnOk result (steps.new ≡ steps.old ++ step_of place.now types.old transition.now) }
+    ensures first { OnOk result (first.new ≡ nearer first.old (least (transition_faults place.now types.old transition.now))) }
+{
+    if let Some(step) = step_of(alloc, types, place, transition, first)? {
+        steps.push(step)?;
+    }
+    Ok(())
+}
+
+#[tactic(auto, using(component_extension::proofs::Noting::noted_more))]
+fn step_of<'a>(
+    alloc: Global,
+    types: &mut TypeTable<'_, 'a>,
+    place: &TriggerPlace<'_, 'a>,
+    transition: &'a Transition,
+    first: &mut FirstRefusal,
+) -> Mem<Option<Step>>
+    ensures kept { types.new ≡ types.old }
+    ensures step { IfOk result (λ step. option_to_list step ≡ step_of place.now types.old transition.now) }
+    ensures first { OnOk result (first.new ≡ nearer first.old (least (transition_faults place.now types.old transition.now))) }
+{
+    let origin = origin_of(&place.setting, &transition.source.state, first);
+    let trigger = cause_of(alloc, place, types, &transition.condition, first)?;
+    let targets = targets_of(alloc, &place.setting, transition.targets.items(), first)?;
+    Ok(step_from(origin, trigger, targets))
+}
+
+fn step_from(origin: Option<Origin>, trigger: Cause, targets: List<u32>) -> Option<Step>
+    ensures { result ≡ option_map (λ origin. record { origin = origin; trigger = trigger; targets = targets }) origin }
+{
+    match origin {
+        Some(origin) => Some(Step {
+            origin,
+            trigger,
+            targets,
+        }),
+        None => None,
+    }
+}
+
+/// The meaning of a trigger, if there is one. Its refusals are noted.
+fn trigger_of<'a>(
+    alloc: Global,
+    types: &mut TypeTable<'_, 'a>,
+    place: &TriggerPlace<'_, 'a>,
+    condition: &'a Option<Condition>,
+    first: &mut FirstRefusal,
+) -> Mem<Option<Cause>>
+    ensures kept { types.new ≡ types.old }
+    ensures trigger { IfOk result (λ trigger. trigger ≡ trigger_of place.now types.old condition.now) }
+    ensures first { OnOk result (first.new ≡ nearer first.old (least (perhaps_faults place.now types.old condition.now))) }
+{
+    match condition {
+        Some(condition) => Ok(Some(cause_of(alloc, place, types, condition, first)?)),
+        None => Ok(None),
+    }
+}
+
+/// Adds the emission of an outgoing condition, if it has one. Its refusals are noted.
+pub(crate) fn add_emission<'a>(
+    alloc: Global,
+    emissions: &mut List<Emission>,
+    types: &mut TypeTable<'_, 'a>,
+    place: &TriggerPlace<'_, 'a>,
+    outgoing: &'a Outgoing,
+    first: &mut FirstRefusal,
+) -> Mem<()>
+    ensures kept { types.new ≡ types.old }
+    ensures emissions { OnOk result (emissions.new ≡ emissions.old ++ emission_of place.now types.old outgoing.now) }
+    ensures first { OnOk result (first.new ≡ nearer first.old (least (outgoing_faults place.now types.old outgoing.now))) }
+{
+    if let Some(emission) = emission_of(alloc, types, place, outgoing, first)? {
+        emissions.push(emission)?;
+    }
+    Ok(())
+}
+
+#[tactic(auto, using(component_extension::proofs::Noting::noted_more))]
+fn emission_of<'a>(
+    alloc: Global,
+    types: &mut TypeTable<'_, 'a>,
+    place: &TriggerPlace<'_, 'a>,
+    outgoing: &'a Outgoing,
+    first: &mut FirstRefusal,
+) -> Mem<Option<Emission>>
+    ensures kept { types.new ≡ types.old }
+    ensures emission { IfOk result (λ emission. option_to_list emission ≡ emission_of place.now types.old outgoing.now) }
+    ensures first { OnOk result (first.new ≡ nearer first.old (least (outgoing_faults place.now types.old outgoing.now))) }
+{
+    let origin = origin_of(&place.setting, &outgoing.source.state, first);
+    let trigger = trigger_of(alloc, types, place, &outgoing.condition, first)?;
+    let used = PointUse::new(&outgoing.point, true, &outgoing.set);
+    let reached = place.setting.reached(alloc, types, &used, first)?;
+    Ok(emission_from(origin, trigger, reached))
+}
+
+fn emission_from(
+    origin: Option<Origin>,
+    trigger: Option<Cause>,
+    reached: Option<ReachedPoint>,
+) -> Option<Emission>
+    ensures { result ≡ option_and_then (λ origin. option_map (λ reached. record { origin = origin; trigger = trigger; reached = reached }) reached) origin }
+{
+    Some(Emission {
+        origin: origin?,
+        trigger,
+        reached: reached?,
+    })
+}

@@ -1,0 +1,132 @@
+ghost use Rattle.std.specs.Prelude.{◌≡◌, IfOk, OnOk, option_copied};
+ghost use Rattle.aadl_syntax.specs.Order.{least, nearer};
+ghost use Rattle.error_conditions.specs.Conditions.{cause_of, condition_faults};
+ghost use Rattle.error_behavior.specs.Triggers.{event_named, event_or_point, event_or_point_faults, trigger_faults, trigger_meaning};
+
+use aadl_syntax::{Atom, FirstRefusal, Mem};
+use error_conditions::{Atoms, Cause, note_no_errors, note_typed, point_meaning};
+use error_types::{Scope, TypeTable};
+use propagation_points::{NameTable, Points, Setting, only_name};
+use std::alloc::Global;
+use std::marker::Model;
+
+/// Where a trigger stands: the points and the states of the component, the text in which it is read, and the component's
+/// events.
+#[derive(Drop)]
+pub(crate) struct TriggerPlace<'s, 'a> {
+    pub(crate) setting: Setting<'s, 'a>,
+    pub(crate) events: &'s NameTable<'a>,
+}
+
+/// What the triggers of a component may name: its points, its states and its events.
+#[derive(Drop)]
+pub(crate) struct Vocabulary<'s, 'a> {
+    points: &'s Points<'a>,
+    states: &'s NameTable<'a>,
+    events: &'s NameTable<'a>,
+}
+
+impl<'s, 'a> Model for Vocabulary<'s, 'a> {
+    ghost use Rattle.std.specs.Coded.{codes};
+    ghost use Rattle.propagation_points.specs.contracts.side.Side as side;
+    ghost use Rattle.error_behavior.specs.Triggers.{Vocabulary as Words};
+
+    ghost Value = { Words };
+
+    ghost coded = { Prim.hlevel (codes, side.the_row.coded) };
+
+    ghost view = { λ v. record { points = v.points.now; states = v.states.now; events = v.events.now } };
+}
+
+impl<'s, 'a> Vocabulary<'s, 'a> {
+    ghost use Rattle.error_behavior.specs.Triggers.{place_in};
+
+    /// These points, states and events.
+    pub(crate) fn new(
+        points: &'s Points<'a>,
+        states: &'s NameTable<'a>,
+        events: &'s NameTable<'a>,
+    ) -> Vocabulary<'s, 'a>
+        ensures { result ≡ record { points = points.now; states = states.now; events = events.now } }
+    {
+        Vocabulary {
+            points,
+            states,
+            events,
+        }
+    }
+
+    /// The place of a trigger that is read in this text, if there is one.
+    pub(crate) fn place(&self, scope: Option<&'s Scope>) -> TriggerPlace<'s, 'a>
+        ensures { result ≡ place_in self.now (option_copied scope.entry) }
+    {
+        TriggerPlace {
+            setting: Setting::new(self.points, self.states, scope),
+            events: self.events,
+        }
+    }
+}
+
+impl<'s, 'a> Model for TriggerPlace<'s, 'a> {
+    ghost use Rattle.std.specs.Coded.{codes};
+    ghost use Rattle.propagation_points.specs.contracts.side.Side as side;
+    ghost use Rattle.error_behavior.specs.Triggers.{TriggerPlace as Place};
+
+    ghost Value = { Place };
+
+    ghost coded = { Prim.hlevel (codes, side.the_row.coded) };
+
+    ghost view = { λ p. record { setting = p.setting; events = p.events.now } };
+}
+
+impl<'s, 'a> TriggerPlace<'s, 'a> {
+    /// The event that a named part names, if it names one.
+    fn event(&self, atom: &Atom) -> Option<u32>
+        ensures { result ≡ event_named self.now.events atom.now }
+    {
+        if atom.inward {
+            return None;
+        }
+        self.events.number(only_name(atom.names.items())?.text())
+    }
+}
+
+impl<'s, 'a> Atoms for TriggerPlace<'s, 'a> {
+    ghost meaning = { trigger_meaning };
+
+    ghost faults = { trigger_faults };
+
+    #[tactic(auto, using(component_extension::proofs::Noting::noted_more))]
+    fn meaning<'t>(
+        &self,
+        alloc: Global,
+        types: &mut TypeTable<'_, 't>,
+        atom: &'t Atom,
+        first: &mut FirstRefusal,
+    ) -> Mem<Cause> {
+        note_no_errors(first, &atom.set);
+        event_or_point(alloc, &self.setting, types, atom, self.event(atom), first)
+    }
+}
+
+/// The meaning of a named part that names this event, or else a point. Its refusals are noted.
+fn event_or_point<'a>(
+    alloc: Global,
+    setting: &Setting,
+    types: &mut TypeTable<'_, 'a>,
+    atom: &'a Atom,
+    event: Option<u32>,
+    first: &mut FirstRefusal,
+) -> Mem<Cause>
+    ensures kept { types.new ≡ types.old }
+    ensures meaning { IfOk result (λ cause. cause ≡ event_or_point types.old setting.now atom.now event) }
+    ensures first { OnOk result (first.new ≡ nearer first.old (least (event_or_point_faults types.old setting.now atom.now event))) }
+{
+    match event {
+        Some(event) => {
+            note_typed(first, atom);
+            Ok(Cause::Event(event))
+        }
+        None => point_meaning(alloc, setting, types, atom, first),
+    }
+}

@@ -1,0 +1,34 @@
+-- Conditions: the equations of their refusals, and steps of loops over their parts.
+use Rattle.std.proofs.Common.{ℕ, ◌+◌, ◌≡◌, ◌<◌, List, [], ◌∷◌, ◌++◌, length, map, take, get_or, flat_map, sym, ap, ◌∙◌}
+use Rattle.std.proofs.lemmas.List.{map-append, take_more}
+use Rattle.std.proofs.lemmas.List.Folds.{flat_map-map}
+use Rattle.aadl_syntax.specs.declared.error_model.Atom.{Atom}
+use Rattle.aadl_syntax.specs.declared.error_model.Condition.{Condition, fold-roll-Condition}
+use Rattle.aadl_syntax.specs.declared.error_model.Condition.TheVariants.{All, Any, AtLeast, AtMost, rolls-All, rolls-Any, rolls-AtLeast, rolls-AtMost}
+use Rattle.aadl_syntax.specs.declared.error_model.Condition.TheOpen as open_one
+use Rattle.aadl_syntax.specs.declared.place.Spot.{Spot}
+use Rattle.aadl_syntax.specs.declared.refusal.Code.TheVariants.{OrLess}
+use Rattle.aadl_syntax.specs.declared.refusal.Refusal.{Refusal}
+use Rattle.package_index.specs.Lookup.{place_of, refusal}
+use Rattle.error_conditions.specs.Conditions.{condition_faults, faults_step}
+
+module _ (faults : Atom → List Refusal) where
+  pub faults-All : (parts : List Condition) → condition_faults faults (All parts) ≡ flat_map (condition_faults faults) parts
+  faults-All parts = ap (condition_faults faults) (sym (rolls-All parts)) ∙ fold-roll-Condition (List Refusal) (faults_step faults) (open_one.All parts) ∙ flat_map-map (λ part. part) (condition_faults faults) parts
+
+  pub faults-Any : (parts : List Condition) → condition_faults faults (Any parts) ≡ flat_map (condition_faults faults) parts
+  faults-Any parts = ap (condition_faults faults) (sym (rolls-Any parts)) ∙ fold-roll-Condition (List Refusal) (faults_step faults) (open_one.Any parts) ∙ flat_map-map (λ part. part) (condition_faults faults) parts
+
+  pub faults-AtLeast : (least : ℕ) (parts : List Condition) → condition_faults faults (AtLeast least parts) ≡ flat_map (condition_faults faults) parts
+  faults-AtLeast least parts = ap (condition_faults faults) (sym (rolls-AtLeast least parts)) ∙ fold-roll-Condition (List Refusal) (faults_step faults) (open_one.AtLeast least parts) ∙ flat_map-map (λ part. part) (condition_faults faults) parts
+
+  pub faults-AtMost : (most : ℕ) (parts : List Condition) (spot : Spot) → condition_faults faults (AtMost most parts spot) ≡ refusal OrLess (place_of spot) ∷ flat_map (condition_faults faults) parts
+  faults-AtMost most parts spot =
+      ap (condition_faults faults) (sym (rolls-AtMost most parts spot)) ∙ fold-roll-Condition (List Refusal) (faults_step faults) (open_one.AtMost most parts spot)
+      ∙ ap (λ rest. refusal OrLess (place_of spot) ∷ rest) (flat_map-map (λ part. part) (condition_faults faults) parts)
+
+-- what the items give, with one item more
+pub map-more : {A B : Type 0} (f : A → B) (xs : List A) (i : ℕ) (x : A) (y : B) (before after : List B) → i < length xs → x ≡ get_or xs i x
+    → before ≡ map f (take i xs) → after ≡ before ++ y ∷ [] → y ≡ f x → after ≡ map f (take (i + 1) xs)
+map-more f xs i x y before after within is had one made =
+    one ∙ ap (λ front. front ++ y ∷ []) had ∙ ap (λ last. map f (take i xs) ++ last ∷ []) (made ∙ ap f is) ∙ sym (ap (map f) (take_more xs i x within) ∙ map-append f (take i xs) (get_or xs i x ∷ []))

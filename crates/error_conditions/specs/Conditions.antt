@@ -1,0 +1,72 @@
+-- What a condition means, from what its named parts mean (EMV2: error conditions).
+use Rattle.std.specs.Prelude.{List, [], ◌∷◌, flat_map, Option, Some, None, option_map}
+use Rattle.aadl_syntax.specs.declared.error_model.Atom.{Atom}
+use Rattle.aadl_syntax.specs.declared.error_model.Condition.{Condition, fold-Condition}
+use Rattle.aadl_syntax.specs.declared.error_model.Condition.TheOpen.{Condition-F}
+use Rattle.aadl_syntax.specs.declared.error_model.Condition.TheOpen as condition
+use Rattle.aadl_syntax.specs.declared.error_model.Term.{Term}
+use Rattle.aadl_syntax.specs.declared.error_model.Term.TheVariants.{NoError, One, Product}
+use Rattle.aadl_syntax.specs.declared.error_model.TypeSet.{TypeSet}
+use Rattle.aadl_syntax.specs.declared.refusal.Code.TheVariants.{NoErrorCondition, OrLess, Typed}
+use Rattle.aadl_syntax.specs.declared.refusal.Refusal.{Refusal}
+use Rattle.package_index.specs.Lookup.{place_of, refusal}
+use Rattle.component_extension.specs.Members.{refused_there}
+use Rattle.error_types.specs.Libraries.{Table}
+use Rattle.propagation_points.specs.declared.uses.ReachedPoint.{ReachedPoint}
+use Rattle.propagation_points.specs.Settings.{Setting, reached_in}
+use Rattle.propagation_points.specs.Uses.{atom_use}
+use Rattle.error_conditions.specs.declared.cause.Cause.{Cause}
+use Rattle.error_conditions.specs.declared.cause.Cause.TheVariants.{Point, All, Any, AtLeast}
+
+-- ---- the condition
+
+-- One condition, with the meanings of its parts in their places. No condition is accepted that counts others, so what stands
+-- there is what is never true.
+abbrev pub cause_step : (Atom → Cause) → Condition-F Cause → Cause
+cause_step meaning (condition.Atom atom) = meaning atom
+cause_step meaning (condition.All parts) = All parts
+cause_step meaning (condition.Any parts) = Any parts
+cause_step meaning (condition.AtLeast least parts) = AtLeast least parts
+cause_step meaning (condition.AtMost most parts spot) = Any []
+
+-- the meaning of a condition, where its named parts mean this
+abbrev pub cause_of : (Atom → Cause) → Condition → Cause
+cause_of meaning = fold-Condition Cause (cause_step meaning)
+
+-- one condition, with the refusals of its parts in their places: P5 at the number of an `orless`
+abbrev pub faults_step : (Atom → List Refusal) → Condition-F (List Refusal) → List Refusal
+faults_step faults (condition.Atom atom) = faults atom
+faults_step faults (condition.All parts) = flat_map (λ part. part) parts
+faults_step faults (condition.Any parts) = flat_map (λ part. part) parts
+faults_step faults (condition.AtLeast least parts) = flat_map (λ part. part) parts
+faults_step faults (condition.AtMost most parts spot) = refusal OrLess (place_of spot) ∷ flat_map (λ part. part) parts
+
+-- the refusals of a condition, where its named parts have these
+abbrev pub condition_faults : (Atom → List Refusal) → Condition → List Refusal
+condition_faults faults = fold-Condition (List Refusal) (faults_step faults)
+
+-- ---- named parts
+
+-- what it means that this is reached; what reaches nothing is never true
+abbrev pub point_cause : Option ReachedPoint → Cause
+point_cause None = Any []
+point_cause (Some reached) = Point reached
+
+-- the meaning of a named part that names a point: one of the types that are reached there comes in
+abbrev pub point_meaning : Table → Setting → Atom → Cause
+point_meaning table setting atom = point_cause (reached_in table setting (atom_use atom))
+
+-- P6 at a term `noerror`
+abbrev pub no_error_at : Term → List Refusal
+no_error_at (NoError spot) = refusal NoErrorCondition (place_of spot) ∷ []
+no_error_at (One name) = []
+no_error_at (Product spot) = []
+
+-- P6 at each `noerror` of the set of a named part
+abbrev pub no_error_faults : Option TypeSet → List Refusal
+no_error_faults None = []
+no_error_faults (Some set) = flat_map no_error_at set.terms
+
+-- P10 at the set of a named part that names an event or a state
+abbrev pub typed_faults : Atom → List Refusal
+typed_faults atom = refused_there Typed (option_map (λ set. set.spot) atom.set)

@@ -1,0 +1,70 @@
+ghost use Rattle.std.specs.Prelude.{◌≡◌, IfOk, OnOk, flat_map};
+ghost use Rattle.aadl_syntax.specs.Order.{least, nearer};
+ghost use Rattle.propagation_points.specs.Settings.{faults_in};
+ghost use Rattle.propagation_points.specs.Uses.{atom_use};
+ghost use Rattle.error_conditions.specs.Conditions.{no_error_at, no_error_faults, point_cause, point_meaning, typed_faults};
+
+use crate::cause::Cause;
+use aadl_syntax::{Atom, Code, FirstRefusal, List, Mem, Term, TypeSet};
+use error_types::TypeTable;
+use package_index::note_if;
+use propagation_points::{PointUse, ReachedPoint, Setting, note_at, spot_of};
+use std::alloc::Global;
+
+/// The meaning of a named part that names a point: one of the types that are reached there comes in. Its refusals are noted.
+pub fn point_meaning<'a>(
+    alloc: Global,
+    setting: &Setting,
+    types: &mut TypeTable<'_, 'a>,
+    atom: &'a Atom,
+    first: &mut FirstRefusal,
+) -> Mem<Cause>
+    ensures kept { types.new ≡ types.old }
+    ensures meaning { IfOk result (λ cause. cause ≡ point_meaning types.old setting.now atom.now) }
+    ensures first { OnOk result (first.new ≡ nearer first.old (least (faults_in types.old setting.now (atom_use atom.now)))) }
+{
+    let used = PointUse::of_atom(atom);
+    let reached = setting.reached(alloc, types, &used, first)?;
+    Ok(point_cause(alloc, reached))
+}
+
+fn point_cause(alloc: Global, reached: Option<ReachedPoint>) -> Cause
+    ensures { result ≡ point_cause reached }
+{
+    match reached {
+        Some(reached) => Cause::Point(reached),
+        None => Cause::Any(List::new(alloc)),
+    }
+}
+
+/// Notes P6 at each `noerror` of the set of a named part.
+pub fn note_no_errors(first: &mut FirstRefusal, set: &Option<TypeSet>)
+    ensures { first.new ≡ nearer first.old (least (no_error_faults set.now)) }
+{
+    if let Some(set) = set {
+        note_terms(first, set.terms.items());
+    }
+}
+
+fn note_terms(first: &mut FirstRefusal, terms: &[Term])
+    ensures { first.new ≡ nearer first.old (least (flat_map no_error_at terms.now)) }
+{
+    for term in terms {
+        note_term(first, term);
+    }
+}
+
+fn note_term(first: &mut FirstRefusal, term: &Term)
+    ensures { first.new ≡ nearer first.old (least (no_error_at term.now)) }
+{
+    if let Term::NoError(spot) = term {
+        note_if(first, true, Code::NoErrorCondition, *spot);
+    }
+}
+
+/// Notes P10 at the set of a named part that names an event or a state.
+pub fn note_typed(first: &mut FirstRefusal, atom: &Atom)
+    ensures { first.new ≡ nearer first.old (least (typed_faults atom.now)) }
+{
+    note_at(first, Code::Typed, spot_of(&atom.set));
+}

@@ -1,0 +1,84 @@
+ghost use Rattle.std.specs.Prelude.{◌≡◌, ◌++◌, IfOk, OnOk, flat_map, map};
+ghost use Rattle.aadl_syntax.specs.Order.{least, nearer};
+ghost use Rattle.error_conditions.specs.Conditions.{cause_of, condition_faults};
+
+use crate::cause::Cause;
+use aadl_syntax::{Atom, Code, Condition, FirstRefusal, List, Mem};
+use error_types::TypeTable;
+use package_index::note_if;
+use std::alloc::Global;
+
+/// What the named parts of a condition mean where it stands.
+pub trait Atoms {
+    ghost use Rattle.std.specs.Prelude.{◌≡◌, List, IfOk, OnOk};
+    ghost use Rattle.aadl_syntax.specs.Order.{least, nearer};
+    ghost use Rattle.aadl_syntax.specs.declared.error_model.Atom.{Atom as Named};
+    ghost use Rattle.aadl_syntax.specs.declared.refusal.Refusal.{Refusal};
+    ghost use Rattle.error_types.specs.Libraries.{Table};
+    ghost use Rattle.error_conditions.specs.declared.cause.Cause.{Cause as Meaning};
+
+    ghost meaning: { Self → Table → Named → Meaning };
+
+    ghost faults: { Self → Table → Named → List Refusal };
+
+    /// The meaning of a named part. Its refusals are noted.
+    fn meaning<'a>(
+        &self,
+        alloc: Global,
+        types: &mut TypeTable<'_, 'a>,
+        atom: &'a Atom,
+        first: &mut FirstRefusal,
+    ) -> Mem<Cause>
+        ensures kept { types.new ≡ types.old }
+        ensures meaning { IfOk result (λ cause. cause ≡ meaning self.now types.old atom.now) }
+        ensures first { OnOk result (first.new ≡ nearer first.old (least (faults self.now types.old atom.now))) };
+}
+
+/// The meaning of a condition, from those of its named parts. Their refusals are noted, and P5 at each `orless`.
+#[cycle(condition)]
+pub fn cause_of<'a, A: Atoms>(
+    alloc: Global,
+    atoms: &A,
+    types: &mut TypeTable<'_, 'a>,
+    condition: &'a Condition,
+    first: &mut FirstRefusal,
+) -> Mem<Cause>
+    ensures kept { types.new ≡ types.old }
+    ensures cause { IfOk result (λ cause. cause ≡ cause_of (A.meaning atoms.now types.old) condition.now) }
+    ensures first { OnOk result (first.new ≡ nearer first.old (least (condition_faults (A.faults atoms.now types.old) condition.now))) }
+{
+    match condition {
+        Condition::Atom(atom) => atoms.meaning(alloc, types, atom, first),
+        Condition::All(parts) => Ok(Cause::All(causes_of(alloc, atoms, types, parts.items(), first)?)),
+        Condition::Any(parts) => Ok(Cause::Any(causes_of(alloc, atoms, types, parts.items(), first)?)),
+        Condition::AtLeast(least, parts) => Ok(Cause::AtLeast(
+            *least,
+            causes_of(alloc, atoms, types, parts.items(), first)?,
+        )),
+        Condition::AtMost(_, parts, spot) => {
+            note_if(first, true, Code::OrLess, *spot);
+            causes_of(alloc, atoms, types, parts.items(), first)?;
+            Ok(Cause::Any(List::new(alloc)))
+        }
+    }
+}
+
+/// The meanings of the parts of a condition. Their refusals are noted.
+#[cycle(condition)]
+fn causes_of<'a, A: Atoms>(
+    alloc: Global,
+    atoms: &A,
+    types: &mut TypeTable<'_, 'a>,
+    parts: &'a [Condition],
+    first: &mut FirstRefusal,
+) -> Mem<List<Cause>>
+    ensures kept { types.new ≡ types.old }
+    ensures causes { IfOk result (λ causes. causes ≡ map (cause_of (A.meaning atoms.now types.old)) parts.now) }
+    ensures first { OnOk result (first.new ≡ nearer first.old (least (flat_map (condition_faults (A.faults atoms.now types.old)) parts.now))) }
+{
+    let mut causes = List::new(alloc);
+    for part in parts {
+        causes.push(cause_of(alloc, atoms, types, part, first)?)?;
+    }
+    Ok(causes)
+}
