@@ -1,0 +1,10 @@
+use Rattle.std.proofs.Common.{◌≡◌, drop, flat_map, option_copied}
+use Rattle.aadl_syntax.specs.Order.{least, nearer}
+use Rattle.used_sets.specs.Used.{set_fault}
+use Rattle.used_sets.proofs.faults.note_sets.Given as goal
+
+abbrev pub invariant-loop-set : goal.invariant-loop-set
+invariant-loop-set l = record {
+  kept : l.types ≡ l.fn.types;
+  first : nearer l.first (least (flat_map (λ set. set_fault l.fn.types (option_copied l.scope) set.now) (drop l.set-index l.set-items))) ≡ nearer l.fn.first (least (flat_map (λ set. set_fault l.fn.types (option_copied l.scope) set.now) l.set-items));
+}

@@ -1,0 +1,321 @@
+ghost use Rattle.std.specs.Prelude.{◌≡◌, ◌++◌, ◌&&◌, [], cond, false, nat_eq, ℕ, IfOk, OnOk, flat_map, length, option_copied, slice_get, slice_index_or};
+ghost use Rattle.aadl_syntax.specs.Order.{least, nearer};
+ghost use Rattle.error_types.specs.Libraries.{unknown_libraries};
+ghost use Rattle.package_index.specs.Numbered.{numbered_from};
+ghost use Rattle.used_sets.specs.Marks.{Marked};
+ghost use Rattle.used_sets.specs.Used.{behavior_faults, behavior_uses, clause_set_faults, effective_faults, faults_with, is_some_set, is_used, item_faults, items_faults, machine_set_faults, machine_sets, propagation_faults, propagation_uses, set_fault, sets_faults, use_clause, used_set_faults, uses_clause, uses_fault};
+
+use crate::items::HasSets;
+use crate::sets::WrittenSets;
+use aadl_syntax::{FirstRefusal, MachineDecl, Mem, Ref, TypeSet};
+use component_extension::{Behavior, ClauseText, Effective, InClause, Propagations};
+use error_behavior::UsedMachine;
+use error_types::{Scope, TypeTable};
+use propagation_points::scopes_of;
+use std::alloc::Global;
+
+/// Notes the refusals of the written sets that a component uses: N2, N7, N8 and P4 of the names in the sets of its effective
+/// items and of its machine, and N2 of the libraries that their texts use.
+#[tactic(auto, using(component_extension::proofs::Noting::noted_more))]
+pub fn note_used_sets<'a>(
+    alloc: Global,
+    effective: &Effective<'a>,
+    machine: &Option<UsedMachine<'a>>,
+    types: &mut TypeTable<'_, 'a>,
+    first: &mut FirstRefusal,
+) -> Mem<()>
+    ensures kept { types.new ≡ types.old }
+    ensures first { OnOk result (first.new ≡ nearer first.old (least (used_set_faults types.old machine.now effective.now))) }
+{
+    note_clauses(alloc, effective, types, first)?;
+    note_machine(alloc, machine, types, first)
+}
+
+/// Notes the refusals of the sets of the effective items of a component, and of the libraries that their clauses use.
+fn note_clauses<'a>(
+    alloc: Global,
+    effective: &Effective<'a>,
+    types: &mut TypeTable<'_, 'a>,
+    first: &mut FirstRefusal,
+) -> Mem<()>
+    ensures kept { types.new ≡ types.old }
+    ensures first { OnOk result (first.new ≡ nearer first.old (least (clause_set_faults types.old effective.now))) }
+{
+    let clauses = effective.clauses.items();
+    let scopes = scopes_of(alloc, types, clauses)?;
+    let mut marks = no_marks(alloc, clauses.len())?;
+    note_with(alloc, effective, types, scopes.items(), marks.as_mut_slice(), first)?;
+    Ok(())
+}
+
+/// So many marks, of which none is set.
+fn no_marks(alloc: Global, count: usize) -> Mem<Vec<bool>>
+    ensures none { IfOk result (λ marks. (number : ℕ) → slice_index_or marks.items number false ≡ false) }
+    ensures long { IfOk result (λ marks. length marks.items ≡ count) }
+{
+    vec![in alloc; false; count]
+}
+
+/// The same where the clauses have these texts. There is a mark for each clause, and none is set.
+fn note_with<'a>(
+    alloc: Global,
+    effective: &Effective<'a>,
+    types: &mut TypeTable<'_, 'a>,
+    scopes: &[Scope],
+    marks: &mut [bool],
+    first: &mut FirstRefusal,
+) -> Mem<()>
+    requires none { (number : ℕ) → slice_index_or marks.old number false ≡ false }
+    requires long { length marks.old ≡ length effective.now.clauses }
+    ensures kept { types.new ≡ types.old }
+    ensures first { OnOk result (first.new ≡ nearer first.old (least (faults_with types.old scopes.now effective.now))) }
+{
+    note_effective(alloc, effective, types, scopes, marks, first)?;
+    note_uses(types, effective.clauses.items(), marks, first);
+    Ok(())
+}
+
+/// Notes the refusals of the sets of the effective items of a component, and marks the clauses in which they stand.
+#[tactic(auto, using(component_extension::proofs::Noting::noted_more))]
+fn note_effective<'a>(
+    alloc: Global,
+    effective: &Effective<'a>,
+    types: &mut TypeTable<'_, 'a>,
+    scopes: &[Scope],
+    marks: &mut [bool],
+    first: &mut FirstRefusal,
+) -> Mem<()>
+    ensures kept { types.new ≡ types.old }
+    ensures first { OnOk result (first.new ≡ nearer first.old (least (effective_faults types.old scopes.now effective.now))) }
+    ensures marks { OnOk result (Marked marks.old marks.new (is_used effective.now)) }
+{
+    note_propagations(alloc, &effective.propagations, types, scopes, marks, first)?;
+    note_behavior(alloc, &effective.behavior, types, scopes, marks, first)
+}
+
+#[tactic(auto, using(component_extension::proofs::Noting::noted_more))]
+fn note_propagations<'a>(
+    alloc: Global,
+    propagations: &Propagations<'a>,
+    types: &mut TypeTable<'_, 'a>,
+    scopes: &[Scope],
+    marks: &mut [bool],
+    first: &mut FirstRefusal,
+) -> Mem<()>
+    ensures kept { types.new ≡ types.old }
+    ensures first { OnOk result (first.new ≡ nearer first.old (least (propagation_faults types.old scopes.now propagations.now))) }
+    ensures marks { OnOk result (Marked marks.old marks.new (propagation_uses propagations.now)) }
+{
+    let points = propagations.points.items();
+    note_items(alloc, types, scopes, points, marks, first)?;
+    let flows = propagations.flows.items();
+    note_items(alloc, types, scopes, flows, marks, first)?;
+    Ok(())
+}
+
+fn note_behavior<'a>(
+    alloc: Global,
+    behavior: &Behavior<'a>,
+    types: &mut TypeTable<'_, 'a>,
+    scopes: &[Scope],
+    marks: &mut [bool],
+    first: &mut FirstRefusal,
+) -> Mem<()>
+    ensures kept { types.new ≡ types.old }
+    ensures first { OnOk result (first.new ≡ nearer first.old (least (behavior_faults types.old scopes.now behavior.now))) }
+    ensures marks { OnOk result (Marked marks.old marks.new (behavior_uses behavior.now)) }
+{
+    let events = behavior.events.items();
+    note_items(alloc, types, scopes, events, marks, first)?;
+    let transitions = behavior.transitions.items();
+    note_items(alloc, types, scopes, transitions, marks, first)?;
+    let outgoing = behavior.outgoing.items();
+    note_items(alloc, types, scopes, outgoing, marks, first)?;
+    let composites = behavior.composites.items();
+    note_items(alloc, types, scopes, composites, marks, first)?;
+    Ok(())
+}
+
+/// Notes the refusals of the sets of items, and marks the clauses in which the items with sets stand.
+fn note_items<'a, T: HasSets>(
+    alloc: Global,
+    types: &mut TypeTable<'_, 'a>,
+    scopes: &[Scope],
+    items: &[InClause<'a, T>],
+    marks: &mut [bool],
+    first: &mut FirstRefusal,
+) -> Mem<()>
+    ensures kept { types.new ≡ types.old }
+    ensures first { OnOk result (first.new ≡ nearer first.old (least (items_faults T.sets types.old scopes.now items.now))) }
+    ensures marks { OnOk result (Marked marks.old marks.new (use_clause T.sets items.now)) }
+{
+    for item in items {
+        note_item(alloc, types, scopes, item, marks, first)?;
+    }
+    Ok(())
+}
+
+fn note_item<'a, T: HasSets>(
+    alloc: Global,
+    types: &mut TypeTable<'_, 'a>,
+    scopes: &[Scope],
+    item: &InClause<'a, T>,
+    marks: &mut [bool],
+    first: &mut FirstRefusal,
+) -> Mem<()>
+    ensures kept { types.new ≡ types.old }
+    ensures first { OnOk result (first.new ≡ nearer first.old (least (item_faults T.sets types.old scopes.now item.now))) }
+    ensures marks { OnOk result (Marked marks.old marks.new (λ number. uses_clause T.sets number item.now)) }
+{
+    let mut sets = WrittenSets::new(alloc);
+    item.item().add_sets(&mut sets)?;
+    note_sets(alloc, types, scope_at(scopes, item.scope()), &sets, first)?;
+    mark(marks, item.scope(), is_some_set(&sets));
+    Ok(())
+}
+
+fn scope_at(scopes: &[Scope], number: usize) -> Option<&Scope>
+    ensures { option_copied result ≡ slice_get scopes.now number }
+{
+    scopes.get(number)
+}
+
+fn is_some_set(sets: &WrittenSets) -> bool
+    ensures { result ≡ is_some_set sets.now }
+{
+    sets.sets().len() > 0
+}
+
+/// Marks a number, where this is so.
+fn mark(marks: &mut [bool], number: usize, is_so: bool)
+    ensures { Marked marks.old marks.new (λ other. nat_eq number other && is_so) }
+{
+    if is_so && number < marks.len() {
+        marks[number] = true;
+    }
+}
+
+/// Notes the first refusals of sets that are read in a text, if there is the text.
+fn note_sets<'a>(
+    alloc: Global,
+    types: &mut TypeTable<'_, 'a>,
+    scope: Option<&Scope>,
+    sets: &WrittenSets<'a>,
+    first: &mut FirstRefusal,
+) -> Mem<()>
+    ensures kept { types.new ≡ types.old }
+    ensures first { OnOk result (first.new ≡ nearer first.old (least (flat_map (set_fault types.old (option_copied scope.entry)) sets.now))) }
+{
+    for set in sets.sets() {
+        note_set(alloc, types, scope, set, first)?;
+    }
+    Ok(())
+}
+
+fn note_set<'a>(
+    alloc: Global,
+    types: &mut TypeTable<'_, 'a>,
+    scope: Option<&Scope>,
+    set: &'a TypeSet,
+    first: &mut FirstRefusal,
+) -> Mem<()>
+    ensures kept { types.new ≡ types.old }
+    ensures first { OnOk result (first.new ≡ nearer first.old (least (set_fault types.old (option_copied scope.entry) set.now))) }
+{
+    if let Some(scope) = scope {
+        types.denote(alloc, scope, set, first)?;
+    }
+    Ok(())
+}
+
+/// Notes N2 of the libraries that the marked clauses use.
+fn note_uses(
+    types: &TypeTable<'_, '_>,
+    clauses: &[ClauseText<'_>],
+    marks: &[bool],
+    first: &mut FirstRefusal,
+)
+    ensures { first.new ≡ nearer first.old (least (numbered_from (uses_fault types.now (λ number. slice_index_or marks.now number false)) 0 clauses.now)) }
+{
+    for (number, clause) in clauses.iter().enumerate() {
+        let uses = clause.item().uses.items();
+        note_unknown_if(types, is_marked(marks, number), clause.package(), uses, first);
+    }
+}
+
+fn is_marked(marks: &[bool], number: usize) -> bool
+    ensures { result ≡ slice_index_or marks.now number false }
+{
+    number < marks.len() && marks[number]
+}
+
+/// Notes the refusals of the sets of a machine, if there is one.
+fn note_machine<'a>(
+    alloc: Global,
+    machine: &Option<UsedMachine<'a>>,
+    types: &mut TypeTable<'_, 'a>,
+    first: &mut FirstRefusal,
+) -> Mem<()>
+    ensures kept { types.new ≡ types.old }
+    ensures first { OnOk result (first.new ≡ nearer first.old (least (machine_set_faults types.old machine.now))) }
+{
+    if let Some(machine) = machine {
+        let sets = machine_sets(alloc, machine.decl())?;
+        note_machine_sets(alloc, types, machine, &sets, first)?;
+    }
+    Ok(())
+}
+
+/// Notes the refusals of the sets of a machine, and of the libraries that it uses, if it has a set.
+#[tactic(auto, using(component_extension::proofs::Noting::noted_more))]
+fn note_machine_sets<'a>(
+    alloc: Global,
+    types: &mut TypeTable<'_, 'a>,
+    machine: &UsedMachine<'a>,
+    sets: &WrittenSets<'a>,
+    first: &mut FirstRefusal,
+) -> Mem<()>
+    ensures kept { types.new ≡ types.old }
+    ensures first { OnOk result (first.new ≡ nearer first.old (least (sets_faults types.old machine.now sets.now))) }
+{
+    let uses = machine.decl().uses.items();
+    note_unknown_if(types, is_some_set(sets), machine.package(), uses, first);
+    let scope = types.text_scope(alloc, machine.package(), uses)?;
+    note_sets(alloc, types, Some(&scope), sets, first)?;
+    Ok(())
+}
+
+fn note_unknown_if(
+    types: &TypeTable<'_, '_>,
+    is_so: bool,
+    home: u32,
+    uses: &[Ref],
+    first: &mut FirstRefusal,
+)
+    ensures { first.new ≡ nearer first.old (least (cond is_so (unknown_libraries types.now.packages home uses.now) [])) }
+{
+    if is_so {
+        types.note_unknown(home, uses, first);
+    }
+}
+
+/// The sets of a machine.
+fn machine_sets<'a>(alloc: Global, decl: &'a MachineDecl) -> Mem<WrittenSets<'a>>
+    ensures { IfOk result (λ sets. sets ≡ machine_sets decl.now) }
+{
+    let mut sets = WrittenSets::new(alloc);
+    add_all(&mut sets, decl.events.items())?;
+    add_all(&mut sets, decl.states.items())?;
+    add_all(&mut sets, decl.transitions.items())?;
+    Ok(sets)
+}
+
+/// Adds the sets of items.
+fn add_all<'a, T: HasSets>(sets: &mut WrittenSets<'a>, items: &'a [T]) -> Mem<()>
+    ensures { OnOk result (sets.new ≡ sets.old ++ flat_map T.sets items.now) }
+{
+    for item in items {
+        item.add_sets(sets)?;
+    }
+    Ok(())
+}
