@@ -1,0 +1,12 @@
+pub mod EffectiveIs
+pub mod Lists
+pub mod KindLaws
+pub mod Apart
+pub mod MemberNames
+pub mod PathLaws
+pub mod StepLaws
+pub mod StepMore
+pub mod InstanceLaws
+pub mod PreorderLaws
+pub mod Sample
+pub mod Examples

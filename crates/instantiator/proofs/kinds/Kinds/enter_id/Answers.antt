@@ -1,0 +1,31 @@
+use Rattle.std.proofs.Common.{◌≡◌, sym, ap, ◌∙◌, subst}
+use Rattle.std.proofs.lemmas.Result.{err_from_is_err_and}
+use Rattle.aadl_syntax.specs.Order.{least}
+use Rattle.component_extension.specs.Items.{classifier_faults}
+use Rattle.component_extension.specs.Effective.{IsEffective}
+use Rattle.instantiator.specs.Refused.{StopsAt}
+use Rattle.instantiator.specs.Whole.{Kinds}
+use Rattle.instantiator.proofs.EffectiveIs.{effective-is}
+use Rattle.instantiator.proofs.KindLaws.{entered-again, entered-new, refused-stops}
+use Rattle.instantiator.proofs.kinds.Kinds.enter_id.Goals as goal
+
+pub returns-in-Some : goal.returns-in-Some
+returns-in-Some c = entered-again _ _ _ c.self.invariant _ c.self.view_is c.args.id c.in-Some.number (sym c.number.ensures ∙ c.in-Some.is)
+
+pub returns-in_err-effective : goal.returns-in_err-effective
+returns-in_err-effective c =
+    let view : c.self.inside.index.now ≡ c.args.self.now.packages = ap (λ (kinds : Kinds). kinds.packages) c.self.view_is in
+    let p = err_from_is_err_and c.from_residual.result c.from_residual.ensures.1 in
+    rw (p.1, p.2) (subst (λ packages. StopsAt (least (classifier_faults packages c.args.id)) c.in_err-effective.field-0.0) view (refused-stops _ _ c.in_err-effective.ensures.refused))
+
+pub add-requires-clause-effective : goal.add-requires-clause-effective
+add-requires-clause-effective c =
+    let made = c.in_ok-effective.effective in
+    let view : c.self.inside.index.now ≡ c.args.self.now.packages = ap (λ (kinds : Kinds). kinds.packages) c.self.view_is in
+    let effective = effective-is c.args.self.now.packages c.args.id made (subst (λ packages. IsEffective packages c.args.id made) view c.in_ok-effective.ensures.effective) in
+    λ i. record { classifier = c.args.id; effective = effective i }
+
+pub returns : goal.returns
+returns c =
+    let view : c.self.inside.index.now ≡ c.args.self.now.packages = ap (λ (kinds : Kinds). kinds.packages) c.self.view_is in
+    entered-new c.args.self.now c.add.new.self c.args.id _ (sym c.number.ensures ∙ c.in_default.is) (ap (λ packages. classifier_faults packages c.args.id) (sym view) ∙ c.in_ok-effective.ensures.accepted) c.in_ok-add.ensures.kinds c.in_ok-add.ensures.number

@@ -1,0 +1,5 @@
+pub mod Effectives
+pub mod Components
+pub mod Refused
+pub mod Whole
+pub mod Tables

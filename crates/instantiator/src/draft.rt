@@ -1,0 +1,72 @@
+ghost use Rattle.std.specs.Prelude.{◌≡◌, ◌≤◌, ◌∷◌, [], length, None, Some, IfOk, MatchResult, option_and_then, slice_get};
+ghost use Rattle.instantiator.specs.Components.{found};
+ghost use Rattle.instantiator.specs.Refused.{StopsAt, component_refusal, limit_refusal, over};
+ghost use Rattle.instantiator.specs.Tables.{Added};
+
+use crate::kinds::Kinds;
+use crate::occurrence::{Meant, Occurrence};
+use crate::path::Component;
+use aadl_syntax::{Answer, Code, List, Place, Refusal};
+use package_index::{ClassifierId, Index};
+use std::alloc::Global;
+
+/// The components of an instance so far, and their kinds.
+#[derive(Drop)]
+pub(crate) struct Draft<'i, 'a> {
+    pub kinds: Kinds<'i, 'a>,
+    pub components: List<Component<'a>>,
+}
+
+impl<'i, 'a> Draft<'i, 'a> {
+    /// No components yet.
+    pub(crate) fn new(alloc: Global, index: &'i Index<'a>) -> Draft<'i, 'a>
+        ensures { result ≡ record { kinds = record { packages = index.now; ids = [] }; components = [] } }
+    {
+        Draft {
+            kinds: Kinds::new(alloc, index),
+            components: List::new(alloc),
+        }
+    }
+
+    /// Adds a component, and gives the number of its kind if it has a classifier.
+    pub(crate) fn add(&mut self, alloc: Global, one: &Occurrence<'a>) -> Answer<Option<usize>>
+        ensures { MatchResult result (Added self.old self.new one.now) (StopsAt (component_refusal self.old.kinds.packages (length self.old.components) one.now)) }
+    {
+        within_limits(self.components.items().len(), one)?;
+        let kind = self.kinds.enter(alloc, one.classifier)?;
+        self.components.push(Component {
+            path: one.path.again(alloc)?,
+            classifier: found(&one.classifier),
+        })?;
+        Ok(kind)
+    }
+}
+
+/// The classifier, or none where its name is refused.
+fn found(classifier: &Meant) -> Option<ClassifierId>
+    ensures { result ≡ found classifier.now }
+{
+    match classifier {
+        Ok(classifier) => *classifier,
+        Err(_) => None,
+    }
+}
+
+/// Refuses the component of a number where there are too many, or where it is too deep.
+fn within_limits(number: usize, one: &Occurrence<'_>) -> Result<(), Refusal>
+    ensures within { MatchResult result (λ _. limit_refusal number one.now ≡ None) (λ refusal. limit_refusal number one.now ≡ Some refusal) }
+    ensures short { IfOk result (λ _. length one.now.path ≤ 32) }
+{
+    over(number >= 4096, Code::TooManyComponents, one.place, 4096)?;
+    over(one.path.len() >= 33, Code::TooDeep, one.place, 32)
+}
+
+/// Refuses what exceeds the limit of a code.
+fn over(is_over: bool, code: Code, place: Place, limit: u64) -> Result<(), Refusal>
+    ensures { MatchResult result (λ _. over is_over code place limit ≡ None) (λ refusal. over is_over code place limit ≡ Some refusal) }
+{
+    if is_over {
+        return Err(Refusal { code, place, limit });
+    }
+    Ok(())
+}

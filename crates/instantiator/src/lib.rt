@@ -1,0 +1,16 @@
+//! The instance of a root classifier: its components in preorder, and the effective classifiers that they have.
+#![tactic(auto)]
+
+mod draft;
+mod instance;
+mod kinds;
+mod laws;
+mod occurrence;
+mod path;
+mod preorder;
+mod steps;
+
+pub use instance::Instance;
+pub use kinds::Kind;
+pub use laws::{parents_come_first, paths_differ};
+pub use path::{Component, Path};
