@@ -13,4 +13,5 @@ mod steps;
 pub use instance::Instance;
 pub use kinds::Kind;
 pub use laws::{parents_come_first, paths_differ};
+pub use occurrence::{Meant, Part, parts_of};
 pub use path::{Component, Path};

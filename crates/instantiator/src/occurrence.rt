@@ -9,11 +9,11 @@ use std::alloc::Global;
 use std::marker::Model;
 
 /// What the name of a classifier means: a classifier, or none where there is no name, or else the name is refused.
-pub(crate) type Meant = Result<Option<ClassifierId>, Refusal>;
+pub type Meant = Result<Option<ClassifierId>, Refusal>;
 
 /// A subcomponent: its name, where that stands in the nearest declaration, and what the name of its classifier means.
 #[derive(Drop)]
-pub(crate) struct Part<'a> {
+pub struct Part<'a> {
     name: &'a Identifier,
     place: Place,
     classifier: Meant,
@@ -43,19 +43,22 @@ impl<'a> Part<'a> {
         }
     }
 
-    fn name(&self) -> &'a Identifier
+    /// Its name.
+    pub fn name(&self) -> &'a Identifier
         ensures { result.now ≡ self.now.name }
     {
         self.name
     }
 
-    fn place(&self) -> Place
+    /// Where its name stands in its nearest declaration.
+    pub fn place(&self) -> Place
         ensures { result ≡ self.now.place }
     {
         self.place
     }
 
-    fn classifier(&self) -> Meant
+    /// What the name of its classifier means.
+    pub fn classifier(&self) -> Meant
         ensures { result ≡ self.now.classifier }
     {
         self.classifier
@@ -81,7 +84,7 @@ fn meant(index: &Index, home: u32, reference: &Option<Ref>) -> Meant
 }
 
 /// The subcomponents of an effective classifier, in order.
-pub(crate) fn parts_of<'a>(
+pub fn parts_of<'a>(
     alloc: Global,
     index: &Index<'a>,
     members: &[Inherited<'a, Subcomponent>],

@@ -1,0 +1,42 @@
+use Rattle.std.proofs.Common.{◌≡◌, ◌<◌, List, get_or, length, map, refl, ap, ◌∙◌, subst, sym}
+use lib.ListN.{length-map}
+use Rattle.std.proofs.lemmas.List.{get_or_default}
+use Rattle.aadl_syntax.specs.Order.{least, nearer}
+use Rattle.component_extension.specs.declared.effective.Effective.{Effective}
+use Rattle.package_index.proofs.Loops.{noting-more}
+use Rattle.package_index.specs.declared.id.ClassifierId.{ClassifierId}
+use Rattle.error_types.specs.Libraries.{Table}
+use Rattle.instantiator.specs.Effectives.{effective_of}
+use Rattle.instantiator.specs.Tables.{kind_of}
+use Rattle.used_sets.specs.Used.{used_set_faults}
+use Rattle.error_models.specs.Below.{kind_machine}
+use Rattle.error_models.specs.Refused.{set_faults}
+use Rattle.error_models.proofs.KindLaws.{made-at}
+use Rattle.error_models.proofs.sets.note_sets.Goals as goal
+
+faults-of : (table : Table) (id : ClassifierId) → used_set_faults table (kind_machine table.packages id) (effective_of table.packages id) ≡ set_faults table id
+unfolding set_faults
+faults-of table id = refl
+
+pub loop-number-preserved : goal.loop-number-preserved
+loop-number-preserved c =
+    let table = c.args.types.now in
+    let packages = c.args.instance.now.packages in
+    let ids = c.args.instance.now.kinds in
+    let i = c.loop-number.number in
+    let one = c.kind-item.result in
+    let all = c.kinds-kind-items.ensures.kinds in
+    let within : i < length ids = subst (λ n. i < n) (ap length all ∙ length-map ids (kind_of packages)) c.loop-number-test.true in
+    let id = get_or ids i one.classifier in
+    let machines = c.requires.machines in
+    let same : table.packages ≡ packages = c.requires.packages in
+    let kept : c.loop-number.types ≡ table = c.loop-number.invariant.kept in
+    let kind : one ≡ kind_of packages id = made-at (kind_of packages) ids c.kinds-kind-items.result.now i one.classifier one all within c.kind-item.is in
+    let machine : c.index-machines-number.result ≡ kind_machine packages id = made-at (kind_machine packages) ids c.args.machines.now i one.classifier c.index-machines-number.result machines within c.index-machines-number.is in
+    let made : used_set_faults c.loop-number.types c.index-machines-number.result one.effective ≡ set_faults table id =
+        (λ k. used_set_faults (kept k) (machine k) (kind k).effective) ∙ (λ k. used_set_faults table (kind_machine (sym same k) id) (effective_of (sym same k) id)) ∙ faults-of table id in
+    record {
+      kept = c.in_ok-note_used_sets.ensures.kept ∙ kept;
+      first = noting-more ids i id within (get_or_default ids i one.classifier id within) (set_faults table) c.loop-number.first _ _
+          (c.in_ok-note_used_sets.ensures.first ∙ ap (λ faults. nearer c.loop-number.first (least faults)) made) c.loop-number.invariant.first;
+    }

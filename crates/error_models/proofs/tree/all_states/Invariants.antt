@@ -1,0 +1,6 @@
+use Rattle.std.proofs.Common.{◌≡◌, map, take}
+use Rattle.error_behavior.specs.States.{states_of}
+use Rattle.error_models.proofs.tree.all_states.Given as goal
+
+abbrev pub invariant-loop-machine : goal.invariant-loop-machine
+invariant-loop-machine l = l.states ≡ map states_of (take l.machine-index l.machines)

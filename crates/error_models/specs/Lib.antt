@@ -1,0 +1,4 @@
+pub mod Below
+pub mod Models
+pub mod Refused
+pub mod Trees

@@ -1,0 +1,54 @@
+ghost use Rattle.std.specs.Prelude.{◌≡◌, None, Some, IfErr, IfOk, MatchResult, OnOk, map};
+ghost use Rattle.error_behavior.specs.Machines.{find_machine};
+ghost use Rattle.instantiator.specs.Refused.{StopsAt};
+ghost use Rattle.error_models.specs.Below.{kind_machine, machine_of};
+ghost use Rattle.error_models.specs.Refused.{fault_of, machines_refusal};
+
+use aadl_syntax::{Answer, List, Refusal};
+use component_extension::Effective;
+use error_behavior::{UsedMachine, find_machine, machine_at};
+use instantiator::Instance;
+use package_index::Index;
+use std::alloc::Global;
+
+/// The machines of the kinds of an instance, in order; a kind may use none.
+///
+/// N2 and N15 of the first component whose machine is not found, as `find_machine` has them.
+pub fn machines_of<'a>(
+    alloc: Global,
+    instance: &Instance<'_, 'a>,
+) -> Answer<List<Option<UsedMachine<'a>>>>
+    ensures machines { IfOk result (λ machines. machines ≡ map (kind_machine instance.now.packages) instance.now.kinds) }
+    ensures accepted { OnOk result (machines_refusal instance.now.packages instance.now.kinds ≡ None) }
+    ensures refused { IfErr result (StopsAt (machines_refusal instance.now.packages instance.now.kinds)) }
+{
+    let mut machines = List::new(alloc);
+    for kind in instance.kinds() {
+        let machine = machine_in(instance.index(), &kind.effective)?;
+        machines.push(machine)?;
+    }
+    Ok(machines)
+}
+
+/// The machine of a component with this effective classifier, if it uses one, or its refusal.
+fn machine_in<'a>(
+    index: &Index<'a>,
+    effective: &Effective<'a>,
+) -> Answer<Option<UsedMachine<'a>>>
+    ensures { MatchResult result (λ machine. (machine ≡ machine_of index.now effective.now) × (fault_of (find_machine index.now effective.now) ≡ None)) (StopsAt (fault_of (find_machine index.now effective.now))) }
+{
+    Ok(machine_of(index, effective)?)
+}
+
+/// The machine of a component with this effective classifier, if it uses one.
+fn machine_of<'a>(
+    index: &Index<'a>,
+    effective: &Effective<'a>,
+) -> Result<Option<UsedMachine<'a>>, Refusal>
+    ensures { MatchResult result (λ machine. (machine ≡ machine_of index.now effective.now) × (fault_of (find_machine index.now effective.now) ≡ None)) (λ refusal. fault_of (find_machine index.now effective.now) ≡ Some refusal) }
+{
+    match find_machine(index, effective)? {
+        Some(id) => Ok(machine_at(index, id)),
+        None => Ok(None),
+    }
+}

@@ -1,0 +1,17 @@
+use aadl_syntax::List;
+use composite_states::ClauseMeaning;
+use error_behavior::{ErrorBehavior, States};
+use error_flows::FlowMeaning;
+use propagation_points::Points;
+
+/// The error model of a component: its points, its states, what happens in it, what flows through it, and its composite states.
+#[derive(Drop)]
+pub struct ErrorModel<'a> {
+    pub points: Points<'a>,
+    pub states: States<'a>,
+    pub behavior: ErrorBehavior<'a>,
+    pub flows: List<FlowMeaning>,
+    pub composites: List<ClauseMeaning>,
+    /// Whether it has a clause of composite states, one of `others` included.
+    pub is_composite: bool,
+}

@@ -1,0 +1,52 @@
+ghost use Rattle.std.specs.Prelude.{◌≡◌, [], Contains, IfErr, OnOk, map};
+ghost use Rattle.aadl_syntax.specs.Order.{least, nearer};
+ghost use Rattle.package_index.specs.Duplicates.{IsRefused};
+ghost use Rattle.error_models.specs.Below.{kind_machine};
+ghost use Rattle.error_models.specs.Refused.{all_set_faults};
+
+use aadl_syntax::{Answer, FirstRefusal, Mem};
+use error_behavior::UsedMachine;
+use error_types::TypeTable;
+use instantiator::Instance;
+use std::alloc::Global;
+use used_sets::note_used_sets;
+
+/// Tests the written sets that the components of an instance use, whose kinds have these machines.
+///
+/// One group, of which the first by place is answered: N2, N7, N8 and P4 of the names in them, and N2 of the libraries that
+/// their texts use.
+pub fn test_sets<'a>(
+    alloc: Global,
+    instance: &Instance<'_, 'a>,
+    machines: &[Option<UsedMachine<'a>>],
+    types: &mut TypeTable<'_, 'a>,
+) -> Answer<()>
+    requires machines { machines.now ≡ map (kind_machine instance.now.packages) instance.now.kinds }
+    requires packages { types.old.packages ≡ instance.now.packages }
+    ensures kept { types.new ≡ types.old }
+    ensures accepted { OnOk result (all_set_faults types.old instance.now.kinds ≡ []) }
+    ensures refused { IfErr result (IsRefused (Contains (all_set_faults types.old instance.now.kinds))) }
+{
+    let mut first = FirstRefusal::new();
+    note_sets(alloc, instance, machines, types, &mut first)?;
+    first.settle()?;
+    Ok(())
+}
+
+fn note_sets<'a>(
+    alloc: Global,
+    instance: &Instance<'_, 'a>,
+    machines: &[Option<UsedMachine<'a>>],
+    types: &mut TypeTable<'_, 'a>,
+    first: &mut FirstRefusal,
+) -> Mem<()>
+    requires machines { machines.now ≡ map (kind_machine instance.now.packages) instance.now.kinds }
+    requires packages { types.old.packages ≡ instance.now.packages }
+    ensures kept { types.new ≡ types.old }
+    ensures first { OnOk result (first.new ≡ nearer first.old (least (all_set_faults types.old instance.now.kinds))) }
+{
+    for (number, kind) in instance.kinds().iter().enumerate() {
+        note_used_sets(alloc, &kind.effective, &machines[number], types, first)?;
+    }
+    Ok(())
+}
