@@ -1,7 +1,7 @@
 -- Lists in which each item stands apart from all later ones.
-use Rattle.std.proofs.Common.{List, [], ◌∷◌, ◌++◌, map, flat_map, arith}
+use Rattle.std.proofs.Common.{suc, List, [], ◌∷◌, ◌++◌, map, flat_map, arith}
 use Rattle.std.specs.List.{AllByRecursion, AllPairs}
-use Rattle.std.proofs.lemmas.List.Elements.{All-from_recursion}
+use Rattle.std.proofs.lemmas.List.Elements.{All-from_recursion, recursion_from_All}
 use Rattle.std.proofs.lemmas.List.Kept.{AllPairs-cons}
 
 -- ---- each item
@@ -62,6 +62,13 @@ apart-weaker R S weaker (x ∷ xs) a = (each-weaker (R x) (S x) (weaker x) xs a.
 pub AllPairs-from_Apart : {A : Type 0} (R : A → A → Type 0) (xs : List A) → Apart R xs → AllPairs R xs
 AllPairs-from_Apart R [] a = λ i j d before within. absurd (omega (arith, within))
 AllPairs-from_Apart R (x ∷ xs) a = AllPairs-cons R x xs (All-from_recursion (R x) xs a.0) (AllPairs-from_Apart R xs a.1)
+
+pub Apart-from_AllPairs : {A : Type 0} (R : A → A → Type 0) (xs : List A) → AllPairs R xs → Apart R xs
+Apart-from_AllPairs R [] all = tt
+Apart-from_AllPairs R (x ∷ xs) all = (
+  recursion_from_All (R x) xs (λ k d within. all 0 (suc k) d (omega arith) (omega (arith, within))),
+  Apart-from_AllPairs R xs (λ i j d less within. all (suc i) (suc j) d (omega (arith, less)) (omega (arith, within))),
+)
 
 module _ {A B : Type 0} (R : A → A → Type 0) (f : B → List A) where
   -- all of these stand apart from what the items give

@@ -18,11 +18,11 @@ use Rattle.instantiator.proofs.PathLaws.{parents-first, paths-differ}
 
 -- ---- how many there are
 
-or-none : {A : Type 0} (a b : Option A) → option_or a b ≡ None → (a ≡ None) × (b ≡ None)
+pub or-none : {A : Type 0} (a b : Option A) → option_or a b ≡ None → (a ≡ None) × (b ≡ None)
 or-none None b none = (refl, none)
 or-none (Some a) b none = cc
 
-not-over : (b : Bool) (code : Code) (place : Place) (limit : ℕ) → over b code place limit ≡ None → b ≡ false
+pub not-over : (b : Bool) (code : Code) (place : Place) (limit : ℕ) → over b code place limit ≡ None → b ≡ false
 not-over true code place limit none = cc
 not-over false code place limit none = refl
 

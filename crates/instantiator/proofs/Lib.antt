@@ -7,6 +7,8 @@ pub mod PathLaws
 pub mod StepLaws
 pub mod StepMore
 pub mod InstanceLaws
+pub mod ReachedLaws
+pub mod OrderOfPaths
 pub mod PreorderLaws
 pub mod Sample
 pub mod Examples

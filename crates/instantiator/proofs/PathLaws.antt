@@ -22,7 +22,7 @@ use Rattle.instantiator.proofs.MemberNames.{members-differ, name-same}
 -- ---- parts
 
 -- no two parts of a component have one name
-parts-differ : (packages : List PackageUnit) (classifier : Option ClassifierId) → Apart (λ a b. a.name ≢ b.name) (parts_of packages (effective_at packages classifier))
+pub parts-differ : (packages : List PackageUnit) (classifier : Option ClassifierId) → Apart (λ a b. a.name ≢ b.name) (parts_of packages (effective_at packages classifier))
 unfolding effective_of
 parts-differ packages None = tt
 parts-differ packages (Some id) =
@@ -33,42 +33,42 @@ parts-differ packages (Some id) =
 -- ---- what is below a path
 
 -- the second path goes on from the first
-abbrev Under : List (List ℕ) → List (List ℕ) → Type 0
+abbrev pub Under : List (List ℕ) → List (List ℕ) → Type 0
 Under front path = (rest : List (List ℕ)) × (path ≡ front ++ rest)
 
 under-more : (front path : List (List ℕ)) (name : List ℕ) → Under (front ++ name ∷ []) path → Under front path
 under-more front path name under = (name ∷ under.0, under.1 ∙ append_assoc front (name ∷ []) under.0)
 
-under-apart : (front c d : List (List ℕ)) (x y : List ℕ) → x ≢ y → Under (front ++ x ∷ []) c → Under (front ++ y ∷ []) d → c ≢ d
+pub under-apart : (front c d : List (List ℕ)) (x y : List ℕ) → x ≢ y → Under (front ++ x ∷ []) c → Under (front ++ y ∷ []) d → c ≢ d
 under-apart front c d x y differ one two same =
     let paths : front ++ (x ∷ one.0) ≡ front ++ (y ∷ two.0) = sym (one.1 ∙ append_assoc front (x ∷ []) one.0) ∙ same ∙ (two.1 ∙ append_assoc front (y ∷ []) two.0) in
     let rest : x ∷ one.0 ≡ y ∷ two.0 = append_cancel_left front (x ∷ one.0) (y ∷ two.0) paths in
     let names : x ≡ y = cc in
     differ names
 
-under-longer : (front path : List (List ℕ)) (name : List ℕ) → Under (front ++ name ∷ []) path → front ≢ path
+pub under-longer : (front path : List (List ℕ)) (name : List ℕ) → Under (front ++ name ∷ []) path → front ≢ path
 under-longer front path name under same =
     let long : length front ≡ length (front ++ name ∷ []) + length under.0 = ap length (same ∙ under.1) ∙ length-append (front ++ name ∷ []) under.0 in
     absurd (omega (arith, long, length-append front (name ∷ [])))
 
 -- whatever is under the one path is not under the other
-abbrev Beside : Occurrence → Occurrence → Type 0
+abbrev pub Beside : Occurrence → Occurrence → Type 0
 Beside a b = (c d : List (List ℕ)) → Under a.path c → Under b.path d → c ≢ d
 
 abbrev Differ : Occurrence → Occurrence → Type 0
 Differ a b = a.path ≢ b.path
 
 module _ (packages : List PackageUnit) where
-  abbrev parts : Occurrence → List Part
+  abbrev pub parts : Occurrence → List Part
   parts one = parts_of packages (effective_at packages (found one.classifier))
 
   -- what holds of all that is below each part of a component
-  below-each : (P : Occurrence → Type 0) (levels : ℕ) (one : Occurrence) → ((part : Part) → AllByRecursion P (preorder levels packages (occurrence_of one.path part))) → AllByRecursion P (flat_map (preorder levels packages) (occurrences_in packages one))
+  pub below-each : (P : Occurrence → Type 0) (levels : ℕ) (one : Occurrence) → ((part : Part) → AllByRecursion P (preorder levels packages (occurrence_of one.path part))) → AllByRecursion P (flat_map (preorder levels packages) (occurrences_in packages one))
   below-each P levels one each =
       each-flat_map P (preorder levels packages) (occurrences_in packages one)
       (each-map (λ (x : Occurrence). AllByRecursion P (preorder levels packages x)) (occurrence_of one.path) (parts one) (each-all (λ part. AllByRecursion P (preorder levels packages (occurrence_of one.path part))) each (parts one)))
 
-  all-under : (levels : ℕ) (one : Occurrence) → AllByRecursion (λ (o : Occurrence). Under one.path o.path) (preorder levels packages one)
+  pub all-under : (levels : ℕ) (one : Occurrence) → AllByRecursion (λ (o : Occurrence). Under one.path o.path) (preorder levels packages one)
   unfolding preorder
   all-under zero one = tt
   all-under (suc levels) one = (

@@ -26,7 +26,7 @@ not-so false never = refl
 -- ---- the first that passes
 
 -- the place of an item that passes, where none before it does
-first-from : {A : Type 0} (p : A → Bool) (xs : List A) (n start : ℕ) (x : A) → slice_get xs n ≡ Some x → p x ≡ true → ((k : ℕ) → k < n → (y : A) → slice_get xs k ≡ Some y → p y ≡ false) → position_from p start xs ≡ Some (start + n)
+pub first-from : {A : Type 0} (p : A → Bool) (xs : List A) (n start : ℕ) (x : A) → slice_get xs n ≡ Some x → p x ≡ true → ((k : ℕ) → k < n → (y : A) → slice_get xs k ≡ Some y → p y ≡ false) → position_from p start xs ≡ Some (start + n)
 first-from p [] n start x there passes before = cc
 first-from p (y ∷ ys) zero start x there passes before =
     let is : y ≡ x = cc in

@@ -3,3 +3,4 @@ pub mod Components
 pub mod Refused
 pub mod Whole
 pub mod Tables
+pub mod Reached

@@ -12,6 +12,6 @@ mod steps;
 
 pub use instance::Instance;
 pub use kinds::Kind;
-pub use laws::{parents_come_first, paths_differ};
+pub use laws::{components_are_in_order, components_are_reached, parents_come_first, paths_differ};
 pub use occurrence::{Meant, Part, parts_of};
 pub use path::{Component, Path};

@@ -1,0 +1,4 @@
+pub mod EndLaws
+pub mod LinkLaws
+pub mod Sample
+pub mod Examples

@@ -1,0 +1,9 @@
+use Rattle.std.proofs.Common.{◌≡◌, drop, flat_map, true}
+use Rattle.aadl_syntax.specs.Order.{least, nearer}
+use Rattle.aadl_syntax.specs.declared.refusal.Code.TheVariants.{ConnectionError}
+use Rattle.package_index.specs.Lookup.{refused_so}
+use Rattle.propagation_links.proofs.refused.note_connection_errors.Given as goal
+
+abbrev pub invariant-loop-spot : goal.invariant-loop-spot
+invariant-loop-spot l =
+    nearer l.first (least (flat_map (refused_so true ConnectionError) (drop l.spot-index l.blocks))) ≡ nearer l.fn.first (least (flat_map (refused_so true ConnectionError) l.blocks))

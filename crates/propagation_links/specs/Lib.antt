@@ -1,0 +1,4 @@
+pub mod Ends
+pub mod Links
+pub mod Refused
+pub mod Steps

@@ -1,0 +1,107 @@
+-- What is refused of the links of an instance.
+use Rattle.std.specs.Prelude.{ℕ, ◌+◌, Bool, true, false, cond, ◌&&◌, ◌||◌, not, nat_le, is_some, List, [], ◌∷◌, ◌++◌, length, sum, flat_map, slice_get, Option, Some, None, option_to_list}
+use Rattle.std.specs.Option.{option_map_or, option_or}
+use Rattle.std.specs.List.{list_any}
+use Rattle.aadl_syntax.specs.Name.{is_same_text}
+use Rattle.aadl_syntax.specs.declared.core_model.Connection.{Connection}
+use Rattle.aadl_syntax.specs.declared.core_model.Ends.{Ends}
+use Rattle.aadl_syntax.specs.declared.error_model.UserPath.{UserPath}
+use Rattle.aadl_syntax.specs.declared.place.End.{End}
+use Rattle.aadl_syntax.specs.declared.refusal.Code.TheVariants.{ConnectionError, FeatureGroup, TooManyLinks, UnknownEnd}
+use Rattle.aadl_syntax.specs.declared.refusal.Place.TheVariants.{Words}
+use Rattle.aadl_syntax.specs.declared.refusal.Refusal.{Refusal}
+use Rattle.aadl_syntax.specs.Order.{least}
+use Rattle.package_index.specs.Lookup.{refused_so}
+use Rattle.package_index.specs.Names.{front, last, only}
+use Rattle.package_index.specs.Numbered.{numbered_from}
+use Rattle.component_extension.specs.declared.effective.Effective.{Effective}
+use Rattle.component_extension.specs.Items.{Scoped}
+use Rattle.component_extension.specs.Members.{Member}
+use Rattle.propagation_points.specs.Points.{Point, place_named, point_words}
+use Rattle.instantiator.specs.declared.path.Component.{Component}
+use Rattle.instantiator.specs.Components.{component_below}
+use Rattle.instantiator.specs.Refused.{over}
+use Rattle.instantiator.specs.Whole.{Instance, effective_in}
+use Rattle.propagation_links.specs.Ends.{Pointed, is_access, points_at}
+use Rattle.propagation_links.specs.Links.{ends_of, is_apart}
+
+-- ---- ends
+
+-- whether a name is one of the words that stand for points, whether or not a propagation stands for it
+abbrev pub is_point_word : List ℕ → Bool
+is_point_word name = list_any (λ word. is_same_text word name) point_words
+
+-- whether a name is that of a point of a component, or a word
+abbrev pub is_point : Pointed → ℕ → List ℕ → Bool
+is_point pointed component name = is_some (place_named (points_at pointed component) name) || is_point_word name
+
+-- Whether names mean a point of the component of a number, or of one below it: the names before the last lead there.
+abbrev pub means_point : Pointed → ℕ → List (List ℕ) → Bool
+means_point pointed number names =
+    option_map_or (λ component. option_map_or (is_point pointed component) (last names) false) (component_below pointed.instance.components number (front names)) false
+
+-- whether names are that of a subcomponent alone
+abbrev pub is_subcomponent : Pointed → ℕ → List (List ℕ) → Bool
+is_subcomponent pointed number names =
+    option_map_or (λ name. is_some (component_below pointed.instance.components number (name ∷ []))) (only names) false
+
+-- N14 at an end of a user path that means no point
+abbrev pub path_end_faults : Pointed → ℕ → End → List Refusal
+path_end_faults pointed number end = refused_so (not (means_point pointed number end.names)) UnknownEnd end.spot
+
+-- N14 at an end of a connection that means nothing: in an access connection a subcomponent alone means something too
+abbrev pub unknown_end : Pointed → ℕ → Bool → End → List Refusal
+unknown_end pointed number access end =
+    refused_so (not (means_point pointed number end.names || (access && is_subcomponent pointed number end.names))) UnknownEnd end.spot
+
+-- P3 at an end of a connection with three names or more, and else N14 unless the connection is apart from the model
+abbrev pub connection_end_faults : Pointed → ℕ → Bool → Bool → End → List Refusal
+connection_end_faults pointed number access apart end =
+    cond (nat_le 3 (length end.names)) (refused_so true FeatureGroup end.spot) (cond apart [] (unknown_end pointed number access end))
+
+-- ---- connections and paths
+
+-- the refusals of the ends of a connection, if it has any
+abbrev pub ends_faults : Pointed → ℕ → Bool → Option Ends → List Refusal
+ends_faults pointed number access None = []
+ends_faults pointed number access (Some ends) =
+    connection_end_faults pointed number access (is_apart ends) ends.from ++ connection_end_faults pointed number access (is_apart ends) ends.to
+
+abbrev pub connection_faults : Pointed → ℕ → Member Connection → List Refusal
+connection_faults pointed number member = ends_faults pointed number (is_access member.nearest.item.kind) (ends_of member)
+
+abbrev pub path_faults : Pointed → ℕ → Scoped UserPath → List Refusal
+path_faults pointed number scoped = path_end_faults pointed number scoped.item.from ++ path_end_faults pointed number scoped.item.to
+
+-- ---- all refusals
+
+-- The refusals of the component of a number with this effective classifier: those of the ends of its connections and paths,
+-- and P9 at each block of connection errors.
+abbrev pub faults_in : Pointed → ℕ → Effective → List Refusal
+faults_in pointed number effective =
+    flat_map (connection_faults pointed number) effective.members.connections
+    ++ (flat_map (path_faults pointed number) effective.propagations.user_paths ++ flat_map (refused_so true ConnectionError) effective.others.connection_errors)
+
+-- the first refusal of the component of a number, if it has one
+abbrev pub component_fault : Pointed → ℕ → Component → List Refusal
+component_fault pointed number component = option_to_list (least (faults_in pointed number (effective_in pointed.instance number)))
+
+-- how many connections and user paths a component has
+abbrev pub count_in : Effective → ℕ
+count_in effective = length effective.members.connections + length effective.propagations.user_paths
+
+-- how many connections and user paths all components have, also those without effect
+abbrev pub count_links : Pointed → ℕ
+count_links pointed = sum (numbered_from (λ number component. count_in (effective_in pointed.instance number) ∷ []) 0 pointed.instance.components)
+
+-- the refusal of the first component that has one
+abbrev pub first_fault : Pointed → Option Refusal
+first_fault pointed = slice_get (numbered_from (component_fault pointed) 0 pointed.instance.components) 0
+
+-- M14 where there are more than 1,048,576 connections and user paths
+abbrev pub limit_refusal : Pointed → Option Refusal
+limit_refusal pointed = over (nat_le 1048577 (count_links pointed)) TooManyLinks Words 1048576
+
+-- The refusal of the links of an instance with these points: M14, and else that of the first component that has one.
+abbrev pub links_refusal : Instance → List (List Point) → Option Refusal
+links_refusal instance points = let pointed : Pointed = record { instance = instance; points = points } in option_or (limit_refusal pointed) (first_fault pointed)

@@ -1,0 +1,112 @@
+ghost use Rattle.std.specs.Prelude.{◌≡◌, ◌<◌, ◌^◌, None, Some, IfOk, IfErr, OnOk, MatchResult};
+ghost use Rattle.instantiator.specs.Refused.{StopsAt};
+ghost use Rattle.propagation_links.specs.Links.{links_of};
+ghost use Rattle.propagation_links.specs.Refused.{count_in, count_links, faults_in, first_fault, limit_refusal, links_refusal};
+ghost use Rattle.propagation_links.specs.Steps.{Linked, AllLinked};
+ghost use Rattle.instantiator.specs.Whole.{effective_in};
+ghost use Rattle.aadl_syntax.specs.Order.{least};
+
+use crate::counted::count_in;
+use crate::link::Link;
+use crate::links::add_links;
+use crate::pointed::Pointed;
+use crate::refused::note_faults;
+use aadl_syntax::{Answer, Code, FirstRefusal, List, Place, Refusal};
+use component_extension::Effective;
+use instantiator::Instance;
+use propagation_points::Points;
+use std::alloc::Global;
+
+/// The links of an instance, where `points` has the points of each of its kinds, in order.
+///
+/// For each component in order, its connections and then its user paths are taken, each in order; each gives the link
+/// between its ends in the written direction, and a connection that goes both ways or is of an access then the other. A
+/// from-end is the outward side of its point, or the inward side where the point is the component's own; a to-end is the
+/// other. A link of which a side is not there is left out.
+///
+/// M14 where all components have more than 1,048,576 connections and user paths. Else the first component decides of which
+/// anything is refused, and of that the first by place: N14 at an end that means nothing, P3 at an end of a connection
+/// with three names or more, P9 at each block of connection errors.
+pub fn links_of<'a>(
+    alloc: Global,
+    instance: &Instance<'_, 'a>,
+    points: &[Points<'a>],
+) -> Answer<List<Link>>
+    ensures links { IfOk result (λ links. links ≡ links_of instance.now points.now) }
+    ensures accepted { OnOk result (links_refusal instance.now points.now ≡ None) }
+    ensures refused { IfErr result (StopsAt (links_refusal instance.now points.now)) }
+{
+    let pointed = Pointed::new(instance, points);
+    within_limit(&pointed)?;
+    all_links(alloc, &pointed)
+}
+
+fn all_links(alloc: Global, pointed: &Pointed) -> Answer<List<Link>>
+    ensures { MatchResult result (AllLinked pointed.now) (StopsAt (first_fault pointed.now)) }
+{
+    let mut links = List::new(alloc);
+    for number in 0..pointed.instance().components().len() {
+        add_component(&mut links, pointed, number as u32)?;
+    }
+    Ok(links)
+}
+
+/// Adds the links of the component of a number, unless anything is refused of it.
+fn add_component(links: &mut List<Link>, pointed: &Pointed, number: u32) -> Answer<()>
+    ensures { MatchResult result (λ _. Linked pointed.now number (effective_in pointed.now.instance number) links.old links.new) (StopsAt (least (faults_in pointed.now number (effective_in pointed.now.instance number)))) }
+{
+    match pointed.instance().effective(number) {
+        Some(effective) => add_effective(links, pointed, number, effective),
+        None => Ok(()),
+    }
+}
+
+fn add_effective<'a>(
+    links: &mut List<Link>,
+    pointed: &Pointed<'_, '_, 'a>,
+    number: u32,
+    effective: &Effective<'a>,
+) -> Answer<()>
+    ensures { MatchResult result (λ _. Linked pointed.now number effective.now links.old links.new) (StopsAt (least (faults_in pointed.now number effective.now))) }
+{
+    let mut first = FirstRefusal::new();
+    note_faults(&mut first, pointed, number, effective);
+    first.settle()?;
+    add_links(links, pointed, number, effective)?;
+    Ok(())
+}
+
+/// Refuses where all components have too many connections and user paths.
+fn within_limit(pointed: &Pointed) -> Result<(), Refusal>
+    ensures { MatchResult result (λ _. limit_refusal pointed.now ≡ None) (λ refusal. limit_refusal pointed.now ≡ Some refusal) }
+{
+    if count_links(pointed) > 1_048_576 {
+        return Err(Refusal {
+            code: Code::TooManyLinks,
+            place: Place::Words,
+            limit: 1_048_576,
+        });
+    }
+    Ok(())
+}
+
+/// How many connections and user paths all components have.
+fn count_links(pointed: &Pointed) -> usize
+    ensures { result ≡ count_links pointed.now }
+{
+    let mut count = 0;
+    for number in 0..pointed.instance().components().len() {
+        count += count_at(pointed, number as u32);
+    }
+    count
+}
+
+fn count_at(pointed: &Pointed, number: u32) -> usize
+    ensures count { result ≡ count_in (effective_in pointed.now.instance number) }
+    ensures few { result < 2 ^ 33 }
+{
+    match pointed.instance().effective(number) {
+        Some(effective) => count_in(effective),
+        None => 0,
+    }
+}

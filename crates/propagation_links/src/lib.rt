@@ -1,0 +1,13 @@
+//! The links of an instance: from which side of which point errors propagate to which.
+#![tactic(auto)]
+
+mod all;
+mod counted;
+mod ends;
+mod link;
+mod links;
+mod pointed;
+mod refused;
+
+pub use all::links_of;
+pub use link::{Link, PointAt};

@@ -1,0 +1,176 @@
+ghost use Rattle.std.specs.Prelude.{◌≡◌, ◌++◌, true, flat_map};
+ghost use Rattle.aadl_syntax.specs.Order.{least, nearer};
+ghost use Rattle.aadl_syntax.specs.declared.refusal.Code.TheVariants.{ConnectionError};
+ghost use Rattle.package_index.specs.Lookup.{refused_so};
+ghost use Rattle.propagation_links.specs.Links.{is_apart};
+ghost use Rattle.propagation_links.specs.Refused.{connection_end_faults, connection_faults, ends_faults, faults_in, is_point, is_point_word, is_subcomponent, means_point, path_end_faults, path_faults, unknown_end};
+
+use crate::links::{ends_of, is_access, is_apart};
+use crate::pointed::Pointed;
+use aadl_syntax::{Code, Connection, End, Ends, FirstRefusal, Identifier, Spot, UserPath, is_same};
+use component_extension::{Effective, InClause, Inherited};
+use package_index::note_if;
+
+/// Notes what is refused of the component of a number.
+#[tactic(auto, using(component_extension::proofs::Noting::noted_more))]
+pub(crate) fn note_faults<'a>(
+    first: &mut FirstRefusal,
+    pointed: &Pointed<'_, '_, 'a>,
+    number: u32,
+    effective: &Effective<'a>,
+)
+    ensures { first.new ≡ nearer first.old (least (faults_in pointed.now number effective.now)) }
+{
+    note_connections(
+        first,
+        pointed,
+        number,
+        effective.members.connections.items(),
+    );
+    note_paths(
+        first,
+        pointed,
+        number,
+        effective.propagations.user_paths.items(),
+    );
+    note_connection_errors(first, effective.others.connection_errors.items());
+}
+
+fn note_connections<'a>(
+    first: &mut FirstRefusal,
+    pointed: &Pointed<'_, '_, 'a>,
+    number: u32,
+    connections: &[Inherited<'a, Connection>],
+)
+    ensures { first.new ≡ nearer first.old (least (flat_map (connection_faults pointed.now number) connections.now)) }
+{
+    for connection in connections {
+        note_connection(first, pointed, number, connection);
+    }
+}
+
+fn note_connection<'a>(
+    first: &mut FirstRefusal,
+    pointed: &Pointed<'_, '_, 'a>,
+    number: u32,
+    connection: &Inherited<'a, Connection>,
+)
+    ensures { first.new ≡ nearer first.old (least (connection_faults pointed.now number connection.now)) }
+{
+    let access = is_access(connection.nearest().item().kind);
+    if let Some(ends) = ends_of(connection) {
+        note_ends(first, pointed, number, access, ends);
+    }
+}
+
+#[tactic(auto, using(component_extension::proofs::Noting::noted_more))]
+fn note_ends(first: &mut FirstRefusal, pointed: &Pointed, number: u32, access: bool, ends: &Ends)
+    ensures { first.new ≡ nearer first.old (least (connection_end_faults pointed.now number access (is_apart ends.now) ends.now.from ++ connection_end_faults pointed.now number access (is_apart ends.now) ends.now.to)) }
+{
+    let apart = is_apart(ends);
+    note_connection_end(first, pointed, number, access, apart, &ends.from);
+    note_connection_end(first, pointed, number, access, apart, &ends.to);
+}
+
+fn note_connection_end(
+    first: &mut FirstRefusal,
+    pointed: &Pointed,
+    number: u32,
+    access: bool,
+    apart: bool,
+    end: &End,
+)
+    ensures { first.new ≡ nearer first.old (least (connection_end_faults pointed.now number access apart end.now)) }
+{
+    if end.names.items().len() >= 3 {
+        note_if(first, true, Code::FeatureGroup, end.spot);
+    } else if !apart {
+        note_unknown(first, pointed, number, access, end);
+    }
+}
+
+fn note_unknown(first: &mut FirstRefusal, pointed: &Pointed, number: u32, access: bool, end: &End)
+    ensures { first.new ≡ nearer first.old (least (unknown_end pointed.now number access end.now)) }
+{
+    let names = end.names.items();
+    let is_known = pointed.means_point(number, names)
+        || (access && pointed.is_subcomponent(number, names));
+    note_if(first, !is_known, Code::UnknownEnd, end.spot);
+}
+
+fn note_paths<'a>(
+    first: &mut FirstRefusal,
+    pointed: &Pointed<'_, '_, 'a>,
+    number: u32,
+    paths: &[InClause<'a, UserPath>],
+)
+    ensures { first.new ≡ nearer first.old (least (flat_map (path_faults pointed.now number) paths.now)) }
+{
+    for path in paths {
+        note_path(first, pointed, number, path.item());
+    }
+}
+
+#[tactic(auto, using(component_extension::proofs::Noting::noted_more))]
+fn note_path(first: &mut FirstRefusal, pointed: &Pointed, number: u32, path: &UserPath)
+    ensures { first.new ≡ nearer first.old (least (path_end_faults pointed.now number path.now.from ++ path_end_faults pointed.now number path.now.to)) }
+{
+    note_path_end(first, pointed, number, &path.from);
+    note_path_end(first, pointed, number, &path.to);
+}
+
+fn note_path_end(first: &mut FirstRefusal, pointed: &Pointed, number: u32, end: &End)
+    ensures { first.new ≡ nearer first.old (least (path_end_faults pointed.now number end.now)) }
+{
+    let is_known = pointed.means_point(number, end.names.items());
+    note_if(first, !is_known, Code::UnknownEnd, end.spot);
+}
+
+/// Notes each block of connection errors.
+fn note_connection_errors(first: &mut FirstRefusal, blocks: &[Spot])
+    ensures { first.new ≡ nearer first.old (least (flat_map (refused_so true ConnectionError) blocks.now)) }
+{
+    for spot in blocks {
+        note_if(first, true, Code::ConnectionError, *spot);
+    }
+}
+
+impl<'s, 'i, 'a> Pointed<'s, 'i, 'a> {
+    /// Whether names mean a point of the component of a number, or of one below it.
+    fn means_point(&self, number: u32, names: &[Identifier]) -> bool
+        ensures { result ≡ means_point self.now number names.now }
+    {
+        let Some((last, front)) = names.split_last() else {
+            return false;
+        };
+        match self.instance().find_below(number, front) {
+            Some(component) => self.is_point(component, last.text()),
+            None => false,
+        }
+    }
+
+    /// Whether names are that of a subcomponent alone.
+    fn is_subcomponent(&self, number: u32, names: &[Identifier]) -> bool
+        ensures { result ≡ is_subcomponent self.now number names.now }
+    {
+        names.len() == 1 && self.instance().find_below(number, names).is_some()
+    }
+
+    fn is_point(&self, component: u32, name: &[u8]) -> bool
+        ensures { result ≡ is_point self.now component name.now }
+    {
+        self.place(component, name).is_some() || is_point_word(name)
+    }
+}
+
+/// Whether a name is one of the words that stand for points.
+fn is_point_word(name: &[u8]) -> bool
+    ensures { result ≡ is_point_word name.now }
+{
+    is_same(b"processor", name)
+        || is_same(b"memory", name)
+        || is_same(b"connection", name)
+        || is_same(b"binding", name)
+        || is_same(b"bindings", name)
+        || is_same(b"access", name)
+}
