@@ -6,6 +6,7 @@ pub mod Keys
 pub mod MarkLaws
 pub mod Nearer
 pub mod Noting
+pub mod PrintedLaws
 pub mod Sample
 pub mod SearchLaws
 pub mod TermLaws

@@ -8,3 +8,4 @@ pub mod Leaving
 pub mod Trip
 pub mod Needs
 pub mod Meant
+pub mod Printed

@@ -1,6 +1,7 @@
-ghost use Rattle.std.specs.Prelude.{◌≡◌, ◌<◌, ◌^◌, Some, length, option_copied, IfOk, OnOk};
+ghost use Rattle.std.specs.Prelude.{◌≡◌, ◌<◌, ◌^◌, Some, length, option_copied, option_map, slice_get, IfOk, OnOk};
 ghost use Rattle.aadl_syntax.specs.Order.{nearer};
 ghost use Rattle.error_types.specs.Libraries.{item_at, number_of, table_of};
+ghost use Rattle.error_types.specs.Printed.{item_name};
 ghost use Rattle.error_types.specs.Search.{item_found, last_name, name_fault, named, named_in, search_along};
 ghost use Rattle.error_types.specs.Walk.{library_scope};
 
@@ -10,7 +11,8 @@ use crate::library::{Library, libraries_of};
 use crate::numbers::{numbers_of, types_by};
 use crate::scope::Scope;
 use crate::search::search;
-use aadl_syntax::{Code, FirstRefusal, List, Mem, Ref, Refusal, Spot, TypeItem};
+use crate::type_name::TypeName;
+use aadl_syntax::{Code, FirstRefusal, List, Mem, PackageUnit, Ref, Refusal, Spot, TypeItem};
 use package_index::{Index, Words, refusal};
 use std::alloc::Global;
 use std::collections::HashMap;
@@ -32,7 +34,7 @@ impl<'i, 'a> Model for Declarations<'i, 'a> {
     ghost use Rattle.std.specs.HashMap.{get};
     ghost use Rattle.aadl_syntax.specs.contracts.error_model.Condition as condition;
     ghost use Rattle.package_index.specs.Tables.{Knows, same_pair};
-    ghost use Rattle.error_types.specs.Libraries.{Table};
+    ghost use Rattle.error_types.specs.Libraries.{Table, table_of};
     ghost use Rattle.error_types.specs.Tables.{has_number};
 
     ghost Value = { Table };
@@ -41,7 +43,9 @@ impl<'i, 'a> Model for Declarations<'i, 'a> {
 
     ghost view = { λ d. record { packages = d.index.now; libraries = d.libraries; types = d.types } };
 
-    ghost invariant = { λ d. Knows has_number d.types (get same_pair d.numbers) × (d.nowhere ≡ record { «package» = 0; libraries = [] }) };
+    ghost invariant = { λ d. Knows has_number d.types (get same_pair d.numbers)
+        × (d.nowhere ≡ record { «package» = 0; libraries = [] })
+        × (record { packages = d.index.now; libraries = d.libraries; types = d.types } ≡ table_of d.index.now) };
 }
 
 impl<'i, 'a> Declarations<'i, 'a> {
@@ -70,6 +74,14 @@ impl<'i, 'a> Declarations<'i, 'a> {
         ensures few { length self.now.types < 2 ^ 32 }
     {
         self.types.items()
+    }
+
+    /// The item of the type of a number.
+    pub(crate) fn type_id(&self, number: u32) -> Option<ItemId>
+        ensures item { result ≡ slice_get self.now.types number }
+        ensures made { self.now ≡ table_of self.now.packages }
+    {
+        self.types.items().get(number as usize).copied()
     }
 
     /// The libraries, in order.
@@ -102,6 +114,16 @@ impl<'i, 'a> Declarations<'i, 'a> {
         ensures { result ≡ number_of self.now id }
     {
         self.numbers.get(&(id.package, id.item)).copied()
+    }
+
+    /// The name of the type that an item declares.
+    pub(crate) fn name(&self, id: ItemId) -> Option<TypeName<'a>>
+        ensures { result ≡ item_name self.now id }
+    {
+        match self.index.package(id.package) {
+            Some(unit) => name_in(unit, self.item(id)),
+            None => None,
+        }
     }
 
     /// Where the text of a library looks for a bare name.
@@ -156,6 +178,16 @@ impl<'i, 'a> Declarations<'i, 'a> {
         note_some(&mut met, name_fault(reference.spot, looked));
         note_some(first, first_of(&met));
         Ok(item_found(looked))
+    }
+}
+
+/// The name of the type that an item of a package declares, if there is the item.
+fn name_in<'a>(unit: &'a PackageUnit, item: Option<&'a TypeItem>) -> Option<TypeName<'a>>
+    ensures { result ≡ option_map (λ t. record { library = unit.now.name; name = t.name }) (option_copied item.entry) }
+{
+    match item {
+        Some(item) => Some(TypeName::of(unit, item)),
+        None => None,
     }
 }
 

@@ -1,7 +1,8 @@
-ghost use Rattle.std.specs.Prelude.{◌≡◌, ◌≤◌, ◌<◌, ◌^◌, IfOk, IfErr, OnOk, length};
+ghost use Rattle.std.specs.Prelude.{◌≡◌, ◌↔◌, ◌≤◌, ◌<◌, ◌^◌, IfOk, IfErr, IsSome, OnOk, length};
 ghost use Rattle.aadl_syntax.specs.Order.{least, nearer};
 ghost use Rattle.package_index.specs.Duplicates.{IsRefused};
 ghost use Rattle.error_types.specs.Libraries.{HasTooManyTypes, IsOver, declared_types, greatest_types, libraries_of, table_of, unknown_libraries};
+ghost use Rattle.error_types.specs.Printed.{name_of};
 ghost use Rattle.error_types.specs.Types.{denoted, is_below, text_scope};
 ghost use Rattle.error_types.specs.Walk.{set_first};
 
@@ -11,6 +12,7 @@ use crate::hierarchy::bases_of;
 use crate::library::{Library, add_named, note_unknown};
 use crate::numbers::types_by;
 use crate::scope::Scope;
+use crate::type_name::TypeName;
 use aadl_syntax::{Answer, Code, FirstRefusal, List, Mem, Place, Ref, Refusal, Stop, TypeSet};
 use package_index::Index;
 use std::alloc::Global;
@@ -91,6 +93,17 @@ impl<'i, 'a> TypeTable<'i, 'a> {
     {
         let types = types_named(alloc, &self.declarations, scope, set.terms.items(), first)?;
         below_any(alloc, self.bases.items(), types.as_slice())
+    }
+
+    /// The name by which the type of a number prints; none where the number is of no type.
+    pub fn name(&self, number: u32) -> Option<TypeName<'a>>
+        ensures name { result ≡ name_of self.now number }
+        ensures known { IsSome result ↔ (number < length self.now.types) }
+    {
+        match self.declarations.type_id(number) {
+            Some(id) => self.declarations.name(id),
+            None => None,
+        }
     }
 
     /// Whether a type is below another: it is that type, or extends one that is below it. False where a number is of no type.
