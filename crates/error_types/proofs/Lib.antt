@@ -1,4 +1,5 @@
 pub mod AlongLaws
+pub mod EndingLaws
 pub mod Ends
 pub mod Examples
 pub mod HierarchyLaws
@@ -7,6 +8,7 @@ pub mod MarkLaws
 pub mod Nearer
 pub mod Noting
 pub mod PrintedLaws
+pub mod Remembering
 pub mod Sample
 pub mod SearchLaws
 pub mod TermLaws

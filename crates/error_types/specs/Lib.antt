@@ -7,5 +7,6 @@ pub mod Course
 pub mod Leaving
 pub mod Trip
 pub mod Needs
-pub mod Meant
+pub mod Endings
 pub mod Printed
+pub mod Known

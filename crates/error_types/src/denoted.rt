@@ -16,15 +16,16 @@ use package_index::refusal;
 use std::alloc::Global;
 
 /// The types that terms of a written set name. Their first refusal is noted.
-pub(crate) fn types_named(
+pub(crate) fn types_named<'a>(
     alloc: Global,
-    declarations: &Declarations<'_, '_>,
+    declarations: &mut Declarations<'_, 'a>,
     scope: &Scope,
-    terms: &[Term],
+    terms: &'a [Term],
     first: &mut FirstRefusal,
 ) -> Mem<Vec<u32>>
-    ensures types { IfOk result (λ types. types.items ≡ flat_map (term_types declarations.now scope.now) terms.now) }
-    ensures first { OnOk result (first.new ≡ nearer first.old (terms_first declarations.now scope.now terms.now)) }
+    ensures kept { declarations.new ≡ declarations.old }
+    ensures types { IfOk result (λ types. types.items ≡ flat_map (term_types declarations.old scope.now) terms.now) }
+    ensures first { OnOk result (first.new ≡ nearer first.old (terms_first declarations.old scope.now terms.now)) }
 {
     let mut types = Vec::new(alloc);
     for term in terms {
@@ -34,16 +35,17 @@ pub(crate) fn types_named(
 }
 
 /// Adds the types that a term names. Its first refusal is noted.
-fn add_term(
+fn add_term<'a>(
     alloc: Global,
-    declarations: &Declarations<'_, '_>,
+    declarations: &mut Declarations<'_, 'a>,
     scope: &Scope,
-    term: &Term,
+    term: &'a Term,
     types: &mut Vec<u32>,
     first: &mut FirstRefusal,
 ) -> Mem<()>
-    ensures types { OnOk result (types.new.items ≡ types.old.items ++ term_types declarations.now scope.now term.now) }
-    ensures first { OnOk result (first.new ≡ nearer first.old (term_first declarations.now scope.now term.now)) }
+    ensures kept { declarations.new ≡ declarations.old }
+    ensures types { OnOk result (types.new.items ≡ types.old.items ++ term_types declarations.old scope.now term.now) }
+    ensures first { OnOk result (first.new ≡ nearer first.old (term_first declarations.old scope.now term.now)) }
 {
     match term {
         Term::NoError(_) => Ok(()),
@@ -56,16 +58,17 @@ fn add_term(
 }
 
 /// The same of a name.
-fn add_name(
+fn add_name<'a>(
     alloc: Global,
-    declarations: &Declarations<'_, '_>,
+    declarations: &mut Declarations<'_, 'a>,
     scope: &Scope,
-    reference: &Ref,
+    reference: &'a Ref,
     types: &mut Vec<u32>,
     first: &mut FirstRefusal,
 ) -> Mem<()>
-    ensures types { OnOk result (types.new.items ≡ types.old.items ++ (reached false declarations.now (named declarations.now scope.now reference.now).target).types) }
-    ensures first { OnOk result (first.new ≡ nearer first.old (nearer (named declarations.now scope.now reference.now).first (reached true declarations.now (named declarations.now scope.now reference.now).target).first)) }
+    ensures kept { declarations.new ≡ declarations.old }
+    ensures types { OnOk result (types.new.items ≡ types.old.items ++ (reached false declarations.old (named declarations.old scope.now reference.now).target).types) }
+    ensures first { OnOk result (first.new ≡ nearer first.old (nearer (named declarations.old scope.now reference.now).first (reached true declarations.old (named declarations.old scope.now reference.now).target).first)) }
 {
     let mut met = FirstRefusal::new();
     let target = declarations.named(alloc, scope, reference, &mut met)?;
@@ -75,15 +78,16 @@ fn add_name(
 }
 
 /// Adds the types that are reached from what a name means. The first refusal on the way is noted.
-fn add_reached(
+fn add_reached<'a>(
     alloc: Global,
-    declarations: &Declarations<'_, '_>,
+    declarations: &mut Declarations<'_, 'a>,
     target: Option<ItemId>,
     types: &mut Vec<u32>,
     first: &mut FirstRefusal,
 ) -> Mem<()>
-    ensures types { OnOk result (types.new.items ≡ types.old.items ++ (reached false declarations.now target).types) }
-    ensures first { OnOk result (first.new ≡ nearer first.old (reached true declarations.now target).first) }
+    ensures kept { declarations.new ≡ declarations.old }
+    ensures types { OnOk result (types.new.items ≡ types.old.items ++ (reached false declarations.old target).types) }
+    ensures first { OnOk result (first.new ≡ nearer first.old (reached true declarations.old target).first) }
 {
     let Some(id) = target else {
         return Ok(());

@@ -4,8 +4,10 @@
 mod course;
 mod declarations;
 mod denoted;
+mod endings;
 mod hierarchy;
 mod id;
+mod known;
 mod laws;
 mod library;
 mod needs;

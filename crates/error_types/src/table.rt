@@ -50,9 +50,9 @@ impl<'i, 'a> TypeTable<'i, 'a> {
         ensures accepted { OnOk result (length (declared_types (libraries_of index.now)) ≤ greatest_types) }
         ensures refused { IfErr result (IsRefused (HasTooManyTypes index.now)) }
     {
-        let declarations = Declarations::of(alloc, index)?;
+        let mut declarations = Declarations::of(alloc, index)?;
         count_declared(alloc, declarations.libraries())?;
-        let bases = bases_of(alloc, &declarations)?;
+        let bases = bases_of(alloc, &mut declarations)?;
         Ok(TypeTable {
             declarations,
             bases,
@@ -91,7 +91,13 @@ impl<'i, 'a> TypeTable<'i, 'a> {
         ensures denoted { IfOk result (λ types. types ≡ denoted self.old scope.now set.now) }
         ensures first { OnOk result (first.new ≡ nearer first.old (set_first self.old scope.now set.now)) }
     {
-        let types = types_named(alloc, &self.declarations, scope, set.terms.items(), first)?;
+        let types = types_named(
+            alloc,
+            &mut self.declarations,
+            scope,
+            set.terms.items(),
+            first,
+        )?;
         below_any(alloc, self.bases.items(), types.as_slice())
     }
 
