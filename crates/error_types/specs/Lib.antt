@@ -10,3 +10,6 @@ pub mod Needs
 pub mod Endings
 pub mod Printed
 pub mod Known
+pub mod Grounded
+pub mod Rows
+pub mod Words

@@ -1,13 +1,15 @@
-ghost use Rattle.std.specs.Prelude.{◌≡◌, ◌^◌, IfOk, map, length};
+ghost use Rattle.std.specs.Prelude.{◌≡◌, ◌<◌, ◌^◌, cond, slice_set, true, IfOk, map, length};
 ghost use Rattle.std.specs.HashMap.{get};
 ghost use Rattle.package_index.specs.Tables.{same_pair};
 ghost use Rattle.error_types.specs.Endings.{AreEnds};
-ghost use Rattle.error_types.specs.Types.{base_in, base_of, is_below_in, type_named};
+ghost use Rattle.error_types.specs.Rows.{row_below, rows_by};
+ghost use Rattle.error_types.specs.Types.{base_in, base_of, is_below_by, is_below_in, type_named};
 ghost use Rattle.error_types.specs.Walk.{library_scope};
 
 use crate::declarations::Declarations;
 use crate::endings::{Ends, type_of};
 use crate::id::ItemId;
+use crate::row::Row;
 use aadl_syntax::{FirstRefusal, List, Mem, Ref, TypeKind};
 use std::alloc::Global;
 use std::collections::HashMap;
@@ -74,7 +76,7 @@ fn type_named<'a>(
 }
 
 /// Whether one type is another, or extends one that is below it.
-pub(crate) fn is_below(bases: &[Option<u32>], low: u32, high: u32) -> bool
+fn is_below(bases: &[Option<u32>], low: u32, high: u32) -> bool
     ensures { result ≡ is_below_in (length bases.now) (base_in bases.now) low high }
 {
     let mut type_now = low;
@@ -94,4 +96,50 @@ fn base_in(bases: &[Option<u32>], number: u32) -> Option<u32>
     ensures { result ≡ base_in bases.now number }
 {
     *bases.get(number as usize)?
+}
+
+/// Whether both numbers are of types, and the first is below the second.
+fn is_subtype(bases: &[Option<u32>], low: u32, high: u32) -> bool
+    ensures { result ≡ is_below_by bases.now low high }
+{
+    let count = bases.len();
+    (low as usize) < count && (high as usize) < count && is_below(bases, low, high)
+}
+
+/// For each type the row of the types that are below it, and then a row of none.
+pub(crate) fn rows_of(alloc: Global, bases: &[Option<u32>]) -> Mem<List<Row>>
+    requires { length bases.now < 2 ^ 32 }
+    ensures { IfOk result (λ rows. rows ≡ rows_by bases.now) }
+{
+    let mut rows = List::new(alloc);
+    for high in 0..bases.len() {
+        let row = row_below(alloc, bases, high as u32)?;
+        rows.push(row)?;
+    }
+    let none = Row::new(alloc, bases.len() as u32)?;
+    rows.push(none)?;
+    Ok(rows)
+}
+
+/// The row of the types that are below a type.
+fn row_below(alloc: Global, bases: &[Option<u32>], high: u32) -> Mem<Row>
+    requires { length bases.now < 2 ^ 32 }
+    ensures { IfOk result (λ row. row ≡ row_below bases.now high) }
+{
+    let mut row = Row::new(alloc, bases.len() as u32)?;
+    for low in 0..bases.len() {
+        let is_so = is_subtype(bases, low as u32, high);
+        put_if(&mut row, is_so, low as u32);
+    }
+    Ok(row)
+}
+
+/// Puts a number into a row, where this is so.
+fn put_if(row: &mut Row, is_so: bool, number: u32)
+    requires { number < length row.old }
+    ensures { row.new ≡ cond is_so (slice_set row.old number true) row.old }
+{
+    if is_so {
+        row.put(number);
+    }
 }

@@ -170,7 +170,7 @@ fn number_met(through: bool, declarations: &Declarations<'_, '_>, id: ItemId) ->
 }
 
 /// Whether an item, if there is one, is a set or an alias of one.
-fn is_set_item(item: Option<&TypeItem>) -> bool
+pub(crate) fn is_set_item(item: Option<&TypeItem>) -> bool
     ensures { result ≡ is_set_item (option_copied item.entry) }
 {
     match item {
@@ -180,7 +180,7 @@ fn is_set_item(item: Option<&TypeItem>) -> bool
 }
 
 /// The names that an item states, if there is one.
-fn needs_of(through: bool, item: Option<&TypeItem>) -> Needs<'_>
+pub(crate) fn needs_of(through: bool, item: Option<&TypeItem>) -> Needs<'_>
     ensures { result ≡ of_item (needs_of through) (option_copied item.entry) }
 {
     match item {
@@ -190,7 +190,7 @@ fn needs_of(through: bool, item: Option<&TypeItem>) -> Needs<'_>
 }
 
 /// The first refusal of the products of an item, if there is one.
-fn products_of(item: Option<&TypeItem>) -> FirstRefusal
+pub(crate) fn products_of(item: Option<&TypeItem>) -> FirstRefusal
     ensures { result ≡ least (of_item products_of (option_copied item.entry)) }
 {
     let mut first = FirstRefusal::new();
