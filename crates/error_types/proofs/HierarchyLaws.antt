@@ -1,5 +1,5 @@
 -- Which types are below which, and what names of types mean.
-use Rattle.std.proofs.Common.{ℕ, zero, suc, ◌+◌, ◌-◌, ◌^◌, ◌<◌, ◌≤◌, ◌≡◌, Bool, true, false, ◌&&◌, ◌||◌, nat_eq, nat_lt, List, [], ◌∷◌, length, map, slice_get, Option, Some, None, filter, option_and_then, refl, sym, ap, ◌∙◌, arith}
+use Rattle.std.proofs.Common.{ℕ, zero, suc, ◌+◌, ◌-◌, ◌<◌, ◌≤◌, ◌≡◌, Bool, true, false, ◌&&◌, ◌||◌, nat_eq, nat_lt, List, [], ◌∷◌, length, map, slice_get, Option, Some, None, filter, option_and_then, refl, sym, ap, ◌∙◌, arith}
 use Rattle.std.proofs.lemmas.Bool.Decides.{Decides-eqb}
 use Rattle.aadl_syntax.specs.declared.place.Ref.{Ref}
 use Rattle.error_types.specs.declared.scope.Scope.{Scope}
@@ -46,15 +46,9 @@ module _ (next : ℕ → Option ℕ) (high : ℕ) where
 
 -- ---- names of types
 
-named-step : (table : Table) (scope : Scope) (reference : Ref) (steps one : ℕ) → steps ≡ suc one → type_named steps table scope reference ≡ type_at (type_named one table) table (named table scope reference).target
+pub named-step : (table : Table) (scope : Scope) (reference : Ref) (steps one : ℕ) → steps ≡ suc one → type_named steps table scope reference ≡ type_at (type_named one table) table (named table scope reference).target
 unfolding type_named
 named-step table scope reference steps one more = ap (λ n. type_named n table scope reference) more
-
-module _ (table : Table) (scope : Scope) (reference : Ref) (i : ℕ) (within : i < 2 ^ 64) (whole : Option ℕ) (left : type_named (2 ^ 64 - i) table scope reference ≡ whole) where
-  pub means : type_at (type_named (2 ^ 64 - (i + 1)) table) table (named table scope reference).target ≡ whole
-  means =
-      let more : 2 ^ 64 - i ≡ suc (2 ^ 64 - (i + 1)) = omega (arith, within) in
-      sym (named-step table scope reference (2 ^ 64 - i) (2 ^ 64 - (i + 1)) more) ∙ left
 
 -- ---- the list of bases
 

@@ -6,16 +6,16 @@ use Rattle.aadl_syntax.specs.declared.refusal.Refusal.{Refusal}
 use Rattle.package_index.specs.Lookup.{place_of, refusal}
 use Rattle.error_types.specs.declared.id.ItemId.{ItemId}
 use Rattle.error_types.specs.declared.scope.Scope.{Scope}
-use Rattle.error_types.specs.Libraries.{Table, is_item_in, item_at, number_of}
+use Rattle.error_types.specs.Libraries.{Table, is_item_in, item_at}
 use Rattle.error_types.specs.Search.{named}
 use Rattle.error_types.specs.Trip.{Trip, Visit, arrival, at_visit, items_on, noting, walk_left, walk_so_far, walked_out, with_names}
-use Rattle.error_types.specs.Walk.{Need, Walk, arrived, at_item, follow, is_set_item, library_scope, needs_of, no_walk, of_item, past_item, products_of, walk_from, walked, with_fault}
+use Rattle.error_types.specs.Walk.{Need, Walk, arrived, at_item, follow, is_set_item, library_scope, needs_of, no_walk, number_met, of_item, past_item, products_of, walk_from, walked, with_fault}
 
 module _ (through : Bool) (table : Table) where
   -- ---- one item
 
   abbrev through-item : ℕ → List ItemId → Walk → ItemId → Walk
-  through-item steps way walk id = past_item id (fold (walked (follow steps through table way) table way (library_scope table id.«package»)) (at_item table walk id) (of_item (needs_of through) (item_at table.libraries id)))
+  through-item steps way walk id = past_item id (fold (walked (follow steps through table way) table way (library_scope table id.«package»)) (at_item through table walk id) (of_item (needs_of through) (item_at table.libraries id)))
 
   one-step : (steps one : ℕ) (way : List ItemId) (walk : Walk) (id : ItemId) → steps ≡ suc one → follow steps through table way walk id ≡ through-item one (id ∷ way) walk id
   unfolding follow
@@ -79,7 +79,7 @@ module _ (through : Bool) (table : Table) where
                 let more : 2 ^ 64 - (length trip.below + 1) ≡ suc deeper = omega (arith, few) in
                 one-step (2 ^ 64 - (length trip.below + 1)) deeper way (walk_so_far trip) id more
 
-            pub enters : walk_left through table (at_visit trip id (of_item (needs_of through) (item_at table.libraries id)) (number_of table id) (least (of_item products_of (item_at table.libraries id)))) ≡ arrival through table need trip id
+            pub enters : walk_left through table (at_visit trip id (of_item (needs_of through) (item_at table.libraries id)) (number_met through table id) (least (of_item products_of (item_at table.libraries id)))) ≡ arrival through table need trip id
             enters =
                 sym
                 (
@@ -101,5 +101,5 @@ module _ (through : Bool) (table : Table) where
 
   -- ---- the beginning
 
-  pub starts : (id : ItemId) → walk_left through table (record { top = record { item = id; rest = of_item (needs_of through) (item_at table.libraries id) }; below = []; followed = []; types = option_to_list (number_of table id); first = least (of_item products_of (item_at table.libraries id)) }) ≡ walk_from through table id
+  pub starts : (id : ItemId) → walk_left through table (record { top = record { item = id; rest = of_item (needs_of through) (item_at table.libraries id) }; below = []; followed = []; types = option_to_list (number_met through table id); first = least (of_item products_of (item_at table.libraries id)) }) ≡ walk_from through table id
   starts id = sym (one-step (2 ^ 64) (2 ^ 64 - 1) [] no_walk id refl)

@@ -7,4 +7,9 @@ pub mod Course
 pub mod Leaving
 pub mod Trip
 pub mod Needs
-pub mod Meant
+pub mod Endings
+pub mod Printed
+pub mod Known
+pub mod Grounded
+pub mod Rows
+pub mod Words

@@ -76,17 +76,22 @@ library_scope table number = scope_of (slice_get table.libraries number)
 
 -- ---- the walk
 
--- A walk so far: the items that it followed to their end, the types that it met, and the first refusal.
+-- A walk so far: the items that it followed to their end, the types that it gathered, and the first refusal.
 pub record Walk : Type 0 where
   pub followed : List ItemId
   pub types : List ℕ
   pub first : Option Refusal
 
+-- the number of the type that an item is; a walk that goes on to what types extend gathers none
+abbrev pub number_met : Bool → Table → ItemId → Option ℕ
+number_met true table id = None
+number_met false table id = number_of table id
+
 -- the walk once it is at an item
-abbrev pub at_item : Table → Walk → ItemId → Walk
-at_item table walk id = record {
+abbrev pub at_item : Bool → Table → Walk → ItemId → Walk
+at_item through table walk id = record {
   followed = walk.followed;
-  types = walk.types ++ option_to_list (number_of table id);
+  types = walk.types ++ option_to_list (number_met through table id);
   first = nearer walk.first (least (of_item products_of (item_at table.libraries id)));
 }
 
@@ -117,7 +122,7 @@ walked follow table way scope walk need =
 unfoldable pub follow : ℕ → Bool → Table → List ItemId → Walk → ItemId → Walk
 follow zero through table way walk id = walk
 follow (suc steps) through table way walk id =
-    past_item id (fold (walked (follow steps through table (id ∷ way)) table (id ∷ way) (library_scope table id.«package»)) (at_item table walk id) (of_item (needs_of through) (item_at table.libraries id)))
+    past_item id (fold (walked (follow steps through table (id ∷ way)) table (id ∷ way) (library_scope table id.«package»)) (at_item through table walk id) (of_item (needs_of through) (item_at table.libraries id)))
 
 -- nothing is walked yet
 abbrev pub no_walk : Walk

@@ -1,16 +1,21 @@
-ghost use Rattle.std.specs.Prelude.{◌≡◌, ◌<◌, ◌^◌, Some, length, option_copied, IfOk, OnOk};
+ghost use Rattle.std.specs.Prelude.{◌≡◌, ◌<◌, ◌^◌, [], None, Some, length, option_copied, option_map, slice_get, IfOk, OnOk};
+ghost use Rattle.std.specs.HashMap.{get};
 ghost use Rattle.aadl_syntax.specs.Order.{nearer};
+ghost use Rattle.error_types.specs.Known.{AreFound, of_libraries, same_search};
 ghost use Rattle.error_types.specs.Libraries.{item_at, number_of, table_of};
+ghost use Rattle.error_types.specs.Printed.{item_name};
 ghost use Rattle.error_types.specs.Search.{item_found, last_name, name_fault, named, named_in, search_along};
-ghost use Rattle.error_types.specs.Walk.{library_scope};
+ghost use Rattle.error_types.specs.Walk.{library_scope, scope_of};
 
 use crate::course::{first_of, note_some};
 use crate::id::{ItemId, Looked};
+use crate::known::Known;
 use crate::library::{Library, libraries_of};
 use crate::numbers::{numbers_of, types_by};
 use crate::scope::Scope;
 use crate::search::search;
-use aadl_syntax::{Code, FirstRefusal, List, Mem, Ref, Refusal, Spot, TypeItem};
+use crate::type_name::TypeName;
+use aadl_syntax::{Code, FirstRefusal, List, Mem, PackageUnit, Ref, Refusal, Spot, TypeItem};
 use package_index::{Index, Words, refusal};
 use std::alloc::Global;
 use std::collections::HashMap;
@@ -24,6 +29,7 @@ pub(crate) struct Declarations<'i, 'a> {
     types: List<ItemId>,
     numbers: HashMap<(u32, u32), u32>,
     nowhere: Scope,
+    known: Known<'a>,
 }
 
 impl<'i, 'a> Model for Declarations<'i, 'a> {
@@ -32,7 +38,8 @@ impl<'i, 'a> Model for Declarations<'i, 'a> {
     ghost use Rattle.std.specs.HashMap.{get};
     ghost use Rattle.aadl_syntax.specs.contracts.error_model.Condition as condition;
     ghost use Rattle.package_index.specs.Tables.{Knows, same_pair};
-    ghost use Rattle.error_types.specs.Libraries.{Table};
+    ghost use Rattle.error_types.specs.Known.{AreFound, same_search};
+    ghost use Rattle.error_types.specs.Libraries.{Table, table_of};
     ghost use Rattle.error_types.specs.Tables.{has_number};
 
     ghost Value = { Table };
@@ -41,7 +48,10 @@ impl<'i, 'a> Model for Declarations<'i, 'a> {
 
     ghost view = { λ d. record { packages = d.index.now; libraries = d.libraries; types = d.types } };
 
-    ghost invariant = { λ d. Knows has_number d.types (get same_pair d.numbers) × (d.nowhere ≡ record { «package» = 0; libraries = [] }) };
+    ghost invariant = { λ d. Knows has_number d.types (get same_pair d.numbers)
+        × (d.nowhere ≡ record { «package» = 0; libraries = [] })
+        × (record { packages = d.index.now; libraries = d.libraries; types = d.types } ≡ table_of d.index.now)
+        × AreFound d.libraries (get same_search d.known) };
 }
 
 impl<'i, 'a> Declarations<'i, 'a> {
@@ -61,6 +71,7 @@ impl<'i, 'a> Declarations<'i, 'a> {
                 package: 0,
                 libraries: List::new(alloc),
             },
+            known: HashMap::new(alloc),
         })
     }
 
@@ -70,6 +81,14 @@ impl<'i, 'a> Declarations<'i, 'a> {
         ensures few { length self.now.types < 2 ^ 32 }
     {
         self.types.items()
+    }
+
+    /// The item of the type of a number.
+    pub(crate) fn type_id(&self, number: u32) -> Option<ItemId>
+        ensures item { result ≡ slice_get self.now.types number }
+        ensures made { self.now ≡ table_of self.now.packages }
+    {
+        self.types.items().get(number as usize).copied()
     }
 
     /// The libraries, in order.
@@ -104,58 +123,136 @@ impl<'i, 'a> Declarations<'i, 'a> {
         self.numbers.get(&(id.package, id.item)).copied()
     }
 
-    /// Where the text of a library looks for a bare name.
-    pub(crate) fn library_scope(&self, number: u32) -> &Scope
-        ensures { result.now ≡ library_scope self.now number }
+    /// The name of the type that an item declares.
+    pub(crate) fn name(&self, id: ItemId) -> Option<TypeName<'a>>
+        ensures { result ≡ item_name self.now id }
     {
-        match self.libraries.items().get(number as usize) {
-            Some(library) => library.scope(),
-            None => &self.nowhere,
+        match self.index.package(id.package) {
+            Some(unit) => name_in(unit, self.item(id)),
+            None => None,
         }
     }
 
     /// What a reference means in a text. Its first refusal is noted.
     pub(crate) fn named(
-        &self,
+        &mut self,
         alloc: Global,
         scope: &Scope,
-        reference: &Ref,
+        reference: &'a Ref,
         first: &mut FirstRefusal,
     ) -> Mem<Option<ItemId>>
-        ensures target { IfOk result (λ target. target ≡ (named self.now scope.now reference.now).target) }
-        ensures first { OnOk result (first.new ≡ nearer first.old (named self.now scope.now reference.now).first) }
+        ensures kept { self.new ≡ self.old }
+        ensures target { IfOk result (λ target. target ≡ (named self.old scope.now reference.now).target) }
+        ensures first { OnOk result (first.new ≡ nearer first.old (named self.old scope.now reference.now).first) }
     {
-        let names = Words::Identifiers(reference.names.items());
-        let front = names.front();
-        if front.len() == 0 {
-            return self.named_in(alloc, scope.libraries.items(), reference, first);
-        }
-        match self.index.find_package(scope.package, front) {
-            Some(number) => self.named_in(alloc, &[number], reference, first),
-            None => {
-                first.note(refusal(Code::UnknownPackage, reference.spot));
-                Ok(None)
-            }
-        }
+        let libraries = self.libraries.items();
+        named(
+            alloc,
+            self.index,
+            &mut self.known,
+            libraries,
+            scope,
+            reference,
+            first,
+        )
     }
 
-    /// What a reference means by a search in these libraries. Its first refusal is noted.
-    fn named_in(
-        &self,
+    /// The same in the text of the library of a package.
+    pub(crate) fn named_at(
+        &mut self,
         alloc: Global,
-        libraries: &[u32],
-        reference: &Ref,
+        home: u32,
+        reference: &'a Ref,
         first: &mut FirstRefusal,
     ) -> Mem<Option<ItemId>>
-        ensures target { IfOk result (λ target. target ≡ (named_in self.now reference.now (Some libraries.now)).target) }
-        ensures first { OnOk result (first.new ≡ nearer first.old (named_in self.now reference.now (Some libraries.now)).first) }
+        ensures kept { self.new ≡ self.old }
+        ensures target { IfOk result (λ target. target ≡ (named self.old (library_scope self.old home) reference.now).target) }
+        ensures first { OnOk result (first.new ≡ nearer first.old (named self.old (library_scope self.old home) reference.now).first) }
     {
-        let name = last_name(reference);
-        let mut met = FirstRefusal::new();
-        let looked = search_along(alloc, self.libraries.items(), name, libraries, &mut met)?;
-        note_some(&mut met, name_fault(reference.spot, looked));
-        note_some(first, first_of(&met));
-        Ok(item_found(looked))
+        let libraries = self.libraries.items();
+        let scope = scope_at(libraries, &self.nowhere, home);
+        named(
+            alloc,
+            self.index,
+            &mut self.known,
+            libraries,
+            scope,
+            reference,
+            first,
+        )
+    }
+}
+
+/// Where the text of the library of a package looks for a bare name; `nowhere` where there is no such library.
+fn scope_at<'t>(libraries: &'t [Library<'_>], nowhere: &'t Scope, home: u32) -> &'t Scope
+    requires { nowhere.now ≡ scope_of None }
+    ensures { result.now ≡ scope_of (slice_get libraries.now home) }
+{
+    match libraries.get(home as usize) {
+        Some(library) => library.scope(),
+        None => nowhere,
+    }
+}
+
+/// What a reference means in a text, by these libraries. Its first refusal is noted.
+fn named<'a>(
+    alloc: Global,
+    index: &Index<'a>,
+    known: &mut Known<'a>,
+    libraries: &[Library<'a>],
+    scope: &Scope,
+    reference: &'a Ref,
+    first: &mut FirstRefusal,
+) -> Mem<Option<ItemId>>
+    requires { AreFound libraries.now (get same_search known.old) }
+    ensures known { AreFound libraries.now (get same_search known.new) }
+    ensures target { IfOk result (λ target. target ≡ (named (of_libraries index.now libraries.now) scope.now reference.now).target) }
+    ensures first { OnOk result (first.new ≡ nearer first.old (named (of_libraries index.now libraries.now) scope.now reference.now).first) }
+{
+    let names = Words::Identifiers(reference.names.items());
+    let front = names.front();
+    if front.len() == 0 {
+        let searched = scope.libraries.items();
+        return named_in(alloc, known, libraries, searched, reference, first);
+    }
+    match index.find_package(scope.package, front) {
+        Some(number) => named_in(alloc, known, libraries, &[number], reference, first),
+        None => {
+            first.note(refusal(Code::UnknownPackage, reference.spot));
+            Ok(None)
+        }
+    }
+}
+
+/// What a reference means by a search in these of the libraries. Its first refusal is noted.
+fn named_in<'a>(
+    alloc: Global,
+    known: &mut Known<'a>,
+    libraries: &[Library<'a>],
+    searched: &[u32],
+    reference: &'a Ref,
+    first: &mut FirstRefusal,
+) -> Mem<Option<ItemId>>
+    requires { AreFound libraries.now (get same_search known.old) }
+    ensures known { AreFound libraries.now (get same_search known.new) }
+    ensures target { IfOk result (λ target. target ≡ (named_in (of_libraries [] libraries.now) reference.now (Some searched.now)).target) }
+    ensures first { OnOk result (first.new ≡ nearer first.old (named_in (of_libraries [] libraries.now) reference.now (Some searched.now)).first) }
+{
+    let name = last_name(reference);
+    let mut met = FirstRefusal::new();
+    let looked = search_along(alloc, known, libraries, name, searched, &mut met)?;
+    note_some(&mut met, name_fault(reference.spot, looked));
+    note_some(first, first_of(&met));
+    Ok(item_found(looked))
+}
+
+/// The name of the type that an item of a package declares, if there is the item.
+fn name_in<'a>(unit: &'a PackageUnit, item: Option<&'a TypeItem>) -> Option<TypeName<'a>>
+    ensures { result ≡ option_map (λ t. record { library = unit.now.name; name = t.name }) (option_copied item.entry) }
+{
+    match item {
+        Some(item) => Some(TypeName::of(unit, item)),
+        None => None,
     }
 }
 
@@ -170,18 +267,21 @@ fn last_name(reference: &Ref) -> &[u8]
 }
 
 /// What the search for a name in libraries finds, one after the other. The first refusal that it meets is noted.
-fn search_along(
+fn search_along<'a>(
     alloc: Global,
-    libraries: &[Library<'_>],
-    name: &[u8],
+    known: &mut Known<'a>,
+    libraries: &[Library<'a>],
+    name: &'a [u8],
     numbers: &[u32],
     first: &mut FirstRefusal,
 ) -> Mem<Looked>
+    requires { AreFound libraries.now (get same_search known.old) }
+    ensures known { AreFound libraries.now (get same_search known.new) }
     ensures found { IfOk result (λ looked. looked ≡ (search_along libraries.now name.now numbers.now).found) }
     ensures first { OnOk result (first.new ≡ nearer first.old (search_along libraries.now name.now numbers.now).first) }
 {
     for number in numbers {
-        let looked = search(alloc, libraries, name, *number, first)?;
+        let looked = search(alloc, known, libraries, name, *number, first)?;
         match looked {
             Looked::Nowhere => {}
             _ => return Ok(looked),

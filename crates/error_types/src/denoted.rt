@@ -1,49 +1,134 @@
-ghost use Rattle.std.specs.Prelude.{◌≡◌, ◌<◌, ◌^◌, ◌++◌, ◌∷◌, [], true, false, cond, filter, flat_map, length, IfOk, OnOk};
-ghost use Rattle.std.specs.List.{list_any};
+ghost use Rattle.std.specs.Prelude.{◌≡◌, [], Bool, flat_map, map, slice_get, List as Items, IfOk, OnOk, Some, true, false};
 ghost use Rattle.aadl_syntax.specs.Order.{nearer};
-ghost use Rattle.error_types.specs.Types.{is_below_by, numbers_below};
+ghost use Rattle.error_types.specs.Rows.{Adds, AreTypeRows, Remembers, has_bit, row_of, types_below};
 ghost use Rattle.error_types.specs.Search.{named};
+ghost use Rattle.error_types.specs.Types.{base_of, is_below};
 ghost use Rattle.error_types.specs.Walk.{reached, term_first, term_types, terms_first};
 
 use crate::course::{first_of, note_some};
 use crate::declarations::Declarations;
-use crate::hierarchy::is_below;
+use crate::hierarchy::rows_of;
 use crate::id::ItemId;
+use crate::memory::Memory;
+use crate::reach::{join_row, reached};
+use crate::row::Row;
 use crate::scope::Scope;
-use crate::walk::walk_from;
 use aadl_syntax::{Code, FirstRefusal, List, Mem, Ref, Term};
 use package_index::refusal;
 use std::alloc::Global;
+use std::collections::HashMap;
 
-/// The types that terms of a written set name. Their first refusal is noted.
-pub(crate) fn types_named(
+/// What is remembered at first: the rows of the types.
+pub(crate) fn memory_of(
     alloc: Global,
     declarations: &Declarations<'_, '_>,
-    scope: &Scope,
-    terms: &[Term],
-    first: &mut FirstRefusal,
-) -> Mem<Vec<u32>>
-    ensures types { IfOk result (λ types. types.items ≡ flat_map (term_types declarations.now scope.now) terms.now) }
-    ensures first { OnOk result (first.new ≡ nearer first.old (terms_first declarations.now scope.now terms.now)) }
+    bases: &[Option<u32>],
+) -> Mem<Memory>
+    requires { bases.now ≡ map (base_of declarations.now) declarations.now.types }
+    ensures { IfOk result (Remembers declarations.now) }
 {
-    let mut types = Vec::new(alloc);
-    for term in terms {
-        add_term(alloc, declarations, scope, term, &mut types, first)?;
-    }
-    Ok(types)
+    Ok(Memory {
+        rows: types_rows(alloc, declarations, bases)?,
+        items: HashMap::new(alloc),
+        tried: HashMap::new(alloc),
+    })
 }
 
-/// Adds the types that a term names. Its first refusal is noted.
-fn add_term(
+/// The rows of the types, which extend these.
+fn types_rows(
     alloc: Global,
     declarations: &Declarations<'_, '_>,
+    bases: &[Option<u32>],
+) -> Mem<List<Row>>
+    requires { bases.now ≡ map (base_of declarations.now) declarations.now.types }
+    ensures { IfOk result (AreTypeRows declarations.now) }
+{
+    let _ = declarations.types();
+    rows_of(alloc, bases)
+}
+
+/// Whether both numbers are of types, and the first is below the second.
+pub(crate) fn is_below(
+    declarations: &Declarations<'_, '_>,
+    memory: &Memory,
+    low: u32,
+    high: u32,
+) -> bool
+    requires { Remembers declarations.now memory.now }
+    ensures { result ≡ is_below declarations.now low high }
+{
+    let count = declarations.types().len();
+    (high as usize) < count && has_low(memory, low, high)
+}
+
+/// Whether the row of a number has another.
+fn has_low(memory: &Memory, low: u32, high: u32) -> bool
+    ensures { (row : Items Bool) → slice_get memory.now.rows high ≡ Some row → result ≡ has_bit row low }
+{
+    match memory.rows.items().get(high as usize) {
+        Some(row) => row.has(low),
+        None => false,
+    }
+}
+
+/// The types that terms denote, rising. Their first refusal is noted.
+pub(crate) fn denoted<'a>(
+    alloc: Global,
+    declarations: &mut Declarations<'_, 'a>,
+    memory: &mut Memory,
     scope: &Scope,
-    term: &Term,
-    types: &mut Vec<u32>,
+    terms: &'a [Term],
+    first: &mut FirstRefusal,
+) -> Mem<List<u32>>
+    requires { Remembers declarations.old memory.old }
+    ensures kept { declarations.new ≡ declarations.old }
+    ensures memory { Remembers declarations.old memory.new }
+    ensures types { IfOk result (λ types. types ≡ types_below declarations.old (flat_map (term_types declarations.old scope.now) terms.now)) }
+    ensures first { OnOk result (first.new ≡ nearer first.old (terms_first declarations.old scope.now terms.now)) }
+{
+    let mut row = Row::new(alloc, declarations.types().len() as u32)?;
+    add_terms(alloc, declarations, memory, scope, terms, &mut row, first)?;
+    row.numbers(alloc)
+}
+
+/// Puts the types that terms denote into a row. Their first refusal is noted.
+fn add_terms<'a>(
+    alloc: Global,
+    declarations: &mut Declarations<'_, 'a>,
+    memory: &mut Memory,
+    scope: &Scope,
+    terms: &'a [Term],
+    row: &mut Row,
     first: &mut FirstRefusal,
 ) -> Mem<()>
-    ensures types { OnOk result (types.new.items ≡ types.old.items ++ term_types declarations.now scope.now term.now) }
-    ensures first { OnOk result (first.new ≡ nearer first.old (term_first declarations.now scope.now term.now)) }
+    requires memory { Remembers declarations.old memory.old }
+    requires row { row.old ≡ row_of declarations.old [] }
+    ensures kept { declarations.new ≡ declarations.old }
+    ensures memory { Remembers declarations.old memory.new }
+    ensures row { OnOk result (row.new ≡ row_of declarations.old (flat_map (term_types declarations.old scope.now) terms.now)) }
+    ensures first { OnOk result (first.new ≡ nearer first.old (terms_first declarations.old scope.now terms.now)) }
+{
+    for term in terms {
+        add_term(alloc, declarations, memory, scope, term, row, first)?;
+    }
+    Ok(())
+}
+
+/// The same of a term.
+fn add_term<'a>(
+    alloc: Global,
+    declarations: &mut Declarations<'_, 'a>,
+    memory: &mut Memory,
+    scope: &Scope,
+    term: &'a Term,
+    row: &mut Row,
+    first: &mut FirstRefusal,
+) -> Mem<()>
+    requires { Remembers declarations.old memory.old }
+    ensures kept { declarations.new ≡ declarations.old }
+    ensures memory { Remembers declarations.old memory.new }
+    ensures row { OnOk result (Adds declarations.old row.old row.new (term_types declarations.old scope.now term.now)) }
+    ensures first { OnOk result (first.new ≡ nearer first.old (term_first declarations.old scope.now term.now)) }
 {
     match term {
         Term::NoError(_) => Ok(()),
@@ -51,91 +136,55 @@ fn add_term(
             first.note(refusal(Code::TypeProduct, *spot));
             Ok(())
         }
-        Term::One(reference) => add_name(alloc, declarations, scope, reference, types, first),
+        Term::One(reference) => {
+            add_name(alloc, declarations, memory, scope, reference, row, first)
+        }
     }
 }
 
 /// The same of a name.
-fn add_name(
+fn add_name<'a>(
     alloc: Global,
-    declarations: &Declarations<'_, '_>,
+    declarations: &mut Declarations<'_, 'a>,
+    memory: &mut Memory,
     scope: &Scope,
-    reference: &Ref,
-    types: &mut Vec<u32>,
+    reference: &'a Ref,
+    row: &mut Row,
     first: &mut FirstRefusal,
 ) -> Mem<()>
-    ensures types { OnOk result (types.new.items ≡ types.old.items ++ (reached false declarations.now (named declarations.now scope.now reference.now).target).types) }
-    ensures first { OnOk result (first.new ≡ nearer first.old (nearer (named declarations.now scope.now reference.now).first (reached true declarations.now (named declarations.now scope.now reference.now).target).first)) }
+    requires { Remembers declarations.old memory.old }
+    ensures kept { declarations.new ≡ declarations.old }
+    ensures memory { Remembers declarations.old memory.new }
+    ensures row { OnOk result (Adds declarations.old row.old row.new (reached false declarations.old (named declarations.old scope.now reference.now).target).types) }
+    ensures first { OnOk result (first.new ≡ nearer first.old (nearer (named declarations.old scope.now reference.now).first (reached true declarations.old (named declarations.old scope.now reference.now).target).first)) }
 {
     let mut met = FirstRefusal::new();
     let target = declarations.named(alloc, scope, reference, &mut met)?;
-    add_reached(alloc, declarations, target, types, &mut met)?;
+    add_reached(alloc, declarations, memory, target, row, &mut met)?;
     note_some(first, first_of(&met));
     Ok(())
 }
 
-/// Adds the types that are reached from what a name means. The first refusal on the way is noted.
+/// Puts the types that are reached from what a name means into a row. The first refusal from it on is noted.
 fn add_reached(
     alloc: Global,
-    declarations: &Declarations<'_, '_>,
+    declarations: &mut Declarations<'_, '_>,
+    memory: &mut Memory,
     target: Option<ItemId>,
-    types: &mut Vec<u32>,
+    row: &mut Row,
     first: &mut FirstRefusal,
 ) -> Mem<()>
-    ensures types { OnOk result (types.new.items ≡ types.old.items ++ (reached false declarations.now target).types) }
-    ensures first { OnOk result (first.new ≡ nearer first.old (reached true declarations.now target).first) }
+    requires { Remembers declarations.old memory.old }
+    ensures kept { declarations.new ≡ declarations.old }
+    ensures memory { Remembers declarations.old memory.new }
+    ensures row { OnOk result (Adds declarations.old row.old row.new (reached false declarations.old target).types) }
+    ensures first { OnOk result (first.new ≡ nearer first.old (reached true declarations.old target).first) }
 {
     let Some(id) = target else {
         return Ok(());
     };
-    let through = walk_from(alloc, true, declarations, id)?;
-    note_some(first, first_of(&through.first));
-    let named = walk_from(alloc, false, declarations, id)?;
-    types.extend_from_slice(named.types.as_slice())?;
+    let found = reached(alloc, declarations, memory, id)?;
+    note_some(first, found.first);
+    join_row(memory, row, found.row);
     Ok(())
-}
-
-/// The types that are below one of these, rising.
-pub(crate) fn below_any(alloc: Global, bases: &[Option<u32>], types: &[u32]) -> Mem<List<u32>>
-    requires { length bases.now < 2 ^ 32 }
-    ensures { IfOk result (λ lows. lows ≡ filter (λ low. list_any (is_below_by bases.now low) types.now) (numbers_below (length bases.now))) }
-{
-    let mut lows = List::new(alloc);
-    for low in 0..bases.len() {
-        push_if(
-            &mut lows,
-            is_below_any(bases, low as u32, types),
-            low as u32,
-        )?;
-    }
-    Ok(lows)
-}
-
-fn push_if(numbers: &mut List<u32>, is_so: bool, number: u32) -> Mem<()>
-    ensures { OnOk result (numbers.new ≡ numbers.old ++ cond is_so (number ∷ []) []) }
-{
-    if is_so {
-        numbers.push(number)?;
-    }
-    Ok(())
-}
-
-/// Whether a type is below one of these.
-fn is_below_any(bases: &[Option<u32>], low: u32, types: &[u32]) -> bool
-    ensures { result ≡ list_any (is_below_by bases.now low) types.now }
-{
-    for high in types {
-        if is_subtype(bases, low, *high) {
-            return true;
-        }
-    }
-    false
-}
-
-/// Whether both numbers are of types, and the first is below the second.
-pub(crate) fn is_subtype(bases: &[Option<u32>], low: u32, high: u32) -> bool
-    ensures { result ≡ is_below_by bases.now low high }
-{
-    let count = bases.len();
-    (low as usize) < count && (high as usize) < count && is_below(bases, low, high)
 }

@@ -8,7 +8,7 @@ pub struct ItemId {
 
 /// What a search for a name of an error type has found.
 #[derive(Clone, Copy)]
-pub enum Looked {
+pub(crate) enum Looked {
     /// The item of that name.
     Found(ItemId),
     /// No library that was searched has an item of that name.

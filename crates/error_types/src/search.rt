@@ -1,13 +1,16 @@
 ghost use Rattle.std.specs.Prelude.{◌≡◌, ◌<◌, ◌^◌, ◌∷◌, [], ℕ, false, length, List as Items, IfOk, OnOk};
+ghost use Rattle.std.specs.HashMap.{get};
 ghost use Rattle.aadl_syntax.specs.Order.{nearer};
 ghost use Rattle.error_types.specs.declared.id.Looked.TheVariants.{Nowhere};
 ghost use Rattle.error_types.specs.Course.{before, left, way_of};
+ghost use Rattle.error_types.specs.Known.{AreFound, IsFound, same_search};
 ghost use Rattle.error_types.specs.Libraries.{Library as Text};
 ghost use Rattle.error_types.specs.Leaving.{Leads};
 ghost use Rattle.error_types.specs.Search.{extended, found_at, is_number_in, own_item, search, unknown_in};
 
 use crate::course::{Course, Left, first_of, note_some};
 use crate::id::{ItemId, Looked};
+use crate::known::{Found, Known, remember};
 use crate::library::Library;
 use aadl_syntax::{FirstRefusal, Mem, Refusal};
 use std::alloc::{AllocError, Global};
@@ -19,36 +22,57 @@ pub(crate) enum Step<'t> {
     Ended(Looked, FirstRefusal),
 }
 
-/// What the search for a name in a library finds. The first refusal of the names of libraries that it meets is noted.
-pub(crate) fn search(
+/// What the search for a name in a library finds. The first refusal of the names of libraries that it meets is noted. What is
+/// found in the libraries that it extends is remembered.
+pub(crate) fn search<'a>(
     alloc: Global,
-    libraries: &[Library<'_>],
-    name: &[u8],
+    known: &mut Known<'a>,
+    libraries: &[Library<'a>],
+    name: &'a [u8],
     number: u32,
     first: &mut FirstRefusal,
 ) -> Mem<Looked>
+    requires { AreFound libraries.now (get same_search known.old) }
+    ensures known { AreFound libraries.now (get same_search known.new) }
     ensures found { IfOk result (λ looked. looked ≡ (search libraries.now name.now number).found) }
     ensures first { OnOk result (first.new ≡ nearer first.old (search libraries.now name.now number).first) }
 {
     let own = own_item(libraries, name, number);
     if let Looked::Nowhere = own {
-        return search_on(alloc, libraries, name, number, first);
+        let found = recall(alloc, known, libraries, name, number)?;
+        note_some(first, found.first);
+        return Ok(found.looked);
     }
     note_some(first, unknown_in(libraries, number));
     Ok(own)
 }
 
-/// The same in a library that has no item of the name itself.
-fn search_on(
+/// What the search for a name finds in a library that has no item of the name itself, as it is remembered, or else as it is
+/// then searched and remembered.
+fn recall<'a>(
     alloc: Global,
-    libraries: &[Library<'_>],
-    name: &[u8],
+    known: &mut Known<'a>,
+    libraries: &[Library<'a>],
+    name: &'a [u8],
     number: u32,
-    first: &mut FirstRefusal,
-) -> Mem<Looked>
+) -> Mem<Found>
+    requires known { AreFound libraries.now (get same_search known.old) }
+    requires own { own_item libraries.now name.now number ≡ Nowhere }
+    ensures known { AreFound libraries.now (get same_search known.new) }
+    ensures found { IfOk result (IsFound libraries.now (record { 0 = number; 1 = name.entry })) }
+{
+    if let Some(found) = known.get(&(number, name)).copied() {
+        return Ok(found);
+    }
+    let found = search_on(alloc, libraries, name, number)?;
+    remember(known, libraries, number, name, found)?;
+    Ok(found)
+}
+
+/// What the search for a name finds in a library that has no item of the name itself.
+fn search_on(alloc: Global, libraries: &[Library<'_>], name: &[u8], number: u32) -> Mem<Found>
     requires { own_item libraries.now name.now number ≡ Nowhere }
-    ensures found { IfOk result (λ looked. looked ≡ (search libraries.now name.now number).found) }
-    ensures first { OnOk result (first.new ≡ nearer first.old (search libraries.now name.now number).first) }
+    ensures { IfOk result (IsFound libraries.now (record { 0 = number; 1 = name.entry })) }
 {
     let rest = extended(libraries, number);
     let mut noted = FirstRefusal::new();
@@ -58,8 +82,10 @@ fn search_on(
         match advanced(libraries, name, course)? {
             Step::Next(next) => course = next,
             Step::Ended(looked, noted) => {
-                note_some(first, first_of(&noted));
-                return Ok(looked);
+                return Ok(Found {
+                    looked,
+                    first: first_of(&noted),
+                });
             }
         }
     }

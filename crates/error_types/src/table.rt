@@ -1,16 +1,19 @@
-ghost use Rattle.std.specs.Prelude.{◌≡◌, ◌≤◌, ◌<◌, ◌^◌, IfOk, IfErr, OnOk, length};
+ghost use Rattle.std.specs.Prelude.{◌≡◌, ◌↔◌, ◌≤◌, ◌<◌, ◌^◌, IfOk, IfErr, IsSome, OnOk, length};
 ghost use Rattle.aadl_syntax.specs.Order.{least, nearer};
 ghost use Rattle.package_index.specs.Duplicates.{IsRefused};
 ghost use Rattle.error_types.specs.Libraries.{HasTooManyTypes, IsOver, declared_types, greatest_types, libraries_of, table_of, unknown_libraries};
+ghost use Rattle.error_types.specs.Printed.{name_of};
 ghost use Rattle.error_types.specs.Types.{denoted, is_below, text_scope};
 ghost use Rattle.error_types.specs.Walk.{set_first};
 
 use crate::declarations::Declarations;
-use crate::denoted::{below_any, is_subtype, types_named};
+use crate::denoted::{denoted, is_below, memory_of};
 use crate::hierarchy::bases_of;
 use crate::library::{Library, add_named, note_unknown};
+use crate::memory::Memory;
 use crate::numbers::types_by;
 use crate::scope::Scope;
+use crate::type_name::TypeName;
 use aadl_syntax::{Answer, Code, FirstRefusal, List, Mem, Place, Ref, Refusal, Stop, TypeSet};
 use package_index::Index;
 use std::alloc::Global;
@@ -20,15 +23,14 @@ use std::marker::Model;
 #[derive(Drop)]
 pub struct TypeTable<'i, 'a> {
     declarations: Declarations<'i, 'a>,
-    bases: List<Option<u32>>,
+    memory: Memory,
 }
 
 impl<'i, 'a> Model for TypeTable<'i, 'a> {
-    ghost use Rattle.std.specs.Prelude.{◌≡◌, map};
     ghost use Rattle.std.specs.Coded.{codes};
     ghost use Rattle.aadl_syntax.specs.contracts.error_model.Condition as condition;
     ghost use Rattle.error_types.specs.Libraries.{Table};
-    ghost use Rattle.error_types.specs.Types.{base_of};
+    ghost use Rattle.error_types.specs.Rows.{Remembers};
 
     ghost Value = { Table };
 
@@ -36,7 +38,7 @@ impl<'i, 'a> Model for TypeTable<'i, 'a> {
 
     ghost view = { λ t. t.declarations };
 
-    ghost invariant = { λ t. t.bases ≡ map (base_of t.declarations) t.declarations.types };
+    ghost invariant = { λ t. Remembers t.declarations t.memory };
 }
 
 impl<'i, 'a> TypeTable<'i, 'a> {
@@ -48,12 +50,13 @@ impl<'i, 'a> TypeTable<'i, 'a> {
         ensures accepted { OnOk result (length (declared_types (libraries_of index.now)) ≤ greatest_types) }
         ensures refused { IfErr result (IsRefused (HasTooManyTypes index.now)) }
     {
-        let declarations = Declarations::of(alloc, index)?;
+        let mut declarations = Declarations::of(alloc, index)?;
         count_declared(alloc, declarations.libraries())?;
-        let bases = bases_of(alloc, &declarations)?;
+        let bases = bases_of(alloc, &mut declarations)?;
+        let memory = memory_of(alloc, &declarations, bases.items())?;
         Ok(TypeTable {
             declarations,
-            bases,
+            memory,
         })
     }
 
@@ -89,15 +92,32 @@ impl<'i, 'a> TypeTable<'i, 'a> {
         ensures denoted { IfOk result (λ types. types ≡ denoted self.old scope.now set.now) }
         ensures first { OnOk result (first.new ≡ nearer first.old (set_first self.old scope.now set.now)) }
     {
-        let types = types_named(alloc, &self.declarations, scope, set.terms.items(), first)?;
-        below_any(alloc, self.bases.items(), types.as_slice())
+        denoted(
+            alloc,
+            &mut self.declarations,
+            &mut self.memory,
+            scope,
+            set.terms.items(),
+            first,
+        )
+    }
+
+    /// The name by which the type of a number prints; none where the number is of no type.
+    pub fn name(&self, number: u32) -> Option<TypeName<'a>>
+        ensures name { result ≡ name_of self.now number }
+        ensures known { IsSome result ↔ (number < length self.now.types) }
+    {
+        match self.declarations.type_id(number) {
+            Some(id) => self.declarations.name(id),
+            None => None,
+        }
     }
 
     /// Whether a type is below another: it is that type, or extends one that is below it. False where a number is of no type.
     pub fn is_subtype(&self, low: u32, high: u32) -> bool
         ensures { result ≡ is_below self.now low high }
     {
-        is_subtype(self.bases.items(), low, high)
+        is_below(&self.declarations, &self.memory, low, high)
     }
 }
 

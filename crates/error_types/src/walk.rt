@@ -3,7 +3,7 @@ ghost use Rattle.aadl_syntax.specs.Order.{least, nearer};
 ghost use Rattle.error_types.specs.Leaving.{LeadsWalk};
 ghost use Rattle.error_types.specs.Libraries.{is_item_in, item_at};
 ghost use Rattle.error_types.specs.Trip.{arrival, items_on, walk_left, with_names};
-ghost use Rattle.error_types.specs.Walk.{is_set_item, needs_of, of_item, product_of_term, products_of, walk_from};
+ghost use Rattle.error_types.specs.Walk.{is_set_item, needs_of, number_met, of_item, product_of_term, products_of, walk_from};
 
 use crate::course::first_of;
 use crate::declarations::Declarations;
@@ -32,11 +32,12 @@ pub(crate) struct Walked {
 pub(crate) fn walk_from<'a>(
     alloc: Global,
     through: bool,
-    declarations: &Declarations<'_, 'a>,
+    declarations: &mut Declarations<'_, 'a>,
     id: ItemId,
 ) -> Mem<Walked>
-    ensures types { IfOk result (λ walked. walked.types.items ≡ (walk_from through declarations.now id).types) }
-    ensures first { IfOk result (λ walked. walked.first ≡ (walk_from through declarations.now id).first) }
+    ensures kept { declarations.new ≡ declarations.old }
+    ensures types { IfOk result (λ walked. walked.types.items ≡ (walk_from through declarations.old id).types) }
+    ensures first { IfOk result (λ walked. walked.first ≡ (walk_from through declarations.old id).first) }
 {
     let mut trip = begun(alloc, through, declarations, id)?;
     for _ in 0..u64::MAX {
@@ -59,7 +60,7 @@ fn begun<'a>(
 {
     let item = declarations.item(id);
     let mut types = Vec::new(alloc);
-    push_number(&mut types, declarations.number(id))?;
+    push_number(&mut types, number_met(through, declarations, id))?;
     Trip::at(alloc, id, needs_of(through, item), types, products_of(item))
 }
 
@@ -67,10 +68,11 @@ fn begun<'a>(
 fn onward<'a>(
     alloc: Global,
     through: bool,
-    declarations: &Declarations<'_, 'a>,
+    declarations: &mut Declarations<'_, 'a>,
     mut trip: Trip<'a>,
 ) -> Mem<Stage<'a>>
-    ensures { IfOk result (LeadsWalk through declarations.now (walk_left through declarations.now trip.entry)) }
+    ensures kept { declarations.new ≡ declarations.old }
+    ensures leads { IfOk result (LeadsWalk through declarations.old (walk_left through declarations.old trip.entry)) }
 {
     match trip.next() {
         NextName::Name(need) => look_up(alloc, through, declarations, trip, need),
@@ -94,15 +96,15 @@ fn back<'a>(through: bool, declarations: &Declarations<'_, 'a>, trip: Trip<'a>) 
 fn look_up<'a>(
     alloc: Global,
     through: bool,
-    declarations: &Declarations<'_, 'a>,
+    declarations: &mut Declarations<'_, 'a>,
     mut trip: Trip<'a>,
     need: Need<'a>,
 ) -> Mem<Stage<'a>>
-    ensures { IfOk result (LeadsWalk through declarations.now (walk_left through declarations.now (with_names (need.entry ∷ trip.entry.top.rest) trip.entry))) }
+    ensures kept { declarations.new ≡ declarations.old }
+    ensures leads { IfOk result (LeadsWalk through declarations.old (walk_left through declarations.old (with_names (need.entry ∷ trip.entry.top.rest) trip.entry))) }
 {
     let mut first = FirstRefusal::new();
-    let scope = declarations.library_scope(trip.home());
-    let target = declarations.named(alloc, scope, need.reference(), &mut first)?;
+    let target = declarations.named_at(alloc, trip.home(), need.reference(), &mut first)?;
     trip.note(first_of(&first));
     match target {
         Some(id) => arrive(through, declarations, trip, need, id),
@@ -150,14 +152,25 @@ fn enter<'a>(
     ensures { IfOk result (LeadsWalk through declarations.now (arrival through declarations.now need.entry trip.entry id)) }
 {
     let item = declarations.item(id);
-    let number = declarations.number(id);
+    let number = number_met(through, declarations, id);
     let first = products_of(item);
     let next = trip.enter(id, needs_of(through, item), number, first_of(&first))?;
     Ok(Stage::Next(next))
 }
 
+/// The number of the type that an item is, where the walk gathers types.
+fn number_met(through: bool, declarations: &Declarations<'_, '_>, id: ItemId) -> Option<u32>
+    ensures { result ≡ number_met through declarations.now id }
+{
+    if through {
+        None
+    } else {
+        declarations.number(id)
+    }
+}
+
 /// Whether an item, if there is one, is a set or an alias of one.
-fn is_set_item(item: Option<&TypeItem>) -> bool
+pub(crate) fn is_set_item(item: Option<&TypeItem>) -> bool
     ensures { result ≡ is_set_item (option_copied item.entry) }
 {
     match item {
@@ -167,7 +180,7 @@ fn is_set_item(item: Option<&TypeItem>) -> bool
 }
 
 /// The names that an item states, if there is one.
-fn needs_of(through: bool, item: Option<&TypeItem>) -> Needs<'_>
+pub(crate) fn needs_of(through: bool, item: Option<&TypeItem>) -> Needs<'_>
     ensures { result ≡ of_item (needs_of through) (option_copied item.entry) }
 {
     match item {
@@ -177,7 +190,7 @@ fn needs_of(through: bool, item: Option<&TypeItem>) -> Needs<'_>
 }
 
 /// The first refusal of the products of an item, if there is one.
-fn products_of(item: Option<&TypeItem>) -> FirstRefusal
+pub(crate) fn products_of(item: Option<&TypeItem>) -> FirstRefusal
     ensures { result ≡ least (of_item products_of (option_copied item.entry)) }
 {
     let mut first = FirstRefusal::new();

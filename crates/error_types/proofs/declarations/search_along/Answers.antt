@@ -9,4 +9,5 @@ loop-number-preserved c =
     let is = get_or_default c.args.numbers.now c.loop-number.number-index 0 (get_or c.args.numbers.now c.loop-number.number-index 0) c.loop-number-test.true in (
       along-found c.args.libraries.now c.args.name.now c.args.numbers.now c.loop-number.number-index _ c.loop-number-test.true is none _ c.loop-number.invariant.0,
       along-first c.args.libraries.now c.args.name.now c.args.numbers.now c.loop-number.number-index _ c.loop-number-test.true is none c.loop-number.first c.search.new.first _ c.in_ok-looked.ensures.first c.loop-number.invariant.1,
+      c.search.ensures.known,
     )

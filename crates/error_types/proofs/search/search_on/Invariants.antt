@@ -4,4 +4,4 @@ use Rattle.error_types.specs.Search.{search}
 use Rattle.error_types.proofs.search.search_on.Given as goal
 
 abbrev pub invariant-loop : goal.invariant-loop
-invariant-loop l = (left l.libraries l.name l.course ≡ search l.libraries l.name l.fn.number) × (l.first ≡ l.fn.first)
+invariant-loop l = left l.libraries l.name l.course ≡ search l.libraries l.name l.fn.number

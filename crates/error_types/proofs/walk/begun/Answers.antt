@@ -9,7 +9,7 @@ use Rattle.error_types.proofs.walk.begun.Goals as goal
 pub returns : goal.returns
 returns c =
     let table = c.args.declarations.now in
-    let types = c.in_ok-push_number.ensures ∙ (λ i. c.new-types.ensures.items i ++ option_to_list (c.number.ensures i)) in
+    let types = c.in_ok-push_number.ensures ∙ (λ i. c.new-types.ensures.items i ++ option_to_list (c.number_met.ensures i)) in
     let needs = c.needs_of.ensures ∙ ap (of_item (needs_of c.args.through)) c.item-item.ensures in
     let first = c.products_of.ensures ∙ ap (λ item. least (of_item products_of item)) c.item-item.ensures in
     IfOk-weaker c.at.result _ _ (λ trip is.

@@ -1,8 +1,0 @@
-use Rattle.std.proofs.Common.{◌≡◌, drop, flat_map, take}
-use Rattle.aadl_syntax.specs.Order.{nearer}
-use Rattle.error_types.specs.Walk.{term_types, terms_first}
-use Rattle.error_types.proofs.denoted.types_named.Given as goal
-
-abbrev pub invariant-loop-term : goal.invariant-loop-term
-invariant-loop-term l = (l.types.items ≡ flat_map (term_types l.declarations l.scope) (take l.term-index l.terms))
-    × (nearer l.first (terms_first l.declarations l.scope (drop l.term-index l.terms)) ≡ nearer l.fn.first (terms_first l.declarations l.scope l.terms))
