@@ -1,0 +1,5 @@
+use Rattle.galileo_writer.proofs.TextTruth.{text-truth}
+use Rattle.galileo_writer.proofs.writing.write.Goals as goal
+
+pub returns-clause-truth : goal.returns-clause-truth
+returns-clause-truth g c = text-truth c.args.system.now c.events-events.ensures.system c.requires.names c.args.tree.now c.requires.made c.args.rates.now c.requires.rates

@@ -1,0 +1,4 @@
+pub mod Galileo
+pub mod Truth
+pub mod TreeText
+pub mod Written
