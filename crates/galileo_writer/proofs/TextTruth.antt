@@ -1,15 +1,13 @@
 -- The text of a tree is true for the names of a set of events exactly where the tree is true for the set.
-use Rattle.std.proofs.Common.{ℕ, zero, suc, ◌+◌, ◌≡◌, ◌<◌, ◌≤◌, ◌^◌, ◌↔◌, Bool, true, false, ◌||◌, ◌==◌, List, [], ◌∷◌, ◌++◌, length, map, get_or, slice_get, Some, inl, inr, ⊎_elim, ap, ◌∙◌, sym, subst, refl, arith}
-use lib.ListN.{length-map}
-use Rattle.std.proofs.lemmas.Bool.{false≢true, cases_order, eq-eqb}
-use Rattle.std.proofs.lemmas.List.{get_or_default}
+use Rattle.std.proofs.Common.{ℕ, zero, suc, ◌≡◌, ◌<◌, ◌^◌, ◌↔◌, Bool, true, false, ◌||◌, ◌==◌, List, [], ◌∷◌, ◌++◌, length, map, slice_get, Some, inl, inr, ⊎_elim, ap, ◌∙◌, sym, subst, refl, arith}
+use Rattle.std.proofs.lemmas.Bool.{false≢true, eq-eqb}
 use Rattle.std.proofs.lemmas.Option.{slice_get_within}
 use Rattle.std.proofs.lemmas.List.Elements.{All-get_or}
-use Rattle.std.specs.List.{AllByRecursion, list_any, range_with_len}
+use Rattle.std.specs.List.{AllByRecursion, list_any}
 use Rattle.aadl_syntax.specs.Form.{IsNumber}
 use Rattle.fault_system.specs.Truth.{NumberSet}
-use Rattle.fault_system.specs.Systems.{System, IsSystem, Holds, NamesDiffer}
-use Rattle.fault_system.proofs.Elements.{In, In-filter, In-filtered}
+use Rattle.fault_system.specs.Systems.{System, IsSystem, Holds}
+use Rattle.fault_system.proofs.Elements.{In}
 use Rattle.fault_system.proofs.Marks.{Below}
 use Rattle.property_reader.specs.Rates.{conservative_rate}
 use Rattle.property_reader.specs.declared.rate.Rate.{Rate}
@@ -19,17 +17,17 @@ use Rattle.round_gates.specs.declared.tree.Gate.{Gate}
 use Rattle.round_gates.specs.declared.tree.Input.{Input}
 use Rattle.round_gates.specs.declared.tree.Input.TheVariants as inputs
 use Rattle.round_gates.specs.declared.tree.Tree.{Tree}
-use Rattle.round_gates.specs.Targets.{IsTreeFor, IsWellMade, IsWellMadeGate, IsWithin, MayHave}
-use Rattle.round_gates.specs.Trees.{IsClosedTree, TreeHolds, input_true, is_event, key_of}
+use Rattle.round_gates.specs.Targets.{IsTreeFor, IsWellMade, IsWithin, MayHave}
+use Rattle.round_gates.specs.Trees.{IsClosedTree, TreeHolds, input_true, is_event}
 use Rattle.round_gates.specs.Truths.{kind_true}
 use Rattle.round_gates.proofs.MadeWell.{made-well}
-use Rattle.round_gates.proofs.OneTree.{one-position}
-use Rattle.round_gates.proofs.TreeTruth.{key-there, kind-below, tree-truth}
+use Rattle.round_gates.proofs.TreeTruth.{kind-below, tree-truth}
 use Rattle.galileo_writer.specs.Galileo.{Galileo, IsKind, IsPlainLine, IsPlainName, IsTextOf, Line}
 use Rattle.galileo_writer.specs.Truth.{IsClosedText, NameSet, Tells, TextTrue, line_true, name_of}
 use Rattle.galileo_writer.specs.TreeText.{AreRates, HasTextNames, event_line, event_name, gate_line, gate_name, has_name, input_name, name_at, names_of, tree_galileo, tree_text}
-use Rattle.galileo_writer.proofs.Names.{event-or-gate, event-plain, gate-plain, has-none, has-own, item-there, named-at, named-here, one-gate-name}
+use Rattle.galileo_writer.proofs.Names.{event-or-gate, event-plain, gate-plain, has-none, has-own, item-there, named-here}
 use Rattle.galileo_writer.proofs.OneText.{one-text}
+use Rattle.galileo_writer.proofs.TreeNames.{event-within, in-tree, or-right, or-true, at-event, at-name, gate-at-name, gates-differ, good}
 
 all-append : {X : Type 0} (P : X → Type 0) (xs ys : List X) → AllByRecursion P xs → AllByRecursion P ys → AllByRecursion P (xs ++ ys)
 all-append P [] ys a b = b
@@ -53,23 +51,9 @@ made-at P f [] all n x at = cc
 made-at P f (y ∷ xs) all zero x at = let same : y ≡ x = cc in subst (λ z. P (f z)) same all.0
 made-at P f (y ∷ xs) all (suc n) x at = made-at P f xs all.1 n x at
 
-all-at : {X : Type 0} (P : X → Type 0) (xs : List X) → AllByRecursion P xs → (n : ℕ) (x : X) → slice_get xs n ≡ Some x → P x
-all-at P [] all n x at = cc
-all-at P (y ∷ xs) all zero x at = let same : y ≡ x = cc in subst P same all.0
-all-at P (y ∷ xs) all (suc n) x at = all-at P xs all.1 n x at
-
 in-map : {X Y : Type 0} (P : Y → Type 0) (f : X → Y) (xs : List X) → AllByRecursion P (map f xs) → (x : X) → In x xs → P (f x)
 in-map P f [] all x i = absurd i
 in-map P f (y ∷ xs) all x i = ⊎_elim (λ e. subst (λ z. P (f z)) e all.0) (λ later. in-map P f xs all.1 x later) i
-
-in-range : (n low count : ℕ) → low ≤ n → n < low + count → In n (range_with_len low count)
-in-range n low zero l h = absurd (omega arith)
-in-range n low (suc count) l h =
-    ⊎_elim (λ e. inl e) (λ apart. ⊎_elim (λ less. inr (in-range n (low + 1) count (omega arith) (omega arith))) (λ more. absurd (omega arith)) apart) (cases_order low n)
-
-or-true : (a b : Bool) → a ≡ true → a || b ≡ true
-or-true true b e = refl
-or-true false b e = absurd (false≢true e)
 
 or-second : (a b : Bool) → a ≡ false → a || b ≡ b
 or-second true b e = absurd (false≢true (sym e))
@@ -79,59 +63,9 @@ or-first : (a b : Bool) → b ≡ false → a || b ≡ a
 or-first true b e = refl
 or-first false b e = e
 
-any-at : {X : Type 0} (p : X → Bool) (xs : List X) (n : ℕ) (x : X) → slice_get xs n ≡ Some x → p x ≡ true → list_any p xs ≡ true
-any-at p [] n x at e = cc
-any-at p (y ∷ xs) zero x at e = let same : y ≡ x = cc in or-true (p y) (list_any p xs) (ap p same ∙ e)
-any-at p (y ∷ xs) (suc n) x at e = by (p y) (any-at p xs n x at e)
-  where
-    by : (b : Bool) → list_any p xs ≡ true → b || list_any p xs ≡ true
-    by true h = refl
-    by false h = h
-
-or-right : (a b : Bool) → b ≡ true → a || b ≡ true
-or-right true b e = refl
-or-right false b e = e
-
 -- ---- a tree that is well made, in a system whose names may stand in a text
 
 module _ (system : System) (is_system : IsSystem system) (names : HasTextNames system) (tree : Tree) (made : IsWellMade system tree) (rates : List Rate) (are_rates : AreRates system rates) where
-  -- what is known of a gate at a position
-  good : (n : ℕ) (gate : Gate) → slice_get tree.gates n ≡ Some gate → IsWellMadeGate system (length tree.gates) gate
-  good = all-at (IsWellMadeGate system (length tree.gates)) tree.gates made.gates
-
-  abbrev gate_names : List (List ℕ)
-  gate_names = map (gate_name system) tree.gates
-
-  abbrev event_names : List (List ℕ)
-  event_names = map (λ event. event.name) system.events
-
-  at-name : (n : ℕ) → name_at system tree.gates n ≡ get_or gate_names n []
-  at-name n = named-at (gate_name system) tree.gates n
-
-  at-event : (n : ℕ) → event_name system n ≡ get_or event_names n []
-  at-event n = named-at (λ event. event.name) system.events n
-
-  gate-at-name : (n : ℕ) (gate : Gate) → slice_get tree.gates n ≡ Some gate → name_at system tree.gates n ≡ gate_name system gate
-  gate-at-name n gate at = at-name n ∙ named-here (gate_name system) tree.gates n gate at
-
-  one-gate-position : (m n : ℕ) → m < length tree.gates → n < length tree.gates → get_or gate_names m [] ≡ get_or gate_names n [] → m ≡ n
-  one-gate-position m n here there e =
-      let g = item-there tree.gates m here in
-      let h = item-there tree.gates n there in
-      let a = good m g.0 g.1 in
-      let b = good n h.0 h.1 in
-      let key : key_of g.0 ≡ key_of h.0
-      = one-gate-name system is_system g.0 h.0 a.fact_in b.fact_in a.short_stage b.short_stage a.short_place b.short_place (sym (named-here (gate_name system) tree.gates m g.0 g.1) ∙ e ∙ named-here (gate_name system) tree.gates n h.0 h.1) in
-      let long : length (map key_of tree.gates) ≡ length tree.gates = length-map tree.gates key_of in
-      one-position (map key_of tree.gates) made.rise m n (record { fact = 0; stage = 0; place = 0 }) (omega arith) (omega arith) (key-there tree.gates m g.0 g.1 ∙ key ∙ sym (key-there tree.gates n h.0 h.1))
-
-  gates-differ : NamesDiffer gate_names
-  gates-differ i j d less fits e =
-      let long : length gate_names ≡ length tree.gates = length-map tree.gates (gate_name system) in
-      let to_empty : (k : ℕ) → k < length gate_names → get_or gate_names k d ≡ get_or gate_names k [] = λ k inside. get_or_default gate_names k d [] inside in
-      let same : i ≡ j = one-gate-position i j (omega arith) (omega arith) (sym (to_empty i (omega arith)) ∙ e ∙ to_empty j fits) in
-      omega arith
-
   -- ---- the names of a set of events and of a set of gates
 
   module _ (es : NumberSet) where
@@ -139,13 +73,13 @@ module _ (system : System) (is_system : IsSystem system) (names : HasTextNames s
     given = names_of system es
 
     given-event : (n : ℕ) → n < length system.events → given (event_name system n) ≡ es n
-    given-event n fits = ap given (at-event n) ∙ has-own (λ event. event.name) system.events is_system.events_named es n fits
+    given-event n fits = ap given (at-event system is_system names tree made n) ∙ has-own (λ event. event.name) system.events is_system.events_named es n fits
 
     given-gate : (n : ℕ) → n < length tree.gates → given (name_at system tree.gates n) ≡ false
     given-gate n fits =
         let gate = item-there tree.gates n fits in
-        ap given (gate-at-name n gate.0 gate.1)
-        ∙ has-none (λ event. event.name) system.events es (gate_name system gate.0) (λ k inside e. event-or-gate system names k inside gate.0 (at-event k ∙ e))
+        ap given (gate-at-name system is_system names tree made n gate.0 gate.1)
+        ∙ has-none (λ event. event.name) system.events es (gate_name system gate.0) (λ k inside e. event-or-gate system names k inside gate.0 (at-event system is_system names tree made k ∙ e))
 
     -- the names of the events of a set and of the gates of another
     abbrev both : NumberSet → NameSet
@@ -160,8 +94,8 @@ module _ (system : System) (is_system : IsSystem system) (names : HasTextNames s
     both-gate : (set : NumberSet) (n : ℕ) → n < length tree.gates → both set (name_at system tree.gates n) ≡ set n
     both-gate set n fits =
         or-second (given (name_at system tree.gates n)) _ (given-gate n fits)
-        ∙ ap (has_name (gate_name system) tree.gates set) (at-name n)
-        ∙ has-own (gate_name system) tree.gates gates-differ set n fits
+        ∙ ap (has_name (gate_name system) tree.gates set) (at-name system is_system names tree made n)
+        ∙ has-own (gate_name system) tree.gates (gates-differ system is_system names tree made) set n fits
 
     both-inputs : (set : NumberSet) (ins : List Input) → AllByRecursion (IsWithin (length system.events) (length tree.gates)) ins → map (both set) (map (input_name system tree.gates) ins) ≡ map (input_true es set) ins
     both-inputs set [] inside = refl
@@ -181,16 +115,9 @@ module _ (system : System) (is_system : IsSystem system) (names : HasTextNames s
         ∙ tells (both set)
         (all-append (Says (both set)) (map (gate_line system tree.gates) tree.gates) (map (event_line system rates) tree.events)
         (all-made (Says (both set)) (gate_line system tree.gates) tree.gates (λ n gate at e.
-        ap (both set) (sym (gate-at-name n gate at)) ∙ both-gate set n (slice_get_within tree.gates n gate at)
-        ∙ closed n gate at (ap (kind_true gate.kind) (sym (both-inputs set gate.inputs (good n gate at).inputs_in)) ∙ e)))
+        ap (both set) (sym (gate-at-name system is_system names tree made n gate at)) ∙ both-gate set n (slice_get_within tree.gates n gate at)
+        ∙ closed n gate at (ap (kind_true gate.kind) (sym (both-inputs set gate.inputs (good system is_system names tree made n gate at).inputs_in)) ∙ e)))
         (all-made (Says (both set)) (event_line system rates) tree.events (λ n event at e. or-true (given (event_name system event)) _ e)))
-
-    -- an event that is an input of a gate is one of the tree's
-    in-tree : (event : ℕ) → event < length system.events → (n : ℕ) (gate : Gate) → slice_get tree.gates n ≡ Some gate → list_any (is_event event) gate.inputs ≡ true → In event tree.events
-    in-tree event fits n gate at e =
-        subst (In event) (sym made.events)
-        (In-filtered (λ k. list_any (λ g. list_any (is_event k) g.inputs) tree.gates) event (range_with_len 0 (length system.events)) (any-at (λ g. list_any (is_event event) g.inputs) tree.gates n gate at e)
-        (in-range event 0 (length system.events) (omega arith) (omega arith)))
 
     module _ (set : NameSet) (closed : IsClosedText text.lines given set) where
       abbrev positions : NumberSet
@@ -206,14 +133,14 @@ module _ (system : System) (is_system : IsSystem system) (names : HasTextNames s
           → ((k : ℕ) → list_any (is_event k) ins ≡ true → list_any (is_event k) gate.inputs ≡ true) → Below (map (input_true es positions) ins) (map set (map (input_name system tree.gates) ins))
       inputs-below n gate at [] inside part = tt
       inputs-below n gate at (inputs.Event k ∷ ins) inside part = (
-        (λ e. event-says k (in-tree k inside.0 n gate at (part k (or-true (k == k) (list_any (is_event k) ins) (eq-eqb k k refl)))) (given-event k inside.0 ∙ e)),
+        (λ e. event-says k (in-tree system is_system names tree made k inside.0 n gate at (part k (or-true (k == k) (list_any (is_event k) ins) (eq-eqb k k refl)))) (given-event k inside.0 ∙ e)),
         inputs-below n gate at ins inside.1 (λ j e. part j (or-right (k == j) (list_any (is_event j) ins) e)),
       )
       inputs-below n gate at (inputs.Gate k ∷ ins) inside part = ((λ e. e), inputs-below n gate at ins inside.1 part)
 
       positions-closed : IsClosedTree tree.gates es positions
       positions-closed n gate at e =
-          ap set (gate-at-name n gate at) ∙ gate-says n gate at (kind-below gate.kind _ _ (inputs-below n gate at gate.inputs (good n gate at).inputs_in (λ k h. h)) e)
+          ap set (gate-at-name system is_system names tree made n gate at) ∙ gate-says n gate at (kind-below gate.kind _ _ (inputs-below n gate at gate.inputs (good system is_system names tree made n gate at).inputs_in (λ k h. h)) e)
 
     -- where the tree is true, each closed set of names has the top
     text-from-tree : TreeHolds tree es → Tells text given
@@ -224,7 +151,7 @@ module _ (system : System) (is_system : IsSystem system) (names : HasTextNames s
   plain-at : (n : ℕ) → n < length tree.gates → IsPlainName (name_at system tree.gates n)
   plain-at n fits =
       let gate = item-there tree.gates n fits in
-      subst IsPlainName (sym (gate-at-name n gate.0 gate.1)) (gate-plain system names gate.0 (good n gate.0 gate.1).fact_in)
+      subst IsPlainName (sym (gate-at-name system is_system names tree made n gate.0 gate.1)) (gate-plain system names gate.0 (good system is_system names tree made n gate.0 gate.1).fact_in)
 
   plain-inputs : (ins : List Input) → AllByRecursion (IsWithin (length system.events) (length tree.gates)) ins → AllByRecursion IsPlainName (map (input_name system tree.gates) ins)
   plain-inputs [] inside = tt
@@ -236,19 +163,9 @@ module _ (system : System) (is_system : IsSystem system) (names : HasTextNames s
   plain-kind kinds.Or count few may = tt
   plain-kind (kinds.AtLeast k) count few may = omega (arith, may.1)
 
-  range-bound : (n low count : ℕ) → In n (range_with_len low count) → n < low + count
-  range-bound n low zero i = absurd i
-  range-bound n low (suc count) i = ⊎_elim (λ (e : low ≡ n). omega arith) (λ later. let rest = range-bound n (low + 1) count later in omega arith) i
-
-  event-within : (event : ℕ) → In event tree.events → event < length system.events
-  event-within event i =
-      let there = In-filter (λ k. list_any (λ g. list_any (is_event k) g.inputs) tree.gates) event (range_with_len 0 (length system.events)) (subst (In event) made.events i) in
-      let below = range-bound event 0 (length system.events) there.0 in
-      omega arith
-
   plain-event : (event : ℕ) → In event tree.events → IsPlainLine (event_line system rates event)
   plain-event event i =
-      let fits = event-within event i in
+      let fits = event-within system is_system names tree made event i in
       (event-plain system names event fits, All-get_or (λ (rate : Rate). IsNumber rate.text) rates event conservative_rate (omega (arith, are_rates.each)) are_rates.numbers)
 
   is-text : IsTextOf (tree_text system tree rates) (tree_galileo system tree rates)
@@ -257,7 +174,7 @@ module _ (system : System) (is_system : IsSystem system) (names : HasTextNames s
         top = plain-at tree.top made.top_in;
         lines = all-append IsPlainLine (map (gate_line system tree.gates) tree.gates) (map (event_line system rates) tree.events)
             (all-made IsPlainLine (gate_line system tree.gates) tree.gates
-            (λ n gate at. let is = good n gate at in (gate-plain system names gate is.fact_in, plain-kind gate.kind (length gate.inputs) is.few_inputs is.count, plain-inputs gate.inputs is.inputs_in)))
+            (λ n gate at. let is = good system is_system names tree made n gate at in (gate-plain system names gate is.fact_in, plain-kind gate.kind (length gate.inputs) is.few_inputs is.count, plain-inputs gate.inputs is.inputs_in)))
             (plain-events tree.events plain-event);
         bytes_are = refl;
       } where

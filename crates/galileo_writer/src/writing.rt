@@ -7,8 +7,9 @@ ghost use Rattle.fta_outside.specs.Outside.{Rose, TookPrefix, with_bytes};
 ghost use Rattle.round_gates.specs.Targets.{IsWellMade};
 ghost use Rattle.round_gates.specs.Trees.{TreeHolds};
 ghost use Rattle.galileo_writer.specs.Galileo.{line_text, top_text};
+ghost use Rattle.galileo_writer.specs.Sound.{IsSound};
 ghost use Rattle.galileo_writer.specs.Truth.{TextTrue};
-ghost use Rattle.galileo_writer.specs.TreeText.{AreRates, HasTextNames, event_line, gate_line, name_at, names_of, tree_text};
+ghost use Rattle.galileo_writer.specs.TreeText.{AreRates, HasTextNames, event_line, gate_line, name_at, names_of, tree_galileo, tree_text};
 ghost use Rattle.galileo_writer.specs.Written.{Writes};
 
 use crate::error::WriteError;
@@ -132,6 +133,7 @@ pub fn write<S: Sink>(
     ensures whole { OnOk result (S.taken sink.new ≡ with_bytes (S.taken sink.old) (tree_text system.now tree.now rates.now)) }
     ensures prefix { OnErr result (TookPrefix (S.taken sink.old) (S.taken sink.new) (tree_text system.now tree.now rates.now)) }
     ensures failed { IsErrOf result WriteError.Failed → Rose (S.faults sink.old) (S.faults sink.new) }
+    ensures sound { IsSound (tree_galileo system.now tree.now rates.now) }
     ensures truth { (events : NumberSet) → TextTrue (tree_text system.now tree.now rates.now) (names_of system.now events) ↔ TreeHolds tree.now events }
 {
     let _events = system.events();
