@@ -64,3 +64,7 @@ module _ (system : System) (target : ℕ) where
     where
       below : (a b : ℕ) → a < b → nat_lt a b ≡ true
       below a b h = search (rules, tests)
+
+  -- and so in one way at most
+  pub one-constant : (a b : Bool) → IsConstant system target a → IsConstant system target b → a ≡ b
+  one-constant a b first second = sym (first no_events (λ n h. absurd (false≢true h))) ∙ second no_events (λ n h. absurd (false≢true h))

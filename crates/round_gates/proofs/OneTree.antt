@@ -146,6 +146,22 @@ same-gates (x ∷ xs) [] e each = cc
 same-gates (x ∷ xs) (y ∷ ys) e each = let tails : map key_of xs ≡ map key_of ys = cc in λ i. each 0 x y refl refl i ∷ same-gates xs ys tails (λ n a b s t. each (suc n) a b s t) i
 
 module _ (system : System) (is_system : IsSystem system) (numbers : BlockNumbers) (top : GateKey) where
+  -- an input of a gate of one tree is named by the gate of the other tree that has the gate's name
+  follow : (a b : Tree) → IsGateTree system numbers top a → IsGateTree system numbers top b → (k j m : ℕ) (gate other : Gate) → slice_get a.gates k ≡ Some gate → slice_get b.gates j ≡ Some other → key_of gate ≡ key_of other
+      → has_gate gate.inputs m ≡ true → has_key (names b) (key_in a.gates m) ≡ true
+  follow a b first second k j m gate other at there same input =
+      let lines : line_of a.gates gate ≡ line_of b.gates other = one-gate system is_system numbers (line_of a.gates gate) (line_of b.gates other) (first.gates_are k gate at) (second.gates_are j other there) same in
+      let r = named-has b.gates other.inputs (key_in a.gates m) (ap (λ (l : Line). has_node l.inputs (nodes.Gate (key_in a.gates m))) (sym lines) ∙ has-named a.gates gate.inputs m input) in
+      let inside = second.inputs_in j r.0 other there r.1 in
+      ap (has_key (names b)) r.2 ∙ has-at (names b) r.0 no_key (omega (arith, names-long b))
+
+  -- a name that a tree has is that of a gate
+  gate-of : (b : Tree) (key : GateKey) → has_key (names b) key ≡ true → (j : ℕ) × (gate : Gate) × (slice_get b.gates j ≡ Some gate) × (key ≡ key_of gate)
+  gate-of b key has =
+      let p = place-in (names b) key no_key has in
+      let found = gate-there b.gates (place_of (names b) key) (omega (arith, p.0, names-long b)) in
+      (place_of (names b) key, found.0, found.1, sym p.1 ∙ key-there b.gates (place_of (names b) key) found.0 found.1)
+
   -- the gates of one tree have names of the other's
   in-other : (a b : Tree) → IsGateTree system numbers top a → IsGateTree system numbers top b → (n : ℕ) → n < length a.gates → has_key (names b) (key_in a.gates n) ≡ true
   in-other a b first second n fits = first.reached n fits (λ k. has_key (names b) (key_in a.gates k)) closed start
@@ -155,15 +171,8 @@ module _ (system : System) (is_system : IsSystem system) (numbers : BlockNumbers
 
       closed : HasInputGates a.gates (λ k. has_key (names b) (key_in a.gates k))
       closed k m gate has at input =
-          let named : key_in a.gates k ≡ key_of gate = key-there a.gates k gate at in
-          let p = place-in (names b) (key_in a.gates k) no_key has in
-          let found = gate-there b.gates (place_of (names b) (key_in a.gates k)) (omega (arith, p.0, names-long b)) in
-          let same : key_of gate ≡ key_of found.0 = sym named ∙ sym p.1 ∙ key-there b.gates (place_of (names b) (key_in a.gates k)) found.0 found.1 in
-          let lines : line_of a.gates gate ≡ line_of b.gates found.0
-          = one-gate system is_system numbers (line_of a.gates gate) (line_of b.gates found.0) (first.gates_are k gate at) (second.gates_are (place_of (names b) (key_in a.gates k)) found.0 found.1) same in
-          let r = named-has b.gates found.0.inputs (key_in a.gates m) (ap (λ (l : Line). has_node l.inputs (nodes.Gate (key_in a.gates m))) (sym lines) ∙ has-named a.gates gate.inputs m input) in
-          let inside = second.inputs_in (place_of (names b) (key_in a.gates k)) r.0 found.0 found.1 r.1 in
-          ap (has_key (names b)) r.2 ∙ has-at (names b) r.0 no_key (omega (arith, names-long b))
+          let found = gate-of b (key_in a.gates k) has in
+          follow a b first second k found.0 m gate found.1 at found.2 (sym (key-there a.gates k gate at) ∙ found.3) input
 
   all-in : (a b : Tree) → IsGateTree system numbers top a → IsGateTree system numbers top b → (k : GateKey) → has_key (names a) k ≡ true → has_key (names b) k ≡ true
   all-in a b first second k has =

@@ -20,9 +20,10 @@ pub fn last_stage()
 {}
 
 /// A target is constantly true exactly where it holds under no event, and constantly false exactly where it does not hold
-/// under all events.
+/// under all events; it is not both.
 pub fn constant_targets()
-    ensures { (system : System) (target : ℕ) (is : Bool) → IsConstant system target is ↔ IsConstantly system target is }
+    ensures means { (system : System) (target : ℕ) (is : Bool) → IsConstant system target is ↔ IsConstantly system target is }
+    ensures one { (system : System) (target : ℕ) (a b : Bool) → IsConstant system target a → IsConstant system target b → a ≡ b }
 {}
 
 /// Each tree of a target is well made.

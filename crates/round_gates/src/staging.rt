@@ -125,7 +125,7 @@ pub fn staged(
     ensures truth { IfOk result (λ tree. (events : NumberSet) → TreeHolds tree events ↔ Holds system.now events slice.now.target) }
     ensures varying { OnOk result (IsVarying system.now slice.now.target) }
     ensures few { OnOk result (all_places system.now blocks.now slice.now.facts ≤ most_places) }
-    ensures whole { IfOk result (IsTreeFor system.now slice.now.target) }
+    ensures target { IfOk result (IsTreeFor system.now slice.now.target) }
     ensures made { IfOk result (IsWellMade system.now) }
     ensures answer { IfErr result (IsGateAnswer system.now blocks.now slice.now.target slice.now.facts) }
 {
