@@ -1,6 +1,8 @@
 -- Texts of small trees, worked.
 use Rattle.std.proofs.Common.{ℕ, ◌≡◌, List, [], ◌∷◌, codes, map, replicate, refl}
+use Rattle.std.proofs.lemmas.Bool.{false≢true}
 use Rattle.std.specs.Fmt.{digits}
+use Rattle.aadl_syntax.specs.Name.{is_same_text}
 use Rattle.fault_system.specs.Systems.{System}
 use Rattle.fault_system.specs.declared.formula.Formula.TheVariants.{True}
 use Rattle.property_reader.specs.Rates.{conservative_rate}
@@ -12,7 +14,9 @@ use Rattle.round_gates.specs.declared.tree.Gate.{Gate}
 use Rattle.round_gates.specs.declared.tree.Input.{Input}
 use Rattle.round_gates.specs.declared.tree.Input.TheVariants as inputs
 use Rattle.round_gates.specs.declared.tree.Tree.{Tree}
-use Rattle.galileo_writer.specs.TreeText.{tree_text}
+use Rattle.galileo_writer.specs.Truth.{NameSet, Tells}
+use Rattle.galileo_writer.specs.TreeText.{tree_galileo, tree_text}
+use Rattle.galileo_writer.proofs.TreeNames.{or-true}
 
 -- facts and events of these names; a text does not look at formulas
 abbrev named : List (List ℕ) → List (List ℕ) → System
@@ -85,3 +89,19 @@ fed =
 fed_text : tree_text loop fed (conservative_rate ∷ record { kind = Lambda; text = codes "1.0e-5" } ∷ []) ≡ codes "toplevel \"root/state:bad@1.1\";\n\"root/state:bad@1.1\" and \"root.a/state:bad@6.3\" \"root.b/state:bad@16.130\";\n\"root.a/state:bad@6.3\" or \"root.a/e\" \"root.b/e\";\n\"root.b/state:bad@16.130\" or \"root.b/e\" \"root.a/e\";\n\"root.a/e\" prob=1;\n\"root.b/e\" lambda=1.0e-5;\n"
 unfolding digits
 fed_text = refl
+
+-- ---- truth
+
+-- the one event of this name
+abbrev only : List ℕ → NameSet
+only name other = is_same_text name other
+
+-- e1 alone makes the first of these texts true
+either_true : Tells (tree_galileo machine either mark) (only (codes "root/e1"))
+unfolding digits
+either_true = λ set closed. closed.0 (or-true _ _ (closed.1.1.0 refl))
+
+-- e2 alone does not
+either_false : Tells (tree_galileo machine either mark) (only (codes "root/e2")) → ⊥
+unfolding digits
+either_false = λ tells. false≢true (tells (only (codes "root/e2")) ((λ e. e), ((λ e. e), ((λ e. e), ((λ e. e), tt)))))
