@@ -3,8 +3,9 @@
 ghost use Rattle.std.specs.Prelude.{◌≡◌, ◌++◌, ◌↔◌, ℕ, IsErrOf, OnErr, OnOk, codes, length, map};
 ghost use Rattle.std.specs.List.{flat_map};
 ghost use Rattle.fault_system.specs.Truth.{NumberSet};
+ghost use Rattle.fault_system.specs.Systems.{Holds};
 ghost use Rattle.fta_outside.specs.Outside.{Rose, TookPrefix, with_bytes};
-ghost use Rattle.round_gates.specs.Targets.{IsWellMade};
+ghost use Rattle.round_gates.specs.Targets.{IsTreeFor, IsWellMade};
 ghost use Rattle.round_gates.specs.Trees.{TreeHolds};
 ghost use Rattle.galileo_writer.specs.Galileo.{line_text, top_text};
 ghost use Rattle.galileo_writer.specs.Sound.{IsSound};
@@ -119,7 +120,8 @@ fn write_lines<S: Sink>(
 /// A gate is named by its fact, `@`, its stage, `.` and its place. There is one rate for each event of the system. Names of
 /// facts and events hold neither a quote nor a line feed and are not empty, and no name of an event holds `@`. Each line is
 /// handed over by one `write_all`. `Failed` comes only where the sink's count of faults rose. What is written is true for the
-/// names of a set of events exactly where the tree is true for the set.
+/// names of a set of events exactly where the tree is true for the set, and so, where the tree is that of a target, exactly
+/// where the target holds under the set.
 pub fn write<S: Sink>(
     alloc: Global,
     system: &FaultSystem,
@@ -135,6 +137,8 @@ pub fn write<S: Sink>(
     ensures failed { IsErrOf result WriteError.Failed → Rose (S.faults sink.old) (S.faults sink.new) }
     ensures sound { IsSound (tree_galileo system.now tree.now rates.now) }
     ensures truth { (events : NumberSet) → TextTrue (tree_text system.now tree.now rates.now) (names_of system.now events) ↔ TreeHolds tree.now events }
+    ensures target { (target : ℕ) (events : NumberSet) → IsTreeFor system.now target tree.now
+        → TextTrue (tree_text system.now tree.now rates.now) (names_of system.now events) ↔ Holds system.now events target }
 {
     let _events = system.events();
     write_lines(alloc, system, tree, rates, sink)
