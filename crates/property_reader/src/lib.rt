@@ -3,4 +3,4 @@
 
 mod rate;
 
-pub use rate::{Rate, RateKind};
+pub use rate::{Rate, RateKind, conservative_rates};

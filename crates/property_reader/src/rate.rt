@@ -1,4 +1,4 @@
-ghost use Rattle.std.specs.Prelude.{◌≡◌, IfOk};
+ghost use Rattle.std.specs.Prelude.{◌≡◌, All, IfOk, length, replicate};
 ghost use Rattle.aadl_syntax.specs.Form.{IsNumber};
 ghost use Rattle.property_reader.specs.Rates.{conservative_rate};
 
@@ -33,4 +33,17 @@ impl Rate {
             text,
         })
     }
+}
+
+/// The conservative rate for each of so many events.
+pub fn conservative_rates(alloc: Global, count: u32) -> Mem<List<Rate>>
+    ensures rates { IfOk result (λ rates. rates ≡ replicate count conservative_rate) }
+    ensures each { IfOk result (λ rates. length rates ≡ count) }
+    ensures numbers { IfOk result (λ rates. All (λ rate. IsNumber rate.text) rates) }
+{
+    let mut rates = List::new(alloc);
+    for _ in 0..count {
+        rates.push(Rate::conservative(alloc)?)?;
+    }
+    Ok(rates)
 }
