@@ -10,10 +10,12 @@ use Rattle.dependency_blocks.specs.Blocks.{BlockNumbers, IsBlocks}
 use Rattle.round_gates.specs.declared.node.GateKind.{GateKind}
 use Rattle.round_gates.specs.declared.node.GateKind.TheVariants.{And, Or, AtLeast}
 use Rattle.round_gates.specs.declared.tree.Gate.{Gate}
+use Rattle.round_gates.specs.declared.tree.GateAnswer.{GateAnswer}
+use Rattle.round_gates.specs.declared.tree.GateAnswer.TheVariants.{Constant, Refused, Memory}
 use Rattle.round_gates.specs.declared.tree.Input.{Input}
 use Rattle.round_gates.specs.declared.tree.Input.TheVariants as inputs
 use Rattle.round_gates.specs.declared.tree.Tree.{Tree}
-use Rattle.round_gates.specs.Staged.{IsVarying, all_places, most_places, too_many_gates}
+use Rattle.round_gates.specs.Staged.{IsConstant, IsVarying, all_places, most_places, too_many_gates}
 use Rattle.round_gates.specs.Trees.{IsTree, InputsOnce, LeadsTo, NamesRise, events_in, has_gate, key_of}
 
 -- an input is one of so many events, or one of so many gates
@@ -68,6 +70,12 @@ pub record HasLargeTree (system : System) (target : ℕ) (refusal : Refusal) : T
   pub varying : IsVarying system target
   pub many : most_places < all_places system numbers slice.facts
   pub refusal_is : refusal ≡ too_many_gates
+
+-- Why a target has no tree: it is constant, or the tree may be too large; want of memory says nothing.
+abbrev pub HasNoTree : System → ℕ → GateAnswer → Type 0
+HasNoTree system target (Constant is) = IsConstant system target is
+HasNoTree system target (Refused refusal) = HasLargeTree system target refusal
+HasNoTree system target Memory = Unit {0}
 
 -- no event
 abbrev pub no_events : NumberSet

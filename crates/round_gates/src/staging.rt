@@ -9,7 +9,7 @@ ghost use Rattle.dependency_blocks.specs.Blocks.{IsBlocks, number_of};
 ghost use Rattle.round_gates.specs.Lines.{InOrder, IsKnown, has_line};
 ghost use Rattle.round_gates.specs.Stages.{IsGateOf, last_node};
 ghost use Rattle.round_gates.specs.Staged.{IsGateAnswer, IsVarying, all_places, most_places};
-ghost use Rattle.round_gates.specs.Targets.{IsTreeFor, IsWellMade};
+ghost use Rattle.round_gates.specs.Targets.{HasNoTree, IsTreeFor, IsWellMade};
 ghost use Rattle.round_gates.specs.Trees.{IsGateTree, IsTree, IsTreeOf, TreeHolds, event_tree};
 
 use crate::building::tree_of;
@@ -128,6 +128,7 @@ pub fn staged(
     ensures target { IfOk result (IsTreeFor system.now slice.now.target) }
     ensures made { IfOk result (IsWellMade system.now) }
     ensures answer { IfErr result (IsGateAnswer system.now blocks.now slice.now.target slice.now.facts) }
+    ensures none { IfErr result (HasNoTree system.now slice.now.target) }
 {
     let _facts = system.facts();
     if let Some(always) = constant(alloc, system, slice.target)? {
