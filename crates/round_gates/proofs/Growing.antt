@@ -1,6 +1,6 @@
 -- A target that holds under no event always holds, and one that does not hold under all events never does.
-use Rattle.std.proofs.Common.{ℕ, zero, suc, ◌≡◌, ◌<◌, ◌≤◌, Bool, true, false, List, [], ◌∷◌, length, replicate, ⊎_elim, ap, ◌∙◌, sym, refl, arith}
-use Rattle.std.proofs.lemmas.Bool.{false≢true, cases_order}
+use Rattle.std.proofs.Common.{ℕ, zero, suc, ◌≡◌, ◌<◌, ◌≤◌, ◌↔◌, Bool, true, false, List, [], ◌∷◌, length, replicate, ⊎_elim, ap, ◌∙◌, sym, refl, arith, rules, tests, nat_lt}
+use Rattle.std.proofs.lemmas.Bool.{false≢true, ltb-true, cases_order}
 use Rattle.std.proofs.lemmas.List.{get_or-replicate, length-replicate}
 use Rattle.fault_system.specs.Truth.{NumberSet, Has, member}
 use Rattle.fault_system.specs.Systems.{System, holds_of}
@@ -8,6 +8,7 @@ use Rattle.fault_system.specs.CutSets.{makes_hold}
 use Rattle.fault_system.proofs.Marks.{Below-member}
 use Rattle.fault_system.proofs.HoldsLaws.{applied-grows, holds_of-closed, holds_of-exact}
 use Rattle.round_gates.specs.Staged.{IsConstant, IsVarying}
+use Rattle.round_gates.specs.Targets.{IsConstantly, all_events, no_events}
 
 -- what holds under some events holds under more
 pub holds-grow : (system : System) (es more : NumberSet) → ((n : ℕ) → Has es n → Has more n) → (n : ℕ) → Has (member (holds_of system es)) n → Has (member (holds_of system more)) n
@@ -49,3 +50,21 @@ module _ (system : System) (target : ℕ) where
   pub varies : (none all : List Bool) → length none ≡ length system.events → length all ≡ length system.events → makes_hold system target (member none) ≡ false → makes_hold system target (member all) ≡ true → IsVarying system target
   varies none all long_none long_all e f true constant = false≢true (sym e ∙ constant (member none) (λ n h. let i : n < length none = member-inside none n h in omega arith))
   varies none all long_none long_all e f false constant = false≢true (sym (constant (member all) (λ n h. let i : n < length all = member-inside all n h in omega arith)) ∙ f)
+
+  -- a target is constant exactly where it holds under no event, or does not hold under all
+  pub constantly : (is : Bool) → IsConstant system target is ↔ IsConstantly system target is
+  constantly true = (
+    (λ constant. (holds_of-exact system no_events target).0 (constant no_events (λ n h. absurd (false≢true h)))),
+    (λ holds events inside. holds-grow system no_events events (λ n h. absurd (false≢true h)) target ((holds_of-exact system no_events target).1 holds)),
+  )
+  constantly false = (
+    (λ constant holds. false≢true (sym (constant (all_events system) (λ n h. ltb-true _ _ h)) ∙ (holds_of-exact system (all_events system) target).1 holds)),
+    (λ fails events inside. not_both _ (λ h. fails ((holds_of-exact system (all_events system) target).0 (holds-grow system events (all_events system) (λ n i. below n (length system.events) (inside n i)) target h)))),
+  )
+    where
+      below : (a b : ℕ) → a < b → nat_lt a b ≡ true
+      below a b h = search (rules, tests)
+
+  -- and so in one way at most
+  pub one-constant : (a b : Bool) → IsConstant system target a → IsConstant system target b → a ≡ b
+  one-constant a b first second = sym (first no_events (λ n h. absurd (false≢true h))) ∙ second no_events (λ n h. absurd (false≢true h))

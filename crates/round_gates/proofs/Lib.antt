@@ -16,4 +16,10 @@ pub mod Growing
 pub mod Wholes
 pub mod Once
 pub mod OnceStages
+pub mod Placed
+pub mod GatePlaces
+pub mod MadeWell
+pub mod TreeTruth
+pub mod OneNumbering
+pub mod OneTree
 pub mod Examples

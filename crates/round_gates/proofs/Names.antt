@@ -19,7 +19,7 @@ use Rattle.round_gates.specs.Trees.{key_cmp, NamesRise, place_of}
 use Rattle.round_gates.proofs.Basics.{key_same}
 use Rattle.round_gates.proofs.Rules.{key_exact}
 
-keys_total : IsTotalOrder key_cmp
+pub keys_total : IsTotalOrder key_cmp
 keys_total = then_total (on_total (λ (k : GateKey). k.fact) nat_cmp_total) (then_total (on_total (λ (k : GateKey). k.stage) nat_cmp_total) (on_total (λ (k : GateKey). k.place) nat_cmp_total))
 
 abbrev triple : GateKey → ℕ × (ℕ × ℕ)

@@ -204,32 +204,32 @@ module _ (P : Node → Type 0) (always : P Always) (never : P Never) where
 
 module _ (stage : Stage) where
   -- where the node is a gate of this stage, its place is in a range
-  abbrev From : ℕ → ℕ → Node → Type 0
+  abbrev pub From : ℕ → ℕ → Node → Type 0
   From low high node = (p : ℕ) → node ≡ Gate (key_at stage p) → (low ≤ p) × (p < high)
 
-  from-wider : (low high low' high' : ℕ) (node : Node) → low' ≤ low → high ≤ high' → From low high node → From low' high' node
+  pub from-wider : (low high low' high' : ℕ) (node : Node) → low' ≤ low → high ≤ high' → From low high node → From low' high' node
   from-wider low high low' high' node l h from p e = let r = from p e in (omega (arith, r.0), omega (arith, r.1))
 
-  place-same : (p q : ℕ) → Gate (key_at stage p) ≡ Gate (key_at stage q) → p ≡ q
+  pub place-same : (p q : ℕ) → Gate (key_at stage p) ≡ Gate (key_at stage q) → p ≡ q
   place-same p q e = ap (λ (k : GateKey). k.place) (inner (key_at stage p) (key_at stage q) e)
     where
       inner : (a b : GateKey) → Gate a ≡ Gate b → a ≡ b
       inner a b h = cc
 
   -- parts one after another, each node from its own range
-  abbrev PartsFrom : ℕ → ℕ → List Part → Type 0
+  abbrev pub PartsFrom : ℕ → ℕ → List Part → Type 0
   PartsFrom low high [] = low ≤ high
   PartsFrom low high (part ∷ parts) = (low ≤ part.place) × ((mid : ℕ) × ((part.place < mid) × From part.place mid part.node × PartsFrom mid high parts))
 
-  parts-lower : (low low' high : ℕ) (parts : List Part) → low' ≤ low → PartsFrom low high parts → PartsFrom low' high parts
+  pub parts-lower : (low low' high : ℕ) (parts : List Part) → low' ≤ low → PartsFrom low high parts → PartsFrom low' high parts
   parts-lower low low' high [] l h = omega (arith, h)
   parts-lower low low' high (part ∷ parts) l h = (omega (arith, h.0), h.1)
 
-  parts-below : (low high : ℕ) (parts : List Part) → PartsFrom low high parts → low ≤ high
+  pub parts-below : (low high : ℕ) (parts : List Part) → PartsFrom low high parts → low ≤ high
   parts-below low high [] h = h
   parts-below low high (part ∷ parts) h = let rest = parts-below h.1.0 high parts h.1.1.2 in omega (arith, h.0, h.1.1.0)
 
-  parts-nodes : (low high : ℕ) (parts : List Part) → PartsFrom low high parts → AllByRecursion (From low high) (nodes_of parts)
+  pub parts-nodes : (low high : ℕ) (parts : List Part) → PartsFrom low high parts → AllByRecursion (From low high) (nodes_of parts)
   parts-nodes low high [] h = tt
   parts-nodes low high (part ∷ parts) h =
       let mid = h.1.0 in
@@ -238,7 +238,7 @@ module _ (stage : Stage) where
         all-map (From mid high) (From low high) (λ node f. from-wider mid high low high node (omega (arith, h.0, h.1.1.0)) (omega arith) f) (nodes_of parts) (parts-nodes mid high parts h.1.1.2),
       )
 
-  varying-from : (low high : ℕ) (parts : List Part) → PartsFrom low high parts → PartsFrom low high (varying_parts parts)
+  pub varying-from : (low high : ℕ) (parts : List Part) → PartsFrom low high parts → PartsFrom low high (varying_parts parts)
   varying-from low high [] h = h
   varying-from low high (part ∷ parts) h = by (not (same_node Always part.node || same_node Never part.node)) (varying-from h.1.0 high parts h.1.1.2)
     where
@@ -247,7 +247,7 @@ module _ (stage : Stage) where
       by false rest = parts-lower h.1.0 low high (varying_parts parts) (omega (arith, h.0, h.1.1.0)) rest
 
   -- no gate of this stage from a place on; none below it
-  abbrev Before : ℕ → Node → Type 0
+  abbrev pub Before : ℕ → Node → Type 0
   Before low node = (p : ℕ) → low ≤ p → node ≡ Gate (key_at stage p) → ⊥
 
   abbrev After : ℕ → Node → Type 0

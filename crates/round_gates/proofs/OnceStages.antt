@@ -66,16 +66,16 @@ key-inner a b h = cc
 
 module _ (system : System) (numbers : BlockNumbers) where
   -- the gates of lower blocks, or of a block up to a stage
-  abbrev Earlier : ℕ → ℕ → Node → Type 0
+  abbrev pub Earlier : ℕ → ℕ → Node → Type 0
   Earlier block stage node = (key : GateKey) → node ≡ Gate key → (number_of numbers key.fact < block) ⊎ ((number_of numbers key.fact ≡ block) × (key.stage ≤ stage))
 
   later : (block stage : ℕ) (node : Node) → Earlier block stage node → Earlier block (suc stage) node
   later block stage node h key e = ⊎_elim (λ l. inl l) (λ r. inr (r.0, omega (arith, r.1))) (h key e)
 
-  abbrev LowKeys : ℕ → Type 0
+  abbrev pub LowKeys : ℕ → Type 0
   LowKeys block = (n : ℕ) (key : GateKey) → low_nodes system numbers block n ≡ Gate key → number_of numbers key.fact < block
 
-  stage-keys : (block : ℕ) → LowKeys block → (stage n : ℕ) → Earlier block stage (stage_nodes system numbers (low_nodes system numbers block) block stage n)
+  pub stage-keys : (block : ℕ) → LowKeys block → (stage n : ℕ) → Earlier block stage (stage_nodes system numbers (low_nodes system numbers block) block stage n)
   stage-keys block low zero n key e = by (in_block numbers block n) refl
     where
       by : (b : Bool) → in_block numbers block n ≡ b → (number_of numbers key.fact < block) ⊎ ((number_of numbers key.fact ≡ block) × (key.stage ≤ 0))
@@ -98,7 +98,7 @@ module _ (system : System) (numbers : BlockNumbers) where
       by true is before = walked (eqb-true _ _ is) before (slice_get system.facts n) key (sym (stage-in system numbers (low_nodes system numbers block) block stage n is) ∙ e)
       by false is before = inl (low n key (sym (stage-out system numbers (low_nodes system numbers block) block (suc stage) n is) ∙ e))
 
-  low-keys : (block : ℕ) → LowKeys block
+  pub low-keys : (block : ℕ) → LowKeys block
   low-keys zero n key e = let none : Never ≡ Gate key = sym (low-zero system numbers n) ∙ e in cc
   low-keys (suc block) n key e =
       ⊎_elim (λ less. omega arith) (λ same. omega (arith, same.0))

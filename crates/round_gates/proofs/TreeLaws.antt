@@ -1,36 +1,28 @@
 -- The gates that are reached, in order, are a tree of their top.
-use Rattle.std.proofs.Common.{ℕ, zero, suc, ◌+◌, ◌≡◌, ◌<◌, ◌≤◌, ◌⊎◌, ◌↔◌, Bool, true, false, cond, ◌||◌, ◌&&◌, ◌==◌, nat_le, List, [], ◌∷◌, ◌++◌, length, map, get_or, slice_get, Option, Some, None, unwrap_or, inl, inr, ⊎_elim, ap, ◌∙◌, sym, subst, refl, arith, le-leb, leb-true}
+use Rattle.std.proofs.Common.{ℕ, ◌+◌, ◌≡◌, ◌<◌, ◌≤◌, ◌⊎◌, Bool, true, false, cond, ◌||◌, ◌&&◌, nat_le, List, [], ◌∷◌, ◌++◌, length, map, get_or, slice_get, Option, Some, None, unwrap_or, inl, inr, ⊎_elim, ap, ◌∙◌, sym, subst, refl, arith, le-leb, leb-true}
 use Rattle.std.proofs.lemmas.Bool.{false≢true, eqb-true, eq-eqb, and_parts, and_from}
 use Rattle.std.proofs.lemmas.List.{get_or-map}
 use Rattle.std.proofs.lemmas.Option.{slice_get-get_or, slice_get_within, get_or_from_slice_get}
 use Rattle.std.specs.List.{IsDistinct, AllByRecursion}
 use lib.ListN.{length-map}
-use Rattle.fault_system.specs.Truth.{NumberSet, member}
-use Rattle.fault_system.specs.Systems.{System, Holds, holds_of}
-use Rattle.fault_system.proofs.HoldsLaws.{holds_of-exact}
-use Rattle.fault_system.proofs.Marks.{Below, Below-all, Below-any, Below-at_least}
-use Rattle.dependency_blocks.specs.Blocks.{BlockNumbers, IsBlocks, number_of}
+use Rattle.fault_system.specs.Systems.{System}
+use Rattle.dependency_blocks.specs.Blocks.{BlockNumbers}
 use Rattle.round_gates.specs.declared.node.GateKey.{GateKey}
 use Rattle.round_gates.specs.declared.node.GateKind.{GateKind}
-use Rattle.round_gates.specs.declared.node.GateKind.TheVariants.{Or}
-use Rattle.round_gates.specs.declared.node.GateKind.TheVariants as kinds
 use Rattle.round_gates.specs.declared.node.Line.{Line}
 use Rattle.round_gates.specs.declared.node.Node.{Node}
 use Rattle.round_gates.specs.declared.node.Node.TheVariants as nodes
 use Rattle.round_gates.specs.declared.tree.Gate.{Gate}
-use Rattle.round_gates.specs.declared.tree.Input.{Input}
-use Rattle.round_gates.specs.declared.tree.Input.TheVariants as inputs
 use Rattle.round_gates.specs.Nodes.{same_key, same_node, has_node}
 use Rattle.round_gates.specs.Lines.{is_named, has_line, IsInput, InOrder}
 use Rattle.round_gates.specs.Reached.{has_key, place_from, first_line, HasInputs, AreReached}
-use Rattle.round_gates.specs.Stages.{IsAmong, IsGateOf, last_node}
-use Rattle.round_gates.specs.Truths.{GateSet, node_true, kind_true}
-use Rattle.round_gates.specs.Trees.{NamesRise, key_of, key_in, node_of, line_of, is_gate, has_gate, events_in, LeadsTo, IsGateTree, TreeHolds, IsClosedTree, gate_true, input_true, place_of, input_for, gate_with, gate_for, tree_of}
+use Rattle.round_gates.specs.Stages.{IsAmong, IsGateOf}
+use Rattle.round_gates.specs.Trees.{NamesRise, key_of, key_in, node_of, line_of, is_gate, has_gate, events_in, LeadsTo, IsGateTree, place_of, input_for, gate_with, gate_for, tree_of}
 use Rattle.round_gates.proofs.Names.{place-in, place-at, has-at}
 use Rattle.round_gates.proofs.OnceStages.{gate-once, inputs-once}
 use Rattle.round_gates.proofs.Reaches.{found-place, behind-of}
 use Rattle.round_gates.proofs.Rules.{key_exact, node_exact}
-use Rattle.round_gates.proofs.StageTruth.{among-all, gate_values, gate-met, last-right}
+use Rattle.round_gates.proofs.StageTruth.{among-all}
 use Rattle.round_gates.proofs.Basics.{some_inner, or_left, or_right, node_same}
 
 abbrev make_line : GateKey → GateKind → List Node → Line
@@ -266,73 +258,3 @@ module _ (events : ℕ) (lines : List Line) (top : GateKey) (keys : List GateKey
           acyclic = not-back;
           events = ap (λ (k : ℕ). events_in k gates) many;
         }
-
-    module _ (facts : List ℕ) (blocks : IsBlocks system facts numbers) (es : NumberSet) where
-      abbrev values : GateSet
-      values = gate_values system facts numbers blocks es
-
-      abbrev true_at : NumberSet
-      true_at n = values (key_at n)
-
-      inputs-true : (ins : List Input) → map (node_true es values) (map (node_of gates) ins) ≡ map (input_true es true_at) ins
-      inputs-true [] = refl
-      inputs-true (inputs.Event n ∷ ins) = ap (λ bs. es n ∷ bs) (inputs-true ins)
-      inputs-true (inputs.Gate n ∷ ins) = λ i. values (key-in n i) ∷ inputs-true ins i
-
-      key-is : (n : ℕ) (gate : Gate) → slice_get gates n ≡ Some gate → key_of gate ≡ key_at n
-      key-is n gate at = ap key_of (record_at n gate at).1 ∙ by (first_line lines (key_at n))
-        where
-          by : (found : Option Line) → key_of (gate_with keys (key_at n) found) ≡ key_at n
-          by None = refl
-          by (Some line) = refl
-
-      -- a gate is as true as its inputs say
-      gate-value : (n : ℕ) (gate : Gate) → slice_get gates n ≡ Some gate → true_at n ≡ gate_true es true_at gate
-      gate-value n gate at =
-          ap values (sym (key-is n gate at))
-          ∙ gate-met system facts numbers blocks es (line_of gates gate) (gate-is n gate at)
-          ∙ ap (kind_true gate.kind) (inputs-true gate.inputs)
-
-      kind-below : (kind : GateKind) (bs cs : List Bool) → Below bs cs → kind_true kind bs ≡ true → kind_true kind cs ≡ true
-      kind-below kinds.And bs cs h e = Below-all bs cs h e
-      kind-below kinds.Or bs cs h e = Below-any bs cs h e
-      kind-below (kinds.AtLeast k) bs cs h e = Below-at_least k bs cs h e
-
-      inputs-below : (set : NumberSet) (ins : List Input) → ((m : ℕ) → has_gate ins m ≡ true → true_at m ≡ true → set m ≡ true) → Below (map (input_true es true_at) ins) (map (input_true es set) ins)
-      inputs-below set [] each = tt
-      inputs-below set (inputs.Event n ∷ ins) each = ((λ e. e), inputs-below set ins each)
-      inputs-below set (inputs.Gate n ∷ ins) each =
-          (each n (or_left (n == n) (has_gate ins n) (eq-eqb n n refl)), inputs-below set ins (λ m e. each m (or_right (n == m) (has_gate ins m) e)))
-
-      -- a true gate is in each closed set
-      in-closed : (set : NumberSet) → IsClosedTree gates es set → (bound n : ℕ) → rank n < bound → n < length keys → true_at n ≡ true → set n ≡ true
-      in-closed set closed zero n less inside e = absurd (omega arith)
-      in-closed set closed (suc bound) n less inside e =
-          let gate = gate_for lines keys (key_at n) in
-          let at = gate_at n inside in
-          let below = inputs-below set gate.inputs (λ m input in_m. rest m gate at input in_m (in-closed set closed bound m)) in
-          closed n gate at (kind-below gate.kind _ _ below (sym (gate-value n gate at) ∙ e))
-        where
-          rest : (m : ℕ) (gate : Gate) → slice_get gates n ≡ Some gate → has_gate gate.inputs m ≡ true → true_at m ≡ true → (rank m < bound → m < length keys → true_at m ≡ true → set m ≡ true) → set m ≡ true
-          rest m gate at input in_m again =
-              let less_rank = rank-falls n m gate at input in
-              let r = input-name n m gate at input in
-              let q = place-in keys r.1 no_key r.5 in
-              let same : m ≡ place_of keys r.1 = r.4 in
-              again (omega arith) (omega (arith, q.0)) in_m
-
-      -- the tree is true exactly where its top is
-      tree-value : TreeHolds (tree_of events lines keys top) es ↔ (values top ≡ true)
-      tree-value =
-          let p = place-in keys top no_key top-has in (
-            (λ holds. ap values (sym p.1) ∙ holds true_at (λ n gate at e. gate-value n gate at ∙ e)),
-            (λ e set closed. in-closed set closed (rank (place_of keys top) + 1) (place_of keys top) (omega arith) p.0 (ap values p.1 ∙ e)),
-          )
-
-      -- the tree is true exactly where the target holds
-      pub tree-holds : (target : ℕ) → number_of numbers target < 4294967295 → last_node system numbers target ≡ nodes.Gate top → TreeHolds (tree_of events lines keys top) es ↔ Holds system es target
-      tree-holds target inside last =
-          let value : values top ≡ member (holds_of system es) target = ap (node_true es values) (sym last) ∙ last-right system facts numbers blocks es target inside in (
-            (λ holds. (holds_of-exact system es target).0 (sym value ∙ tree-value.0 holds)),
-            (λ holds. tree-value.1 (value ∙ (holds_of-exact system es target).1 holds)),
-          )

@@ -42,7 +42,7 @@ module _ (k : ℕ) where
       by true e = cc
       by false e = let k : kinds.Or ≡ kinds.AtLeast j = gathered-kind kinds.Or Never (each_once (without Never nodes)) inputs j e in cc
 
-  counted-inputs : (nodes inputs : List Node) (j : ℕ) → least_left k nodes ≡ Made (kinds.AtLeast j) inputs → inputs ≡ nodes
+  pub counted-inputs : (nodes inputs : List Node) (j : ℕ) → least_left k nodes ≡ Made (kinds.AtLeast j) inputs → inputs ≡ nodes
   counted-inputs nodes inputs j e = none (k == 0) e
     where
       every : (b : Bool) → cond b (all_of nodes) (Made (kinds.AtLeast k) nodes) ≡ Made (kinds.AtLeast j) inputs → inputs ≡ nodes
@@ -62,7 +62,7 @@ module _ (k : ℕ) where
       none false e = few (nat_lt (length nodes) k) e
 
 -- the nodes of the parts that vary are the nodes that vary
-nodes-varying : (parts : List Part) → nodes_of (varying_parts parts) ≡ varying (nodes_of parts)
+pub nodes-varying : (parts : List Part) → nodes_of (varying_parts parts) ≡ varying (nodes_of parts)
 nodes-varying [] = refl
 nodes-varying (part ∷ parts) = by part.node (nodes-varying parts)
   where

@@ -39,7 +39,7 @@ target-inside system target slice numbers is blocks =
     let there = (is.facts target).1 own in
     (there, (blocks.inside target).0 there)
 
-total-at : (f : ℕ → ℕ) (xs : List ℕ) (k d : ℕ) → k < length xs → f (get_or xs k d) ≤ total (map f xs)
+pub total-at : (f : ℕ → ℕ) (xs : List ℕ) (k d : ℕ) → k < length xs → f (get_or xs k d) ≤ total (map f xs)
 total-at f [] k d fits = absurd (omega arith)
 total-at f (x ∷ xs) zero d fits = omega arith
 total-at f (x ∷ xs) (suc k) d fits = let rest = total-at f xs k d (omega arith) in omega arith
@@ -49,7 +49,7 @@ times-more zero n h = absurd (omega arith)
 times-more (suc s) n h = let e : suc s * n ≡ s * n + n = omega arith in omega arith
 
 -- a fact that is in a block makes its size
-size-positive : (numbers : BlockNumbers) (fact block : ℕ) → number_of numbers fact ≡ block → block < 4294967295 → 0 < size_of numbers block
+pub size-positive : (numbers : BlockNumbers) (fact block : ℕ) → number_of numbers fact ≡ block → block < 4294967295 → 0 < size_of numbers block
 size-positive [] fact block e h = absurd (omega arith)
 size-positive (x ∷ numbers) zero block e h =
     subst (λ (n : ℕ). 0 < n) (sym (sum_by-cons (λ (n : ℕ). cond (n == block) 1 0) x numbers)) (one_more (x == block) (size_of numbers block) (eq-eqb x block e))
@@ -76,7 +76,7 @@ few-small system facts numbers inside few k d fits info at =
     same j = get_or_default facts k (get_or facts k d) d fits
 
 -- the tree of an event is true exactly where the event is
-event-holds : (numbers : BlockNumbers) (target event : ℕ) (es : NumberSet) → TreeHolds (event_tree numbers target event) es ↔ (es event ≡ true)
+pub event-holds : (numbers : BlockNumbers) (target event : ℕ) (es : NumberSet) → TreeHolds (event_tree numbers target event) es ↔ (es event ≡ true)
 event-holds numbers target event es =
     ((λ holds. holds (λ _. es event) closed), (λ e set is. is 0 _ refl (sym (or_false (es event)) ∙ e)))
   where

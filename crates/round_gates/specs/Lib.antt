@@ -7,3 +7,4 @@ pub mod Unrolled
 pub mod Reached
 pub mod Trees
 pub mod Staged
+pub mod Targets

@@ -14,7 +14,7 @@ mod tree;
 mod unrolling;
 mod walking;
 
-pub use laws::last_stage;
+pub use laws::{constant_targets, last_stage, made_well, one_tree, tree_truth};
 pub use node::GateKind;
 pub use staging::staged;
 pub use tree::{Gate, GateAnswer, Input, Tree};

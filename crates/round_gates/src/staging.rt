@@ -9,6 +9,7 @@ ghost use Rattle.dependency_blocks.specs.Blocks.{IsBlocks, number_of};
 ghost use Rattle.round_gates.specs.Lines.{InOrder, IsKnown, has_line};
 ghost use Rattle.round_gates.specs.Stages.{IsGateOf, last_node};
 ghost use Rattle.round_gates.specs.Staged.{IsGateAnswer, IsVarying, all_places, most_places};
+ghost use Rattle.round_gates.specs.Targets.{HasNoTree, IsTreeFor, IsWellMade};
 ghost use Rattle.round_gates.specs.Trees.{IsGateTree, IsTree, IsTreeOf, TreeHolds, event_tree};
 
 use crate::building::tree_of;
@@ -53,20 +54,15 @@ fn event_tree(alloc: Global, blocks: &Blocks, target: u32, event: u32) -> Mem<Tr
 fn gate_tree(
     alloc: Global,
     system: &FaultSystem,
-    slice: &Slice,
     blocks: &Blocks,
     lines: &[Line],
     top: GateKey,
 ) -> Mem<Tree>
-    requires blocks { IsBlocks system.now slice.now.facts blocks.now }
-    requires inside { number_of blocks.now slice.now.target < 4294967295 }
-    requires last { last_node system.now blocks.now slice.now.target ≡ Node.Gate top }
     requires few { length lines.now < 2 ^ 32 }
     requires gates { AllByRecursion (IsGateOf system.now blocks.now) lines.now }
     requires ordered { InOrder (length system.now.events) [] lines.now }
     requires top { has_line lines.now top ≡ true }
-    ensures tree { IfOk result (IsGateTree system.now blocks.now top) }
-    ensures truth { IfOk result (λ tree. (events : NumberSet) → TreeHolds tree events ↔ Holds system.now events slice.now.target) }
+    ensures { IfOk result (IsGateTree system.now blocks.now top) }
 {
     let places = places_of(alloc, lines)?;
     let keys = reached_in_order(alloc, lines, &places, top)?;
@@ -76,28 +72,25 @@ fn gate_tree(
     tree_of(alloc, system.events(), lines, &places, &keys, top)
 }
 
-/// The tree of the last node of a target.
+/// The tree of a node of a target.
 fn node_tree(
     alloc: Global,
     system: &FaultSystem,
-    slice: &Slice,
     blocks: &Blocks,
+    target: u32,
     lines: &[Line],
     node: Node,
 ) -> Mem<Tree>
-    requires blocks { IsBlocks system.now slice.now.facts blocks.now }
-    requires inside { number_of blocks.now slice.now.target < 4294967295 }
-    requires last { last_node system.now blocks.now slice.now.target ≡ node }
+    requires inside { number_of blocks.now target < 4294967295 }
     requires few { length lines.now < 2 ^ 32 }
     requires gates { AllByRecursion (IsGateOf system.now blocks.now) lines.now }
     requires ordered { InOrder (length system.now.events) [] lines.now }
     requires known { IsKnown (length system.now.events) lines.now node }
-    ensures tree { IfOk result (λ tree. IsTreeOf system.now blocks.now slice.now.target tree node) }
-    ensures truth { IfOk result (λ tree. (events : NumberSet) → TreeHolds tree events ↔ Holds system.now events slice.now.target) }
+    ensures { IfOk result (λ tree. IsTreeOf system.now blocks.now target tree node) }
 {
     match node {
-        Node::Gate(top) => gate_tree(alloc, system, slice, blocks, lines, top),
-        Node::Basic(event) => event_tree(alloc, blocks, slice.target, event),
+        Node::Gate(top) => gate_tree(alloc, system, blocks, lines, top),
+        Node::Basic(event) => event_tree(alloc, blocks, target, event),
         // A constant target has no tree, and is not asked for one.
         Node::Always | Node::Never => Err(AllocError),
     }
@@ -108,13 +101,12 @@ fn whole_tree(alloc: Global, system: &FaultSystem, slice: &Slice, blocks: &Block
     requires slice { IsSlice system.now slice.now.target slice.now }
     requires blocks { IsBlocks system.now slice.now.facts blocks.now }
     requires few { all_places system.now blocks.now slice.now.facts ≤ most_places }
-    ensures tree { IfOk result (IsTree system.now blocks.now slice.now.target) }
-    ensures truth { IfOk result (λ tree. (events : NumberSet) → TreeHolds tree events ↔ Holds system.now events slice.now.target) }
+    ensures { IfOk result (IsTree system.now blocks.now slice.now.target) }
 {
     let Unrolling { nodes, lines } = unroll(alloc, system, slice, blocks)?;
     let lines = List::of(lines)?;
     let node = node_in(nodes.as_slice(), slice.target);
-    node_tree(alloc, system, slice, blocks, lines.items(), node)
+    node_tree(alloc, system, blocks, slice.target, lines.items(), node)
 }
 
 /// The tree of the target of a slice.
@@ -133,13 +125,18 @@ pub fn staged(
     ensures truth { IfOk result (λ tree. (events : NumberSet) → TreeHolds tree events ↔ Holds system.now events slice.now.target) }
     ensures varying { OnOk result (IsVarying system.now slice.now.target) }
     ensures few { OnOk result (all_places system.now blocks.now slice.now.facts ≤ most_places) }
+    ensures target { IfOk result (IsTreeFor system.now slice.now.target) }
+    ensures made { IfOk result (IsWellMade system.now) }
     ensures answer { IfErr result (IsGateAnswer system.now blocks.now slice.now.target slice.now.facts) }
+    ensures none { IfErr result (HasNoTree system.now slice.now.target) }
 {
+    let _facts = system.facts();
     if let Some(always) = constant(alloc, system, slice.target)? {
         return Err(GateAnswer::Constant(always));
     }
     if !are_few(system, blocks, slice.facts.items()) {
         return Err(GateAnswer::Refused(too_many_gates()));
     }
-    Ok(whole_tree(alloc, system, slice, blocks)?)
+    let tree = whole_tree(alloc, system, slice, blocks)?;
+    Ok(tree)
 }

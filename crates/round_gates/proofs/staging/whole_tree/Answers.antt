@@ -1,4 +1,4 @@
-use Rattle.std.proofs.Common.{◌∙◌, List, IfOk, ap, sym, subst}
+use Rattle.std.proofs.Common.{◌∙◌, List, IfOk, ap, subst}
 use Rattle.round_gates.specs.declared.node.Node.{Node}
 use Rattle.round_gates.specs.declared.tree.Tree.{Tree}
 use Rattle.round_gates.specs.Trees.{IsTreeOf}
@@ -15,13 +15,8 @@ unroll-requires-clause-inside c = rises-below 0 _ c.args.slice.now.facts c.requi
 pub node_tree-requires-clause-inside : goal.node_tree-requires-clause-inside
 node_tree-requires-clause-inside c = (target-inside c.args.system.now c.args.slice.now.target c.args.slice.now c.args.blocks.now c.requires.slice c.requires.blocks).1
 
-pub node_tree-requires-clause-last : goal.node_tree-requires-clause-last
-node_tree-requires-clause-last c =
-    let there = (target-inside c.args.system.now c.args.slice.now.target c.args.slice.now c.args.blocks.now c.requires.slice c.requires.blocks).0 in
-    sym (c.node_in-node.ensures ∙ ap (λ (nodes : List Node). node_in nodes c.args.slice.now.target) c.as_slice.ensures.value ∙ c.in_ok-nodes.ensures.last c.args.slice.now.target there)
-
-pub returns-clause-tree : goal.returns-clause-tree
-returns-clause-tree c =
+pub returns : goal.returns
+returns c =
     let there = (target-inside c.args.system.now c.args.slice.now.target c.args.slice.now c.args.blocks.now c.requires.slice c.requires.blocks).0 in
     subst (λ (node : Node). IfOk c.node_tree.result (λ (tree : Tree). IsTreeOf c.args.system.now c.args.blocks.now c.args.slice.now.target tree node))
-    (c.node_in-node.ensures ∙ ap (λ (nodes : List Node). node_in nodes c.args.slice.now.target) c.as_slice.ensures.value ∙ c.in_ok-nodes.ensures.last c.args.slice.now.target there) c.node_tree.ensures.tree
+    (c.node_in-node.ensures ∙ ap (λ (nodes : List Node). node_in nodes c.args.slice.now.target) c.as_slice.ensures.value ∙ c.in_ok-nodes.ensures.last c.args.slice.now.target there) c.node_tree.ensures

@@ -1,0 +1,8 @@
+pub mod Bytes
+pub mod Writes
+pub mod OneText
+pub mod Names
+pub mod TreeNames
+pub mod TextTruth
+pub mod Soundness
+pub mod Examples

@@ -1,0 +1,56 @@
+-- One line after the other.
+use Rattle.std.proofs.Common.{◌≡◌, ℕ, zero, suc, ◌<◌, ◌≤◌, List, [], ◌∷◌, ◌++◌, length, get_or, map, take, drop, Option, Result, Err, None, Some, inl, inr, refl, sym, ap, ◌∙◌, append_assoc, append-nil, arith}
+use Rattle.std.specs.List.{flat_map}
+use Rattle.std.proofs.lemmas.Result.{MatchResult-weaker}
+use Rattle.std.proofs.lemmas.List.Concat.{flat_map-append}
+use Rattle.fta_outside.specs.Outside.{Rose, TookPrefix, with_bytes}
+use Rattle.fta_outside.proofs.Writing.{took_more, wrote_both}
+use Rattle.galileo_writer.specs.Galileo.{Line, line_text}
+use Rattle.galileo_writer.specs.Written.{Writes}
+use Rattle.galileo_writer.specs.declared.error.WriteError.{WriteError}
+use Rattle.galileo_writer.specs.declared.error.WriteError.TheVariants.{Failed}
+
+with_bytes-nil : (t : Option (List ℕ)) → with_bytes t [] ≡ t
+with_bytes-nil None = refl
+with_bytes-nil (Some taken) = ap Some (append-nil taken)
+
+rose_from : (f g h : ℕ) → f ≤ g → Rose g h → Rose f h
+rose_from f g h grows rose = elim rose [ inl more ↦ inl (omega arith) | inr last ↦ inr last ]
+
+-- nothing was written yet
+pub wrote_none : (t : Option (List ℕ)) → t ≡ with_bytes t []
+wrote_none t = sym (with_bytes-nil t)
+
+-- a first piece was written, and then what follows it was written or not
+pub wrote_then : {T : Type 0} (r : Result T WriteError) (t u v : Option (List ℕ)) (f g h : ℕ) (a b text : List ℕ) → text ≡ a ++ b → u ≡ with_bytes t a → f ≤ g → Writes r b u v g h → Writes r text t v f h
+wrote_then r t u v f g h a b text whole first grows second = (
+  MatchResult-weaker r second.0 (λ _ wrote. wrote_both t u v a b first wrote ∙ ap (with_bytes t) (sym whole))
+      (λ e stopped. (took_more t u v a b [] text (whole ∙ ap (λ l. a ++ l) (sym (append-nil b))) first stopped.0, (λ failed. rose_from f g h grows (stopped.1 failed)))),
+  omega (arith, second.1),
+)
+
+-- a first piece was not written whole
+pub wrote_not : {T : Type 0} (r : Result T WriteError) (e : WriteError) → r ≡ Err e → (t u : Option (List ℕ)) (f g : ℕ) (a b text : List ℕ) → text ≡ a ++ b → (TookPrefix t u a × (e ≡ Failed → Rose f g)) × (f ≤ g) → Writes r text t u f g
+wrote_not r e is_err t u f g a b text whole stopped = (
+  rw is_err (took_more t t u [] a b text whole (wrote_none t) stopped.0.0, stopped.0.1),
+  stopped.1,
+)
+
+-- the lines of a front of a list, the line at a place, and the rest
+pub lines-at : {A : Type 0} (line : A → Line) (xs : List A) (i : ℕ) (x : A) → i < length xs → x ≡ get_or xs i x → flat_map line_text (map line xs) ≡ flat_map line_text (map line (take i xs)) ++ (line_text (line x) ++ flat_map line_text (map line (drop (suc i) xs)))
+lines-at line [] i x fits is = absurd (omega arith)
+lines-at line (y ∷ ys) zero x fits is = ap (λ z. line_text (line z) ++ flat_map line_text (map line ys)) (sym is)
+lines-at line (y ∷ ys) (suc i) x fits is = ap (λ rest. line_text (line y) ++ rest) (lines-at line ys i x (omega arith) is) ∙ sym (append_assoc (line_text (line y)) _ _)
+
+-- a line of a list was not written whole
+pub wrote_part : {A T : Type 0} (line : A → Line) (xs : List A) (i : ℕ) (x : A) → i < length xs → x ≡ get_or xs i x → (r : Result T WriteError) (e : WriteError) → r ≡ Err e → (t u v : Option (List ℕ)) (f g h : ℕ)
+    → u ≡ with_bytes t (flat_map line_text (map line (take i xs))) → f ≤ g → (TookPrefix u v (line_text (line x)) × (e ≡ Failed → Rose g h)) × (g ≤ h) → Writes r (flat_map line_text (map line xs)) t v f h
+wrote_part line xs i x fits is r e is_err t u v f g h front grows stopped =
+    let rest : List ℕ = flat_map line_text (map line (drop (suc i) xs)) in
+    wrote_then r t u v f g h (flat_map line_text (map line (take i xs))) (line_text (line x) ++ rest) (flat_map line_text (map line xs)) (lines-at line xs i x fits is) front grows
+    (wrote_not r e is_err u v g h (line_text (line x)) rest (line_text (line x) ++ rest) refl stopped)
+
+-- the line of the top, the lines of gates and those of events, one after the other
+pub parts-text : {A B : Type 0} (top : List ℕ) (gate : A → Line) (event : B → Line) (gates : List A) (events : List B)
+    → top ++ flat_map line_text (map gate gates ++ map event events) ≡ top ++ (flat_map line_text (map gate gates) ++ flat_map line_text (map event events))
+parts-text top gate event gates events = ap (λ rest. top ++ rest) (flat_map-append line_text (map gate gates) (map event events))

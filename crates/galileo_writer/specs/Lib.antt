@@ -1,0 +1,5 @@
+pub mod Galileo
+pub mod Truth
+pub mod Sound
+pub mod TreeText
+pub mod Written
