@@ -33,7 +33,16 @@ pub fn clauses_of<'a, B: StatesBelow<'a>>(
 {
     let scopes = scopes_of(alloc, types, effective.clauses.items())?;
     let composites = effective.behavior.composites.items();
-    clauses_in(alloc, types, points, states, scopes.items(), below, composites, first)
+    clauses_in(
+        alloc,
+        types,
+        points,
+        states,
+        scopes.items(),
+        below,
+        composites,
+        first,
+    )
 }
 
 fn clauses_in<'s, 'a, B: StatesBelow<'a>>(
@@ -55,7 +64,15 @@ fn clauses_in<'s, 'a, B: StatesBelow<'a>>(
         let setting = Setting::of_clause(points, &states.names, scopes, composite.scope());
         let place = CompositePlace { setting, below };
         let initial = states.initial.items();
-        add_clause(alloc, &mut clauses, types, &place, initial, composite.item(), first)?;
+        add_clause(
+            alloc,
+            &mut clauses,
+            types,
+            &place,
+            initial,
+            composite.item(),
+            first,
+        )?;
     }
     Ok(clauses)
 }

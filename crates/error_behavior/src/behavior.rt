@@ -161,7 +161,13 @@ fn machine_steps<'s, 'a>(
         Some(machine) => {
             note_machine(first, machine.decl());
             let place = words.place(machine_scope(texts));
-            steps_at(alloc, types, &place, machine.decl().transitions.items(), first)
+            steps_at(
+                alloc,
+                types,
+                &place,
+                machine.decl().transitions.items(),
+                first,
+            )
         }
         None => Ok(List::new(alloc)),
     }
@@ -249,7 +255,14 @@ fn emissions_of<'s, 'a>(
     let mut emissions = List::new(alloc);
     for condition in outgoing {
         let place = words.place(clause_scope(texts, condition.scope()));
-        add_emission(alloc, &mut emissions, types, &place, condition.item(), first)?;
+        add_emission(
+            alloc,
+            &mut emissions,
+            types,
+            &place,
+            condition.item(),
+            first,
+        )?;
     }
     Ok(emissions)
 }

@@ -42,10 +42,7 @@ fn events_in<'a>(alloc: Global, decls: &'a [EventDecl]) -> Mem<NameTable<'a>>
     Ok(names)
 }
 
-fn with_clauses<'a>(
-    before: NameTable<'a>,
-    events: &[InClause<'a, EventDecl>],
-) -> Mem<NameTable<'a>>
+fn with_clauses<'a>(before: NameTable<'a>, events: &[InClause<'a, EventDecl>]) -> Mem<NameTable<'a>>
     ensures { IfOk result (λ names. names ≡ fold keep_name before.entry (map (λ scoped. scoped.item.name) events.now)) }
 {
     let mut names = before;

@@ -98,10 +98,7 @@ fn machine_by(
     }
 }
 
-fn machine_or(
-    spot: Spot,
-    found: Result<MachineId, Code>,
-) -> Result<Option<MachineId>, Refusal>
+fn machine_or(spot: Spot, found: Result<MachineId, Code>) -> Result<Option<MachineId>, Refusal>
     ensures { result ≡ machine_or spot found }
 {
     match found {

@@ -14,7 +14,11 @@ use propagation_points::{PointUse, ReachedPoint, Setting};
 use std::alloc::Global;
 
 /// From where a transition or an outgoing condition goes. The refusals of its state are noted.
-fn origin_of(setting: &Setting, state: &Option<StateRef>, first: &mut FirstRefusal) -> Option<Origin>
+fn origin_of(
+    setting: &Setting,
+    state: &Option<StateRef>,
+    first: &mut FirstRefusal,
+) -> Option<Origin>
     ensures origin { result ≡ origin_of setting.now.states state.now }
     ensures first { first.new ≡ nearer first.old (least (origin_faults setting.now.states state.now)) }
 {

@@ -49,8 +49,20 @@ pub fn cause_of<'a, A: Atoms>(
 {
     match condition {
         Condition::Atom(atom) => atoms.meaning(alloc, types, atom, first),
-        Condition::All(parts) => Ok(Cause::All(causes_of(alloc, atoms, types, parts.items(), first)?)),
-        Condition::Any(parts) => Ok(Cause::Any(causes_of(alloc, atoms, types, parts.items(), first)?)),
+        Condition::All(parts) => Ok(Cause::All(causes_of(
+            alloc,
+            atoms,
+            types,
+            parts.items(),
+            first,
+        )?)),
+        Condition::Any(parts) => Ok(Cause::Any(causes_of(
+            alloc,
+            atoms,
+            types,
+            parts.items(),
+            first,
+        )?)),
         Condition::AtLeast(least, parts) => Ok(Cause::AtLeast(
             *least,
             causes_of(alloc, atoms, types, parts.items(), first)?,

@@ -14,7 +14,7 @@ use component_extension::{Effective, InClause};
 use error_types::{Scope, TypeTable};
 use package_index::note_if;
 use propagation_points::{
-    PointUse, Points, Reach, ReachedPoint, Setting, NameTable, note_at, scopes_of,
+    NameTable, PointUse, Points, Reach, ReachedPoint, Setting, note_at, scopes_of,
 };
 use std::alloc::Global;
 

@@ -54,7 +54,7 @@ pub kind-at : (packages : List PackageUnit) (ids : List ClassifierId) (kinds : L
 kind-at packages ids kinds id place is there =
     let own : Kind → Bool = λ kind. same_id id kind.classifier in
     let whole : position own (map (kind_of packages) ids) ≡ position (same_id id) ids =
-        position_from-zero own (map (kind_of packages) ids) ∙ position-mapped (kind_of packages) own 0 ids ∙ sym (position_from-zero (same_id id) ids) in
+    position_from-zero own (map (kind_of packages) ids) ∙ position-mapped (kind_of packages) own 0 ids ∙ sym (position_from-zero (same_id id) ids) in
     ap (option_and_then (slice_get ids)) (there ∙ ap (position own) is ∙ whole) ∙ sym (find-place (same_id id) ids)
 
 -- ---- tests one after the other

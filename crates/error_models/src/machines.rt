@@ -31,10 +31,7 @@ pub fn machines_of<'a>(
 }
 
 /// The machine of a component with this effective classifier, if it uses one, or its refusal.
-fn machine_in<'a>(
-    index: &Index<'a>,
-    effective: &Effective<'a>,
-) -> Answer<Option<UsedMachine<'a>>>
+fn machine_in<'a>(index: &Index<'a>, effective: &Effective<'a>) -> Answer<Option<UsedMachine<'a>>>
     ensures { MatchResult result (λ machine. (machine ≡ machine_of index.now effective.now) × (fault_of (find_machine index.now effective.now) ≡ None)) (StopsAt (fault_of (find_machine index.now effective.now))) }
 {
     Ok(machine_of(index, effective)?)

@@ -44,7 +44,14 @@ fn note_clauses<'a>(
     let clauses = effective.clauses.items();
     let scopes = scopes_of(alloc, types, clauses)?;
     let mut marks = no_marks(alloc, clauses.len())?;
-    note_with(alloc, effective, types, scopes.items(), marks.as_mut_slice(), first)?;
+    note_with(
+        alloc,
+        effective,
+        types,
+        scopes.items(),
+        marks.as_mut_slice(),
+        first,
+    )?;
     Ok(())
 }
 
@@ -239,7 +246,13 @@ fn note_uses(
 {
     for (number, clause) in clauses.iter().enumerate() {
         let uses = clause.item().uses.items();
-        note_unknown_if(types, is_marked(marks, number), clause.package(), uses, first);
+        note_unknown_if(
+            types,
+            is_marked(marks, number),
+            clause.package(),
+            uses,
+            first,
+        );
     }
 }
 

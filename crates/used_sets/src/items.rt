@@ -3,7 +3,9 @@ ghost use Rattle.used_sets.specs.Sets.{flow_kind_sets};
 
 use crate::conditions::{add_condition, add_perhaps, add_states};
 use crate::sets::WrittenSets;
-use aadl_syntax::{Composite, EventDecl, Flow, FlowKind, Mem, Outgoing, PointItem, StateDecl, Transition};
+use aadl_syntax::{
+    Composite, EventDecl, Flow, FlowKind, Mem, Outgoing, PointItem, StateDecl, Transition,
+};
 
 /// A kind of item with written sets.
 pub(crate) trait HasSets: Sized {

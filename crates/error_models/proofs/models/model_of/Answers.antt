@@ -25,7 +25,7 @@ returns-in_err-behavior-clause-refused c =
     let third = least (all_flow_faults table (points_of table effective) (states_of machine).names effective) in
     let last = least (composite_clause_faults below table (points_of table effective) (states_of machine) effective) in
     let same : least (behavior_faults c.points.new.types c.in_ok-points.points machine effective) ≡ second =
-        λ i. least (behavior_faults (c.in_ok-points.ensures.kept i) (c.in_ok-points.ensures.points i) machine effective) in
+    λ i. least (behavior_faults (c.in_ok-points.ensures.kept i) (c.in_ok-points.ensures.points i) machine effective) in
     let p = err_from_is_err_and c.from_residual-in_err-behavior.result c.from_residual-in_err-behavior.ensures.1 in
     rw (p.1, p.2) (none-stops first (option_or second (option_or third last)) stop c.in_ok-points.ensures.accepted
     (or-stops second (option_or third last) stop (subst (λ o. StopsAt o stop) same c.in_err-behavior.ensures.refused)))
@@ -43,9 +43,9 @@ returns-in_err-flows-clause-refused c =
     let last = least (composite_clause_faults below table (points_of table effective) (states_of machine) effective) in
     let kept : c.behavior.new.types ≡ table = c.in_ok-behavior.ensures.kept ∙ c.in_ok-points.ensures.kept in
     let same : least (behavior_faults c.points.new.types c.in_ok-points.points machine effective) ≡ second =
-        λ i. least (behavior_faults (c.in_ok-points.ensures.kept i) (c.in_ok-points.ensures.points i) machine effective) in
+    λ i. least (behavior_faults (c.in_ok-points.ensures.kept i) (c.in_ok-points.ensures.points i) machine effective) in
     let next : least (all_flow_faults c.behavior.new.types c.in_ok-points.points c.in_ok-states.states.names effective) ≡ third =
-        λ i. least (all_flow_faults (kept i) (c.in_ok-points.ensures.points i) (c.in_ok-states.ensures i).names effective) in
+    λ i. least (all_flow_faults (kept i) (c.in_ok-points.ensures.points i) (c.in_ok-states.ensures i).names effective) in
     let p = err_from_is_err_and c.from_residual-in_err-flows.result c.from_residual-in_err-flows.ensures.1 in
     rw (p.1, p.2) (none-stops first (option_or second (option_or third last)) stop c.in_ok-points.ensures.accepted
     (none-stops second (option_or third last) stop (sym same ∙ c.in_ok-behavior.ensures.accepted) (or-stops third last stop (subst (λ o. StopsAt o stop) next c.in_err-flows.ensures.refused))))
@@ -64,11 +64,11 @@ returns-in_err-composites-clause-refused c =
     let kept : c.behavior.new.types ≡ table = c.in_ok-behavior.ensures.kept ∙ c.in_ok-points.ensures.kept in
     let kept_on : c.flows.new.types ≡ table = c.in_ok-flows.ensures.kept ∙ kept in
     let same : least (behavior_faults c.points.new.types c.in_ok-points.points machine effective) ≡ second =
-        λ i. least (behavior_faults (c.in_ok-points.ensures.kept i) (c.in_ok-points.ensures.points i) machine effective) in
+    λ i. least (behavior_faults (c.in_ok-points.ensures.kept i) (c.in_ok-points.ensures.points i) machine effective) in
     let next : least (all_flow_faults c.behavior.new.types c.in_ok-points.points c.in_ok-states.states.names effective) ≡ third =
-        λ i. least (all_flow_faults (kept i) (c.in_ok-points.ensures.points i) (c.in_ok-states.ensures i).names effective) in
+    λ i. least (all_flow_faults (kept i) (c.in_ok-points.ensures.points i) (c.in_ok-states.ensures i).names effective) in
     let here : least (composite_clause_faults below c.flows.new.types c.in_ok-points.points c.in_ok-states.states effective) ≡ last =
-        λ i. least (composite_clause_faults below (kept_on i) (c.in_ok-points.ensures.points i) (c.in_ok-states.ensures i) effective) in
+    λ i. least (composite_clause_faults below (kept_on i) (c.in_ok-points.ensures.points i) (c.in_ok-states.ensures i) effective) in
     let p = err_from_is_err_and c.from_residual-in_err-composites.result c.from_residual-in_err-composites.ensures.1 in
     rw (p.1, p.2) (none-stops first (option_or second (option_or third last)) stop c.in_ok-points.ensures.accepted
     (none-stops second (option_or third last) stop (sym same ∙ c.in_ok-behavior.ensures.accepted)
@@ -83,11 +83,11 @@ returns-clause-model c =
     let kept : c.behavior.new.types ≡ table = c.in_ok-behavior.ensures.kept ∙ c.in_ok-points.ensures.kept in
     let kept_on : c.flows.new.types ≡ table = c.in_ok-flows.ensures.kept ∙ kept in
     let behavior : c.in_ok-behavior.behavior ≡ behavior_of table (points_of table effective) machine effective =
-        c.in_ok-behavior.ensures.behavior ∙ (λ i. behavior_of (c.in_ok-points.ensures.kept i) (c.in_ok-points.ensures.points i) machine effective) in
+    c.in_ok-behavior.ensures.behavior ∙ (λ i. behavior_of (c.in_ok-points.ensures.kept i) (c.in_ok-points.ensures.points i) machine effective) in
     let flows : c.in_ok-flows.flows ≡ flows_of table (points_of table effective) (states_of machine).names effective =
-        c.in_ok-flows.ensures.flows ∙ (λ i. flows_of (kept i) (c.in_ok-points.ensures.points i) (c.in_ok-states.ensures i).names effective) in
+    c.in_ok-flows.ensures.flows ∙ (λ i. flows_of (kept i) (c.in_ok-points.ensures.points i) (c.in_ok-states.ensures i).names effective) in
     let composites : c.in_ok-composites.composites ≡ clauses_of below table (points_of table effective) (states_of machine) effective =
-        c.in_ok-composites.ensures.clauses ∙ (λ i. clauses_of below (kept_on i) (c.in_ok-points.ensures.points i) (c.in_ok-states.ensures i) effective) in
+    c.in_ok-composites.ensures.clauses ∙ (λ i. clauses_of below (kept_on i) (c.in_ok-points.ensures.points i) (c.in_ok-states.ensures i) effective) in
     let has : c.is_composite.result ≡ is_composite effective.behavior.composites = c.is_composite.ensures ∙ ap is_composite c.items.ensures.items in
     λ i. record {
       points = c.in_ok-points.ensures.points i;
@@ -111,11 +111,11 @@ returns-clause-accepted c =
     let kept : c.behavior.new.types ≡ table = c.in_ok-behavior.ensures.kept ∙ c.in_ok-points.ensures.kept in
     let kept_on : c.flows.new.types ≡ table = c.in_ok-flows.ensures.kept ∙ kept in
     let same : least (behavior_faults c.points.new.types c.in_ok-points.points machine effective) ≡ second =
-        λ i. least (behavior_faults (c.in_ok-points.ensures.kept i) (c.in_ok-points.ensures.points i) machine effective) in
+    λ i. least (behavior_faults (c.in_ok-points.ensures.kept i) (c.in_ok-points.ensures.points i) machine effective) in
     let next : least (all_flow_faults c.behavior.new.types c.in_ok-points.points c.in_ok-states.states.names effective) ≡ third =
-        λ i. least (all_flow_faults (kept i) (c.in_ok-points.ensures.points i) (c.in_ok-states.ensures i).names effective) in
+    λ i. least (all_flow_faults (kept i) (c.in_ok-points.ensures.points i) (c.in_ok-states.ensures i).names effective) in
     let here : least (composite_clause_faults below c.flows.new.types c.in_ok-points.points c.in_ok-states.states effective) ≡ last =
-        λ i. least (composite_clause_faults below (kept_on i) (c.in_ok-points.ensures.points i) (c.in_ok-states.ensures i) effective) in
+    λ i. least (composite_clause_faults below (kept_on i) (c.in_ok-points.ensures.points i) (c.in_ok-states.ensures i) effective) in
     none-or first (option_or second (option_or third last)) c.in_ok-points.ensures.accepted
     (none-or second (option_or third last) (sym same ∙ c.in_ok-behavior.ensures.accepted)
     (none-or third last (sym next ∙ c.in_ok-flows.ensures.accepted) (sym here ∙ c.in_ok-composites.ensures.accepted)))

@@ -34,7 +34,7 @@ loop-number-preserved c =
     let kind : one ≡ kind_of packages id = made-at (kind_of packages) ids c.kinds-kind-items.result.now i one.classifier one all within c.kind-item.is in
     let machine : c.index-machines-number.result ≡ kind_machine packages id = made-at (kind_machine packages) ids c.args.machines.now i one.classifier c.index-machines-number.result machines within c.index-machines-number.is in
     let made : used_set_faults c.loop-number.types c.index-machines-number.result one.effective ≡ set_faults table id =
-        (λ k. used_set_faults (kept k) (machine k) (kind k).effective) ∙ (λ k. used_set_faults table (kind_machine (sym same k) id) (effective_of (sym same k) id)) ∙ faults-of table id in
+    (λ k. used_set_faults (kept k) (machine k) (kind k).effective) ∙ (λ k. used_set_faults table (kind_machine (sym same k) id) (effective_of (sym same k) id)) ∙ faults-of table id in
     record {
       kept = c.in_ok-note_used_sets.ensures.kept ∙ kept;
       first = noting-more ids i id within (get_or_default ids i one.classifier id within) (set_faults table) c.loop-number.first _ _
