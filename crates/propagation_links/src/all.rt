@@ -1,4 +1,4 @@
-ghost use Rattle.std.specs.Prelude.{◌≡◌, ◌<◌, ◌^◌, None, Some, IfOk, IfErr, OnOk, MatchResult};
+ghost use Rattle.std.specs.Prelude.{◌≡◌, ◌<◌, ◌^◌, None, Some, IfOk, IfErr, OnOk, MatchResult, map};
 ghost use Rattle.instantiator.specs.Refused.{StopsAt};
 ghost use Rattle.propagation_links.specs.Links.{links_of};
 ghost use Rattle.propagation_links.specs.Refused.{count_in, count_links, faults_in, first_fault, limit_refusal, links_refusal};
@@ -30,11 +30,11 @@ use std::alloc::Global;
 pub fn links_of<'a>(
     alloc: Global,
     instance: &Instance<'_, 'a>,
-    points: &[Points<'a>],
+    points: &[&Points<'a>],
 ) -> Answer<List<Link>>
-    ensures links { IfOk result (λ links. links ≡ links_of instance.now points.now) }
-    ensures accepted { OnOk result (links_refusal instance.now points.now ≡ None) }
-    ensures refused { IfErr result (StopsAt (links_refusal instance.now points.now)) }
+    ensures links { IfOk result (λ links. links ≡ links_of instance.now (map (λ points. points.now) points.now)) }
+    ensures accepted { OnOk result (links_refusal instance.now (map (λ points. points.now) points.now) ≡ None) }
+    ensures refused { IfErr result (StopsAt (links_refusal instance.now (map (λ points. points.now) points.now))) }
 {
     let pointed = Pointed::new(instance, points);
     within_limit(&pointed)?;

@@ -1,4 +1,4 @@
-ghost use Rattle.std.specs.Prelude.{◌≡◌, [], option_copied, option_map, slice_get, unwrap_or};
+ghost use Rattle.std.specs.Prelude.{◌≡◌, [], map, option_copied, option_map, slice_get, unwrap_or};
 ghost use Rattle.propagation_points.specs.Points.{place_named, side_of};
 ghost use Rattle.propagation_links.specs.Ends.{is_there, points_at};
 
@@ -11,10 +11,11 @@ use std::marker::Model;
 #[derive(Drop)]
 pub(crate) struct Pointed<'s, 'i, 'a> {
     instance: &'s Instance<'i, 'a>,
-    points: &'s [Points<'a>],
+    points: &'s [&'s Points<'a>],
 }
 
 impl<'s, 'i, 'a> Model for Pointed<'s, 'i, 'a> {
+    ghost use Rattle.std.specs.Prelude.{map};
     ghost use Rattle.std.specs.Coded.{codes};
     ghost use Rattle.aadl_syntax.specs.contracts.error_model.Condition as condition;
     ghost use Rattle.propagation_points.specs.contracts.side.Side as side;
@@ -24,16 +25,16 @@ impl<'s, 'i, 'a> Model for Pointed<'s, 'i, 'a> {
 
     ghost coded = { Prim.hlevel (codes, condition.the_row.coded, side.the_row.coded) };
 
-    ghost view = { λ p. record { instance = p.instance.now; points = p.points.now } };
+    ghost view = { λ p. record { instance = p.instance.now; points = map (λ points. points.now) p.points.now } };
 }
 
 impl<'s, 'i, 'a> Pointed<'s, 'i, 'a> {
     /// An instance with these points, one for each of its kinds.
     pub(crate) fn new(
         instance: &'s Instance<'i, 'a>,
-        points: &'s [Points<'a>],
+        points: &'s [&'s Points<'a>],
     ) -> Pointed<'s, 'i, 'a>
-        ensures { result ≡ record { instance = instance.now; points = points.now } }
+        ensures { result ≡ record { instance = instance.now; points = map (λ points. points.now) points.now } }
     {
         Pointed { instance, points }
     }
@@ -72,6 +73,6 @@ impl<'s, 'i, 'a> Pointed<'s, 'i, 'a> {
     fn points(&self, component: u32) -> Option<&'s Points<'a>>
         ensures { unwrap_or (option_copied result) [] ≡ points_at self.now component }
     {
-        self.points.get(self.instance.kind(component)?)
+        self.points.get(self.instance.kind(component)?).copied()
     }
 }

@@ -1,0 +1,4 @@
+pub mod Assembly
+pub mod Facts
+pub mod Names
+pub mod Limits

@@ -1,0 +1,16 @@
+//! The facts and the events of a model, in order, with their numbers and their names.
+#![tactic(auto)]
+
+mod assembly;
+mod events;
+mod facts;
+mod keys;
+mod names;
+mod universe;
+
+pub use assembly::{Assembly, points_of_models};
+pub use events::EventTable;
+pub use facts::FactTable;
+pub use keys::{EventKey, EventKind, FactKey, FactKind};
+pub use names::{event_key, event_name, fact_name};
+pub use universe::universe_of;
