@@ -1,11 +1,11 @@
 //! How many places formulas have, told before they are made; one over the limit stands for all that are greater.
 
-ghost use Rattle.std.specs.Prelude.{◌≡◌, ◌+◌, ◌∷◌, [], ℕ, filter, length, map};
+ghost use Rattle.std.specs.Prelude.{◌≡◌, ◌+◌, ◌∷◌, [], ℕ, filter, flat_map, length, map};
 ghost use Rattle.propagation_points.specs.Uses.{covers};
 ghost use Rattle.flattener.specs.Facts.{enter_formula, exit_formula, flow_or_link, kind_formula, linked_formula, linked_from, meaning_of, perhaps_at, state_formula};
 ghost use Rattle.flattener.specs.Flat.{all_places, places};
 ghost use Rattle.flattener.specs.Formulas.{all_flow_formulas, cause_formula, emission_formula, emission_formulas, flow_formula, flow_formulas, step_formula};
-ghost use Rattle.flattener.specs.Numbered.{some_entering};
+ghost use Rattle.flattener.specs.Numbered.{reached_inward, some_entering};
 ghost use Rattle.flattener.specs.Tables.{capped, flow_seen, places_of};
 
 use crate::exits::covers;
@@ -134,11 +134,18 @@ fn causes_places(site: &Site, causes: &[Cause]) -> u32
 fn entering_places(site: &Site, reached: &ReachedPoint) -> u32
     ensures { result ≡ capped (places (some_entering site.now reached.now)) }
 {
+    one_more(reached_count(site, reached))
+}
+
+/// How many types are reached at the inward side of a point.
+fn reached_count(site: &Site, reached: &ReachedPoint) -> u32
+    ensures { result ≡ capped (length (reached_inward site.now reached.now)) }
+{
     let mut count = 0;
     for number in site.inward_types(reached.point) {
         count = plus(count, covered(reached, *number));
     }
-    one_more(count)
+    count
 }
 
 /// One where a type is reached, and else none.
@@ -160,11 +167,17 @@ fn enter_places(site: &Site, point: u32, number: u32) -> u32
 fn linked_places(numbers: &Numbers, number: u32, side: PointAt) -> u32
     ensures { result ≡ capped (places (linked_formula numbers.now number side)) }
 {
+    one_more(from_places(numbers, number, side))
+}
+
+fn from_places(numbers: &Numbers, number: u32, side: PointAt) -> u32
+    ensures { result ≡ capped (places_of (flat_map (perhaps_at numbers.now number) (linked_from side numbers.now.assembly.links))) }
+{
     let mut count = 0;
     for from in numbers.linked_from(side) {
         count = plus(count, places_at(numbers, number, *from));
     }
-    one_more(count)
+    count
 }
 
 /// One where a type may be at a side, and else none.

@@ -70,7 +70,7 @@ fn system_by(alloc: Global, numbers: &Numbers) -> Mem<FaultSystem>
 
 /// The system of facts and events; want of memory is answered where they are none.
 fn made(alloc: Global, facts: List<FactInfo>, events: List<EventInfo>) -> Mem<FaultSystem>
-    ensures { IfOk result (λ system. system ≡ record { facts = facts.entry; events = events.entry }) }
+    ensures { IfOk result (λ system. system ≡ record { facts = facts; events = events }) }
 {
     if !is_system(alloc, facts.items(), events.items())? {
         return Err(AllocError);

@@ -52,7 +52,7 @@ impl<'m, 'a> Kind<'m, 'a> {
         let steps = steps_of(alloc, model.behavior.steps.items())?;
         let conditions = conditions_of(alloc, model.composites.items())?;
         let emissions = emissions_of(alloc, model.behavior.emissions.items())?;
-        let flows = flows_of(alloc, model.flows.items())?;
+        let flows = flows_of(alloc, &model.flows)?;
         Ok(Kind {
             model,
             steps,
@@ -170,12 +170,12 @@ fn emissions_of<'m>(
 
 fn flows_of<'m>(
     alloc: Global,
-    flows: &'m [FlowMeaning],
+    flows: &'m List<FlowMeaning>,
 ) -> Mem<HashMap<u32, List<(u32, &'m FlowMeaning)>>>
     ensures { IfOk result (λ rows. AreFlows flows.now (get nat_eq rows)) }
 {
     let mut rows = HashMap::new(alloc);
-    for (number, flow) in flows.iter().enumerate() {
+    for (number, flow) in flows.items().iter().enumerate() {
         add_flow(alloc, &mut rows, number as u32, flow)?;
     }
     Ok(rows)

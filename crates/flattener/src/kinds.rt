@@ -67,10 +67,11 @@ impl<'m, 'a> Kinds<'m, 'a> {
     fn at(&self, number: usize) -> &Kind<'m, 'a>
         ensures { result.now ≡ kind_model self.now (Some number) }
     {
-        match self.list.items().get(number) {
-            Some(kind) => kind,
-            None => &self.nothing,
+        let items = self.list.items();
+        if number < items.len() {
+            return &items[number];
         }
+        &self.nothing
     }
 }
 

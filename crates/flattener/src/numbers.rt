@@ -1,9 +1,9 @@
-ghost use Rattle.std.specs.Prelude.{◌≡◌, ◌++◌, IfOk, OnOk};
+ghost use Rattle.std.specs.Prelude.{◌≡◌, ◌++◌, ◌∷◌, [], IfOk, OnOk};
 ghost use Rattle.std.specs.HashMap.{get};
 ghost use Rattle.model_facts.specs.Facts.{event_number, fact_number};
 ghost use Rattle.flattener.specs.Facts.{fact_at, linked_formula, linked_from, perhaps_at};
 ghost use Rattle.flattener.specs.Numbered.{event_formula, fact_formula, site_of};
-ghost use Rattle.flattener.specs.Tables.{AreLinks, same_key};
+ghost use Rattle.flattener.specs.Tables.{AreLinks, SideKey as Key, row_at, same_key, side_of_key};
 
 use crate::kinds::Kinds;
 use crate::rows::{add, at};
@@ -201,8 +201,15 @@ fn links_of(alloc: Global, links: &[Link]) -> Mem<HashMap<SideKey, List<PointAt>
 {
     let mut rows = HashMap::new(alloc);
     for link in links {
-        let key = (link.to.component, link.to.point, link.to.outward);
-        add(alloc, &mut rows, key, link.from)?;
+        add_link(alloc, &mut rows, *link)?;
     }
     Ok(rows)
+}
+
+/// Adds the side from which a link leads to the row of the side into which it leads.
+fn add_link(alloc: Global, rows: &mut HashMap<SideKey, List<PointAt>>, link: Link) -> Mem<()>
+    ensures { OnOk result ((key : Key) → row_at (get same_key rows.new key) ≡ row_at (get same_key rows.old key) ++ linked_from (side_of_key key) (link ∷ [])) }
+{
+    let key = (link.to.component, link.to.point, link.to.outward);
+    add(alloc, rows, key, link.from)
 }
