@@ -1,5 +1,5 @@
 -- Counts of places, of which one over the limit stands for all that are greater.
-use Rattle.std.proofs.Common.{◌≡◌, ◌⊎◌, inl, inr, ℕ, ◌+◌, ◌<◌, ◌≤◌, Bool, true, false, cond, nat_lt, sym, ap, ◌∙◌, arith}
+use Rattle.std.proofs.Common.{◌≡◌, ◌⊎◌, inl, inr, ℕ, ◌+◌, ◌<◌, ◌≤◌, Bool, true, false, cond, nat_lt, refl, sym, ap, ◌∙◌, arith}
 use Rattle.std.proofs.lemmas.Bool.{cases_lt, le-ltb, lt-ltb}
 use Rattle.flattener.specs.Flat.{most_places}
 use Rattle.flattener.specs.Tables.{capped}
@@ -47,3 +47,6 @@ one-of n is = ap capped (sym is)
 -- two places
 pub two-of : (n : ℕ) → n ≡ 2 → 2 ≡ capped n
 two-of n is = ap capped (sym is)
+
+pub two : 2 ≡ capped 2
+two = refl

@@ -1,7 +1,9 @@
 -- How many places formulas have.
-use Rattle.std.proofs.Common.{◌≡◌, ◌⊎◌, inl, inr, ℕ, ◌+◌, ◌<◌, ◌≤◌, Bool, true, false, List, [], ◌∷◌, length, map, Option, Some, None, option_map, option_to_list, refl, sym, ap, ◌∙◌, subst, arith}
+use Rattle.std.proofs.Common.{◌≡◌, ◌⊎◌, inl, inr, ℕ, ◌+◌, ◌<◌, ◌≤◌, Bool, true, false, cond, slice_index_or, List, [], ◌∷◌, length, map, Option, Some, None, option_map, option_to_list, refl, sym, ap, ◌∙◌, subst, arith}
 use Rattle.std.specs.Option.{option_map_or}
+use Rattle.std.proofs.lemmas.List.Sums.{sum_by-cons}
 use Rattle.propagation_points.specs.declared.uses.ReachedPoint.{ReachedPoint}
+use Rattle.error_flows.specs.declared.meaning.FlowMeaning.TheVariants as flow
 use Rattle.error_conditions.specs.declared.cause.Cause.{Cause, fold-roll-Cause}
 use Rattle.error_conditions.specs.declared.cause.Cause.TheOpen as cause
 use Rattle.error_conditions.specs.declared.cause.Cause.TheVariants as causes
@@ -11,18 +13,18 @@ use Rattle.error_behavior.specs.declared.steps.Origin.{Origin}
 use Rattle.error_behavior.specs.declared.steps.Origin.TheVariants.{Always, From}
 use Rattle.error_behavior.specs.declared.steps.Step.{Step}
 use Rattle.instantiator.specs.Components.{component_below}
-use Rattle.model_facts.specs.Facts.{event_in, event_number, fact_in, fact_number}
+use Rattle.model_facts.specs.Facts.{event_in, event_number, fact_in, fact_number, inward_of}
 use Rattle.model_facts.specs.declared.keys.EventKey.{EventKey}
-use Rattle.model_facts.specs.declared.keys.EventKind.TheVariants.{Declared}
+use Rattle.model_facts.specs.declared.keys.EventKind.TheVariants.{Arrival, Declared, Source}
 use Rattle.model_facts.specs.declared.keys.FactKey.{FactKey}
 use Rattle.model_facts.specs.declared.keys.FactKind.TheVariants.{State, Enters}
 use Rattle.fault_system.specs.declared.formula.Formula.{Formula, fold-roll-Formula, ind-Formula, map-Formula, roll-Formula}
 use Rattle.fault_system.specs.declared.formula.Formula.TheVariants.{True, Event, Fact, And, Or, AtLeast, rolls-True, rolls-Event, rolls-Fact, rolls-And, rolls-Or, rolls-AtLeast}
 use Rattle.fault_system.specs.declared.formula.Formula.TheOpen.{Formula-F}
 use Rattle.fault_system.specs.declared.formula.Formula.TheOpen as open_formula
-use Rattle.flattener.specs.Facts.{is_empty}
+use Rattle.flattener.specs.Facts.{enter_formula, is_empty, linked_formula, some_of, state_formula}
 use Rattle.flattener.specs.Flat.{places, places_step}
-use Rattle.flattener.specs.Formulas.{cause_formula, cause_step, emission_formula, in_state, origin_formula, step_formula}
+use Rattle.flattener.specs.Formulas.{cause_formula, cause_step, conditions_to, emission_formula, flow_formula, in_state, origin_formula, step_formula, steps_to}
 use Rattle.flattener.specs.Numbered.{Numbered, Site, entering, event_formula, fact_formula, reached_inward, some_entering}
 use Rattle.flattener.specs.Tables.{capped, places_of}
 use Rattle.flattener.proofs.Caps.{capped_cases}
@@ -44,6 +46,9 @@ places-Or parts = ap places (sym (rolls-Or parts)) ∙ fold-roll-Formula ℕ pla
 
 pub places-AtLeast : (least : ℕ) (parts : List Formula) → places (AtLeast least parts) ≡ 1 + places_of parts
 places-AtLeast least parts = ap places (sym (rolls-AtLeast least parts)) ∙ fold-roll-Formula ℕ places_step (open_formula.AtLeast least parts)
+
+pub places-cons : (formula : Formula) (formulas : List Formula) → places_of (formula ∷ formulas) ≡ places formula + places_of formulas
+places-cons formula formulas = sum_by-cons (λ n. n) (places formula) (map places formulas)
 
 -- ---- leaves
 
@@ -73,7 +78,7 @@ origin-place site (From state) = fact-place site.numbered (fact_in site.owner (S
 
 ones : {A : Type 0} (f : A → Formula) → ((x : A) → places (f x) ≡ 1) → (xs : List A) → places_of (map f xs) ≡ length xs
 ones f each [] = refl
-ones f each (x ∷ xs) = omega (arith, each x, ones f each xs)
+ones f each (x ∷ xs) = omega (arith, places-cons (f x) (map f xs), each x, ones f each xs)
 
 pub entering-places : (site : Site) (reached : ReachedPoint) → places (some_entering site reached) ≡ 1 + length (reached_inward site reached)
 entering-places site reached =
@@ -112,19 +117,19 @@ module _ (site : Site) where
   pub step-places : (step : Step) → places (step_formula site step) ≡ 2 + places (cause_formula site step.trigger)
   step-places step =
       let both = places-And (origin_formula site step.origin ∷ cause_formula site step.trigger ∷ []) in
-      omega (arith, both, origin-place site step.origin)
+      omega (arith, both, places-cons (origin_formula site step.origin) (cause_formula site step.trigger ∷ []), places-cons (cause_formula site step.trigger) [], origin-place site step.origin)
 
   pub emission-none : (emission : Emission) → emission.trigger ≡ None → places (emission_formula site emission) ≡ 2
   emission-none emission is =
       let parts : Option Cause → List Formula = λ trigger. origin_formula site emission.origin ∷ option_to_list (option_map (cause_formula site) trigger) in
       let one = places-And (origin_formula site emission.origin ∷ []) in
-      ap (λ trigger. places (And (parts trigger))) is ∙ omega (arith, one, origin-place site emission.origin)
+      ap (λ trigger. places (And (parts trigger))) is ∙ omega (arith, one, places-cons (origin_formula site emission.origin) [], origin-place site emission.origin)
 
   pub emission-some : (emission : Emission) (trigger : Cause) → emission.trigger ≡ Some trigger → places (emission_formula site emission) ≡ 2 + places (cause_formula site trigger)
   emission-some emission trigger is =
       let parts : Option Cause → List Formula = λ trigger. origin_formula site emission.origin ∷ option_to_list (option_map (cause_formula site) trigger) in
       let both = places-And (origin_formula site emission.origin ∷ cause_formula site trigger ∷ []) in
-      ap (λ trigger. places (And (parts trigger))) is ∙ omega (arith, both, origin-place site emission.origin)
+      ap (λ trigger. places (And (parts trigger))) is ∙ omega (arith, both, places-cons (origin_formula site emission.origin) (cause_formula site trigger ∷ []), places-cons (cause_formula site trigger) [], origin-place site emission.origin)
 
 -- ---- what has places
 
@@ -147,7 +152,7 @@ pub none-places : (formulas : List Formula) → 0 ≡ capped (places_of formulas
 none-places [] is = refl
 none-places (formula ∷ formulas) is =
     elim (capped_cases (places_of (formula ∷ formulas))) [
-      | inl few ↦ absurd (omega (arith, is ∙ few.1, some-places formula))
+      | inl few ↦ absurd (omega (arith, is ∙ few.1, places-cons formula formulas, some-places formula))
       | inr many ↦ absurd (omega (arith, is ∙ many.1))
     ]
 
@@ -155,3 +160,41 @@ none-places (formula ∷ formulas) is =
 pub some-formulas : (formulas : List Formula) (count : ℕ) → count ≡ capped (places_of formulas) → (count ≡ 0 → ⊥) → is_empty formulas ≡ false
 some-formulas [] count is some = absurd (some is)
 some-formulas (formula ∷ formulas) count is some = refl
+
+-- ---- facts
+
+module _ (site : Site) where
+  pub flow-event : (type number : ℕ) (name : List ℕ) (reached : ReachedPoint) → places (flow_formula site type number (flow.Event name reached)) ≡ 1
+  flow-event type number name reached = event-place site.numbered (event_in site.owner (Source number))
+
+-- one place where a type may be at a side
+pub perhaps-one : (number : Option ℕ) (n : ℕ) → number ≡ Some n → places_of (option_to_list (option_map Fact number)) ≡ 1
+perhaps-one number n is = ap (λ o. places_of (option_to_list (option_map Fact o))) is ∙ omega (arith, places-cons (Fact n) [], places-Fact n)
+
+-- one of these, or what is said otherwise
+pub some-empty : (formulas : List Formula) (otherwise : Formula) → 0 ≡ capped (places_of formulas) → places (some_of formulas otherwise) ≡ places otherwise
+some-empty formulas otherwise none = ap (λ b. places (cond b otherwise (Or formulas))) (none-places formulas none)
+
+pub some-full : (formulas : List Formula) (otherwise : Formula) (count : ℕ) → count ≡ capped (places_of formulas) → (count ≡ 0 → ⊥) → places (some_of formulas otherwise) ≡ 1 + places_of formulas
+some-full formulas otherwise count is some = ap (λ b. places (cond b otherwise (Or formulas))) (some-formulas formulas count is some) ∙ places-Or formulas
+
+-- in an initial state, a composite one, and another
+pub state-initial : (site : Site) (state : ℕ) → slice_index_or site.model.states.initial state false ≡ true → places (state_formula site state) ≡ 1
+state-initial site state is =
+    ap (λ b. places (cond b True (cond site.model.is_composite (Or (map (cause_formula site) (conditions_to state site.model.composites))) (Or (map (step_formula site) (steps_to state site.model.behavior.steps)))))) is ∙ places-True
+
+pub state-composite : (site : Site) (state : ℕ) → slice_index_or site.model.states.initial state false ≡ false → site.model.is_composite ≡ true → places (state_formula site state) ≡ 1 + places_of (map (cause_formula site) (conditions_to state site.model.composites))
+state-composite site state is composite =
+    ap (λ b. places (cond b True (cond site.model.is_composite (Or (map (cause_formula site) (conditions_to state site.model.composites))) (Or (map (step_formula site) (steps_to state site.model.behavior.steps)))))) is
+    ∙ ap (λ b. places (cond b (Or (map (cause_formula site) (conditions_to state site.model.composites))) (Or (map (step_formula site) (steps_to state site.model.behavior.steps))))) composite
+    ∙ places-Or (map (cause_formula site) (conditions_to state site.model.composites))
+
+pub state-stepped : (site : Site) (state : ℕ) → slice_index_or site.model.states.initial state false ≡ false → site.model.is_composite ≡ false → places (state_formula site state) ≡ 1 + places_of (map (step_formula site) (steps_to state site.model.behavior.steps))
+state-stepped site state is composite =
+    ap (λ b. places (cond b True (cond site.model.is_composite (Or (map (cause_formula site) (conditions_to state site.model.composites))) (Or (map (step_formula site) (steps_to state site.model.behavior.steps)))))) is
+    ∙ ap (λ b. places (cond b (Or (map (cause_formula site) (conditions_to state site.model.composites))) (Or (map (step_formula site) (steps_to state site.model.behavior.steps))))) composite
+    ∙ places-Or (map (step_formula site) (steps_to state site.model.behavior.steps))
+
+-- a type that enters with its external event
+pub enter-event : (site : Site) (point type n : ℕ) → event_number site.numbered.events (event_in site.owner (Arrival point type)) ≡ Some n → places (enter_formula site point type) ≡ 1
+enter-event site point type n is = ap (λ o. places (option_map_or Event o (linked_formula site.numbered type (inward_of site.owner point)))) is ∙ places-Event n
