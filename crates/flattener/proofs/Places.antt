@@ -1,7 +1,9 @@
 -- How many places formulas have.
-use Rattle.std.proofs.Common.{◌≡◌, ◌⊎◌, inl, inr, ℕ, ◌+◌, ◌<◌, ◌≤◌, Bool, true, false, cond, slice_index_or, List, [], ◌∷◌, length, map, Option, Some, None, option_map, option_to_list, refl, sym, ap, ◌∙◌, subst, arith}
+use Rattle.std.proofs.Common.{◌≡◌, inl, inr, ℕ, ◌+◌, ◌<◌, ◌≤◌, true, false, cond, slice_index_or, List, [], ◌∷◌, ◌++◌, length, map, flat_map, get_or, take, sum, Option, Some, None, option_map, option_to_list, refl, sym, ap, ◌∙◌, subst, arith}
 use Rattle.std.specs.Option.{option_map_or}
-use Rattle.std.proofs.lemmas.List.Sums.{sum_by-cons}
+use Rattle.std.proofs.lemmas.Grind.{flat_map-append}
+use Rattle.std.proofs.lemmas.List.{append-nil, map-append, take_more}
+use Rattle.std.proofs.lemmas.List.Sums.{sum_by-append, sum_by-cons}
 use Rattle.propagation_points.specs.declared.uses.ReachedPoint.{ReachedPoint}
 use Rattle.error_flows.specs.declared.meaning.FlowMeaning.TheVariants as flow
 use Rattle.error_conditions.specs.declared.cause.Cause.{Cause, fold-roll-Cause}
@@ -198,3 +200,12 @@ state-stepped site state is composite =
 -- a type that enters with its external event
 pub enter-event : (site : Site) (point type n : ℕ) → event_number site.numbered.events (event_in site.owner (Arrival point type)) ≡ Some n → places (enter_formula site point type) ≡ 1
 enter-event site point type n is = ap (λ o. places (option_map_or Event o (linked_formula site.numbered type (inward_of site.owner point)))) is ∙ places-Event n
+
+-- ---- loops
+
+pub places-append : (a b : List Formula) → places_of (a ++ b) ≡ places_of a + places_of b
+places-append a b = ap sum (map-append places a b) ∙ sum_by-append (λ n. n) (map places a) (map places b)
+
+-- what items give, with one more
+pub gives-more : {A : Type 0} (f : A → List Formula) (items : List A) (i : ℕ) (d : A) → i < length items → flat_map f (take (i + 1) items) ≡ flat_map f (take i items) ++ f (get_or items i d)
+gives-more f items i d within = ap (flat_map f) (take_more items i d within) ∙ flat_map-append f (take i items) (get_or items i d ∷ []) ∙ ap (λ more. flat_map f (take i items) ++ more) (append-nil (f (get_or items i d)))

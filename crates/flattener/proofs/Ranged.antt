@@ -1,11 +1,9 @@
 -- Each number in the formulas of a model is that of one of its facts, or of one of its events.
-use Rattle.std.proofs.Common.{◌≡◌, ℕ, ◌<◌, ◌&&◌, Bool, true, false, cond, List, [], ◌∷◌, ◌++◌, length, map, filter, flat_map, option_map, option_to_list, Option, Some, None, refl, sym, ap, ◌∙◌, subst, arith}
+use Rattle.std.proofs.Common.{◌≡◌, ℕ, ◌<◌, ◌&&◌, Bool, true, false, cond, List, [], ◌∷◌, ◌++◌, length, map, flat_map, option_map, option_to_list, Option, Some, None, refl, sym, ap, ◌∙◌, subst}
 use Rattle.std.specs.Option.{option_map_or}
-use Rattle.std.specs.List.{AllByRecursion, list_all}
+use Rattle.std.specs.List.{list_all}
 use Rattle.std.proofs.lemmas.Bool.{lt-ltb}
-use Rattle.std.proofs.lemmas.List.Elements.{All-from_recursion}
 use Rattle.std.proofs.lemmas.List.Quantifiers.{position-Some}
-use lib.ListN.{length-map}
 use Rattle.propagation_points.specs.declared.uses.ReachedPoint.{ReachedPoint}
 use Rattle.error_flows.specs.declared.meaning.FlowMeaning.{FlowMeaning}
 use Rattle.error_flows.specs.declared.meaning.FlowMeaning.TheVariants as flow
@@ -28,9 +26,9 @@ use Rattle.fault_system.specs.Truth.{in_range, in_range_step}
 use Rattle.fault_system.specs.declared.formula.Formula.{Formula, fold-roll-Formula}
 use Rattle.fault_system.specs.declared.formula.Formula.TheVariants.{True, Event, Fact, And, Or, AtLeast, rolls-True, rolls-Event, rolls-Fact, rolls-And, rolls-Or, rolls-AtLeast}
 use Rattle.fault_system.specs.declared.formula.Formula.TheOpen as open_formula
-use Rattle.flattener.specs.Numbered.{Numbered, Site, entering, event_formula, fact_formula, inward_types, own_event, own_fact, reached_inward, site_of, some_entering}
-use Rattle.flattener.specs.Formulas.{FlowAt, all_flow_formulas, below_in_state, cause_formula, cause_step, conditions_to, covers_type, emission_formula, emission_formulas, emissions_at, flow_formula, flow_formulas, flows_at, in_state, origin_formula, step_formula, steps_to}
-use Rattle.flattener.specs.Facts.{enter_formula, exit_formula, fact_at, flow_or_link, is_empty, kind_formula, linked_formula, linked_from, meaning_of, perhaps_at, some_of, state_formula}
+use Rattle.flattener.specs.Numbered.{Numbered, Site, entering, event_formula, fact_formula, reached_inward, site_of, some_entering}
+use Rattle.flattener.specs.Formulas.{FlowAt, all_flow_formulas, cause_formula, cause_step, conditions_to, covers_type, emission_formula, flow_formula, flow_formulas, flows_at, in_state, origin_formula, step_formula, steps_to}
+use Rattle.flattener.specs.Facts.{fact_at, kind_formula, linked_formula, linked_from, meaning_of, perhaps_at}
 
 both_true : (a b : Bool) → a ≡ true → b ≡ true → (a && b) ≡ true
 both_true true b e f = f

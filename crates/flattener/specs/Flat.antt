@@ -1,5 +1,5 @@
 -- A model as a system of facts and events, and when it is too large.
-use Rattle.std.specs.Prelude.{◌≡◌, ℕ, ◌+◌, nat_lt, List, map, sum, Option, None}
+use Rattle.std.specs.Prelude.{◌≡◌, ℕ, ◌+◌, nat_lt, map, sum, Option, None}
 use Rattle.std.specs.Option.{option_or}
 use Rattle.aadl_syntax.specs.declared.refusal.Code.TheVariants.{TooManyPlaces}
 use Rattle.aadl_syntax.specs.declared.refusal.Place.TheVariants.{Words}

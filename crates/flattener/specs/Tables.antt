@@ -1,5 +1,5 @@
 -- What the tables know by which formulas are made without a search.
-use Rattle.std.specs.Prelude.{◌≡◌, ℕ, ◌+◌, Bool, ◌&&◌, cond, nat_eq, nat_lt, List, [], ◌++◌, map, sum, unwrap_or, Option}
+use Rattle.std.specs.Prelude.{◌≡◌, ℕ, ◌+◌, Bool, ◌&&◌, cond, nat_eq, nat_lt, List, [], map, sum, unwrap_or, Option}
 use Rattle.std.specs.Bool.{beq}
 use denote.Ref.{Bor}
 use Rattle.error_conditions.specs.declared.cause.Cause.{Cause}

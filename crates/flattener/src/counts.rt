@@ -2,6 +2,7 @@
 
 ghost use Rattle.std.specs.Prelude.{◌≡◌, ◌+◌, ◌∷◌, [], ℕ, filter, flat_map, length, map};
 ghost use Rattle.propagation_points.specs.Uses.{covers};
+ghost use Rattle.model_facts.specs.Facts.{outward_of};
 ghost use Rattle.flattener.specs.Facts.{enter_formula, exit_formula, flow_or_link, kind_formula, linked_formula, linked_from, meaning_of, perhaps_at, state_formula};
 ghost use Rattle.flattener.specs.Flat.{all_places, places};
 ghost use Rattle.flattener.specs.Formulas.{all_flow_formulas, cause_formula, emission_formula, emission_formulas, flow_formula, flow_formulas, step_formula};
@@ -235,9 +236,16 @@ fn flow_or_link_places(site: &Site, point: u32, number: u32) -> u32
 {
     let flowing = flows_places(site, number, site.kind().flows_at(point));
     if flowing == 0 {
-        return linked_places(site.numbers(), number, outward_of(site.owner(), point));
+        return link_places(site, point, number);
     }
     one_more(flowing)
+}
+
+/// How many places it has that a type comes along links to the outward side of a point.
+fn link_places(site: &Site, point: u32, number: u32) -> u32
+    ensures { result ≡ capped (places (linked_formula site.now.numbered number (outward_of site.now.owner point))) }
+{
+    linked_places(site.numbers(), number, outward_of(site.owner(), point))
 }
 
 fn flows_places(site: &Site, number: u32, flows: &[(u32, &FlowMeaning)]) -> u32

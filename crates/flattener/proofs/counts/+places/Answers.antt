@@ -4,7 +4,7 @@ use Rattle.flattener.specs.Flat.{places}
 use Rattle.flattener.specs.Formulas.{cause_formula}
 use Rattle.flattener.specs.Tables.{capped, places_of}
 use Rattle.flattener.proofs.Caps.{one-of}
-use Rattle.flattener.proofs.Places.{cause-all, cause-any, cause-atleast, cause-event, cause-point, cause-state}
+use Rattle.flattener.proofs.Places.{cause-all, cause-any, cause-atleast, cause-event, cause-state}
 use Rattle.flattener.proofs.counts.+places.Goals as goal
 
 pub cause_places-returns-in-Event : goal.cause_places-returns-in-Event

@@ -1,4 +1,4 @@
-use Rattle.std.proofs.Common.{ap, sym, ◌∙◌}
+use Rattle.std.proofs.Common.{sym, ◌∙◌}
 use Rattle.flattener.proofs.Caps.{one-of}
 use Rattle.flattener.proofs.Places.{perhaps-one}
 use Rattle.flattener.proofs.counts.places_at.Goals as goal

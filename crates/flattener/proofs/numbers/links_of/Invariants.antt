@@ -1,4 +1,4 @@
-use Rattle.std.proofs.Common.{◌≡◌, take}
+use Rattle.std.proofs.Common.{take}
 use Rattle.std.specs.HashMap.{get}
 use Rattle.flattener.specs.Tables.{AreLinks, same_key}
 use Rattle.flattener.proofs.numbers.links_of.Given as goal

@@ -1,4 +1,4 @@
-use Rattle.std.proofs.Common.{ap, sym, ◌∙◌}
+use Rattle.std.proofs.Common.{ap, ◌∙◌}
 use Rattle.flattener.specs.Numbered.{Numbered}
 use Rattle.flattener.specs.Facts.{linked_from}
 use Rattle.flattener.proofs.numbers.Numbers.linked_from.Goals as goal
