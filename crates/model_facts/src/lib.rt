@@ -10,6 +10,7 @@ mod keys;
 mod laws;
 mod linked;
 mod lists;
+mod named;
 mod names;
 mod sides;
 mod universe;
@@ -21,5 +22,6 @@ pub use keys::{EventKey, EventKind, FactKey, FactKind};
 pub use laws::{
     event_names_are_plain, event_names_differ, fact_names_are_plain, fact_names_differ,
 };
+pub use named::are_named;
 pub use names::{event_key, event_name, fact_name};
 pub use universe::universe_of;
