@@ -7,3 +7,4 @@ pub mod ShapeLaws
 pub mod NameLaws
 pub mod RootLaws
 pub mod PlainLaws
+pub mod Examples
