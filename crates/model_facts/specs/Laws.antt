@@ -42,12 +42,12 @@ pub record AreNamed (assembly : Assembly) : Type 0 where
 
 -- ---- names differ
 
--- No two facts of the model of a root have one name, where nothing is declared twice.
+-- No two facts of the model of a root have one name, where nothing is declared twice and all names are identifiers.
 abbrev pub FactNamesDiffer : List PackageUnit → ClassifierId → Type 0
 FactNamesDiffer packages root =
     IsClear (IsDuplicate packages) → AreNamed (assembly_of packages root) → NamesDiffer (fact_name (assembly_of packages root)) (facts_of (assembly_of packages root) (universe_of (assembly_of packages root)))
 
--- No two events of the model of a root have one name, where nothing is declared twice.
+-- No two events of the model of a root have one name, where nothing is declared twice and all names are identifiers.
 abbrev pub EventNamesDiffer : List PackageUnit → ClassifierId → Type 0
 EventNamesDiffer packages root = IsClear (IsDuplicate packages) → AreNamed (assembly_of packages root) → NamesDiffer (event_name (assembly_of packages root)) (events_of (assembly_of packages root))
 
