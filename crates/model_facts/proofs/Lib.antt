@@ -1,3 +1,10 @@
 pub mod StepLaws
 pub mod MarkLaws
 pub mod KeyLaws
+pub mod TextLaws
+pub mod RowLaws
+pub mod ShapeLaws
+pub mod NameLaws
+pub mod RootLaws
+pub mod PlainLaws
+pub mod Examples

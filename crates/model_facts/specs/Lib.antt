@@ -4,3 +4,4 @@ pub mod Names
 pub mod Limits
 pub mod Steps
 pub mod Tables
+pub mod Laws

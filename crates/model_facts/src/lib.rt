@@ -7,8 +7,10 @@ mod events;
 mod fact_list;
 mod facts;
 mod keys;
+mod laws;
 mod linked;
 mod lists;
+mod named;
 mod names;
 mod sides;
 mod universe;
@@ -17,5 +19,9 @@ pub use assembly::{Assembly, points_of_models};
 pub use events::EventTable;
 pub use facts::FactTable;
 pub use keys::{EventKey, EventKind, FactKey, FactKind};
+pub use laws::{
+    event_names_are_plain, event_names_differ, fact_names_are_plain, fact_names_differ,
+};
+pub use named::are_named;
 pub use names::{event_key, event_name, fact_name};
 pub use universe::universe_of;

@@ -37,7 +37,7 @@ fn unmarked(alloc: Global, types: &TypeTable) -> Mem<Vec<bool>>
 }
 
 /// How many types there are.
-fn count_types(types: &TypeTable) -> Mem<u32>
+pub(crate) fn count_types(types: &TypeTable) -> Mem<u32>
     ensures { IfOk result (λ count. count ≡ length types.now.types) }
 {
     let mut count = 0;

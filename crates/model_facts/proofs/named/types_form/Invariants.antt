@@ -1,0 +1,6 @@
+use Rattle.std.proofs.Common.{◌≡◌, ◌<◌, ℕ, Some}
+use Rattle.error_types.specs.Printed.{AreIdentifiers, TypeName, name_of}
+use Rattle.model_facts.proofs.named.types_form.Given as goal
+
+abbrev pub invariant-loop-number : goal.invariant-loop-number
+invariant-loop-number l = (number : ℕ) (name : TypeName) → number < l.number → name_of l.types number ≡ Some name → AreIdentifiers name
