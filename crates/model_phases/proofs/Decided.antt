@@ -1,5 +1,5 @@
 -- A model has one end at most, and stops with refusals alone.
-use Rattle.std.proofs.Common.{◌≡◌, List, Contains, refl}
+use Rattle.std.proofs.Common.{◌≡◌, List, Contains}
 use Rattle.aadl_syntax.specs.declared.core_model.PackageUnit.{PackageUnit}
 use Rattle.aadl_syntax.specs.declared.refusal.Refusal.{Refusal}
 use Rattle.aadl_syntax.specs.Order.{IsFirst}

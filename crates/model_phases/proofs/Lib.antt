@@ -1,2 +1,3 @@
 pub mod Tested
+mod Made
 pub mod Decided

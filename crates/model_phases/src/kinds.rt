@@ -32,8 +32,9 @@ pub(crate) fn kinds_of<'i, 'a>(
     ensures models { IfOk result (λ kinds. kinds.models ≡ map (model_of (table_of instance.now.packages) instance.now.kinds) instance.now.kinds) }
 {
     let machines = machines_in(alloc, instance)?;
-    let types = types_of(alloc, instance)?;
-    kinds_with(alloc, instance, &machines, types)
+    let mut types = types_of(alloc, instance)?;
+    let models = models_with(alloc, instance, &machines, &mut types)?;
+    Ok(Kinds { types, models })
 }
 
 /// The machines of the kinds of an instance, in order; a kind may use none.
@@ -48,10 +49,7 @@ fn machines_in<'a>(
 }
 
 /// The error types of the packages of an instance.
-fn types_of<'i, 'a>(
-    alloc: Global,
-    instance: &Instance<'i, 'a>,
-) -> Result<TypeTable<'i, 'a>, Status>
+fn types_of<'i, 'a>(alloc: Global, instance: &Instance<'i, 'a>) -> Result<TypeTable<'i, 'a>, Status>
     ensures tested { MeetsTests (tests (HasTooManyTypes instance.now.packages)) result }
     ensures types { IfOk result (λ types. types ≡ table_of instance.now.packages) }
 {
@@ -59,19 +57,18 @@ fn types_of<'i, 'a>(
 }
 
 /// The error models of the kinds of an instance, which have these machines, once the written sets that they use are tested.
-fn kinds_with<'i, 'a>(
+fn models_with<'a>(
     alloc: Global,
     instance: &Instance<'_, 'a>,
     machines: &List<Option<UsedMachine<'a>>>,
-    mut types: TypeTable<'i, 'a>,
-) -> Result<Kinds<'i, 'a>, Status>
+    types: &mut TypeTable<'_, 'a>,
+) -> Result<List<ErrorModel<'a>>, Status>
     requires machines { machines.now ≡ map (kind_machine instance.now.packages) instance.now.kinds }
-    requires packages { types.packages ≡ instance.now.packages }
-    ensures tested { MeetsTests (content_tests types instance.now.kinds) result }
-    ensures types { IfOk result (λ kinds. kinds.types ≡ types) }
-    ensures models { IfOk result (λ kinds. kinds.models ≡ map (model_of types instance.now.kinds) instance.now.kinds) }
+    requires packages { types.old.packages ≡ instance.now.packages }
+    ensures tested { MeetsTests (content_tests types.old instance.now.kinds) result }
+    ensures kept { types.new ≡ types.old }
+    ensures models { IfOk result (λ models. models ≡ map (model_of types.old instance.now.kinds) instance.now.kinds) }
 {
-    test_sets(alloc, instance, machines.items(), &mut types)?;
-    let models = models_of(alloc, instance, machines.items(), &mut types)?;
-    Ok(Kinds { types, models })
+    test_sets(alloc, instance, machines.items(), types)?;
+    Ok(models_of(alloc, instance, machines.items(), types)?)
 }
