@@ -54,7 +54,7 @@ pub model_in : (files its : List (List FileUnit)) (packages : List PackageUnit) 
 model_in files its packages root id result are same clear named met =
     let whole : Meets (flat_model (packages_of files) id) result = subst (λ (ps : List PackageUnit). Meets (flat_model ps id) result) (are ∙ ap packages_of same) met in
     let behind : Meets (chains (computes (root_named files root)) (flat_model (packages_of files))) result =
-        meets_later IsMemory (λ model. model) (computes (root_named files root)) (flat_model (packages_of files)) id result (λ s memory. memory) (computed named) whole
+    meets_later IsMemory (λ model. model) (computes (root_named files root)) (flat_model (packages_of files)) id result (λ s memory. memory) (computed named) whole
     in
     meets_later IsMemory (λ model. model) (tests (HasDuplicate files)) (λ _. chains (computes (root_named files root)) (flat_model (packages_of files))) (tt {0}) result (λ s memory. memory) (no_duplicate files its same clear) behind
 

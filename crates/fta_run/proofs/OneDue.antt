@@ -1,5 +1,5 @@
 -- One end at most is due for the words and the contents, where these are told.
-use Rattle.std.proofs.Common.{◌≡◌, ℕ, List, [], ◌∷◌, Option, Some, None, IsSome, IfSome, Result, refl, sym, ap, subst, ◌∙◌, inl}
+use Rattle.std.proofs.Common.{◌≡◌, ℕ, List, [], ◌∷◌, Option, Some, None, IsSome, IfSome, Result, refl, sym, ap, ◌∙◌, inl}
 use Rattle.std.specs.List.{AllByRecursion}
 use Rattle.std.proofs.lemmas.Bool.{false≢true}
 use Rattle.aadl_syntax.specs.declared.name.Root.{Root}

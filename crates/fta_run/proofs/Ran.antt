@@ -6,7 +6,6 @@ use Rattle.aadl_syntax.specs.declared.refusal.Code.TheVariants.{TooManyFiles}
 use Rattle.aadl_syntax.specs.declared.refusal.Refusal.{Refusal}
 use Rattle.aadl_syntax.specs.Order.{IsFirst}
 use Rattle.aadl_syntax.specs.declared.name.Root.{Root}
-use Rattle.phases.specs.Meets.{IsMemory, Meets, MeetsBut}
 use Rattle.phases.specs.Phases.{Phase, Passes, Stops, chains, finds, IsDue, IsRefusal, IsSameEnd}
 use Rattle.phases.specs.declared.status.Status.{Status}
 use Rattle.phases.specs.declared.status.Status.TheVariants.{Done, Usage, Refused, ReadFault, WriteFault, Memory}

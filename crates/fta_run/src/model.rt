@@ -23,11 +23,7 @@ pub fn model_of_texts(alloc: Global, root: &Root, texts: &Texts) -> Result<FlatM
 }
 
 /// The model of the root in these files, in which nothing is declared again.
-fn model_of_units(
-    alloc: Global,
-    root: &Root,
-    files: &List<List<Unit>>,
-) -> Result<FlatModel, Status>
+fn model_of_units(alloc: Global, root: &Root, files: &List<List<Unit>>) -> Result<FlatModel, Status>
     ensures { Meets (model_of_units root.now files.now) result }
 {
     let index = Index::new(alloc, files.items())?;
