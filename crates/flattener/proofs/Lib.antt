@@ -1,0 +1,3 @@
+pub mod Caps
+pub mod Places
+pub mod Ranged

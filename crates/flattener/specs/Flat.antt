@@ -1,5 +1,5 @@
 -- A model as a system of facts and events, and when it is too large.
-use Rattle.std.specs.Prelude.{ℕ, ◌+◌, nat_lt, List, map, sum, Option}
+use Rattle.std.specs.Prelude.{◌≡◌, ℕ, ◌+◌, nat_lt, List, map, sum, Option, None}
 use Rattle.std.specs.Option.{option_or}
 use Rattle.aadl_syntax.specs.declared.refusal.Code.TheVariants.{TooManyPlaces}
 use Rattle.aadl_syntax.specs.declared.refusal.Place.TheVariants.{Words}
@@ -15,7 +15,7 @@ use Rattle.fault_system.specs.declared.formula.EventInfo.{EventInfo}
 use Rattle.fault_system.specs.declared.formula.FactInfo.{FactInfo}
 use Rattle.fault_system.specs.declared.formula.Formula.{Formula, fold-Formula}
 use Rattle.fault_system.specs.declared.formula.Formula.TheOpen.{Formula-F, True, Event, Fact, And, Or, AtLeast}
-use Rattle.flattener.specs.Formulas.{Numbered, numbered_of}
+use Rattle.flattener.specs.Numbered.{Numbered, numbered_of}
 use Rattle.flattener.specs.Facts.{meaning_of}
 
 -- a fact with its name and what makes it hold
@@ -60,6 +60,11 @@ most_places = 4194304
 -- M9 where the formulas of a model have too many places
 abbrev pub places_refusal : Numbered → Option Refusal
 places_refusal numbered = over (nat_lt most_places (all_places numbered)) TooManyPlaces Words most_places
+
+-- This is the system of a model whose facts and events are numbered, and its formulas do not have too many places.
+pub record Flattened (numbered : Numbered) (system : System) : Type 0 where
+  pub equals : system ≡ system_by numbered
+  pub few : places_refusal numbered ≡ None
 
 -- The refusal of a model that is too large: M6, or else M7, or else M9.
 abbrev pub size_refusal : Assembly → Option Refusal

@@ -1,3 +1,5 @@
+pub mod Numbered
 pub mod Formulas
 pub mod Facts
 pub mod Flat
+pub mod Tables

@@ -1,20 +1,121 @@
-ghost use Rattle.std.specs.Prelude.{◌≡◌, None, IfErr, IfOk, OnOk};
+ghost use Rattle.std.specs.Prelude.{◌≡◌, None, Some, IfErr, IfOk, MatchResult, OnOk, map};
 ghost use Rattle.instantiator.specs.Refused.{StopsAt};
-ghost use Rattle.flattener.specs.Flat.{size_refusal, system_of};
+ghost use Rattle.flattener.specs.Flat.{Flattened, event_info, fact_info, places_refusal, size_refusal, system_by, system_of};
 
-use aadl_syntax::{Answer, Stop};
-use fault_system::FaultSystem;
-use model_facts::Assembly;
-use std::alloc::Global;
+use crate::counts::all_places;
+use crate::facts::meaning_of;
+use crate::kinds::{Kinds, no_model};
+use crate::numbers::Numbers;
+use aadl_syntax::{Answer, Code, List, Mem, Place, Refusal};
+use fault_system::{EventInfo, FactInfo, FaultSystem, is_system};
+use model_facts::{
+    Assembly, EventKey, EventTable, FactKey, FactTable, event_key, event_name, fact_name,
+    universe_of,
+};
+use std::alloc::{AllocError, Global};
 
 /// The system of a model: its facts with their formulas, and its events.
 ///
 /// M6 where there are more than 262,144 facts, or else M7 where there are more than 4,096 events, or else M9 where the formulas
 /// have more than 4,194,304 places.
-pub fn flatten(_alloc: Global, _assembly: &Assembly) -> Answer<FaultSystem>
-    ensures system { IfOk result (λ system. system ≡ system_of _assembly.now) }
-    ensures accepted { OnOk result (size_refusal _assembly.now ≡ None) }
-    ensures refused { IfErr result (StopsAt (size_refusal _assembly.now)) }
+pub fn flatten(alloc: Global, assembly: &Assembly) -> Answer<FaultSystem>
+    ensures system { IfOk result (λ system. system ≡ system_of assembly.now) }
+    ensures accepted { OnOk result (size_refusal assembly.now ≡ None) }
+    ensures refused { IfErr result (StopsAt (size_refusal assembly.now)) }
 {
-    Err(Stop::Memory)
+    let universe = universe_of(alloc, assembly)?;
+    let facts = FactTable::of(alloc, assembly, universe.items())?;
+    let events = EventTable::of(alloc, assembly)?;
+    with_numbers(alloc, assembly, universe.items(), &facts, &events)
+}
+
+/// The system of a model with this universe, and these facts and events.
+fn with_numbers(
+    alloc: Global,
+    assembly: &Assembly,
+    universe: &[u32],
+    facts: &FactTable,
+    events: &EventTable,
+) -> Answer<FaultSystem>
+    ensures { MatchResult result (Flattened (record { assembly = assembly.now; universe = universe.now; facts = facts.now; events = events.now })) (StopsAt (places_refusal (record { assembly = assembly.now; universe = universe.now; facts = facts.now; events = events.now }))) }
+{
+    let nothing = no_model(alloc);
+    let kinds = Kinds::of(alloc, assembly.models(), &nothing)?;
+    let numbers = Numbers::new(alloc, assembly, universe, facts, events, &kinds)?;
+    within_limit(&numbers)?;
+    Ok(system_by(alloc, &numbers)?)
+}
+
+/// Refuses a model whose formulas have too many places.
+fn within_limit(numbers: &Numbers) -> Result<(), Refusal>
+    ensures { MatchResult result (λ _. places_refusal numbers.now ≡ None) (λ refusal. places_refusal numbers.now ≡ Some refusal) }
+{
+    if all_places(numbers) > 4_194_304 {
+        return Err(Refusal {
+            code: Code::TooManyPlaces,
+            place: Place::Words,
+            limit: 4_194_304,
+        });
+    }
+    Ok(())
+}
+
+fn system_by(alloc: Global, numbers: &Numbers) -> Mem<FaultSystem>
+    ensures { IfOk result (λ system. system ≡ system_by numbers.now) }
+{
+    let facts = fact_infos(alloc, numbers)?;
+    let events = event_infos(alloc, numbers)?;
+    made(alloc, facts, events)
+}
+
+/// The system of facts and events; want of memory is answered where they are none.
+fn made(alloc: Global, facts: List<FactInfo>, events: List<EventInfo>) -> Mem<FaultSystem>
+    ensures { IfOk result (λ system. system ≡ record { facts = facts; events = events }) }
+{
+    if !is_system(alloc, facts.items(), events.items())? {
+        return Err(AllocError);
+    }
+    Ok(FaultSystem::new(facts, events))
+}
+
+fn fact_infos(alloc: Global, numbers: &Numbers) -> Mem<List<FactInfo>>
+    ensures { IfOk result (λ infos. infos ≡ map (fact_info numbers.now) numbers.now.facts) }
+{
+    let mut infos = List::new(alloc);
+    for fact in numbers.facts() {
+        infos.push(fact_info(alloc, numbers, *fact)?)?;
+    }
+    Ok(infos)
+}
+
+/// A fact with its name and what makes it hold.
+fn fact_info(alloc: Global, numbers: &Numbers, fact: FactKey) -> Mem<FactInfo>
+    ensures { IfOk result (λ info. info ≡ fact_info numbers.now fact) }
+{
+    Ok(FactInfo {
+        name: fact_name(alloc, numbers.assembly(), fact)?,
+        owner: fact.owner,
+        formula: meaning_of(alloc, numbers, fact)?,
+    })
+}
+
+fn event_infos(alloc: Global, numbers: &Numbers) -> Mem<List<EventInfo>>
+    ensures { IfOk result (λ infos. infos ≡ map (event_info numbers.now.assembly) numbers.now.events) }
+{
+    let mut infos = List::new(alloc);
+    for event in numbers.events() {
+        infos.push(event_info(alloc, numbers.assembly(), *event)?)?;
+    }
+    Ok(infos)
+}
+
+/// An event with its name, and by what its rates are found.
+fn event_info(alloc: Global, assembly: &Assembly, event: EventKey) -> Mem<EventInfo>
+    ensures { IfOk result (λ info. info ≡ event_info assembly.now event) }
+{
+    Ok(EventInfo {
+        name: event_name(alloc, assembly, event)?,
+        owner: event.owner,
+        key: event_key(alloc, assembly, event)?,
+    })
 }

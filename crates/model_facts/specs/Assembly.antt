@@ -1,5 +1,5 @@
 -- A model put together: the components of an instance, the error model of each, and the links between them.
-use Rattle.std.specs.Prelude.{ℕ, false, List, [], ◌∷◌, ◌++◌, map, filter, flat_map, length, slice_get, slice_index_or, Option, Some, None, option_map}
+use Rattle.std.specs.Prelude.{ℕ, false, List, [], ◌++◌, map, filter, flat_map, length, slice_get, slice_index_or, Option, Some, None, option_map}
 use Rattle.aadl_syntax.specs.declared.core_model.PackageUnit.{PackageUnit}
 use Rattle.package_index.specs.declared.id.ClassifierId.{ClassifierId}
 use Rattle.error_types.specs.Libraries.{Table, table_of}

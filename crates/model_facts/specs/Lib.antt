@@ -2,3 +2,5 @@ pub mod Assembly
 pub mod Facts
 pub mod Names
 pub mod Limits
+pub mod Steps
+pub mod Tables

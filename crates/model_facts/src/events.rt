@@ -1,11 +1,15 @@
-ghost use Rattle.std.specs.Prelude.{◌≡◌, None, IfErr, IfOk, OnOk};
+ghost use Rattle.std.specs.Prelude.{◌≡◌, ◌<◌, ◌^◌, None, length, IfErr, IfOk, OnOk};
+ghost use Rattle.std.specs.HashMap.{get};
 ghost use Rattle.instantiator.specs.Refused.{StopsAt};
-ghost use Rattle.model_facts.specs.Facts.{event_number, events_of};
+ghost use Rattle.package_index.specs.Tables.{Knows};
+ghost use Rattle.model_facts.specs.Facts.{event_number, events_of, same_event};
 ghost use Rattle.model_facts.specs.Limits.{many_events};
 
 use crate::assembly::Assembly;
+use crate::event_list::events_of;
 use crate::keys::EventKey;
-use aadl_syntax::{Answer, List, Stop};
+use aadl_syntax::{Answer, List, Mem};
+use package_index::add;
 use std::alloc::Global;
 use std::collections::HashMap;
 use std::marker::Model;
@@ -35,12 +39,14 @@ impl EventTable {
     /// The events of a model.
     ///
     /// M7 where there are more than 4,096.
-    pub fn of(_alloc: Global, _assembly: &Assembly) -> Answer<EventTable>
-        ensures events { IfOk result (λ events. events ≡ events_of _assembly.now) }
-        ensures accepted { OnOk result (many_events (events_of _assembly.now) ≡ None) }
-        ensures refused { IfErr result (StopsAt (many_events (events_of _assembly.now))) }
+    pub fn of(alloc: Global, assembly: &Assembly) -> Answer<EventTable>
+        ensures events { IfOk result (λ events. events ≡ events_of assembly.now) }
+        ensures accepted { OnOk result (many_events (events_of assembly.now) ≡ None) }
+        ensures refused { IfErr result (StopsAt (many_events (events_of assembly.now))) }
     {
-        Err(Stop::Memory)
+        let list = events_of(alloc, assembly)?;
+        let numbers = numbers_of(alloc, list.items())?;
+        Ok(EventTable { list, numbers })
     }
 
     /// The events, in order.
@@ -56,4 +62,16 @@ impl EventTable {
     {
         self.numbers.get(&event).copied()
     }
+}
+
+/// The number of each event.
+fn numbers_of(alloc: Global, events: &[EventKey]) -> Mem<HashMap<EventKey, u32>>
+    requires { length events.now < 2 ^ 32 }
+    ensures { IfOk result (λ numbers. Knows same_event events.now (get same_event numbers)) }
+{
+    let mut numbers = HashMap::new(alloc);
+    for (number, event) in events.iter().enumerate() {
+        add(&mut numbers, *event, number as u32)?;
+    }
+    Ok(numbers)
 }

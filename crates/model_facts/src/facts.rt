@@ -1,11 +1,15 @@
-ghost use Rattle.std.specs.Prelude.{◌≡◌, None, IfErr, IfOk, OnOk};
+ghost use Rattle.std.specs.Prelude.{◌≡◌, ◌<◌, ◌^◌, None, length, IfErr, IfOk, OnOk};
+ghost use Rattle.std.specs.HashMap.{get};
 ghost use Rattle.instantiator.specs.Refused.{StopsAt};
-ghost use Rattle.model_facts.specs.Facts.{fact_number, facts_of};
+ghost use Rattle.package_index.specs.Tables.{Knows};
+ghost use Rattle.model_facts.specs.Facts.{fact_number, facts_of, same_fact};
 ghost use Rattle.model_facts.specs.Limits.{many_facts};
 
 use crate::assembly::Assembly;
+use crate::fact_list::facts_of;
 use crate::keys::FactKey;
-use aadl_syntax::{Answer, List, Stop};
+use aadl_syntax::{Answer, List, Mem};
+use package_index::add;
 use std::alloc::Global;
 use std::collections::HashMap;
 use std::marker::Model;
@@ -35,12 +39,14 @@ impl FactTable {
     /// The facts of a model with this universe.
     ///
     /// M6 where there are more than 262,144.
-    pub fn of(_alloc: Global, _assembly: &Assembly, _universe: &[u32]) -> Answer<FactTable>
-        ensures facts { IfOk result (λ facts. facts ≡ facts_of _assembly.now _universe.now) }
-        ensures accepted { OnOk result (many_facts (facts_of _assembly.now _universe.now) ≡ None) }
-        ensures refused { IfErr result (StopsAt (many_facts (facts_of _assembly.now _universe.now))) }
+    pub fn of(alloc: Global, assembly: &Assembly, universe: &[u32]) -> Answer<FactTable>
+        ensures facts { IfOk result (λ facts. facts ≡ facts_of assembly.now universe.now) }
+        ensures accepted { OnOk result (many_facts (facts_of assembly.now universe.now) ≡ None) }
+        ensures refused { IfErr result (StopsAt (many_facts (facts_of assembly.now universe.now))) }
     {
-        Err(Stop::Memory)
+        let list = facts_of(alloc, assembly, universe)?;
+        let numbers = numbers_of(alloc, list.items())?;
+        Ok(FactTable { list, numbers })
     }
 
     /// The facts, in order.
@@ -56,4 +62,16 @@ impl FactTable {
     {
         self.numbers.get(&fact).copied()
     }
+}
+
+/// The number of each fact.
+fn numbers_of(alloc: Global, facts: &[FactKey]) -> Mem<HashMap<FactKey, u32>>
+    requires { length facts.now < 2 ^ 32 }
+    ensures { IfOk result (λ numbers. Knows same_fact facts.now (get same_fact numbers)) }
+{
+    let mut numbers = HashMap::new(alloc);
+    for (number, fact) in facts.iter().enumerate() {
+        add(&mut numbers, *fact, number as u32)?;
+    }
+    Ok(numbers)
 }

@@ -2,10 +2,15 @@
 #![tactic(auto)]
 
 mod assembly;
+mod event_list;
 mod events;
+mod fact_list;
 mod facts;
 mod keys;
+mod linked;
+mod lists;
 mod names;
+mod sides;
 mod universe;
 
 pub use assembly::{Assembly, points_of_models};

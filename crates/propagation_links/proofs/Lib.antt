@@ -1,4 +1,5 @@
 pub mod EndLaws
 pub mod LinkLaws
+pub mod JoinLaws
 pub mod Sample
 pub mod Examples

@@ -59,8 +59,8 @@ module _ (pointed : Pointed) (i : ℕ) (within : i < length pointed.instance.com
   abbrev component : Component
   component = get_or all i (record { path = []; classifier = None })
 
-  is : component ≡ get_or all i component
-  is = get_or_default all i (record { path = []; classifier = None }) component within
+  component_is : component ≡ get_or all i component
+  component_is = get_or_default all i (record { path = []; classifier = None }) component within
 
   abbrev faults : List Refusal
   faults = faults_in pointed i (effective_in pointed.instance i)
@@ -68,10 +68,10 @@ module _ (pointed : Pointed) (i : ℕ) (within : i < length pointed.instance.com
   -- the links of one component more
   pub links-more : (before after : List Link) → before ≡ numbered_from (component_links pointed) 0 (take i all) → Linked pointed i (effective_in pointed.instance i) before after → after ≡ numbered_from (component_links pointed) 0 (take (i + 1) all)
   links-more before after had linked =
-      linked.links ∙ ap (λ front. front ++ links_in pointed i (effective_in pointed.instance i)) had ∙ sym (numbered-more (component_links pointed) all i component within is)
+      linked.links ∙ ap (λ front. front ++ links_in pointed i (effective_in pointed.instance i)) had ∙ sym (numbered-more (component_links pointed) all i component within component_is)
 
   faults-more : numbered_from (component_fault pointed) 0 (take i all) ≡ [] → numbered_from (component_fault pointed) 0 (take (i + 1) all) ≡ option_to_list (least faults)
-  faults-more none = numbered-more (component_fault pointed) all i component within is ∙ ap (λ front. front ++ option_to_list (least faults)) none
+  faults-more none = numbered-more (component_fault pointed) all i component within component_is ∙ ap (λ front. front ++ option_to_list (least faults)) none
 
   pub accepted-more : numbered_from (component_fault pointed) 0 (take i all) ≡ [] → least faults ≡ None → numbered_from (component_fault pointed) 0 (take (i + 1) all) ≡ []
   accepted-more none accepted = faults-more none ∙ ap option_to_list accepted
@@ -87,7 +87,7 @@ module _ (pointed : Pointed) (i : ℕ) (within : i < length pointed.instance.com
   -- the count of one component more
   pub count-more : (give : ℕ → Component → List ℕ) (before count : ℕ) → before ≡ sum (numbered_from give 0 (take i all)) → give i component ≡ count ∷ [] → before + count ≡ sum (numbered_from give 0 (take (i + 1) all))
   count-more give before count had gives =
-      let more = ap sum (numbered-more give all i component within is ∙ ap (λ rest. numbered_from give 0 (take i all) ++ rest) gives) in
+      let more = ap sum (numbered-more give all i component within component_is ∙ ap (λ rest. numbered_from give 0 (take i all) ++ rest) gives) in
       ap (λ n. n + count) had ∙ sym (more ∙ sum_by_push (λ n. n) (numbered_from give 0 (take i all)) count)
 
 pub accepted-all : (pointed : Pointed) (i : ℕ) → length pointed.instance.components ≤ i → numbered_from (component_fault pointed) 0 (take i pointed.instance.components) ≡ [] → first_fault pointed ≡ None

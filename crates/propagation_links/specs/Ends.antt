@@ -1,10 +1,12 @@
 -- What the ends of connections and of user paths mean (AS5506: connections; EMV2: propagation paths).
-use Rattle.std.specs.Prelude.{ℕ, Bool, true, false, not, List, [], ◌∷◌, codes, slice_get, slice_index_or, Option, Some, None, option_and_then, option_map}
-use Rattle.std.specs.Option.{option_or}
+use Rattle.std.specs.Prelude.{ℕ, Bool, true, false, cond, ◌&&◌, not, is_some, List, [], ◌∷◌, codes, slice_get, slice_index_or, Option, Some, None, option_and_then, option_map}
+use Rattle.std.specs.Option.{option_map_or, option_or}
+use Rattle.std.specs.List.{list_any}
+use Rattle.aadl_syntax.specs.Name.{is_same_text}
 use Rattle.aadl_syntax.specs.declared.core_model.ConnectionKind.{ConnectionKind}
 use Rattle.aadl_syntax.specs.declared.core_model.ConnectionKind.TheVariants.{Plain, Access, Group}
 use Rattle.package_index.specs.Names.{front, last, only}
-use Rattle.propagation_points.specs.Points.{Point, place_named, side_of}
+use Rattle.propagation_points.specs.Points.{Point, place_named, point_words, side_of}
 use Rattle.propagation_points.specs.Uses.{is_absent}
 use Rattle.instantiator.specs.Components.{component_below}
 use Rattle.instantiator.specs.Whole.{Instance, classifier_at, kind_number}
@@ -53,6 +55,19 @@ abbrev pub access_end : Pointed → ℕ → List (List ℕ) → Option FoundEnd
 access_end pointed number names =
     option_and_then (λ name. option_and_then (λ component. point_of pointed false component (codes "access")) (component_below pointed.instance.components number (name ∷ []))) (only names)
 
+-- whether a name is one of the words that stand for points, whether or not a propagation stands for it
+abbrev pub is_point_word : List ℕ → Bool
+is_point_word name = list_any (λ word. is_same_text word name) point_words
+
+-- whether names are that of a subcomponent alone
+abbrev pub is_subcomponent : Pointed → ℕ → List (List ℕ) → Bool
+is_subcomponent pointed number names = option_map_or (λ name. is_some (component_below pointed.instance.components number (name ∷ []))) (only names) false
+
+-- Whether names are that of a subcomponent alone which is called like a word for a point. No feature and no point of the
+-- component's own can be called so beside it, and so the subcomponent is meant, also where a propagation stands for the word.
+abbrev pub is_called_as_word : Pointed → ℕ → List (List ℕ) → Bool
+is_called_as_word pointed number names = option_map_or is_point_word (only names) false && is_subcomponent pointed number names
+
 -- whether a connection is one of an access
 abbrev pub is_access : ConnectionKind → Bool
 is_access Plain = false
@@ -64,6 +79,12 @@ abbrev pub access_or_none : Bool → Pointed → ℕ → List (List ℕ) → Opt
 access_or_none true pointed number names = access_end pointed number names
 access_or_none false pointed number names = None
 
--- The end of a connection: the component's own point of the name, where there is one, comes before the subcomponent of it.
+-- the end of a connection that is a point of the names, or else what an access connection has besides
+abbrev pub point_or_access : Pointed → ℕ → Bool → List (List ℕ) → Option FoundEnd
+point_or_access pointed number access names = option_or (path_end pointed number names) (access_or_none access pointed number names)
+
+-- The end of a connection: a feature or a point of the component's own comes before a subcomponent of that name, and a
+-- subcomponent before the point of a word.
 abbrev pub connection_end : Pointed → ℕ → Bool → List (List ℕ) → Option FoundEnd
-connection_end pointed number access names = option_or (path_end pointed number names) (access_or_none access pointed number names)
+connection_end pointed number access names =
+    cond (is_called_as_word pointed number names) (access_or_none access pointed number names) (point_or_access pointed number access names)

@@ -1,8 +1,6 @@
 -- What is refused of the links of an instance.
 use Rattle.std.specs.Prelude.{ℕ, ◌+◌, Bool, true, false, cond, ◌&&◌, ◌||◌, not, nat_le, is_some, List, [], ◌∷◌, ◌++◌, length, sum, flat_map, slice_get, Option, Some, None, option_to_list}
 use Rattle.std.specs.Option.{option_map_or, option_or}
-use Rattle.std.specs.List.{list_any}
-use Rattle.aadl_syntax.specs.Name.{is_same_text}
 use Rattle.aadl_syntax.specs.declared.core_model.Connection.{Connection}
 use Rattle.aadl_syntax.specs.declared.core_model.Ends.{Ends}
 use Rattle.aadl_syntax.specs.declared.error_model.UserPath.{UserPath}
@@ -12,24 +10,20 @@ use Rattle.aadl_syntax.specs.declared.refusal.Place.TheVariants.{Words}
 use Rattle.aadl_syntax.specs.declared.refusal.Refusal.{Refusal}
 use Rattle.aadl_syntax.specs.Order.{least}
 use Rattle.package_index.specs.Lookup.{refused_so}
-use Rattle.package_index.specs.Names.{front, last, only}
+use Rattle.package_index.specs.Names.{front, last}
 use Rattle.package_index.specs.Numbered.{numbered_from}
 use Rattle.component_extension.specs.declared.effective.Effective.{Effective}
 use Rattle.component_extension.specs.Items.{Scoped}
 use Rattle.component_extension.specs.Members.{Member}
-use Rattle.propagation_points.specs.Points.{Point, place_named, point_words}
+use Rattle.propagation_points.specs.Points.{Point, place_named}
 use Rattle.instantiator.specs.declared.path.Component.{Component}
 use Rattle.instantiator.specs.Components.{component_below}
 use Rattle.instantiator.specs.Refused.{over}
 use Rattle.instantiator.specs.Whole.{Instance, effective_in}
-use Rattle.propagation_links.specs.Ends.{Pointed, is_access, points_at}
+use Rattle.propagation_links.specs.Ends.{Pointed, is_access, is_called_as_word, is_point_word, is_subcomponent, points_at}
 use Rattle.propagation_links.specs.Links.{ends_of, is_apart}
 
 -- ---- ends
-
--- whether a name is one of the words that stand for points, whether or not a propagation stands for it
-abbrev pub is_point_word : List ℕ → Bool
-is_point_word name = list_any (λ word. is_same_text word name) point_words
 
 -- whether a name is that of a point of a component, or a word
 abbrev pub is_point : Pointed → ℕ → List ℕ → Bool
@@ -40,19 +34,18 @@ abbrev pub means_point : Pointed → ℕ → List (List ℕ) → Bool
 means_point pointed number names =
     option_map_or (λ component. option_map_or (is_point pointed component) (last names) false) (component_below pointed.instance.components number (front names)) false
 
--- whether names are that of a subcomponent alone
-abbrev pub is_subcomponent : Pointed → ℕ → List (List ℕ) → Bool
-is_subcomponent pointed number names =
-    option_map_or (λ name. is_some (component_below pointed.instance.components number (name ∷ []))) (only names) false
-
 -- N14 at an end of a user path that means no point
 abbrev pub path_end_faults : Pointed → ℕ → End → List Refusal
 path_end_faults pointed number end = refused_so (not (means_point pointed number end.names)) UnknownEnd end.spot
 
--- N14 at an end of a connection that means nothing: in an access connection a subcomponent alone means something too
+-- whether an end of a connection means something: a point, or in an access connection a subcomponent alone
+abbrev pub means_end : Pointed → ℕ → Bool → List (List ℕ) → Bool
+means_end pointed number access names =
+    cond (is_called_as_word pointed number names) access (means_point pointed number names || (access && is_subcomponent pointed number names))
+
+-- N14 at an end of a connection that means nothing
 abbrev pub unknown_end : Pointed → ℕ → Bool → End → List Refusal
-unknown_end pointed number access end =
-    refused_so (not (means_point pointed number end.names || (access && is_subcomponent pointed number end.names))) UnknownEnd end.spot
+unknown_end pointed number access end = refused_so (not (means_end pointed number access end.names)) UnknownEnd end.spot
 
 -- P3 at an end of a connection with three names or more, and else N14 unless the connection is apart from the model
 abbrev pub connection_end_faults : Pointed → ℕ → Bool → Bool → End → List Refusal

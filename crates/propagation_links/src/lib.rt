@@ -4,10 +4,12 @@
 mod all;
 mod counted;
 mod ends;
+mod laws;
 mod link;
 mod links;
 mod pointed;
 mod refused;
 
 pub use all::links_of;
+pub use laws::links_join_sides;
 pub use link::{Link, PointAt};

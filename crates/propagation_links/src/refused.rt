@@ -3,11 +3,12 @@ ghost use Rattle.aadl_syntax.specs.Order.{least, nearer};
 ghost use Rattle.aadl_syntax.specs.declared.refusal.Code.TheVariants.{ConnectionError};
 ghost use Rattle.package_index.specs.Lookup.{refused_so};
 ghost use Rattle.propagation_links.specs.Links.{is_apart};
-ghost use Rattle.propagation_links.specs.Refused.{connection_end_faults, connection_faults, ends_faults, faults_in, is_point, is_point_word, is_subcomponent, means_point, path_end_faults, path_faults, unknown_end};
+ghost use Rattle.propagation_links.specs.Refused.{connection_end_faults, connection_faults, ends_faults, faults_in, is_point, means_end, means_point, path_end_faults, path_faults, unknown_end};
 
+use crate::ends::is_point_word;
 use crate::links::{ends_of, is_access, is_apart};
 use crate::pointed::Pointed;
-use aadl_syntax::{Code, Connection, End, Ends, FirstRefusal, Identifier, Spot, UserPath, is_same};
+use aadl_syntax::{Code, Connection, End, Ends, FirstRefusal, Identifier, Spot, UserPath};
 use component_extension::{Effective, InClause, Inherited};
 use package_index::note_if;
 
@@ -92,9 +93,7 @@ fn note_connection_end(
 fn note_unknown(first: &mut FirstRefusal, pointed: &Pointed, number: u32, access: bool, end: &End)
     ensures { first.new ≡ nearer first.old (least (unknown_end pointed.now number access end.now)) }
 {
-    let names = end.names.items();
-    let is_known = pointed.means_point(number, names)
-        || (access && pointed.is_subcomponent(number, names));
+    let is_known = pointed.means_end(number, access, end.names.items());
     note_if(first, !is_known, Code::UnknownEnd, end.spot);
 }
 
@@ -149,11 +148,15 @@ impl<'s, 'i, 'a> Pointed<'s, 'i, 'a> {
         }
     }
 
-    /// Whether names are that of a subcomponent alone.
-    fn is_subcomponent(&self, number: u32, names: &[Identifier]) -> bool
-        ensures { result ≡ is_subcomponent self.now number names.now }
+    /// Whether an end of a connection means something: a point, or in an access connection a subcomponent alone.
+    fn means_end(&self, number: u32, access: bool, names: &[Identifier]) -> bool
+        ensures { result ≡ means_end self.now number access names.now }
     {
-        names.len() == 1 && self.instance().find_below(number, names).is_some()
+        if self.is_called_as_word(number, names) {
+            access
+        } else {
+            self.means_point(number, names) || (access && self.is_subcomponent(number, names))
+        }
     }
 
     fn is_point(&self, component: u32, name: &[u8]) -> bool
@@ -161,16 +164,4 @@ impl<'s, 'i, 'a> Pointed<'s, 'i, 'a> {
     {
         self.place(component, name).is_some() || is_point_word(name)
     }
-}
-
-/// Whether a name is one of the words that stand for points.
-fn is_point_word(name: &[u8]) -> bool
-    ensures { result ≡ is_point_word name.now }
-{
-    is_same(b"processor", name)
-        || is_same(b"memory", name)
-        || is_same(b"connection", name)
-        || is_same(b"binding", name)
-        || is_same(b"bindings", name)
-        || is_same(b"access", name)
 }

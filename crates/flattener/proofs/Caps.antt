@@ -1,0 +1,52 @@
+-- Counts of places, of which one over the limit stands for all that are greater.
+use Rattle.std.proofs.Common.{◌≡◌, ◌⊎◌, inl, inr, ℕ, ◌+◌, ◌<◌, ◌≤◌, Bool, true, false, cond, nat_lt, refl, sym, ap, ◌∙◌, arith}
+use Rattle.std.proofs.lemmas.Bool.{cases_lt, le-ltb, lt-ltb}
+use Rattle.flattener.specs.Flat.{most_places}
+use Rattle.flattener.specs.Tables.{capped}
+
+-- a count is itself, or over the limit
+pub capped_cases : (n : ℕ) → ((n ≤ most_places) × (capped n ≡ n)) ⊎ ((most_places < n) × (capped n ≡ most_places + 1))
+capped_cases n =
+    elim (cases_lt most_places n) [
+      | inl over ↦ inr (over, ap (λ b. cond b (most_places + 1) n) (lt-ltb most_places n over))
+      | inr within ↦ inl (within, ap (λ b. cond b (most_places + 1) n) (le-ltb most_places n within))
+    ]
+
+-- a count over the limit
+pub capped-over : (n : ℕ) → most_places < n → most_places + 1 ≡ capped n
+capped-over n over = sym (ap (λ b. cond b (most_places + 1) n) (lt-ltb most_places n over))
+
+-- a count within it
+pub capped-within : (n : ℕ) → n ≤ most_places → n ≡ capped n
+capped-within n within = sym (ap (λ b. cond b (most_places + 1) n) (le-ltb most_places n within))
+
+pub plus_over : (a b m n : ℕ) → a ≡ capped m → b ≡ capped n → most_places < a + b → most_places + 1 ≡ capped (m + n)
+plus_over a b m n e f over =
+    elim (capped_cases m) [
+      | inl small ↦ elim (capped_cases n) [
+        | inl few ↦ capped-over (m + n) (omega (arith, e ∙ small.1, f ∙ few.1, over))
+        | inr many ↦ capped-over (m + n) (omega (arith, many.0))
+      ]
+      | inr large ↦ capped-over (m + n) (omega (arith, large.0))
+    ]
+
+pub plus_within : (a b m n : ℕ) → a ≡ capped m → b ≡ capped n → a + b ≤ most_places → a + b ≡ capped (m + n)
+plus_within a b m n e f within =
+    elim (capped_cases m) [
+      | inl small ↦ elim (capped_cases n) [
+        | inl few ↦ let is : a + b ≡ m + n = omega (arith, e ∙ small.1, f ∙ few.1) in is ∙ capped-within (m + n) (omega (arith, is, within))
+        | inr many ↦ absurd (omega (arith, f ∙ many.1, within))
+      ]
+      | inr large ↦ absurd (omega (arith, e ∙ large.1, within))
+    ]
+
+-- one place
+pub one-of : (n : ℕ) → n ≡ 1 → 1 ≡ capped n
+one-of n is = ap capped (sym is)
+
+-- two places
+pub two-of : (n : ℕ) → n ≡ 2 → 2 ≡ capped n
+two-of n is = ap capped (sym is)
+
+pub two : 2 ≡ capped 2
+two = refl

@@ -1,0 +1,6 @@
+use Rattle.std.proofs.Common.{◌≡◌, map, take}
+use Rattle.flattener.specs.Formulas.{step_formula}
+use Rattle.flattener.proofs.causes.steps.Given as goal
+
+abbrev pub invariant-loop-step : goal.invariant-loop-step
+invariant-loop-step l = l.formulas ≡ map (step_formula l.site) (map (λ step. step.now) (take l.step-index l.steps))

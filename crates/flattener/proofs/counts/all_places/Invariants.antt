@@ -1,0 +1,8 @@
+use Rattle.std.proofs.Common.{◌≡◌, map, take, sum}
+use Rattle.flattener.specs.Flat.{places}
+use Rattle.flattener.specs.Facts.{meaning_of}
+use Rattle.flattener.specs.Tables.{capped}
+use Rattle.flattener.proofs.counts.all_places.Given as goal
+
+abbrev pub invariant-loop-fact : goal.invariant-loop-fact
+invariant-loop-fact l = l.count ≡ capped (sum (map (λ fact. places (meaning_of l.numbers fact)) (take l.fact-index l.fact-items)))

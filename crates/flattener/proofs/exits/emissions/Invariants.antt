@@ -1,0 +1,6 @@
+use Rattle.std.proofs.Common.{◌≡◌, map, take}
+use Rattle.flattener.specs.Formulas.{emission_formulas}
+use Rattle.flattener.proofs.exits.emissions.Given as goal
+
+abbrev pub invariant-loop-emission : goal.invariant-loop-emission
+invariant-loop-emission l = l.formulas ≡ emission_formulas l.site l.number (map (λ emission. emission.now) (take l.emission-index l.emissions))

@@ -1,0 +1,7 @@
+use Rattle.std.proofs.Common.{◌≡◌, map, take}
+use Rattle.flattener.specs.Formulas.{all_flow_formulas}
+use Rattle.flattener.specs.Tables.{flow_seen}
+use Rattle.flattener.proofs.exits.flows.Given as goal
+
+abbrev pub invariant-loop-place : goal.invariant-loop-place
+invariant-loop-place l = l.formulas ≡ all_flow_formulas l.site l.number (map flow_seen (take l.place-index l.flows))

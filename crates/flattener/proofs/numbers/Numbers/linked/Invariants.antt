@@ -1,0 +1,6 @@
+use Rattle.std.proofs.Common.{◌≡◌, flat_map, take}
+use Rattle.flattener.specs.Facts.{perhaps_at}
+use Rattle.flattener.proofs.numbers.Numbers.linked.Given as goal
+
+abbrev pub invariant-loop-from : goal.invariant-loop-from
+invariant-loop-from l = l.parts ≡ flat_map (perhaps_at l.self l.number) (take l.from-index l.from-items)

@@ -1,0 +1,36 @@
+ghost use Rattle.std.specs.Prelude.{◌≡◌, ◌++◌, ◌∷◌, [], OnOk, cond};
+ghost use Rattle.std.specs.HashMap.{get};
+ghost use Rattle.flattener.specs.Tables.{row_at};
+
+use aadl_syntax::{List, Mem};
+use std::alloc::Global;
+use std::collections::HashMap;
+use std::hash::Hash;
+
+/// Adds a value at the end of the row of a key.
+pub(crate) fn add<K: Eq + Hash + Copy + Drop, V: Drop>(
+    alloc: Global,
+    rows: &mut HashMap<K, List<V>>,
+    key: K,
+    value: V,
+) -> Mem<()>
+    ensures { OnOk result ((other : K) → row_at (get K.eq rows.new other) ≡ row_at (get K.eq rows.old other) ++ cond (K.eq key other) (value ∷ []) []) }
+{
+    let mut row = match rows.remove(&key) {
+        Some(row) => row,
+        None => List::new(alloc),
+    };
+    row.push(value)?;
+    rows.insert(key, row)?;
+    Ok(())
+}
+
+/// The row of a key.
+pub(crate) fn at<'r, K: Eq + Hash + Drop, V>(rows: &'r HashMap<K, List<V>>, key: K) -> &'r [V]
+    ensures { result.now ≡ row_at (get K.eq rows.now key) }
+{
+    match rows.get(&key) {
+        Some(row) => row.items(),
+        None => &[],
+    }
+}

@@ -1,0 +1,9 @@
+use Rattle.std.proofs.Common.{map, take}
+use Rattle.package_index.specs.Numbered.{numbered_from}
+use Rattle.model_facts.specs.Facts.{event_in, source_events}
+use Rattle.model_facts.specs.Limits.{most_events}
+use Rattle.model_facts.specs.Steps.{Grows}
+use Rattle.model_facts.proofs.event_list.add_sources.Given as goal
+
+abbrev pub invariant-loop-number : goal.invariant-loop-number
+invariant-loop-number l = Grows most_events l.fn.events l.events (numbered_from (λ number flow. map (event_in l.owner) (source_events number flow)) 0 (take l.number l.flows))

@@ -1,0 +1,9 @@
+use Rattle.std.proofs.Common.{[], take}
+use Rattle.package_index.specs.Numbered.{numbered_from}
+use Rattle.model_facts.specs.Facts.{component_events}
+use Rattle.model_facts.specs.Limits.{most_events}
+use Rattle.model_facts.specs.Steps.{Grows}
+use Rattle.model_facts.proofs.event_list.events_with.Given as goal
+
+abbrev pub invariant-loop-number : goal.invariant-loop-number
+invariant-loop-number l = Grows most_events [] l.events (numbered_from (component_events l.assembly) 0 (take l.number l.assembly.instance.components))

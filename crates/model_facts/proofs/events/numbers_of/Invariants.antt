@@ -1,0 +1,8 @@
+use Rattle.std.proofs.Common.{take}
+use Rattle.std.specs.HashMap.{get}
+use Rattle.package_index.specs.Tables.{Knows}
+use Rattle.model_facts.specs.Facts.{same_event}
+use Rattle.model_facts.proofs.events.numbers_of.Given as goal
+
+abbrev pub invariant-loop-number : goal.invariant-loop-number
+invariant-loop-number l = Knows same_event (take l.number l.events) (get same_event l.numbers)
