@@ -5,7 +5,7 @@ mod Writes
 mod Inputs
 mod Lacking
 mod Grammars
-mod Forms
+mod Models
 mod OneDue
 mod Prints
 mod Ran

@@ -1,29 +1,30 @@
 -- One end at most is due for the words and the contents, where these are told.
-use Rattle.std.proofs.Common.{◌≡◌, ℕ, List, [], ◌∷◌, Option, Some, None, IsSome, IfSome, Result, refl, sym, ap, subst, ◌∙◌, inl}
+use Rattle.std.proofs.Common.{◌≡◌, ℕ, List, [], ◌∷◌, Option, Some, None, IsSome, IfSome, Result, refl, sym, ap, ◌∙◌, inl}
 use Rattle.std.specs.List.{AllByRecursion}
 use Rattle.std.proofs.lemmas.Bool.{false≢true}
 use Rattle.aadl_syntax.specs.declared.name.Root.{Root}
-use Rattle.fault_system.specs.Systems.{System, IsSystem}
+use Rattle.package_index.specs.Lookup.{packages_of}
+use Rattle.fault_system.specs.Systems.{System}
+use Rattle.aadl_syntax.specs.declared.core_model.Unit.{Unit as FileUnit}
 use Rattle.fault_system.specs.Listings.{IsListing}
 use Rattle.fault_system.proofs.Elements.{In-contains, contains_In}
 use Rattle.fault_system.proofs.Orders.{one_order}
 use Rattle.backward_slice.specs.Slices.{HasLargeSlice, IsServed}
 use Rattle.backward_slice.proofs.OneSlice.{one_large, one_served, served_or_large}
-use Rattle.first_form.proofs.MadeSystem.{system_is_one}
-use Rattle.phases.specs.Phases.{Passed, IsDecided, IsDue, IsSameEnd}
+use Rattle.model_phases.proofs.Decided.{model_decided}
+use Rattle.phases.specs.Phases.{IsDecided, IsDue, IsSameEnd}
 use Rattle.phases.specs.declared.status.Status.{Status}
-use Rattle.phases.specs.declared.status.Status.TheVariants.{Usage, NotYet, Refused}
+use Rattle.phases.specs.declared.status.Status.TheVariants.{Usage, Refused}
 use Rattle.phases.proofs.Leaves.{decided_answers, decided_computes, decided_finds, decided_rejects, decided_accepts, decided_tests}
 use Rattle.phases.proofs.Decided as decided
 use Rattle.fta_run.specs.Words.{Check, Command, Cuts, IsCommand, files_of}
 use Rattle.fta_run.specs.Files.{AreTokens, AreUnits, HasTooLong, HasTooMuch, LacksTokens, LacksUnits, MayContain, NamesTooMany}
-use Rattle.fta_run.specs.Model.{AreOfForm, HasDuplicate, HasFault, HasManyTypes, IsFactNamed, LacksTarget, root_named}
-use Rattle.fta_run.specs.Due.{command_text, cuts_text, due, system_at, system_in, texts_of, units_of}
+use Rattle.fta_run.specs.Model.{HasDuplicate, IsFactNamed, LacksTarget, root_named}
+use Rattle.fta_run.specs.Due.{command_text, cuts_text, due, model_of_files, model_of_texts, model_of_units, texts_of, units_of}
 use Rattle.fta_run.specs.Answers.{AllTold, IsOutput, IsSameStatus}
 use Rattle.fta_run.proofs.Roots.{one_command}
 use Rattle.fta_run.proofs.Lacking.{clear_tokens, one_tokens}
 use Rattle.fta_run.proofs.Grammars.{lacks_once, lacks_or_have, one_units}
-use Rattle.fta_run.proofs.Forms.{one_form_of, one_number}
 
 itself : (status : Status) → IsSameStatus status status
 itself status = inl refl
@@ -57,44 +58,35 @@ units_decided texts = (
   λ tokens are. decided_rejects IsSameStatus (AreUnits tokens) (LacksUnits texts tokens) (one_units tokens) (λ files refusal have lacks. lacks_or_have texts tokens files refusal have lacks) (lacks_once texts tokens),
 )
 
-system_decided : (root : Root) (texts : List (List ℕ)) → IsDecided IsSameStatus (system_at root texts)
-system_decided root texts = (
-  units_decided texts,
-  λ files have. (
-    (
-      decided_tests IsSameStatus itself (HasDuplicate files),
-      λ _ clear. (decided_computes IsSameStatus itself (root_named files root), λ id named. (decided_tests IsSameStatus itself (HasFault files id), λ _ right. decided_tests IsSameStatus itself (HasManyTypes files))),
-    ),
-    λ _ at. (decided_finds IsSameStatus itself (AreOfForm files) NotYet (one_form_of files), λ form is. tt),
-  ),
+units_model_decided : (root : Root) (files : List (List FileUnit)) → IsDecided IsSameStatus (model_of_units root files)
+units_model_decided root files = (
+  decided_tests IsSameStatus itself (HasDuplicate files),
+  λ _ clear. (decided_computes IsSameStatus itself (root_named files root), λ id named. model_decided IsSameStatus itself (packages_of files) id),
 )
+
+texts_model_decided : (root : Root) (texts : List (List ℕ)) → IsDecided IsSameStatus (model_of_texts root texts)
+texts_model_decided root texts = (units_decided texts, λ files have. units_model_decided root files)
 
 one_listing : (system : System) (target : ℕ) (a b : List (List ℕ)) → IsListing system target None a → IsListing system target None b → a ≡ b
 one_listing system target a b one other =
     one_order a b one.ordered other.ordered (λ set i. In-contains set b ((other.exact set).1 ((one.exact set).0 (contains_In set a i))))
     (λ set i. In-contains set a ((one.exact set).1 ((other.exact set).0 (contains_In set b i))))
 
-cuts_decided : (target : List ℕ) (system : System) → IsSystem system → IsDecided IsSameStatus (cuts_text target system)
-cuts_decided target system right = (
-  decided_answers IsSameStatus itself (IsFactNamed system target) (LacksTarget system target) (λ m n h k. one_number system m n target right.facts_named h k) (λ number refusal named lacks. lacks.0 number named),
+cuts_decided : (target : List ℕ) (system : System) → IsDecided IsSameStatus (cuts_text target system)
+cuts_decided target system = (
+  decided_answers IsSameStatus itself (IsFactNamed system target) (LacksTarget system target) (λ m n h k. k.alone m h.has) (λ number refusal named lacks. lacks.0 number named.has),
   λ number named. (
     decided_rejects IsSameStatus (IsServed system number) (HasLargeSlice system number) (one_served system number) (λ slice refusal served large. served_or_large system number slice refusal served large) (λ a b x y. inl (ap Refused (one_large system number a b x y))),
     λ slice served. (decided_accepts IsSameStatus (IsListing system number None) (one_listing system number), λ sets are. tt),
   ),
 )
 
--- the system of a root is one
-is_system : (root : Root) (texts : List (List ℕ)) (system : System) → Passed (system_at root texts) system → IsSystem system
-is_system root texts system at =
-    let form = at.2.2 in
-    subst IsSystem (sym form.2) (system_is_one form.0.machine form.1.form_is.right)
-
-system_in_decided : (contents : List ℕ → Option (List ℕ)) (root : Root) (files : List (List ℕ)) → AllByRecursion (λ file. IsSome (contents file)) files → IsDecided IsSameStatus (system_in contents root files)
-system_in_decided contents root files told = (texts_decided contents files told, λ texts are. system_decided root texts)
+files_model_decided : (contents : List ℕ → Option (List ℕ)) (root : Root) (files : List (List ℕ)) → AllByRecursion (λ file. IsSome (contents file)) files → IsDecided IsSameStatus (model_of_files contents root files)
+files_model_decided contents root files told = (texts_decided contents files told, λ texts are. texts_model_decided root texts)
 
 command_decided : (contents : List ℕ → Option (List ℕ)) (command : Command) → AllByRecursion (λ file. IsSome (contents file)) (files_of command) → IsDecided IsSameStatus (command_text contents command)
-command_decided contents (Check root files) told = (system_in_decided contents root files told, λ system at. tt)
-command_decided contents (Cuts root target files) told = (system_in_decided contents root files told, λ system at. cuts_decided target system (is_system root at.0 system at.2))
+command_decided contents (Check root files) told = (files_model_decided contents root files told, λ model at. tt)
+command_decided contents (Cuts root target files) told = (files_model_decided contents root files told, λ model at. cuts_decided target model.system)
 
 due_decided : (words : List (List ℕ)) (contents : List ℕ → Option (List ℕ)) → AllTold words contents → IsDecided IsSameStatus (due words contents)
 due_decided words contents told = (decided_finds IsSameStatus itself (IsCommand words) Usage (one_command words), λ command is. command_decided contents command (told command is))

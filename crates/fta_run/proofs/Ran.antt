@@ -6,18 +6,18 @@ use Rattle.aadl_syntax.specs.declared.refusal.Code.TheVariants.{TooManyFiles}
 use Rattle.aadl_syntax.specs.declared.refusal.Refusal.{Refusal}
 use Rattle.aadl_syntax.specs.Order.{IsFirst}
 use Rattle.aadl_syntax.specs.declared.name.Root.{Root}
-use Rattle.phases.specs.Meets.{IsMemory, Meets, MeetsBut}
 use Rattle.phases.specs.Phases.{Phase, Passes, Stops, chains, finds, IsDue, IsRefusal, IsSameEnd}
 use Rattle.phases.specs.declared.status.Status.{Status}
-use Rattle.phases.specs.declared.status.Status.TheVariants.{Done, Usage, Refused, ReadFault, WriteFault, Memory, NotYet}
+use Rattle.phases.specs.declared.status.Status.TheVariants.{Done, Usage, Refused, ReadFault, WriteFault, Memory}
 use Rattle.phases.proofs.Endings.{StopsOnly, stops_only}
-use Rattle.phases.proofs.Steps.{◌beyond◌, ◌passes◌}
 use Rattle.fault_system.specs.Systems.{System}
+use Rattle.package_index.specs.Lookup.{packages_of}
+use Rattle.model_phases.proofs.Decided.{IsARefusal, model_stops}
 use Rattle.backward_slice.specs.Slices.{HasLargeSlice}
 use Rattle.fta_run.specs.Words.{Check, Command, Cuts, files_of, GiveCommand, GiveNoCommand, IsCommand, file_words}
 use Rattle.fta_run.specs.Files.{HasTooLong, HasTooMuch, LacksTokens, LacksUnits, NamesTooMany, most_files, of_words}
-use Rattle.fta_run.specs.Model.{HasDuplicate, HasFault, HasManyTypes, LacksTarget, root_named}
-use Rattle.fta_run.specs.Due.{command_text, cuts_text, due, system_at, system_in, texts_of}
+use Rattle.fta_run.specs.Model.{HasDuplicate, LacksTarget, root_named}
+use Rattle.fta_run.specs.Due.{command_text, cuts_text, due, model_of_files, model_of_texts, texts_of}
 use Rattle.fta_run.specs.Answers.{AllTold, AnswersWords, IsJustified, IsManyAnswer, IsSameStatus, MayCome}
 use Rattle.fta_run.specs.Steps.{IsReadEnd, Prints, Runs, RunsBut, ended}
 use Rattle.fta_run.proofs.Prints.{prints_on}
@@ -26,50 +26,43 @@ use Rattle.fta_run.proofs.OneDue.{one_due}
 
 -- ---- how the phases stop
 
--- a refusal, or what is not served
-abbrev Later : Status → Type 0
-Later status = ((refusal : Refusal) × (status ≡ Refused refusal)) ⊎ (status ≡ NotYet)
+refusal_is : (Why : Refusal → Type 0) (s : Status) → IsRefusal Why s → IsARefusal s
+refusal_is Why s is = (is.0, is.2)
 
-refusal_later : (Why : Refusal → Type 0) (s : Status) → IsRefusal Why s → Later s
-refusal_later Why s is = inl (is.0, is.2)
+cuts_stop : (target : List ℕ) (system : System) → StopsOnly IsARefusal (cuts_text target system)
+cuts_stop target system = (refusal_is (IsFirst (LacksTarget system target)), λ number named. (refusal_is (HasLargeSlice system number), λ slice served. ((λ s none. absurd none), λ sets are. tt)))
 
-cuts_later : (target : List ℕ) (system : System) → StopsOnly Later (cuts_text target system)
-cuts_later target system = (refusal_later (IsFirst (LacksTarget system target)), λ number named. (refusal_later (HasLargeSlice system number), λ slice served. ((λ s none. absurd none), λ sets are. tt)))
-
-texts_later : (contents : List ℕ → Option (List ℕ)) (files : List (List ℕ)) → StopsOnly Later (texts_of contents files)
-texts_later contents files = (
-  refusal_later (IsFirst (NamesTooMany files)),
-  λ _ few. ((λ s none. absurd none), λ texts are. (refusal_later (IsFirst (HasTooLong texts)), λ _ short. (refusal_later (IsFirst (HasTooMuch texts)), λ _ little. tt))),
+texts_stop : (contents : List ℕ → Option (List ℕ)) (files : List (List ℕ)) → StopsOnly IsARefusal (texts_of contents files)
+texts_stop contents files = (
+  refusal_is (IsFirst (NamesTooMany files)),
+  λ _ few. ((λ s none. absurd none), λ texts are. (refusal_is (IsFirst (HasTooLong texts)), λ _ short. (refusal_is (IsFirst (HasTooMuch texts)), λ _ little. tt))),
 )
 
-system_later : (root : Root) (texts : List (List ℕ)) → StopsOnly Later (system_at root texts)
-system_later root texts = (
-  (refusal_later (IsFirst (LacksTokens texts)), λ tokens are. refusal_later (LacksUnits texts tokens)),
+texts_model_stops : (root : Root) (texts : List (List ℕ)) → StopsOnly IsARefusal (model_of_texts root texts)
+texts_model_stops root texts = (
+  (refusal_is (IsFirst (LacksTokens texts)), λ tokens are. refusal_is (LacksUnits texts tokens)),
   λ files have. (
-    (
-      refusal_later (IsFirst (HasDuplicate files)),
-      λ _ clear. (refusal_later (λ refusal. root_named files root ≡ Err refusal), λ id named. (refusal_later (IsFirst (HasFault files id)), λ _ right. refusal_later (IsFirst (HasManyTypes files)))),
-    ),
-    λ _ at. ((λ s none. inr none.0), λ form is. tt),
+    refusal_is (IsFirst (HasDuplicate files)),
+    λ _ clear. (refusal_is (λ refusal. root_named files root ≡ Err refusal), λ id named. model_stops (packages_of files) id),
   ),
 )
 
-system_in_later : (contents : List ℕ → Option (List ℕ)) (root : Root) (files : List (List ℕ)) → StopsOnly Later (system_in contents root files)
-system_in_later contents root files = (texts_later contents files, λ texts read. system_later root texts)
+files_model_stops : (contents : List ℕ → Option (List ℕ)) (root : Root) (files : List (List ℕ)) → StopsOnly IsARefusal (model_of_files contents root files)
+files_model_stops contents root files = (texts_stop contents files, λ texts read. texts_model_stops root texts)
 
-command_later : (contents : List ℕ → Option (List ℕ)) (command : Command) → StopsOnly Later (command_text contents command)
-command_later contents (Check root files) = (system_in_later contents root files, λ system at. tt)
-command_later contents (Cuts root target files) = (system_in_later contents root files, λ system at. cuts_later target system)
+command_stops : (contents : List ℕ → Option (List ℕ)) (command : Command) → StopsOnly IsARefusal (command_text contents command)
+command_stops contents (Check root files) = (files_model_stops contents root files, λ model at. tt)
+command_stops contents (Cuts root target files) = (files_model_stops contents root files, λ model at. cuts_stop target model.system)
 
--- Usage without a command; or there is one, and a later phase stops
+-- Usage without a command; or there is one, and a refusal
 abbrev Kind : List (List ℕ) → Status → Type 0
-Kind words status = ((status ≡ Usage) × GiveNoCommand words) ⊎ (GiveCommand words × Later status)
+Kind words status = ((status ≡ Usage) × GiveNoCommand words) ⊎ (GiveCommand words × IsARefusal status)
 
 kind_of : (words : List (List ℕ)) (contents : List ℕ → Option (List ℕ)) (s : Status) → Stops (due words contents) s → Kind words s
 kind_of words contents s stops =
     elim stops.stopped [
       | inl none ↦ inl none
-      | inr there ↦ inr ((there.0, there.1), stops_only Later (command_text contents there.0) (command_later contents there.0) s there.2)
+      | inr there ↦ inr ((there.0, there.1), stops_only IsARefusal (command_text contents there.0) (command_stops contents there.0) s there.2)
     ]
 
 -- ---- the words
@@ -78,10 +71,7 @@ words_of_kind : (words : List (List ℕ)) (s : Status) → Kind words s → Answ
 words_of_kind words s kind =
     elim kind [
       | inl none ↦ subst (λ x. AnswersWords x words) (sym none.0) none.1
-      | inr some ↦ elim some.1 [
-        | inl refused ↦ subst (λ x. AnswersWords x words) (sym refused.1) some.0
-        | inr not_yet ↦ subst (λ x. AnswersWords x words) (sym not_yet) some.0
-      ]
+      | inr some ↦ subst (λ x. AnswersWords x words) (sym some.1.1) some.0
     ]
 
 module _ (words : List (List ℕ)) (contents : List ℕ → Option (List ℕ)) (read_before read_after : List ℕ → ℕ) (t u : Option (List ℕ)) (f g : ℕ) where
@@ -111,7 +101,6 @@ module _ (words : List (List ℕ)) (contents : List ℕ → Option (List ℕ)) (
   justified (ReadFault file) stops = tt
   justified WriteFault stops = tt
   justified Memory stops = tt
-  justified NotYet stops = stops
 
   pub ran_verdict : {T : Type 0} (result : Result T Status) → Runs words contents read_before read_after result t u f g → IsJustified words contents (ended result)
   ran_verdict (Ok _) took = tt
@@ -143,10 +132,6 @@ usage_is_due : (a : Result (List ℕ) Status) → IsSameEnd IsSameStatus a (Err 
 usage_is_due (Ok x) same = absurd same
 usage_is_due (Err a) same = ap (λ (s : Status). Err s) (same_as a Usage (λ refusal is. cc (is)) same)
 
-not_yet_is_due : (a : Result (List ℕ) Status) → IsSameEnd IsSameStatus a (Err NotYet) → a ≡ Err NotYet
-not_yet_is_due (Ok x) same = absurd same
-not_yet_is_due (Err a) same = ap (λ (s : Status). Err s) (same_as a NotYet (λ refusal is. cc (is)) same)
-
 refusal_is_due : (a : Result (List ℕ) Status) (refusal : Refusal) → IsSameEnd IsSameStatus a (Err (Refused refusal)) → IsErrAnd a (λ status. IsSameStatus status (Refused refusal))
 refusal_is_due (Ok x) refusal same = absurd same
 refusal_is_due (Err a) refusal same = same
@@ -155,10 +140,7 @@ came_of_kind : (words : List (List ℕ)) (a : Result (List ℕ) Status) (s : Sta
 came_of_kind words a s kind same =
     elim kind [
       | inl none ↦ subst (MayCome a) (sym none.0) (usage_is_due a (subst (λ x. IsSameEnd IsSameStatus a (Err x)) none.0 same))
-      | inr some ↦ elim some.1 [
-        | inl refused ↦ subst (MayCome a) (sym refused.1) (refusal_is_due a refused.0 (subst (λ x. IsSameEnd IsSameStatus a (Err x)) refused.1 same))
-        | inr not_yet ↦ subst (MayCome a) (sym not_yet) (not_yet_is_due a (subst (λ x. IsSameEnd IsSameStatus a (Err x)) not_yet same))
-      ]
+      | inr some ↦ subst (MayCome a) (sym some.1.1) (refusal_is_due a some.1.0 (subst (λ x. IsSameEnd IsSameStatus a (Err x)) some.1.1 same))
     ]
 
 pub ran_complete : {T : Type 0} (words : List (List ℕ)) (contents : List ℕ → Option (List ℕ)) (read_before read_after : List ℕ → ℕ) (t u : Option (List ℕ)) (f g : ℕ) (result : Result T Status) → Runs words contents read_before read_after result t u f g → AllTold words contents → (a : Result (List ℕ) Status) → IsDue (due words contents) a → MayCome a (ended result)
@@ -192,11 +174,6 @@ pub ran_stopped : {A T : Type 0} (Excuse : Status → Type 0) (first : Phase A) 
 ran_stopped Excuse first later t f result s is end =
     let p = err_from_is_err_and result is in
     rw (p.1, p.2) (elim end [ inl stops ↦ inl (inl (record { stopped = inl stops.stopped }, refl)) | inr excused ↦ inr (excused, refl) ])
-
--- a later phase is met after a first one that passes; want of memory is excused
-pub meets_later : {A B : Type 0} (Excuse : Status → Type 0) (first : Phase A) (later : A → Phase B) (x : A) (result : Result B Status) → ((s : Status) → IsMemory s → Excuse s) → Passes first x → Meets (later x) result → MeetsBut Excuse (λ v. v) (chains first later) result
-meets_later Excuse first later x (Ok v) wanting given met = given passes met
-meets_later Excuse first later x (Err s) wanting given end = elim end [ inl stops ↦ given beyond (inl stops) | inr memory ↦ inr (wanting s memory) ]
 
 -- the words give a command, and its text was written, or not
 pub ran : {T : Type 0} (words : List (List ℕ)) (contents : List ℕ → Option (List ℕ)) (read_before read_after : List ℕ → ℕ) (t u : Option (List ℕ)) (f g : ℕ) (result : Result T Status) (command : Command) → Passes (finds (IsCommand words) Usage) command

@@ -5,7 +5,7 @@ use Rattle.aadl_syntax.specs.declared.refusal.Code.TheVariants.{TooManyFiles}
 use Rattle.aadl_syntax.specs.declared.refusal.Refusal.{Refusal}
 use Rattle.phases.specs.Phases.{Passes, Stops}
 use Rattle.phases.specs.declared.status.Status.{Status}
-use Rattle.phases.specs.declared.status.Status.TheVariants.{Done, Usage, Refused, ReadFault, WriteFault, Memory, NotYet}
+use Rattle.phases.specs.declared.status.Status.TheVariants.{Done, Usage, Refused, ReadFault, WriteFault, Memory}
 use Rattle.grammar_rules.specs.Texts.{syntax_error}
 use Rattle.fta_outside.specs.Outside.{Rose, TookPrefix, with_bytes}
 use Rattle.fta_run.specs.Words.{Command, files_of, GiveCommand, GiveNoCommand, IsCommand, file_words}
@@ -21,10 +21,6 @@ IsOutput words contents text = Passes (due words contents) text
 -- The refusal with which the phases stop.
 abbrev pub IsVerdict : List (List ℕ) → (List ℕ → Option (List ℕ)) → Refusal → Type 0
 IsVerdict words contents refusal = Stops (due words contents) (Refused refusal)
-
--- The texts are of no served form, and no earlier phase stops.
-abbrev pub IsNotServed : List (List ℕ) → (List ℕ → Option (List ℕ)) → Type 0
-IsNotServed words contents = Stops (due words contents) NotYet
 
 -- What each file of the command contains is told; so too where the words give no command.
 abbrev pub AllTold : List (List ℕ) → (List ℕ → Option (List ℕ)) → Type 0
@@ -43,7 +39,6 @@ MayCome its_due (Refused refusal) = IsErrAnd its_due (λ status. IsSameStatus st
 MayCome its_due (ReadFault file) = Unit {0}
 MayCome its_due WriteFault = IsOk its_due
 MayCome its_due Memory = Unit {0}
-MayCome its_due NotYet = its_due ≡ Err NotYet
 
 -- ---- what came
 
@@ -55,9 +50,8 @@ AnswersWords (Refused refusal) words = GiveCommand words
 AnswersWords (ReadFault file) words = GiveCommand words
 AnswersWords WriteFault words = GiveCommand words
 AnswersWords Memory words = Unit {0}
-AnswersWords NotYet words = GiveCommand words
 
--- A refusal is the verdict, and what is not served is of no served form and has no earlier refusal.
+-- A refusal is the verdict.
 abbrev pub IsJustified : List (List ℕ) → (List ℕ → Option (List ℕ)) → Status → Type 0
 IsJustified words contents Done = Unit {0}
 IsJustified words contents Usage = Unit {0}
@@ -65,7 +59,6 @@ IsJustified words contents (Refused refusal) = IsVerdict words contents refusal
 IsJustified words contents (ReadFault file) = Unit {0}
 IsJustified words contents WriteFault = Unit {0}
 IsJustified words contents Memory = Unit {0}
-IsJustified words contents NotYet = IsNotServed words contents
 
 -- A sink took a text of this sort after what it took before.
 abbrev pub TookText : (List ℕ → Type 0) → Option (List ℕ) → Option (List ℕ) → Type 0
@@ -84,7 +77,6 @@ Took IsText (Refused refusal) before after = after ≡ before
 Took IsText (ReadFault file) before after = after ≡ before
 Took IsText WriteFault before after = TookFront IsText before after
 Took IsText Memory before after = (after ≡ before) ⊎ TookFront IsText before after
-Took IsText NotYet before after = after ≡ before
 
 -- A fault comes only where its count rose: that of the name of the file word, of which there are not too many, or that of
 -- the output.
@@ -96,7 +88,6 @@ IsCaused (ReadFault file) words before after out_before out_after =
     (length (file_words words) ≤ most_files) × (name : List ℕ) × (slice_get (file_words words) file ≡ Some name) × Rose (before name) (after name)
 IsCaused WriteFault words before after out_before out_after = Rose out_before out_after
 IsCaused Memory words before after out_before out_after = Unit {0}
-IsCaused NotYet words before after out_before out_after = Unit {0}
 
 -- What may come where too many files are named: that refusal, no command, or want of memory.
 abbrev pub IsManyAnswer : Status → Type 0
@@ -106,4 +97,3 @@ IsManyAnswer (Refused refusal) = refusal ≡ of_words TooManyFiles most_files
 IsManyAnswer (ReadFault file) = ⊥
 IsManyAnswer WriteFault = ⊥
 IsManyAnswer Memory = Unit {0}
-IsManyAnswer NotYet = ⊥

@@ -6,7 +6,7 @@ use Rattle.aadl_syntax.specs.declared.refusal.Refusal.{Refusal}
 use Rattle.aadl_syntax.specs.Refusal.{code_text}
 use Rattle.fta_outside.specs.Outside.{Rose, TookPrefix, with_bytes}
 use Rattle.phases.specs.declared.status.Status.{Status}
-use Rattle.phases.specs.declared.status.Status.TheVariants.{Done, Usage, Refused, ReadFault, WriteFault, Memory, NotYet}
+use Rattle.phases.specs.declared.status.Status.TheVariants.{Done, Usage, Refused, ReadFault, WriteFault, Memory}
 
 -- the file word of a number, as it was written
 abbrev pub file_word : List (List ℕ) → ℕ → List ℕ
@@ -34,7 +34,6 @@ status_text files (Refused refusal) = refusal_text files refusal
 status_text files (ReadFault file) = codes "cannot read " ++ file_word files file
 status_text files WriteFault = codes "cannot write"
 status_text files Memory = codes "out of memory"
-status_text files NotYet = codes "not yet"
 
 -- the line of a status, where these files are named; none where all went well
 abbrev pub status_line : List (List ℕ) → Status → List ℕ

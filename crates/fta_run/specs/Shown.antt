@@ -1,5 +1,4 @@
 -- What values of the code stand for.
-use Rattle.first_form.specs.declared.form.FirstForm.{FirstForm}
 use Rattle.fta_run.specs.declared.words.Command.{Command as CommandInCode}
 use Rattle.fta_run.specs.declared.words.Command.TheVariants as in_code
 use Rattle.phases.specs.declared.status.Status.{Status}
@@ -7,16 +6,11 @@ use Rattle.phases.specs.declared.status.Status.TheVariants as status
 use Rattle.fta_run.specs.declared.text.WriteStop.{WriteStop}
 use Rattle.fta_run.specs.declared.text.WriteStop.TheVariants.{Failed, Memory}
 use Rattle.fta_run.specs.Words.{Command, Check, Cuts}
-use Rattle.fta_run.specs.Model.{Form}
 
 -- a command
 abbrev pub command_shown : CommandInCode → Command
 command_shown (in_code.Check root files) = Check root files.now
 command_shown (in_code.Cuts root target files) = Cuts root target files.now
-
--- the form of units
-abbrev pub form_shown : FirstForm → Form
-form_shown form = record { package_name = form.package_name.now; machine = form.machine.now; classifier = form.classifier.now }
 
 -- how a write stopped
 abbrev pub status_shown : WriteStop → Status

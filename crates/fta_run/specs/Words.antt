@@ -36,9 +36,9 @@ pub record IsRoot (text : List ℕ) (root : Root) : Type 0 where
 
 -- what the words ask for
 pub data Command : Type 0 where
-  -- the numbers of the system of a root, which stands in files of these names
+  -- the numbers of the model of a root, which stands in files of these names
   Check : Root → List (List ℕ) → Command
-  -- the minimal cut sets of the fact of a name in such a system
+  -- the minimal cut sets of the fact of a name in such a model
   Cuts : Root → List ℕ → List (List ℕ) → Command
 
 -- the names of the files of a command

@@ -8,7 +8,7 @@ ghost use Rattle.aadl_syntax.specs.declared.refusal.Code.TheVariants.{TooManyFil
 ghost use Rattle.fta_run.specs.Shown.{command_shown};
 ghost use Rattle.fta_run.specs.Line.{status_line};
 ghost use Rattle.fta_run.specs.Answers.{AllTold, AnswersWords, IsCaused, IsJustified, IsManyAnswer, IsOutput, MayCome, Took};
-ghost use Rattle.fta_run.specs.Due.{check_text, command_text, cuts_text, due, system_in};
+ghost use Rattle.fta_run.specs.Due.{check_text, command_text, cuts_text, due, model_of_files};
 ghost use Rattle.fta_run.specs.Files.{most_files, of_words};
 ghost use Rattle.fta_run.specs.Words.{Check, Cuts, GiveNoCommand, file_words, files_of};
 ghost use Rattle.fta_run.specs.Steps.{IsReadEnd, Prints, Runs, RunsBut, ended};
@@ -16,18 +16,19 @@ ghost use Rattle.fta_run.specs.Steps.{IsReadEnd, Prints, Runs, RunsBut, ended};
 use crate::cut_sets::{find_slice, minimal_cut_sets};
 use crate::input::read_texts;
 use crate::line::write_line;
-use crate::model::{find_target, system_at};
+use crate::model::{find_target, model_of_texts};
 use crate::text::{write_listing, write_numbers};
 use crate::words::{Command, command_of, file_words};
 use aadl_syntax::{Name, Root, Word};
 use fault_system::FaultSystem;
 use fta_outside::{Files, Sink};
+use model_phases::FlatModel;
 use phases::Status;
 use std::alloc::Global;
 
 /// Runs the command that the words give, and says how it ended.
 ///
-/// `check ROOT FILE..` writes the numbers of components, facts and events of the system that the files describe, and
+/// `check ROOT FILE..` writes the numbers of components, facts and events of the model of a root in the files, and
 /// `cuts ROOT TARGET FILE..` the minimal cut sets of a fact in it. Under every status but Done one line is written to `err`;
 /// a fault of `err` changes nothing.
 pub fn run<F: Files, S: Sink, E: Sink>(
@@ -40,8 +41,7 @@ pub fn run<F: Files, S: Sink, E: Sink>(
     // Usage comes exactly where the words give no command.
     ensures words { AnswersWords result words.now }
 
-    // A refusal is the verdict on texts that the files may contain, and NotYet comes only where such texts are not served and
-    // no earlier phase stops.
+    // A refusal is the verdict on texts that the files may contain.
     ensures verdict { IsJustified words.now (F.contents files.old) result }
 
     // Under Done `out` took the text of the command on texts that the files may contain, and else at most a front of it.
@@ -125,7 +125,7 @@ fn write_command<F: Files, S: Sink>(
     }
 }
 
-/// Writes the numbers of the system of a root.
+/// Writes the numbers of the model of a root.
 fn check<F: Files, S: Sink>(
     alloc: Global,
     root: &Root,
@@ -137,11 +137,11 @@ fn check<F: Files, S: Sink>(
     ensures too_many { most_files < length names.now → files.new ≡ files.old }
     ensures many { most_files < length names.now → IsManyAnswer (ended result) }
 {
-    let system = read_system(alloc, root, names, files)?;
-    write_check(alloc, &system, out)
+    let model = read_model(alloc, root, names, files)?;
+    write_check(alloc, &model, out)
 }
 
-/// Writes the listing of a target in the system of a root.
+/// Writes the listing of a target in the model of a root.
 fn cuts<F: Files, S: Sink>(
     alloc: Global,
     root: &Root,
@@ -154,30 +154,30 @@ fn cuts<F: Files, S: Sink>(
     ensures too_many { most_files < length names.now → files.new ≡ files.old }
     ensures many { most_files < length names.now → IsManyAnswer (ended result) }
 {
-    let system = read_system(alloc, root, names, files)?;
-    write_cuts(alloc, &system, target, out)
+    let model = read_model(alloc, root, names, files)?;
+    write_cuts(alloc, &model.system, target, out)
 }
 
-/// The system of a root in the files of these names.
-fn read_system<F: Files>(
+/// The model of a root in the files of these names.
+fn read_model<F: Files>(
     alloc: Global,
     root: &Root,
     names: &[Word],
     files: &mut F,
-) -> Result<FaultSystem, Status>
-    ensures meets { MeetsBut (IsReadEnd names.now (F.faults files.old) (F.faults files.new)) (λ system. system) (system_in (F.contents files.old) root.now names.now) result }
+) -> Result<FlatModel, Status>
+    ensures meets { MeetsBut (IsReadEnd names.now (F.faults files.old) (F.faults files.new)) (λ model. model) (model_of_files (F.contents files.old) root.now names.now) result }
     ensures unread { most_files < length names.now → files.new ≡ files.old }
     ensures many { most_files < length names.now → result ≡ Err (Refused (of_words TooManyFiles most_files)) }
 {
     let texts = read_texts(alloc, files, names)?;
-    system_at(alloc, root, &texts)
+    model_of_texts(alloc, root, &texts)
 }
 
-/// Writes the numbers of a system.
-fn write_check<S: Sink>(alloc: Global, system: &FaultSystem, out: &mut S) -> Result<(), Status>
-    ensures { Prints (check_text system.now) result (S.taken out.old) (S.taken out.new) (S.faults out.old) (S.faults out.new) }
+/// Writes the numbers of a model.
+fn write_check<S: Sink>(alloc: Global, model: &FlatModel, out: &mut S) -> Result<(), Status>
+    ensures { Prints (check_text model.now) result (S.taken out.old) (S.taken out.new) (S.faults out.old) (S.faults out.new) }
 {
-    write_numbers(alloc, 1, system, out)?;
+    write_numbers(alloc, model.components, &model.system, out)?;
     Ok(())
 }
 

@@ -12,7 +12,7 @@ pub fn one_output()
 {}
 
 /// One end at most is due for the words and the contents of the files, where these are told, but for the place of a syntax
-/// error: a text, or a status, as that there is no command, a refusal, or that the text is not served.
+/// error: a text, or a status, as that there is no command, or a refusal.
 pub fn one_due()
     ensures { (words : List (List ℕ)) (contents : List ℕ → Option (List ℕ)) → AllTold words contents
         → (a b : Result (List ℕ) AnyStatus) → IsDue (due words contents) a → IsDue (due words contents) b → IsSameEnd IsSameStatus a b }

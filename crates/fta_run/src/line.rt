@@ -18,7 +18,6 @@ pub fn write_line<E: Sink>(err: &mut E, files: &[Word], status: &Status) -> Resu
         Status::ReadFault(file) => write_unread(err, file_word(files, *file)),
         Status::WriteFault => write_piece(err, b"aadl_fta: cannot write\n"),
         Status::Memory => write_piece(err, b"aadl_fta: out of memory\n"),
-        Status::NotYet => write_piece(err, b"aadl_fta: not yet\n"),
     }
 }
 

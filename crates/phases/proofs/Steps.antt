@@ -4,7 +4,7 @@ use Rattle.std.specs.Prelude.{IsErrAnd}
 use Rattle.std.proofs.lemmas.Result.{err_from_is_err_and}
 use Rattle.aadl_syntax.specs.declared.refusal.Refusal.{Refusal}
 use Rattle.phases.specs.Phases.{Phase, yields, tells, chains, computes, Passes, Stops, IsRefusal}
-use Rattle.phases.specs.Meets.{MeetsBut}
+use Rattle.phases.specs.Meets.{IsMemory, MeetsBut}
 use Rattle.phases.specs.declared.status.Status.TheVariants.{Refused}
 use Rattle.phases.specs.declared.status.Status.{Status}
 
@@ -31,6 +31,11 @@ ends (inr e) = inr e
 -- the exit of a `?`: what came is an end of the phase
 pub exits : {A B : Type 0} (Excuse : Status → Type 0) (value : B → A) (phase : Phase A) (status : Status) (result : Result B Status) → IsErrAnd result (λ its. its ≡ status) → Stops phase status ⊎ Excuse status → MeetsBut Excuse value phase result
 exits Excuse value phase status result is end = let p = err_from_is_err_and result is in rw (p.1, p.2) end
+
+-- a later phase is met after a first one that passes; want of memory is excused
+pub meets_later : {A B C : Type 0} (Excuse : Status → Type 0) (value : C → B) (first : Phase A) (later : A → Phase B) (x : A) (result : Result C Status) → ((s : Status) → IsMemory s → Excuse s) → Passes first x → MeetsBut IsMemory value (later x) result → MeetsBut Excuse value (chains first later) result
+meets_later Excuse value first later x (Ok v) wanting before met = before passes met
+meets_later Excuse value first later x (Err s) wanting before end = elim end [ inl stops ↦ before beyond (inl stops) | inr memory ↦ inr (wanting s memory) ]
 
 -- a refusal of the step, where it is one that the phase has
 pub refused : {A : Type 0} {Is : A → Type 0} {Why : Refusal → Type 0} {X : Type 0} {refusal : Refusal} → Why refusal → Stops (tells Is (IsRefusal Why)) (Refused refusal) ⊎ X

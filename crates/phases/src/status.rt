@@ -18,8 +18,6 @@ pub enum Status {
     WriteFault,
     /// Memory was wanting.
     Memory,
-    /// The text is not served yet.
-    NotYet,
 }
 
 impl Status {
@@ -36,7 +34,6 @@ impl Status {
             Status::ReadFault(_) => 4,
             Status::WriteFault => 5,
             Status::Memory => 7,
-            Status::NotYet => 8,
         }
     }
 }

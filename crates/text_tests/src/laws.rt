@@ -30,7 +30,6 @@ fn exit_numbers(rt: HostRuntime) {
         (Status::ReadFault(3), 4),
         (Status::WriteFault, 5),
         (Status::Memory, 7),
-        (Status::NotYet, 8),
     ];
     for (status, number) in &rows {
         assert!(rt; status.exit() == *number);

@@ -4,7 +4,7 @@ use Rattle.std.proofs.lemmas.Option.{slice_get_within}
 use Rattle.phases.specs.Phases.{Stops, answers}
 use Rattle.phases.specs.declared.status.Status.TheVariants.{Refused}
 use Rattle.fta_run.specs.Model.{IsFactNamed, LacksTarget}
-use Rattle.fta_run.proofs.Forms.{no_target}
+use Rattle.fta_run.proofs.Models.{no_target, one_number}
 use Rattle.fta_run.proofs.model.find_target.Goals as goal
 
 pub loop-number-preserved : goal.loop-number-preserved
@@ -19,4 +19,6 @@ returns c =
     (no_target system name (λ number named. c.loop-number.invariant number (omega (arith, slice_get_within _ number named.fact named.there, c.facts-number-end.ensures.count, c.loop-number-test.false)) named)))
 
 pub returns-then-has_name : goal.returns-then-has_name
-returns-then-has_name c = record { passed = c.has_name.ensures.0 c.if-has_name.true }
+returns-then-has_name c =
+    let has = c.has_name.ensures.0 c.if-has_name.true in
+    record { passed = record { has = has; alone = λ other named. one_number c.args.system.now other c.loop-number.number c.args.name.now c.facts-number-end.ensures.system.facts_named named has } }

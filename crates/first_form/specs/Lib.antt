@@ -1,4 +1,0 @@
-pub mod Names
-pub mod Form
-pub mod Meaning
-pub mod Steps

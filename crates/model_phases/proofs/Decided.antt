@@ -1,0 +1,85 @@
+-- A model has one end at most, and stops with refusals alone.
+use Rattle.std.proofs.Common.{◌≡◌, List, Contains}
+use Rattle.aadl_syntax.specs.declared.core_model.PackageUnit.{PackageUnit}
+use Rattle.aadl_syntax.specs.declared.refusal.Refusal.{Refusal}
+use Rattle.aadl_syntax.specs.Order.{IsFirst}
+use Rattle.package_index.specs.declared.id.ClassifierId.{ClassifierId}
+use Rattle.phases.specs.Phases.{IsDecided, IsRefusal}
+use Rattle.phases.specs.declared.status.Status.{Status}
+use Rattle.phases.specs.declared.status.Status.TheVariants.{Refused}
+use Rattle.phases.proofs.Endings.{StopsOnly}
+use Rattle.phases.proofs.Leaves.{decided_tests}
+use Rattle.error_types.specs.Libraries.{HasTooManyTypes, Table, table_of}
+use Rattle.error_models.specs.Refused.{all_set_faults, machines_refusal, models_refusal}
+use Rattle.instantiator.specs.Refused.{instance_refusal}
+use Rattle.instantiator.specs.Whole.{Instance, instance_of}
+use Rattle.propagation_links.specs.Refused.{links_refusal}
+use Rattle.model_facts.specs.Assembly.{Assembly, assembly_of, points_in}
+use Rattle.flattener.specs.Flat.{size_refusal}
+use Rattle.model_phases.specs.Phases.{content_tests, flat_model, flat_phase, kind_tests}
+use Rattle.model_phases.specs.Tests.{IsIt}
+
+-- ---- one end at most
+
+module _ (Same : Status → Status → Type 0) (itself : (status : Status) → Same status status) where
+  content_decided : (types : Table) (kinds : List ClassifierId) → IsDecided Same (content_tests types kinds)
+  content_decided types kinds = (
+    decided_tests Same itself (Contains (all_set_faults types kinds)),
+    λ _ right. decided_tests Same itself (IsIt (models_refusal types kinds)),
+  )
+
+  kinds_decided : (instance : Instance) → IsDecided Same (kind_tests instance)
+  kinds_decided instance = (
+    decided_tests Same itself (IsIt (machines_refusal instance.packages instance.kinds)),
+    λ _ found. (decided_tests Same itself (HasTooManyTypes instance.packages), λ _ few. content_decided (table_of instance.packages) instance.kinds),
+  )
+
+  flat_decided : (assembly : Assembly) → IsDecided Same (flat_phase assembly)
+  flat_decided assembly = (decided_tests Same itself (IsIt (size_refusal assembly)), λ _ small. tt)
+
+  -- the model of a root has one end at most
+  pub model_decided : (packages : List PackageUnit) (root : ClassifierId) → IsDecided Same (flat_model packages root)
+  model_decided packages root = (
+    decided_tests Same itself (IsIt (instance_refusal packages root)),
+    λ _ made. (
+      kinds_decided (instance_of packages root),
+      λ _ right. (
+        decided_tests Same itself (IsIt (links_refusal (instance_of packages root) (points_in (assembly_of packages root).models))),
+        λ _ linked. flat_decided (assembly_of packages root),
+      ),
+    ),
+  )
+
+-- ---- refusals alone
+
+-- The status is a refusal.
+abbrev pub IsARefusal : Status → Type 0
+IsARefusal status = (refusal : Refusal) × (status ≡ Refused refusal)
+
+first_is : (Stands : Refusal → Type 0) (status : Status) → IsRefusal (IsFirst Stands) status → IsARefusal status
+first_is Stands status is = (is.0, is.2)
+
+content_stops : (types : Table) (kinds : List ClassifierId) → StopsOnly IsARefusal (content_tests types kinds)
+content_stops types kinds = (first_is (Contains (all_set_faults types kinds)), λ _ right. first_is (IsIt (models_refusal types kinds)))
+
+kinds_stop : (instance : Instance) → StopsOnly IsARefusal (kind_tests instance)
+kinds_stop instance = (
+  first_is (IsIt (machines_refusal instance.packages instance.kinds)),
+  λ _ found. (first_is (HasTooManyTypes instance.packages), λ _ few. content_stops (table_of instance.packages) instance.kinds),
+)
+
+flat_stops : (assembly : Assembly) → StopsOnly IsARefusal (flat_phase assembly)
+flat_stops assembly = (first_is (IsIt (size_refusal assembly)), λ _ small. tt)
+
+-- the model of a root stops with a refusal alone
+pub model_stops : (packages : List PackageUnit) (root : ClassifierId) → StopsOnly IsARefusal (flat_model packages root)
+model_stops packages root = (
+  first_is (IsIt (instance_refusal packages root)),
+  λ _ made. (
+    kinds_stop (instance_of packages root),
+    λ _ right. (
+      first_is (IsIt (links_refusal (instance_of packages root) (points_in (assembly_of packages root).models))),
+      λ _ linked. flat_stops (assembly_of packages root),
+    ),
+  ),
+)

@@ -1,0 +1,3 @@
+pub mod Tested
+mod Made
+pub mod Decided

@@ -1,0 +1,67 @@
+-- What was made of the instance of a root is what the definitions say of it.
+use Rattle.std.proofs.Common.{◌≡◌, List, map, Result, ap, ◌∙◌, subst}
+use Rattle.aadl_syntax.specs.declared.core_model.PackageUnit.{PackageUnit}
+use Rattle.package_index.specs.declared.id.ClassifierId.{ClassifierId}
+use Rattle.phases.specs.Meets.{IsMemory, Meets, StopsBut}
+use Rattle.phases.specs.Phases.{Passes, chains, tests}
+use Rattle.phases.specs.declared.status.Status.{Status}
+use Rattle.error_types.specs.Libraries.{Table, table_of}
+use Rattle.error_models.specs.declared.model.ErrorModel.{ErrorModel}
+use Rattle.error_models.specs.Models.{model_of}
+use Rattle.instantiator.specs.Refused.{instance_refusal}
+use Rattle.instantiator.specs.Whole.{Instance, instance_of}
+use Rattle.propagation_links.specs.declared.link.Link.{Link}
+use Rattle.propagation_links.specs.Links.{links_of}
+use Rattle.propagation_links.specs.Refused.{links_refusal}
+use Rattle.model_facts.specs.Assembly.{Assembly, assembly_of, points_in, with_links}
+use Rattle.model_phases.specs.declared.flat.FlatModel.{FlatModel}
+use Rattle.model_phases.specs.Phases.{flat_model, flat_phase, kind_tests}
+use Rattle.model_phases.specs.Tests.{IsIt}
+use Rattle.model_phases.proofs.Tested.{behind}
+
+-- the error models of the kinds of an instance
+abbrev models_in : Instance → List ErrorModel
+models_in instance = map (model_of (table_of instance.packages) instance.kinds) instance.kinds
+
+-- the tests of its kinds
+pub kinds_stop : (packages : List PackageUnit) (root : ClassifierId) (instance : Instance) (status : Status) → instance ≡ instance_of packages root → StopsBut IsMemory (kind_tests instance) status → StopsBut IsMemory (kind_tests (instance_of packages root)) status
+kinds_stop packages root instance status made stop = subst (λ (one : Instance). StopsBut IsMemory (kind_tests one) status) made stop
+
+pub kinds_pass : (packages : List PackageUnit) (root : ClassifierId) (instance : Instance) → instance ≡ instance_of packages root → Passes (kind_tests instance) (tt {0}) → Passes (kind_tests (instance_of packages root)) (tt {0})
+kinds_pass packages root instance made pass = subst (λ (one : Instance). Passes (kind_tests one) (tt {0})) made pass
+
+-- the points of its kinds
+points-made : (packages : List PackageUnit) (root : ClassifierId) (instance : Instance) (models : List ErrorModel) → instance ≡ instance_of packages root → models ≡ models_in instance
+    → links_refusal instance (points_in models) ≡ links_refusal (instance_of packages root) (points_in (assembly_of packages root).models)
+points-made packages root instance models made are = ap (λ all. links_refusal instance (points_in all)) are ∙ ap (λ (one : Instance). links_refusal one (points_in (models_in one))) made
+
+-- the test of its links
+pub links_stop : (packages : List PackageUnit) (root : ClassifierId) (instance : Instance) (models : List ErrorModel) (status : Status) → instance ≡ instance_of packages root → models ≡ models_in instance
+    → StopsBut IsMemory (tests (IsIt (links_refusal instance (points_in models)))) status → StopsBut IsMemory (tests (IsIt (links_refusal (instance_of packages root) (points_in (assembly_of packages root).models)))) status
+links_stop packages root instance models status made are stop = subst (λ one. StopsBut IsMemory (tests (IsIt one)) status) (points-made packages root instance models made are) stop
+
+pub links_pass : (packages : List PackageUnit) (root : ClassifierId) (instance : Instance) (models : List ErrorModel) → instance ≡ instance_of packages root → models ≡ models_in instance
+    → Passes (tests (IsIt (links_refusal instance (points_in models)))) (tt {0}) → Passes (tests (IsIt (links_refusal (instance_of packages root) (points_in (assembly_of packages root).models)))) (tt {0})
+links_pass packages root instance models made are pass = subst (λ one. Passes (tests (IsIt one)) (tt {0})) (points-made packages root instance models made are) pass
+
+-- the model put together
+whole : (packages : List PackageUnit) (root : ClassifierId) (instance : Instance) (types : Table) (models : List ErrorModel) (links : List Link) → instance ≡ instance_of packages root → types ≡ table_of instance.packages → models ≡ models_in instance → links ≡ links_of instance (points_in models)
+    → record { instance = instance; types = types; models = models; links = links } ≡ assembly_of packages root
+whole packages root instance types models links made known are joined =
+    let its : Assembly = record { instance = instance; types = types; models = models; links = links } in
+    let joined_up : its ≡ with_links instance types models = λ i. record { instance = instance; types = types; models = models; links = joined i } in
+    joined_up ∙ (λ i. with_links instance (known i) (are i)) ∙ ap (λ (one : Instance). with_links one (table_of one.packages) (models_in one)) made
+
+-- the model of the root
+pub model_met : (packages : List PackageUnit) (root : ClassifierId) (instance : Instance) (types : Table) (models : List ErrorModel) (links : List Link) (result : Result FlatModel Status)
+    → instance ≡ instance_of packages root → types ≡ table_of instance.packages → models ≡ models_in instance → links ≡ links_of instance (points_in models)
+    → Passes (tests (IsIt (instance_refusal packages root))) (tt {0}) → Passes (kind_tests instance) (tt {0}) → Passes (tests (IsIt (links_refusal instance (points_in models)))) (tt {0})
+    → Meets (flat_phase (record { instance = instance; types = types; models = models; links = links })) result → Meets (flat_model packages root) result
+model_met packages root instance types models links result made known are joined right kinds linked met =
+    let flat = flat_phase (assembly_of packages root) in
+    let its : Meets flat result = subst (λ (a : Assembly). Meets (flat_phase a) result) (whole packages root instance types models links made known are joined) met in
+    let joining = tests (IsIt (links_refusal (instance_of packages root) (points_in (assembly_of packages root).models))) in
+    let own = kind_tests (instance_of packages root) in
+    behind (λ (model : FlatModel). model) (tests (IsIt (instance_refusal packages root))) (chains own (λ _. chains joining (λ _. flat))) result right
+    (behind (λ (model : FlatModel). model) own (chains joining (λ _. flat)) result (kinds_pass packages root instance made kinds)
+    (behind (λ (model : FlatModel). model) joining flat result (links_pass packages root instance models made are linked) its))

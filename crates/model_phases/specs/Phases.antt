@@ -1,0 +1,48 @@
+-- The phases of a model: what is refused of a root in packages, in order, and else its system.
+use Rattle.std.specs.Prelude.{List, length, Contains}
+use Rattle.aadl_syntax.specs.declared.core_model.PackageUnit.{PackageUnit}
+use Rattle.phases.specs.Phases.{Phase, yields, tests, ◌>>=◌}
+use Rattle.package_index.specs.declared.id.ClassifierId.{ClassifierId}
+use Rattle.error_types.specs.Libraries.{HasTooManyTypes, Table, table_of}
+use Rattle.instantiator.specs.Refused.{instance_refusal}
+use Rattle.instantiator.specs.Whole.{Instance, instance_of}
+use Rattle.error_models.specs.Refused.{all_set_faults, machines_refusal, models_refusal}
+use Rattle.propagation_links.specs.Refused.{links_refusal}
+use Rattle.model_facts.specs.Assembly.{Assembly, assembly_of, points_in}
+use Rattle.flattener.specs.Flat.{size_refusal, system_of}
+use Rattle.model_phases.specs.declared.flat.FlatModel.{FlatModel}
+use Rattle.model_phases.specs.Tests.{IsIt}
+
+-- what is tested of the error models of kinds of components: the written sets that they use (N2, N7, N8, P4), and then each
+-- error model (N9 to N13, P3 to P12)
+abbrev pub content_tests : Table → List ClassifierId → Phase (Unit {0})
+content_tests types kinds = do
+  _ ← tests (Contains (all_set_faults types kinds))
+  tests (IsIt (models_refusal types kinds))
+
+-- what is tested of the kinds of components of an instance: each uses a machine that there is (N2, N15), there are not too many
+-- error types (M8), and their error models are right
+abbrev pub kind_tests : Instance → Phase (Unit {0})
+kind_tests instance = do
+  _ ← tests (IsIt (machines_refusal instance.packages instance.kinds))
+  _ ← tests (HasTooManyTypes instance.packages)
+  content_tests (table_of instance.packages) instance.kinds
+
+-- a model as a system: how many components it has, and what holds in it
+abbrev pub flat_of : Assembly → FlatModel
+flat_of assembly = record { components = length assembly.instance.components; system = system_of assembly }
+
+-- a model that is put together, as a system that is not too large (M6, M7, M9)
+abbrev pub flat_phase : Assembly → Phase FlatModel
+flat_phase assembly = do
+  _ ← tests (IsIt (size_refusal assembly))
+  yields (flat_of assembly)
+
+-- The model of a root in packages, as a system: its components are right (M4, M5, N2 to N6, P1 to P3), then their error models,
+-- then its links (M14, N14, P3, P9), and it is not too large.
+abbrev pub flat_model : List PackageUnit → ClassifierId → Phase FlatModel
+flat_model packages root = do
+  _ ← tests (IsIt (instance_refusal packages root))
+  _ ← kind_tests (instance_of packages root)
+  _ ← tests (IsIt (links_refusal (instance_of packages root) (points_in (assembly_of packages root).models)))
+  flat_phase (assembly_of packages root)

@@ -1,0 +1,86 @@
+ghost use Rattle.std.specs.Prelude.{◌≡◌, IfOk};
+ghost use Rattle.phases.specs.Meets.{Meets};
+ghost use Rattle.phases.specs.Phases.{tests};
+ghost use Rattle.instantiator.specs.Refused.{instance_refusal};
+ghost use Rattle.instantiator.specs.Whole.{instance_of};
+ghost use Rattle.propagation_links.specs.Links.{links_of};
+ghost use Rattle.propagation_links.specs.Refused.{links_refusal};
+ghost use Rattle.model_facts.specs.Assembly.{points_in};
+ghost use Rattle.model_phases.specs.Phases.{flat_model, flat_phase};
+ghost use Rattle.model_phases.specs.Tests.{IsIt, MeetsTests};
+
+use crate::kinds::{Kinds, kinds_of};
+use aadl_syntax::List;
+use fault_system::FaultSystem;
+use flattener::flatten;
+use instantiator::Instance;
+use model_facts::{Assembly, points_of_models};
+use package_index::{ClassifierId, Index};
+use phases::Status;
+use propagation_links::{Link, links_of};
+use std::alloc::Global;
+
+/// A model as a system.
+#[derive(Drop)]
+pub struct FlatModel {
+    /// How many components it has.
+    pub components: u32,
+    /// Its facts and its events.
+    pub system: FaultSystem,
+}
+
+/// The model of a root in the packages of an index, as a system.
+///
+/// It is tested phase by phase, and the first that refuses decides: its components (M4, M5, N2 to N6, P1 to P3), their machines
+/// (N2, N15), the error types (M8), the written sets that are used (N2, N7, N8, P4), the error models (N9 to N13, P3 to P12), the
+/// links (M14, N14, P3, P9), and the size (M6, M7, M9).
+pub fn flat_model(alloc: Global, index: &Index, root: ClassifierId) -> Result<FlatModel, Status>
+    ensures { Meets (flat_model index.now root) result }
+{
+    let instance = instance_at(alloc, index, root)?;
+    let kinds = kinds_of(alloc, &instance)?;
+    let links = links_between(alloc, &instance, &kinds)?;
+    flat_with(alloc, &instance, &kinds, &links)
+}
+
+/// The instance of a root.
+fn instance_at<'i, 'a>(
+    alloc: Global,
+    index: &'i Index<'a>,
+    root: ClassifierId,
+) -> Result<Instance<'i, 'a>, Status>
+    ensures tested { MeetsTests (tests (IsIt (instance_refusal index.now root))) result }
+    ensures instance { IfOk result (λ instance. instance ≡ instance_of index.now root) }
+{
+    Ok(Instance::of(alloc, index, root)?)
+}
+
+/// The links of an instance whose kinds have these error models.
+fn links_between<'a>(
+    alloc: Global,
+    instance: &Instance<'_, 'a>,
+    kinds: &Kinds<'_, 'a>,
+) -> Result<List<Link>, Status>
+    ensures tested { MeetsTests (tests (IsIt (links_refusal instance.now (points_in kinds.now.models)))) result }
+    ensures links { IfOk result (λ links. links ≡ links_of instance.now (points_in kinds.now.models)) }
+{
+    let points = points_of_models(alloc, kinds.models.items())?;
+    Ok(links_of(alloc, instance, points.items())?)
+}
+
+/// The system of an instance whose kinds have these error models, and which has these links.
+fn flat_with<'m, 'i, 'a>(
+    alloc: Global,
+    instance: &'m Instance<'i, 'a>,
+    kinds: &'m Kinds<'i, 'a>,
+    links: &'m List<Link>,
+) -> Result<FlatModel, Status>
+    ensures { Meets (flat_phase (record { instance = instance.now; types = kinds.now.types; models = kinds.now.models; links = links.now })) result }
+{
+    let assembly = Assembly::new(instance, &kinds.types, kinds.models.items(), links.items());
+    let system = flatten(alloc, &assembly)?;
+    Ok(FlatModel {
+        components: instance.components().len() as u32,
+        system,
+    })
+}

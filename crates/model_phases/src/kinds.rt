@@ -1,0 +1,74 @@
+ghost use Rattle.std.specs.Prelude.{◌≡◌, IfOk, map};
+ghost use Rattle.phases.specs.Phases.{tests};
+ghost use Rattle.error_types.specs.Libraries.{HasTooManyTypes, table_of};
+ghost use Rattle.error_models.specs.Below.{kind_machine};
+ghost use Rattle.error_models.specs.Models.{model_of};
+ghost use Rattle.error_models.specs.Refused.{machines_refusal};
+ghost use Rattle.model_phases.specs.Phases.{content_tests, kind_tests};
+ghost use Rattle.model_phases.specs.Tests.{IsIt, MeetsTests};
+
+use aadl_syntax::List;
+use error_behavior::UsedMachine;
+use error_models::{ErrorModel, machines_of, models_of, test_sets};
+use error_types::TypeTable;
+use instantiator::Instance;
+use phases::Status;
+use std::alloc::Global;
+
+/// The error types of the packages of an instance, and the error model of each of its kinds, in order.
+#[derive(Drop)]
+pub(crate) struct Kinds<'i, 'a> {
+    pub types: TypeTable<'i, 'a>,
+    pub models: List<ErrorModel<'a>>,
+}
+
+/// The error models of the kinds of an instance.
+pub(crate) fn kinds_of<'i, 'a>(
+    alloc: Global,
+    instance: &Instance<'i, 'a>,
+) -> Result<Kinds<'i, 'a>, Status>
+    ensures tested { MeetsTests (kind_tests instance.now) result }
+    ensures types { IfOk result (λ kinds. kinds.types ≡ table_of instance.now.packages) }
+    ensures models { IfOk result (λ kinds. kinds.models ≡ map (model_of (table_of instance.now.packages) instance.now.kinds) instance.now.kinds) }
+{
+    let machines = machines_in(alloc, instance)?;
+    let mut types = types_of(alloc, instance)?;
+    let models = models_with(alloc, instance, &machines, &mut types)?;
+    Ok(Kinds { types, models })
+}
+
+/// The machines of the kinds of an instance, in order; a kind may use none.
+fn machines_in<'a>(
+    alloc: Global,
+    instance: &Instance<'_, 'a>,
+) -> Result<List<Option<UsedMachine<'a>>>, Status>
+    ensures tested { MeetsTests (tests (IsIt (machines_refusal instance.now.packages instance.now.kinds))) result }
+    ensures machines { IfOk result (λ machines. machines ≡ map (kind_machine instance.now.packages) instance.now.kinds) }
+{
+    Ok(machines_of(alloc, instance)?)
+}
+
+/// The error types of the packages of an instance.
+fn types_of<'i, 'a>(alloc: Global, instance: &Instance<'i, 'a>) -> Result<TypeTable<'i, 'a>, Status>
+    ensures tested { MeetsTests (tests (HasTooManyTypes instance.now.packages)) result }
+    ensures types { IfOk result (λ types. types ≡ table_of instance.now.packages) }
+{
+    Ok(TypeTable::new(alloc, instance.index())?)
+}
+
+/// The error models of the kinds of an instance, which have these machines, once the written sets that they use are tested.
+fn models_with<'a>(
+    alloc: Global,
+    instance: &Instance<'_, 'a>,
+    machines: &List<Option<UsedMachine<'a>>>,
+    types: &mut TypeTable<'_, 'a>,
+) -> Result<List<ErrorModel<'a>>, Status>
+    requires machines { machines.now ≡ map (kind_machine instance.now.packages) instance.now.kinds }
+    requires packages { types.old.packages ≡ instance.now.packages }
+    ensures tested { MeetsTests (content_tests types.old instance.now.kinds) result }
+    ensures kept { types.new ≡ types.old }
+    ensures models { IfOk result (λ models. models ≡ map (model_of types.old instance.now.kinds) instance.now.kinds) }
+{
+    test_sets(alloc, instance, machines.items(), types)?;
+    Ok(models_of(alloc, instance, machines.items(), types)?)
+}
