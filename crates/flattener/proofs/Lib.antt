@@ -1,3 +1,4 @@
 pub mod Caps
 pub mod Places
 pub mod Ranged
+pub mod Systems

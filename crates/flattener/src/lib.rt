@@ -8,8 +8,10 @@ mod facts;
 mod flat;
 mod kind;
 mod kinds;
+mod laws;
 mod numbers;
 mod rows;
 mod site;
 
 pub use flat::flatten;
+pub use laws::models_are_systems;
