@@ -3,7 +3,7 @@
 
     names.py --tool PROGRAM    runs `aadl_fta check` over each, beside a text as long that has no names to find
 
-A text is of no form that is served yet, so each run ends with the status 8 and `not yet`: by then the files were read, all
+Each run ends with the status 0 and the numbers of a root of one component, in which nothing happens: the files were read, all
 names were put into tables, and the root, its chain and its members were tested.
 """
 

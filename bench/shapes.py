@@ -4,7 +4,7 @@
     shapes.py                  lists the shapes
     shapes.py FOLDER [NAME..]  writes NAME.aadl and NAME.xml of these shapes, or of all
 
-A shape is a machine of the first form: events, states, and transitions from a state to a state on a condition. `ok` is
+A shape is a machine of one component: events, states, and transitions from a state to a state on a condition. `ok` is
 its initial state. Every other state is a gate: it holds where a transition leads to it whose source holds and whose
 condition is true. The Open-PSA tree has a gate for each state on which the target depends, and says the same; how many
 minimal cut sets there are is known from the shape and never taken from a program.
@@ -34,7 +34,7 @@ def at_least(least, parts):
 
 @dataclass
 class Machine:
-    """A machine of the first form: AADL text can say it today."""
+    """A machine of one component."""
 
     events: list
     states: list
@@ -85,7 +85,7 @@ def from_ok(conditions):
     return [(INITIAL, condition, state) for state, condition in conditions]
 
 
-# ---- shapes of the first form
+# ---- shapes of one machine
 
 
 def chain(count, kinds):
@@ -232,7 +232,7 @@ def random_gates(count, events, seed):
 
 
 def all_shapes():
-    """The shapes of the first form, and then those that need whole models."""
+    """The shapes of one machine, and then those that are trees alone."""
     return [
         chain(100, 100), chain(1000, 1000), chain(16383, 8),
         pairs(16, True), pairs(12, False), pairs(16, False), ladder(16),
@@ -310,7 +310,7 @@ def open_psa_text(gates, top):
 
 
 def write(shape, folder):
-    """Writes a shape as NAME.xml and, where it is of the first form, as NAME.aadl."""
+    """Writes a shape as NAME.xml and, where it is a machine, as NAME.aadl."""
     (folder / f"{shape.name}.xml").write_text(open_psa_text(shape.tree(), shape.target))
     if shape.machine is not None:
         (folder / f"{shape.name}.aadl").write_text(aadl_text(shape.machine))
