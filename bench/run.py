@@ -83,7 +83,7 @@ def row(shape, options, folder):
     gates, events = shape.counts()
     cells = [shape.name, str(gates), str(events), shape.refusal or number(shape.sets)]
     if shape.machine is None:
-        cells += ["", "", "", "needs whole models"]
+        cells += ["", "", "", "a tree alone"]
     else:
         words = [options.tool, "cuts", "p::s", f"root/state:{shape.target}", folder / f"{shape.name}.aadl"]
         done = run(words, folder / "listing", options.seconds, options.megabytes)

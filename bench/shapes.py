@@ -193,7 +193,7 @@ def written_out(least, count):
                  comb(count, least), Machine(events, [INITIAL, "bad"], from_ok([("bad", condition)])))
 
 
-# ---- shapes that need whole models: trees alone
+# ---- shapes that are trees alone
 
 
 def counted(least, count):
@@ -319,7 +319,7 @@ def write(shape, folder):
 def main(words):
     if not words:
         for shape in all_shapes():
-            later = "" if shape.machine is not None else " (needs whole models)"
+            later = "" if shape.machine is not None else " (a tree alone)"
             print(f"{shape.name:24} {shape.about}{later}")
         return
     folder = Path(words[0])
