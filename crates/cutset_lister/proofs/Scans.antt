@@ -257,3 +257,24 @@ none-one system text (n ∷ ns) names is has = absurd ((name-good system n names
 
     named_none : event_name system n ≡ codes "none"
     named_none = sym (whole ∙ ap (λ r. event_name system n ++ r) (no_plus_none (event_name system n) (names_text system ns) whole (ends-names system ns)) ∙ append-nil (event_name system n))
+
+-- one text of names is that of one list of events
+names-one : (system : System) (below above : ℕ) (a b : List ℕ) → IsSystem system → HasTokenNames system → RisesWithin below (length system.events) a → RisesWithin above (length system.events) b → names_text system a ≡ names_text system b → a ≡ b
+names-one system below above [] [] sound names ra rb is = refl
+names-one system below above [] (m ∷ ms) sound names ra rb is = absurd cc
+names-one system below above (n ∷ ns) [] sound names ra rb is = absurd cc
+names-one system below above (n ∷ ns) (m ∷ ms) sound names ra rb is =
+    let same : event_name system n ++ names_text system ns ≡ event_name system m ++ names_text system ms = cc in
+    let one = one_name (event_name system n) (event_name system m) (names_text system ns) (names_text system ms)
+    (no_plus (event_name system n) (name-good system n names ra.1).1) (no_plus (event_name system m) (name-good system m names rb.1).1) same (ends-names system ns) (ends-names system ms)
+    in
+    let first = same_event system n m sound ra.1 rb.1 one.0 in
+    let rest = names-one system (n + 1) (m + 1) ns ms sound names ra.2 rb.2 one.1 in
+    (λ i. first i ∷ rest i)
+
+-- a text is that of one set of events
+pub one-set : (system : System) (text a b : List ℕ) → IsSystem system → HasTokenNames system → IsSetOfText system text a → IsSetOfText system text b → a ≡ b
+one-set system text [] b sound names ha hb = none-one system text b names (sym ha.1) hb
+one-set system text (n ∷ ns) [] sound names ha hb = sym (none-one system text (n ∷ ns) names (sym hb.1) ha)
+one-set system text (n ∷ ns) (m ∷ ms) sound names ha hb =
+    names-one system 0 0 (n ∷ ns) (m ∷ ms) sound names ha.0 hb.0 (sym (names_whole system n ns) ∙ ap (λ t. 43 ∷ t) (ha.1 ∙ sym hb.1) ∙ names_whole system m ms)

@@ -11,6 +11,6 @@ mod tokens;
 mod walk;
 
 pub use in_order::listing;
-pub use laws::stays_started;
+pub use laws::{one_set, stays_started};
 pub use tokens::{read_token, write_token};
 pub use walk::Listing;

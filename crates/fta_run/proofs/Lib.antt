@@ -1,7 +1,5 @@
-mod Identifiers
-mod Lines
-mod Roots
-mod Writes
+mod Commands
+mod Names
 mod Inputs
 mod Lacking
 mod Grammars

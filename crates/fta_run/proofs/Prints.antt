@@ -1,7 +1,14 @@
 -- What a sink took, step by step.
-use Rattle.std.proofs.Common.{ℕ, List, Option, Result, Ok, Err, inl, inr}
-use Rattle.phases.specs.Phases.{Phase, Passes, chains}
+use Rattle.std.proofs.Common.{◌≡◌, ◌⊎◌, ℕ, List, Option, Result, Ok, Err, inl, inr, refl}
+use Rattle.std.specs.Prelude.{IsErrAnd}
+use Rattle.std.proofs.lemmas.Result.{err_from_is_err_and}
+use Rattle.fta_outside.specs.Outside.{Rose, TookPrefix}
+use Rattle.phases.specs.Meets.{IsMemory}
+use Rattle.phases.specs.Phases.{Phase, Passes, Stops, chains}
 use Rattle.phases.specs.declared.status.Status.{Status}
+use Rattle.fta_run.specs.Shown.{status_shown}
+use Rattle.fta_run.specs.declared.text.WriteStop.{WriteStop}
+use Rattle.fta_run.specs.declared.text.WriteStop.TheVariants.{Failed, Memory}
 use Rattle.phases.proofs.Steps.{◌passes◌}
 use Rattle.fta_run.specs.Steps.{Prints}
 
@@ -16,3 +23,15 @@ prints_on first later x (Err s) t u f g p end =
         | inr failed ↦ inr (failed.0, (failed.1.0, p passes failed.1.1, failed.1.2), failed.2)
       ])
     ]
+
+-- a phase stopped, or memory was wanting, before anything was written
+pub prints_stop : {T : Type 0} (phase : Phase (List ℕ)) (status : Status) (result : Result T Status) (t : Option (List ℕ)) (f : ℕ) → IsErrAnd result (λ its. its ≡ status) → Stops phase status ⊎ IsMemory status → Prints phase result t t f f
+prints_stop phase status result t f is end =
+    let p = err_from_is_err_and result is in
+    rw (p.1, p.2) (elim end [ inl stops ↦ inl (stops, refl) | inr memory ↦ inr (inl (memory, inl refl)) ])
+
+-- a text was not written whole
+pub prints_front : {T : Type 0} (phase : Phase (List ℕ)) (text : List ℕ) (stop : WriteStop) (result : Result T Status) (t u : Option (List ℕ)) (f g : ℕ) → IsErrAnd result (λ its. its ≡ status_shown stop) → Passes phase text → TookPrefix t u text → (stop ≡ Failed → Rose f g)
+    → Prints phase result t u f g
+prints_front phase text Failed result t u f g is is_text took rose = let p = err_from_is_err_and result is in rw (p.1, p.2) (inr (inr (refl, (text, is_text, took), rose refl)))
+prints_front phase text Memory result t u f g is is_text took rose = let p = err_from_is_err_and result is in rw (p.1, p.2) (inr (inl (refl, inr (text, is_text, took))))

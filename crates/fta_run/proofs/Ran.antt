@@ -1,27 +1,28 @@
 -- How a run ended, and what is due.
-use Rattle.std.proofs.Common.{◌≡◌, ◌<◌, ◌⊎◌, ℕ, List, length, Option, Result, Ok, Err, refl, sym, ap, subst, inl, inr}
+use Rattle.std.proofs.Common.{◌≡◌, ◌<◌, ◌⊎◌, ℕ, Bool, List, length, Option, Result, Ok, Err, refl, sym, ap, subst, inl, inr}
 use Rattle.std.specs.Prelude.{IsErrAnd, IsOk}
 use Rattle.std.proofs.lemmas.Result.{err_from_is_err_and}
 use Rattle.aadl_syntax.specs.declared.refusal.Code.TheVariants.{TooManyFiles}
 use Rattle.aadl_syntax.specs.declared.refusal.Refusal.{Refusal}
 use Rattle.aadl_syntax.specs.Order.{IsFirst}
 use Rattle.aadl_syntax.specs.declared.name.Root.{Root}
-use Rattle.phases.specs.Phases.{Phase, Passes, Stops, chains, finds, IsDue, IsRefusal, IsSameEnd}
+use Rattle.phases.specs.Phases.{Phase, Passes, Stops, yields, tells, chains, finds, IsDue, IsRefusal, IsSameEnd}
 use Rattle.phases.specs.declared.status.Status.{Status}
-use Rattle.phases.specs.declared.status.Status.TheVariants.{Done, Usage, Refused, ReadFault, WriteFault, Memory}
+use Rattle.phases.specs.declared.status.Status.TheVariants.{Done, Usage, Refused, Constant, ReadFault, WriteFault, Memory}
 use Rattle.phases.proofs.Endings.{StopsOnly, stops_only}
 use Rattle.fault_system.specs.Systems.{System}
 use Rattle.package_index.specs.Lookup.{packages_of}
 use Rattle.model_phases.proofs.Decided.{IsARefusal, model_stops}
 use Rattle.backward_slice.specs.Slices.{HasLargeSlice}
-use Rattle.fta_run.specs.Words.{Check, Command, Cuts, files_of, GiveCommand, GiveNoCommand, IsCommand, file_words}
+use Rattle.fta_run.specs.Words.{Check, Command, Cuts, Tree, Fmea, Report, Make, files_of, GiveCommand, GiveNoCommand, IsCommand, file_words}
 use Rattle.fta_run.specs.Files.{HasTooLong, HasTooMuch, LacksTokens, LacksUnits, NamesTooMany, most_files, of_words}
-use Rattle.fta_run.specs.Model.{HasDuplicate, LacksTarget, root_named}
-use Rattle.fta_run.specs.Due.{command_text, cuts_text, due, model_of_files, model_of_texts, texts_of}
-use Rattle.fta_run.specs.Answers.{AllTold, AnswersWords, IsJustified, IsManyAnswer, IsSameStatus, MayCome}
+use Rattle.fta_words.specs.declared.command.Paging.{Paging}
+use Rattle.fta_run.specs.Model.{HasDuplicate, LacksStart, LacksTarget, root_named}
+use Rattle.fta_run.specs.Due.{command_text, cuts_text, due, model_of_files, model_of_texts, texts_of, tree_text}
+use Rattle.fta_run.specs.Answers.{AllTold, AnswersWords, BeginsWithMemory, IsJustified, IsManyAnswer, IsSameStatus, MayCome}
 use Rattle.fta_run.specs.Steps.{IsReadEnd, Prints, Runs, RunsBut, ended}
 use Rattle.fta_run.proofs.Prints.{prints_on}
-use Rattle.fta_run.proofs.Roots.{file_words_are}
+use Rattle.fta_run.proofs.Commands.{file_words_are, one_command}
 use Rattle.fta_run.proofs.OneDue.{one_due}
 
 -- ---- how the phases stop
@@ -29,8 +30,27 @@ use Rattle.fta_run.proofs.OneDue.{one_due}
 refusal_is : (Why : Refusal → Type 0) (s : Status) → IsRefusal Why s → IsARefusal s
 refusal_is Why s is = (is.0, is.2)
 
-cuts_stop : (target : List ℕ) (system : System) → StopsOnly IsARefusal (cuts_text target system)
-cuts_stop target system = (refusal_is (IsFirst (LacksTarget system target)), λ number named. (refusal_is (HasLargeSlice system number), λ slice served. ((λ s none. absurd none), λ sets are. tt)))
+-- The status is a refusal, or that a target is constant.
+abbrev IsAnEnd : Status → Type 0
+IsAnEnd status = IsARefusal status ⊎ ((always : Bool) × (status ≡ Constant always))
+
+-- what stops with refusals alone does so with these
+refusals : {A : Type 0} (phase : Phase A) → StopsOnly IsARefusal phase → StopsOnly IsAnEnd phase
+refusals (yields x) only = tt
+refusals (tells Is Ends) only = λ status ends. inl (only status ends)
+refusals (chains {A = A} first later) only = (refusals first only.0, λ x passed. refusals (later x) (only.1 x passed))
+
+cuts_stop : (target : List ℕ) (paging : Paging) (system : System) → StopsOnly IsARefusal (cuts_text target paging system)
+cuts_stop target paging system = (
+  refusal_is (IsFirst (LacksTarget system target)),
+  λ number named. (refusal_is (LacksStart system paging.after), λ start begins. (refusal_is (HasLargeSlice system number), λ slice served. ((λ s none. absurd none), λ sets are. tt))),
+)
+
+tree_stop : (target : List ℕ) (system : System) → StopsOnly IsAnEnd (tree_text target system)
+tree_stop target system = (
+  (λ s is. inl (refusal_is (IsFirst (LacksTarget system target)) s is)),
+  λ number named. ((λ s is. inl (refusal_is (HasLargeSlice system number) s is)), λ slice served. (λ s lacks. elim lacks [ inl constant ↦ inr (constant.0, constant.2) | inr large ↦ inl (large.0, large.2) ])),
+)
 
 texts_stop : (contents : List ℕ → Option (List ℕ)) (files : List (List ℕ)) → StopsOnly IsARefusal (texts_of contents files)
 texts_stop contents files = (
@@ -50,19 +70,23 @@ texts_model_stops root texts = (
 files_model_stops : (contents : List ℕ → Option (List ℕ)) (root : Root) (files : List (List ℕ)) → StopsOnly IsARefusal (model_of_files contents root files)
 files_model_stops contents root files = (texts_stop contents files, λ texts read. texts_model_stops root texts)
 
-command_stops : (contents : List ℕ → Option (List ℕ)) (command : Command) → StopsOnly IsARefusal (command_text contents command)
-command_stops contents (Check root files) = (files_model_stops contents root files, λ model at. tt)
-command_stops contents (Cuts root target files) = (files_model_stops contents root files, λ model at. cuts_stop target model.system)
+command_stops : (contents : List ℕ → Option (List ℕ)) (command : Command) → StopsOnly IsAnEnd (command_text contents command)
+command_stops contents (Check root files) = (refusals (model_of_files contents root files) (files_model_stops contents root files), λ model at. tt)
+command_stops contents (Cuts root target files paging) = (refusals (model_of_files contents root files) (files_model_stops contents root files), λ model at. refusals (cuts_text target paging model.system) (cuts_stop target paging model.system))
+command_stops contents (Tree root target files) = (refusals (model_of_files contents root files) (files_model_stops contents root files), λ model at. tree_stop target model.system)
+command_stops contents (Fmea root files all) = λ s none. absurd none
+command_stops contents (Report root target files chosen max_order) = λ s none. absurd none
+command_stops contents (Make number text) = λ s none. absurd none
 
--- Usage without a command; or there is one, and a refusal
+-- Usage without a command; or there is one, and a refusal or a constant target
 abbrev Kind : List (List ℕ) → Status → Type 0
-Kind words status = ((status ≡ Usage) × GiveNoCommand words) ⊎ (GiveCommand words × IsARefusal status)
+Kind words status = ((status ≡ Usage) × GiveNoCommand words) ⊎ (GiveCommand words × IsAnEnd status)
 
 kind_of : (words : List (List ℕ)) (contents : List ℕ → Option (List ℕ)) (s : Status) → Stops (due words contents) s → Kind words s
 kind_of words contents s stops =
     elim stops.stopped [
       | inl none ↦ inl none
-      | inr there ↦ inr ((there.0, there.1), stops_only IsARefusal (command_text contents there.0) (command_stops contents there.0) s there.2)
+      | inr there ↦ inr ((there.0, there.1), stops_only IsAnEnd (command_text contents there.0) (command_stops contents there.0) s there.2)
     ]
 
 -- ---- the words
@@ -71,7 +95,10 @@ words_of_kind : (words : List (List ℕ)) (s : Status) → Kind words s → Answ
 words_of_kind words s kind =
     elim kind [
       | inl none ↦ subst (λ x. AnswersWords x words) (sym none.0) none.1
-      | inr some ↦ subst (λ x. AnswersWords x words) (sym some.1.1) some.0
+      | inr some ↦ elim some.1 [
+        | inl refusal ↦ subst (λ x. AnswersWords x words) (sym refusal.1) some.0
+        | inr constant ↦ subst (λ x. AnswersWords x words) (sym constant.1) some.0
+      ]
     ]
 
 module _ (words : List (List ℕ)) (contents : List ℕ → Option (List ℕ)) (read_before read_after : List ℕ → ℕ) (t u : Option (List ℕ)) (f g : ℕ) where
@@ -98,6 +125,7 @@ module _ (words : List (List ℕ)) (contents : List ℕ → Option (List ℕ)) (
   justified Done stops = tt
   justified Usage stops = tt
   justified (Refused refusal) stops = stops
+  justified (Constant always) stops = stops
   justified (ReadFault file) stops = tt
   justified WriteFault stops = tt
   justified Memory stops = tt
@@ -132,6 +160,10 @@ usage_is_due : (a : Result (List ℕ) Status) → IsSameEnd IsSameStatus a (Err 
 usage_is_due (Ok x) same = absurd same
 usage_is_due (Err a) same = ap (λ (s : Status). Err s) (same_as a Usage (λ refusal is. cc (is)) same)
 
+constant_is_due : (a : Result (List ℕ) Status) (always : Bool) → IsSameEnd IsSameStatus a (Err (Constant always)) → a ≡ Err (Constant always)
+constant_is_due (Ok x) always same = absurd same
+constant_is_due (Err a) always same = ap (λ (s : Status). Err s) (same_as a (Constant always) (λ refusal is. cc (is)) same)
+
 refusal_is_due : (a : Result (List ℕ) Status) (refusal : Refusal) → IsSameEnd IsSameStatus a (Err (Refused refusal)) → IsErrAnd a (λ status. IsSameStatus status (Refused refusal))
 refusal_is_due (Ok x) refusal same = absurd same
 refusal_is_due (Err a) refusal same = same
@@ -140,7 +172,10 @@ came_of_kind : (words : List (List ℕ)) (a : Result (List ℕ) Status) (s : Sta
 came_of_kind words a s kind same =
     elim kind [
       | inl none ↦ subst (MayCome a) (sym none.0) (usage_is_due a (subst (λ x. IsSameEnd IsSameStatus a (Err x)) none.0 same))
-      | inr some ↦ subst (MayCome a) (sym some.1.1) (refusal_is_due a some.1.0 (subst (λ x. IsSameEnd IsSameStatus a (Err x)) some.1.1 same))
+      | inr some ↦ elim some.1 [
+        | inl refusal ↦ subst (MayCome a) (sym refusal.1) (refusal_is_due a refusal.0 (subst (λ x. IsSameEnd IsSameStatus a (Err x)) refusal.1 same))
+        | inr constant ↦ subst (MayCome a) (sym constant.1) (constant_is_due a constant.0 (subst (λ x. IsSameEnd IsSameStatus a (Err x)) constant.1 same))
+      ]
     ]
 
 pub ran_complete : {T : Type 0} (words : List (List ℕ)) (contents : List ℕ → Option (List ℕ)) (read_before read_after : List ℕ → ℕ) (t u : Option (List ℕ)) (f g : ℕ) (result : Result T Status) → Runs words contents read_before read_after result t u f g → AllTold words contents → (a : Result (List ℕ) Status) → IsDue (due words contents) a → MayCome a (ended result)
@@ -194,3 +229,23 @@ pub many_answer : {T : Type 0} (result : Result T Status) (s : Status) → IsErr
 many_answer result s is many =
     let p = err_from_is_err_and result is in
     rw (p.1, p.2, many) refl
+
+-- ---- memory
+
+-- nothing was taken
+pub begins_same : (command : Command) (status : Status) (t : Option (List ℕ)) → BeginsWithMemory command status t t
+begins_same (Check root files) status t = tt
+begins_same (Cuts root target files paging) status t = λ memory. refl
+begins_same (Tree root target files) status t = tt
+begins_same (Fmea root files all) status t = tt
+begins_same (Report root target files chosen max_order) status t = tt
+begins_same (Make number text) status t = tt
+
+-- the words give this command
+pub begins_as : (words : List (List ℕ)) (given command : Command) (status : Status) (t u : Option (List ℕ)) → Passes (finds (IsCommand words) Usage) given → BeginsWithMemory given status t u → IsCommand words command → BeginsWithMemory command status t u
+begins_as words given command status t u passes begins is = subst (λ one. BeginsWithMemory one status t u) (one_command words given command passes.passed is) begins
+
+-- a run ended with want of memory
+pub memory_ended : {T : Type 0} (result : Result T Status) → ended result ≡ Memory → result ≡ Err Memory
+memory_ended (Ok x) is = absurd (cc (is))
+memory_ended (Err status) is = ap (λ (s : Status). Err s) is

@@ -5,10 +5,10 @@ use Rattle.aadl_syntax.specs.declared.refusal.Code.TheVariants.{TooManyFiles}
 use Rattle.aadl_syntax.specs.declared.refusal.Refusal.{Refusal}
 use Rattle.phases.specs.Phases.{Passes, Stops}
 use Rattle.phases.specs.declared.status.Status.{Status}
-use Rattle.phases.specs.declared.status.Status.TheVariants.{Done, Usage, Refused, ReadFault, WriteFault, Memory}
+use Rattle.phases.specs.declared.status.Status.TheVariants.{Done, Usage, Refused, Constant, ReadFault, WriteFault, Memory}
 use Rattle.grammar_rules.specs.Texts.{syntax_error}
 use Rattle.fta_outside.specs.Outside.{Rose, TookPrefix, with_bytes}
-use Rattle.fta_run.specs.Words.{Command, files_of, GiveCommand, GiveNoCommand, IsCommand, file_words}
+use Rattle.fta_run.specs.Words.{Command, Cuts, files_of, GiveCommand, GiveNoCommand, IsCommand, file_words}
 use Rattle.fta_run.specs.Files.{most_files, of_words}
 use Rattle.fta_run.specs.Due.{due}
 
@@ -36,6 +36,7 @@ abbrev pub MayCome : Result (List ℕ) Status → Status → Type 0
 MayCome its_due Done = IsOk its_due
 MayCome its_due Usage = its_due ≡ Err Usage
 MayCome its_due (Refused refusal) = IsErrAnd its_due (λ status. IsSameStatus status (Refused refusal))
+MayCome its_due (Constant always) = its_due ≡ Err (Constant always)
 MayCome its_due (ReadFault file) = Unit {0}
 MayCome its_due WriteFault = IsOk its_due
 MayCome its_due Memory = Unit {0}
@@ -47,15 +48,17 @@ abbrev pub AnswersWords : Status → List (List ℕ) → Type 0
 AnswersWords Done words = GiveCommand words
 AnswersWords Usage words = GiveNoCommand words
 AnswersWords (Refused refusal) words = GiveCommand words
+AnswersWords (Constant always) words = GiveCommand words
 AnswersWords (ReadFault file) words = GiveCommand words
 AnswersWords WriteFault words = GiveCommand words
 AnswersWords Memory words = Unit {0}
 
--- A refusal is the verdict.
+-- A refusal is the verdict, and so is that a target is constant.
 abbrev pub IsJustified : List (List ℕ) → (List ℕ → Option (List ℕ)) → Status → Type 0
 IsJustified words contents Done = Unit {0}
 IsJustified words contents Usage = Unit {0}
 IsJustified words contents (Refused refusal) = IsVerdict words contents refusal
+IsJustified words contents (Constant always) = Stops (due words contents) (Constant always)
 IsJustified words contents (ReadFault file) = Unit {0}
 IsJustified words contents WriteFault = Unit {0}
 IsJustified words contents Memory = Unit {0}
@@ -74,6 +77,7 @@ abbrev pub Took : (List ℕ → Type 0) → Status → Option (List ℕ) → Opt
 Took IsText Done before after = TookText IsText before after
 Took IsText Usage before after = after ≡ before
 Took IsText (Refused refusal) before after = after ≡ before
+Took IsText (Constant always) before after = after ≡ before
 Took IsText (ReadFault file) before after = after ≡ before
 Took IsText WriteFault before after = TookFront IsText before after
 Took IsText Memory before after = (after ≡ before) ⊎ TookFront IsText before after
@@ -84,6 +88,7 @@ abbrev pub IsCaused : Status → List (List ℕ) → (List ℕ → ℕ) → (Lis
 IsCaused Done words before after out_before out_after = Unit {0}
 IsCaused Usage words before after out_before out_after = Unit {0}
 IsCaused (Refused refusal) words before after out_before out_after = Unit {0}
+IsCaused (Constant always) words before after out_before out_after = Unit {0}
 IsCaused (ReadFault file) words before after out_before out_after =
     (length (file_words words) ≤ most_files) × (name : List ℕ) × (slice_get (file_words words) file ≡ Some name) × Rose (before name) (after name)
 IsCaused WriteFault words before after out_before out_after = Rose out_before out_after
@@ -94,6 +99,12 @@ abbrev pub IsManyAnswer : Status → Type 0
 IsManyAnswer Done = ⊥
 IsManyAnswer Usage = Unit {0}
 IsManyAnswer (Refused refusal) = refusal ≡ of_words TooManyFiles most_files
+IsManyAnswer (Constant always) = ⊥
 IsManyAnswer (ReadFault file) = ⊥
 IsManyAnswer WriteFault = ⊥
 IsManyAnswer Memory = Unit {0}
+
+-- Once a page of `cuts` was begun, no memory is wanting: where it is, the sink took nothing.
+abbrev pub BeginsWithMemory : Command → Status → Option (List ℕ) → Option (List ℕ) → Type 0
+BeginsWithMemory (Cuts root target files paging) status before after = status ≡ Memory → after ≡ before
+BeginsWithMemory command status before after = Unit {0}

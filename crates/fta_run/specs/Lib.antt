@@ -6,4 +6,5 @@ pub mod Model
 pub mod Shown
 pub mod Steps
 pub mod Text
+pub mod Trees
 pub mod Words

@@ -1,36 +1,39 @@
-ghost use Rattle.std.specs.Prelude.{◌≡◌, ◌<◌, ◌≤◌, ℕ, List, Result, Err, MatchResult, length};
+ghost use Rattle.std.specs.Prelude.{◌≡◌, ◌<◌, ◌≤◌, ℕ, List, IfOk, IsErrOf, Result, Err, MatchResult, length};
 ghost use Rattle.fta_outside.specs.Outside.{Rose, TookPrefix, with_bytes};
 ghost use Rattle.phases.specs.Phases.{IsDue};
 ghost use Rattle.phases.specs.Meets.{MeetsBut};
 ghost use Rattle.phases.specs.declared.status.Status.{Status as AnyStatus};
-ghost use Rattle.phases.specs.declared.status.Status.TheVariants.{Refused};
+ghost use Rattle.phases.specs.declared.status.Status.TheVariants.{Refused, Memory};
 ghost use Rattle.aadl_syntax.specs.declared.refusal.Code.TheVariants.{TooManyFiles};
-ghost use Rattle.fta_run.specs.Shown.{command_shown};
+ghost use Rattle.fta_words.specs.Shown.{command_shown};
+ghost use Rattle.model_phases.specs.Named.{IsPlainSystem};
 ghost use Rattle.fta_run.specs.Line.{status_line};
-ghost use Rattle.fta_run.specs.Answers.{AllTold, AnswersWords, IsCaused, IsJustified, IsManyAnswer, IsOutput, MayCome, Took};
-ghost use Rattle.fta_run.specs.Due.{check_text, command_text, cuts_text, due, model_of_files};
+ghost use Rattle.fta_run.specs.Answers.{AllTold, AnswersWords, BeginsWithMemory, IsCaused, IsJustified, IsManyAnswer, IsOutput, MayCome, Took};
+ghost use Rattle.fta_run.specs.Due.{check_text, command_text, cuts_text, due, model_of_files, tree_text};
 ghost use Rattle.fta_run.specs.Files.{most_files, of_words};
-ghost use Rattle.fta_run.specs.Words.{Check, Cuts, GiveNoCommand, file_words, files_of};
+ghost use Rattle.fta_run.specs.Words.{Check, Command as AnyCommand, Cuts, GiveNoCommand, IsBuilt, IsCommand, Tree, file_words, files_of};
 ghost use Rattle.fta_run.specs.Steps.{IsReadEnd, Prints, Runs, RunsBut, ended};
 
-use crate::cut_sets::{find_slice, minimal_cut_sets};
+use crate::cut_sets::{find_slice, find_start, write_page};
 use crate::input::read_texts;
 use crate::line::write_line;
 use crate::model::{find_target, model_of_texts};
-use crate::text::{write_listing, write_numbers};
-use crate::words::{Command, command_of, file_words};
+use crate::text::write_numbers;
+use crate::trees::write_galileo;
+use crate::words::command_of;
 use aadl_syntax::{Name, Root, Word};
 use fault_system::FaultSystem;
 use fta_outside::{Files, Sink};
+use fta_words::{Command, Paging, file_words};
 use model_phases::FlatModel;
 use phases::Status;
 use std::alloc::Global;
 
 /// Runs the command that the words give, and says how it ended.
 ///
-/// `check ROOT FILE..` writes the numbers of components, facts and events of the model of a root in the files, and
-/// `cuts ROOT TARGET FILE..` the minimal cut sets of a fact in it. Under every status but Done one line is written to `err`;
-/// a fault of `err` changes nothing.
+/// `check ROOT FILE..` writes the numbers of components, facts and events of the model of a root in the files,
+/// `cuts ROOT TARGET FILE..` a page of the minimal cut sets of a fact in it, and `tree ROOT TARGET FILE..` its static fault
+/// tree as Galileo text. Under every status but Done one line is written to `err`; a fault of `err` changes nothing.
 pub fn run<F: Files, S: Sink, E: Sink>(
     alloc: Global,
     words: &[Word],
@@ -41,11 +44,14 @@ pub fn run<F: Files, S: Sink, E: Sink>(
     // Usage comes exactly where the words give no command.
     ensures words { AnswersWords result words.now }
 
-    // A refusal is the verdict on texts that the files may contain.
+    // A refusal is the verdict on texts that the files may contain, and so is that a target is constant.
     ensures verdict { IsJustified words.now (F.contents files.old) result }
 
     // Under Done `out` took the text of the command on texts that the files may contain, and else at most a front of it.
     ensures output { Took (IsOutput words.now (F.contents files.old)) result (S.taken out.old) (S.taken out.new) }
+
+    // Once a page of `cuts` was begun, no memory is wanting.
+    ensures begins { (command : AnyCommand) → IsCommand words.now command → BeginsWithMemory command result (S.taken out.old) (S.taken out.new) }
 
     // A fault comes only where its count rose.
     ensures faults { IsCaused result words.now (F.faults files.old) (F.faults files.new) (S.faults out.old) (S.faults out.new) }
@@ -99,6 +105,7 @@ fn answer<F: Files, S: Sink>(
     ensures no_command { GiveNoCommand words.now → files.new ≡ files.old }
     ensures too_many { most_files < length (file_words words.now) → files.new ≡ files.old }
     ensures many { most_files < length (file_words words.now) → IsManyAnswer (ended result) }
+    ensures begins { (command : AnyCommand) → IsCommand words.now command → BeginsWithMemory command (ended result) (S.taken out.old) (S.taken out.new) }
 {
     let command = command_of(alloc, words)?;
     write_command(alloc, &command, files, out)
@@ -111,9 +118,11 @@ fn write_command<F: Files, S: Sink>(
     files: &mut F,
     out: &mut S,
 ) -> Result<(), Status>
+    requires { IsBuilt (command_shown command.now) }
     ensures end { RunsBut (IsReadEnd (files_of (command_shown command.now)) (F.faults files.old) (F.faults files.new)) (command_text (F.contents files.old) (command_shown command.now)) result (S.taken out.old) (S.taken out.new) (S.faults out.old) (S.faults out.new) }
     ensures too_many { most_files < length (files_of (command_shown command.now)) → files.new ≡ files.old }
     ensures many { most_files < length (files_of (command_shown command.now)) → IsManyAnswer (ended result) }
+    ensures begins { BeginsWithMemory (command_shown command.now) (ended result) (S.taken out.old) (S.taken out.new) }
 {
     match command {
         Command::Check { root, files: names } => check(alloc, root, names, files, out),
@@ -121,7 +130,14 @@ fn write_command<F: Files, S: Sink>(
             root,
             target,
             files: names,
-        } => cuts(alloc, root, target, names, files, out),
+            paging,
+        } => cuts(alloc, root, target, names, paging, files, out),
+        Command::Tree {
+            root,
+            target,
+            files: names,
+        } => tree(alloc, root, target, names, files, out),
+        Command::Fmea { .. } | Command::Report { .. } | Command::Make { .. } => Err(Status::Usage),
     }
 }
 
@@ -141,8 +157,27 @@ fn check<F: Files, S: Sink>(
     write_check(alloc, &model, out)
 }
 
-/// Writes the listing of a target in the model of a root.
+/// Writes a page of the listing of a target in the model of a root.
 fn cuts<F: Files, S: Sink>(
+    alloc: Global,
+    root: &Root,
+    target: &Name,
+    names: &[Word],
+    paging: &Paging,
+    files: &mut F,
+    out: &mut S,
+) -> Result<(), Status>
+    ensures end { RunsBut (IsReadEnd names.now (F.faults files.old) (F.faults files.new)) (command_text (F.contents files.old) (Cuts root.now target.now names.now paging.now)) result (S.taken out.old) (S.taken out.new) (S.faults out.old) (S.faults out.new) }
+    ensures too_many { most_files < length names.now → files.new ≡ files.old }
+    ensures many { most_files < length names.now → IsManyAnswer (ended result) }
+    ensures begins { IsErrOf result Memory → S.taken out.new ≡ S.taken out.old }
+{
+    let model = read_model(alloc, root, names, files)?;
+    write_cuts(alloc, &model.system, target, paging, out)
+}
+
+/// Writes the tree of a target in the model of a root.
+fn tree<F: Files, S: Sink>(
     alloc: Global,
     root: &Root,
     target: &Name,
@@ -150,12 +185,12 @@ fn cuts<F: Files, S: Sink>(
     files: &mut F,
     out: &mut S,
 ) -> Result<(), Status>
-    ensures end { RunsBut (IsReadEnd names.now (F.faults files.old) (F.faults files.new)) (command_text (F.contents files.old) (Cuts root.now target.now names.now)) result (S.taken out.old) (S.taken out.new) (S.faults out.old) (S.faults out.new) }
+    ensures end { RunsBut (IsReadEnd names.now (F.faults files.old) (F.faults files.new)) (command_text (F.contents files.old) (Tree root.now target.now names.now)) result (S.taken out.old) (S.taken out.new) (S.faults out.old) (S.faults out.new) }
     ensures too_many { most_files < length names.now → files.new ≡ files.old }
     ensures many { most_files < length names.now → IsManyAnswer (ended result) }
 {
     let model = read_model(alloc, root, names, files)?;
-    write_cuts(alloc, &model.system, target, out)
+    write_tree(alloc, &model.system, target, out)
 }
 
 /// The model of a root in the files of these names.
@@ -168,6 +203,7 @@ fn read_model<F: Files>(
     ensures meets { MeetsBut (IsReadEnd names.now (F.faults files.old) (F.faults files.new)) (λ model. model) (model_of_files (F.contents files.old) root.now names.now) result }
     ensures unread { most_files < length names.now → files.new ≡ files.old }
     ensures many { most_files < length names.now → result ≡ Err (Refused (of_words TooManyFiles most_files)) }
+    ensures plain { IfOk result (λ model. IsPlainSystem model.system) }
 {
     let texts = read_texts(alloc, files, names)?;
     model_of_texts(alloc, root, &texts)
@@ -181,18 +217,35 @@ fn write_check<S: Sink>(alloc: Global, model: &FlatModel, out: &mut S) -> Result
     Ok(())
 }
 
-/// Writes the listing of a target in a system.
+/// Writes a page of the listing of a target in a system.
 fn write_cuts<S: Sink>(
+    alloc: Global,
+    system: &FaultSystem,
+    target: &Name,
+    paging: &Paging,
+    out: &mut S,
+) -> Result<(), Status>
+    requires { IsPlainSystem system.now }
+    ensures page { Prints (cuts_text target.now paging.now system.now) result (S.taken out.old) (S.taken out.new) (S.faults out.old) (S.faults out.new) }
+    ensures begins { IsErrOf result Memory → S.taken out.new ≡ S.taken out.old }
+{
+    let number = find_target(system, target)?;
+    let start = find_start(alloc, system, paging)?;
+    let part = find_slice(alloc, system, number)?;
+    write_page(alloc, system, &part, &start, paging, out)
+}
+
+/// Writes the tree of a target in a system.
+fn write_tree<S: Sink>(
     alloc: Global,
     system: &FaultSystem,
     target: &Name,
     out: &mut S,
 ) -> Result<(), Status>
-    ensures { Prints (cuts_text target.now system.now) result (S.taken out.old) (S.taken out.new) (S.faults out.old) (S.faults out.new) }
+    requires { IsPlainSystem system.now }
+    ensures { Prints (tree_text target.now system.now) result (S.taken out.old) (S.taken out.new) (S.faults out.old) (S.faults out.new) }
 {
     let number = find_target(system, target)?;
     let part = find_slice(alloc, system, number)?;
-    let sets = minimal_cut_sets(alloc, system, &part)?;
-    write_listing(alloc, system, sets.items(), out)?;
-    Ok(())
+    write_galileo(alloc, system, &part, out)
 }

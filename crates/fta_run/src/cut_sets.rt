@@ -1,37 +1,118 @@
-//! The slice of a target, and its minimal cut sets.
+//! A page of the minimal cut sets of a target.
 
-ghost use Rattle.std.specs.Prelude.{◌<◌, IfOk, None, length};
+ghost use Rattle.std.specs.Prelude.{◌≡◌, ◌<◌, IfErr, IfOk, IsErrOf, OnErr, OnOk, length, option_map};
 ghost use Rattle.phases.specs.Meets.{Meets};
-ghost use Rattle.phases.specs.Phases.{rejects};
+ghost use Rattle.phases.specs.declared.status.Status.TheVariants as any_status;
+ghost use Rattle.fta_outside.specs.Outside.{Rose, TookPrefix, with_bytes};
 ghost use Rattle.fault_system.specs.Listings.{IsListing};
-ghost use Rattle.backward_slice.specs.Slices.{HasLargeSlice, IsServed, IsSlice};
+ghost use Rattle.backward_slice.specs.Slices.{IsSlice};
+ghost use Rattle.zdd_store.specs.Store.{Keeps};
+ghost use Rattle.cutset_lister.specs.Walks.{all_sets};
+ghost use Rattle.cutset_writer.specs.Pages.{IsReady};
+ghost use Rattle.cutset_writer.specs.Text.{listing_page};
+ghost use Rattle.model_phases.specs.Named.{IsPlainSystem};
+ghost use Rattle.fta_run.specs.Due.{page_of, slice_of, start_of};
+ghost use Rattle.fta_run.specs.Steps.{Prints};
 
+use crate::text::WriteStop;
 use aadl_syntax::{List, Mem};
 use backward_slice::{Slice, slice};
-use cutset_engine::family;
-use cutset_lister::listing;
+use cutset_engine::{family, in_slice};
+use cutset_lister::read_token;
+use cutset_writer::PageWriter;
 use dependency_blocks::blocks;
 use fault_system::FaultSystem;
+use fta_outside::Sink;
+use fta_words::Paging;
 use phases::Status;
 use std::alloc::Global;
 use zdd_store::Store;
 
+/// The set after which a page begins, where a text of it is given.
+pub fn find_start(
+    alloc: Global,
+    system: &FaultSystem,
+    paging: &Paging,
+) -> Result<Option<List<u32>>, Status>
+    requires { IsPlainSystem system.now }
+    ensures { Meets (start_of paging.now.after system.now) result }
+{
+    match &paging.after {
+        Some(text) => Ok(Some(read_token(alloc, system, text.items())?)),
+        None => Ok(None),
+    }
+}
+
 /// The slice of a target; it is refused where it has too many facts or events.
 pub fn find_slice(alloc: Global, system: &FaultSystem, target: u32) -> Result<Slice, Status>
     requires { target < length system.now.facts }
-    ensures { Meets (rejects (IsServed system.now target) (HasLargeSlice system.now target)) result }
+    ensures { Meets (slice_of target system.now) result }
 {
     let part = slice(alloc, system, target)?;
     Ok(part)
 }
 
-/// The minimal cut sets of the target of a slice, in listing order.
-pub fn minimal_cut_sets(alloc: Global, system: &FaultSystem, part: &Slice) -> Mem<List<List<u32>>>
+/// Writes the page of the listing of the target of a slice.
+pub fn write_page<S: Sink>(
+    alloc: Global,
+    system: &FaultSystem,
+    part: &Slice,
+    start: &Option<List<u32>>,
+    paging: &Paging,
+    out: &mut S,
+) -> Result<(), Status>
     requires { IsSlice system.now part.now.target part.now }
-    ensures { IfOk result (IsListing system.now part.now.target None) }
+    ensures page { Prints (page_of part.now.target start.now paging.now system.now) result (S.taken out.old) (S.taken out.new) (S.faults out.old) (S.faults out.new) }
+    ensures begins { IsErrOf result any_status.Memory → S.taken out.new ≡ S.taken out.old }
 {
     let mut store = Store::new(alloc);
+    let writer = page_writer(alloc, system, part, paging.max_order, &mut store)?;
+    write_listing(writer, system, &store, start, paging.limit, out)?;
+    Ok(())
+}
+
+/// The listing of the target of a slice, about to be written.
+fn page_writer(
+    alloc: Global,
+    system: &FaultSystem,
+    part: &Slice,
+    max_order: Option<u32>,
+    store: &mut Store,
+) -> Mem<PageWriter>
+    requires { IsSlice system.now part.now.target part.now }
+    ensures ready { IfOk result (IsReady system.now store.new) }
+    ensures listing { IfOk result (λ writer. IsListing system.now part.now.target max_order (all_sets store.new writer.listing)) }
+{
+    in_slice();
     let found = blocks(alloc, system, part)?;
-    let sets = family(alloc, system, part, &found, None, &mut store)?;
-    listing(alloc, &mut store, sets, system.events())
+    let sets = family(alloc, system, part, &found, max_order, store)?;
+    PageWriter::start(alloc, system, store, sets, part.events.items())
+}
+
+/// Writes the page of a listing. It takes no memory.
+fn write_listing<S: Sink>(
+    writer: PageWriter,
+    system: &FaultSystem,
+    store: &Store,
+    start: &Option<List<u32>>,
+    limit: Option<u32>,
+    out: &mut S,
+) -> Result<(), WriteStop>
+    requires { IsReady system.now store.now writer }
+    ensures whole { OnOk result (S.taken out.new ≡ with_bytes (S.taken out.old) (listing_page system.now start.now limit (all_sets store.now writer.listing))) }
+    ensures prefix { OnErr result (TookPrefix (S.taken out.old) (S.taken out.new) (listing_page system.now start.now limit (all_sets store.now writer.listing))) }
+    ensures failed { OnErr result (Rose (S.faults out.old) (S.faults out.new)) }
+    ensures only { IfErr result (λ stop. stop ≡ WriteStop.Failed) }
+{
+    writer.write(system, store, numbers_of(start), limit, out)?;
+    Ok(())
+}
+
+fn numbers_of(start: &Option<List<u32>>) -> Option<&[u32]>
+    ensures { option_map (λ set. set.now) result ≡ start.now }
+{
+    match start {
+        Some(set) => Some(set.items()),
+        None => None,
+    }
 }

@@ -8,6 +8,7 @@ mod laws;
 mod line;
 mod model;
 mod text;
+mod trees;
 mod words;
 
 pub use command::run;

@@ -1,5 +1,6 @@
 ghost use Rattle.std.specs.Prelude.{◌≡◌, ◌++◌, codes, decimal};
-ghost use Rattle.fta_run.specs.Line.{Writes, file_word, limit_text, place_text, refusal_text, status_line};
+ghost use Rattle.cutset_writer.specs.Written.{Writes};
+ghost use Rattle.fta_run.specs.Line.{constant_text, file_word, limit_text, place_text, refusal_text, status_line};
 
 use aadl_syntax::{Place, Refusal, Word};
 use fta_outside::{Sink, SinkFailed, write_all};
@@ -15,9 +16,20 @@ pub fn write_line<E: Sink>(err: &mut E, files: &[Word], status: &Status) -> Resu
         Status::Done => Ok(()),
         Status::Usage => write_piece(err, b"aadl_fta: usage\n"),
         Status::Refused(refusal) => write_refusal(err, files, refusal),
+        Status::Constant(always) => write_constant(err, *always),
         Status::ReadFault(file) => write_unread(err, file_word(files, *file)),
         Status::WriteFault => write_piece(err, b"aadl_fta: cannot write\n"),
         Status::Memory => write_piece(err, b"aadl_fta: out of memory\n"),
+    }
+}
+
+fn write_constant<E: Sink>(err: &mut E, always: bool) -> Result<(), SinkFailed>
+    ensures { Writes result (codes "aadl_fta: " ++ (constant_text always ++ codes "\n")) (E.taken err.old) (E.taken err.new) (E.faults err.old) (E.faults err.new) }
+{
+    if always {
+        write_piece(err, b"aadl_fta: constant true\n")
+    } else {
+        write_piece(err, b"aadl_fta: constant false\n")
     }
 }
 

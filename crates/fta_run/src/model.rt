@@ -2,9 +2,8 @@
 
 ghost use Rattle.std.specs.Prelude.{◌↔◌, IsTrue};
 ghost use Rattle.phases.specs.Meets.{Meets};
-ghost use Rattle.phases.specs.Phases.{answers};
-ghost use Rattle.fta_run.specs.Due.{model_of_texts, model_of_units};
-ghost use Rattle.fta_run.specs.Model.{HasName, IsFactNamed, LacksTarget};
+ghost use Rattle.fta_run.specs.Due.{model_of_texts, model_of_units, target_of};
+ghost use Rattle.fta_run.specs.Model.{HasName};
 
 use crate::input::{Texts, of_words, units_of_texts};
 use aadl_syntax::{Code, List, Name, Root, Unit, is_same};
@@ -33,7 +32,7 @@ fn model_of_units(alloc: Global, root: &Root, files: &List<List<Unit>>) -> Resul
 
 /// The number of the fact of a name.
 pub fn find_target(system: &FaultSystem, name: &Name) -> Result<u32, Status>
-    ensures { Meets (answers (IsFactNamed system.now name.now) (LacksTarget system.now name.now)) result }
+    ensures { Meets (target_of name.now system.now) result }
 {
     for number in 0..system.facts() {
         if has_name(system, number, name) {

@@ -1,5 +1,5 @@
 -- A model has one end at most, and stops with refusals alone.
-use Rattle.std.proofs.Common.{◌≡◌, List, Contains}
+use Rattle.std.proofs.Common.{◌≡◌, List, Contains, sym, ◌∙◌}
 use Rattle.aadl_syntax.specs.declared.core_model.PackageUnit.{PackageUnit}
 use Rattle.aadl_syntax.specs.declared.refusal.Refusal.{Refusal}
 use Rattle.aadl_syntax.specs.Order.{IsFirst}
@@ -8,7 +8,7 @@ use Rattle.phases.specs.Phases.{IsDecided, IsRefusal}
 use Rattle.phases.specs.declared.status.Status.{Status}
 use Rattle.phases.specs.declared.status.Status.TheVariants.{Refused}
 use Rattle.phases.proofs.Endings.{StopsOnly}
-use Rattle.phases.proofs.Leaves.{decided_tests}
+use Rattle.phases.proofs.Leaves.{decided_accepts, decided_tests}
 use Rattle.error_types.specs.Libraries.{HasTooManyTypes, Table, table_of}
 use Rattle.error_models.specs.Refused.{all_set_faults, machines_refusal, models_refusal}
 use Rattle.instantiator.specs.Refused.{instance_refusal}
@@ -16,7 +16,7 @@ use Rattle.instantiator.specs.Whole.{Instance, instance_of}
 use Rattle.propagation_links.specs.Refused.{links_refusal}
 use Rattle.model_facts.specs.Assembly.{Assembly, assembly_of, points_in}
 use Rattle.flattener.specs.Flat.{size_refusal}
-use Rattle.model_phases.specs.Phases.{content_tests, flat_model, flat_phase, kind_tests}
+use Rattle.model_phases.specs.Phases.{IsFlat, content_tests, flat_model, flat_phase, kind_tests}
 use Rattle.model_phases.specs.Tests.{IsIt}
 
 -- ---- one end at most
@@ -35,7 +35,7 @@ module _ (Same : Status → Status → Type 0) (itself : (status : Status) → S
   )
 
   flat_decided : (assembly : Assembly) → IsDecided Same (flat_phase assembly)
-  flat_decided assembly = (decided_tests Same itself (IsIt (size_refusal assembly)), λ _ small. tt)
+  flat_decided assembly = (decided_tests Same itself (IsIt (size_refusal assembly)), λ _ small. decided_accepts Same (IsFlat assembly) (λ a b one other. one.model_is ∙ sym other.model_is))
 
   -- the model of a root has one end at most
   pub model_decided : (packages : List PackageUnit) (root : ClassifierId) → IsDecided Same (flat_model packages root)
@@ -69,7 +69,7 @@ kinds_stop instance = (
 )
 
 flat_stops : (assembly : Assembly) → StopsOnly IsARefusal (flat_phase assembly)
-flat_stops assembly = (first_is (IsIt (size_refusal assembly)), λ _ small. tt)
+flat_stops assembly = (first_is (IsIt (size_refusal assembly)), λ _ small. (λ s none. absurd none))
 
 -- the model of a root stops with a refusal alone
 pub model_stops : (packages : List PackageUnit) (root : ClassifierId) → StopsOnly IsARefusal (flat_model packages root)

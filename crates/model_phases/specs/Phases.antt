@@ -1,7 +1,7 @@
 -- The phases of a model: what is refused of a root in packages, in order, and else its system.
-use Rattle.std.specs.Prelude.{List, length, Contains}
+use Rattle.std.specs.Prelude.{◌≡◌, List, length, Contains}
 use Rattle.aadl_syntax.specs.declared.core_model.PackageUnit.{PackageUnit}
-use Rattle.phases.specs.Phases.{Phase, yields, tests, ◌>>=◌}
+use Rattle.phases.specs.Phases.{Phase, accepts, tests, ◌>>=◌}
 use Rattle.package_index.specs.declared.id.ClassifierId.{ClassifierId}
 use Rattle.error_types.specs.Libraries.{HasTooManyTypes, Table, table_of}
 use Rattle.instantiator.specs.Refused.{instance_refusal}
@@ -11,6 +11,7 @@ use Rattle.propagation_links.specs.Refused.{links_refusal}
 use Rattle.model_facts.specs.Assembly.{Assembly, assembly_of, points_in}
 use Rattle.flattener.specs.Flat.{size_refusal, system_of}
 use Rattle.model_phases.specs.declared.flat.FlatModel.{FlatModel}
+use Rattle.model_phases.specs.Named.{IsPlainSystem}
 use Rattle.model_phases.specs.Tests.{IsIt}
 
 -- what is tested of the error models of kinds of components: the written sets that they use (N2, N7, N8, P4), and then each
@@ -32,11 +33,16 @@ kind_tests instance = do
 abbrev pub flat_of : Assembly → FlatModel
 flat_of assembly = record { components = length assembly.instance.components; system = system_of assembly }
 
+-- This is the model that is put together, as a system whose names are plain.
+pub record IsFlat (assembly : Assembly) (model : FlatModel) : Type 0 where
+  pub model_is : model ≡ flat_of assembly
+  pub plain : IsPlainSystem model.system
+
 -- a model that is put together, as a system that is not too large (M6, M7, M9)
 abbrev pub flat_phase : Assembly → Phase FlatModel
 flat_phase assembly = do
   _ ← tests (IsIt (size_refusal assembly))
-  yields (flat_of assembly)
+  accepts (IsFlat assembly)
 
 -- The model of a root in packages, as a system: its components are right (M4, M5, N2 to N6, P1 to P3), then their error models,
 -- then its links (M14, N14, P3, P9), and it is not too large.

@@ -1,20 +1,24 @@
-ghost use Rattle.std.specs.Prelude.{◌≡◌, IfOk};
+ghost use Rattle.std.specs.Prelude.{◌≡◌, IfOk, IfErr, OnOk, None};
 ghost use Rattle.phases.specs.Meets.{Meets};
 ghost use Rattle.phases.specs.Phases.{tests};
-ghost use Rattle.instantiator.specs.Refused.{instance_refusal};
+ghost use Rattle.instantiator.specs.Refused.{StopsAt, instance_refusal};
 ghost use Rattle.instantiator.specs.Whole.{instance_of};
 ghost use Rattle.propagation_links.specs.Links.{links_of};
 ghost use Rattle.propagation_links.specs.Refused.{links_refusal};
 ghost use Rattle.model_facts.specs.Assembly.{points_in};
+ghost use Rattle.flattener.specs.Flat.{size_refusal, system_of};
+ghost use Rattle.model_phases.specs.Named.{IsPlainSystem};
 ghost use Rattle.model_phases.specs.Phases.{flat_model, flat_phase};
 ghost use Rattle.model_phases.specs.Tests.{IsIt, MeetsTests};
 
 use crate::kinds::{Kinds, kinds_of};
-use aadl_syntax::List;
+use aadl_syntax::{Answer, List};
 use fault_system::FaultSystem;
 use flattener::flatten;
 use instantiator::Instance;
-use model_facts::{Assembly, points_of_models};
+use model_facts::{
+    Assembly, are_named, event_names_are_plain, fact_names_are_plain, points_of_models,
+};
 use package_index::{ClassifierId, Index};
 use phases::Status;
 use propagation_links::{Link, links_of};
@@ -78,9 +82,24 @@ fn flat_with<'m, 'i, 'a>(
     ensures { Meets (flat_phase (record { instance = instance.now; types = kinds.now.types; models = kinds.now.models; links = links.now })) result }
 {
     let assembly = Assembly::new(instance, &kinds.types, kinds.models.items(), links.items());
-    let system = flatten(alloc, &assembly)?;
+    let system = plain_system(alloc, &assembly)?;
     Ok(FlatModel {
         components: instance.components().len() as u32,
         system,
     })
+}
+
+/// The system of a model. Its names are made of identifiers, and so they are plain.
+fn plain_system(alloc: Global, assembly: &Assembly) -> Answer<FaultSystem>
+    ensures system { IfOk result (λ system. system ≡ system_of assembly.now) }
+    ensures plain { IfOk result IsPlainSystem }
+    ensures accepted { OnOk result (size_refusal assembly.now ≡ None) }
+    ensures refused { IfErr result (StopsAt (size_refusal assembly.now)) }
+{
+    are_named(assembly)?;
+    fact_names_are_plain();
+    event_names_are_plain();
+    let system = flatten(alloc, assembly)?;
+    let _facts = system.facts();
+    Ok(system)
 }

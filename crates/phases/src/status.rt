@@ -12,6 +12,8 @@ pub enum Status {
     Usage,
     /// The words or the texts are refused.
     Refused(Refusal),
+    /// The target of a tree holds under no event at all (true), or fails under all of them (false), so it has no tree.
+    Constant(bool),
     /// The file word of this number, counted from 0, could not be read.
     ReadFault(u32),
     /// A write to the output failed.
@@ -31,6 +33,7 @@ impl Status {
             Status::Done => 0,
             Status::Usage => 1,
             Status::Refused(_) => 2,
+            Status::Constant(_) => 3,
             Status::ReadFault(_) => 4,
             Status::WriteFault => 5,
             Status::Memory => 7,

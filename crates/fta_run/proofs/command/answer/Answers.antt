@@ -1,4 +1,4 @@
-use Rattle.fta_run.specs.Shown.{command_shown}
+use Rattle.fta_words.specs.Shown.{command_shown}
 use Rattle.fta_run.proofs.Ran.{many_named, ran}
 use Rattle.fta_run.proofs.command.answer.Goals as goal
 

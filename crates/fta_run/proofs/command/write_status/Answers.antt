@@ -1,7 +1,7 @@
 use Rattle.std.proofs.Common.{subst}
 use Rattle.fta_outside.specs.Outside.{TookPrefix}
 use Rattle.fta_run.specs.Line.{status_line}
-use Rattle.fta_run.proofs.Writes.{wrote_front}
+use Rattle.cutset_writer.proofs.Writing.{wrote_front}
 use Rattle.fta_run.proofs.command.write_status.Goals as goal
 
 pub returns-clause-at_most_the_line : goal.returns-clause-at_most_the_line

@@ -1,6 +1,6 @@
 use Rattle.std.proofs.Common.{◌++◌, codes, decimal, sym, append_assoc}
 use Rattle.std.proofs.lemmas.Result.{err_from_is_err_and}
-use Rattle.fta_run.proofs.Writes.{wrote_not, wrote_then}
+use Rattle.cutset_writer.proofs.Writing.{wrote_not, wrote_then}
 use Rattle.fta_run.proofs.line.write_byte.Goals as goal
 
 pub returns-in_err-write_two : goal.returns-in_err-write_two

@@ -1,6 +1,6 @@
 use Rattle.std.proofs.Common.{◌≡◌, ◌++◌, ◌==◌, false, codes, decimal, if◌then◌else◌, [], ap, arith}
 use Rattle.std.proofs.lemmas.Bool.Decides.{nat_tests}
-use Rattle.fta_run.proofs.Writes.{wrote_then}
+use Rattle.cutset_writer.proofs.Writing.{wrote_then}
 use Rattle.fta_run.proofs.line.write_limit.Goals as goal
 
 pub returns : goal.returns

@@ -1,6 +1,6 @@
 use Rattle.std.proofs.Common.{◌++◌, codes, refl}
 use Rattle.fta_run.specs.Line.{limit_text, place_text}
-use Rattle.fta_run.proofs.Writes.{wrote_then}
+use Rattle.cutset_writer.proofs.Writing.{wrote_then}
 use Rattle.fta_run.proofs.line.write_place_and_limit.Goals as goal
 
 pub returns : goal.returns

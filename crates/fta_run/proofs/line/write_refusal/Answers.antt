@@ -1,9 +1,13 @@
-use Rattle.std.proofs.Common.{◌≡◌, ◌++◌, codes, sym, ap, ◌∙◌}
+use Rattle.std.proofs.Common.{◌≡◌, ℕ, List, ◌++◌, codes, sym, ap, ◌∙◌, append_assoc}
 use Rattle.std.proofs.lemmas.Result.{err_from_is_err_and}
 use Rattle.aadl_syntax.specs.Refusal.{code_text}
 use Rattle.fta_run.specs.Line.{limit_text, place_text}
-use Rattle.fta_run.proofs.Writes.{line_parts, wrote_not, wrote_then}
+use Rattle.cutset_writer.proofs.Writing.{wrote_not, wrote_then}
 use Rattle.fta_run.proofs.line.write_refusal.Goals as goal
+
+-- the parts of a refusal's line, one after the other
+line_parts : (start code place limit end : List ℕ) → start ++ ((code ++ (place ++ limit)) ++ end) ≡ (start ++ code) ++ (place ++ (limit ++ end))
+line_parts start code place limit end = simp append_assoc
 
 pub returns-in_err-write_two : goal.returns-in_err-write_two
 returns-in_err-write_two g c =

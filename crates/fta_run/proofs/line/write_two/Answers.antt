@@ -1,5 +1,5 @@
 use Rattle.std.proofs.Common.{refl}
-use Rattle.fta_run.proofs.Writes.{wrote_then}
+use Rattle.cutset_writer.proofs.Writing.{wrote_then}
 use Rattle.fta_run.proofs.line.write_two.Goals as goal
 
 pub returns : goal.returns

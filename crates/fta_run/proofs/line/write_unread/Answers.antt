@@ -1,6 +1,6 @@
 use Rattle.std.proofs.Common.{◌++◌, codes, refl}
 use Rattle.std.proofs.lemmas.Result.{err_from_is_err_and}
-use Rattle.fta_run.proofs.Writes.{wrote_not, wrote_then}
+use Rattle.cutset_writer.proofs.Writing.{wrote_not, wrote_then}
 use Rattle.fta_run.proofs.line.write_unread.Goals as goal
 
 pub returns-in_err-write_piece : goal.returns-in_err-write_piece

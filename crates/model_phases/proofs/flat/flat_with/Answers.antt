@@ -1,8 +1,7 @@
 use Rattle.std.proofs.Common.{◌≡◌, length, ap, sym, ◌∙◌, subst}
 use Rattle.phases.specs.Meets.{IsMemory}
-use Rattle.phases.specs.Phases.{Passes}
 use Rattle.phases.specs.Stopped.{status_of}
-use Rattle.phases.proofs.Steps.{◌passes◌, ends, exits, given}
+use Rattle.phases.proofs.Steps.{ends, exits}
 use Rattle.instantiator.specs.Refused.{StopsAt}
 use Rattle.model_facts.specs.Assembly.{Assembly}
 use Rattle.flattener.specs.Flat.{size_refusal, system_of}
@@ -26,5 +25,5 @@ returns c =
     let same : c.new-assembly.result ≡ assembly =
     c.new-assembly.ensures ∙ (λ i. record { instance = c.args.instance.now; types = c.args.kinds.now.types; models = c.items.ensures.items i; links = c.items-2.ensures.items i }) in
     let system = c.in_ok-system.ensures.system ∙ ap system_of same in
-    let made : flat_of assembly ≡ record { components = length c.components.result.now; system = c.in_ok-system.system } = λ i. record { components = length (sym c.components.ensures.components i); system = sym system i } in
-    subst (Passes (flat_phase assembly)) made (none_passes (size_refusal assembly) (ap size_refusal (sym same) ∙ c.in_ok-system.ensures.accepted) passes given)
+    let made : record { components = length c.components.result.now; system = c.in_ok-system.system } ≡ flat_of assembly = λ i. record { components = length (c.components.ensures.components i); system = system i } in
+    record { passed = ((tt {0}), (none_passes (size_refusal assembly) (ap size_refusal (sym same) ∙ c.in_ok-system.ensures.accepted)).passed, record { model_is = made; plain = c.in_ok-system.ensures.plain }) }

@@ -1,0 +1,3 @@
+pub mod Writing
+mod SetLines
+mod PageTexts

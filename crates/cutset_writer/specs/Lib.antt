@@ -1,0 +1,5 @@
+pub mod Text
+pub mod Lengths
+pub mod Written
+pub mod Pages
+pub mod Steps

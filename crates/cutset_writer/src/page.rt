@@ -1,0 +1,173 @@
+ghost use Rattle.std.specs.Prelude.{◌≡◌, ◌<◌, ◌≤◌, ℕ, List as Items, Contains, IfOk, IsTrue, Option, MatchResult, codes, length, option_map, vec_capacity};
+ghost use Rattle.fault_system.specs.CutSets.{IsEventSet};
+ghost use Rattle.fault_system.specs.Listings.{IsInListingOrder};
+ghost use Rattle.zdd_store.specs.Family.{is_within};
+ghost use Rattle.zdd_store.specs.Store.{IsIn, Keeps, family_of};
+ghost use Rattle.cutset_lister.specs.Walks.{IsSameListing, IsStarted, all_sets, sets_left};
+ghost use Rattle.cutset_writer.specs.Pages.{HasRoom, IsReady, Lists, goes_on, has_room, later, next_line, one_less};
+ghost use Rattle.cutset_writer.specs.Text.{listing_page, page_text, set_line};
+ghost use Rattle.cutset_writer.specs.Written.{Writes};
+
+use crate::lines::{longest_line, put_line};
+use aadl_syntax::Mem;
+use cutset_lister::Listing;
+use fault_system::FaultSystem;
+use fta_outside::{Sink, SinkFailed, Steps, write_all};
+use std::alloc::{AllocError, Global};
+use std::marker::Brand;
+use std::sync::ledger::{Blank, Ledger};
+use zdd_store::{Id, Store};
+
+/// A listing that is about to be written, with all the memory that this needs.
+#[derive(Drop)]
+pub struct PageWriter {
+    listing: Listing,
+    line: Vec<u8>,
+}
+
+impl PageWriter {
+    /// Makes ready to write sets of a family. They are sets of events of the system, and among these events.
+    pub fn start(
+        alloc: Global,
+        system: &FaultSystem,
+        store: &mut Store,
+        family: Id,
+        events: &[u32],
+    ) -> Mem<PageWriter>
+        requires found { IsIn store.old family }
+        requires sets { (set : Items ℕ) → Contains (family_of store.old family) set → IsEventSet system.now set }
+        requires among { (set : Items ℕ) → Contains (family_of store.old family) set → IsTrue (is_within set events.now) }
+        ensures ready { IfOk result (IsReady system.now store.new) }
+        ensures lists { IfOk result (λ writer. Lists (family_of store.old family) (all_sets store.new writer.listing)) }
+        ensures kept { Keeps store.old store.new }
+    {
+        let _events = system.events();
+        let Some(room) = longest_line(system) else {
+            return Err(AllocError);
+        };
+        let listing = Listing::start(alloc, store, family, events)?;
+        let line = Vec::with_capacity(alloc, room)?;
+        Ok(PageWriter { listing, line })
+    }
+
+    /// Writes a page, each line at once: the sets that stand later than `after`, as many as the limit lets, and then `more` where
+    /// a further set follows, else `end`. It takes no memory.
+    pub fn write<S: Sink>(
+        mut self,
+        system: &FaultSystem,
+        store: &Store,
+        after: Option<&[u32]>,
+        limit: Option<u32>,
+        sink: &mut S,
+    ) -> Result<(), SinkFailed>
+        requires { IsReady system.now store.now self }
+        ensures { Writes result (listing_page system.now (option_map (λ set. set.now) after.entry) limit (all_sets store.now self.listing)) (S.taken sink.old) (S.taken sink.new) (S.faults sink.old) (S.faults sink.new) }
+    {
+        write_on_ledger::<S, Brand>(
+            &mut self.listing,
+            system,
+            store,
+            after,
+            limit,
+            &mut self.line,
+            sink,
+            Blank::new(1),
+        )
+    }
+}
+
+/// Writes a page, and counts its steps on a ledger of its own.
+fn write_on_ledger<S: Sink, L: Ledger>(
+    listing: &mut Listing,
+    system: &FaultSystem,
+    store: &Store,
+    after: Option<&[u32]>,
+    limit: Option<u32>,
+    line: &mut Vec<u8>,
+    sink: &mut S,
+    blank: Blank,
+) -> Result<(), SinkFailed>
+    requires name { blank.name ≡ L.name }
+    requires parts { blank.parts ≡ L.parts }
+    requires some { 0 < L.parts }
+    requires started { IsStarted store.now listing.old }
+    requires left { sets_left store.now listing.old ≡ all_sets store.now listing.old }
+    requires room { HasRoom system.now (vec_capacity line.old) (all_sets store.now listing.old) }
+    ensures { Writes result (listing_page system.now (option_map (λ set. set.now) after.entry) limit (all_sets store.now listing.old)) (S.taken sink.old) (S.taken sink.new) (S.faults sink.old) (S.faults sink.new) }
+{
+    let mut steps = Steps::<L>::new(blank);
+    if let Some(set) = after {
+        listing.seek(store, set, &mut steps);
+    }
+    write_sets(listing, system, store, limit, line, sink, &mut steps)
+}
+
+/// Writes the sets that are left, as many as the limit lets, and the last line.
+fn write_sets<S: Sink, L: Ledger>(
+    listing: &mut Listing,
+    system: &FaultSystem,
+    store: &Store,
+    limit: Option<u32>,
+    line: &mut Vec<u8>,
+    sink: &mut S,
+    steps: &mut Steps<L>,
+) -> Result<(), SinkFailed>
+    requires started { IsStarted store.now listing.old }
+    requires room { HasRoom system.now (vec_capacity line.old) (sets_left store.now listing.old) }
+    ensures { Writes result (page_text system.now limit (sets_left store.now listing.old)) (S.taken sink.old) (S.taken sink.new) (S.faults sink.old) (S.faults sink.new) }
+{
+    let mut room = limit;
+    while write_next(listing, system, store, room, line, sink, steps)? {
+        room = one_less(room);
+    }
+    Ok(())
+}
+
+fn one_less(limit: Option<u32>) -> Option<u32>
+    ensures { result ≡ one_less limit }
+{
+    match limit {
+        Some(limit) => Some(limit.saturating_sub(1)),
+        None => None,
+    }
+}
+
+fn has_room(limit: Option<u32>) -> bool
+    ensures { result ≡ has_room limit }
+{
+    match limit {
+        Some(limit) => limit != 0,
+        None => true,
+    }
+}
+
+/// Writes the line of the next set if the limit lets it stand, and else the last line; whether the page goes on.
+fn write_next<S: Sink, L: Ledger>(
+    listing: &mut Listing,
+    system: &FaultSystem,
+    store: &Store,
+    limit: Option<u32>,
+    line: &mut Vec<u8>,
+    sink: &mut S,
+    steps: &mut Steps<L>,
+) -> Result<bool, SinkFailed>
+    requires started { IsStarted store.now listing.old }
+    requires room { HasRoom system.now (vec_capacity line.old) (sets_left store.now listing.old) }
+    ensures wrote { Writes result (next_line system.now limit (sets_left store.now listing.old)) (S.taken sink.old) (S.taken sink.new) (S.faults sink.old) (S.faults sink.new) }
+    ensures goes { IfOk result (λ on. on ≡ goes_on limit (sets_left store.now listing.old)) }
+    ensures same { IsSameListing store.now listing.old listing.new }
+    ensures left { sets_left store.now listing.new ≡ later (sets_left store.now listing.old) }
+    ensures room { vec_capacity line.old ≤ vec_capacity line.new }
+{
+    let Some(set) = listing.next(store, steps) else {
+        write_all(sink, b"end\n")?;
+        return Ok(false);
+    };
+    if !has_room(limit) {
+        write_all(sink, b"more\n")?;
+        return Ok(false);
+    }
+    put_line(system, set, line);
+    write_all(sink, line.as_slice())?;
+    Ok(true)
+}

@@ -1,0 +1,65 @@
+-- What the plain names of a system are good for.
+use Rattle.std.proofs.Common.{◌≡◌, ◌≢◌, ℕ, List, [], ◌∷◌, ◌++◌, codes, Option, Result, Ok, Err, IfOk, Contains, sym, subst, ◌∙◌, inl, inr, arith}
+use Rattle.std.specs.Prelude.{All}
+use Rattle.std.specs.List.{AllByRecursion}
+use Rattle.std.proofs.lemmas.List.Elements.{All-weaker}
+use Rattle.aadl_syntax.specs.declared.name.Root.{Root}
+use Rattle.fault_system.specs.Systems.{System}
+use Rattle.fault_system.specs.declared.formula.EventInfo.{EventInfo}
+use Rattle.fault_system.specs.declared.formula.FactInfo.{FactInfo}
+use Rattle.fault_system.proofs.Elements.{In-contains, each-at}
+use Rattle.cutset_lister.specs.SetText.{HasTokenNames, IsTokenName}
+use Rattle.galileo_writer.specs.Galileo.{IsPlainName}
+use Rattle.galileo_writer.specs.TreeText.{HasTextNames}
+use Rattle.phases.specs.Meets.{Meets}
+use Rattle.phases.specs.Phases.{Passed}
+use Rattle.phases.specs.declared.status.Status.{Status}
+use Rattle.model_facts.specs.Laws.{IsPlain, Lacks}
+use Rattle.model_phases.specs.Named.{IsPlainSystem}
+use Rattle.model_phases.specs.declared.flat.FlatModel.{FlatModel}
+use Rattle.fta_run.specs.Due.{model_of_files, model_of_texts}
+
+-- a byte that a text lacks is not in it
+lacks : (byte : ℕ) (text : List ℕ) → Lacks byte text → Contains text byte → ⊥
+lacks byte text none here = each-at (λ other. other ≢ byte) byte text none (In-contains byte text here) (λ i. byte)
+
+-- the separators that a plain name lacks
+no_line_feed : (name : List ℕ) → IsPlain name → Contains name 10 → ⊥
+no_line_feed name plain = lacks 10 name plain.plain.1.0
+
+no_quote : (name : List ℕ) → IsPlain name → Contains name 34 → ⊥
+no_quote name plain = lacks 34 name plain.plain.1.1.1.1.0
+
+no_plus : (name : List ℕ) → IsPlain name → Contains name 43 → ⊥
+no_plus name plain = lacks 43 name plain.plain.1.1.1.1.1.0
+
+no_at : (name : List ℕ) → IsPlain name → Contains name 64 → ⊥
+no_at name plain = lacks 64 name plain.plain.1.1.1.1.1.1.1.0
+
+-- a plain name is not empty, and not `none`
+not_empty : (name : List ℕ) → IsPlain name → name ≢ []
+not_empty name plain is = let never : codes "root" ++ plain.rest ≡ [] = sym plain.begins ∙ is in cc
+
+not_none : (name : List ℕ) → IsPlain name → name ≢ codes "none"
+not_none name plain is = let same : 114 ∷ (111 ∷ (111 ∷ (116 ∷ plain.rest))) ≡ codes "none" = sym plain.begins ∙ is in let first : ◌≡◌ {A = ℕ} 114 110 = cc in omega (arith, first)
+
+pub token_names : (system : System) → IsPlainSystem system → HasTokenNames system
+token_names system plain = All-weaker (λ (event : EventInfo). IsPlain event.name) (λ (event : EventInfo). IsTokenName event.name) (λ event is. (not_none event.name is, no_plus event.name is)) system.events plain.event_names
+
+text_name : (name : List ℕ) → IsPlain name → IsPlainName name
+text_name name plain = record { some = not_empty name plain; no_quote = no_quote name plain; no_line_feed = no_line_feed name plain }
+
+pub text_names : (system : System) → IsPlainSystem system → HasTextNames system
+text_names system plain = record {
+  facts = All-weaker (λ (fact : FactInfo). IsPlain fact.name) (λ (fact : FactInfo). IsPlainName fact.name) (λ fact is. text_name fact.name is) system.facts plain.fact_names;
+  events = All-weaker (λ (event : EventInfo). IsPlain event.name) (λ (event : EventInfo). IsPlainName event.name) (λ event is. text_name event.name is) system.events plain.event_names;
+  no_at = All-weaker (λ (event : EventInfo). IsPlain event.name) (λ (event : EventInfo). Contains event.name 64 → ⊥) (λ event is. no_at event.name is) system.events plain.event_names;
+}
+
+-- the model of a root has plain names
+pub plain_model : (contents : List ℕ → Option (List ℕ)) (root : Root) (files : List (List ℕ)) (model : FlatModel) → Passed (model_of_files contents root files) model → IsPlainSystem model.system
+plain_model contents root files model at = at.2.2.2.2.2.2.2.2.plain
+
+pub plain_texts : (root : Root) (texts : List (List ℕ)) (result : Result FlatModel Status) → Meets (model_of_texts root texts) result → IfOk result (λ model. IsPlainSystem model.system)
+plain_texts root texts (Ok model) passes = passes.passed.2.2.2.2.2.2.2.plain
+plain_texts root texts (Err status) end = tt

@@ -1,6 +1,0 @@
-use Rattle.std.proofs.Common.{◌≡◌, ◌++◌, take, drop}
-use Rattle.fta_run.specs.Words.{before_options}
-use Rattle.fta_run.proofs.words.before_options.Given as goal
-
-abbrev pub invariant-loop-number : goal.invariant-loop-number
-invariant-loop-number l = before_options l.words ≡ take l.number l.words ++ before_options (drop l.number l.words)

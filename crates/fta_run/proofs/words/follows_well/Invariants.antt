@@ -1,6 +1,0 @@
-use Rattle.std.proofs.Common.{◌≡◌, false, drop}
-use Rattle.fta_run.specs.Words.{follows_well}
-use Rattle.fta_run.proofs.words.follows_well.Given as goal
-
-abbrev pub invariant-loop-byte : goal.invariant-loop-byte
-invariant-loop-byte l = follows_well l.waiting (drop l.byte-index l.bytes) ≡ follows_well false l.bytes

@@ -1,0 +1,54 @@
+ghost use Rattle.std.specs.Prelude.{◌≡◌, ◌≤◌, length};
+ghost use Rattle.fta_words.specs.Words.{before_options, file_words, is_option, words_before_files};
+
+use aadl_syntax::{Word, is_same};
+
+/// The words that name files: those behind the first two of `check`, `fmea` and `make`, and behind the first three of any other,
+/// up to the first that begins with `-`.
+pub fn file_words(words: &[Word]) -> &[Word]
+    ensures { result.now ≡ file_words words.now }
+{
+    let [name, ..] = words else {
+        return words;
+    };
+    let plain = before_options(words);
+    let before = words_before_files(name.items());
+    if before < plain.len() {
+        &plain[before..]
+    } else {
+        &[]
+    }
+}
+
+/// How many plain words of a command of this name stand before its files.
+fn words_before_files(name: &[u8]) -> usize
+    ensures { result ≡ words_before_files name.now }
+{
+    if is_same(name, b"check") || is_same(name, b"fmea") || is_same(name, b"make") {
+        2
+    } else {
+        3
+    }
+}
+
+/// The words before the first that begins with `-`.
+pub(crate) fn before_options(words: &[Word]) -> &[Word]
+    ensures value { result.now ≡ before_options words.now }
+    ensures front { length result.now ≤ length words.now }
+{
+    for (number, word) in words.iter().enumerate() {
+        if is_option(word.items()) {
+            return &words[..number];
+        }
+    }
+    words
+}
+
+fn is_option(word: &[u8]) -> bool
+    ensures { result ≡ is_option word.now }
+{
+    match word {
+        [] => false,
+        [first, ..] => *first == b'-',
+    }
+}

@@ -1,0 +1,65 @@
+ghost use Rattle.std.specs.Prelude.{◌≡◌, ◌↔◌, IsTrue, MatchOption, Contains};
+ghost use Rattle.fta_words.specs.Reading.{flags_of, name_of, valued_of};
+ghost use Rattle.fta_words.specs.declared.kind.Kind.{Kind};
+
+use aadl_syntax::is_same;
+
+/// Which command is asked for.
+#[derive(Clone, Copy)]
+pub(crate) enum Kind {
+    Check,
+    Cuts,
+    Tree,
+    Fmea,
+    Report,
+    Make,
+}
+
+/// The command of a name.
+pub(crate) fn kind_named(name: &[u8]) -> Option<Kind>
+    ensures { MatchOption result ((kind : Kind) → name.now ≡ name_of kind → ⊥) (λ kind. name.now ≡ name_of kind) }
+{
+    if is_same(name, b"check") {
+        return Some(Kind::Check);
+    }
+    if is_same(name, b"cuts") {
+        return Some(Kind::Cuts);
+    }
+    if is_same(name, b"tree") {
+        return Some(Kind::Tree);
+    }
+    if is_same(name, b"fmea") {
+        return Some(Kind::Fmea);
+    }
+    if is_same(name, b"report") {
+        return Some(Kind::Report);
+    }
+    if is_same(name, b"make") {
+        return Some(Kind::Make);
+    }
+    None
+}
+
+/// Whether a command has a flag of this name.
+pub(crate) fn has_flag(kind: Kind, name: &[u8]) -> bool
+    ensures { IsTrue result ↔ Contains (flags_of kind) name.now }
+{
+    match kind {
+        Kind::Fmea => is_same(name, b"all"),
+        Kind::Make => is_same(name, b"text"),
+        Kind::Check | Kind::Cuts | Kind::Tree | Kind::Report => false,
+    }
+}
+
+/// Whether a command has an option of this name that has a value.
+pub(crate) fn has_valued(kind: Kind, name: &[u8]) -> bool
+    ensures { IsTrue result ↔ Contains (valued_of kind) name.now }
+{
+    match kind {
+        Kind::Cuts => {
+            is_same(name, b"limit") || is_same(name, b"after") || is_same(name, b"max-order")
+        }
+        Kind::Report => is_same(name, b"reports") || is_same(name, b"max-order"),
+        Kind::Check | Kind::Tree | Kind::Fmea | Kind::Make => false,
+    }
+}
