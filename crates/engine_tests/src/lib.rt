@@ -6,6 +6,8 @@ mod cut_sets;
 #[cfg(test)]
 mod diagrams;
 #[cfg(test)]
+mod feedback;
+#[cfg(test)]
 mod systems;
 #[cfg(test)]
 mod trees;

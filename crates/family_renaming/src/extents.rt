@@ -40,11 +40,13 @@ fn extent_of(store: &Store, known: &mut HashMap<Id, Extent>, id: Id) -> Mem<Exte
     Ok(both)
 }
 
-/// Whether a family has few sets: at most 1,048,576, with at most 16,777,216 numbers in all.
+/// Whether a family has few sets: at most 16 for each node of its diagram, and at most 1,048,576, with at most 16,777,216
+/// numbers in all.
 pub(crate) fn has_few_sets(alloc: Global, store: &Store, id: Id) -> Mem<bool>
     requires { IsIn store.now id }
 {
     let mut known = HashMap::new(alloc);
     let extent = extent_of(store, &mut known, id)?;
-    Ok(extent.sets <= 1_048_576 && extent.numbers <= 16_777_216)
+    let nodes = known.len() as u64;
+    Ok(extent.sets <= 1_048_576 && extent.numbers <= 16_777_216 && extent.sets / 16 <= nodes)
 }
