@@ -87,7 +87,7 @@ ascii [] all (suc i) = omega arith
 ascii (byte ∷ bytes) all zero = small byte (both (nat_lt byte 128) (list_all (λ b. nat_lt b 128) bytes) all).0
 ascii (byte ∷ bytes) all (suc i) = ascii bytes (both (nat_lt byte 128) (list_all (λ b. nat_lt b 128) bytes) all).1 i
 
-ascii_text : (bytes : List ℕ) → list_all (λ byte. nat_lt byte 128) bytes ≡ true → IsUtf8 bytes
+pub ascii_text : (bytes : List ℕ) → list_all (λ byte. nat_lt byte 128) bytes ≡ true → IsUtf8 bytes
 ascii_text bytes all = IsUtf8-from_ascii bytes (ascii bytes all)
 
 -- the name of an option, behind `--`, is text

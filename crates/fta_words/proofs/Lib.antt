@@ -7,4 +7,4 @@ mod Places
 mod PlainFront
 mod Spelled
 pub mod Commands
-pub mod Roots
+mod Roots

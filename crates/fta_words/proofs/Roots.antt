@@ -6,12 +6,9 @@ use Rattle.std.proofs.lemmas.Bool.{false≢true, cases_lt}
 use Rattle.aadl_syntax.specs.declared.name.Root.{Root}
 use Rattle.aadl_syntax.specs.Form.{IsWord, is_letter, is_letter_or_digit}
 use Rattle.fta_words.specs.Words.{AreJoined, IsRoot, dotted, with_colons}
+use Rattle.fta_words.specs.Naming.{Without}
 use Rattle.fta_words.specs.Reading.{follows_well}
 use Rattle.fta_words.proofs.Identifiers.{follows_of}
-
--- no byte is the sign
-abbrev pub Without : ℕ → List ℕ → Type 0
-Without sign bytes = AllByRecursion (λ b. b ≡ sign → ⊥) bytes
 
 next_byte : (t u v x y : Bool) → cond t x (u && (v && y)) ≡ true → ((t ≡ true) × (x ≡ true)) ⊎ ((u ≡ true) × (y ≡ true))
 next_byte true u v x y h = inl (refl, h)

@@ -1,4 +1,4 @@
-ghost use Rattle.std.specs.Prelude.{◌≡◌, ◌≤◌, ℕ, List, Option, Some, IfOk, IfSome, MatchOption, Contains, length, option_map, true, false};
+ghost use Rattle.std.specs.Prelude.{◌≡◌, ℕ, List, Some, IfOk, IfSome, MatchOption, Contains, length, option_map, true, false};
 ghost use Rattle.fta_words.specs.Words.{AreAll, AreChosen, IsReport};
 ghost use Rattle.fta_words.specs.Naming.{AreInOrder, NamesNoPlaces, NamesPlaces};
 

@@ -1,6 +1,5 @@
-ghost use Rattle.std.specs.Prelude.{◌≡◌, ◌++◌, ◌∷◌, [], ◌<◌, List, ℕ, Option, Some, IfOk, IfErr, IfSome, MatchOption, codes, option_map};
-ghost use Rattle.std.specs.List.{AllByRecursion};
-ghost use Rattle.fta_words.specs.Words.{IsCommand, IsFolded, IsNumberText, Says};
+ghost use Rattle.std.specs.Prelude.{◌≡◌, ◌∷◌, List, ℕ, Option, Some, IfOk, IfErr, IfSome, codes, option_map};
+ghost use Rattle.fta_words.specs.Words.{IsCommand, IsFolded, Says};
 ghost use Rattle.fta_words.specs.Reading.{Answers, ReadsAs, PagesAs, name_of, options_shown};
 ghost use Rattle.fta_words.specs.Reasons.{TellsUsage};
 ghost use Rattle.fta_words.specs.Shown.{command_shown};

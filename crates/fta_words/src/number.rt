@@ -1,4 +1,4 @@
-ghost use Rattle.std.specs.Prelude.{◌≡◌, ◌≤◌, ℕ, Option, Some, IfSome, option_map};
+ghost use Rattle.std.specs.Prelude.{◌≡◌, ℕ, Option, Some, IfSome, option_map};
 ghost use Rattle.fta_words.specs.Words.{IsNumberText, Says};
 
 /// The number that an option says, where it is given; none where its text is none of a number.

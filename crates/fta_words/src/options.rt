@@ -1,8 +1,7 @@
-ghost use Rattle.std.specs.Prelude.{◌≡◌, ◌↔◌, ◌≤◌, ◌++◌, [], ℕ, length, List, IsTrue, IfOk, MatchOption, IfNone, option_map, codes, Contains, ◌∷◌};
-ghost use Rattle.std.specs.List.{AllByRecursion, list_any};
-ghost use Rattle.aadl_syntax.specs.Name.{is_same_text};
-ghost use Rattle.fta_words.specs.Words.{AreOptions, Given, IsAllowed, has_flag, option_words, value_of};
-ghost use Rattle.fta_words.specs.Reading.{HaveOptions, NoneStandsFirst, Say, StandsFirst, flags_of, options_shown, valued_of};
+ghost use Rattle.std.specs.Prelude.{◌≡◌, ◌↔◌, ◌≤◌, ◌++◌, ℕ, length, List, IsTrue, MatchOption, ◌∷◌};
+ghost use Rattle.std.specs.List.{AllByRecursion};
+ghost use Rattle.fta_words.specs.Words.{Given, IsAllowed, has_flag, option_words};
+ghost use Rattle.fta_words.specs.Reading.{HaveOptions, NoneStandsFirst, StandsFirst, flags_of, valued_of};
 
 use crate::kind::{Kind, has_flag, has_valued};
 use crate::plain::is_plain;
