@@ -8,3 +8,4 @@ mod OneDue
 mod Prints
 mod Ran
 mod Listed
+mod TreeTexts

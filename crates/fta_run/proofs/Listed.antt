@@ -1,5 +1,5 @@
 -- The sets of a family of minimal cut sets in listing order are a listing.
-use Rattle.std.proofs.Common.{◌≡◌, ℕ, List, Contains, Option}
+use Rattle.std.proofs.Common.{ℕ, List, Contains, Option}
 use Rattle.std.specs.Prelude.{IsTrue}
 use Rattle.fault_system.specs.Systems.{System}
 use Rattle.fault_system.specs.CutSets.{IsEventSet, IsMinimalCutSet}

@@ -1,5 +1,5 @@
 -- One end at most is due for the words and the contents, where these are told.
-use Rattle.std.proofs.Common.{◌≡◌, ℕ, Bool, List, [], ◌∷◌, Option, Some, None, IsSome, IfSome, Result, length, replicate, refl, sym, ap, ◌∙◌, subst, inl, inr}
+use Rattle.std.proofs.Common.{◌≡◌, ℕ, Bool, List, [], ◌∷◌, Option, Some, None, IsSome, IfSome, Result, length, replicate, refl, sym, ap, ◌∙◌, inl, inr}
 use Rattle.std.specs.List.{AllByRecursion}
 use Rattle.std.proofs.lemmas.Bool.{false≢true}
 use Rattle.aadl_syntax.specs.declared.name.Root.{Root}
@@ -10,20 +10,19 @@ use Rattle.aadl_syntax.specs.declared.core_model.Unit.{Unit as FileUnit}
 use Rattle.fault_system.specs.Listings.{IsListing}
 use Rattle.cutset_lister.proofs.Scans.{one-set}
 use Rattle.property_reader.specs.Rates.{conservative_rate}
-use Rattle.round_gates.specs.Targets.{HasLargeTree, IsConstantly, IsTreeFor}
+use Rattle.round_gates.specs.Targets.{IsConstantly}
 use Rattle.round_gates.specs.Staged.{IsConstant}
 use Rattle.round_gates.proofs.Growing.{constantly, one-constant}
 use Rattle.round_gates.proofs.OneTree.{one-tree, tree-or-large}
 use Rattle.galileo_writer.specs.TreeText.{tree_text as galileo_text}
 use Rattle.fta_words.specs.declared.command.Paging.{Paging}
-use Rattle.model_phases.specs.declared.flat.FlatModel.{FlatModel}
 use Rattle.model_phases.specs.Named.{IsPlainSystem}
 use Rattle.fault_system.proofs.Elements.{In-contains, contains_In}
 use Rattle.fault_system.proofs.Orders.{one_order}
 use Rattle.backward_slice.specs.Slices.{HasLargeSlice, IsServed}
 use Rattle.backward_slice.proofs.OneSlice.{one_large, one_served, served_or_large}
 use Rattle.model_phases.proofs.Decided.{model_decided}
-use Rattle.phases.specs.Phases.{IsDecided, IsDecidedStep, IsDue, IsSameEnd, Passed}
+use Rattle.phases.specs.Phases.{IsDecided, IsDecidedStep, IsDue, IsSameEnd}
 use Rattle.phases.specs.declared.status.Status.{Status}
 use Rattle.phases.specs.declared.status.Status.TheVariants.{Usage, Refused, Constant}
 use Rattle.phases.proofs.Leaves.{decided_answers, decided_computes, decided_finds, decided_rejects, decided_accepts, decided_tests}
@@ -31,7 +30,7 @@ use Rattle.phases.proofs.Decided as decided
 use Rattle.fta_run.specs.Words.{Check, Command, Cuts, Tree, Fmea, Report, Make, IsCommand, files_of}
 use Rattle.fta_run.specs.Files.{AreTokens, AreUnits, HasTooLong, HasTooMuch, LacksTokens, LacksUnits, MayContain, NamesTooMany}
 use Rattle.fta_run.specs.Model.{HasDuplicate, IsFactNamed, IsStart, LacksStart, LacksTarget, root_named}
-use Rattle.fta_run.specs.Trees.{IsTreeText, LacksTree}
+use Rattle.fta_run.specs.Trees.{LacksTree}
 use Rattle.fta_run.specs.Due.{command_text, cuts_text, due, galileo_of, model_of_files, model_of_texts, model_of_units, slice_of, start_of, target_of, texts_of, tree_text, units_of}
 use Rattle.fta_run.specs.Answers.{AllTold, IsOutput, IsSameStatus}
 use Rattle.fta_run.proofs.Commands.{one_command}
