@@ -1,11 +1,9 @@
 //! Rows that run the tool, with files and sinks in memory.
 
-use crate::expand::{cut, number_of};
-use crate::row::{Row, has_key, head_and_body};
-use crate::text::Text;
 use fta_outside::{MemoryFiles, MemorySink};
 use fta_run::run;
 use plain_values::{List, Mem, Word};
+use row_reader::{Row, Text, cut, has_key, head_and_body, number_of};
 use std::alloc::Global;
 
 /// Writes what the row wants: the exit status, the output, and what stands on the error stream.

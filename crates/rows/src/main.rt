@@ -5,20 +5,10 @@
 #![tactic(auto)]
 
 mod command;
-mod condition_value;
-mod core_value;
-mod error_value;
-mod expand;
-mod reading;
-mod report;
-mod row;
 mod sheet;
-mod text;
-mod value;
 
-use crate::expand::Texts;
-use crate::report::Report;
 use crate::sheet::run_sheet;
+use row_reader::{Report, Texts};
 use std::process::ExitCode;
 use std::{env, fs, io};
 

@@ -1,11 +1,9 @@
 //! A file of rows, line by line.
 
 use crate::command::{put_found, put_wanted, wants_front};
-use crate::expand::{Texts, cut, number_of};
-use crate::reading::{Reading, put_reading};
-use crate::report::{Line, Report};
-use crate::row::{Row, head_and_body};
-use crate::text::Text;
+use row_reader::{
+    Line, Reading, Report, Row, Text, Texts, cut, head_and_body, number_of, put_reading,
+};
 use std::alloc::{AllocError, Global};
 
 /// What a row tries.

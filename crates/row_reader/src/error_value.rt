@@ -241,15 +241,16 @@ fn put_associations(associations: &List<Association>, out: &mut Text) {
     for association in associations.items() {
         out.put(b"property ");
         put_names(&association.name, b"::", out);
-        put_value(&association.value, out);
+        put_tokens(&association.value, out);
         put_targets(&association.targets, out);
         out.put(b"\n");
     }
 }
 
-fn put_value(value: &TokenList, out: &mut Text) {
-    for number in 0..value.len() {
-        if let Some(token) = value.get(number) {
+/// Writes tokens, each behind a bar.
+pub fn put_tokens(tokens: &TokenList, out: &mut Text) {
+    for number in 0..tokens.len() {
+        if let Some(token) = tokens.get(number) {
             out.put(b" | ");
             put_token(token.kind, token.start, token.end, token.text, out);
         }

@@ -1,6 +1,6 @@
 //! The values of core text.
 
-use crate::error_value::{put_clause_value, put_library_value};
+use crate::error_value::{put_clause_value, put_library_value, put_tokens};
 use crate::text::Text;
 use crate::value::{put_end, put_name, put_names, put_optional_ref, put_optional_spot, put_spot};
 use aadl_syntax::{
@@ -57,6 +57,11 @@ fn put_decl(decl: &Decl, out: &mut Text) {
     put_optional_spot(b" prototypes", &decl.prototypes, out);
     out.put(b"\n");
     put_members(decl, out);
+    for tokens in decl.properties.items() {
+        out.put(b"properties");
+        put_tokens(tokens, out);
+        out.put(b"\n");
+    }
     for clause in decl.clauses.items() {
         put_clause_value(clause, out);
     }
