@@ -3,9 +3,9 @@
 
 ghost use Rattle.std.specs.Prelude.{◌≡◌, IfOk, map, string_bytes};
 
-use aadl_syntax::{List, Word};
 use fta_outside::{DiskFiles, StdSink};
 use fta_run::{Status, run, write_line};
+use plain_values::{List, Word};
 use std::alloc::{AllocError, Global};
 use std::env;
 use std::io::ErrorKind;

@@ -3,7 +3,7 @@ use Rattle.std.proofs.Common.{◌≡◌, ℕ, ◌+◌, ◌≤◌, List, [], ◌�
 use Rattle.std.specs.List.{flat_map}
 use Rattle.std.proofs.lemmas.List.{length-append, length-drop, take-append-drop, drop-drop, drop_all}
 use Rattle.aadl_syntax.specs.declared.token.Token.{Token}
-use Rattle.aadl_syntax.specs.declared.refusal.Code.{Code}
+use Rattle.plain_values.specs.declared.refusal.Code.{Code}
 use Rattle.aadl_lexer.specs.Tokens.{Piece, AreCut, IsRead, StopsReading}
 use Rattle.aadl_lexer.specs.Steps.{Takes, TakesAll}
 

@@ -1,14 +1,13 @@
 -- Which form stands at the front of a text: the first byte says it.
 use Rattle.std.proofs.Common.{◌≡◌, ℕ, zero, suc, ◌+◌, ◌<◌, ◌≤◌, Bool, true, false, eqb, leb, List, [], ◌∷◌, ◌++◌, length, take, drop, get_or, Option, Some, None, refl, sym, ap, subst, ◌∙◌, inl, inr, ◌⊎◌, arith}
 use Rattle.std.specs.Prelude.{◌==◌, ◌||◌, ◌&&◌, not, codes}
-use Rattle.std.specs.List.{list_all, list_any}
+use Rattle.std.specs.List.{list_all, list_any, prefix_len}
 use Rattle.std.proofs.lemmas.Bool.{cases_eq, cond-true, false≢true, eqb-true, or_cases, or_left, or_right, and_parts, eq-eqb, leb-true, not-true}
-use Rattle.std.specs.List.{prefix_len}
 use Rattle.std.proofs.Math.Numerals.{one-add}
 use Rattle.std.proofs.lemmas.List.{length-take-le, take-append-drop}
 use Rattle.aadl_syntax.specs.declared.token.TokenKind.{TokenKind}
 use Rattle.aadl_syntax.specs.declared.token.TokenKind.TheVariants.{Word, Number, Text, Sign, AnnexBegin, AnnexRaw, AnnexEnd}
-use Rattle.aadl_syntax.specs.declared.refusal.Code.TheVariants.{BadByte, OpenString}
+use Rattle.plain_values.specs.declared.refusal.Code.TheVariants.{BadByte, OpenString}
 use Rattle.aadl_syntax.specs.Form.{One, Byte, ◌followed_by◌, Repeated, Digits, IsComment, IsWord, IsNumber, IsText, IsSign, is_blank, is_letter, is_digit, is_sign_byte}
 use Rattle.aadl_lexer.specs.Tokens.{IsForm, NothingBegins, IsStuck, annex_begin}
 use Rattle.aadl_lexer.specs.Scan.{IsFront, IsOther, begins_comment, begins_annex, line_len, word_rest_len, text_rest_len, digits_len, number_len, sign_len}

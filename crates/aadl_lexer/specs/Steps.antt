@@ -3,7 +3,7 @@ use Rattle.std.specs.Prelude.{◌≡◌, ℕ, ◌+◌, ◌<◌, ◌≤◌, Bool,
 use Rattle.aadl_syntax.specs.declared.token.Token.{Token}
 use Rattle.aadl_syntax.specs.declared.token.TokenKind.{TokenKind}
 use Rattle.aadl_syntax.specs.declared.token.TokenKind.TheVariants.{AnnexRaw}
-use Rattle.aadl_syntax.specs.declared.refusal.Code.{Code}
+use Rattle.plain_values.specs.declared.refusal.Code.{Code}
 use Rattle.aadl_lexer.specs.Tokens.{Piece, IsRead, InAnnex, IsStuck, IsFirstEnd, annex_end}
 use Rattle.aadl_syntax.specs.Token.{IsTokenText, text_of, token_of}
 

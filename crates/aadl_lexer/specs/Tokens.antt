@@ -6,11 +6,11 @@ use Rattle.aadl_syntax.specs.Token.{token_of}
 use Rattle.aadl_syntax.specs.declared.token.Token.{Token}
 use Rattle.aadl_syntax.specs.declared.token.TokenKind.{TokenKind}
 use Rattle.aadl_syntax.specs.declared.token.TokenKind.TheVariants.{Word, Number, Text, Sign, AnnexBegin, AnnexRaw, AnnexEnd}
-use Rattle.aadl_syntax.specs.declared.refusal.Code.{Code}
-use Rattle.aadl_syntax.specs.declared.refusal.Code.TheVariants.{BadByte, OpenString, OpenAnnex}
-use Rattle.aadl_syntax.specs.declared.refusal.Place.TheVariants.{At}
-use Rattle.aadl_syntax.specs.declared.refusal.Stop.{Stop}
-use Rattle.aadl_syntax.specs.declared.refusal.Stop.TheVariants.{Refused, Memory}
+use Rattle.plain_values.specs.declared.refusal.Code.{Code}
+use Rattle.plain_values.specs.declared.refusal.Code.TheVariants.{BadByte, OpenString, OpenAnnex}
+use Rattle.plain_values.specs.declared.refusal.Place.TheVariants.{At}
+use Rattle.plain_values.specs.declared.refusal.Stop.{Stop}
+use Rattle.plain_values.specs.declared.refusal.Stop.TheVariants.{Refused, Memory}
 use Rattle.aadl_syntax.specs.Form.{IsBlank, IsComment, IsWord, IsNumber, IsText, IsSign}
 
 -- `{**`, which begins an annex, and `**}`, which ends it

@@ -9,7 +9,8 @@ ghost use Rattle.aadl_lexer.specs.Tokens.{IsStuck};
 use crate::byte::{
     is_blank, is_digit, is_hexadecimal, is_letter, is_letter_or_digit, is_sign_byte,
 };
-use aadl_syntax::{Code, TokenKind};
+use aadl_syntax::TokenKind;
+use plain_values::Code;
 
 /// What stands at the front of a text: a token of a kind, or, at `None`, a blank or a comment; and how long it is.
 #[derive(Clone, Copy)]

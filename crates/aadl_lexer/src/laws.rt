@@ -2,7 +2,7 @@
 
 ghost use Rattle.std.specs.Prelude.{◌≡◌, ℕ, List};
 ghost use Rattle.aadl_syntax.specs.declared.token.Token.{Token};
-ghost use Rattle.aadl_syntax.specs.declared.refusal.Code.{Code};
+ghost use Rattle.plain_values.specs.declared.refusal.Code.{Code};
 ghost use Rattle.aadl_lexer.specs.Tokens.{Tokens, IsFault};
 
 /// Bytes have at most one list of tokens.

@@ -1,16 +1,18 @@
 //! The tokens of a whole file.
 
 ghost use Rattle.std.specs.Prelude.{◌≡◌, ℕ, List, ◌<◌, ◌≤◌, ◌+◌, ◌++◌, ◌∷◌, [], ◌↔◌, length, take, true, false, IsTrue, IfOk, IfErr, IfSome, IfNone, OnOk, MatchResult};
-ghost use Rattle.aadl_lexer.specs.Tokens.{Tokens, IsFault, RefusedAs, InCore, InAnnex, StuckInCore, StuckInAnnex, IsPlain, IsAnnex, StopsReading, StopsInside, AfterEmv2, IsStuck, tokens_of, annex_begin, annex_end};
+ghost use Rattle.aadl_lexer.specs.Tokens.{Tokens, IsFault, RefusedAs, InCore, InAnnex, StuckInCore, StuckInAnnex, IsPlain, IsAnnex, StopsReading, AfterEmv2, tokens_of, annex_begin, annex_end};
 ghost use Rattle.aadl_syntax.specs.declared.token.Token.{Token};
-ghost use Rattle.aadl_syntax.specs.declared.refusal.Stop.TheVariants.{Refused, Memory};
-ghost use Rattle.aadl_syntax.specs.declared.refusal.Place.TheVariants.{At};
+ghost use Rattle.plain_values.specs.declared.refusal.Stop.TheVariants.{Refused, Memory};
+ghost use Rattle.plain_values.specs.declared.refusal.Place.TheVariants.{At};
+ghost use Rattle.plain_values.specs.Refusal.{refusal};
 ghost use Rattle.aadl_lexer.specs.Scan.{IsFront};
 ghost use Rattle.aadl_syntax.specs.Token.{IsTokenText, text_of, token_of};
 ghost use Rattle.aadl_lexer.specs.Steps.{Takes, TakesAll, TakesBody, EndsAt, StuckAt, HasTokenText, begins_annex_end};
 
 use crate::form::{Front, front_of};
-use aadl_syntax::{Answer, Code, Place, Refusal, Stop, TokenKind, TokenList, is_same};
+use aadl_syntax::{TokenKind, TokenList};
+use plain_values::{Answer, Code, Refusal, Spot, Stop, is_same};
 use std::alloc::Global;
 
 /// The tokens of the file of this number, in order. Places are in bytes, from 0.
@@ -184,14 +186,8 @@ fn ends_in_emv2(tokens: &TokenList) -> bool
 
 fn refused(file: u32, at: usize, code: Code) -> Stop
     requires { at ≤ 4194304 }
-    ensures { result ≡ Refused (record { code = code; place = At file at; limit = 0 }) }
+    ensures { result ≡ Refused (refusal code (At file at)) }
 {
-    Stop::Refused(Refusal {
-        code,
-        place: Place::At {
-            file,
-            at: at as u32,
-        },
-        limit: 0,
-    })
+    let at = at as u32;
+    Stop::Refused(Refusal::at(code, Spot { file, at }))
 }

@@ -1,6 +1,6 @@
 -- Other names for packages and classifiers.
 use Rattle.std.specs.Prelude.{ℕ, true, false, List, [], ◌∷◌, Option, Some, None, codes}
-use Rattle.aadl_syntax.specs.declared.place.Spot.{Spot}
+use Rattle.plain_values.specs.declared.spot.Spot.{Spot}
 use Rattle.aadl_syntax.specs.declared.core_model.Alias.{Alias}
 use Rattle.grammar_rules.specs.Rules.{Rule, gives, chooses, ◌>>=◌}
 use Rattle.grammar_rules.specs.Tokens.{spot, word, sign, is_word}

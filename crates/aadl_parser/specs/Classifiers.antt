@@ -1,6 +1,6 @@
 -- Classifiers: component types, implementations and feature group types, with their sections.
-use Rattle.std.specs.Prelude.{ℕ, List, [], ◌∷◌, Option, Some, None, codes}
-use Rattle.aadl_syntax.specs.declared.place.Spot.{Spot}
+use Rattle.std.specs.Prelude.{ℕ, List, [], ◌∷◌, ◌++◌, Option, Some, None, codes}
+use Rattle.plain_values.specs.declared.spot.Spot.{Spot}
 use Rattle.aadl_syntax.specs.declared.core_model.Decl.{Decl}
 use Rattle.aadl_parser.specs.declared.names.Classifier.{Classifier}
 use Rattle.grammar_rules.specs.Rules.{Rule, gives, chooses, gathers, ◌>>=◌}
@@ -8,7 +8,7 @@ use Rattle.grammar_rules.specs.Spans.{until, ends_to_end}
 use Rattle.grammar_rules.specs.Tokens.{spot, word, sign, is_word, is_sign, is_one_of}
 use Rattle.aadl_parser.specs.Words.{section_words, skipped_words, inner_words, ending_words, any_of}
 use Rattle.aadl_parser.specs.Names.{core_name, dotted_name, reference, category}
-use Rattle.aadl_parser.specs.Runs.{past, bindings}
+use Rattle.aadl_parser.specs.Runs.{past, bindings, ends_past}
 use Rattle.aadl_parser.specs.Features.{features_after}
 use Rattle.aadl_parser.specs.Subcomponents.{subcomponents_after}
 use Rattle.aadl_parser.specs.Connections.{connections_after}
@@ -75,13 +75,13 @@ inner_features = do
   _ ← word (codes "features")
   past
 
--- ( "flows" | "modes" | "calls" | "properties" ) past
+-- ( "flows" | "modes" | "calls" ) past
 unfoldable pub skipped : Rule (Unit {0})
 skipped = do
   _ ← any_of skipped_words
   past
 
--- ( "flows" | "modes" | "calls" | "properties" | "requires" "modes" | "internal" "features" | "processor" "features" ) past
+-- ( "flows" | "modes" | "calls" | "requires" "modes" | "internal" "features" | "processor" "features" ) past
 unfoldable pub skipped_part : Rule (Unit {0})
 skipped_part = chooses (is_word (codes "requires") ∷ []) required_modes
     (chooses (is_one_of inner_words ∷ []) inner_features skipped)
@@ -91,10 +91,18 @@ skipped_section decl = do
   _ ← skipped_part
   gives decl
 
+-- "properties" past, whose tokens are kept
+unfoldable pub properties_section : Decl → Rule Decl
+properties_section decl = do
+  _ ← word (codes "properties")
+  tokens ← until ends_past
+  gives (record decl { properties = decl.properties ++ tokens ∷ [] })
+
 -- the sections other than those of members
 unfoldable pub other_section : Decl → Rule Decl
 other_section decl = chooses (is_word (codes "annex") ∷ []) (annex_section decl)
-    (chooses (is_word (codes "prototypes") ∷ []) (prototypes_section decl) (skipped_section decl))
+    (chooses (is_word (codes "prototypes") ∷ []) (prototypes_section decl)
+    (chooses (is_word (codes "properties") ∷ []) (properties_section decl) (skipped_section decl)))
 
 -- a section of the classifier, by its first word
 unfoldable pub section : Decl → Rule Decl
@@ -120,7 +128,7 @@ optional_extension = chooses (is_word (codes "extends") ∷ []) extension (gives
 
 -- a classifier of this name, item and place, with what it extends, and without sections
 abbrev pub bare_decl : List ℕ → Option (List ℕ) → Spot → Classifier → Decl
-bare_decl name item at extended = record { name = name; item = item; spot = at; extends = extended.reference; binds = extended.binds; prototypes = None; features = []; subcomponents = []; connections = []; clauses = [] }
+bare_decl name item at extended = record { name = name; item = item; spot = at; extends = extended.reference; binds = extended.binds; prototypes = None; features = []; subcomponents = []; connections = []; clauses = []; properties = [] }
 
 -- [ ext ] { section }, of the classifier of this name, item and place
 unfoldable pub decl_of : List ℕ → Option (List ℕ) → Spot → Rule Decl

@@ -1,6 +1,6 @@
 -- Connections of implementations.
 use Rattle.std.specs.Prelude.{ℕ, Bool, true, false, List, [], ◌∷◌, Option, Some, None, codes}
-use Rattle.aadl_syntax.specs.declared.place.Spot.{Spot}
+use Rattle.plain_values.specs.declared.spot.Spot.{Spot}
 use Rattle.aadl_syntax.specs.declared.place.End.{End}
 use Rattle.aadl_syntax.specs.declared.core_model.Connection.{Connection}
 use Rattle.aadl_syntax.specs.declared.core_model.ConnectionKind.{ConnectionKind}

@@ -1,19 +1,21 @@
 -- The answers of the reading of a file.
 use Rattle.std.specs.Prelude.{◌≡◌, ◌⊎◌, ℕ, List}
 use Rattle.aadl_syntax.specs.declared.token.Token.{Token}
-use Rattle.aadl_syntax.specs.declared.refusal.Stop.{Stop}
-use Rattle.aadl_syntax.specs.declared.refusal.Stop.TheVariants.{Refused, Memory}
-use Rattle.aadl_syntax.specs.declared.refusal.Code.TheVariants.{TooNested}
-use Rattle.aadl_syntax.specs.declared.refusal.Place.TheVariants.{At}
-use Rattle.aadl_syntax.specs.declared.refusal.Refusal.{Refusal}
+use Rattle.plain_values.specs.declared.refusal.Stop.{Stop}
+use Rattle.plain_values.specs.declared.refusal.Stop.TheVariants.{Refused, Memory}
+use Rattle.plain_values.specs.declared.refusal.Code.TheVariants.{TooNested}
+use Rattle.plain_values.specs.declared.refusal.Place.TheVariants.{At}
+use Rattle.plain_values.specs.declared.refusal.Refusal.{Refusal}
+use Rattle.plain_values.specs.Refusal.{refusal}
+use Rattle.plain_values.specs.Stops.{StopsAt}
 use Rattle.grammar_rules.specs.Rules.{Dead}
 use Rattle.grammar_rules.specs.Texts.{syntax_error, token_place}
 use Rattle.aadl_parser.specs.Packages.{file_units}
-use Rattle.aadl_parser.specs.Nesting.{nesting_limit, IsShallow, NestedAt}
+use Rattle.aadl_parser.specs.Nesting.{IsShallow, NestedAt}
 
 -- the refusal of the bracket at this place of this file, at which too many are open
 abbrev pub too_nested : ℕ → ℕ → Refusal
-too_nested file at = record { code = TooNested; place = At file at; limit = nesting_limit }
+too_nested file at = refusal TooNested (At file at)
 
 -- The refusal is that of the first bracket at which too many are open.
 abbrev pub IsTooNested : ℕ → List Token → ℕ → Refusal → Type 0

@@ -1,7 +1,7 @@
 -- Runs of tokens that are read past, and the places that are noted in them.
 use Rattle.std.specs.Prelude.{Bool, true, ◌&&◌, ◌||◌, [], ◌∷◌, Option, Some, None, codes}
 use Rattle.aadl_syntax.specs.declared.token.Token.{Token}
-use Rattle.aadl_syntax.specs.declared.place.Spot.{Spot}
+use Rattle.plain_values.specs.declared.spot.Spot.{Spot}
 use Rattle.grammar_rules.specs.Rules.{Rule, gives, chooses, ◌>>=◌}
 use Rattle.grammar_rules.specs.Spans.{until, closes, ends_balanced, tail_end}
 use Rattle.grammar_rules.specs.Tokens.{spot, word, sign, is_word, is_sign, is_one_of}

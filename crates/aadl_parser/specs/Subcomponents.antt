@@ -1,6 +1,6 @@
 -- Subcomponents of implementations.
 use Rattle.std.specs.Prelude.{ℕ, Bool, List, [], ◌∷◌, Some, None, codes}
-use Rattle.aadl_syntax.specs.declared.place.Spot.{Spot}
+use Rattle.plain_values.specs.declared.spot.Spot.{Spot}
 use Rattle.aadl_syntax.specs.declared.core_model.Subcomponent.{Subcomponent}
 use Rattle.aadl_parser.specs.declared.names.Classifier.{Classifier}
 use Rattle.grammar_rules.specs.Rules.{Rule, gives, chooses, ◌>>=◌}

@@ -10,7 +10,7 @@ use Rattle.aadl_parser.specs.Features.{feature, features_after}
 use Rattle.aadl_parser.specs.Subcomponents.{subcomponent, subcomponents_after}
 use Rattle.aadl_parser.specs.Connections.{connection, connections_after}
 use Rattle.aadl_parser.specs.Annexes.{clause_annex, library_annex}
-use Rattle.aadl_parser.specs.Classifiers.{features_section, subcomponents_section, connections_section, annex_section, prototypes, prototypes_section, required_modes, inner_features, skipped, skipped_part, skipped_section, other_section, section, classifier, group_type}
+use Rattle.aadl_parser.specs.Classifiers.{features_section, subcomponents_section, connections_section, annex_section, prototypes, prototypes_section, properties_section, required_modes, inner_features, skipped, skipped_part, skipped_section, other_section, section, classifier, group_type}
 use Rattle.aadl_parser.specs.Aliases.{named_alias, unnamed_alias}
 use Rattle.aadl_parser.specs.Packages.{named_alias_part, unnamed_alias_part, classifier_part, annex_part, with_part, group_part, other_declaration, declaration, package_unit, property_set_head, property_set, unit}
 
@@ -43,9 +43,9 @@ unfolding connection core_name
 connection-takes = takes_after (λ at. takes_first (identifier_takes _))
 
 other_section-takes : (decl : Decl) → TakesTokens (other_section decl)
-unfolding other_section annex_section clause_annex prototypes_section prototypes skipped_section skipped_part required_modes inner_features skipped
+unfolding other_section annex_section clause_annex prototypes_section prototypes properties_section skipped_section skipped_part required_modes inner_features skipped
 other_section-takes decl = takes_either _ (takes_first (takes_first (word_takes _))) (takes_either _ (takes_first (takes_after (λ at. takes_first (word_takes _))))
-    (takes_first (takes_either _ (takes_first (word_takes _)) (takes_either _ (takes_first (any_of-takes _)) (takes_first (any_of-takes _))))))
+    (takes_either _ (takes_first (word_takes _)) (takes_first (takes_either _ (takes_first (word_takes _)) (takes_either _ (takes_first (any_of-takes _)) (takes_first (any_of-takes _)))))))
 
 pub section-takes : (decl : Decl) → TakesTokens (section decl)
 unfolding section features_section features_after subcomponents_section subcomponents_after connections_section connections_after

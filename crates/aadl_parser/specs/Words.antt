@@ -25,7 +25,7 @@ section_words = codes "features" ∷ codes "subcomponents" ∷ codes "connection
 
 -- the words of sections that are read past
 unfoldable pub skipped_words : List (List ℕ)
-skipped_words = codes "flows" ∷ codes "modes" ∷ codes "calls" ∷ codes "properties" ∷ []
+skipped_words = codes "flows" ∷ codes "modes" ∷ codes "calls" ∷ []
 
 -- the words before `features` of sections that are read past
 unfoldable pub inner_words : List (List ℕ)

@@ -1,11 +1,12 @@
-ghost use Rattle.std.specs.Prelude.{[], ◌∷◌, codes};
+ghost use Rattle.std.specs.Prelude.{[], ◌∷◌};
 ghost use Rattle.grammar_rules.specs.Reader.{Gives};
 ghost use Rattle.aadl_parser.specs.Aliases.{package_alias, group_alias, classifier_alias, alias_of, named_alias, renames_all, last_alias, renamed, unnamed_alias};
 
 use crate::names::{category, last_name, names, two_names};
 use crate::words::{core_name, name_at};
-use aadl_syntax::{Alias, Identifier, Spot};
+use aadl_syntax::{Alias, Identifier};
 use grammar_rules::{ReadError, Reader, spot};
+use plain_values::Spot;
 
 #[tactic(auto, unfolding(crate::specs::Aliases::package_alias))]
 fn package_alias(

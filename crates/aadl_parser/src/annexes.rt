@@ -1,4 +1,4 @@
-ghost use Rattle.std.specs.Prelude.{◌∷◌, [], codes};
+ghost use Rattle.std.specs.Prelude.{◌∷◌, []};
 ghost use Rattle.aadl_syntax.specs.declared.token.TokenKind.TheVariants.{AnnexEnd};
 ghost use Rattle.grammar_rules.specs.Rules.{gives, joins};
 ghost use Rattle.grammar_rules.specs.Tokens.{kind};
@@ -7,9 +7,10 @@ ghost use Rattle.aadl_parser.specs.Annexes.{raw_body, other_annex, library_body,
 
 use crate::runs::in_modes;
 use crate::words::core_name;
-use aadl_syntax::{Emv2Clause, Emv2Library, List, TokenKind};
+use aadl_syntax::{Emv2Clause, Emv2Library, TokenKind};
 use emv2_parser::{clause_inside, library_after};
 use grammar_rules::{ReadError, Reader};
+use plain_values::List;
 
 #[tactic(auto, unfolding(crate::specs::Annexes::raw_body))]
 fn raw_body(reader: &mut Reader) -> Result<(), ReadError>

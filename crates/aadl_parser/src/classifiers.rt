@@ -1,19 +1,20 @@
-ghost use Rattle.std.specs.Prelude.{◌≡◌, [], ◌∷◌, Some, None, codes};
+ghost use Rattle.std.specs.Prelude.{◌≡◌, [], ◌∷◌, Some, None};
 ghost use Rattle.grammar_rules.specs.Reader.{Gives, given};
 ghost use Rattle.grammar_rules.specs.Tokens.{is_one_of};
 ghost use Rattle.aadl_parser.specs.Words.{section_words};
-ghost use Rattle.aadl_parser.specs.Classifiers.{features_section, subcomponents_section, connections_section, annex_section, prototypes_at, prototypes, first_place, prototypes_section, required_modes, inner_features, skipped, skipped_part, skipped_section, other_section, section, sections, extension, optional_extension, bare_decl, decl_of, type_end, component_type, implementation_end, implementation, classifier, group_type};
+ghost use Rattle.aadl_parser.specs.Classifiers.{features_section, subcomponents_section, connections_section, annex_section, prototypes_at, prototypes, first_place, prototypes_section, properties_section, required_modes, inner_features, skipped, skipped_part, skipped_section, other_section, section, sections, extension, optional_extension, bare_decl, decl_of, type_end, component_type, implementation_end, implementation, classifier, group_type};
 ghost use Rattle.aadl_parser.specs.Takes.{section-takes};
 
 use crate::annexes::clause_annex;
 use crate::connections::connections_after;
 use crate::features::features_after;
 use crate::names::{Classifier, category, dotted_name, reference};
-use crate::runs::{bindings, past};
+use crate::runs::{bindings, past, section_tokens};
 use crate::subcomponents::subcomponents_after;
 use crate::words::{core_name, ending_at, inner_at, inner_word, section_at, skipped_word};
-use aadl_syntax::{Decl, Identifier, List, Spot};
+use aadl_syntax::{Decl, Identifier};
 use grammar_rules::{Gathered, ReadError, Reader, ToEnd, spot};
+use plain_values::{List, Spot};
 use std::alloc::Global;
 
 #[tactic(auto, unfolding(crate::specs::Classifiers::features_section))]
@@ -122,6 +123,16 @@ fn skipped_part(reader: &mut Reader) -> Result<(), ReadError>
     skipped(reader)
 }
 
+#[tactic(auto, unfolding(crate::specs::Classifiers::properties_section))]
+fn properties_section(reader: &mut Reader, decl: &mut Decl) -> Result<(), ReadError>
+    ensures { Gives (given result decl.new) (properties_section decl.old) reader.old reader.new }
+{
+    reader.word(b"properties")?;
+    let tokens = section_tokens(reader)?;
+    decl.properties.push(tokens)?;
+    Ok(())
+}
+
 #[tactic(auto, unfolding(crate::specs::Classifiers::other_section, crate::specs::Classifiers::skipped_section))]
 fn other_section(reader: &mut Reader, decl: &mut Decl) -> Result<(), ReadError>
     ensures { Gives (given result decl.new) (other_section decl.old) reader.old reader.new }
@@ -131,6 +142,9 @@ fn other_section(reader: &mut Reader, decl: &mut Decl) -> Result<(), ReadError>
     }
     if reader.word_at(0, b"prototypes") {
         return prototypes_section(reader, decl);
+    }
+    if reader.word_at(0, b"properties") {
+        return properties_section(reader, decl);
     }
     skipped_part(reader)
 }
@@ -204,6 +218,7 @@ fn bare_decl(
         subcomponents: List::new(alloc),
         connections: List::new(alloc),
         clauses: List::new(alloc),
+        properties: List::new(alloc),
     }
 }
 

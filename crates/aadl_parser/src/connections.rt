@@ -10,8 +10,9 @@ ghost use Rattle.aadl_parser.specs.Takes.{connection-takes};
 use crate::features::{accessed, refinement};
 use crate::names::DottedNames;
 use crate::words::{core_name, end_at, name_at, processor_at, processor_name};
-use aadl_syntax::{Connection, ConnectionKind, End, Ends, Identifier, List, Spot};
+use aadl_syntax::{Connection, ConnectionKind, End, Ends, Identifier};
 use grammar_rules::{Parts, ReadError, Reader, spot, tail_end};
+use plain_values::{List, Spot};
 
 #[tactic(auto, unfolding(crate::specs::Connections::feature_connection))]
 fn feature_connection(reader: &mut Reader) -> Result<ConnectionKind, ReadError>

@@ -1,4 +1,4 @@
-ghost use Rattle.std.specs.Prelude.{[], ◌∷◌, codes};
+ghost use Rattle.std.specs.Prelude.{[], ◌∷◌};
 ghost use Rattle.grammar_rules.specs.Reader.{Gives, given};
 ghost use Rattle.aadl_parser.specs.Words.{is_name};
 ghost use Rattle.aadl_parser.specs.Features.{refinement, inward, direction, event_port, port, plain_feature, directed, accessed, access, feature_kind, feature, features_after};
@@ -6,8 +6,9 @@ ghost use Rattle.aadl_parser.specs.Takes.{feature-takes};
 
 use crate::runs::array_tail;
 use crate::words::{core_name, direction_at, either_word, name_at, optional_word};
-use aadl_syntax::{Feature, FeatureKind, List};
+use aadl_syntax::{Feature, FeatureKind};
 use grammar_rules::{Parts, ReadError, Reader, spot};
+use plain_values::List;
 
 /// Reads `refined to`, where it stands, and says whether it does.
 #[tactic(auto, unfolding(crate::specs::Features::refinement))]

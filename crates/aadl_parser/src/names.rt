@@ -6,8 +6,9 @@ ghost use Rattle.aadl_parser.specs.Names.{further_name, names_after, names, two_
 ghost use Rattle.aadl_parser.specs.Takes.{further_name-takes, further_names-takes, dotted_name-takes};
 
 use crate::words::{category_word, core_name, either_word, name_at, optional_word};
-use aadl_syntax::{Identifier, List, Mem, Ref, Spot};
+use aadl_syntax::{Identifier, Ref};
 use grammar_rules::{Parts, ReadError, Reader, spot};
+use plain_values::{List, Mem, Spot};
 use std::alloc::Global;
 
 /// The name of a classifier, where one is written, and the `(` of bindings of prototypes after it, where they stand.

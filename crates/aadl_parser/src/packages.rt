@@ -1,4 +1,4 @@
-ghost use Rattle.std.specs.Prelude.{◌≡◌, [], ◌∷◌, codes, OnOk};
+ghost use Rattle.std.specs.Prelude.{◌≡◌, [], ◌∷◌, OnOk};
 ghost use Rattle.grammar_rules.specs.Reader.{Gives, given};
 ghost use Rattle.grammar_rules.specs.Tokens.{is_one_of};
 ghost use Rattle.aadl_parser.specs.Words.{unit_words, begins_declaration};
@@ -11,8 +11,9 @@ use crate::classifiers::{classifier, group_type, type_end};
 use crate::names::{names, with_packages};
 use crate::runs::past;
 use crate::words::{core_name, declaration_at, name_at, unit_at};
-use aadl_syntax::{Alias, Emv2Library, Identifier, List, Mem, PackageUnit, Spot, Unit};
+use aadl_syntax::{Alias, Emv2Library, Identifier, PackageUnit, Unit};
 use grammar_rules::{Gathered, Parts, ReadError, Reader, ToEnd, spot};
+use plain_values::{List, Mem, Spot};
 use std::alloc::Global;
 
 fn with_alias(aliases: &mut List<Alias>, alias: Option<Alias>) -> Mem<()>

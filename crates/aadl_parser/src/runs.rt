@@ -1,12 +1,14 @@
-ghost use Rattle.std.specs.Prelude.{◌≡◌, ◌∷◌, [], ◌||◌, codes};
+ghost use Rattle.std.specs.Prelude.{◌≡◌, ◌∷◌, [], ◌||◌};
 ghost use Rattle.std.specs.Option.{option_map};
 ghost use Rattle.aadl_syntax.specs.Token.{shown};
 ghost use Rattle.grammar_rules.specs.Reader.{Gives};
-ghost use Rattle.aadl_parser.specs.Runs.{begins_item, past, array_place, array_tail, bindings_place, parenthesised, bindings, in_modes};
+ghost use Rattle.grammar_rules.specs.Spans.{until};
+ghost use Rattle.aadl_parser.specs.Runs.{begins_item, ends_past, past, array_place, array_tail, bindings_place, parenthesised, bindings, in_modes};
 
 use crate::words::is_ending;
-use aadl_syntax::{Spot, TokenRef};
+use aadl_syntax::{TokenList, TokenRef};
 use grammar_rules::{Balanced, ReadError, Reader, Span, closes, is_sign, spot, tail_end};
+use plain_values::Spot;
 
 // The tokens of a section that are read past.
 struct SkippedTokens;
@@ -52,6 +54,14 @@ pub(crate) fn past(reader: &mut Reader) -> Result<(), ReadError>
 {
     reader.until::<SkippedTokens>()?;
     Ok(())
+}
+
+/// Copies the tokens of the rest of a section.
+pub(crate) fn section_tokens(reader: &mut Reader) -> Result<TokenList, ReadError>
+    ensures { Gives result (until ends_past) reader.old reader.new }
+{
+    let tokens = reader.until::<SkippedTokens>()?;
+    Ok(tokens.copied(reader.alloc())?)
 }
 
 #[tactic(auto, unfolding(crate::specs::Runs::array_place))]

@@ -1,4 +1,4 @@
-ghost use Rattle.std.specs.Prelude.{[], ◌∷◌, codes};
+ghost use Rattle.std.specs.Prelude.{[], ◌∷◌};
 ghost use Rattle.grammar_rules.specs.Reader.{Gives, given};
 ghost use Rattle.aadl_parser.specs.Words.{is_name};
 ghost use Rattle.aadl_parser.specs.Subcomponents.{optional_classifier, subcomponent_of, subcomponent, subcomponents_after};
@@ -8,8 +8,9 @@ use crate::features::refinement;
 use crate::names::{Classifier, category, reference};
 use crate::runs::{array_tail, bindings_place};
 use crate::words::{core_name, name_at};
-use aadl_syntax::{Identifier, List, Spot, Subcomponent};
+use aadl_syntax::{Identifier, Subcomponent};
 use grammar_rules::{Parts, ReadError, Reader, spot};
+use plain_values::{List, Spot};
 
 #[tactic(auto, unfolding(crate::specs::Subcomponents::optional_classifier))]
 fn optional_classifier(reader: &mut Reader) -> Result<Classifier, ReadError>

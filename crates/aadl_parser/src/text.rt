@@ -3,7 +3,7 @@
 ghost use Rattle.std.specs.Prelude.{◌≡◌, ℕ, List as Items, [], Err, IfOk, IfErr, MatchResult};
 ghost use Rattle.aadl_syntax.specs.declared.token.Token.{Token};
 ghost use Rattle.aadl_syntax.specs.declared.core_model.Unit.{Unit as FileUnit};
-ghost use Rattle.aadl_syntax.specs.declared.refusal.Stop.TheVariants.{Refused, Memory};
+ghost use Rattle.plain_values.specs.declared.refusal.Stop.TheVariants.{Refused, Memory};
 ghost use Rattle.grammar_rules.specs.Rules.{Reads};
 ghost use Rattle.grammar_rules.specs.Texts.{token_place};
 ghost use Rattle.aadl_parser.specs.Packages.{file_units};
@@ -12,8 +12,9 @@ ghost use Rattle.aadl_parser.specs.Files.{too_nested, StopsAt};
 
 use crate::nesting::{NESTING_LIMIT, too_nested_at};
 use crate::packages::file_units;
-use aadl_syntax::{Answer, Code, List, Place, Refusal, Stop, TokenList, Unit};
+use aadl_syntax::{TokenList, Unit};
 use grammar_rules::{Grammar, ReadError, Reader, read_text, token_place};
+use plain_values::{Answer, Code, List, Refusal, Spot, Stop};
 use std::alloc::Global;
 
 // The grammar of a file.
@@ -58,12 +59,7 @@ fn nesting_error(file: u32, tokens: &TokenList, end: u32, number: usize) -> Stop
     ensures { result ≡ Refused (too_nested file (token_place tokens.now end number)) }
 {
     let at = token_place(tokens, end, number);
-    let place = Place::At { file, at };
-    Stop::Refused(Refusal {
-        code: Code::TooNested,
-        place,
-        limit: NESTING_LIMIT as u64,
-    })
+    Stop::Refused(Refusal::at(Code::TooNested, Spot { file, at }))
 }
 
 /// The tokens of a file read as one list of units at most.

@@ -109,7 +109,7 @@ const SECTION_WORDS: [&[u8]; 12] = [
 ];
 
 /// The words of sections that are read past.
-const SKIPPED_WORDS: [&[u8]; 4] = [b"flows", b"modes", b"calls", b"properties"];
+const SKIPPED_WORDS: [&[u8]; 3] = [b"flows", b"modes", b"calls"];
 
 /// The words before `features` of sections that are read past.
 const INNER_WORDS: [&[u8]; 2] = [b"internal", b"processor"];

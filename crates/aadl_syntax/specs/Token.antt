@@ -1,7 +1,7 @@
 -- The text of a token, and the token of some bytes.
 use Rattle.std.specs.Prelude.{◌≡◌, ℕ, ◌+◌, List, [], ◌∷◌, ◌++◌, length}
 use Rattle.aadl_syntax.specs.Form.{IsWord, IsNumber}
-use Rattle.aadl_syntax.specs.Name.{folded}
+use Rattle.plain_values.specs.Name.{folded}
 use Rattle.aadl_syntax.specs.declared.token.Token.{Token}
 use Rattle.aadl_syntax.specs.declared.token.TokenRef.{TokenRef}
 use Rattle.aadl_syntax.specs.declared.token.TokenKind.{TokenKind}

@@ -1,7 +1,8 @@
 use crate::error_model::{Emv2Clause, Emv2Library};
 use crate::identifier::Identifier;
-use crate::list::List;
-use crate::place::{End, Ref, Spot};
+use crate::place::{End, Ref};
+use crate::tokens::TokenList;
+use plain_values::{List, Spot};
 
 /// A unit of a file: a package, or a property set by its name, which is read past.
 #[derive(Drop)]
@@ -48,6 +49,18 @@ pub struct Decl {
     pub subcomponents: List<Subcomponent>,
     pub connections: List<Connection>,
     pub clauses: List<Emv2Clause>,
+    /// The tokens of each of its `properties` sections, without the first word.
+    pub properties: List<TokenList>,
+}
+
+/// A binding of components to a processor or to a memory, as a `properties` section states it: to each of some components,
+/// of each of some others. All are paths from the component that states it.
+#[derive(Drop)]
+pub struct Binding {
+    /// Whether it binds to a memory, and not to a processor.
+    pub memory: bool,
+    pub references: List<List<Identifier>>,
+    pub targets: List<List<Identifier>>,
 }
 
 /// A feature of a component type.

@@ -1,7 +1,7 @@
 use crate::identifier::Identifier;
-use crate::list::List;
-use crate::place::{End, Ref, Spot};
+use crate::place::{End, Ref};
 use crate::tokens::TokenList;
+use plain_values::{List, Spot};
 
 /// The error model text of a package (EMV2 library): its blocks of types and its machines, in order.
 #[derive(Drop)]

@@ -1,10 +1,8 @@
 ghost use Rattle.std.specs.Prelude.{◌≡◌, ◌↔◌, IfOk, IsTrue};
-ghost use Rattle.aadl_syntax.specs.Name.{is_same_text};
+ghost use Rattle.plain_values.specs.Name.{is_same_text};
 ghost use Rattle.aadl_syntax.specs.Token.{IsIdentifier};
 
-use crate::list::List;
-use crate::name::{Name, is_same};
-use crate::refusal::Mem;
+use plain_values::{List, Mem, Name, is_same};
 use std::alloc::Global;
 use std::marker::Model;
 

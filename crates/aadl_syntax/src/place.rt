@@ -1,12 +1,5 @@
 use crate::identifier::Identifier;
-use crate::list::List;
-
-/// A place in a text: byte `at` of a file. Both are numbered from 0.
-#[derive(Clone, Copy, PartialEq, Eq)]
-pub struct Spot {
-    pub file: u32,
-    pub at: u32,
-}
+use plain_values::{List, Spot};
 
 /// A name that refers to something declared: identifiers with `::` between them, and perhaps one more after a dot.
 /// The spot is that of the first of them.

@@ -1,4 +1,4 @@
-use crate::name::Name;
+use plain_values::{Name, Word};
 
 /// What a token is: a word, a number, a quoted text, a sign, or a part of an annex.
 #[derive(Clone, Copy, PartialEq, Eq)]

@@ -2,9 +2,9 @@ ghost use Rattle.std.specs.Prelude.{◌≡◌, ◌≤◌, ◌<◌, ◌^◌, ◌+
 ghost use Rattle.std.specs.Option.{option_map};
 ghost use Rattle.aadl_syntax.specs.Token.{IsTokenText, shown};
 
-use crate::refusal::Mem;
 use crate::token::TokenRef;
 use crate::tokens::TokenList;
+use plain_values::Mem;
 use std::alloc::Global;
 use std::marker::Model;
 

@@ -1,12 +1,11 @@
 ghost use Rattle.std.specs.Prelude.{◌≡◌, ◌∷◌, ◌++◌, ◌+◌, ◌<◌, ◌^◌, [], length, slice_get, IfSome, OnOk, OnErr, MatchOption};
 ghost use Rattle.std.specs.Option.{option_map};
-ghost use Rattle.aadl_syntax.specs.Name.{folded};
+ghost use Rattle.plain_values.specs.Name.{folded};
 ghost use Rattle.aadl_syntax.specs.Token.{EndsWith, IsTokenText, shown, text_of, token_of};
 ghost use Rattle.aadl_syntax.specs.Marks.{Grows};
 
-use crate::name::lower;
-use crate::refusal::Mem;
 use crate::token::{TokenKind, TokenRef};
+use plain_values::{Mem, lower};
 use std::alloc::{AllocError, Global};
 use std::marker::Model;
 

@@ -1,10 +1,10 @@
 -- A target has one slice, and it is served or refused for one reason.
 use Rattle.std.proofs.Common.{◌≡◌, ◌≤◌, ◌<◌, ◌⊎◌, ℕ, List, [], ◌∷◌, length, Contains, ⊎_elim, inl, inr, sym, ◌∙◌, subst, ap, arith}
 use Rattle.std.proofs.lemmas.Bool.{false≢true}
-use Rattle.aadl_syntax.specs.declared.refusal.Refusal.{Refusal}
+use Rattle.plain_values.specs.declared.refusal.Refusal.{Refusal}
 use Rattle.fault_system.specs.Truth.{Has, set_of}
 use Rattle.fault_system.specs.Systems.{System}
-use Rattle.fault_system.specs.CutSets.{RisesWithin}
+use Rattle.plain_values.specs.Rising.{RisesWithin}
 use Rattle.fault_system.proofs.Elements.{In, In-contains, contains_In}
 use Rattle.fault_system.proofs.CutSetLaws.{same_rising, set_of-first, set_of-rest, set_of-cases}
 use Rattle.backward_slice.specs.Slices.{IsSlice, IsServed, IsTooLarge, HasLargeSlice}

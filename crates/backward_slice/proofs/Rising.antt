@@ -2,7 +2,8 @@
 use Rattle.std.proofs.Common.{ℕ, ◌+◌, ◌≡◌, ◌<◌, ◌≤◌, ◌⊎◌, Bool, true, false, cond, List, [], ◌∷◌, ◌++◌, length, inl, inr, ⊎_elim, ap, ◌∙◌, sym, subst, arith}
 use Rattle.std.proofs.lemmas.Bool.{false≢true, cases_order}
 use Rattle.fault_system.specs.Truth.{Has, member}
-use Rattle.fault_system.specs.CutSets.{RisesWithin}
+use Rattle.plain_values.specs.Rising.{RisesWithin}
+use Rattle.plain_values.proofs.Rising.{rises-higher, rises-push}
 use Rattle.fault_system.proofs.Elements.{In, In-contains, contains_In, In-append, In-front, In-back}
 use Rattle.backward_slice.specs.Marks.{IsNumbers}
 use Rattle.backward_slice.proofs.Adding.{member-in}
@@ -12,14 +13,6 @@ pub record NumbersBelow (set : List Bool) (bound : ℕ) (list : List ℕ) : Type
   pub in_set : (n : ℕ) → In n list → (n < bound) × Has (member set) n
   pub all : (n : ℕ) → n < bound → Has (member set) n → In n list
   pub rise : RisesWithin 0 bound list
-
-rises-higher : (low high : ℕ) (ns : List ℕ) → RisesWithin low high ns → RisesWithin low (high + 1) ns
-rises-higher low high [] h = tt
-rises-higher low high (n ∷ ns) h = (h.0, omega (arith, h.1), rises-higher (n + 1) high ns h.2)
-
-rises-push : (low high : ℕ) (ns : List ℕ) → low ≤ high → RisesWithin low high ns → RisesWithin low (high + 1) (ns ++ high ∷ [])
-rises-push low high [] l h = (l, omega arith, tt)
-rises-push low high (n ∷ ns) l h = (h.0, omega (arith, h.1), rises-push (n + 1) high ns (omega (arith, h.1)) h.2)
 
 next_or_below : (n bound : ℕ) → n < bound + 1 → (n < bound) ⊎ (bound ≡ n)
 next_or_below n bound h = ⊎_elim (λ e. inr (sym e)) (λ o. ⊎_elim (λ l. inl l) (λ g. absurd (omega arith)) o) (cases_order n bound)
@@ -38,7 +31,7 @@ numbers-next set bound list false e is =
     record {
       in_set = λ n i. let b = is.in_set n i in (omega (arith, b.0), b.1);
       all = λ n h has. ⊎_elim (λ l. is.all n l has) (λ same. absurd (false≢true (e ∙ ap (member set) same ∙ has))) (next_or_below n bound h);
-      rise = rises-higher 0 bound list is.rise;
+      rise = rises-higher 0 bound (bound + 1) list (omega arith) is.rise;
     }
 
 pub numbers-end : (set : List Bool) (list : List ℕ) → NumbersBelow set (length set) list → IsNumbers set list

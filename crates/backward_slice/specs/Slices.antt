@@ -1,14 +1,12 @@
 -- The slice of a target: all facts and events that it depends on.
 use Rattle.std.specs.Prelude.{ℕ, ◌<◌, ◌≤◌, ◌≡◌, ◌⊎◌, ◌↔◌, Bool, true, false, ◌==◌, length, Contains, slice_get, Some}
 use Rattle.std.specs.List.{list_any}
-use Rattle.aadl_syntax.specs.declared.refusal.Refusal.{Refusal}
-use Rattle.aadl_syntax.specs.declared.refusal.Stop.{Stop}
-use Rattle.aadl_syntax.specs.declared.refusal.Stop.TheVariants.{Refused, Memory}
-use Rattle.aadl_syntax.specs.declared.refusal.Code.TheVariants.{SliceTooLarge, TooManySliceEvents}
-use Rattle.aadl_syntax.specs.declared.refusal.Place.TheVariants.{Words}
+use Rattle.plain_values.specs.declared.refusal.Refusal.{Refusal}
+use Rattle.plain_values.specs.declared.refusal.Code.TheVariants.{SliceTooLarge, TooManySliceEvents}
+use Rattle.plain_values.specs.Refusal.{of_words}
 use Rattle.fault_system.specs.Truth.{NumberSet, Has, occurs}
 use Rattle.fault_system.specs.Systems.{System}
-use Rattle.fault_system.specs.CutSets.{RisesWithin}
+use Rattle.plain_values.specs.Rising.{RisesWithin}
 use Rattle.fault_system.specs.declared.formula.FactInfo.{FactInfo}
 use Rattle.fault_system.specs.declared.formula.Formula.{Formula, fold-Formula}
 use Rattle.fault_system.specs.declared.formula.Formula.TheOpen.{Formula-F, True, Event, Fact, And, Or, AtLeast}
@@ -71,14 +69,9 @@ pub record IsServed (system : System) (target : ℕ) (slice : Slice) : Type 0 wh
 -- M10, M11: the slice has too many facts, or else too many events, and this is the refusal
 abbrev pub IsTooLarge : Slice → Refusal → Type 0
 IsTooLarge slice refusal =
-    ((most_slice_facts < length slice.facts) × (refusal ≡ record { code = SliceTooLarge; place = Words; limit = most_slice_facts }))
-    ⊎ ((length slice.facts ≤ most_slice_facts) × (most_slice_events < length slice.events) × (refusal ≡ record { code = TooManySliceEvents; place = Words; limit = most_slice_events }))
+    ((most_slice_facts < length slice.facts) × (refusal ≡ of_words SliceTooLarge))
+    ⊎ ((length slice.facts ≤ most_slice_facts) × (most_slice_events < length slice.events) × (refusal ≡ of_words TooManySliceEvents))
 
 -- the slice of the target is too large, and this is the refusal
 abbrev pub HasLargeSlice : System → ℕ → Refusal → Type 0
 HasLargeSlice system target refusal = (slice : Slice) × IsSlice system target slice × IsTooLarge slice refusal
-
--- a slice is refused as its size says; want of memory says nothing
-abbrev pub IsRefused : System → ℕ → Stop → Type 0
-IsRefused system target Memory = Unit {0}
-IsRefused system target (Refused refusal) = HasLargeSlice system target refusal

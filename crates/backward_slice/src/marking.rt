@@ -1,11 +1,11 @@
-ghost use Rattle.std.specs.Prelude.{◌≡◌, ◌<◌, ◌+◌, ℕ, OnOk, length, map, true, false, ◌==◌};
+ghost use Rattle.std.specs.Prelude.{◌≡◌, ◌<◌, ◌+◌, OnOk, map, false, ◌==◌};
 ghost use Rattle.std.specs.List.{list_any};
-ghost use Rattle.fault_system.specs.Truth.{Has, member, occurs};
+ghost use Rattle.fault_system.specs.Truth.{occurs};
 ghost use Rattle.backward_slice.specs.Slices.{occurs_event};
 ghost use Rattle.backward_slice.specs.Marks.{Adds};
 
-use aadl_syntax::Mem;
 use fault_system::{Bits, Formula};
+use plain_values::Mem;
 
 /// What is marked so far: facts, events, and of the facts those that still wait for their formula to be looked at.
 #[derive(Drop)]

@@ -1,4 +1,4 @@
-use aadl_syntax::List;
+use plain_values::List;
 
 /// The slice of a target: the numbers of all facts and events on which it depends, itself among them, rising.
 #[derive(Drop)]

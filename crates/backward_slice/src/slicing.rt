@@ -1,13 +1,14 @@
 ghost use Rattle.std.specs.Prelude.{◌≡◌, ◌<◌, ◌+◌, ◌++◌, ◌∷◌, [], if◌then◌else◌, MatchResult, IfOk, OnOk, length};
+ghost use Rattle.plain_values.specs.Stops.{StopsFor};
 ghost use Rattle.fault_system.specs.Truth.{count_true};
 ghost use Rattle.fault_system.specs.Systems.{IsSystem};
-ghost use Rattle.backward_slice.specs.Slices.{IsSlice, IsServed, IsRefused};
+ghost use Rattle.backward_slice.specs.Slices.{IsSlice, IsServed};
 ghost use Rattle.backward_slice.specs.Marks.{IsMarking, IsMarkingBut, IsMarked, IsNumbers};
 
 use crate::marking::{Marking, visit};
 use crate::parts::Slice;
-use aadl_syntax::{Answer, Code, List, Mem, Place, Refusal, Stop};
 use fault_system::{Bits, FaultSystem};
+use plain_values::{Answer, Code, List, Mem, Refusal, Stop};
 use std::alloc::Global;
 
 /// The greatest number of facts of a slice.
@@ -21,26 +22,16 @@ const MOST_SLICE_EVENTS: usize = 1_024;
 /// It is refused as too large where it has over 16,384 facts, and else where it has over 1,024 events.
 pub fn slice(alloc: Global, system: &FaultSystem, target: u32) -> Answer<Slice>
     requires { target < length system.now.facts }
-    ensures { MatchResult result (IsServed system.now target) (IsRefused system.now target) }
+    ensures { MatchResult result (IsServed system.now target) (StopsFor (HasLargeSlice system.now target)) }
 {
     let found = whole_slice(alloc, system, target)?;
     if found.facts.items().len() > MOST_SLICE_FACTS {
-        return Err(Stop::Refused(of_words(Code::SliceTooLarge, MOST_SLICE_FACTS as u64)));
+        return Err(Stop::Refused(Refusal::of_words(Code::SliceTooLarge)));
     }
     if found.events.items().len() > MOST_SLICE_EVENTS {
-        return Err(Stop::Refused(of_words(Code::TooManySliceEvents, MOST_SLICE_EVENTS as u64)));
+        return Err(Stop::Refused(Refusal::of_words(Code::TooManySliceEvents)));
     }
     Ok(found)
-}
-
-fn of_words(code: Code, limit: u64) -> Refusal
-    ensures { result ≡ record { code = code; place = Place.Words; limit = limit } }
-{
-    Refusal {
-        code,
-        place: Place::Words,
-        limit,
-    }
 }
 
 // The slice, of any size.
@@ -107,13 +98,7 @@ fn numbers(alloc: Global, set: &Bits) -> Mem<List<u32>>
 {
     let mut list = List::new(alloc);
     for number in 0..set.size() {
-        push_if(&mut list, number, set.has(number))?;
+        list.push_if(number, set.has(number))?;
     }
     Ok(list)
-}
-
-fn push_if(list: &mut List<u32>, number: u32, is_wanted: bool) -> Mem<()>
-    ensures { OnOk result (list.new ≡ (if is_wanted then list.old ++ number ∷ [] else list.old)) }
-{
-    if is_wanted { list.push(number) } else { Ok(()) }
 }

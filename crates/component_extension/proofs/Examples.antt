@@ -11,11 +11,11 @@ use Rattle.aadl_syntax.specs.declared.error_model.EventDecl.{EventDecl}
 use Rattle.aadl_syntax.specs.declared.error_model.EventKind.TheVariants.{Error}
 use Rattle.aadl_syntax.specs.declared.error_model.Transition.{Transition}
 use Rattle.aadl_syntax.specs.declared.place.Ref.{Ref}
-use Rattle.aadl_syntax.specs.declared.place.Spot.{Spot}
-use Rattle.aadl_syntax.specs.declared.refusal.Code.TheVariants.{CyclicExtends, DuplicateName, Prototype, UnknownClassifier, UnknownMember}
-use Rattle.aadl_syntax.specs.declared.refusal.Place.TheVariants.{At}
+use Rattle.plain_values.specs.declared.spot.Spot.{Spot}
+use Rattle.plain_values.specs.declared.refusal.Code.TheVariants.{CyclicExtends, DuplicateName, Prototype, UnknownClassifier, UnknownMember}
+use Rattle.plain_values.specs.declared.refusal.Place.TheVariants.{At}
 use Rattle.package_index.specs.declared.id.ClassifierId.{ClassifierId}
-use Rattle.package_index.specs.Lookup.{refusal}
+use Rattle.plain_values.specs.Refusal.{refusal}
 use Rattle.component_extension.specs.Chain.{chain_from, chain_of}
 use Rattle.component_extension.specs.Items.{classes_of, clauses_of, gathered, machine_of, perhaps_named}
 use Rattle.component_extension.specs.Members.{Member, connections, member_faults, members_along, subcomponents}
@@ -39,6 +39,7 @@ decl_at at name item extends = record {
   subcomponents = [];
   connections = [];
   clauses = [];
+  properties = [];
 }
 
 abbrev package_of : List Decl → List PackageUnit

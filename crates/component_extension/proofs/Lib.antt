@@ -1,6 +1,5 @@
 pub mod ChainSteps
 pub mod RowLaws
-pub mod Noting
 pub mod MemberLaws
 pub mod EffectiveLaws
 pub mod Examples

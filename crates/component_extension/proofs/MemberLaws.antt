@@ -1,8 +1,8 @@
 -- The refusals of the members of a chain, noted kind after kind.
 use Rattle.std.proofs.Common.{◌≡◌, List, [], ◌++◌, flat_map, Option, None, Contains, MatchOption, ap, ◌∙◌}
-use Rattle.aadl_syntax.specs.declared.refusal.Refusal.{Refusal}
-use Rattle.aadl_syntax.specs.Order.{IsFirst, least, nearer}
-use Rattle.aadl_syntax.proofs.OrderLaws.{noted-all, noted-more}
+use Rattle.plain_values.specs.declared.refusal.Refusal.{Refusal}
+use Rattle.plain_values.specs.Order.{IsFirst, least, nearer}
+use Rattle.plain_values.proofs.OrderLaws.{noted-all, noted-more}
 use Rattle.component_extension.specs.Members.{Class, Declared, Kind, Mark, Member, all_marks, connection_limits, connections, declarations, duplicates, faults_of, feature_limits, features, marks_along, marks_of, member_faults, members_along, members_of, subcomponent_limits, subcomponents, unknown_members}
 
 module _ {Item : Type 0} (kind : Kind Item) (classes : List Class) (all : List (Declared Item)) (names : List Mark) (members : List (Member Item)) (all_is : all ≡ declarations kind classes) (names_are : names ≡ marks_of kind all)

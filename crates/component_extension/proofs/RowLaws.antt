@@ -7,7 +7,7 @@ use Rattle.std.proofs.lemmas.Bool.{false≢true}
 use Rattle.std.proofs.lemmas.List.Folds.{position_or_len-set}
 use Rattle.std.proofs.lemmas.List.Quantifiers.{position-Some}
 use Rattle.std.proofs.lemmas.List.{length-set}
-use Rattle.aadl_syntax.specs.Name.{is_same_text}
+use Rattle.plain_values.specs.Name.{is_same_text}
 use Rattle.package_index.proofs.KnowsLaws.{more-place, some-place}
 use Rattle.component_extension.specs.Rows.{Key, KeyWords, KnowsRows, goes_by, is_same_key, key_of_words, place_by, same_words}
 

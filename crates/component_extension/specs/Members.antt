@@ -3,7 +3,7 @@ use Rattle.std.specs.Prelude.{◌≡◌, ℕ, Bool, true, false, cond, ◌&&◌,
 use Rattle.std.specs.Option.{option_or}
 use Rattle.std.specs.List.{list_any}
 use denote.Ref.{Bor}
-use Rattle.aadl_syntax.specs.Name.{is_same_text}
+use Rattle.plain_values.specs.Name.{is_same_text}
 use Rattle.aadl_syntax.specs.declared.core_model.Connection.{Connection}
 use Rattle.aadl_syntax.specs.declared.core_model.ConnectionKind.{ConnectionKind}
 use Rattle.aadl_syntax.specs.declared.core_model.ConnectionKind.TheVariants as connection
@@ -12,12 +12,11 @@ use Rattle.aadl_syntax.specs.declared.core_model.Feature.{Feature}
 use Rattle.aadl_syntax.specs.declared.core_model.FeatureKind.{FeatureKind}
 use Rattle.aadl_syntax.specs.declared.core_model.FeatureKind.TheVariants as feature
 use Rattle.aadl_syntax.specs.declared.core_model.Subcomponent.{Subcomponent}
-use Rattle.aadl_syntax.specs.declared.place.Spot.{Spot}
-use Rattle.aadl_syntax.specs.declared.refusal.Code.{Code}
-use Rattle.aadl_syntax.specs.declared.refusal.Code.TheVariants.{Array, DuplicateName, FeatureGroup, Prototype, UnknownMember}
-use Rattle.aadl_syntax.specs.declared.refusal.Refusal.{Refusal}
-use Rattle.package_index.specs.Lookup.{place_of, refusal, refused_so}
-use Rattle.package_index.specs.Numbered.{numbered_from}
+use Rattle.plain_values.specs.declared.spot.Spot.{Spot}
+use Rattle.plain_values.specs.declared.refusal.Code.TheVariants.{Array, DuplicateName, FeatureGroup, Prototype, UnknownMember}
+use Rattle.plain_values.specs.declared.refusal.Refusal.{Refusal}
+use Rattle.plain_values.specs.Refusal.{refused_so, refused_there}
+use Rattle.plain_values.specs.Numbered.{numbered_from}
 use Rattle.component_extension.specs.Rows.{Key, named, put, row_by}
 
 -- ---- declarations
@@ -162,11 +161,6 @@ connections = record {
   array = λ connection. None;
   states = λ connection. is_some connection.ends;
 }
-
--- a refusal at this place, if there is one
-abbrev pub refused_there : Code → Option Spot → List Refusal
-refused_there code None = []
-refused_there code (Some spot) = refusal code (place_of spot) ∷ []
 
 abbrev pub is_feature_group : FeatureKind → Bool
 is_feature_group feature.Group = true

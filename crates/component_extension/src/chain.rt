@@ -2,8 +2,9 @@ ghost use Rattle.std.specs.Prelude.{◌≡◌, ◌∷◌, ◌++◌, [], Some, No
 ghost use Rattle.package_index.specs.Lookup.{decl_of};
 ghost use Rattle.component_extension.specs.Chain.{Answers, chain_of, extended, first_type, is_among, next_of, onward, own_type, tested, type_of};
 
-use aadl_syntax::{Answer, Code, Decl, Identifier, List, Mem, Ref, Refusal, Stop};
+use aadl_syntax::{Decl, Identifier, Ref};
 use package_index::{ClassifierId, Index, refusal};
+use plain_values::{Answer, Code, List, Mem, Refusal, Stop};
 use std::alloc::Global;
 use std::collections::HashMap;
 use std::marker::Model;
@@ -113,7 +114,7 @@ fn after(
 {
     let base = extended(index, chain, id, decl)?;
     if let Some(spot) = decl.prototypes {
-        return Err(Stop::Refused(refusal(Code::Prototype, spot)));
+        return Err(Stop::Refused(Refusal::at(Code::Prototype, spot)));
     }
     onward(alloc, index, chain, decl, base)
 }
@@ -142,13 +143,13 @@ fn tested(
     ensures { result ≡ tested chain.now decl.now reference.now base }
 {
     if decl.item.is_some() != reference.item.is_some() {
-        return Err(refusal(Code::UnknownClassifier, reference.spot));
+        return Err(Refusal::at(Code::UnknownClassifier, reference.spot));
     }
     if chain.has(base) {
-        return Err(refusal(Code::CyclicExtends, reference.spot));
+        return Err(Refusal::at(Code::CyclicExtends, reference.spot));
     }
     match decl.binds {
-        Some(spot) => Err(refusal(Code::Prototype, spot)),
+        Some(spot) => Err(Refusal::at(Code::Prototype, spot)),
         None => Ok(Some(base)),
     }
 }

@@ -2,8 +2,9 @@ ghost use Rattle.std.specs.Prelude.{◌≡◌, ◌++◌, IfOk, OnOk};
 ghost use Rattle.component_extension.specs.Items.{class_of, classes_of};
 
 use crate::in_package::InPackage;
-use aadl_syntax::{Decl, List, Mem};
+use aadl_syntax::Decl;
 use package_index::{ClassifierId, Index};
+use plain_values::{List, Mem};
 use std::alloc::Global;
 
 /// A classifier of a chain, by its declaration.

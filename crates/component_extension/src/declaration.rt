@@ -1,4 +1,4 @@
-use aadl_syntax::Spot;
+use plain_values::Spot;
 use std::marker::Model;
 
 /// A declaration of a member in the package of a number; so many classifiers of the chain are farther.

@@ -1,6 +1,6 @@
 ghost use Rattle.std.specs.Prelude.{◌≡◌, ◌++◌, [], Contains, IfOk, IfErr, OnOk};
-ghost use Rattle.aadl_syntax.specs.Order.{least, nearer};
-ghost use Rattle.package_index.specs.Duplicates.{IsRefused};
+ghost use Rattle.plain_values.specs.Order.{least, nearer};
+ghost use Rattle.plain_values.specs.Stops.{StopsAtFirst};
 ghost use Rattle.component_extension.specs.Effective.{AreMembers, IsEffective};
 ghost use Rattle.component_extension.specs.Items.{classifier_faults};
 ghost use Rattle.component_extension.specs.Members.{faults_of, marks_along, member_faults, members_along};
@@ -16,8 +16,9 @@ use crate::limits::{Limited, note_all};
 use crate::member::Inherited;
 use crate::members::{declarations, members_of, note_unknown};
 use crate::names::{PlainNames, add_marks, note_duplicates};
-use aadl_syntax::{Answer, Connection, Feature, FirstRefusal, List, Mem, Ref, Subcomponent};
+use aadl_syntax::{Connection, Feature, Ref, Subcomponent};
 use package_index::{ClassifierId, Index};
+use plain_values::{Answer, FirstRefusal, List, Mem};
 use std::alloc::Global;
 
 /// The members of a classifier along its chain.
@@ -52,7 +53,7 @@ impl<'a> Effective<'a> {
     pub fn of(alloc: Global, index: &Index<'a>, id: ClassifierId) -> Answer<Effective<'a>>
         ensures effective { IfOk result (IsEffective index.now id) }
         ensures accepted { OnOk result (classifier_faults index.now id ≡ []) }
-        ensures refused { IfErr result (IsRefused (Contains (classifier_faults index.now id))) }
+        ensures refused { IfErr result (StopsAtFirst (Contains (classifier_faults index.now id))) }
     {
         let chain = chain_of(alloc, index, id)?;
         let classifiers = classifiers_of(alloc, index, chain.items())?;
@@ -82,7 +83,7 @@ impl<'a> Effective<'a> {
 pub fn effective_members<'a>(alloc: Global, classifiers: &[Classifier<'a>]) -> Answer<Members<'a>>
     ensures members { IfOk result (AreMembers classifiers.now) }
     ensures accepted { OnOk result (member_faults classifiers.now ≡ []) }
-    ensures refused { IfErr result (IsRefused (Contains (member_faults classifiers.now))) }
+    ensures refused { IfErr result (StopsAtFirst (Contains (member_faults classifiers.now))) }
 {
     let mut first = FirstRefusal::new();
     let mut marks = Vec::new(alloc);

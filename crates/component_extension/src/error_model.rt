@@ -4,9 +4,10 @@ ghost use Rattle.component_extension.specs.Items.{machine_by, machine_of, spots_
 
 use crate::items::{ClauseText, InClause, gathered};
 use aadl_syntax::{
-    Association, Composite, Emv2Clause, EventDecl, Flow, List, Mem, Outgoing, PointItem, Ref, Spot,
-    Transition, UserPath, UserPoint,
+    Association, Composite, Emv2Clause, EventDecl, Flow, Outgoing, PointItem, Ref, Transition,
+    UserPath, UserPoint,
 };
+use plain_values::{List, Mem, Spot};
 use std::alloc::Global;
 
 /// The points of a classifier, and what lies between them.
@@ -110,7 +111,7 @@ fn machine_by<'a>(
 trait SpotKind {
     ghost use Rattle.std.specs.Prelude.{◌≡◌, List};
     ghost use Rattle.aadl_syntax.specs.declared.error_model.Emv2Clause.{Emv2Clause};
-    ghost use Rattle.aadl_syntax.specs.declared.place.Spot.{Spot};
+    ghost use Rattle.plain_values.specs.declared.spot.Spot.{Spot};
 
     ghost spots: { Emv2Clause → List Spot };
 

@@ -1,4 +1,4 @@
-ghost use Rattle.std.specs.Prelude.{◌≡◌, ◌++◌, Option, IfOk, OnOk, fold, option_map, flat_map};
+ghost use Rattle.std.specs.Prelude.{◌≡◌, ◌++◌, Option, IfOk, OnOk, fold, option_map};
 ghost use Rattle.std.specs.HashMap.{get};
 ghost use Rattle.component_extension.specs.Items.{clauses_in, clauses_of, gathered, perhaps_named, scoped_by};
 ghost use Rattle.component_extension.specs.Rows.{KnowsRows, key_of_words, put, same_words};
@@ -7,10 +7,11 @@ use crate::classifier::Classifier;
 use crate::in_package::InPackage;
 use crate::rows::{KeyWords, Row, named, put};
 use aadl_syntax::{
-    Association, Composite, Emv2Clause, EventDecl, Flow, Identifier, List, Mem, Outgoing,
-    PointItem, Transition, UserPath, UserPoint,
+    Association, Composite, Emv2Clause, EventDecl, Flow, Identifier, Outgoing, PointItem,
+    Transition, UserPath, UserPoint,
 };
 use package_index::Words;
+use plain_values::{List, Mem};
 use std::alloc::Global;
 use std::collections::HashMap;
 use std::marker::Model;

@@ -1,18 +1,17 @@
 ghost use Rattle.std.specs.Prelude.{◌≡◌, flat_map, option_and_then};
-ghost use Rattle.aadl_syntax.specs.Order.{least, nearer};
-ghost use Rattle.component_extension.specs.Members.{connection_limits, feature_limits, is_feature_group, is_group_connection, refused_there, subcomponent_limits};
+ghost use Rattle.plain_values.specs.Order.{least, nearer};
+ghost use Rattle.component_extension.specs.Members.{connection_limits, feature_limits, is_feature_group, is_group_connection, subcomponent_limits};
 
 use crate::member::{Inherited, MemberKind};
-use aadl_syntax::{
-    Code, Connection, ConnectionKind, Feature, FeatureKind, FirstRefusal, Spot, Subcomponent,
-};
+use aadl_syntax::{Connection, ConnectionKind, Feature, FeatureKind, Subcomponent};
 use package_index::{note_if, refusal};
+use plain_values::{Code, FirstRefusal, Spot};
 
 /// A kind of member, with what is not supported of it.
 pub trait Limited: MemberKind {
     ghost use Rattle.std.specs.Prelude.{◌≡◌, List};
-    ghost use Rattle.aadl_syntax.specs.Order.{least, nearer};
-    ghost use Rattle.aadl_syntax.specs.declared.refusal.Refusal.{Refusal};
+    ghost use Rattle.plain_values.specs.Order.{least, nearer};
+    ghost use Rattle.plain_values.specs.declared.refusal.Refusal.{Refusal};
     ghost use Rattle.component_extension.specs.Members.{Member};
 
     ghost limits: { Member Self → List Refusal };
@@ -25,12 +24,11 @@ pub trait Limited: MemberKind {
 impl Limited for Feature {
     ghost limits = { feature_limits };
 
-    #[tactic(auto, using(crate::proofs::Noting::noted_more))]
+    #[tactic(auto, using(plain_values::proofs::Noting::noted_more))]
     fn note_limits(first: &mut FirstRefusal, member: &Inherited<'_, Feature>) {
         let feature = member.nearest().item();
-        note_at(first, Code::Array, member.array());
-        note_if(
-            first,
+        first.note_at(Code::Array, member.array());
+        first.note_if(
             is_feature_group(feature.kind),
             Code::FeatureGroup,
             feature.spot,
@@ -41,10 +39,10 @@ impl Limited for Feature {
 impl Limited for Subcomponent {
     ghost limits = { subcomponent_limits };
 
-    #[tactic(auto, using(crate::proofs::Noting::noted_more))]
+    #[tactic(auto, using(plain_values::proofs::Noting::noted_more))]
     fn note_limits(first: &mut FirstRefusal, member: &Inherited<'_, Subcomponent>) {
-        note_at(first, Code::Array, member.array());
-        note_at(first, Code::Prototype, bindings(member));
+        first.note_at(Code::Array, member.array());
+        first.note_at(Code::Prototype, bindings(member));
     }
 }
 
@@ -53,8 +51,7 @@ impl Limited for Connection {
 
     fn note_limits(first: &mut FirstRefusal, member: &Inherited<'_, Connection>) {
         let connection = member.nearest().item();
-        note_if(
-            first,
+        first.note_if(
             is_group_connection(connection.kind),
             Code::FeatureGroup,
             connection.spot,
@@ -81,15 +78,6 @@ fn is_group_connection(kind: ConnectionKind) -> bool
     ensures { result ≡ is_group_connection kind }
 {
     matches!(kind, ConnectionKind::Group)
-}
-
-/// Notes what is not supported, if it stands there.
-fn note_at(first: &mut FirstRefusal, code: Code, place: Option<Spot>)
-    ensures { first.new ≡ nearer first.old (least (refused_there code place)) }
-{
-    if let Some(spot) = place {
-        first.note(refusal(code, spot));
-    }
 }
 
 /// Notes what is not supported of members.

@@ -1,6 +1,7 @@
 use crate::declaration::Declaration;
 use crate::rows::Row;
-use aadl_syntax::{Connection, Decl, Feature, Identifier, Spot, Subcomponent};
+use aadl_syntax::{Connection, Decl, Feature, Identifier, Subcomponent};
+use plain_values::Spot;
 use std::marker::Model;
 
 /// A kind of member: features, subcomponents or connections.

@@ -1,6 +1,6 @@
 ghost use Rattle.std.specs.Prelude.{◌≡◌, ◌∷◌, ◌++◌, [], IfOk, OnOk, filter, fold, option_copied};
 ghost use Rattle.std.specs.HashMap.{get};
-ghost use Rattle.aadl_syntax.specs.Order.{least, nearer};
+ghost use Rattle.plain_values.specs.Order.{least, nearer};
 ghost use Rattle.component_extension.specs.Members.{declarations, declare, declared_by, member_key, members_of, refined_by, stands, unknown_members};
 ghost use Rattle.component_extension.specs.Rows.{KnowsRows, same_words};
 
@@ -9,8 +9,8 @@ use crate::declaration::Declaration;
 use crate::member::{Inherited, MemberKind};
 use crate::names::PlainNames;
 use crate::rows::{KeyWords, named, put, row_by};
-use aadl_syntax::{Code, FirstRefusal, Mem, Spot};
 use package_index::note_if;
+use plain_values::{Code, FirstRefusal, Mem, Spot};
 use std::alloc::Global;
 use std::collections::HashMap;
 
@@ -59,12 +59,7 @@ pub(crate) fn note_unknown<'a, M: MemberKind>(
 {
     for declaration in all {
         let is_unknown = !stands(names, declaration);
-        note_if(
-            first,
-            is_unknown,
-            Code::UnknownMember,
-            declaration.item().spot(),
-        );
+        first.note_if(is_unknown, Code::UnknownMember, declaration.item().spot());
     }
 }
 

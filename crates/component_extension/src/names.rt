@@ -1,16 +1,16 @@
 ghost use Rattle.std.specs.Prelude.{◌≡◌, ◌++◌, ◌||◌, List, ℕ, IfOk, OnOk};
 ghost use denote.Ref.{Bor};
 ghost use Rattle.std.specs.HashMap.{get};
-ghost use Rattle.aadl_syntax.specs.Order.{least, nearer};
-ghost use Rattle.aadl_syntax.specs.declared.refusal.Code.TheVariants.{DuplicateName};
+ghost use Rattle.plain_values.specs.Order.{least, nearer};
+ghost use Rattle.plain_values.specs.declared.refusal.Code.TheVariants.{DuplicateName};
 ghost use Rattle.std.specs.List.{list_any};
 ghost use Rattle.component_extension.specs.Members.{KnowsMarks, comes_before, duplicates, is_before, is_earlier, mark_of, marks_of};
 ghost use Rattle.package_index.specs.Tables.{same_text};
 
 use crate::declaration::{Declaration, PlainName};
 use crate::member::MemberKind;
-use aadl_syntax::{Code, FirstRefusal, Mem};
 use package_index::note_if;
+use plain_values::{Code, FirstRefusal, Mem};
 use std::alloc::Global;
 use std::collections::HashMap;
 use std::marker::Model;
@@ -139,6 +139,6 @@ pub(crate) fn note_duplicates<'a>(first: &mut FirstRefusal, names: &PlainNames<'
     for mark in names.marks() {
         let spot = mark.spot();
         let is_again = names.has_before(mark.name(), mark.level(), spot.at);
-        note_if(first, is_again, Code::DuplicateName, spot);
+        first.note_if(is_again, Code::DuplicateName, spot);
     }
 }

@@ -2,8 +2,9 @@ ghost use Rattle.std.specs.Prelude.{◌≡◌, OnOk, option_map, option_copied, 
 ghost use Rattle.std.specs.HashMap.{get};
 ghost use Rattle.component_extension.specs.Rows.{KnowsRows, key_of_words, named, put, row_by, same_words};
 
-use aadl_syntax::{Identifier, Mem};
+use aadl_syntax::Identifier;
 use package_index::Words;
+use plain_values::Mem;
 use std::collections::HashMap;
 
 /// By what a row goes: its name, or of a propagation the names of its point, its direction and whether it is a `not`.

@@ -1,10 +1,10 @@
 -- What the named parts of a composite state mean (EMV2: composite error behavior).
-use Rattle.std.specs.Prelude.{ℕ, Bool, true, cond, List, [], ◌∷◌, ◌++◌, Option, Some, None, is_none, option_and_then}
+use Rattle.std.specs.Prelude.{ℕ, true, cond, List, [], ◌∷◌, ◌++◌, Option, Some, None, is_none, option_and_then}
 use Rattle.aadl_syntax.specs.declared.error_model.Atom.{Atom}
-use Rattle.aadl_syntax.specs.declared.place.Spot.{Spot}
-use Rattle.aadl_syntax.specs.declared.refusal.Code.TheVariants.{UnknownState, UnknownSubcomponent}
-use Rattle.aadl_syntax.specs.declared.refusal.Refusal.{Refusal}
-use Rattle.package_index.specs.Lookup.{refused_so}
+use Rattle.plain_values.specs.declared.spot.Spot.{Spot}
+use Rattle.plain_values.specs.declared.refusal.Code.TheVariants.{UnknownState, UnknownSubcomponent}
+use Rattle.plain_values.specs.declared.refusal.Refusal.{Refusal}
+use Rattle.plain_values.specs.Refusal.{refused_so}
 use Rattle.package_index.specs.Names.{front, last}
 use Rattle.error_types.specs.Libraries.{Table}
 use Rattle.propagation_points.specs.Settings.{Setting, faults_in}

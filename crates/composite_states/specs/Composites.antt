@@ -2,9 +2,9 @@
 use Rattle.std.specs.Prelude.{ℕ, Bool, true, false, ◌&&◌, not, List, [], ◌++◌, flat_map, slice_index_or, Option, Some, None, is_none, option_map, option_to_list}
 use Rattle.aadl_syntax.specs.declared.error_model.Composite.{Composite}
 use Rattle.aadl_syntax.specs.declared.error_model.Condition.{Condition}
-use Rattle.aadl_syntax.specs.declared.refusal.Code.TheVariants.{Others}
-use Rattle.aadl_syntax.specs.declared.refusal.Refusal.{Refusal}
-use Rattle.package_index.specs.Lookup.{refused_so}
+use Rattle.plain_values.specs.declared.refusal.Code.TheVariants.{Others}
+use Rattle.plain_values.specs.declared.refusal.Refusal.{Refusal}
+use Rattle.plain_values.specs.Refusal.{refused_so}
 use Rattle.component_extension.specs.declared.effective.Effective.{Effective}
 use Rattle.component_extension.specs.Items.{Scoped}
 use Rattle.error_types.specs.declared.scope.Scope.{Scope}

@@ -1,14 +1,15 @@
 ghost use Rattle.std.specs.Prelude.{◌≡◌, IfOk, OnOk, Some, is_none, option_copied};
-ghost use Rattle.aadl_syntax.specs.Order.{least, nearer};
+ghost use Rattle.plain_values.specs.Order.{least, nearer};
 ghost use Rattle.package_index.specs.Names.{front};
-ghost use Rattle.aadl_syntax.specs.declared.refusal.Code.TheVariants.{UnknownState};
-ghost use Rattle.package_index.specs.Lookup.{refused_so};
+ghost use Rattle.plain_values.specs.declared.refusal.Code.TheVariants.{UnknownState};
+ghost use Rattle.plain_values.specs.Refusal.{refused_so};
 ghost use Rattle.composite_states.specs.Below.{below_at, state_at, state_cause, state_in, state_named, state_named_faults, unknown_faults};
 
-use aadl_syntax::{Atom, Code, FirstRefusal, Identifier, List, Mem, Spot};
+use aadl_syntax::{Atom, Identifier};
 use error_conditions::{Atoms, Cause, StateBelow, note_no_errors, note_typed, point_meaning};
 use error_types::TypeTable;
 use package_index::{Words, note_if};
+use plain_values::{Code, FirstRefusal, List, Mem, Spot};
 use propagation_points::{NameTable, Setting};
 use std::alloc::Global;
 use std::marker::Model;
@@ -51,7 +52,7 @@ impl<'s, 'a, B: StatesBelow<'a>> Atoms for CompositePlace<'s, 'a, B> {
 
     ghost faults = { λ place. composite_faults (B.states_at place.below) place.setting };
 
-    #[tactic(auto, using(component_extension::proofs::Noting::noted_more))]
+    #[tactic(auto, using(plain_values::proofs::Noting::noted_more))]
     fn meaning<'t>(
         &self,
         alloc: Global,
@@ -68,7 +69,7 @@ impl<'s, 'a, B: StatesBelow<'a>> Atoms for CompositePlace<'s, 'a, B> {
 }
 
 /// The meaning of a named part that names a state of a component below. Its refusals are noted.
-#[tactic(auto, using(component_extension::proofs::Noting::noted_more))]
+#[tactic(auto, using(plain_values::proofs::Noting::noted_more))]
 fn state_named<'a, B: StatesBelow<'a>>(
     alloc: Global,
     below: &B,
@@ -97,7 +98,7 @@ fn known_state<'a, B: StatesBelow<'a>>(
     match below_at(below, path_of(names)) {
         Some(states) => state_in(states, names, spot, first),
         None => {
-            note_if(first, true, Code::UnknownSubcomponent, spot);
+            first.note_if(true, Code::UnknownSubcomponent, spot);
             None
         }
     }
@@ -127,7 +128,7 @@ fn state_in(
     ensures first { first.new ≡ nearer first.old (least (refused_so (is_none (state_in names.now (Some states.now))) UnknownState spot)) }
 {
     let number = number_of_last(states, names);
-    note_if(first, number.is_none(), Code::UnknownState, spot);
+    first.note_if(number.is_none(), Code::UnknownState, spot);
     number
 }
 

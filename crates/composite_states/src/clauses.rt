@@ -1,15 +1,16 @@
-ghost use Rattle.std.specs.Prelude.{◌≡◌, ◌&&◌, ◌++◌, IfOk, OnOk, is_none, option_map, option_to_list, slice_index_or};
-ghost use Rattle.aadl_syntax.specs.Order.{least, nearer};
+ghost use Rattle.std.specs.Prelude.{◌≡◌, ◌&&◌, ◌++◌, IfOk, OnOk, is_none, option_map, option_to_list};
+ghost use Rattle.plain_values.specs.Order.{least, nearer};
 ghost use Rattle.composite_states.specs.Composites.{clause_faults, clause_of, clauses_in, clauses_of, composite_clause_faults, condition_of, faults_in, is_not_initial, perhaps_faults};
 
 use crate::below::{CompositePlace, StatesBelow};
 use crate::meaning::ClauseMeaning;
-use aadl_syntax::{Code, Composite, Condition, FirstRefusal, List, Mem};
+use aadl_syntax::{Composite, Condition};
 use component_extension::{Effective, InClause};
 use error_behavior::States;
 use error_conditions::{Cause, cause_of};
 use error_types::{Scope, TypeTable};
 use package_index::note_if;
+use plain_values::{Code, FirstRefusal, List, Mem};
 use propagation_points::{Points, Setting, scopes_of};
 use std::alloc::Global;
 
@@ -78,7 +79,7 @@ fn clauses_in<'s, 'a, B: StatesBelow<'a>>(
 }
 
 /// Adds the meaning of a clause, if it has one. Its refusals are noted.
-#[tactic(auto, using(component_extension::proofs::Noting::noted_more))]
+#[tactic(auto, using(plain_values::proofs::Noting::noted_more))]
 fn add_clause<'a, B: StatesBelow<'a>>(
     alloc: Global,
     clauses: &mut List<ClauseMeaning>,
@@ -95,7 +96,7 @@ fn add_clause<'a, B: StatesBelow<'a>>(
     let condition = condition_of(alloc, types, place, &composite.condition, first)?;
     let target = place.setting.refer(&composite.target, first);
     let is_wrong = composite.condition.is_none() && is_not_initial(initial, target);
-    note_if(first, is_wrong, Code::Others, composite.spot);
+    first.note_if(is_wrong, Code::Others, composite.spot);
     add_meaning(clauses, target, condition)
 }
 

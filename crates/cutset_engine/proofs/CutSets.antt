@@ -4,7 +4,8 @@ use Rattle.std.proofs.lemmas.Bool.{false≢true, cases_lt, eqb-true, eq-eqb}
 use Rattle.std.specs.List.{AllByRecursion}
 use Rattle.fault_system.specs.Truth.{NumberSet, Has, member, set_of}
 use Rattle.fault_system.specs.Systems.{System, IsSystem, applied, Holds}
-use Rattle.fault_system.specs.CutSets.{RisesWithin, IsEventSet, IsSubset}
+use Rattle.plain_values.specs.Rising.{RisesWithin}
+use Rattle.fault_system.specs.CutSets.{IsEventSet, IsSubset}
 use Rattle.fault_system.specs.Listings.{IsWithinOrder}
 use Rattle.backward_slice.proofs.Occurrences.{occurs_event-in_range}
 use Rattle.backward_slice.proofs.Reached.{fact-in_range}

@@ -2,9 +2,9 @@
 //!
 //! Nothing is claimed of it: it decides how often a family is made anew, and not what is found.
 
-use aadl_syntax::Mem;
 use dependency_blocks::Blocks;
 use fault_system::{Bits, FaultSystem, Formula};
+use plain_values::Mem;
 use std::alloc::Global;
 
 // A fact on the way, or one whose formula was gone through.

@@ -1,6 +1,4 @@
-ghost use Rattle.std.specs.Prelude.{◌≡◌, ◌<◌, All, IfOk, OnOk, Contains, length, slice_index_or};
-ghost use Rattle.fault_system.specs.Systems.{IsSystem};
-ghost use Rattle.zdd_store.specs.Family.{covers, IsAntichain};
+ghost use Rattle.std.specs.Prelude.{◌≡◌, ◌<◌, All, IfOk, OnOk, length, slice_index_or};
 ghost use Rattle.zdd_store.specs.Store.{IsIn, family_of, Keeps};
 ghost use Rattle.backward_slice.specs.Slices.{IsSlice};
 ghost use Rattle.cutset_engine.specs.Filling.{IsFilling, IsFilled};
@@ -9,11 +7,11 @@ ghost use Rattle.cutset_engine.specs.Families.{HasMinimalCutSets, IsLeast, sets_
 use crate::agenda::Agenda;
 use crate::filling::{fill, fill_fact};
 use crate::inner_order::inner_order;
-use aadl_syntax::Mem;
 use backward_slice::Slice;
 use dependency_blocks::Blocks;
 use family_renaming::in_event_order;
 use fault_system::FaultSystem;
+use plain_values::Mem;
 use std::alloc::Global;
 use zdd_families::{min_union, up_to_size};
 use zdd_store::{Id, Store};

@@ -1,10 +1,10 @@
-ghost use Rattle.std.specs.Prelude.{◌≡◌, ◌<◌, ◌||◌, All, Contains, IfOk, OnOk, length};
-ghost use Rattle.zdd_store.specs.Store.{IsIn, Keeps};
+ghost use Rattle.std.specs.Prelude.{◌≡◌, ◌<◌, ◌||◌, Contains, OnOk};
+ghost use Rattle.zdd_store.specs.Store.{Keeps};
 ghost use Rattle.cutset_engine.specs.Filling.{IsFilling, IsFilled, Steps, HaveTheirCauses};
 
 use crate::formulas::formula_family;
-use aadl_syntax::Mem;
 use fault_system::FaultSystem;
+use plain_values::Mem;
 use std::alloc::Global;
 use zdd_store::{Id, Store};
 

@@ -5,8 +5,8 @@ ghost use Rattle.family_renaming.specs.Renaming.{name_of};
 ghost use Rattle.cutset_engine.specs.Gates.{Made, StandEach, covers_each, events_of, is_true_under};
 
 use crate::gates::{Gate, of_gate, some_of};
-use aadl_syntax::Mem;
 use fault_system::Formula;
+use plain_values::Mem;
 use std::alloc::Global;
 use zdd_families::single;
 use zdd_store::{Id, Store};

@@ -1,4 +1,4 @@
-ghost use Rattle.std.specs.Prelude.{◌≡◌, ◌<◌, [], All, IfOk, Some, nat_le};
+ghost use Rattle.std.specs.Prelude.{◌≡◌, ◌<◌, [], All, Some, nat_le};
 ghost use Rattle.std.specs.List.Sorted.{IsPermutation};
 ghost use Rattle.fault_system.specs.Truth.{count_true};
 ghost use Rattle.zdd_store.specs.Family.{covers};
@@ -6,7 +6,7 @@ ghost use Rattle.zdd_store.specs.Store.{IsIn, family_of};
 ghost use Rattle.zdd_families.specs.Steps.{either, both};
 ghost use Rattle.cutset_engine.specs.Gates.{Made, covers_each, of_all, of_both};
 
-use aadl_syntax::Mem;
+use plain_values::Mem;
 use std::alloc::Global;
 use zdd_families::{at_least, look, min_product, min_union, up_to_size};
 use zdd_store::{Id, Store};

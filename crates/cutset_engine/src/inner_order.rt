@@ -2,9 +2,9 @@
 //!
 //! Nothing is claimed of it: it decides how large the diagrams become, and not what is found.
 
-use aadl_syntax::Mem;
 use family_renaming::VariableOrder;
 use fault_system::{Bits, FaultSystem, Formula};
+use plain_values::Mem;
 use std::alloc::Global;
 
 // About how many places of gates and of events there are under a formula, with those of its facts.

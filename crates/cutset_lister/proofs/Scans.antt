@@ -10,7 +10,9 @@ use Rattle.std.proofs.lemmas.List.{take-append-drop, drop-drop, length-map}
 use Rattle.std.proofs.lemmas.List.Concat.{flat_map-append}
 use Rattle.std.proofs.lemmas.Option.{get_or_from_slice_get, slice_get-map, unwrap_or-slice_get}
 use Rattle.fault_system.specs.Systems.{System, IsSystem, NamesDiffer}
-use Rattle.fault_system.specs.CutSets.{IsEventSet, RisesWithin}
+use Rattle.fault_system.specs.CutSets.{IsEventSet}
+use Rattle.plain_values.specs.Rising.{RisesWithin}
+use Rattle.plain_values.proofs.Rising.{rises-higher, rises-push}
 use Rattle.fault_system.specs.declared.formula.EventInfo.{EventInfo}
 use Rattle.fault_system.proofs.Elements.{contains_In, each-made}
 use Rattle.cutset_lister.specs.SetText.{HasTokenNames, IsTokenName, IsSetOfText, event_name, set_text}
@@ -86,14 +88,6 @@ ends-names : (system : System) (set : List ℕ) → Ends (names_text system set)
 ends-names system [] = tt
 ends-names system (n ∷ ns) = refl
 
-rises-higher : (low high : ℕ) (ns : List ℕ) → RisesWithin low high ns → RisesWithin low (high + 1) ns
-rises-higher low high [] h = tt
-rises-higher low high (n ∷ ns) h = (h.0, omega (arith, h.1), rises-higher (n + 1) high ns h.2)
-
-rises-push : (low high : ℕ) (ns : List ℕ) → low ≤ high → RisesWithin low high ns → RisesWithin low (high + 1) (ns ++ high ∷ [])
-rises-push low high [] l h = (l, omega arith, tt)
-rises-push low high (n ∷ ns) l h = (h.0, omega (arith, h.1), rises-push (n + 1) high ns (omega (arith, h.1)) h.2)
-
 -- a rising list that does not begin with its bound begins behind it
 rises_past : (low high : ℕ) (ns : List ℕ) → RisesWithin low high ns → ((rest : List ℕ) → ns ≡ low ∷ rest → ⊥) → RisesWithin (low + 1) high ns
 rises_past low high [] h other = tt
@@ -112,7 +106,7 @@ scan-begin system text found is = subst (Scanned system text 0 0) (sym is) (reco
 scan_other : (system : System) (text found : List ℕ) (number place : ℕ) → Scanned system text number place found
     → ((rest : List ℕ) → drop place (43 ∷ text) ≡ names_text system (number ∷ rest) → ⊥) → Scanned system text (number + 1) place found
 scan_other system text found number place s other = record {
-  rise = rises-higher 0 number found s.rise;
+  rise = rises-higher 0 number (number + 1) found (omega arith) s.rise;
   front = s.front;
   plus = s.plus;
   all = λ set rise same.

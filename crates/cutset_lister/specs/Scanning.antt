@@ -2,7 +2,8 @@
 use Rattle.std.specs.Prelude.{ℕ, ◌≡◌, ◌<◌, ◌≤◌, ◌+◌, List, [], ◌∷◌, ◌++◌, length, take, drop}
 use Rattle.std.specs.List.{flat_map}
 use Rattle.fault_system.specs.Systems.{System}
-use Rattle.fault_system.specs.CutSets.{RisesWithin, IsEventSet}
+use Rattle.plain_values.specs.Rising.{RisesWithin}
+use Rattle.fault_system.specs.CutSets.{IsEventSet}
 use Rattle.cutset_lister.specs.SetText.{event_name}
 
 -- the names of a set, each behind a `+`

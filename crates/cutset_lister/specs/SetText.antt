@@ -2,10 +2,10 @@
 use Rattle.std.specs.Prelude.{ℕ, ◌≡◌, ◌≢◌, List, [], ◌∷◌, map, codes, unwrap_or, slice_get, All, Contains}
 use Rattle.std.specs.Option.{option_map}
 use Rattle.std.specs.List.{join_with_byte}
-use Rattle.aadl_syntax.specs.declared.refusal.Stop.{Stop}
-use Rattle.aadl_syntax.specs.declared.refusal.Stop.TheVariants.{Refused, Memory}
-use Rattle.aadl_syntax.specs.declared.refusal.Code.TheVariants.{BadToken}
-use Rattle.aadl_syntax.specs.declared.refusal.Place.TheVariants.{Words}
+use Rattle.plain_values.specs.declared.refusal.Stop.{Stop}
+use Rattle.plain_values.specs.declared.refusal.Stop.TheVariants.{Refused, Memory}
+use Rattle.plain_values.specs.declared.refusal.Code.TheVariants.{BadToken}
+use Rattle.plain_values.specs.Refusal.{of_words}
 use Rattle.fault_system.specs.Systems.{System}
 use Rattle.fault_system.specs.CutSets.{IsEventSet}
 
@@ -34,4 +34,4 @@ IsSetOfText system text set = IsEventSet system set × (set_text system set ≡ 
 abbrev pub IsBadToken : System → List ℕ → Stop → Type 0
 IsBadToken system text Memory = Unit {0}
 IsBadToken system text (Refused refusal) =
-    ((set : List ℕ) → IsSetOfText system text set → ⊥) × (refusal ≡ record { code = BadToken; place = Words; limit = 0 })
+    ((set : List ℕ) → IsSetOfText system text set → ⊥) × (refusal ≡ of_words BadToken)

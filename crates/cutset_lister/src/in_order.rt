@@ -2,10 +2,9 @@ ghost use Rattle.std.specs.Prelude.{◌≡◌, ◌≤◌, ◌↔◌, ◌++◌, �
 ghost use Rattle.fault_system.specs.Listings.{IsInListingOrder};
 ghost use Rattle.zdd_store.specs.Answers.{sets_of};
 ghost use Rattle.zdd_store.specs.Store.{IsIn, family_of, Keeps};
-ghost use Rattle.cutset_lister.specs.Listed.{listed};
 
 use crate::reading::push_sets;
-use aadl_syntax::{List, Mem};
+use plain_values::{List, Mem};
 use std::alloc::Global;
 use zdd_families::of_size;
 use zdd_store::{Id, Store};

@@ -7,7 +7,7 @@ ghost use Rattle.zdd_store.specs.Store.{Families, IsIn, IsSound, Keeps, family_o
 ghost use Rattle.cutset_lister.specs.Trails.{greatest_size};
 ghost use Rattle.cutset_lister.specs.Walks.{AreSizes};
 
-use aadl_syntax::Mem;
+use plain_values::Mem;
 use std::alloc::Global;
 use zdd_families::of_size;
 use zdd_store::{Id, Store};

@@ -1,7 +1,7 @@
 ghost use Rattle.std.specs.Prelude.{◌≡◌, ◌<◌, [], ◌∷◌, ◌++◌, length, IfOk, IfNone, option_to_list};
 ghost use Rattle.cutset_lister.specs.Trails.{numbers};
 
-use aadl_syntax::Mem;
+use plain_values::Mem;
 use std::alloc::Global;
 use std::marker::Model;
 use zdd_store::Id;

@@ -2,7 +2,7 @@ ghost use Rattle.std.specs.Prelude.{◌≡◌, ◌∷◌, [], ◌++◌, OnOk};
 ghost use Rattle.zdd_store.specs.Store.{IsIn, family_of};
 ghost use Rattle.cutset_lister.specs.Listed.{behind};
 
-use aadl_syntax::{List, Mem};
+use plain_values::{List, Mem};
 use std::alloc::Global;
 use zdd_families::look;
 use zdd_store::{Id, Store};

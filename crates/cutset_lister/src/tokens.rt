@@ -1,12 +1,12 @@
 //! Page tokens: the texts of sets of events.
 
 ghost use Rattle.std.specs.Prelude.{◌≡◌, ◌+◌, ◌<◌, ◌≤◌, ◌∷◌, ◌++◌, ℕ, List as Items, length, IfOk, IfErr, IsOk, OnOk, OnErr, MatchBool, MatchResult, vec_len, vec_capacity};
-ghost use Rattle.aadl_syntax.specs.declared.refusal.Stop.TheVariants.{Memory};
+ghost use Rattle.plain_values.specs.declared.refusal.Stop.TheVariants.{Memory};
 ghost use Rattle.cutset_lister.specs.SetText.{HasTokenNames, IsBadToken, IsSetOfText, event_name, set_text};
 ghost use Rattle.cutset_lister.specs.Scanning.{AddsText, IsNext, LacksRoom, Scanned, names_text};
 
-use aadl_syntax::{Answer, Code, List, Mem, Place, Refusal, Stop, is_same};
 use fault_system::FaultSystem;
+use plain_values::{Answer, Code, List, Mem, Refusal, Stop, is_same};
 use std::alloc::Global;
 
 /// The set of events whose text this is: the names of its events in order with `+` between them, or `none` for the empty set.
@@ -24,11 +24,7 @@ pub fn read_token(alloc: Global, system: &FaultSystem, text: &[u8]) -> Answer<Li
     }
     let (set, place) = scan_events(alloc, system, text)?;
     if place <= text.len() {
-        return Err(Stop::Refused(Refusal {
-            code: Code::BadToken,
-            place: Place::Words,
-            limit: 0,
-        }));
+        return Err(Stop::Refused(Refusal::of_words(Code::BadToken)));
     }
     let set = List::of(set)?;
     Ok(set)

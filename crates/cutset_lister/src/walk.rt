@@ -7,8 +7,8 @@ ghost use Rattle.zdd_store.specs.Store.{Families, IsIn, IsSound, Keeps, family_o
 use crate::moves::{descend, go_back, skip};
 use crate::parts::{next_part, part_of_size, parts_by_size};
 use crate::path::Path;
-use aadl_syntax::Mem;
 use fta_outside::Steps;
+use plain_values::Mem;
 use std::alloc::{AllocError, Global};
 use std::marker::Model;
 use std::sync::ledger::Ledger;

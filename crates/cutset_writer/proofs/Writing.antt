@@ -3,15 +3,8 @@ use Rattle.std.proofs.Common.{◌≡◌, ℕ, ◌≤◌, List, [], ◌++◌, len
 use Rattle.std.proofs.lemmas.Result.{MatchResult-weaker}
 use Rattle.std.proofs.lemmas.List.{take_all}
 use Rattle.fta_outside.specs.Outside.{Rose, TookPrefix, with_bytes}
-use Rattle.fta_outside.proofs.Writing.{took_more, wrote_both}
+use Rattle.fta_outside.proofs.Writing.{rose_from, took_more, with_bytes-nil, wrote_both}
 use Rattle.cutset_writer.specs.Written.{Writes}
-
-with_bytes-nil : (t : Option (List ℕ)) → with_bytes t [] ≡ t
-with_bytes-nil None = refl
-with_bytes-nil (Some taken) = ap Some (append-nil taken)
-
-rose_from : (f g h : ℕ) → f ≤ g → Rose g h → Rose f h
-rose_from f g h grows rose = elim rose [ inl more ↦ inl (omega arith) | inr last ↦ inr last ]
 
 -- a first piece was written, and then what follows it was written or not
 pub wrote_then : {T E : Type 0} (r : Result T E) (t u v : Option (List ℕ)) (f g h : ℕ) (a b text : List ℕ) → text ≡ a ++ b → u ≡ with_bytes t a → f ≤ g → Writes r b u v g h → Writes r text t v f h

@@ -1,18 +1,17 @@
-ghost use Rattle.std.specs.Prelude.{◌≡◌, ◌<◌, ◌≤◌, ℕ, List as Items, Contains, IfOk, IsTrue, Option, MatchResult, codes, length, option_map, vec_capacity};
+ghost use Rattle.std.specs.Prelude.{◌≡◌, ◌<◌, ◌≤◌, ℕ, List as Items, Contains, IfOk, IsTrue, Option, option_map, vec_capacity};
 ghost use Rattle.fault_system.specs.CutSets.{IsEventSet};
-ghost use Rattle.fault_system.specs.Listings.{IsInListingOrder};
 ghost use Rattle.zdd_store.specs.Family.{is_within};
 ghost use Rattle.zdd_store.specs.Store.{IsIn, Keeps, family_of};
 ghost use Rattle.cutset_lister.specs.Walks.{IsSameListing, IsStarted, all_sets, sets_left};
 ghost use Rattle.cutset_writer.specs.Pages.{HasRoom, IsReady, Lists, goes_on, has_room, later, next_line, one_less};
-ghost use Rattle.cutset_writer.specs.Text.{listing_page, page_text, set_line};
+ghost use Rattle.cutset_writer.specs.Text.{listing_page, page_text};
 ghost use Rattle.cutset_writer.specs.Written.{Writes};
 
 use crate::lines::{longest_line, put_line};
-use aadl_syntax::Mem;
 use cutset_lister::Listing;
 use fault_system::FaultSystem;
 use fta_outside::{Sink, SinkFailed, Steps, write_all};
+use plain_values::Mem;
 use std::alloc::{AllocError, Global};
 use std::marker::Brand;
 use std::sync::ledger::{Blank, Ledger};

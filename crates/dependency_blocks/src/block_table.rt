@@ -3,7 +3,7 @@ ghost use Rattle.dependency_blocks.specs.Blocks.{number_of, size_of};
 ghost use Rattle.dependency_blocks.specs.Sizes.{HaveSizes, AreSmall};
 
 use crate::checks::number_at;
-use aadl_syntax::Mem;
+use plain_values::Mem;
 use std::alloc::Global;
 use std::marker::Model;
 

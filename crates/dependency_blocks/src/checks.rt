@@ -1,14 +1,14 @@
 //! Linear tests of proposed blocks: where they say yes, the blocks are right, whoever proposed them.
 
-ghost use Rattle.std.specs.Prelude.{◌≡◌, ◌≤◌, ◌⊎◌, ℕ, Contains, IsTrue, IfOk, length, map, slice_index_or, true};
+ghost use Rattle.std.specs.Prelude.{◌≡◌, ◌≤◌, ◌⊎◌, ℕ, Contains, IsTrue, IfOk, length, map, true};
 ghost use Rattle.std.specs.List.{list_any};
 ghost use Rattle.fault_system.specs.Truth.{Has, member, occurs};
 ghost use Rattle.dependency_blocks.specs.Blocks.{number_of};
 ghost use Rattle.dependency_blocks.specs.Checks.{AreBelow, AreTied, HasMarked, MarksOf, LeadToFirst, ComeFromFirst, Fall, IsLow, leader_of};
 ghost use Rattle.backward_slice.specs.Slices.{DependsOn};
 
-use aadl_syntax::Mem;
 use fault_system::{Bits, FaultSystem, Formula};
+use plain_values::Mem;
 use std::alloc::Global;
 
 /// The number of the block of a fact.

@@ -2,8 +2,8 @@
 //!
 //! Nothing is claimed of what is proposed: the tests of `checks` decide.
 
-use aadl_syntax::Mem;
 use fault_system::{Bits, FaultSystem, Formula};
+use plain_values::Mem;
 use std::alloc::Global;
 
 /// A proposal: the block of each fact, the first fact of each block, and two orders of the facts. In the one each fact

@@ -8,9 +8,9 @@ use crate::block_table::Blocks;
 use crate::checks::{Way, all_marked, fall, number_at, tied};
 use crate::finder::{Proposal, propose};
 use crate::ranking::{ranks_of, reaches_of};
-use aadl_syntax::Mem;
 use backward_slice::Slice;
 use fault_system::FaultSystem;
+use plain_values::Mem;
 use std::alloc::Global;
 
 /// The blocks of a slice.

@@ -5,8 +5,8 @@ ghost use Rattle.fault_system.specs.Truth.{Has, member};
 ghost use Rattle.dependency_blocks.specs.Reach.{HaveReaches, IsReach, comes_before, rank_of};
 
 use crate::reach::reach;
-use aadl_syntax::Mem;
 use fault_system::{Bits, FaultSystem};
+use plain_values::Mem;
 use std::alloc::Global;
 
 /// The facts on which each of some facts depends, and an empty set for each other fact of the system.

@@ -3,13 +3,12 @@
 ghost use Rattle.std.specs.Prelude.{◌≡◌, ◌<◌, ◌||◌, ◌==◌, ℕ, IfOk, IsTrue, length, map, false, true};
 ghost use Rattle.std.specs.List.{list_any};
 ghost use Rattle.fault_system.specs.Truth.{Has, member, count_true, occurs};
-ghost use Rattle.fault_system.specs.Systems.{IsSystem};
 ghost use Rattle.fault_system.specs.declared.formula.FactInfo.{FactInfo};
-ghost use Rattle.backward_slice.specs.Slices.{DependsOn, HasItsCauses, IsFact};
+ghost use Rattle.backward_slice.specs.Slices.{HasItsCauses, IsFact};
 ghost use Rattle.dependency_blocks.specs.Reach.{AllFrom, IsReach};
 
-use aadl_syntax::Mem;
 use fault_system::{Bits, FaultSystem, Formula};
+use plain_values::Mem;
 use std::alloc::Global;
 
 /// The facts on which a fact depends.

@@ -1,4 +1,4 @@
-use aadl_syntax::Mem;
+use plain_values::Mem;
 use std::alloc::Global;
 use std::collections::{HashMap, HashSet};
 use zdd_families::look;

@@ -1,7 +1,7 @@
 ghost use Rattle.std.specs.Prelude.{◌+◌, ◌<◌, ◌^◌, IfOk};
 ghost use Rattle.zdd_store.specs.Store.{IsIn, Keeps};
 
-use aadl_syntax::Mem;
+use plain_values::Mem;
 use std::alloc::Global;
 use zdd_families::{at_least, min_product, min_union, single};
 use zdd_store::{Id, Store};

@@ -1,6 +1,6 @@
 -- The error behavior of a component, of its parts together and of its connections, and the user's propagation paths.
 use Rattle.std.specs.Prelude.{ℕ, List, [], ◌∷◌, ◌++◌, Option, Some, None, codes}
-use Rattle.aadl_syntax.specs.declared.place.Spot.{Spot}
+use Rattle.plain_values.specs.declared.spot.Spot.{Spot}
 use Rattle.aadl_syntax.specs.declared.place.End.{End}
 use Rattle.aadl_syntax.specs.declared.error_model.Condition.{Condition}
 use Rattle.aadl_syntax.specs.declared.error_model.Outgoing.{Outgoing}
@@ -10,14 +10,12 @@ use Rattle.aadl_syntax.specs.declared.error_model.UserPoint.{UserPoint}
 use Rattle.aadl_syntax.specs.declared.error_model.UserPath.{UserPath}
 use Rattle.grammar_rules.specs.Rules.{Rule, gives, chooses, gathers, ◌>>=◌}
 use Rattle.grammar_rules.specs.Parts.{parts_after}
-use Rattle.grammar_rules.specs.Spans.{until_inside, ends_to_end}
-use Rattle.grammar_rules.specs.Tokens.{word, sign, one_of, is_word, is_sign, is_one_of}
+use Rattle.grammar_rules.specs.Spans.{until_inside, ends_to_end, tail_end_inside}
+use Rattle.grammar_rules.specs.Tokens.{word, sign, one_of, is_word, is_sign, is_one_of, spot}
 use Rattle.emv2_parser.specs.declared.behavior.OutgoingEffect.{OutgoingEffect}
 use Rattle.emv2_parser.specs.declared.behavior.CompositeRule.{CompositeRule}
 use Rattle.emv2_parser.specs.declared.behavior.PathEnds.{PathEnds}
 use Rattle.emv2_parser.specs.Words.{is_name, point_words, begins_source, begins_composite, begins_transitions, begins_propagations, component_words}
-use Rattle.grammar_rules.specs.Tokens.{spot}
-use Rattle.grammar_rules.specs.Spans.{tail_end_inside}
 use Rattle.emv2_parser.specs.Names.{error_name, point_word, dotted_names, flow_end, state_reference, label, block_end, condition_open, condition_close}
 use Rattle.emv2_parser.specs.Conditions.{whole_condition}
 use Rattle.emv2_parser.specs.Machines.{source, use_transformations, events_after, transitions_after}

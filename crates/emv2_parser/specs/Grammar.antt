@@ -1,14 +1,13 @@
 -- The grammar of error model text: the library of a package, and the clause of a classifier.
 use Rattle.std.specs.Prelude.{[], ◌∷◌, ◌++◌, Some, None, codes}
-use Rattle.aadl_syntax.specs.declared.place.Spot.{Spot}
+use Rattle.plain_values.specs.declared.spot.Spot.{Spot}
 use Rattle.aadl_syntax.specs.declared.place.Ref.{Ref}
 use Rattle.aadl_syntax.specs.declared.error_model.Emv2Library.{Emv2Library}
 use Rattle.aadl_syntax.specs.declared.error_model.Emv2Clause.{Emv2Clause}
 use Rattle.grammar_rules.specs.Rules.{Rule, gives, chooses, gathers, ◌>>=◌}
 use Rattle.grammar_rules.specs.Spans.{until_inside, ends_to_end}
-use Rattle.grammar_rules.specs.Tokens.{word, sign, is_word, is_one_of}
+use Rattle.grammar_rules.specs.Tokens.{word, sign, is_word, is_one_of, spot}
 use Rattle.emv2_parser.specs.Words.{library_words, clause_words, begins_paths}
-use Rattle.grammar_rules.specs.Tokens.{spot}
 use Rattle.emv2_parser.specs.Names.{error_name, names, reference, use_types_after}
 use Rattle.emv2_parser.specs.Properties.{properties_after}
 use Rattle.emv2_parser.specs.Types.{types_block}

@@ -1,7 +1,7 @@
 -- Error behavior state machines: events, states and transitions.
 use Rattle.std.specs.Prelude.{Bool, true, false, List, [], ◌∷◌, ◌++◌, Option, Some, None, codes}
 use Rattle.aadl_syntax.specs.declared.token.TokenKind.TheVariants.{Number}
-use Rattle.aadl_syntax.specs.declared.place.Spot.{Spot}
+use Rattle.plain_values.specs.declared.spot.Spot.{Spot}
 use Rattle.aadl_syntax.specs.declared.error_model.EventDecl.{EventDecl}
 use Rattle.aadl_syntax.specs.declared.error_model.EventKind.{EventKind}
 use Rattle.aadl_syntax.specs.declared.error_model.EventKind.TheVariants.{Error, Recover, Repair}
@@ -13,12 +13,11 @@ use Rattle.aadl_syntax.specs.declared.error_model.Transition.{Transition}
 use Rattle.aadl_syntax.specs.declared.error_model.MachineDecl.{MachineDecl}
 use Rattle.grammar_rules.specs.Rules.{Rule, gives, chooses, gathers, ◌>>=◌}
 use Rattle.grammar_rules.specs.Parts.{parts_after}
-use Rattle.grammar_rules.specs.Tokens.{kind, word, sign, is_kind, is_word, is_sign, is_one_of}
+use Rattle.grammar_rules.specs.Tokens.{kind, word, sign, is_kind, is_word, is_sign, is_one_of, spot}
 use Rattle.emv2_parser.specs.declared.machines.EventWords.{EventWords}
 use Rattle.emv2_parser.specs.declared.machines.StateKind.{StateKind}
 use Rattle.emv2_parser.specs.declared.machines.TransitionEffect.{TransitionEffect}
 use Rattle.emv2_parser.specs.Words.{is_name, begins_source, machine_words}
-use Rattle.grammar_rules.specs.Tokens.{spot}
 use Rattle.grammar_rules.specs.Spans.{tail_end_inside}
 use Rattle.emv2_parser.specs.Names.{error_name, names, use_types_after, optional_set, state_reference, label, block_end, condition_open, condition_close}
 use Rattle.emv2_parser.specs.Properties.{properties_after}

@@ -1,6 +1,6 @@
 -- Names, references, points and type sets of error model text, and what ends an item.
 use Rattle.std.specs.Prelude.{ℕ, List, [], ◌∷◌, ◌++◌, Option, Some, None, codes}
-use Rattle.aadl_syntax.specs.declared.place.Spot.{Spot}
+use Rattle.plain_values.specs.declared.spot.Spot.{Spot}
 use Rattle.aadl_syntax.specs.declared.place.Ref.{Ref}
 use Rattle.aadl_syntax.specs.declared.error_model.TypeSet.{TypeSet}
 use Rattle.aadl_syntax.specs.declared.error_model.Term.{Term}

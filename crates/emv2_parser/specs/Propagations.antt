@@ -1,7 +1,7 @@
 -- Error propagations of points, and error flows.
 use Rattle.std.specs.Prelude.{Bool, true, false, List, [], ◌∷◌, Option, Some, None, codes}
 use Rattle.aadl_syntax.specs.declared.token.TokenKind.TheVariants.{Text}
-use Rattle.aadl_syntax.specs.declared.place.Spot.{Spot}
+use Rattle.plain_values.specs.declared.spot.Spot.{Spot}
 use Rattle.aadl_syntax.specs.declared.error_model.StateRef.{StateRef}
 use Rattle.aadl_syntax.specs.declared.error_model.PointItem.{PointItem}
 use Rattle.aadl_syntax.specs.declared.error_model.Flow.{Flow}
@@ -13,9 +13,8 @@ use Rattle.emv2_parser.specs.declared.propagations.PathTarget.{PathTarget}
 use Rattle.grammar_rules.specs.Rules.{Rule, gives, chooses, ◌>>=◌}
 use Rattle.grammar_rules.specs.Parts.{parts_after}
 use Rattle.grammar_rules.specs.Tokens as token
-use Rattle.grammar_rules.specs.Tokens.{word, sign, is_kind, is_word, is_sign}
+use Rattle.grammar_rules.specs.Tokens.{word, sign, is_kind, is_word, is_sign, spot}
 use Rattle.emv2_parser.specs.Words.{is_name, begins_point}
-use Rattle.grammar_rules.specs.Tokens.{spot}
 use Rattle.grammar_rules.specs.Spans.{tail_end_inside}
 use Rattle.emv2_parser.specs.Names.{error_name, names, point, type_set, flow_end, state_reference, block_end}
 

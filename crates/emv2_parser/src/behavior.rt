@@ -1,4 +1,4 @@
-ghost use Rattle.std.specs.Prelude.{◌≡◌, [], ◌∷◌, ◌++◌, codes};
+ghost use Rattle.std.specs.Prelude.{◌≡◌, [], ◌∷◌, ◌++◌};
 ghost use Rattle.grammar_rules.specs.Reader.{Gives, given};
 ghost use Rattle.grammar_rules.specs.Rules.{chooses};
 ghost use Rattle.grammar_rules.specs.Tokens.{is_one_of};
@@ -18,10 +18,11 @@ use crate::words::{
     propagations_at, source_at, transitions_at,
 };
 use aadl_syntax::{
-    Composite, Condition, Emv2Clause, End, Identifier, List, Outgoing, PointRef, Spot, StateRef,
-    TypeSet, UserPath, UserPoint,
+    Composite, Condition, Emv2Clause, End, Identifier, Outgoing, PointRef, StateRef, TypeSet,
+    UserPath, UserPoint,
 };
 use grammar_rules::{Gathered, Parts, ReadError, Reader, ToEnd, spot, tail_end_inside};
+use plain_values::{List, Spot};
 
 /// What follows the source of an outgoing condition.
 #[derive(Drop)]

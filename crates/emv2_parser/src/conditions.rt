@@ -6,8 +6,9 @@ ghost use Rattle.emv2_parser.specs.Conditions.{inward, atom, bound, further_cond
 
 use crate::names::{optional_set, point};
 use crate::words::{count, count_at};
-use aadl_syntax::{Atom, Condition, List};
+use aadl_syntax::{Atom, Condition};
 use grammar_rules::{ReadError, Reader, spot};
+use plain_values::List;
 
 /// More parentheses than may be open at once in a condition.
 const LEVELS: usize = 65;

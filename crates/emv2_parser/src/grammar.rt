@@ -1,4 +1,4 @@
-ghost use Rattle.std.specs.Prelude.{◌≡◌, [], ◌∷◌, ◌++◌, codes};
+ghost use Rattle.std.specs.Prelude.{◌≡◌, [], ◌∷◌, ◌++◌};
 ghost use Rattle.grammar_rules.specs.Reader.{Gives, given};
 ghost use Rattle.grammar_rules.specs.Tokens.{is_one_of};
 ghost use Rattle.emv2_parser.specs.Words.{library_words, clause_words};
@@ -12,8 +12,9 @@ use crate::propagations::clause_propagations;
 use crate::properties::properties_after;
 use crate::types::types_block;
 use crate::words::{clause_part_at, error_name, library_block_at, paths_at};
-use aadl_syntax::{Emv2Clause, Emv2Library, List, Ref, Spot};
+use aadl_syntax::{Emv2Clause, Emv2Library, Ref};
 use grammar_rules::{Gathered, ReadError, Reader, ToEnd, spot};
+use plain_values::{List, Spot};
 use std::alloc::Global;
 
 #[tactic(auto, unfolding(crate::specs::Grammar::mapping_word))]

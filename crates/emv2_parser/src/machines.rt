@@ -13,10 +13,11 @@ use crate::names::{
 use crate::properties::properties_after;
 use crate::words::{error_name, machine_block_at, name_at, source_at};
 use aadl_syntax::{
-    Condition, EventDecl, EventKind, Identifier, List, MachineDecl, Source, Spot, StateDecl,
-    StateRef, TokenKind, Transition, TypeSet,
+    Condition, EventDecl, EventKind, Identifier, MachineDecl, Source, StateDecl, StateRef,
+    TokenKind, Transition, TypeSet,
 };
 use grammar_rules::{Gathered, Parts, ReadError, Reader, spot, tail_end_inside};
+use plain_values::{List, Spot};
 
 /// What follows the name of an event.
 #[derive(Drop)]

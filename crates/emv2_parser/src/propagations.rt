@@ -1,4 +1,4 @@
-ghost use Rattle.std.specs.Prelude.{◌≡◌, [], ◌∷◌, codes};
+ghost use Rattle.std.specs.Prelude.{◌≡◌, [], ◌∷◌};
 ghost use Rattle.grammar_rules.specs.Reader.{Gives, given};
 ghost use Rattle.emv2_parser.specs.Words.{is_name, begins_point};
 ghost use Rattle.emv2_parser.specs.Propagations.{negation, outward, direction, propagation_words, point_item, when_part, source_state, source_flow, sink_flow, flow_mappings, path_target, path_flow, flow_kind, flow_words, flow, flows_after, points_after, propagations_head, clause_propagations};
@@ -6,10 +6,9 @@ ghost use Rattle.emv2_parser.specs.Takes.{point_item-takes, flow-takes};
 
 use crate::names::{FlowEnd, block_end, flow_end, names, point, state_reference, type_set};
 use crate::words::{error_name, name_at, point_at};
-use aadl_syntax::{
-    Emv2Clause, Flow, FlowKind, List, PointItem, Spot, StateRef, TokenKind, TypeSet,
-};
+use aadl_syntax::{Emv2Clause, Flow, FlowKind, PointItem, StateRef, TokenKind, TypeSet};
 use grammar_rules::{Parts, ReadError, Reader, spot, tail_end_inside};
+use plain_values::{List, Spot};
 
 /// What follows the point of a propagation.
 #[derive(Drop)]

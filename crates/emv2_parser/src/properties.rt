@@ -9,8 +9,9 @@ ghost use Rattle.emv2_parser.specs.Takes.{path_step-takes, further_target-takes,
 
 use crate::names::names;
 use crate::words::{error_name, name_at, point_at, point_name, point_word_at};
-use aadl_syntax::{Association, Identifier, List, Mem, TokenList, TokenRef};
+use aadl_syntax::{Association, Identifier, TokenList, TokenRef};
 use grammar_rules::{Gathered, Parts, ReadError, Reader, Span, closes, is_sign, is_word};
+use plain_values::{List, Mem};
 use std::alloc::Global;
 
 /// A path as far as it is read: its names, whether it has been names with single dots between them so far, and whether

@@ -10,8 +10,9 @@ ghost use Rattle.emv2_parser.specs.Takes.{use_types-takes, type_item-takes};
 use crate::names::{block_end, reference, references_after, type_set, use_types_after};
 use crate::properties::properties_after;
 use crate::words::{error_name, name_at};
-use aadl_syntax::{Association, List, Ref, TypeItem, TypeKind, TypesBlock};
+use aadl_syntax::{Association, Ref, TypeItem, TypeKind, TypesBlock};
 use grammar_rules::{Gathered, Parts, ReadError, Reader, Tail, spot};
+use plain_values::List;
 
 #[tactic(auto, unfolding(crate::specs::Types::set_kind))]
 fn set_kind(reader: &mut Reader) -> Result<TypeKind, ReadError>

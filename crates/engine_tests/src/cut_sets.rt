@@ -5,13 +5,13 @@ ghost use Rattle.backward_slice.specs.Slices.{IsSlice};
 ghost use Rattle.zdd_store.specs.Store.{IsIn, Keeps};
 
 use crate::systems::system;
-use aadl_syntax::{List, Mem};
 use backward_slice::{Slice, slice};
 use cutset_engine::family;
 use dependency_blocks::{Blocks, blocks};
 use fault_system::Formula::{And, AtLeast, Event, Fact, Or};
 use fault_system::{FaultSystem, Formula};
 use plain_listing::plain_listing;
+use plain_values::{List, Mem};
 use std::alloc::{AllocError, Global};
 use std::process::Abort;
 use std::test::Fail;

@@ -1,6 +1,6 @@
 //! The store and the operations on families, once each.
 
-use aadl_syntax::Mem;
+use plain_values::Mem;
 use std::alloc::Global;
 use std::test::Fail;
 use zdd_families::{at_least, min_product, min_union, of_size, single, up_to_size, without};

@@ -4,11 +4,11 @@ ghost use Rattle.std.specs.Prelude.{◌≡◌, ◌<◌, IfOk, length};
 ghost use Rattle.backward_slice.specs.Slices.{IsSlice};
 
 use crate::systems::system;
-use aadl_syntax::{List, Mem};
 use backward_slice::{Slice, slice};
 use dependency_blocks::blocks;
 use fault_system::Formula::{And, AtLeast, Event, Fact, Or, True};
 use fault_system::{Bits, FaultSystem, Formula};
+use plain_values::{List, Mem};
 use round_gates::{Gate, GateAnswer, GateKind, Input, Tree, staged};
 use std::alloc::{AllocError, Global};
 use std::process::Abort;

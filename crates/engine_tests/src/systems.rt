@@ -2,10 +2,10 @@
 
 ghost use Rattle.std.specs.Prelude.{◌≡◌, IfOk, length};
 
-use aadl_syntax::{List, Mem};
 use fault_system::Formula::{And, AtLeast, Event, Fact, Or, True};
 use fault_system::{Bits, EventInfo, FactInfo, FaultSystem, Formula, is_system};
 use plain_listing::plain_listing;
+use plain_values::{List, Mem};
 use std::alloc::Global;
 use std::process::Abort;
 use std::test::Fail;

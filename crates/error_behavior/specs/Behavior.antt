@@ -4,11 +4,11 @@ use Rattle.aadl_syntax.specs.declared.error_model.EventDecl.{EventDecl}
 use Rattle.aadl_syntax.specs.declared.error_model.MachineDecl.{MachineDecl}
 use Rattle.aadl_syntax.specs.declared.error_model.Outgoing.{Outgoing}
 use Rattle.aadl_syntax.specs.declared.error_model.Transition.{Transition}
-use Rattle.aadl_syntax.specs.declared.refusal.Code.TheVariants.{MachineExtends, Mapping}
-use Rattle.aadl_syntax.specs.declared.refusal.Refusal.{Refusal}
+use Rattle.plain_values.specs.declared.refusal.Code.TheVariants.{MachineExtends, Mapping}
+use Rattle.plain_values.specs.declared.refusal.Refusal.{Refusal}
 use Rattle.component_extension.specs.declared.effective.Effective.{Effective}
 use Rattle.component_extension.specs.Items.{Scoped}
-use Rattle.component_extension.specs.Members.{refused_there}
+use Rattle.plain_values.specs.Refusal.{refused_there}
 use Rattle.error_types.specs.Libraries.{Table}
 use Rattle.error_types.specs.Types.{text_scope}
 use Rattle.propagation_points.specs.Points.{Point, scopes_of}

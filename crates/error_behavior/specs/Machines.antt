@@ -1,14 +1,15 @@
 -- The error behavior state machine that a component uses (EMV2: `use behavior`).
 use Rattle.std.specs.Prelude.{ℕ, Bool, List, position, slice_get, Option, Some, None, option_map, option_and_then, ok_or, Result, Ok, Err}
-use Rattle.aadl_syntax.specs.Name.{is_same_text}
+use Rattle.plain_values.specs.Name.{is_same_text}
 use Rattle.aadl_syntax.specs.declared.core_model.PackageUnit.{PackageUnit}
 use Rattle.aadl_syntax.specs.declared.error_model.MachineDecl.{MachineDecl}
 use Rattle.aadl_syntax.specs.declared.place.Ref.{Ref}
-use Rattle.aadl_syntax.specs.declared.place.Spot.{Spot}
-use Rattle.aadl_syntax.specs.declared.refusal.Code.{Code}
-use Rattle.aadl_syntax.specs.declared.refusal.Code.TheVariants.{UnknownMachine, UnknownPackage}
-use Rattle.aadl_syntax.specs.declared.refusal.Refusal.{Refusal}
-use Rattle.package_index.specs.Lookup.{package_meant, place_of, refusal}
+use Rattle.plain_values.specs.declared.spot.Spot.{Spot}
+use Rattle.plain_values.specs.declared.refusal.Code.{Code}
+use Rattle.plain_values.specs.declared.refusal.Code.TheVariants.{UnknownMachine, UnknownPackage}
+use Rattle.plain_values.specs.declared.refusal.Refusal.{Refusal}
+use Rattle.package_index.specs.Lookup.{package_meant}
+use Rattle.plain_values.specs.Refusal.{place_of, refusal}
 use Rattle.package_index.specs.Names.{front, last}
 use Rattle.component_extension.specs.declared.effective.Effective.{Effective}
 use Rattle.component_extension.specs.Items.{Clause, Scoped}

@@ -1,16 +1,13 @@
 -- The states and the events of a component (EMV2: error behavior states and events).
-use Rattle.std.specs.Prelude.{ℕ, Bool, true, false, List, [], ◌∷◌, ◌++◌, fold, map, flat_map, Option, Some, None, option_map}
+use Rattle.std.specs.Prelude.{ℕ, Bool, true, false, List, [], ◌∷◌, ◌++◌, fold, map, Option, Some, None, option_map}
 use Rattle.aadl_syntax.specs.declared.error_model.EventDecl.{EventDecl}
 use Rattle.aadl_syntax.specs.declared.error_model.EventKind.{EventKind}
 use Rattle.aadl_syntax.specs.declared.error_model.EventKind.TheVariants.{Error, Recover, Repair}
 use Rattle.aadl_syntax.specs.declared.error_model.StateDecl.{StateDecl}
-use Rattle.aadl_syntax.specs.declared.error_model.TypeSet.{TypeSet}
-use Rattle.aadl_syntax.specs.declared.refusal.Code.TheVariants.{Recovery, Typed}
-use Rattle.aadl_syntax.specs.declared.refusal.Refusal.{Refusal}
-use Rattle.package_index.specs.Lookup.{refused_so}
+use Rattle.plain_values.specs.declared.refusal.Code.TheVariants.{Recovery, Typed}
+use Rattle.plain_values.specs.declared.refusal.Refusal.{Refusal}
+use Rattle.plain_values.specs.Refusal.{refused_so, refused_there}
 use Rattle.component_extension.specs.declared.effective.Effective.{Effective}
-use Rattle.component_extension.specs.Items.{Scoped}
-use Rattle.component_extension.specs.Members.{refused_there}
 use Rattle.propagation_points.specs.States.{keep_name, number_named}
 use Rattle.error_behavior.specs.declared.states.States.{States}
 use Rattle.error_behavior.specs.Machines.{Machine}

@@ -4,7 +4,7 @@ use Rattle.aadl_syntax.specs.declared.error_model.Condition.{Condition}
 use Rattle.aadl_syntax.specs.declared.error_model.Outgoing.{Outgoing}
 use Rattle.aadl_syntax.specs.declared.error_model.StateRef.{StateRef}
 use Rattle.aadl_syntax.specs.declared.error_model.Transition.{Transition}
-use Rattle.aadl_syntax.specs.declared.refusal.Refusal.{Refusal}
+use Rattle.plain_values.specs.declared.refusal.Refusal.{Refusal}
 use Rattle.error_types.specs.Libraries.{Table}
 use Rattle.propagation_points.specs.Settings.{faults_in, reached_in}
 use Rattle.propagation_points.specs.States.{number_named, state_faults}

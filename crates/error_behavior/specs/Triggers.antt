@@ -1,7 +1,7 @@
 -- What the named parts of a trigger mean (EMV2: error conditions over events and propagations).
 use Rattle.std.specs.Prelude.{ℕ, cond, List, ◌++◌, Option, Some, None, option_and_then}
 use Rattle.aadl_syntax.specs.declared.error_model.Atom.{Atom}
-use Rattle.aadl_syntax.specs.declared.refusal.Refusal.{Refusal}
+use Rattle.plain_values.specs.declared.refusal.Refusal.{Refusal}
 use Rattle.package_index.specs.Names.{only}
 use Rattle.error_types.specs.declared.scope.Scope.{Scope}
 use Rattle.error_types.specs.Libraries.{Table}

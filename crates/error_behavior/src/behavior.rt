@@ -1,5 +1,5 @@
 ghost use Rattle.std.specs.Prelude.{◌≡◌, ◌++◌, IfOk, OnOk, flat_map, option_copied, option_map, slice_get};
-ghost use Rattle.aadl_syntax.specs.Order.{least, nearer};
+ghost use Rattle.plain_values.specs.Order.{least, nearer};
 ghost use Rattle.error_types.specs.Types.{text_scope};
 ghost use Rattle.error_behavior.specs.Behavior.{behavior_faults, behavior_of, behavior_with, clause_emissions, clause_outgoing_faults, clause_steps, clause_transition_faults, decl_faults, faults_with, machine_faults, machine_steps, step_faults, texts_of};
 ghost use Rattle.error_behavior.specs.States.{states_of};
@@ -11,9 +11,10 @@ use crate::states::note_states;
 use crate::steps::{Emission, Step};
 use crate::transitions::{add_emission, add_step};
 use crate::triggers::{TriggerPlace, Vocabulary};
-use aadl_syntax::{Code, FirstRefusal, List, MachineDecl, Mem, Outgoing, Transition};
+use aadl_syntax::{MachineDecl, Outgoing, Transition};
 use component_extension::{Effective, InClause};
 use error_types::{Scope, TypeTable};
+use plain_values::{Code, FirstRefusal, List, Mem};
 use propagation_points::{NameTable, Points, note_at, scopes_of};
 use std::alloc::Global;
 
@@ -97,7 +98,7 @@ fn machine_text(
 }
 
 /// The steps and the emissions of a component with these points, states, events and texts. All refusals are noted.
-#[tactic(auto, using(component_extension::proofs::Noting::noted_more))]
+#[tactic(auto, using(plain_values::proofs::Noting::noted_more))]
 fn meanings<'s, 'a>(
     alloc: Global,
     types: &mut TypeTable<'_, 'a>,
@@ -122,7 +123,7 @@ fn meanings<'s, 'a>(
 }
 
 /// The steps of a machine, and then those of clauses. All refusals but those of outgoing conditions are noted.
-#[tactic(auto, using(component_extension::proofs::Noting::noted_more))]
+#[tactic(auto, using(plain_values::proofs::Noting::noted_more))]
 fn steps_of<'s, 'a>(
     alloc: Global,
     types: &mut TypeTable<'_, 'a>,
@@ -144,7 +145,7 @@ fn steps_of<'s, 'a>(
 }
 
 /// The steps of a machine, if there is one. Its refusals are noted.
-#[tactic(auto, using(component_extension::proofs::Noting::noted_more))]
+#[tactic(auto, using(plain_values::proofs::Noting::noted_more))]
 fn machine_steps<'s, 'a>(
     alloc: Global,
     types: &mut TypeTable<'_, 'a>,
@@ -189,12 +190,12 @@ fn clause_scope(texts: &Texts, number: usize) -> Option<&Scope>
 }
 
 /// Notes the refusals of a declared machine, but for its transitions.
-#[tactic(auto, using(component_extension::proofs::Noting::noted_more))]
+#[tactic(auto, using(plain_values::proofs::Noting::noted_more))]
 fn note_machine(first: &mut FirstRefusal, decl: &MachineDecl)
     ensures { first.new ≡ nearer first.old (least (decl_faults decl.now)) }
 {
-    note_at(first, Code::MachineExtends, decl.extends);
-    note_at(first, Code::Mapping, decl.transforms);
+    first.note_at(Code::MachineExtends, decl.extends);
+    first.note_at(Code::Mapping, decl.transforms);
     note_events(first, decl.events.items());
     note_states(first, decl.states.items());
 }

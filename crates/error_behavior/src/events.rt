@@ -1,13 +1,14 @@
 ghost use Rattle.std.specs.Prelude.{◌≡◌, [], IfOk, flat_map, fold, map};
-ghost use Rattle.aadl_syntax.specs.Order.{least, nearer};
+ghost use Rattle.plain_values.specs.Order.{least, nearer};
 ghost use Rattle.propagation_points.specs.States.{keep_name};
 ghost use Rattle.error_behavior.specs.Behavior.{clause_event_faults};
 ghost use Rattle.error_behavior.specs.States.{event_faults, events_of, is_recovery, machine_events};
 
 use crate::machines::UsedMachine;
-use aadl_syntax::{Code, EventDecl, EventKind, FirstRefusal, Mem};
+use aadl_syntax::{EventDecl, EventKind};
 use component_extension::{Effective, InClause};
 use package_index::note_if;
+use plain_values::{Code, FirstRefusal, Mem};
 use propagation_points::{NameTable, note_at, spot_of};
 use std::alloc::Global;
 
@@ -70,12 +71,12 @@ pub(crate) fn note_clause_events(first: &mut FirstRefusal, events: &[InClause<'_
     }
 }
 
-#[tactic(auto, using(component_extension::proofs::Noting::noted_more))]
+#[tactic(auto, using(plain_values::proofs::Noting::noted_more))]
 fn note_event(first: &mut FirstRefusal, decl: &EventDecl)
     ensures { first.new ≡ nearer first.old (least (event_faults decl.now)) }
 {
-    note_if(first, is_recovery(decl.kind), Code::Recovery, decl.spot);
-    note_at(first, Code::Typed, spot_of(&decl.set));
+    first.note_if(is_recovery(decl.kind), Code::Recovery, decl.spot);
+    first.note_at(Code::Typed, spot_of(&decl.set));
 }
 
 fn is_recovery(kind: EventKind) -> bool

@@ -3,9 +3,10 @@ ghost use Rattle.package_index.specs.Lookup.{package_meant};
 ghost use Rattle.package_index.specs.Names.{names_of};
 ghost use Rattle.error_behavior.specs.Machines.{find_machine, is_machine_named, look_machine, machine_at, machine_by, machine_in, machine_meant, machine_of, machine_or};
 
-use aadl_syntax::{Code, MachineDecl, Ref, Refusal, Spot, is_same};
+use aadl_syntax::{MachineDecl, Ref};
 use component_extension::{ClauseText, Effective, InClause};
 use package_index::{Index, Words, refusal};
+use plain_values::{Code, Refusal, Spot, is_same};
 use std::marker::Model;
 
 /// A machine: the number of its package, and its place among the machines of the package, both from 0.
@@ -103,7 +104,7 @@ fn machine_or(spot: Spot, found: Result<MachineId, Code>) -> Result<Option<Machi
 {
     match found {
         Ok(id) => Ok(Some(id)),
-        Err(code) => Err(refusal(code, spot)),
+        Err(code) => Err(Refusal::at(code, spot)),
     }
 }
 

@@ -1,9 +1,10 @@
-ghost use Rattle.std.specs.Prelude.{◌≡◌, IfOk, flat_map, option_copied};
-ghost use Rattle.aadl_syntax.specs.Order.{least, nearer};
+ghost use Rattle.std.specs.Prelude.{◌≡◌, IfOk, flat_map};
+ghost use Rattle.plain_values.specs.Order.{least, nearer};
 ghost use Rattle.error_behavior.specs.States.{keep_state, no_states, state_decl_faults, states_in, states_of};
 
 use crate::machines::UsedMachine;
-use aadl_syntax::{Code, FirstRefusal, List, Mem, StateDecl};
+use aadl_syntax::StateDecl;
+use plain_values::{Code, FirstRefusal, List, Mem};
 use propagation_points::{NameTable, note_at, spot_of};
 use std::alloc::Global;
 
@@ -61,6 +62,6 @@ pub(crate) fn note_states(first: &mut FirstRefusal, decls: &[StateDecl])
     ensures { first.new ≡ nearer first.old (least (flat_map state_decl_faults decls.now)) }
 {
     for decl in decls {
-        note_at(first, Code::Typed, spot_of(&decl.set));
+        first.note_at(Code::Typed, spot_of(&decl.set));
     }
 }

@@ -1,5 +1,5 @@
-use aadl_syntax::List;
 use error_conditions::Cause;
+use plain_values::List;
 use propagation_points::ReachedPoint;
 
 /// From where a transition or an outgoing condition goes.

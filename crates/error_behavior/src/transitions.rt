@@ -1,15 +1,15 @@
 ghost use Rattle.std.specs.Prelude.{◌≡◌, ◌++◌, IfOk, OnOk, flat_map, option_and_then, option_map, option_to_list};
-ghost use Rattle.aadl_syntax.specs.Order.{least, nearer};
+ghost use Rattle.plain_values.specs.Order.{least, nearer};
 ghost use Rattle.propagation_points.specs.States.{state_faults};
-ghost use Rattle.error_conditions.specs.Conditions.{cause_of, condition_faults};
+ghost use Rattle.error_conditions.specs.Conditions.{cause_of};
 ghost use Rattle.error_behavior.specs.Steps.{emission_of, origin_faults, origin_of, outgoing_faults, perhaps_faults, step_of, targets_of, transition_faults, trigger_of};
-ghost use Rattle.error_behavior.specs.Triggers.{trigger_faults, trigger_meaning};
 
 use crate::steps::{Emission, Origin, Step};
 use crate::triggers::TriggerPlace;
-use aadl_syntax::{Condition, FirstRefusal, List, Mem, Outgoing, StateRef, Transition};
+use aadl_syntax::{Condition, Outgoing, StateRef, Transition};
 use error_conditions::{Cause, cause_of};
 use error_types::TypeTable;
+use plain_values::{FirstRefusal, List, Mem};
 use propagation_points::{PointUse, ReachedPoint, Setting};
 use std::alloc::Global;
 
@@ -76,7 +76,7 @@ pub(crate) fn add_step<'a>(
     Ok(())
 }
 
-#[tactic(auto, using(component_extension::proofs::Noting::noted_more))]
+#[tactic(auto, using(plain_values::proofs::Noting::noted_more))]
 fn step_of<'a>(
     alloc: Global,
     types: &mut TypeTable<'_, 'a>,
@@ -144,7 +144,7 @@ pub(crate) fn add_emission<'a>(
     Ok(())
 }
 
-#[tactic(auto, using(component_extension::proofs::Noting::noted_more))]
+#[tactic(auto, using(plain_values::proofs::Noting::noted_more))]
 fn emission_of<'a>(
     alloc: Global,
     types: &mut TypeTable<'_, 'a>,

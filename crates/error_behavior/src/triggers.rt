@@ -1,11 +1,11 @@
 ghost use Rattle.std.specs.Prelude.{◌≡◌, IfOk, OnOk, option_copied};
-ghost use Rattle.aadl_syntax.specs.Order.{least, nearer};
-ghost use Rattle.error_conditions.specs.Conditions.{cause_of, condition_faults};
+ghost use Rattle.plain_values.specs.Order.{least, nearer};
 ghost use Rattle.error_behavior.specs.Triggers.{event_named, event_or_point, event_or_point_faults, trigger_faults, trigger_meaning};
 
-use aadl_syntax::{Atom, FirstRefusal, Mem};
+use aadl_syntax::Atom;
 use error_conditions::{Atoms, Cause, note_no_errors, note_typed, point_meaning};
 use error_types::{Scope, TypeTable};
+use plain_values::{FirstRefusal, Mem};
 use propagation_points::{NameTable, Points, Setting, only_name};
 use std::alloc::Global;
 use std::marker::Model;
@@ -96,7 +96,7 @@ impl<'s, 'a> Atoms for TriggerPlace<'s, 'a> {
 
     ghost faults = { trigger_faults };
 
-    #[tactic(auto, using(component_extension::proofs::Noting::noted_more))]
+    #[tactic(auto, using(plain_values::proofs::Noting::noted_more))]
     fn meaning<'t>(
         &self,
         alloc: Global,

@@ -6,10 +6,10 @@ use Rattle.aadl_syntax.specs.declared.error_model.Atom.{Atom}
 use Rattle.aadl_syntax.specs.declared.error_model.Condition.{Condition, fold-roll-Condition}
 use Rattle.aadl_syntax.specs.declared.error_model.Condition.TheVariants.{All, Any, AtLeast, AtMost, rolls-All, rolls-Any, rolls-AtLeast, rolls-AtMost}
 use Rattle.aadl_syntax.specs.declared.error_model.Condition.TheOpen as open_one
-use Rattle.aadl_syntax.specs.declared.place.Spot.{Spot}
-use Rattle.aadl_syntax.specs.declared.refusal.Code.TheVariants.{OrLess}
-use Rattle.aadl_syntax.specs.declared.refusal.Refusal.{Refusal}
-use Rattle.package_index.specs.Lookup.{place_of, refusal}
+use Rattle.plain_values.specs.declared.spot.Spot.{Spot}
+use Rattle.plain_values.specs.declared.refusal.Code.TheVariants.{OrLess}
+use Rattle.plain_values.specs.declared.refusal.Refusal.{Refusal}
+use Rattle.plain_values.specs.Refusal.{place_of, refusal}
 use Rattle.error_conditions.specs.Conditions.{condition_faults, faults_step}
 
 module _ (faults : Atom → List Refusal) where

@@ -1,2 +1,1 @@
 pub mod ConditionLaws
-pub mod Noted

@@ -7,10 +7,9 @@ use Rattle.aadl_syntax.specs.declared.error_model.Condition.TheOpen as condition
 use Rattle.aadl_syntax.specs.declared.error_model.Term.{Term}
 use Rattle.aadl_syntax.specs.declared.error_model.Term.TheVariants.{NoError, One, Product}
 use Rattle.aadl_syntax.specs.declared.error_model.TypeSet.{TypeSet}
-use Rattle.aadl_syntax.specs.declared.refusal.Code.TheVariants.{NoErrorCondition, OrLess, Typed}
-use Rattle.aadl_syntax.specs.declared.refusal.Refusal.{Refusal}
-use Rattle.package_index.specs.Lookup.{place_of, refusal}
-use Rattle.component_extension.specs.Members.{refused_there}
+use Rattle.plain_values.specs.declared.refusal.Code.TheVariants.{NoErrorCondition, OrLess, Typed}
+use Rattle.plain_values.specs.declared.refusal.Refusal.{Refusal}
+use Rattle.plain_values.specs.Refusal.{place_of, refusal, refused_there}
 use Rattle.error_types.specs.Libraries.{Table}
 use Rattle.propagation_points.specs.declared.uses.ReachedPoint.{ReachedPoint}
 use Rattle.propagation_points.specs.Settings.{Setting, reached_in}

@@ -1,13 +1,14 @@
 ghost use Rattle.std.specs.Prelude.{◌≡◌, IfOk, OnOk, flat_map};
-ghost use Rattle.aadl_syntax.specs.Order.{least, nearer};
+ghost use Rattle.plain_values.specs.Order.{least, nearer};
 ghost use Rattle.propagation_points.specs.Settings.{faults_in};
 ghost use Rattle.propagation_points.specs.Uses.{atom_use};
 ghost use Rattle.error_conditions.specs.Conditions.{no_error_at, no_error_faults, point_cause, point_meaning, typed_faults};
 
 use crate::cause::Cause;
-use aadl_syntax::{Atom, Code, FirstRefusal, List, Mem, Term, TypeSet};
+use aadl_syntax::{Atom, Term, TypeSet};
 use error_types::TypeTable;
 use package_index::note_if;
+use plain_values::{Code, FirstRefusal, List, Mem};
 use propagation_points::{PointUse, ReachedPoint, Setting, note_at, spot_of};
 use std::alloc::Global;
 
@@ -58,7 +59,7 @@ fn note_term(first: &mut FirstRefusal, term: &Term)
     ensures { first.new ≡ nearer first.old (least (no_error_at term.now)) }
 {
     if let Term::NoError(spot) = term {
-        note_if(first, true, Code::NoErrorCondition, *spot);
+        first.note_if(true, Code::NoErrorCondition, *spot);
     }
 }
 
@@ -66,5 +67,5 @@ fn note_term(first: &mut FirstRefusal, term: &Term)
 pub fn note_typed(first: &mut FirstRefusal, atom: &Atom)
     ensures { first.new ≡ nearer first.old (least (typed_faults atom.now)) }
 {
-    note_at(first, Code::Typed, spot_of(&atom.set));
+    first.note_at(Code::Typed, spot_of(&atom.set));
 }

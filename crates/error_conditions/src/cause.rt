@@ -1,4 +1,5 @@
-use aadl_syntax::{Identifier, List};
+use aadl_syntax::Identifier;
+use plain_values::List;
 use propagation_points::ReachedPoint;
 
 /// A state of a component below: the names of the subcomponents that lead to the component, and the number of the state there,

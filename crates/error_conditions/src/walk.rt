@@ -1,19 +1,20 @@
 ghost use Rattle.std.specs.Prelude.{◌≡◌, ◌++◌, IfOk, OnOk, flat_map, map};
-ghost use Rattle.aadl_syntax.specs.Order.{least, nearer};
+ghost use Rattle.plain_values.specs.Order.{least, nearer};
 ghost use Rattle.error_conditions.specs.Conditions.{cause_of, condition_faults};
 
 use crate::cause::Cause;
-use aadl_syntax::{Atom, Code, Condition, FirstRefusal, List, Mem};
+use aadl_syntax::{Atom, Condition};
 use error_types::TypeTable;
 use package_index::note_if;
+use plain_values::{Code, FirstRefusal, List, Mem};
 use std::alloc::Global;
 
 /// What the named parts of a condition mean where it stands.
 pub trait Atoms {
     ghost use Rattle.std.specs.Prelude.{◌≡◌, List, IfOk, OnOk};
-    ghost use Rattle.aadl_syntax.specs.Order.{least, nearer};
+    ghost use Rattle.plain_values.specs.Order.{least, nearer};
     ghost use Rattle.aadl_syntax.specs.declared.error_model.Atom.{Atom as Named};
-    ghost use Rattle.aadl_syntax.specs.declared.refusal.Refusal.{Refusal};
+    ghost use Rattle.plain_values.specs.declared.refusal.Refusal.{Refusal};
     ghost use Rattle.error_types.specs.Libraries.{Table};
     ghost use Rattle.error_conditions.specs.declared.cause.Cause.{Cause as Meaning};
 
@@ -68,7 +69,7 @@ pub fn cause_of<'a, A: Atoms>(
             causes_of(alloc, atoms, types, parts.items(), first)?,
         )),
         Condition::AtMost(_, parts, spot) => {
-            note_if(first, true, Code::OrLess, *spot);
+            first.note_if(true, Code::OrLess, *spot);
             causes_of(alloc, atoms, types, parts.items(), first)?;
             Ok(Cause::Any(List::new(alloc)))
         }

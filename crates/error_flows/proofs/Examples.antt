@@ -7,8 +7,8 @@ use Rattle.aadl_syntax.specs.declared.error_model.FlowKind.{FlowKind}
 use Rattle.aadl_syntax.specs.declared.error_model.FlowKind.TheVariants.{Source, Sink, Path}
 use Rattle.aadl_syntax.specs.declared.error_model.StateRef.{StateRef}
 use Rattle.aadl_syntax.specs.declared.error_model.TypeSet.{TypeSet}
-use Rattle.aadl_syntax.specs.declared.refusal.Code.TheVariants.{Mapping, NotContained, Typed, UnknownPoint, UnknownState}
-use Rattle.package_index.specs.Lookup.{place_of, refusal}
+use Rattle.plain_values.specs.declared.refusal.Code.TheVariants.{Mapping, NotContained, Typed, UnknownPoint, UnknownState}
+use Rattle.plain_values.specs.Refusal.{place_of, refusal}
 use Rattle.component_extension.specs.declared.effective.Effective.{Effective}
 use Rattle.error_types.specs.Search.{searched}
 use Rattle.error_types.specs.Types.{is_below_in, type_named}

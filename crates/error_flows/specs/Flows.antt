@@ -4,12 +4,11 @@ use Rattle.aadl_syntax.specs.declared.error_model.Flow.{Flow}
 use Rattle.aadl_syntax.specs.declared.error_model.FlowKind.{FlowKind}
 use Rattle.aadl_syntax.specs.declared.error_model.FlowKind.TheVariants.{Source, Sink, Path}
 use Rattle.aadl_syntax.specs.declared.error_model.StateRef.{StateRef}
-use Rattle.aadl_syntax.specs.declared.refusal.Code.TheVariants.{Mapping}
-use Rattle.aadl_syntax.specs.declared.refusal.Refusal.{Refusal}
+use Rattle.plain_values.specs.declared.refusal.Code.TheVariants.{Mapping}
+use Rattle.plain_values.specs.declared.refusal.Refusal.{Refusal}
 use Rattle.component_extension.specs.declared.effective.Effective.{Effective}
 use Rattle.component_extension.specs.Items.{Scoped}
-use Rattle.package_index.specs.Lookup.{refused_so}
-use Rattle.component_extension.specs.Members.{refused_there}
+use Rattle.plain_values.specs.Refusal.{refused_so, refused_there}
 use Rattle.error_types.specs.declared.scope.Scope.{Scope}
 use Rattle.error_types.specs.Libraries.{Table}
 use Rattle.propagation_points.specs.declared.side.Reach.{Reach}

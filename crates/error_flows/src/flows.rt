@@ -1,18 +1,18 @@
 ghost use Rattle.std.specs.Prelude.{◌≡◌, ◌++◌, IfOk, OnOk, true, flat_map, option_map, option_and_then, option_to_list};
-ghost use Rattle.aadl_syntax.specs.Order.{least, nearer};
-ghost use Rattle.aadl_syntax.specs.declared.refusal.Code.TheVariants.{Mapping};
-ghost use Rattle.package_index.specs.Lookup.{refused_so};
-ghost use Rattle.component_extension.specs.Members.{refused_there};
+ghost use Rattle.plain_values.specs.Order.{least, nearer};
+ghost use Rattle.plain_values.specs.declared.refusal.Code.TheVariants.{Mapping};
+ghost use Rattle.plain_values.specs.Refusal.{refused_so, refused_there};
 ghost use Rattle.propagation_points.specs.Settings.{faults_in, reached_in};
 ghost use Rattle.propagation_points.specs.States.{state_faults, number_named};
 ghost use Rattle.error_flows.specs.declared.meaning.FlowMeaning.TheVariants.{Event, State};
 ghost use Rattle.error_flows.specs.Flows.{all_flow_faults, faults_of_flows, flow_faults, flow_meaning, flows_of, meanings, path_meaning, source_meaning, when_faults};
 
 use crate::meaning::FlowMeaning;
-use aadl_syntax::{Code, FirstRefusal, Flow, FlowKind, Identifier, List, Mem, Spot, StateRef};
+use aadl_syntax::{Flow, FlowKind, Identifier, StateRef};
 use component_extension::{Effective, InClause};
 use error_types::{Scope, TypeTable};
 use package_index::note_if;
+use plain_values::{Code, FirstRefusal, List, Mem, Spot};
 use propagation_points::{
     NameTable, PointUse, Points, Reach, ReachedPoint, Setting, note_at, scopes_of,
 };
@@ -47,7 +47,7 @@ fn note_mappings(first: &mut FirstRefusal, mappings: &[Spot])
     ensures { first.new ≡ nearer first.old (least (flat_map (refused_so true Mapping) mappings.now)) }
 {
     for spot in mappings {
-        note_if(first, true, Code::Mapping, *spot);
+        first.note_if(true, Code::Mapping, *spot);
     }
 }
 
@@ -121,7 +121,7 @@ fn meaning_of<'a>(
 }
 
 /// The meaning of a source at a point, in a state where it names one.
-#[tactic(auto, using(component_extension::proofs::Noting::noted_more))]
+#[tactic(auto, using(plain_values::proofs::Noting::noted_more))]
 fn source<'a>(
     alloc: Global,
     types: &mut TypeTable<'_, 'a>,
@@ -170,7 +170,7 @@ fn state_source(
 }
 
 /// The meaning of a path from a start to an end.
-#[tactic(auto, using(component_extension::proofs::Noting::noted_more))]
+#[tactic(auto, using(plain_values::proofs::Noting::noted_more))]
 fn path<'a>(
     alloc: Global,
     types: &mut TypeTable<'_, 'a>,
@@ -186,7 +186,7 @@ fn path<'a>(
 {
     let from = setting.reached(alloc, types, start, first)?;
     let to = setting.reached(alloc, types, end, first)?;
-    note_at(first, Code::Mapping, mapping);
+    first.note_at(Code::Mapping, mapping);
     Ok(path_meaning(from, to))
 }
 

@@ -1,4 +1,5 @@
-use aadl_syntax::{Identifier, List};
+use aadl_syntax::Identifier;
+use plain_values::List;
 use propagation_points::ReachedPoint;
 
 /// What an error flow means. Points are named by their places in the list of points, states and types by their numbers;

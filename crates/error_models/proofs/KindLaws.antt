@@ -1,5 +1,5 @@
 -- The kinds of an instance one after the other: what is made of them, and the first that is refused.
-use Rattle.std.proofs.Common.{ℕ, Bool, cond, suc, ◌+◌, ◌≡◌, ◌<◌, ◌≤◌, List, [], ◌∷◌, length, take, drop, get_or, map, position, slice_get, Option, Some, None, option_and_then, refl, sym, ap, ◌∙◌, subst, add-one, drop-cons}
+use Rattle.std.proofs.Common.{ℕ, Bool, cond, suc, ◌+◌, ◌≡◌, ◌<◌, ◌≤◌, List, [], ◌∷◌, length, drop, get_or, map, position, slice_get, Option, Some, None, option_and_then, refl, sym, ap, ◌∙◌, subst, add-one, drop-cons}
 use Rattle.std.specs.List.{position_from}
 use Rattle.std.specs.Option.{option_or}
 use Rattle.std.proofs.lemmas.Iterator.Adapters.{position_from-zero}
@@ -8,12 +8,12 @@ use Rattle.package_index.proofs.KnowsLaws.{find-place}
 use Rattle.error_models.specs.Below.{classifier_below, kind_among, step_below}
 use Rattle.std.proofs.lemmas.List.{drop_all, get_or-map}
 use Rattle.aadl_syntax.specs.declared.core_model.PackageUnit.{PackageUnit}
-use Rattle.aadl_syntax.specs.declared.refusal.Refusal.{Refusal}
-use Rattle.aadl_syntax.specs.declared.refusal.Stop.{Stop}
-use Rattle.aadl_syntax.specs.declared.refusal.Stop.TheVariants.{Memory, Refused}
+use Rattle.plain_values.specs.declared.refusal.Refusal.{Refusal}
+use Rattle.plain_values.specs.declared.refusal.Stop.{Stop}
+use Rattle.plain_values.specs.declared.refusal.Stop.TheVariants.{Memory, Refused}
 use Rattle.package_index.specs.declared.id.ClassifierId.{ClassifierId}
 use Rattle.instantiator.specs.declared.kinds.Kind.{Kind}
-use Rattle.instantiator.specs.Refused.{StopsAt}
+use Rattle.plain_values.specs.Stops.{StopsAt}
 use Rattle.instantiator.specs.Tables.{kind_of}
 use Rattle.error_models.specs.Refused.{first_of}
 

@@ -1,13 +1,13 @@
 -- The machines and the states of the components of an instance (AS5506: subcomponents; EMV2: `use behavior`).
 use Rattle.std.specs.Prelude.{ℕ, List, [], ◌∷◌, find, Option, Some, None, option_map, option_and_then, Result, Ok, Err}
-use Rattle.aadl_syntax.specs.Name.{is_same_text}
+use Rattle.plain_values.specs.Name.{is_same_text}
 use Rattle.aadl_syntax.specs.declared.core_model.PackageUnit.{PackageUnit}
-use Rattle.aadl_syntax.specs.declared.refusal.Refusal.{Refusal}
+use Rattle.plain_values.specs.declared.refusal.Refusal.{Refusal}
 use Rattle.package_index.specs.declared.id.ClassifierId.{ClassifierId}
 use Rattle.component_extension.specs.declared.effective.Effective.{Effective}
 use Rattle.component_extension.specs.Chain.{same_id}
 use Rattle.instantiator.specs.Components.{Part, found, parts_of}
-use Rattle.instantiator.specs.Effectives.{effective_at, effective_of}
+use Rattle.instantiator.specs.Effectives.{effective_of}
 use Rattle.error_behavior.specs.declared.machines.MachineId.{MachineId}
 use Rattle.error_behavior.specs.Machines.{Machine, find_machine, machine_at}
 use Rattle.error_behavior.specs.declared.states.States.{States}

@@ -1,14 +1,15 @@
 ghost use Rattle.std.specs.Prelude.{◌≡◌, None, Some, IfErr, IfOk, MatchResult, OnOk, map};
 ghost use Rattle.error_behavior.specs.Machines.{find_machine};
-ghost use Rattle.instantiator.specs.Refused.{StopsAt};
+ghost use Rattle.plain_values.specs.Stops.{StopsAt};
+ghost use Rattle.plain_values.specs.Refusal.{refusal};
 ghost use Rattle.error_models.specs.Below.{kind_machine, machine_of};
 ghost use Rattle.error_models.specs.Refused.{fault_of, machines_refusal};
 
-use aadl_syntax::{Answer, List, Refusal};
 use component_extension::Effective;
 use error_behavior::{UsedMachine, find_machine, machine_at};
 use instantiator::Instance;
 use package_index::Index;
+use plain_values::{Answer, List, Refusal};
 use std::alloc::Global;
 
 /// The machines of the kinds of an instance, in order; a kind may use none.

@@ -1,7 +1,7 @@
-use aadl_syntax::List;
 use composite_states::ClauseMeaning;
 use error_behavior::{ErrorBehavior, States};
 use error_flows::FlowMeaning;
+use plain_values::List;
 use propagation_points::Points;
 
 /// The error model of a component: its points, its states, what happens in it, what flows through it, and its composite states.

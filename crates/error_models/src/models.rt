@@ -1,24 +1,25 @@
 ghost use Rattle.std.specs.Prelude.{◌≡◌, [], None, Some, IfErr, IfOk, OnOk, map};
-ghost use Rattle.aadl_syntax.specs.Order.{least};
+ghost use Rattle.plain_values.specs.Order.{least};
 ghost use Rattle.propagation_points.specs.Points.{point_faults, points_of};
 ghost use Rattle.error_flows.specs.Flows.{all_flow_faults, flows_of};
 ghost use Rattle.error_behavior.specs.Behavior.{behavior_faults, behavior_of};
 ghost use Rattle.error_behavior.specs.States.{states_of};
 ghost use Rattle.composite_states.specs.Composites.{clauses_of, composite_clause_faults};
-ghost use Rattle.instantiator.specs.Refused.{StopsAt};
+ghost use Rattle.plain_values.specs.Stops.{StopsAt};
 ghost use Rattle.error_models.specs.Below.{kind_machine, states_below};
 ghost use Rattle.error_models.specs.Models.{is_composite, model_of, model_with};
 ghost use Rattle.error_models.specs.Refused.{models_refusal, refusal_with};
 
 use crate::model::ErrorModel;
 use crate::tree::{BelowKind, Tree};
-use aadl_syntax::{Answer, Composite, FirstRefusal, List};
+use aadl_syntax::Composite;
 use component_extension::{Effective, InClause};
 use composite_states::{ClauseMeaning, clauses_of};
 use error_behavior::{ErrorBehavior, States, UsedMachine, behavior_of, states_of};
 use error_flows::{FlowMeaning, flows_of};
 use error_types::TypeTable;
 use instantiator::Instance;
+use plain_values::{Answer, FirstRefusal, List};
 use propagation_points::{NameTable, Points, points_of};
 use std::alloc::Global;
 

@@ -1,13 +1,13 @@
 ghost use Rattle.std.specs.Prelude.{◌≡◌, [], Contains, IfErr, OnOk, map};
-ghost use Rattle.aadl_syntax.specs.Order.{least, nearer};
-ghost use Rattle.package_index.specs.Duplicates.{IsRefused};
+ghost use Rattle.plain_values.specs.Order.{least, nearer};
+ghost use Rattle.plain_values.specs.Stops.{StopsAtFirst};
 ghost use Rattle.error_models.specs.Below.{kind_machine};
 ghost use Rattle.error_models.specs.Refused.{all_set_faults};
 
-use aadl_syntax::{Answer, FirstRefusal, Mem};
 use error_behavior::UsedMachine;
 use error_types::TypeTable;
 use instantiator::Instance;
+use plain_values::{Answer, FirstRefusal, Mem};
 use std::alloc::Global;
 use used_sets::note_used_sets;
 
@@ -25,7 +25,7 @@ pub fn test_sets<'a>(
     requires packages { types.old.packages ≡ instance.now.packages }
     ensures kept { types.new ≡ types.old }
     ensures accepted { OnOk result (all_set_faults types.old instance.now.kinds ≡ []) }
-    ensures refused { IfErr result (IsRefused (Contains (all_set_faults types.old instance.now.kinds))) }
+    ensures refused { IfErr result (StopsAtFirst (Contains (all_set_faults types.old instance.now.kinds))) }
 {
     let mut first = FirstRefusal::new();
     note_sets(alloc, instance, machines, types, &mut first)?;

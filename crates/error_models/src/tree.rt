@@ -4,11 +4,12 @@ ghost use Rattle.component_extension.specs.Chain.{same_id};
 ghost use Rattle.error_behavior.specs.States.{states_of};
 ghost use Rattle.error_models.specs.Below.{classifier_below, kind_among, kind_machine, kind_parts, kind_states, part_named, parts_at, states_named, step_below};
 
-use aadl_syntax::{Identifier, List, Mem};
+use aadl_syntax::Identifier;
 use composite_states::StatesBelow;
 use error_behavior::{States, UsedMachine, states_of};
 use instantiator::{Instance, Kind, Part, parts_of};
 use package_index::ClassifierId;
+use plain_values::{List, Mem};
 use propagation_points::NameTable;
 use std::alloc::Global;
 use std::marker::Model;

@@ -1,8 +1,8 @@
 -- The search for a name in libraries, one after the other.
 use Rattle.std.proofs.Common.{ℕ, suc, ◌+◌, ◌≡◌, ◌<◌, List, ◌∷◌, length, drop, get_or, Option, sym, ap, ◌∙◌, add-one, drop-cons}
-use Rattle.aadl_syntax.specs.declared.refusal.Refusal.{Refusal}
-use Rattle.aadl_syntax.specs.Order.{nearer}
-use Rattle.error_types.proofs.Nearer.{nearer-assoc}
+use Rattle.plain_values.specs.declared.refusal.Refusal.{Refusal}
+use Rattle.plain_values.specs.Order.{nearer}
+use Rattle.plain_values.proofs.OrderLaws.{nearer-assoc}
 use Rattle.error_types.specs.declared.id.Looked.{Looked}
 use Rattle.error_types.specs.declared.id.Looked.TheVariants.{Nowhere}
 use Rattle.error_types.specs.Libraries.{Library}

@@ -2,8 +2,8 @@
 use Rattle.std.proofs.Common.{◌≡◌, true, false, List, [], ◌∷◌, codes, Some, None, refl}
 use Rattle.aadl_syntax.specs.declared.error_model.TypeItem.{TypeItem}
 use Rattle.aadl_syntax.specs.declared.error_model.TypeKind.TheVariants.{Alias, Plain, Set}
-use Rattle.aadl_syntax.specs.declared.refusal.Code.TheVariants.{CyclicType, UnknownType}
-use Rattle.package_index.specs.Lookup.{place_of, refusal}
+use Rattle.plain_values.specs.declared.refusal.Code.TheVariants.{CyclicType, UnknownType}
+use Rattle.plain_values.specs.Refusal.{place_of, refusal}
 use Rattle.error_types.specs.declared.scope.Scope.{Scope}
 use Rattle.error_types.specs.Libraries.{Table, table_of}
 use Rattle.error_types.specs.Search.{searched}

@@ -8,9 +8,9 @@ use Rattle.std.proofs.lemmas.List.Folds.{list_any-append}
 use Rattle.aadl_syntax.specs.declared.error_model.TypeItem.{TypeItem}
 use Rattle.aadl_syntax.specs.declared.error_model.TypeKind.{TypeKind}
 use Rattle.aadl_syntax.specs.declared.error_model.TypeKind.TheVariants.{Plain, Alias, Set, SetAlias}
-use Rattle.aadl_syntax.specs.declared.refusal.Code.TheVariants.{CyclicType, UnknownType}
-use Rattle.aadl_syntax.specs.declared.refusal.Refusal.{Refusal}
-use Rattle.package_index.specs.Lookup.{place_of, refusal}
+use Rattle.plain_values.specs.declared.refusal.Code.TheVariants.{CyclicType, UnknownType}
+use Rattle.plain_values.specs.declared.refusal.Refusal.{Refusal}
+use Rattle.plain_values.specs.Refusal.{place_of, refusal}
 use Rattle.error_types.specs.declared.id.ItemId.{ItemId}
 use Rattle.error_types.specs.declared.scope.Scope.{Scope}
 use Rattle.error_types.specs.Grounded.{grounded, is_stopped, leads_so, name_leads_so}

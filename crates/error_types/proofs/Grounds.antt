@@ -2,9 +2,9 @@
 use Rattle.std.proofs.Common.{ℕ, ◌^◌, ◌≤◌, ◌≡◌, Bool, true, false, ◌||◌, cond, List, [], ◌∷◌, ◌++◌, flat_map, option_to_list, Option, Some, None, refl, sym, ap, ◌∙◌}
 use Rattle.std.specs.List.{list_any}
 use Rattle.std.proofs.lemmas.List.Folds.{list_any-append}
-use Rattle.aadl_syntax.specs.Order.{least, nearer}
-use Rattle.aadl_syntax.specs.declared.refusal.Refusal.{Refusal}
-use Rattle.aadl_syntax.proofs.OrderLaws.{nearer-none}
+use Rattle.plain_values.specs.Order.{least, nearer}
+use Rattle.plain_values.specs.declared.refusal.Refusal.{Refusal}
+use Rattle.plain_values.proofs.OrderLaws.{nearer-none, nearer-assoc}
 use Rattle.error_types.specs.declared.id.ItemId.{ItemId}
 use Rattle.error_types.specs.declared.scope.Scope.{Scope}
 use Rattle.error_types.specs.Grounded.{grounded, is_stopped, name_types, names_first, target_first, target_types}
@@ -14,7 +14,7 @@ use Rattle.error_types.specs.Search.{named}
 use Rattle.error_types.specs.Types.{is_below}
 use Rattle.error_types.specs.Walk.{Need, library_scope, needs_of, of_item, products_of, walk_from}
 use Rattle.error_types.proofs.GroundLaws.{item-comes, of_names, of_target}
-use Rattle.error_types.proofs.Nearer.{nearer-assoc, nearer-comm, nearer-same}
+use Rattle.plain_values.proofs.Nearer.{nearer-comm, nearer-same}
 use Rattle.error_types.proofs.TypeRows.{row-same}
 
 or-assoc : (a b c : Bool) → ((a || b) || c) ≡ (a || (b || c))

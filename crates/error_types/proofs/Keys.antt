@@ -5,17 +5,15 @@ use Rattle.std.specs.Cmp.{first_so, second_so}
 use Rattle.std.proofs.lemmas.Bool.{false≢true}
 use Rattle.std.proofs.lemmas.Bool.Decides.{Decides-eqb}
 use Rattle.std.proofs.lemmas.List.{take_more}
-use Rattle.package_index.specs.Tables.{Knows, same_pair}
+use Rattle.package_index.specs.Tables.{Knows, same_pair, same_text}
 use Rattle.package_index.proofs.KnowsLaws.{more-place, some-place}
 use Rattle.error_types.specs.declared.id.ItemId.{ItemId}
 use Rattle.error_types.specs.Libraries.{is_type}
-use Rattle.error_types.specs.Tables.{has_number, has_type_text}
+use Rattle.error_types.specs.Tables.{has_number, has_type_text, has_item_text}
 use Rattle.std.specs.Cmp.Lexicographic.{pointwise}
 use Rattle.std.proofs.lemmas.Slice.Eq.{bytes_eq-Decides}
-use Rattle.aadl_syntax.specs.Name.{is_same_text}
+use Rattle.plain_values.specs.Name.{is_same_text}
 use Rattle.aadl_syntax.specs.declared.error_model.TypeItem.{TypeItem}
-use Rattle.package_index.specs.Tables.{same_text}
-use Rattle.error_types.specs.Tables.{has_item_text}
 
 pub item_agrees : (item : TypeItem) (key other : Bor (List ℕ)) → key.now ≡ item.name → has_item_text other item ≡ same_text key other
 item_agrees item key other name = λ i. pointwise nat_eq (sym name i) other.now

@@ -7,8 +7,6 @@ pub mod Grounds
 pub mod HierarchyLaws
 pub mod Keys
 pub mod MarkLaws
-pub mod Nearer
-pub mod Noting
 pub mod PrintedLaws
 pub mod Remembering
 pub mod Sample

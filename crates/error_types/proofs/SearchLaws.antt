@@ -1,7 +1,7 @@
 -- The steps of a search for a name.
 use Rattle.std.proofs.Common.{ℕ, zero, suc, ◌+◌, ◌-◌, ◌^◌, ◌<◌, ◌≡◌, true, false, cond, List, [], ◌∷◌, ◌++◌, length, fold, Option, None, refl, sym, ap, ◌∙◌, arith}
-use Rattle.aadl_syntax.specs.Order.{nearer}
-use Rattle.aadl_syntax.specs.declared.refusal.Refusal.{Refusal}
+use Rattle.plain_values.specs.Order.{nearer}
+use Rattle.plain_values.specs.declared.refusal.Refusal.{Refusal}
 use Rattle.error_types.specs.declared.id.Looked.{Looked}
 use Rattle.error_types.specs.declared.id.Looked.TheVariants.{Nowhere, Circular}
 use Rattle.error_types.specs.Course.{Course, Frame, before, entered, finished, left, so_far, way_of}

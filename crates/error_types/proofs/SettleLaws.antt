@@ -5,14 +5,14 @@ use Rattle.std.specs.Prelude.{IfSome}
 use Rattle.std.specs.List.{list_all}
 use Rattle.std.proofs.lemmas.Bool.{and_from}
 use Rattle.std.proofs.lemmas.Option.{none-some}
-use Rattle.aadl_syntax.specs.Order.{least, nearer}
+use Rattle.plain_values.specs.Order.{least, nearer}
 use Rattle.aadl_syntax.specs.declared.error_model.TypeItem.{TypeItem}
 use Rattle.aadl_syntax.specs.declared.error_model.TypeKind.{TypeKind}
 use Rattle.aadl_syntax.specs.declared.error_model.TypeKind.TheVariants.{Plain, Alias, Set, SetAlias}
-use Rattle.aadl_syntax.specs.declared.refusal.Code.TheVariants.{UnknownType}
-use Rattle.aadl_syntax.specs.declared.refusal.Refusal.{Refusal}
-use Rattle.aadl_syntax.proofs.OrderLaws.{nearer-none}
-use Rattle.package_index.specs.Lookup.{place_of, refusal}
+use Rattle.plain_values.specs.declared.refusal.Code.TheVariants.{UnknownType}
+use Rattle.plain_values.specs.declared.refusal.Refusal.{Refusal}
+use Rattle.plain_values.proofs.OrderLaws.{nearer-none, nearer-assoc}
+use Rattle.plain_values.specs.Refusal.{place_of, refusal}
 use Rattle.package_index.specs.Tables.{same_pair}
 use Rattle.error_types.specs.declared.id.ItemId.{ItemId}
 use Rattle.error_types.specs.declared.memory.Memory.{Memory}
@@ -26,7 +26,6 @@ use Rattle.error_types.specs.Search.{named}
 use Rattle.error_types.specs.Walk.{Need, library_scope, needs_of, of_item, products_of, walk_from}
 use Rattle.error_types.proofs.GroundLaws.{ground-more, ground-step, leads-more}
 use Rattle.error_types.proofs.Grounds.{grounded-first, grounded-row}
-use Rattle.error_types.proofs.Nearer.{nearer-assoc}
 use Rattle.error_types.proofs.TypeRows.{rows-joined}
 
 kind-names : (kind : TypeKind) (b : Bool) → is_type kind ≡ b → cond b ([]) (needs_of true kind) ≡ needs_of false kind

@@ -1,12 +1,12 @@
 -- The terms of a written set, one after the other.
 use Rattle.std.proofs.Common.{ℕ, suc, ◌+◌, ◌≡◌, ◌<◌, List, ◌∷◌, length, drop, get_or, Option, sym, ap, ◌∙◌, add-one, drop-cons}
 use Rattle.aadl_syntax.specs.declared.error_model.Term.{Term}
-use Rattle.aadl_syntax.specs.declared.refusal.Refusal.{Refusal}
-use Rattle.aadl_syntax.specs.Order.{nearer}
+use Rattle.plain_values.specs.declared.refusal.Refusal.{Refusal}
+use Rattle.plain_values.specs.Order.{nearer}
 use Rattle.error_types.specs.declared.scope.Scope.{Scope}
 use Rattle.error_types.specs.Libraries.{Table}
 use Rattle.error_types.specs.Walk.{term_first, terms_first}
-use Rattle.error_types.proofs.Nearer.{nearer-assoc}
+use Rattle.plain_values.proofs.OrderLaws.{nearer-assoc}
 
 pub terms-more : (table : Table) (scope : Scope) (terms : List Term) (i : ℕ) (term : Term) → i < length terms → term ≡ get_or terms i term → (first next goal : Option Refusal)
     → next ≡ nearer first (term_first table scope term) → nearer first (terms_first table scope (drop i terms)) ≡ goal → nearer next (terms_first table scope (drop (i + 1) terms)) ≡ goal

@@ -1,9 +1,9 @@
 -- The steps of a walk through items.
 use Rattle.std.proofs.Common.{ℕ, suc, ◌+◌, ◌-◌, ◌^◌, ◌<◌, ◌≡◌, Bool, true, false, ◌&&◌, cond, List, [], ◌∷◌, ◌++◌, length, fold, Option, Some, None, option_to_list, refl, sym, ap, ◌∙◌, arith}
-use Rattle.aadl_syntax.specs.Order.{least}
-use Rattle.aadl_syntax.specs.declared.refusal.Code.TheVariants.{CyclicType, UnknownType}
-use Rattle.aadl_syntax.specs.declared.refusal.Refusal.{Refusal}
-use Rattle.package_index.specs.Lookup.{place_of, refusal}
+use Rattle.plain_values.specs.Order.{least}
+use Rattle.plain_values.specs.declared.refusal.Code.TheVariants.{CyclicType, UnknownType}
+use Rattle.plain_values.specs.declared.refusal.Refusal.{Refusal}
+use Rattle.plain_values.specs.Refusal.{place_of, refusal}
 use Rattle.error_types.specs.declared.id.ItemId.{ItemId}
 use Rattle.error_types.specs.declared.scope.Scope.{Scope}
 use Rattle.error_types.specs.Libraries.{Table, is_item_in, item_at}

@@ -1,7 +1,7 @@
 -- A search for a name that is under way, without recursion: what is left of it.
 use Rattle.std.specs.Prelude.{◌≡◌, ℕ, ◌+◌, ◌-◌, ◌^◌, Bool, true, false, ◌||◌, List, [], ◌∷◌, ◌++◌, length, map, fold, Option, Some, None, is_some}
-use Rattle.aadl_syntax.specs.Order.{nearer}
-use Rattle.aadl_syntax.specs.declared.refusal.Refusal.{Refusal}
+use Rattle.plain_values.specs.Order.{nearer}
+use Rattle.plain_values.specs.declared.refusal.Refusal.{Refusal}
 use Rattle.error_types.specs.declared.id.Looked.TheVariants.{Nowhere}
 use Rattle.error_types.specs.Libraries.{Library}
 use Rattle.error_types.specs.Search.{Search, is_number_in, past, searched}

@@ -1,10 +1,10 @@
 -- Items that lead back to none on the way: what they name, and what is refused, with no walk through what they lead to.
 use Rattle.std.specs.Prelude.{ℕ, zero, suc, Bool, true, false, cond, ◌&&◌, ◌||◌, List, [], ◌∷◌, Option, Some, None}
 use Rattle.std.specs.List.{list_all}
-use Rattle.aadl_syntax.specs.Order.{nearer}
-use Rattle.aadl_syntax.specs.declared.refusal.Code.TheVariants.{UnknownType}
-use Rattle.aadl_syntax.specs.declared.refusal.Refusal.{Refusal}
-use Rattle.package_index.specs.Lookup.{place_of, refusal}
+use Rattle.plain_values.specs.Order.{nearer}
+use Rattle.plain_values.specs.declared.refusal.Code.TheVariants.{UnknownType}
+use Rattle.plain_values.specs.declared.refusal.Refusal.{Refusal}
+use Rattle.plain_values.specs.Refusal.{place_of, refusal}
 use Rattle.error_types.specs.declared.id.ItemId.{ItemId}
 use Rattle.error_types.specs.declared.scope.Scope.{Scope}
 use Rattle.error_types.specs.Libraries.{Table, item_at}

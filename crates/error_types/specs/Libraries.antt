@@ -1,21 +1,21 @@
 -- The error types that libraries declare (EMV2: error type libraries).
 use Rattle.std.specs.Prelude.{◌≡◌, ⊤, ℕ, ◌<◌, Bool, true, false, cond, ◌&&◌, ◌||◌, nat_eq, List, [], ◌∷◌, ◌++◌, length, flat_map, position, slice_get, Option, Some, None, option_and_then, option_to_list, is_none}
 use Rattle.std.specs.List.{list_any}
-use Rattle.aadl_syntax.specs.Name.{is_same_text}
-use Rattle.aadl_syntax.specs.Order.{least}
+use Rattle.plain_values.specs.Name.{is_same_text}
+use Rattle.plain_values.specs.Order.{least}
 use Rattle.aadl_syntax.specs.declared.core_model.PackageUnit.{PackageUnit}
 use Rattle.aadl_syntax.specs.declared.error_model.TypeItem.{TypeItem}
 use Rattle.aadl_syntax.specs.declared.error_model.TypeKind.{TypeKind}
 use Rattle.aadl_syntax.specs.declared.error_model.TypeKind.TheVariants.{Plain, Alias, Set, SetAlias}
 use Rattle.aadl_syntax.specs.declared.error_model.TypesBlock.{TypesBlock}
 use Rattle.aadl_syntax.specs.declared.place.Ref.{Ref}
-use Rattle.aadl_syntax.specs.declared.refusal.Code.TheVariants.{UnknownPackage, TooManyTypes}
-use Rattle.aadl_syntax.specs.declared.refusal.Place.TheVariants.{Words}
-use Rattle.aadl_syntax.specs.declared.refusal.Refusal.{Refusal}
-use Rattle.aadl_syntax.specs.declared.refusal.Stop.{Stop}
-use Rattle.aadl_syntax.specs.declared.refusal.Stop.TheVariants.{Memory, Refused}
-use Rattle.package_index.specs.Lookup.{look_package, refused_so}
-use Rattle.package_index.specs.Numbered.{numbered_from}
+use Rattle.plain_values.specs.declared.refusal.Code.TheVariants.{UnknownPackage, TooManyTypes}
+use Rattle.plain_values.specs.declared.refusal.Refusal.{Refusal}
+use Rattle.plain_values.specs.declared.refusal.Stop.{Stop}
+use Rattle.plain_values.specs.declared.refusal.Stop.TheVariants.{Memory, Refused}
+use Rattle.package_index.specs.Lookup.{look_package}
+use Rattle.plain_values.specs.Refusal.{refused_so, of_words}
+use Rattle.plain_values.specs.Numbered.{numbered_from}
 use Rattle.error_types.specs.declared.id.ItemId.{ItemId}
 use Rattle.error_types.specs.declared.scope.Scope.{Scope}
 
@@ -166,16 +166,12 @@ number_of table id = position (λ other. is_same_item other id) table.types
 abbrev pub greatest_types : ℕ
 greatest_types = 1024
 
--- M8 at the words
-abbrev pub too_many_types : Refusal
-too_many_types = record { code = TooManyTypes; place = Words; limit = greatest_types }
-
 -- M8: more types are declared.
 pub record HasTooManyTypes (packages : List PackageUnit) (m8 : Refusal) : Type 0 where
   pub many : greatest_types < length (declared_types (libraries_of packages))
-  pub is : m8 ≡ too_many_types
+  pub is : m8 ≡ of_words TooManyTypes
 
 -- It is M8, and more types are declared in these libraries; or memory was wanting.
 abbrev pub IsOver : List Library → Stop → Type 0
 IsOver libraries Memory = ⊤
-IsOver libraries (Refused m8) = (greatest_types < length (declared_types libraries)) × (m8 ≡ too_many_types)
+IsOver libraries (Refused m8) = (greatest_types < length (declared_types libraries)) × (m8 ≡ of_words TooManyTypes)

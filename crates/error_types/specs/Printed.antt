@@ -1,7 +1,7 @@
 -- How an error type prints.
 use Rattle.std.specs.Prelude.{◌≡◌, ℕ, List, ◌++◌, codes, flat_map, slice_get, Option, Some, option_and_then, option_map}
 use Rattle.std.specs.List.{AllByRecursion}
-use Rattle.aadl_syntax.specs.Order.{IsClear}
+use Rattle.plain_values.specs.Order.{IsClear}
 use Rattle.aadl_syntax.specs.Token.{IsIdentifier}
 use Rattle.aadl_syntax.specs.declared.core_model.PackageUnit.{PackageUnit}
 use Rattle.package_index.specs.Duplicates.{IsDuplicate}

@@ -2,9 +2,9 @@
 use Rattle.std.specs.Prelude.{◌≡◌, ℕ, ◌<◌, ◌^◌, Bool, true, false, ◌||◌, List, [], ◌∷◌, ◌++◌, filter, flat_map, get_or, length, map, replicate, slice_get, Option, None, Some}
 use Rattle.std.specs.HashMap.{get}
 use Rattle.std.specs.List.{list_all, list_any}
-use Rattle.aadl_syntax.specs.Order.{nearer}
+use Rattle.plain_values.specs.Order.{nearer}
 use Rattle.aadl_syntax.specs.declared.error_model.TypeItem.{TypeItem}
-use Rattle.aadl_syntax.specs.declared.refusal.Refusal.{Refusal}
+use Rattle.plain_values.specs.declared.refusal.Refusal.{Refusal}
 use Rattle.package_index.specs.Tables.{same_pair}
 use Rattle.error_types.specs.declared.id.ItemId.{ItemId}
 use Rattle.error_types.specs.declared.memory.Memory.{Memory}
@@ -13,7 +13,8 @@ use Rattle.error_types.specs.declared.scope.Scope.{Scope}
 use Rattle.error_types.specs.declared.settle.Sum.{Sum}
 use Rattle.error_types.specs.Grounded.{grounded, leads_so, name_first, name_leads_so, name_types, names_first, target_first, target_types}
 use Rattle.error_types.specs.Libraries.{Table, is_type}
-use Rattle.error_types.specs.Types.{is_below, is_below_by, numbers_below}
+use Rattle.error_types.specs.Types.{is_below, is_below_by}
+use Rattle.plain_values.specs.Numbered.{numbers_below}
 use Rattle.error_types.specs.Walk.{Need, walk_from}
 
 -- ---- rows

@@ -1,12 +1,13 @@
 -- What the name of an error type means where it stands.
 use Rattle.std.specs.Prelude.{ℕ, zero, suc, ◌^◌, Bool, cond, nat_eq, List, [], ◌∷◌, ◌++◌, fold, position, slice_get, Option, Some, None, option_map, option_and_then}
 use Rattle.std.specs.List.{list_any}
-use Rattle.aadl_syntax.specs.Order.{nearer}
+use Rattle.plain_values.specs.Order.{nearer}
 use Rattle.aadl_syntax.specs.declared.place.Ref.{Ref}
-use Rattle.aadl_syntax.specs.declared.place.Spot.{Spot}
-use Rattle.aadl_syntax.specs.declared.refusal.Code.TheVariants.{CyclicType, UnknownPackage, UnknownType}
-use Rattle.aadl_syntax.specs.declared.refusal.Refusal.{Refusal}
-use Rattle.package_index.specs.Lookup.{look_package, place_of, refusal}
+use Rattle.plain_values.specs.declared.spot.Spot.{Spot}
+use Rattle.plain_values.specs.declared.refusal.Code.TheVariants.{CyclicType, UnknownPackage, UnknownType}
+use Rattle.plain_values.specs.declared.refusal.Refusal.{Refusal}
+use Rattle.package_index.specs.Lookup.{look_package}
+use Rattle.plain_values.specs.Refusal.{place_of, refusal}
 use Rattle.package_index.specs.Names.{front, last}
 use Rattle.error_types.specs.declared.id.ItemId.{ItemId}
 use Rattle.error_types.specs.declared.id.Looked.{Looked}

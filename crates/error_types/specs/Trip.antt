@@ -1,7 +1,7 @@
 -- A walk through items that is under way, without recursion: what is left of it.
 use Rattle.std.specs.Prelude.{◌≡◌, ℕ, ◌+◌, ◌-◌, ◌^◌, List, [], ◌∷◌, ◌++◌, Bool, length, map, fold, Option, Some, option_to_list}
-use Rattle.aadl_syntax.specs.Order.{nearer}
-use Rattle.aadl_syntax.specs.declared.refusal.Refusal.{Refusal}
+use Rattle.plain_values.specs.Order.{nearer}
+use Rattle.plain_values.specs.declared.refusal.Refusal.{Refusal}
 use Rattle.error_types.specs.declared.id.ItemId.{ItemId}
 use Rattle.error_types.specs.Course.{Marks}
 use Rattle.error_types.specs.Libraries.{Table}

@@ -1,6 +1,7 @@
 -- Which types a written set denotes (EMV2: type hierarchy, type sets).
 use Rattle.std.specs.Prelude.{ℕ, zero, suc, ◌^◌, Bool, false, ◌&&◌, ◌||◌, nat_eq, nat_lt, List, [], ◌∷◌, ◌++◌, length, filter, slice_get, Option, Some, None, option_and_then}
 use Rattle.std.specs.List.{list_any}
+use Rattle.plain_values.specs.Numbered.{numbers_below}
 use Rattle.aadl_syntax.specs.declared.core_model.PackageUnit.{PackageUnit}
 use Rattle.aadl_syntax.specs.declared.error_model.TypeKind.{TypeKind}
 use Rattle.aadl_syntax.specs.declared.error_model.TypeKind.TheVariants.{Plain, Alias, Set, SetAlias}
@@ -80,11 +81,6 @@ abbrev pub is_below_by : List (Option ℕ) → ℕ → ℕ → Bool
 is_below_by bases low high = (nat_lt low (length bases) && nat_lt high (length bases)) && is_below_in (length bases) (base_in bases) low high
 
 -- ---- written sets
-
--- the numbers below this one, rising
-abbrev pub numbers_below : ℕ → List ℕ
-numbers_below zero = []
-numbers_below (suc n) = numbers_below n ++ n ∷ []
 
 -- The types that a written set denotes in a text, rising: those that are below one that it names.
 abbrev pub denoted : Table → Scope → TypeSet → List ℕ

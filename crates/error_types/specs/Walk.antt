@@ -1,6 +1,6 @@
 -- What the names of a written set lead to: the types that they name, and what is refused on the way.
 use Rattle.std.specs.Prelude.{ℕ, zero, suc, ◌^◌, Bool, true, false, cond, ◌&&◌, List, [], ◌∷◌, ◌++◌, map, flat_map, fold, slice_get, Option, Some, None, option_to_list}
-use Rattle.aadl_syntax.specs.Order.{least, nearer}
+use Rattle.plain_values.specs.Order.{least, nearer}
 use Rattle.aadl_syntax.specs.declared.error_model.Term.{Term}
 use Rattle.aadl_syntax.specs.declared.error_model.Term.TheVariants.{NoError, One, Product}
 use Rattle.aadl_syntax.specs.declared.error_model.TypeItem.{TypeItem}
@@ -8,9 +8,9 @@ use Rattle.aadl_syntax.specs.declared.error_model.TypeKind.{TypeKind}
 use Rattle.aadl_syntax.specs.declared.error_model.TypeKind.TheVariants.{Plain, Alias, Set, SetAlias}
 use Rattle.aadl_syntax.specs.declared.error_model.TypeSet.{TypeSet}
 use Rattle.aadl_syntax.specs.declared.place.Ref.{Ref}
-use Rattle.aadl_syntax.specs.declared.refusal.Code.TheVariants.{CyclicType, TypeProduct, UnknownType}
-use Rattle.aadl_syntax.specs.declared.refusal.Refusal.{Refusal}
-use Rattle.package_index.specs.Lookup.{place_of, refusal}
+use Rattle.plain_values.specs.declared.refusal.Code.TheVariants.{CyclicType, TypeProduct, UnknownType}
+use Rattle.plain_values.specs.declared.refusal.Refusal.{Refusal}
+use Rattle.plain_values.specs.Refusal.{place_of, refusal}
 use Rattle.error_types.specs.declared.id.ItemId.{ItemId}
 use Rattle.error_types.specs.declared.scope.Scope.{Scope}
 use Rattle.error_types.specs.Libraries.{Library, Table, is_item_in, is_set, item_at, number_of}

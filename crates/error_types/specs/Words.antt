@@ -1,7 +1,7 @@
 -- Rows of bits in words of 64.
 use Rattle.std.specs.Prelude.{◌≡◌, ℕ, ◌*◌, ◌/◌, ◌%◌, ◌^◌, Bool, List, bit_or, cond, get_or, length, map, nat_eq, nat_lt, slice_set}
 use Rattle.std.specs.Int.{bit_at}
-use Rattle.error_types.specs.Types.{numbers_below}
+use Rattle.plain_values.specs.Numbered.{numbers_below}
 
 -- whether words have the bit of a number
 abbrev pub bit_in : List ℕ → ℕ → Bool

@@ -1,10 +1,9 @@
 ghost use Rattle.std.specs.Prelude.{◌≡◌, ◌<◌, ◌^◌, ◌∷◌, [], ◌||◌, false, is_some, length, IfOk};
-ghost use Rattle.aadl_syntax.specs.Order.{nearer};
 ghost use Rattle.error_types.specs.Course.{Takes, entered, is_vain, way_of};
 ghost use Rattle.error_types.specs.Leaving.{Leaves};
 ghost use Rattle.error_types.specs.Search.{is_number_in};
 
-use aadl_syntax::{FirstRefusal, Mem, Refusal};
+use plain_values::{FirstRefusal, Mem, Refusal};
 use std::alloc::{AllocError, Global};
 use std::collections::HashMap;
 use std::marker::Model;
@@ -120,7 +119,7 @@ impl<'t> Course<'t> {
         }
         marks.insert(library, true)?;
         below.push(top)?;
-        note_some(&mut first, unknown);
+        first.note_some(unknown);
         Ok(Course {
             top: Frame { library, rest },
             below,
@@ -161,20 +160,4 @@ impl<'t> Course<'t> {
     {
         self.first
     }
-}
-
-/// Notes a refusal, if there is one.
-pub(crate) fn note_some(first: &mut FirstRefusal, refusal: Option<Refusal>)
-    ensures { first.new ≡ nearer first.old refusal }
-{
-    if let Some(refusal) = refusal {
-        first.note(refusal);
-    }
-}
-
-/// The first refusal that was noted.
-pub(crate) fn first_of(first: &FirstRefusal) -> Option<Refusal>
-    ensures { result ≡ first.now }
-{
-    first.settle().err()
 }

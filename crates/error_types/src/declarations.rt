@@ -1,6 +1,6 @@
 ghost use Rattle.std.specs.Prelude.{◌≡◌, ◌<◌, ◌^◌, [], None, Some, length, option_copied, option_map, slice_get, IfOk, OnOk};
 ghost use Rattle.std.specs.HashMap.{get};
-ghost use Rattle.aadl_syntax.specs.Order.{nearer};
+ghost use Rattle.plain_values.specs.Order.{nearer};
 ghost use Rattle.error_types.specs.Known.{AreFound, of_libraries, same_search};
 ghost use Rattle.error_types.specs.Libraries.{item_at, number_of, table_of};
 ghost use Rattle.error_types.specs.Printed.{item_name};
@@ -15,8 +15,9 @@ use crate::numbers::{numbers_of, types_by};
 use crate::scope::Scope;
 use crate::search::search;
 use crate::type_name::TypeName;
-use aadl_syntax::{Code, FirstRefusal, List, Mem, PackageUnit, Ref, Refusal, Spot, TypeItem};
+use aadl_syntax::{PackageUnit, Ref, TypeItem};
 use package_index::{Index, Words, refusal};
+use plain_values::{Code, FirstRefusal, List, Mem, Refusal, Spot};
 use std::alloc::Global;
 use std::collections::HashMap;
 use std::marker::Model;
@@ -218,7 +219,7 @@ fn named<'a>(
     match index.find_package(scope.package, front) {
         Some(number) => named_in(alloc, known, libraries, &[number], reference, first),
         None => {
-            first.note(refusal(Code::UnknownPackage, reference.spot));
+            first.note(Refusal::at(Code::UnknownPackage, reference.spot));
             Ok(None)
         }
     }
@@ -241,8 +242,8 @@ fn named_in<'a>(
     let name = last_name(reference);
     let mut met = FirstRefusal::new();
     let looked = search_along(alloc, known, libraries, name, searched, &mut met)?;
-    note_some(&mut met, name_fault(reference.spot, looked));
-    note_some(first, first_of(&met));
+    met.note_some(name_fault(reference.spot, looked));
+    first.note_some(met.noted());
     Ok(item_found(looked))
 }
 
@@ -306,7 +307,7 @@ fn name_fault(spot: Spot, looked: Looked) -> Option<Refusal>
 {
     match looked {
         Looked::Found(_) => None,
-        Looked::Nowhere => Some(refusal(Code::UnknownType, spot)),
-        Looked::Circular => Some(refusal(Code::CyclicType, spot)),
+        Looked::Nowhere => Some(Refusal::at(Code::UnknownType, spot)),
+        Looked::Circular => Some(Refusal::at(Code::CyclicType, spot)),
     }
 }

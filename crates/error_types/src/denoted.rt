@@ -1,5 +1,5 @@
 ghost use Rattle.std.specs.Prelude.{◌≡◌, [], Bool, flat_map, map, slice_get, List as Items, IfOk, OnOk, Some, true, false};
-ghost use Rattle.aadl_syntax.specs.Order.{nearer};
+ghost use Rattle.plain_values.specs.Order.{nearer};
 ghost use Rattle.error_types.specs.Rows.{Adds, AreTypeRows, Remembers, has_bit, row_of, types_below};
 ghost use Rattle.error_types.specs.Search.{named};
 ghost use Rattle.error_types.specs.Types.{base_of, is_below};
@@ -13,8 +13,9 @@ use crate::memory::Memory;
 use crate::reach::{join_row, reached};
 use crate::row::Row;
 use crate::scope::Scope;
-use aadl_syntax::{Code, FirstRefusal, List, Mem, Ref, Term};
+use aadl_syntax::{Ref, Term};
 use package_index::refusal;
+use plain_values::{Code, FirstRefusal, List, Mem, Refusal};
 use std::alloc::Global;
 use std::collections::HashMap;
 
@@ -133,7 +134,7 @@ fn add_term<'a>(
     match term {
         Term::NoError(_) => Ok(()),
         Term::Product(spot) => {
-            first.note(refusal(Code::TypeProduct, *spot));
+            first.note(Refusal::at(Code::TypeProduct, *spot));
             Ok(())
         }
         Term::One(reference) => {
@@ -161,7 +162,7 @@ fn add_name<'a>(
     let mut met = FirstRefusal::new();
     let target = declarations.named(alloc, scope, reference, &mut met)?;
     add_reached(alloc, declarations, memory, target, row, &mut met)?;
-    note_some(first, first_of(&met));
+    first.note_some(met.noted());
     Ok(())
 }
 
@@ -184,7 +185,7 @@ fn add_reached(
         return Ok(());
     };
     let found = reached(alloc, declarations, memory, id)?;
-    note_some(first, found.first);
+    first.note_some(found.first);
     join_row(memory, row, found.row);
     Ok(())
 }

@@ -10,7 +10,8 @@ ghost use Rattle.error_types.specs.declared.endings.Turn.TheVariants.{Ended};
 
 use crate::declarations::Declarations;
 use crate::id::ItemId;
-use aadl_syntax::{FirstRefusal, Mem, Ref, TypeKind};
+use aadl_syntax::{Ref, TypeKind};
+use plain_values::{FirstRefusal, Mem};
 use std::alloc::{AllocError, Global};
 use std::collections::HashMap;
 use std::marker::Model;

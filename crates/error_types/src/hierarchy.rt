@@ -10,7 +10,8 @@ use crate::declarations::Declarations;
 use crate::endings::{Ends, type_of};
 use crate::id::ItemId;
 use crate::row::Row;
-use aadl_syntax::{FirstRefusal, List, Mem, Ref, TypeKind};
+use aadl_syntax::{Ref, TypeKind};
+use plain_values::{FirstRefusal, List, Mem};
 use std::alloc::Global;
 use std::collections::HashMap;
 

@@ -1,11 +1,10 @@
-ghost use Rattle.std.specs.Prelude.{◌≡◌, OnOk};
+ghost use Rattle.std.specs.Prelude.{◌≡◌};
 ghost use Rattle.std.specs.HashMap.{get};
 ghost use Rattle.error_types.specs.Known.{AreFound, IsFound, same_search};
-ghost use Rattle.error_types.specs.Libraries.{Library as Text};
 
 use crate::id::Looked;
 use crate::library::Library;
-use aadl_syntax::{Mem, Refusal};
+use plain_values::{Mem, Refusal};
 use std::collections::HashMap;
 
 /// What the search for a name in a library has found, and its first refusal.

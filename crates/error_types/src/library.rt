@@ -1,14 +1,15 @@
-ghost use Rattle.std.specs.Prelude.{◌≡◌, ◌<◌, ◌^◌, ◌∷◌, ◌++◌, length, flat_map, option_copied, option_to_list, position, slice_get, IfOk, OnOk};
+ghost use Rattle.std.specs.Prelude.{◌≡◌, ◌<◌, ◌^◌, ◌∷◌, ◌++◌, length, option_copied, position, slice_get, IfOk, OnOk};
 ghost use Rattle.std.specs.HashMap.{get};
-ghost use Rattle.aadl_syntax.specs.Order.{least, nearer};
+ghost use Rattle.plain_values.specs.Order.{least, nearer};
 ghost use Rattle.package_index.specs.Tables.{Knows, same_text};
 ghost use Rattle.error_types.specs.Libraries.{extended_by, has_item_name, items_of, libraries_named, library_named, library_of, libraries_of, unknown_libraries, unknown_to, used_by};
 ghost use Rattle.error_types.specs.Tables.{has_item_text};
 
 use crate::course::first_of;
 use crate::scope::Scope;
-use aadl_syntax::{Code, FirstRefusal, List, Mem, PackageUnit, Ref, Refusal, TypeItem, TypesBlock};
+use aadl_syntax::{PackageUnit, Ref, TypeItem, TypesBlock};
 use package_index::{Index, Words, add, note_if};
+use plain_values::{Code, FirstRefusal, List, Mem, Refusal};
 use std::alloc::Global;
 use std::collections::HashMap;
 use std::marker::Model;
@@ -127,7 +128,7 @@ impl<'a> Library<'a> {
     pub(crate) fn unknown(&self) -> Option<Refusal>
         ensures { result ≡ self.now.unknown }
     {
-        first_of(&self.unknown)
+        self.unknown.noted()
     }
 }
 
@@ -207,7 +208,7 @@ fn unknown_to(index: &Index, home: u32, blocks: &[TypesBlock]) -> FirstRefusal
 }
 
 /// Notes N2 at each name of a library that a block uses or extends, and that means none.
-#[tactic(auto, using(crate::proofs::Noting::noted_more))]
+#[tactic(auto, using(plain_values::proofs::Noting::noted_more))]
 fn note_block(index: &Index, home: u32, block: &TypesBlock, first: &mut FirstRefusal)
     ensures { first.new ≡ nearer first.old (least (unknown_libraries index.now home block.now.uses ++ unknown_libraries index.now home block.now.extends)) }
 {
@@ -232,17 +233,7 @@ pub(crate) fn add_named(
     ensures { OnOk result (libraries.new ≡ libraries.old ++ libraries_named index.now home references.now) }
 {
     for reference in references {
-        push_some(libraries, library_named(index, home, reference))?;
-    }
-    Ok(())
-}
-
-/// Adds a number, if there is one.
-pub(crate) fn push_some(numbers: &mut List<u32>, number: Option<u32>) -> Mem<()>
-    ensures { OnOk result (numbers.new ≡ numbers.old ++ option_to_list number) }
-{
-    if let Some(number) = number {
-        numbers.push(number)?;
+        libraries.push_some(library_named(index, home, reference))?;
     }
     Ok(())
 }
@@ -253,6 +244,6 @@ pub(crate) fn note_unknown(index: &Index, home: u32, references: &[Ref], first: 
 {
     for reference in references {
         let is_unknown = library_named(index, home, reference).is_none();
-        note_if(first, is_unknown, Code::UnknownPackage, reference.spot);
+        first.note_if(is_unknown, Code::UnknownPackage, reference.spot);
     }
 }

@@ -1,5 +1,5 @@
 use crate::row::Row;
-use aadl_syntax::{List, Refusal};
+use plain_values::{List, Refusal};
 use std::collections::HashMap;
 
 /// What is remembered of an item: the first refusal from it on, the number of the row of the types that it names, and in fewer

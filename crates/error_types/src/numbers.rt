@@ -1,4 +1,4 @@
-ghost use Rattle.std.specs.Prelude.{◌≡◌, ◌<◌, ◌+◌, ◌^◌, ◌∷◌, [], ◌++◌, cond, length, take, IfOk, OnOk};
+ghost use Rattle.std.specs.Prelude.{◌≡◌, ◌<◌, ◌+◌, ◌^◌, ◌∷◌, [], ◌++◌, length, take, IfOk, OnOk};
 ghost use Rattle.std.specs.HashMap.{get};
 ghost use Rattle.package_index.specs.Tables.{Knows, same_pair, same_text};
 ghost use Rattle.error_types.specs.Libraries.{is_counted, is_place, is_type, types_by, types_in};
@@ -6,8 +6,9 @@ ghost use Rattle.error_types.specs.Tables.{has_number, has_type_text};
 
 use crate::id::ItemId;
 use crate::library::{ItemText, Library};
-use aadl_syntax::{List, Mem, TypeKind};
+use aadl_syntax::TypeKind;
 use package_index::add;
+use plain_values::{List, Mem};
 use std::alloc::Global;
 use std::collections::HashMap;
 
@@ -41,16 +42,7 @@ fn add_types(
             package: number,
             item: place as u32,
         };
-        push_if(types, is_counted(each, &places, items, id.item, item), id)?;
-    }
-    Ok(())
-}
-
-fn push_if(types: &mut List<ItemId>, is_so: bool, id: ItemId) -> Mem<()>
-    ensures { OnOk result (types.new ≡ types.old ++ cond is_so (id ∷ []) []) }
-{
-    if is_so {
-        types.push(id)?;
+        types.push_if(id, is_counted(each, &places, items, id.item, item))?;
     }
     Ok(())
 }

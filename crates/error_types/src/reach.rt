@@ -11,7 +11,7 @@ use crate::needs::{Needs, NextName};
 use crate::row::Row;
 use crate::settle::{add_row, remember, settle};
 use crate::walk::{needs_of, walk_from};
-use aadl_syntax::{FirstRefusal, Mem};
+use plain_values::{FirstRefusal, Mem};
 use std::alloc::Global;
 
 /// An item that is looked through, and those of its names that are left.
@@ -140,7 +140,7 @@ fn reached_by_walks(
     let row = row_of_types(alloc, declarations, memory, named.types.as_slice())?;
     let number = add_row(declarations, memory, row, 0)?;
     let reached = Reached {
-        first: first_of(&through.first),
+        first: through.first.noted(),
         row: number,
         depth: 0,
     };

@@ -1,8 +1,8 @@
-ghost use Rattle.std.specs.Prelude.{◌≡◌, ◌<◌, ◌*◌, ◌++◌, ◌∷◌, [], cond, false, length, min, replicate, slice_set, true, IfOk, IsTrue, OnOk};
+ghost use Rattle.std.specs.Prelude.{◌≡◌, ◌<◌, ◌*◌, ◌++◌, ◌∷◌, [], false, length, min, replicate, slice_set, true, IfOk, IsTrue};
 ghost use Rattle.error_types.specs.Rows.{either, has_bit, numbers_in};
 ghost use Rattle.error_types.specs.Words.{Joins, bit_in, with_bit};
 
-use aadl_syntax::{List, Mem};
+use plain_values::{List, Mem};
 use std::alloc::Global;
 use std::marker::Model;
 
@@ -81,7 +81,7 @@ impl Row {
         let mut numbers = List::new(alloc);
         for number in 0..self.count {
             let is_there = has_bit(self.words.as_slice(), number);
-            push_if(&mut numbers, is_there, number)?;
+            numbers.push_if(number, is_there)?;
         }
         Ok(numbers)
     }
@@ -92,16 +92,6 @@ fn zeros(alloc: Global, count: usize) -> Mem<Vec<u64>>
     ensures { IfOk result (λ words. words.items ≡ replicate count 0) }
 {
     Ok(vec![in alloc; 0u64; count]?)
-}
-
-/// Adds a number, where this is so.
-fn push_if(numbers: &mut List<u32>, is_so: bool, number: u32) -> Mem<()>
-    ensures { OnOk result (numbers.new ≡ numbers.old ++ cond is_so (number ∷ []) []) }
-{
-    if is_so {
-        numbers.push(number)?;
-    }
-    Ok(())
 }
 
 /// Puts the bits of the words of another row into these, as far as both go.

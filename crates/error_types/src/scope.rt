@@ -1,4 +1,4 @@
-use aadl_syntax::List;
+use plain_values::List;
 
 /// Where the names of error types of a text are looked for: the number of its package, and the numbers of the packages in
 /// whose libraries a bare name is looked for, in order.

@@ -1,6 +1,6 @@
 ghost use Rattle.std.specs.Prelude.{◌≡◌, ◌<◌, ◌^◌, ◌∷◌, [], ℕ, false, length, List as Items, IfOk, OnOk};
 ghost use Rattle.std.specs.HashMap.{get};
-ghost use Rattle.aadl_syntax.specs.Order.{nearer};
+ghost use Rattle.plain_values.specs.Order.{nearer};
 ghost use Rattle.error_types.specs.declared.id.Looked.TheVariants.{Nowhere};
 ghost use Rattle.error_types.specs.Course.{before, left, way_of};
 ghost use Rattle.error_types.specs.Known.{AreFound, IsFound, same_search};
@@ -12,7 +12,7 @@ use crate::course::{Course, Left, first_of, note_some};
 use crate::id::{ItemId, Looked};
 use crate::known::{Found, Known, remember};
 use crate::library::Library;
-use aadl_syntax::{FirstRefusal, Mem, Refusal};
+use plain_values::{FirstRefusal, Mem, Refusal};
 use std::alloc::{AllocError, Global};
 
 /// Where a search is after a step: on its way, or at its end, with what it found and its first refusal.
@@ -40,10 +40,10 @@ pub(crate) fn search<'a>(
     let own = own_item(libraries, name, number);
     if let Looked::Nowhere = own {
         let found = recall(alloc, known, libraries, name, number)?;
-        note_some(first, found.first);
+        first.note_some(found.first);
         return Ok(found.looked);
     }
-    note_some(first, unknown_in(libraries, number));
+    first.note_some(unknown_in(libraries, number));
     Ok(own)
 }
 
@@ -76,7 +76,7 @@ fn search_on(alloc: Global, libraries: &[Library<'_>], name: &[u8], number: u32)
 {
     let rest = extended(libraries, number);
     let mut noted = FirstRefusal::new();
-    note_some(&mut noted, unknown_in(libraries, number));
+    noted.note_some(unknown_in(libraries, number));
     let mut course = Course::at(alloc, number, rest, noted)?;
     for _ in 0..u64::MAX {
         match advanced(libraries, name, course)? {
@@ -84,7 +84,7 @@ fn search_on(alloc: Global, libraries: &[Library<'_>], name: &[u8], number: u32)
             Step::Ended(looked, noted) => {
                 return Ok(Found {
                     looked,
-                    first: first_of(&noted),
+                    first: noted.noted(),
                 });
             }
         }
@@ -148,7 +148,7 @@ fn enter<'t>(
         return Ok(Step::Next(course.enter(library, rest, unknown)?));
     }
     let mut first = course.first();
-    note_some(&mut first, unknown);
+    first.note_some(unknown);
     Ok(Step::Ended(own, first))
 }
 

@@ -1,7 +1,7 @@
 //! Settling an item: where all that it names is settled, so is what is reached from it.
 
 ghost use Rattle.std.specs.Prelude.{◌≡◌, ◌<◌, ◌++◌, ◌^◌, max, slice_get, length, option_copied, option_to_list, IfOk, IfSome, IsTrue, None, Some, List as Items, Bool, ℕ, true};
-ghost use Rattle.aadl_syntax.specs.Order.{nearer};
+ghost use Rattle.plain_values.specs.Order.{nearer};
 ghost use Rattle.error_types.specs.Grounded.{is_stopped};
 ghost use Rattle.error_types.specs.Libraries.{item_at, number_of};
 ghost use Rattle.error_types.specs.Rows.{IsGathered, IsOfTarget, IsReached, IsSettled, IsSum, Remembers, Stay, either, is_type_item, row_of};
@@ -15,8 +15,9 @@ use crate::needs::{Need, Needs, NextName};
 use crate::numbers::is_type;
 use crate::row::Row;
 use crate::walk::{is_set_item, needs_of, products_of};
-use aadl_syntax::{Code, FirstRefusal, Mem, TypeItem};
+use aadl_syntax::TypeItem;
 use package_index::refusal;
+use plain_values::{Code, FirstRefusal, Mem, Refusal};
 use std::alloc::{AllocError, Global};
 
 /// What names come to, one after the other: their first refusal, the row of the types that they name, in fewer than how many
@@ -115,7 +116,7 @@ fn add(sum: &mut Sum, memory: &Memory, reached: Reached)
     ensures row { (row : Items Bool) → slice_get memory.now.rows reached.row ≡ Some row → length row ≡ length sum.old.row → sum.new.row ≡ either sum.old.row row }
     ensures depth { sum.new.depth ≡ max sum.old.depth reached.depth }
 {
-    note_some(&mut sum.first, reached.first);
+    sum.first.note_some(reached.first);
     if let Some(row) = memory.rows.items().get(reached.row as usize) {
         sum.row.join(row);
     }
@@ -155,7 +156,7 @@ fn look_at(
         return Some(nothing(declarations, first));
     };
     if is_stopped(declarations, need, id) {
-        first.note(refusal(Code::UnknownType, need.reference().spot));
+        first.note(Refusal::at(Code::UnknownType, need.reference().spot));
         return Some(nothing(declarations, first));
     }
     settled(memory, id, first)
@@ -166,7 +167,7 @@ fn nothing(declarations: &Declarations<'_, '_>, first: FirstRefusal) -> Reached
     ensures { result ≡ record { first = first; row = length declarations.now.types; depth = 0 } }
 {
     Reached {
-        first: first_of(&first),
+        first: first.noted(),
         row: declarations.types().len() as u32,
         depth: 0,
     }
@@ -187,9 +188,9 @@ fn settled(memory: &Memory, id: ItemId, mut first: FirstRefusal) -> Option<Reach
     if reached.depth == 0 {
         return None;
     }
-    note_some(&mut first, reached.first);
+    first.note_some(reached.first);
     Some(Reached {
-        first: first_of(&first),
+        first: first.noted(),
         row: reached.row,
         depth: reached.depth,
     })
@@ -220,14 +221,14 @@ fn settle_by(
         return Ok(());
     }
     let mut first = products_of(item);
-    note_some(&mut first, first_of(&refused));
+    first.note_some(refused.noted());
     let row = if is_type_item(item) {
         own
     } else {
         add_row(declarations, memory, row, like)?
     };
     let reached = Reached {
-        first: first_of(&first),
+        first: first.noted(),
         row,
         depth: depth + 1,
     };

@@ -1,6 +1,6 @@
 ghost use Rattle.std.specs.Prelude.{◌≡◌, ◌↔◌, ◌≤◌, ◌<◌, ◌^◌, IfOk, IfErr, IsSome, OnOk, length};
-ghost use Rattle.aadl_syntax.specs.Order.{least, nearer};
-ghost use Rattle.package_index.specs.Duplicates.{IsRefused};
+ghost use Rattle.plain_values.specs.Order.{least, nearer};
+ghost use Rattle.plain_values.specs.Stops.{StopsAtFirst};
 ghost use Rattle.error_types.specs.Libraries.{HasTooManyTypes, IsOver, declared_types, greatest_types, libraries_of, table_of, unknown_libraries};
 ghost use Rattle.error_types.specs.Printed.{name_of};
 ghost use Rattle.error_types.specs.Types.{denoted, is_below, text_scope};
@@ -14,8 +14,9 @@ use crate::memory::Memory;
 use crate::numbers::types_by;
 use crate::scope::Scope;
 use crate::type_name::TypeName;
-use aadl_syntax::{Answer, Code, FirstRefusal, List, Mem, Place, Ref, Refusal, Stop, TypeSet};
+use aadl_syntax::{Ref, TypeSet};
 use package_index::Index;
+use plain_values::{Answer, Code, FirstRefusal, List, Mem, Refusal, Stop};
 use std::alloc::Global;
 use std::marker::Model;
 
@@ -48,7 +49,7 @@ impl<'i, 'a> TypeTable<'i, 'a> {
     pub fn new(alloc: Global, index: &'i Index<'a>) -> Answer<TypeTable<'i, 'a>>
         ensures table { IfOk result (λ table. table ≡ table_of index.now) }
         ensures accepted { OnOk result (length (declared_types (libraries_of index.now)) ≤ greatest_types) }
-        ensures refused { IfErr result (IsRefused (HasTooManyTypes index.now)) }
+        ensures refused { IfErr result (StopsAtFirst (HasTooManyTypes index.now)) }
     {
         let mut declarations = Declarations::of(alloc, index)?;
         count_declared(alloc, declarations.libraries())?;
@@ -129,11 +130,7 @@ fn count_declared(alloc: Global, libraries: &[Library<'_>]) -> Answer<()>
 {
     let declared = types_by(alloc, true, libraries)?;
     if declared.items().len() > 1024 {
-        return Err(Stop::Refused(Refusal {
-            code: Code::TooManyTypes,
-            place: Place::Words,
-            limit: 1024,
-        }));
+        return Err(Stop::Refused(Refusal::of_words(Code::TooManyTypes)));
     }
     Ok(())
 }

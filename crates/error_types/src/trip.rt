@@ -1,6 +1,6 @@
 ghost use Rattle.std.specs.Prelude.{◌≡◌, ◌<◌, ◌^◌, ◌∷◌, [], ◌++◌, ◌||◌, false, is_some, length, option_to_list, IfOk, OnOk};
 ghost use Rattle.std.specs.List.{list_any};
-ghost use Rattle.aadl_syntax.specs.Order.{nearer};
+ghost use Rattle.plain_values.specs.Refusal.{refusal};
 ghost use Rattle.error_types.specs.Course.{is_vain};
 ghost use Rattle.error_types.specs.Leaving.{LeavesItem, Offers};
 ghost use Rattle.error_types.specs.Tables.{has_number};
@@ -9,7 +9,7 @@ ghost use Rattle.error_types.specs.Trip.{at_visit, items_on, noting};
 use crate::course::note_some;
 use crate::id::ItemId;
 use crate::needs::{Need, Needs, NextName};
-use aadl_syntax::{FirstRefusal, Mem, Refusal};
+use plain_values::{FirstRefusal, Mem, Refusal};
 use std::alloc::{AllocError, Global};
 use std::collections::HashMap;
 use std::marker::Model;
@@ -132,7 +132,7 @@ impl<'a> Trip<'a> {
         marks.insert((item.package, item.item), true)?;
         below.push(top)?;
         push_number(&mut types, number)?;
-        note_some(&mut first, refusal);
+        first.note_some(refusal);
         Ok(Trip {
             top: Visit { item, rest },
             below,
@@ -175,7 +175,7 @@ impl<'a> Trip<'a> {
     pub(crate) fn note(&mut self, refusal: Option<Refusal>)
         ensures { self.new ≡ noting refusal self.old }
     {
-        note_some(&mut self.first, refusal);
+        self.first.note_some(refusal);
     }
 }
 

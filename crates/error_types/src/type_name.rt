@@ -3,7 +3,8 @@ ghost use Rattle.std.specs.List.{AllByRecursion};
 ghost use Rattle.aadl_syntax.specs.Token.{IsIdentifier};
 ghost use Rattle.error_types.specs.Printed.{AreIdentifiers, printed};
 
-use aadl_syntax::{Identifier, Mem, PackageUnit, TypeItem};
+use aadl_syntax::{Identifier, PackageUnit, TypeItem};
+use plain_values::Mem;
 use std::marker::Model;
 
 /// The name of an error type by its own declaration. Contracts see the identifiers of the name of its library, which is that of

@@ -1,5 +1,5 @@
 ghost use Rattle.std.specs.Prelude.{◌≡◌, ◌<◌, ◌^◌, ◌&&◌, ◌∷◌, [], false, flat_map, length, option_copied, IfOk};
-ghost use Rattle.aadl_syntax.specs.Order.{least, nearer};
+ghost use Rattle.plain_values.specs.Order.{least, nearer};
 ghost use Rattle.error_types.specs.Leaving.{LeadsWalk};
 ghost use Rattle.error_types.specs.Libraries.{is_item_in, item_at};
 ghost use Rattle.error_types.specs.Trip.{arrival, items_on, walk_left, with_names};
@@ -10,8 +10,9 @@ use crate::declarations::Declarations;
 use crate::id::ItemId;
 use crate::needs::{Need, Needs, NextName};
 use crate::trip::{Back, Trip, push_number};
-use aadl_syntax::{Code, FirstRefusal, Mem, Term, TypeItem, TypeKind};
+use aadl_syntax::{Term, TypeItem, TypeKind};
 use package_index::refusal;
+use plain_values::{Code, FirstRefusal, Mem, Refusal};
 use std::alloc::{AllocError, Global};
 
 /// Where a walk is after a step: on its way, or at its end, with the types that it met and its first refusal.
@@ -105,7 +106,7 @@ fn look_up<'a>(
 {
     let mut first = FirstRefusal::new();
     let target = declarations.named_at(alloc, trip.home(), need.reference(), &mut first)?;
-    trip.note(first_of(&first));
+    trip.note(first.noted());
     match target {
         Some(id) => arrive(through, declarations, trip, need, id),
         None => Ok(Stage::Next(trip)),
@@ -124,14 +125,14 @@ fn arrive<'a>(
 {
     let spot = need.reference().spot;
     if need.of_type() && is_set_item(declarations.item(id)) {
-        trip.note(Some(refusal(Code::UnknownType, spot)));
+        trip.note(Some(Refusal::at(Code::UnknownType, spot)));
         return Ok(Stage::Next(trip));
     }
     match trip.mark(id) {
         None => enter(through, declarations, trip, need, id),
         Some(false) => Ok(Stage::Next(trip)),
         Some(true) => {
-            trip.note(Some(refusal(Code::CyclicType, spot)));
+            trip.note(Some(Refusal::at(Code::CyclicType, spot)));
             Ok(Stage::Next(trip))
         }
     }
@@ -154,7 +155,7 @@ fn enter<'a>(
     let item = declarations.item(id);
     let number = number_met(through, declarations, id);
     let first = products_of(item);
-    let next = trip.enter(id, needs_of(through, item), number, first_of(&first))?;
+    let next = trip.enter(id, needs_of(through, item), number, first.noted())?;
     Ok(Stage::Next(next))
 }
 
@@ -216,6 +217,6 @@ fn note_product(term: &Term, first: &mut FirstRefusal)
     ensures { first.new ≡ nearer first.old (least (product_of_term term.now)) }
 {
     if let Term::Product(spot) = term {
-        first.note(refusal(Code::TypeProduct, *spot));
+        first.note(Refusal::at(Code::TypeProduct, *spot));
     }
 }

@@ -8,7 +8,7 @@ ghost use Rattle.family_renaming.specs.Lists.{ListsMore, OneMore, HasSets};
 
 use crate::from_top::name;
 use crate::variable_order::VariableOrder;
-use aadl_syntax::Mem;
+use plain_values::Mem;
 use std::alloc::Global;
 use zdd_families::look;
 use zdd_store::{Id, Store};

@@ -6,7 +6,7 @@ use crate::by_listing::by_listing;
 use crate::extents::has_few_sets;
 use crate::from_top::from_top;
 use crate::variable_order::VariableOrder;
-use aadl_syntax::Mem;
+use plain_values::{List, Mem};
 use std::alloc::Global;
 use zdd_store::{Id, Store};
 

@@ -6,7 +6,7 @@ ghost use Rattle.family_renaming.specs.Splitting.{least_event, KnowsLeast, Knows
 
 use crate::parting::{Parts, Place, parts_at};
 use crate::variable_order::VariableOrder;
-use aadl_syntax::Mem;
+use plain_values::Mem;
 use std::alloc::Global;
 use std::collections::HashMap;
 use zdd_families::look;

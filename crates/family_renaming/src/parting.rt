@@ -3,7 +3,7 @@ ghost use Rattle.std.specs.HashMap.{get};
 ghost use Rattle.zdd_store.specs.Store.{IsIn, family_of};
 ghost use Rattle.family_renaming.specs.Splitting.{IsParted, Parted, KnowsParts};
 
-use aadl_syntax::Mem;
+use plain_values::Mem;
 use std::collections::HashMap;
 use zdd_families::look;
 use zdd_store::{Id, Store};

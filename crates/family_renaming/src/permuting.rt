@@ -1,7 +1,7 @@
 ghost use Rattle.std.specs.Prelude.{◌≡◌, ◌≤◌, ◌<◌, ◌^◌, ◌↔◌, IfOk, IsTrue, length, slice_get, Some};
 ghost use Rattle.family_renaming.specs.Orders.{Undoes, HasPlaces};
 
-use aadl_syntax::Mem;
+use plain_values::Mem;
 use std::alloc::Global;
 
 /// Whether a table has a place at a number.

@@ -1,7 +1,7 @@
 ghost use Rattle.std.specs.Prelude.{◌≡◌, IfOk};
 
 use crate::permuting::{places_of, undo_each_other};
-use aadl_syntax::Mem;
+use plain_values::Mem;
 use std::alloc::Global;
 use std::marker::Model;
 

@@ -4,7 +4,8 @@ use Rattle.std.proofs.lemmas.Bool.{false≢true}
 use Rattle.std.specs.List.{list_all}
 use Rattle.fault_system.specs.Truth.{Has, set_of}
 use Rattle.fault_system.specs.Systems.{System, Holds}
-use Rattle.fault_system.specs.CutSets.{RisesWithin, IsEventSet, IsCutSet, IsSubset, IsMinimalCutSet, is_minimal, makes_hold, without}
+use Rattle.plain_values.specs.Rising.{RisesWithin}
+use Rattle.fault_system.specs.CutSets.{IsEventSet, IsCutSet, IsSubset, IsMinimalCutSet, is_minimal, makes_hold, without}
 use Rattle.fault_system.specs.Listings.{IsBefore, IsInListingOrder, IsListing, IsWithinOrder, choose, rising_sets_up_to, listing}
 use Rattle.fault_system.proofs.CutSetLaws.{either, and_true, RisesWithin-lower, RisesWithin-filter, Holds-grows, makes_hold-exact, is_minimal-exact, is_minimal-sound, set_of-filter, set_of-first, set_of-rest, set_of-cases, same_set}
 use Rattle.fault_system.proofs.Elements.{In, In-contains, contains_In, In-append, In-front, In-back, In-map, In-mapped, In-filter, In-filtered, each-at, each-made}

@@ -2,12 +2,8 @@
 use Rattle.std.specs.Prelude.{ℕ, ◌+◌, ◌<◌, ◌≤◌, ◌≡◌, Bool, List, [], ◌∷◌, length, ◌==◌, ◌&&◌, not}
 use Rattle.std.specs.List.{list_all}
 use Rattle.fault_system.specs.Truth.{NumberSet, Has, member, set_of}
+use Rattle.plain_values.specs.Rising.{RisesWithin}
 use Rattle.fault_system.specs.Systems.{System, Holds, holds_of}
-
--- the numbers rise, from low on, and stay below high
-abbrev pub RisesWithin : ℕ → ℕ → List ℕ → Type 0
-RisesWithin low high [] = Unit {0}
-RisesWithin low high (n ∷ ns) = (low ≤ n) × (n < high) × RisesWithin (n + 1) high ns
 
 -- a set of events is written as the rising list of their numbers
 abbrev pub IsEventSet : System → List ℕ → Type 0

@@ -1,7 +1,7 @@
 ghost use Rattle.std.specs.Prelude.{◌≡◌, ◌<◌, ℕ, All, IfOk, length, replicate, slice_set, true, false};
 ghost use Rattle.fault_system.specs.Truth.{member, set_of};
 
-use aadl_syntax::Mem;
+use plain_values::Mem;
 use std::alloc::Global;
 use std::marker::Model;
 

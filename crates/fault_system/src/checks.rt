@@ -1,11 +1,11 @@
 ghost use Rattle.std.specs.Prelude.{◌≡◌, ◌↔◌, ◌<◌, All, IsTrue, IfOk, IfSome, MatchOption, length, map, position, true};
-ghost use Rattle.aadl_syntax.specs.Name.{is_same_text};
+ghost use Rattle.plain_values.specs.Name.{is_same_text};
 ghost use Rattle.fault_system.specs.Truth.{in_range};
 ghost use Rattle.fault_system.specs.Systems.{IsSystem, NamesDiffer};
 
 use crate::formula::{EventInfo, FactInfo};
-use aadl_syntax::{EventDecl, Mem, StateDecl};
 use indexmap::IndexSet;
+use plain_values::Mem;
 use std::alloc::Global;
 use std::marker::Model;
 
@@ -33,22 +33,6 @@ impl Named for EventInfo {
 
     fn name(&self) -> &[u8] {
         self.name.items()
-    }
-}
-
-impl Named for EventDecl {
-    ghost name_of = { λ event. event.name };
-
-    fn name(&self) -> &[u8] {
-        self.name.text()
-    }
-}
-
-impl Named for StateDecl {
-    ghost name_of = { λ state. state.name };
-
-    fn name(&self) -> &[u8] {
-        self.name.text()
     }
 }
 

@@ -3,7 +3,7 @@ ghost use Rattle.std.specs.List.{list_all};
 ghost use Rattle.fault_system.specs.Truth.{count_true, in_range, member, truth};
 
 use crate::bits::Bits;
-use aadl_syntax::{List, Name};
+use plain_values::{List, Name};
 
 /// What makes a fact hold, over events and facts by their numbers.
 #[derive(Drop)]

@@ -5,7 +5,7 @@
 
 use crate::bits::Bits;
 use crate::formula::{FactInfo, Formula};
-use aadl_syntax::{List, Mem};
+use plain_values::{List, Mem};
 use std::alloc::Global;
 
 /// The places of formulas, numbered: first the whole formula of each fact, then the parts.

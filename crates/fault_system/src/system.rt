@@ -5,7 +5,7 @@ ghost use Rattle.fault_system.specs.Truth.{NumberSet, Has, member, count_true, s
 use crate::bits::Bits;
 use crate::formula::{EventInfo, FactInfo};
 use crate::places::order_of;
-use aadl_syntax::{List, Mem};
+use plain_values::{List, Mem};
 use std::alloc::Global;
 use std::marker::Model;
 

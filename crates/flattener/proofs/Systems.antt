@@ -4,22 +4,19 @@ use Rattle.std.specs.List.{AllByRecursion}
 use Rattle.std.proofs.lemmas.List.{get_or-map}
 use Rattle.std.proofs.lemmas.List.Elements.{All-from_recursion}
 use lib.ListN.{length-map}
-use Rattle.aadl_syntax.specs.Order.{IsClear}
+use Rattle.plain_values.specs.Order.{IsClear}
 use Rattle.aadl_syntax.specs.declared.core_model.PackageUnit.{PackageUnit}
 use Rattle.package_index.specs.declared.id.ClassifierId.{ClassifierId}
 use Rattle.package_index.specs.Duplicates.{IsDuplicate}
 use Rattle.fault_system.specs.Truth.{in_range}
-use Rattle.fault_system.specs.Systems.{IsSystem, NamesDiffer, System}
-use Rattle.fault_system.specs.declared.formula.EventInfo.{EventInfo}
+use Rattle.fault_system.specs.Systems.{IsSystem, NamesDiffer}
 use Rattle.fault_system.specs.declared.formula.FactInfo.{FactInfo}
-use Rattle.model_facts.specs.Assembly.{Assembly, assembly_of, universe_of}
-use Rattle.model_facts.specs.Facts.{events_of, facts_of}
+use Rattle.model_facts.specs.Assembly.{Assembly, assembly_of}
 use Rattle.model_facts.specs.Laws.{AreNamed}
 use Rattle.model_facts.specs.Names.{event_name, fact_name}
-use Rattle.model_facts.specs.declared.keys.EventKey.{EventKey}
 use Rattle.model_facts.specs.declared.keys.FactKey.{FactKey}
 use Rattle.model_facts.proofs.RootLaws.{root-events-differ, root-facts-differ}
-use Rattle.flattener.specs.Flat.{event_info, fact_info, system_by, system_of}
+use Rattle.flattener.specs.Flat.{event_info, fact_info, system_of}
 use Rattle.flattener.specs.Numbered.{Numbered, numbered_of}
 use Rattle.flattener.proofs.Ranged.{meaning-within}
 

@@ -1,10 +1,10 @@
 -- A model as a system of facts and events, and when it is too large.
 use Rattle.std.specs.Prelude.{◌≡◌, ℕ, ◌+◌, nat_lt, map, sum, Option, None}
 use Rattle.std.specs.Option.{option_or}
-use Rattle.aadl_syntax.specs.declared.refusal.Code.TheVariants.{TooManyPlaces}
-use Rattle.aadl_syntax.specs.declared.refusal.Place.TheVariants.{Words}
-use Rattle.aadl_syntax.specs.declared.refusal.Refusal.{Refusal}
-use Rattle.instantiator.specs.Refused.{over}
+use Rattle.plain_values.specs.declared.refusal.Code.TheVariants.{TooManyPlaces}
+use Rattle.plain_values.specs.declared.refusal.Place.TheVariants.{Words}
+use Rattle.plain_values.specs.declared.refusal.Refusal.{Refusal}
+use Rattle.plain_values.specs.Refusal.{over_limit}
 use Rattle.model_facts.specs.Assembly.{Assembly}
 use Rattle.model_facts.specs.Limits.{events_refusal, facts_refusal}
 use Rattle.model_facts.specs.Names.{event_key, event_name, fact_name}
@@ -59,7 +59,7 @@ most_places = 4194304
 
 -- M9 where the formulas of a model have too many places
 abbrev pub places_refusal : Numbered → Option Refusal
-places_refusal numbered = over (nat_lt most_places (all_places numbered)) TooManyPlaces Words most_places
+places_refusal numbered = over_limit (nat_lt most_places (all_places numbered)) TooManyPlaces Words
 
 -- This is the system of a model whose facts and events are numbered, and its formulas do not have too many places.
 pub record Flattened (numbered : Numbered) (system : System) : Type 0 where

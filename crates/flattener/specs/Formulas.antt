@@ -1,6 +1,6 @@
 -- What conditions, transitions, outgoing conditions and flows of a component say (EMV2).
 use Rattle.std.specs.Prelude.{ℕ, ◌∷◌, Bool, cond, ◌&&◌, nat_eq, List, [], map, filter, flat_map, Option, Some, None, option_map, option_to_list}
-use Rattle.package_index.specs.Numbered.{numbered_from}
+use Rattle.plain_values.specs.Numbered.{numbered_from}
 use Rattle.error_types.specs.Search.{is_number_in}
 use Rattle.propagation_points.specs.declared.uses.ReachedPoint.{ReachedPoint}
 use Rattle.propagation_points.specs.Uses.{covers}

@@ -2,11 +2,11 @@ ghost use Rattle.std.specs.Prelude.{◌≡◌, IfOk, map};
 ghost use Rattle.flattener.specs.Formulas.{cause_formula, step_formula};
 
 use crate::site::Site;
-use aadl_syntax::{List, Mem};
 use error_behavior::Step;
 use error_conditions::Cause;
 use fault_system::Formula;
 use model_facts::EventKind;
+use plain_values::{List, Mem};
 use std::alloc::Global;
 
 /// A condition of a component as a formula.

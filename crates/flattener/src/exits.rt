@@ -4,11 +4,11 @@ ghost use Rattle.flattener.specs.Tables.{flow_seen};
 
 use crate::causes::cause_formula;
 use crate::site::{Site, has_number};
-use aadl_syntax::{List, Mem};
 use error_behavior::Emission;
 use error_flows::FlowMeaning;
 use fault_system::Formula;
 use model_facts::{EventKind, FactKind};
+use plain_values::{List, Mem};
 use std::alloc::Global;
 
 /// The formulas of the outgoing conditions that cover a type, of these.

@@ -7,9 +7,9 @@ use crate::causes::{conditions, steps};
 use crate::exits::{emissions, flows};
 use crate::numbers::Numbers;
 use crate::site::Site;
-use aadl_syntax::{List, Mem};
 use fault_system::Formula;
 use model_facts::{EventKey, EventKind, FactKey, FactKind};
+use plain_values::{List, Mem};
 use propagation_links::PointAt;
 use std::alloc::Global;
 

@@ -1,17 +1,18 @@
 ghost use Rattle.std.specs.Prelude.{◌≡◌, None, Some, IfErr, IfOk, MatchResult, OnOk, map};
-ghost use Rattle.instantiator.specs.Refused.{StopsAt};
+ghost use Rattle.plain_values.specs.Stops.{StopsAt};
+ghost use Rattle.plain_values.specs.Refusal.{refusal};
 ghost use Rattle.flattener.specs.Flat.{Flattened, event_info, fact_info, places_refusal, size_refusal, system_by, system_of};
 
 use crate::counts::all_places;
 use crate::facts::meaning_of;
 use crate::kinds::{Kinds, no_model};
 use crate::numbers::Numbers;
-use aadl_syntax::{Answer, Code, List, Mem, Place, Refusal};
 use fault_system::{EventInfo, FactInfo, FaultSystem, is_system};
 use model_facts::{
     Assembly, EventKey, EventTable, FactKey, FactTable, event_key, event_name, fact_name,
     universe_of,
 };
+use plain_values::{Answer, Code, List, Mem, Place, Refusal};
 use std::alloc::{AllocError, Global};
 
 /// The system of a model: its facts with their formulas, and its events.
@@ -50,14 +51,11 @@ fn with_numbers(
 fn within_limit(numbers: &Numbers) -> Result<(), Refusal>
     ensures { MatchResult result (λ _. places_refusal numbers.now ≡ None) (λ refusal. places_refusal numbers.now ≡ Some refusal) }
 {
-    if all_places(numbers) > 4_194_304 {
-        return Err(Refusal {
-            code: Code::TooManyPlaces,
-            place: Place::Words,
-            limit: 4_194_304,
-        });
-    }
-    Ok(())
+    Refusal::over_limit(
+        all_places(numbers) > 4_194_304,
+        Code::TooManyPlaces,
+        Place::Words,
+    )
 }
 
 fn system_by(alloc: Global, numbers: &Numbers) -> Mem<FaultSystem>

@@ -4,12 +4,12 @@ ghost use Rattle.flattener.specs.Formulas.{branches_to, condition_to, conditions
 ghost use Rattle.flattener.specs.Tables.{AreConditions, AreEmissions, AreFlows, AreSteps, flow_seen, row_at, values};
 
 use crate::rows::{add, at};
-use aadl_syntax::{List, Mem};
 use composite_states::ClauseMeaning;
 use error_behavior::{Emission, Step};
 use error_conditions::Cause;
 use error_flows::FlowMeaning;
 use error_models::ErrorModel;
+use plain_values::{List, Mem};
 use std::alloc::Global;
 use std::collections::HashMap;
 use std::marker::Model;

@@ -2,9 +2,9 @@ ghost use Rattle.std.specs.Prelude.{◌≡◌, IfOk, Some};
 ghost use Rattle.model_facts.specs.Assembly.{kind_model, no_model};
 
 use crate::kind::Kind;
-use aadl_syntax::{List, Mem};
 use error_behavior::{ErrorBehavior, States};
 use error_models::ErrorModel;
+use plain_values::{List, Mem};
 use propagation_points::{NameTable, Points};
 use std::alloc::Global;
 use std::marker::Model;

@@ -1,7 +1,7 @@
 //! A law of the definitions alone: the contract of the function is the law, and its body is empty.
 
 ghost use Rattle.std.specs.Prelude.{List};
-ghost use Rattle.aadl_syntax.specs.Order.{IsClear};
+ghost use Rattle.plain_values.specs.Order.{IsClear};
 ghost use Rattle.aadl_syntax.specs.declared.core_model.PackageUnit.{PackageUnit};
 ghost use Rattle.package_index.specs.declared.id.ClassifierId.{ClassifierId};
 ghost use Rattle.package_index.specs.Duplicates.{IsDuplicate};

@@ -8,10 +8,10 @@ ghost use Rattle.flattener.specs.Tables.{AreLinks, SideKey as Key, row_at, same_
 use crate::kinds::Kinds;
 use crate::rows::{add, at};
 use crate::site::Site;
-use aadl_syntax::{List, Mem};
 use fault_system::Formula;
 use instantiator::Instance;
 use model_facts::{Assembly, EventKey, EventTable, FactKey, FactKind, FactTable};
+use plain_values::{List, Mem};
 use propagation_links::{Link, PointAt};
 use std::alloc::Global;
 use std::collections::HashMap;

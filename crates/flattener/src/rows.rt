@@ -2,7 +2,7 @@ ghost use Rattle.std.specs.Prelude.{◌≡◌, ◌++◌, ◌∷◌, [], OnOk, co
 ghost use Rattle.std.specs.HashMap.{get};
 ghost use Rattle.flattener.specs.Tables.{row_at};
 
-use aadl_syntax::{List, Mem};
+use plain_values::{List, Mem};
 use std::alloc::Global;
 use std::collections::HashMap;
 use std::hash::Hash;

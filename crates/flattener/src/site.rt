@@ -1,15 +1,16 @@
 ghost use Rattle.std.specs.Prelude.{◌≡◌, ◌++◌, ◌∷◌, [], IfOk, OnOk, filter, map};
 ghost use Rattle.error_types.specs.Search.{is_number_in};
 ghost use Rattle.propagation_points.specs.Uses.{covers, side_types};
-ghost use Rattle.flattener.specs.Formulas.{below_in_state, in_state, is_reached, origin_formula};
-ghost use Rattle.flattener.specs.Numbered.{entering, inward_types, own_event, own_fact, reached_inward, some_entering};
+ghost use Rattle.flattener.specs.Formulas.{below_in_state, is_reached, origin_formula};
+ghost use Rattle.flattener.specs.Numbered.{entering, inward_types, own_event, own_fact, some_entering};
 
 use crate::kind::Kind;
 use crate::numbers::Numbers;
-use aadl_syntax::{Identifier, List, Mem};
+use aadl_syntax::Identifier;
 use error_behavior::Origin;
 use fault_system::Formula;
 use model_facts::{EventKey, EventKind, FactKey, FactKind};
+use plain_values::{List, Mem};
 use propagation_points::{Reach, ReachedPoint, Side};
 use std::alloc::Global;
 use std::marker::Model;

@@ -3,7 +3,7 @@ use Rattle.std.specs.Prelude.{ℕ, Bool, true, false, ◌+◌, ◌-◌, ◌^◌,
 use Rattle.std.specs.List.{list_any}
 use Rattle.fta_outside.specs.declared.outside.FileError.{FileError}
 use Rattle.fta_outside.specs.declared.outside.FileError.TheVariants.{Failed, Memory}
-use Rattle.aadl_syntax.specs.Name.{is_same_text}
+use Rattle.plain_values.specs.Name.{is_same_text}
 
 -- a file: its name, and what it contains
 abbrev pub File : Type 0

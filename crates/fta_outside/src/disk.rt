@@ -2,7 +2,7 @@ ghost use Rattle.std.specs.Prelude.{None};
 
 use crate::faults::one_more;
 use crate::outside::{FileError, Files};
-use aadl_syntax::Word;
+use plain_values::Word;
 use std::alloc::Global;
 use std::io::{ErrorKind, Read};
 use std::{fs, rt};

@@ -1,11 +1,11 @@
-ghost use Rattle.std.specs.Prelude.{◌≡◌, ℕ, ◌≤◌, ◌<◌, List, [], Option, Some, IsTrue, IfOk, IfSome, OnOk, OnErr, IsErrOf, MatchResult, is_err, false, length, map, take};
+ghost use Rattle.std.specs.Prelude.{◌≡◌, ℕ, ◌≤◌, ◌<◌, List, [], Option, Some, IfOk, IfSome, OnErr, IsErrOf, MatchResult, is_err, false, length, map, take};
 ghost use Rattle.std.specs.Option.{option_map};
 ghost use Rattle.fta_outside.specs.Outside.{Rose, with_bytes};
 ghost use Rattle.fta_outside.specs.Memory.{contents_of, is_failed, read_fails, after_read, write_fails, after_failure, after_write, count_of};
 
 use crate::faults::one_more;
 use crate::outside::{FileError, Files, Sink, SinkFailed};
-use aadl_syntax::{Mem, Word, is_same};
+use plain_values::{Mem, Word, is_same};
 use std::alloc::Global;
 use std::marker::Model;
 

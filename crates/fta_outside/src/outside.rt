@@ -2,7 +2,7 @@ ghost use Rattle.std.specs.Prelude.{◌≡◌, ℕ, ◌≤◌, ◌<◌, List, Op
 ghost use Rattle.fta_outside.specs.Outside.{Rose, with_bytes, TookPrefix};
 ghost use Rattle.fta_outside.specs.declared.outside.FileError.TheVariants.{Memory};
 
-use aadl_syntax::Word;
+use plain_values::{List, Word};
 use std::alloc::{AllocError, AllocFailed, Global};
 use thiserror::Error;
 

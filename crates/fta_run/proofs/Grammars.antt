@@ -5,11 +5,12 @@ use Rattle.std.proofs.lemmas.List.{ext_get_or, get_or_append_left, get_or_defaul
 use Rattle.std.proofs.Math.Seq.{get_or-append_seam}
 use Rattle.std.proofs.lemmas.Option.{slice_get_read, get_or_from_slice_get}
 use Rattle.aadl_syntax.specs.declared.token.Token.{Token}
-use Rattle.aadl_syntax.specs.declared.refusal.Refusal.{Refusal}
+use Rattle.plain_values.specs.declared.refusal.Refusal.{Refusal}
 use Rattle.aadl_syntax.specs.declared.core_model.Unit.{Unit as FileUnit}
 use Rattle.grammar_rules.proofs.Texts.{reads_once}
-use Rattle.aadl_syntax.specs.declared.refusal.Stop.{Stop}
-use Rattle.aadl_syntax.specs.declared.refusal.Stop.TheVariants as stop
+use Rattle.plain_values.specs.declared.refusal.Stop.{Stop}
+use Rattle.plain_values.specs.declared.refusal.Stop.TheVariants as stop
+use Rattle.plain_values.specs.Refusal.{refusal}
 use Rattle.phases.specs.Meets.{IsMemory}
 use Rattle.phases.specs.Phases.{Stops, rejects}
 use Rattle.phases.specs.Stopped.{status_of}

@@ -5,11 +5,12 @@ use Rattle.std.proofs.lemmas.Bool.{cases_lt}
 use Rattle.std.proofs.lemmas.Bool.Decides.{nat_tests}
 use Rattle.std.proofs.lemmas.List.{drop_all, take_all}
 use borrow.Author.Tests.{le-ltb, lt-ltb}
-use Rattle.aadl_syntax.specs.declared.refusal.Code.TheVariants.{FileTooLong, TooManyFiles}
-use Rattle.aadl_syntax.specs.declared.refusal.Place.TheVariants.{Whole}
-use Rattle.aadl_syntax.specs.declared.refusal.Refusal.{Refusal}
-use Rattle.aadl_syntax.specs.Order.{IsClear, IsFirst, least, nearer}
-use Rattle.aadl_syntax.proofs.OrderLaws.{nearer-none, noted-more, least-first, first_alone}
+use Rattle.plain_values.specs.declared.refusal.Code.TheVariants.{FileTooLong, TooManyFiles}
+use Rattle.plain_values.specs.declared.refusal.Place.TheVariants.{Whole}
+use Rattle.plain_values.specs.declared.refusal.Refusal.{Refusal}
+use Rattle.plain_values.specs.Order.{IsClear, IsFirst, least, nearer}
+use Rattle.plain_values.proofs.OrderLaws.{nearer-none, noted-more, least-first, first_alone}
+use Rattle.plain_values.specs.Refusal.{refusal}
 use Rattle.phases.specs.Phases.{Passes, Stops}
 use Rattle.phases.specs.declared.status.Status.TheVariants.{Refused}
 use Rattle.fta_run.specs.Due.{texts_of}
@@ -38,7 +39,7 @@ append-none (x ∷ xs) ys none = absurd (cc)
 
 -- the refusal of a file that is too long, or not
 abbrev refused_long : ℕ → Bool → List Refusal
-refused_long file long = if long then record { code = FileTooLong; place = Whole file; limit = most_bytes } ∷ [] else []
+refused_long file long = if long then refusal FileTooLong (Whole file) ∷ [] else []
 
 not_above : (limit n : ℕ) → n ≤ limit → nat_lt limit n ≡ false
 not_above limit n within = le-ltb limit n within
@@ -136,10 +137,10 @@ pub clear_short : (texts : List (List ℕ)) → too_long_from 0 texts ≡ [] →
 clear_short texts none = λ refusal there. let in_none : Contains [] refusal = subst (λ group. Contains group refusal) none there in absurd (omega (arith, in_none.1))
 
 -- too many files are named
-pub many_refused : (contents : List ℕ → Option (List ℕ)) (files : List (List ℕ)) → most_files < length files → Stops (texts_of contents files) (Refused (of_words TooManyFiles most_files))
+pub many_refused : (contents : List ℕ → Option (List ℕ)) (files : List (List ℕ)) → most_files < length files → Stops (texts_of contents files) (Refused (of_words TooManyFiles))
 many_refused contents files many =
-    let first : IsFirst (NamesTooMany files) (of_words TooManyFiles most_files) = first_alone (NamesTooMany files) (of_words TooManyFiles most_files) (many, refl) (λ other also. also.1) in
-    record { stopped = inl (of_words TooManyFiles most_files, first, refl) }
+    let first : IsFirst (NamesTooMany files) (of_words TooManyFiles) = first_alone (NamesTooMany files) (of_words TooManyFiles) (many, refl) (λ other also. also.1) in
+    record { stopped = inl (of_words TooManyFiles, first, refl) }
 
 -- a file is too long
 pub long_refused : (contents : List ℕ → Option (List ℕ)) (files read : List (List ℕ)) (refusal : Refusal) → length files ≤ most_files → AreFronts contents files read → IsFirst (HasTooLong read) refusal → Stops (texts_of contents files) (Refused refusal)

@@ -6,12 +6,12 @@ use Rattle.std.proofs.lemmas.Option.{slice_get_within, slice_get_read, get_or_fr
 use Rattle.std.proofs.lemmas.List.{get_or-take}
 use Rattle.std.specs.Ordering.{is_gt}
 use Rattle.aadl_syntax.specs.declared.token.Token.{Token}
-use Rattle.aadl_syntax.specs.declared.refusal.Refusal.{Refusal}
-use Rattle.aadl_syntax.specs.declared.refusal.Place.TheVariants.{At}
-use Rattle.aadl_syntax.specs.declared.refusal.Stop.{Stop}
-use Rattle.aadl_syntax.specs.declared.refusal.Stop.TheVariants.{Refused, Memory}
-use Rattle.aadl_syntax.specs.Order.{IsClear, IsFirst, refusal_cmp}
-use Rattle.aadl_syntax.proofs.OrderLaws.{earlier_file, itself}
+use Rattle.plain_values.specs.declared.refusal.Refusal.{Refusal}
+use Rattle.plain_values.specs.declared.refusal.Place.TheVariants.{At}
+use Rattle.plain_values.specs.declared.refusal.Stop.{Stop}
+use Rattle.plain_values.specs.declared.refusal.Stop.TheVariants.{Refused, Memory}
+use Rattle.plain_values.specs.Order.{IsClear, IsFirst, refusal_cmp}
+use Rattle.plain_values.proofs.OrderLaws.{earlier_file, itself}
 use Rattle.aadl_lexer.specs.Tokens.{IsFault, RefusedAs, Tokens}
 use Rattle.aadl_lexer.proofs.Single.{list_or_fault, one_fault, one_list}
 use Rattle.phases.specs.Meets.{IsMemory}

@@ -6,16 +6,17 @@ use Rattle.std.proofs.lemmas.List.{get_or-map}
 use lib.ListN.{length-map}
 use Rattle.aadl_syntax.specs.declared.core_model.PackageUnit.{PackageUnit}
 use Rattle.aadl_syntax.specs.declared.core_model.Unit.{Unit as FileUnit}
-use Rattle.aadl_syntax.specs.declared.name.Root.{Root}
-use Rattle.aadl_syntax.specs.declared.refusal.Code.TheVariants.{UnknownTarget}
-use Rattle.aadl_syntax.specs.declared.refusal.Place.TheVariants.{Words}
-use Rattle.aadl_syntax.specs.declared.refusal.Refusal.{Refusal}
-use Rattle.aadl_syntax.specs.declared.refusal.Stop.{Stop}
-use Rattle.aadl_syntax.specs.declared.refusal.Stop.TheVariants as stop
-use Rattle.aadl_syntax.specs.Order.{IsClear, IsFirst}
-use Rattle.aadl_syntax.proofs.OrderLaws.{first_alone}
+use Rattle.plain_values.specs.declared.name.Root.{Root}
+use Rattle.plain_values.specs.declared.refusal.Code.TheVariants.{UnknownTarget}
+use Rattle.plain_values.specs.declared.refusal.Place.TheVariants.{Words}
+use Rattle.plain_values.specs.declared.refusal.Refusal.{Refusal}
+use Rattle.plain_values.specs.declared.refusal.Stop.{Stop}
+use Rattle.plain_values.specs.declared.refusal.Stop.TheVariants as stop
+use Rattle.plain_values.specs.Order.{IsClear, IsFirst}
+use Rattle.plain_values.proofs.OrderLaws.{first_alone}
 use Rattle.fault_system.specs.Systems.{System, NamesDiffer}
-use Rattle.package_index.specs.Duplicates.{IsDuplicate, IsRefused}
+use Rattle.package_index.specs.Duplicates.{IsDuplicate}
+use Rattle.plain_values.specs.Stops.{StopsAtFirst}
 use Rattle.package_index.specs.Lookup.{look_classifier, packages_of, refused_at}
 use Rattle.package_index.specs.declared.id.ClassifierId.{ClassifierId}
 use Rattle.phases.specs.Meets.{IsMemory, Meets}
@@ -33,7 +34,7 @@ use Rattle.fta_run.specs.Model.{HasDuplicate, HasName, IsFactNamed, LacksTarget,
 -- ---- the root
 
 -- the index of the files is refused
-pub index_stop : (files its : List (List FileUnit)) (root : Root) (why : Stop) → its ≡ files → IsRefused (IsDuplicate (packages_of its)) why → Stops (model_of_units root files) (status_of why) ⊎ IsMemory (status_of why)
+pub index_stop : (files its : List (List FileUnit)) (root : Root) (why : Stop) → its ≡ files → StopsAtFirst (IsDuplicate (packages_of its)) why → Stops (model_of_units root files) (status_of why) ⊎ IsMemory (status_of why)
 index_stop files its root (stop.Refused refusal) same first =
     inl (record { stopped = inl (refusal, subst (λ fs. IsFirst (HasDuplicate fs) refusal) same first, refl) })
 index_stop files its root stop.Memory same first = inr refl
@@ -61,9 +62,9 @@ model_in files its packages root id result are same clear named met =
 -- ---- the target
 
 -- no fact has the name
-pub no_target : (system : System) (name : List ℕ) → ((number : ℕ) → HasName system name number → ⊥) → Stops (answers (IsFactNamed system name) (LacksTarget system name)) (Refused (of_words UnknownTarget 0))
+pub no_target : (system : System) (name : List ℕ) → ((number : ℕ) → HasName system name number → ⊥) → Stops (answers (IsFactNamed system name) (LacksTarget system name)) (Refused (of_words UnknownTarget))
 no_target system name none =
-    record { stopped = (of_words UnknownTarget 0, first_alone (LacksTarget system name) (of_words UnknownTarget 0) (none, refl) (λ other also. also.1), refl) }
+    record { stopped = (of_words UnknownTarget, first_alone (LacksTarget system name) (of_words UnknownTarget) (none, refl) (λ other also. also.1), refl) }
 
 -- two places of one name are one, where names differ
 apart : (names : List (List ℕ)) (m n : ℕ) (name : List ℕ) → NamesDiffer names → get_or names m [] ≡ name → get_or names n [] ≡ name → m < n → n < length names → ⊥

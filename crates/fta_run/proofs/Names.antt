@@ -1,7 +1,7 @@
 -- What the plain names of a system are good for.
 use Rattle.std.proofs.Common.{◌≡◌, ◌≢◌, ℕ, List, [], ◌∷◌, ◌++◌, codes, Option, Result, Ok, Err, IfOk, Contains, sym, ◌∙◌, arith}
 use Rattle.std.proofs.lemmas.List.Elements.{All-weaker}
-use Rattle.aadl_syntax.specs.declared.name.Root.{Root}
+use Rattle.plain_values.specs.declared.name.Root.{Root}
 use Rattle.fault_system.specs.Systems.{System}
 use Rattle.fault_system.specs.declared.formula.EventInfo.{EventInfo}
 use Rattle.fault_system.specs.declared.formula.FactInfo.{FactInfo}

@@ -2,8 +2,8 @@
 use Rattle.std.proofs.Common.{◌≡◌, ℕ, Bool, List, [], ◌∷◌, Option, Some, None, IsSome, IfSome, Result, length, replicate, refl, sym, ap, ◌∙◌, inl, inr}
 use Rattle.std.specs.List.{AllByRecursion}
 use Rattle.std.proofs.lemmas.Bool.{false≢true}
-use Rattle.aadl_syntax.specs.declared.name.Root.{Root}
-use Rattle.aadl_syntax.specs.declared.refusal.Refusal.{Refusal}
+use Rattle.plain_values.specs.declared.name.Root.{Root}
+use Rattle.plain_values.specs.declared.refusal.Refusal.{Refusal}
 use Rattle.package_index.specs.Lookup.{packages_of}
 use Rattle.fault_system.specs.Systems.{System}
 use Rattle.aadl_syntax.specs.declared.core_model.Unit.{Unit as FileUnit}

@@ -6,9 +6,9 @@ use Rattle.fta_outside.specs.Outside.{Rose, TookPrefix}
 use Rattle.phases.specs.Meets.{IsMemory}
 use Rattle.phases.specs.Phases.{Phase, Passes, Stops, chains}
 use Rattle.phases.specs.declared.status.Status.{Status}
-use Rattle.fta_run.specs.Shown.{status_shown}
-use Rattle.fta_run.specs.declared.text.WriteStop.{WriteStop}
-use Rattle.fta_run.specs.declared.text.WriteStop.TheVariants.{Failed, Memory}
+use Rattle.phases.specs.Stopped.{status_of_write}
+use Rattle.fta_outside.specs.declared.error.WriteError.{WriteError}
+use Rattle.fta_outside.specs.declared.error.WriteError.TheVariants.{Failed, Memory}
 use Rattle.phases.proofs.Steps.{◌passes◌}
 use Rattle.fta_run.specs.Steps.{Prints}
 
@@ -31,7 +31,7 @@ prints_stop phase status result t f is end =
     rw (p.1, p.2) (elim end [ inl stops ↦ inl (stops, refl) | inr memory ↦ inr (inl (memory, inl refl)) ])
 
 -- a text was not written whole
-pub prints_front : {T : Type 0} (phase : Phase (List ℕ)) (text : List ℕ) (stop : WriteStop) (result : Result T Status) (t u : Option (List ℕ)) (f g : ℕ) → IsErrAnd result (λ its. its ≡ status_shown stop) → Passes phase text → TookPrefix t u text → (stop ≡ Failed → Rose f g)
+pub prints_front : {T : Type 0} (phase : Phase (List ℕ)) (text : List ℕ) (stop : WriteError) (result : Result T Status) (t u : Option (List ℕ)) (f g : ℕ) → IsErrAnd result (λ its. its ≡ status_of_write stop) → Passes phase text → TookPrefix t u text → (stop ≡ Failed → Rose f g)
     → Prints phase result t u f g
 prints_front phase text Failed result t u f g is is_text took rose = let p = err_from_is_err_and result is in rw (p.1, p.2) (inr (inr (refl, (text, is_text, took), rose refl)))
 prints_front phase text Memory result t u f g is is_text took rose = let p = err_from_is_err_and result is in rw (p.1, p.2) (inr (inl (refl, inr (text, is_text, took))))

@@ -2,10 +2,10 @@
 use Rattle.std.proofs.Common.{◌≡◌, ◌<◌, ◌⊎◌, ℕ, Bool, List, length, Option, Result, Ok, Err, refl, sym, ap, subst, inl, inr}
 use Rattle.std.specs.Prelude.{IsErrAnd, IsOk}
 use Rattle.std.proofs.lemmas.Result.{err_from_is_err_and}
-use Rattle.aadl_syntax.specs.declared.refusal.Code.TheVariants.{TooManyFiles}
-use Rattle.aadl_syntax.specs.declared.refusal.Refusal.{Refusal}
-use Rattle.aadl_syntax.specs.Order.{IsFirst}
-use Rattle.aadl_syntax.specs.declared.name.Root.{Root}
+use Rattle.plain_values.specs.declared.refusal.Code.TheVariants.{TooManyFiles}
+use Rattle.plain_values.specs.declared.refusal.Refusal.{Refusal}
+use Rattle.plain_values.specs.Order.{IsFirst}
+use Rattle.plain_values.specs.declared.name.Root.{Root}
 use Rattle.phases.specs.Phases.{Phase, Passes, Stops, yields, tells, chains, finds, IsDue, IsRefusal, IsSameEnd}
 use Rattle.phases.specs.declared.status.Status.{Status}
 use Rattle.phases.specs.declared.status.Status.TheVariants.{Done, Usage, Refused, Constant, ReadFault, WriteFault, Memory}
@@ -225,7 +225,7 @@ ran words contents read_before read_after t u f g (Err s) command given end =
 pub many_named : (words : List (List ℕ)) (command : Command) → Passes (finds (IsCommand words) Usage) command → most_files < length (file_words words) → most_files < length (files_of command)
 many_named words command given many = subst (λ files. most_files < length files) (file_words_are words command given.passed) many
 
-pub many_answer : {T : Type 0} (result : Result T Status) (s : Status) → IsErrAnd result (λ its. its ≡ s) → s ≡ Refused (of_words TooManyFiles most_files) → IsManyAnswer (ended result)
+pub many_answer : {T : Type 0} (result : Result T Status) (s : Status) → IsErrAnd result (λ its. its ≡ s) → s ≡ Refused (of_words TooManyFiles) → IsManyAnswer (ended result)
 many_answer result s is many =
     let p = err_from_is_err_and result is in
     rw (p.1, p.2, many) refl

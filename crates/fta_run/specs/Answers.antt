@@ -1,15 +1,16 @@
 -- What a run may answer, and what a sink took where it ended so.
 use Rattle.std.specs.Prelude.{◌≡◌, ◌≤◌, ◌⊎◌, ℕ, List, length, Option, Some, Result, Err, IsSome, IsOk, IsErrAnd, slice_get}
 use Rattle.std.specs.List.{AllByRecursion}
-use Rattle.aadl_syntax.specs.declared.refusal.Code.TheVariants.{TooManyFiles}
-use Rattle.aadl_syntax.specs.declared.refusal.Refusal.{Refusal}
+use Rattle.plain_values.specs.declared.refusal.Code.TheVariants.{TooManyFiles}
+use Rattle.plain_values.specs.declared.refusal.Refusal.{Refusal}
+use Rattle.plain_values.specs.Refusal.{of_words}
 use Rattle.phases.specs.Phases.{Passes, Stops}
 use Rattle.phases.specs.declared.status.Status.{Status}
 use Rattle.phases.specs.declared.status.Status.TheVariants.{Done, Usage, Refused, Constant, ReadFault, WriteFault, Memory}
 use Rattle.grammar_rules.specs.Texts.{syntax_error}
 use Rattle.fta_outside.specs.Outside.{Rose, TookPrefix, with_bytes}
 use Rattle.fta_run.specs.Words.{Command, Cuts, files_of, GiveCommand, GiveNoCommand, IsCommand, file_words}
-use Rattle.fta_run.specs.Files.{most_files, of_words}
+use Rattle.fta_run.specs.Files.{most_files}
 use Rattle.fta_run.specs.Due.{due}
 
 -- ---- what is due for the words and the contents of the files
@@ -98,7 +99,7 @@ IsCaused Memory words before after out_before out_after = Unit {0}
 abbrev pub IsManyAnswer : Status → Type 0
 IsManyAnswer Done = ⊥
 IsManyAnswer Usage = Unit {0}
-IsManyAnswer (Refused refusal) = refusal ≡ of_words TooManyFiles most_files
+IsManyAnswer (Refused refusal) = refusal ≡ of_words TooManyFiles
 IsManyAnswer (Constant always) = ⊥
 IsManyAnswer (ReadFault file) = ⊥
 IsManyAnswer WriteFault = ⊥

@@ -1,6 +1,6 @@
 -- What is due: from the bytes of the words and of the files to the text of a command, or to the status with which it ends.
 use Rattle.std.specs.Prelude.{ℕ, List, length, Option}
-use Rattle.aadl_syntax.specs.declared.name.Root.{Root}
+use Rattle.plain_values.specs.declared.name.Root.{Root}
 use Rattle.aadl_syntax.specs.declared.core_model.Unit.{Unit as FileUnit}
 use Rattle.phases.specs.Phases.{Phase, yields, tells, accepts, tests, answers, rejects, computes, finds, ◌>>=◌}
 use Rattle.phases.specs.declared.status.Status.TheVariants.{Usage}

@@ -1,11 +1,11 @@
 -- The contents of the files, and the refusals of their number, their lengths, their tokens and their grammar.
 use Rattle.std.specs.Prelude.{◌≡◌, ℕ, suc, ◌<◌, nat_lt, if◌then◌else◌, List, [], ◌∷◌, ◌++◌, ◌⊎◌, length, sum_by, get_or, Option, Some, IfSome, Contains, slice_get}
 use Rattle.std.specs.List.{AllZip}
-use Rattle.aadl_syntax.specs.declared.refusal.Code.{Code}
-use Rattle.aadl_syntax.specs.declared.refusal.Code.TheVariants.{FileTooLong, TooManyFiles, TooMuchText}
-use Rattle.aadl_syntax.specs.declared.refusal.Place.TheVariants.{Words, Whole}
-use Rattle.aadl_syntax.specs.declared.refusal.Refusal.{Refusal}
-use Rattle.aadl_syntax.specs.declared.refusal.Stop.TheVariants.{Refused}
+use Rattle.plain_values.specs.declared.refusal.Code.TheVariants.{FileTooLong, TooManyFiles, TooMuchText}
+use Rattle.plain_values.specs.declared.refusal.Place.TheVariants.{Whole}
+use Rattle.plain_values.specs.declared.refusal.Refusal.{Refusal}
+use Rattle.plain_values.specs.declared.refusal.Stop.TheVariants.{Refused}
+use Rattle.plain_values.specs.Refusal.{refusal, of_words}
 use Rattle.aadl_syntax.specs.declared.token.Token.{Token}
 use Rattle.aadl_syntax.specs.declared.core_model.Unit.{Unit as FileUnit}
 use Rattle.aadl_lexer.specs.Tokens.{IsFault, RefusedAs, Tokens}
@@ -30,17 +30,13 @@ most_text = 16777216
 abbrev pub MayContain : (List ℕ → Option (List ℕ)) → List (List ℕ) → List (List ℕ) → Type 0
 MayContain contents files texts = AllZip (λ file text. IfSome (contents file) (λ whole. text ≡ whole)) files texts
 
--- a refusal of the words, with its limit, or 0 where it has none
-abbrev pub of_words : Code → ℕ → Refusal
-of_words code limit = record { code = code; place = Words; limit = limit }
-
 -- M2: more files are named than may be.
 abbrev pub NamesTooMany : List (List ℕ) → Refusal → Type 0
-NamesTooMany files refusal = (most_files < length files) × (refusal ≡ of_words TooManyFiles most_files)
+NamesTooMany files refusal = (most_files < length files) × (refusal ≡ of_words TooManyFiles)
 
 -- the refusal of a file, by its number, that is too long
 abbrev pub too_long : ℕ → List ℕ → List Refusal
-too_long file text = if nat_lt most_bytes (length text) then record { code = FileTooLong; place = Whole file; limit = most_bytes } ∷ [] else []
+too_long file text = if nat_lt most_bytes (length text) then refusal FileTooLong (Whole file) ∷ [] else []
 
 -- the refusals of all files that are too long, where the first of them has this number
 abbrev pub too_long_from : ℕ → List (List ℕ) → List Refusal
@@ -53,7 +49,7 @@ HasTooLong texts = Contains (too_long_from 0 texts)
 
 -- M13: all files are too long together.
 abbrev pub HasTooMuch : List (List ℕ) → Refusal → Type 0
-HasTooMuch texts refusal = (most_text < sum_by length texts) × (refusal ≡ of_words TooMuchText most_text)
+HasTooMuch texts refusal = (most_text < sum_by length texts) × (refusal ≡ of_words TooMuchText)
 
 -- These are the tokens of each text, in order.
 abbrev pub AreTokens : List (List ℕ) → List (List Token) → Type 0

@@ -3,7 +3,6 @@ pub mod Due
 pub mod Files
 pub mod Line
 pub mod Model
-pub mod Shown
 pub mod Steps
 pub mod Text
 pub mod Trees

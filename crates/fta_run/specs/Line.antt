@@ -1,9 +1,9 @@
 -- The line that is written to the error stream.
 use Rattle.std.specs.Prelude.{ℕ, Bool, true, false, ◌==◌, if◌then◌else◌, List, [], ◌++◌, codes, decimal, unwrap_or, slice_get}
-use Rattle.aadl_syntax.specs.declared.refusal.Place.{Place}
-use Rattle.aadl_syntax.specs.declared.refusal.Place.TheVariants.{Words, Whole, At}
-use Rattle.aadl_syntax.specs.declared.refusal.Refusal.{Refusal}
-use Rattle.aadl_syntax.specs.Refusal.{code_text}
+use Rattle.plain_values.specs.declared.refusal.Place.{Place}
+use Rattle.plain_values.specs.declared.refusal.Place.TheVariants.{Words, Whole, At}
+use Rattle.plain_values.specs.declared.refusal.Refusal.{Refusal}
+use Rattle.plain_values.specs.Refusal.{code_text}
 use Rattle.phases.specs.declared.status.Status.{Status}
 use Rattle.phases.specs.declared.status.Status.TheVariants.{Done, Usage, Refused, Constant, ReadFault, WriteFault, Memory}
 

@@ -1,10 +1,10 @@
 -- The root in the packages of the files, the target, and the set after which a page begins.
 use Rattle.std.specs.Prelude.{◌≡◌, ℕ, List, Option, None, Some, Result, slice_get}
 use Rattle.aadl_syntax.specs.declared.core_model.Unit.{Unit as FileUnit}
-use Rattle.aadl_syntax.specs.declared.name.Root.{Root}
-use Rattle.aadl_syntax.specs.declared.refusal.Code.TheVariants.{BadToken, UnknownTarget}
-use Rattle.aadl_syntax.specs.declared.refusal.Place.TheVariants.{Words}
-use Rattle.aadl_syntax.specs.declared.refusal.Refusal.{Refusal}
+use Rattle.plain_values.specs.declared.name.Root.{Root}
+use Rattle.plain_values.specs.declared.refusal.Code.TheVariants.{BadToken, UnknownTarget}
+use Rattle.plain_values.specs.declared.refusal.Place.TheVariants.{Words}
+use Rattle.plain_values.specs.declared.refusal.Refusal.{Refusal}
 use Rattle.fault_system.specs.Systems.{System}
 use Rattle.fault_system.specs.declared.formula.FactInfo.{FactInfo}
 use Rattle.cutset_lister.specs.SetText.{IsSetOfText}
@@ -35,7 +35,7 @@ pub record IsFactNamed (system : System) (name : List ℕ) (number : ℕ) : Type
 
 -- T1: no fact has the name of the target.
 abbrev pub LacksTarget : System → List ℕ → Refusal → Type 0
-LacksTarget system target refusal = ((number : ℕ) → HasName system target number → ⊥) × (refusal ≡ of_words UnknownTarget 0)
+LacksTarget system target refusal = ((number : ℕ) → HasName system target number → ⊥) × (refusal ≡ of_words UnknownTarget)
 
 -- The set after which a page begins is the one that has the text that is given; none where no text is.
 abbrev pub IsStart : System → Option (List ℕ) → Option (List ℕ) → Type 0
@@ -44,4 +44,4 @@ IsStart system text start = Says (IsSetOfText system) text start
 -- K1: no set of events has the text that is given.
 abbrev pub LacksStart : System → Option (List ℕ) → Refusal → Type 0
 LacksStart system None refusal = ⊥
-LacksStart system (Some text) refusal = ((set : List ℕ) → IsSetOfText system text set → ⊥) × (refusal ≡ of_words BadToken 0)
+LacksStart system (Some text) refusal = ((set : List ℕ) → IsSetOfText system text set → ⊥) × (refusal ≡ of_words BadToken)

@@ -1,16 +1,17 @@
-ghost use Rattle.std.specs.Prelude.{◌≡◌, ◌<◌, ◌≤◌, ℕ, List, IfOk, IsErrOf, Result, Err, MatchResult, length};
+ghost use Rattle.std.specs.Prelude.{◌≡◌, ◌<◌, ◌≤◌, ℕ, List, IfOk, IsErrOf, Result, Err, length};
 ghost use Rattle.fta_outside.specs.Outside.{Rose, TookPrefix, with_bytes};
 ghost use Rattle.phases.specs.Phases.{IsDue};
 ghost use Rattle.phases.specs.Meets.{MeetsBut};
 ghost use Rattle.phases.specs.declared.status.Status.{Status as AnyStatus};
 ghost use Rattle.phases.specs.declared.status.Status.TheVariants.{Refused, Memory};
-ghost use Rattle.aadl_syntax.specs.declared.refusal.Code.TheVariants.{TooManyFiles};
+ghost use Rattle.plain_values.specs.declared.refusal.Code.TheVariants.{TooManyFiles};
+ghost use Rattle.plain_values.specs.Refusal.{of_words};
 ghost use Rattle.fta_words.specs.Shown.{command_shown};
 ghost use Rattle.model_phases.specs.Named.{IsPlainSystem};
 ghost use Rattle.fta_run.specs.Line.{status_line};
 ghost use Rattle.fta_run.specs.Answers.{AllTold, AnswersWords, BeginsWithMemory, IsCaused, IsJustified, IsManyAnswer, IsOutput, MayCome, Took};
 ghost use Rattle.fta_run.specs.Due.{check_text, command_text, cuts_text, due, model_of_files, tree_text};
-ghost use Rattle.fta_run.specs.Files.{most_files, of_words};
+ghost use Rattle.fta_run.specs.Files.{most_files};
 ghost use Rattle.fta_run.specs.Words.{Check, Command as AnyCommand, Cuts, GiveNoCommand, IsBuilt, IsCommand, Tree, file_words, files_of};
 ghost use Rattle.fta_run.specs.Steps.{IsReadEnd, Prints, Runs, RunsBut, ended};
 
@@ -21,12 +22,12 @@ use crate::model::{find_target, model_of_texts};
 use crate::text::write_numbers;
 use crate::trees::write_galileo;
 use crate::words::command_of;
-use aadl_syntax::{Name, Root, Word};
 use fault_system::FaultSystem;
 use fta_outside::{Files, Sink};
 use fta_words::{Command, Paging, file_words};
 use model_phases::FlatModel;
 use phases::Status;
+use plain_values::{List, Name, Root, Word};
 use std::alloc::Global;
 
 /// Runs the command that the words give, and says how it ended.
@@ -202,7 +203,7 @@ fn read_model<F: Files>(
 ) -> Result<FlatModel, Status>
     ensures meets { MeetsBut (IsReadEnd names.now (F.faults files.old) (F.faults files.new)) (λ model. model) (model_of_files (F.contents files.old) root.now names.now) result }
     ensures unread { most_files < length names.now → files.new ≡ files.old }
-    ensures many { most_files < length names.now → result ≡ Err (Refused (of_words TooManyFiles most_files)) }
+    ensures many { most_files < length names.now → result ≡ Err (Refused (of_words TooManyFiles)) }
     ensures plain { IfOk result (λ model. IsPlainSystem model.system) }
 {
     let texts = read_texts(alloc, files, names)?;

@@ -6,7 +6,6 @@ ghost use Rattle.phases.specs.declared.status.Status.TheVariants as any_status;
 ghost use Rattle.fta_outside.specs.Outside.{Rose, TookPrefix, with_bytes};
 ghost use Rattle.fault_system.specs.Listings.{IsListing};
 ghost use Rattle.backward_slice.specs.Slices.{IsSlice};
-ghost use Rattle.zdd_store.specs.Store.{Keeps};
 ghost use Rattle.cutset_lister.specs.Walks.{all_sets};
 ghost use Rattle.cutset_writer.specs.Pages.{IsReady};
 ghost use Rattle.cutset_writer.specs.Text.{listing_page};
@@ -14,17 +13,16 @@ ghost use Rattle.model_phases.specs.Named.{IsPlainSystem};
 ghost use Rattle.fta_run.specs.Due.{page_of, slice_of, start_of};
 ghost use Rattle.fta_run.specs.Steps.{Prints};
 
-use crate::text::WriteStop;
-use aadl_syntax::{List, Mem};
 use backward_slice::{Slice, slice};
 use cutset_engine::{family, in_slice};
 use cutset_lister::read_token;
 use cutset_writer::PageWriter;
 use dependency_blocks::blocks;
 use fault_system::FaultSystem;
-use fta_outside::Sink;
+use fta_outside::{Sink, WriteError};
 use fta_words::Paging;
 use phases::Status;
+use plain_values::{List, Mem};
 use std::alloc::Global;
 use zdd_store::Store;
 
@@ -97,12 +95,12 @@ fn write_listing<S: Sink>(
     start: &Option<List<u32>>,
     limit: Option<u32>,
     out: &mut S,
-) -> Result<(), WriteStop>
+) -> Result<(), WriteError>
     requires { IsReady system.now store.now writer }
     ensures whole { OnOk result (S.taken out.new ≡ with_bytes (S.taken out.old) (listing_page system.now start.now limit (all_sets store.now writer.listing))) }
     ensures prefix { OnErr result (TookPrefix (S.taken out.old) (S.taken out.new) (listing_page system.now start.now limit (all_sets store.now writer.listing))) }
     ensures failed { OnErr result (Rose (S.faults out.old) (S.faults out.new)) }
-    ensures only { IfErr result (λ stop. stop ≡ WriteStop.Failed) }
+    ensures only { IfErr result (λ stop. stop ≡ WriteError.Failed) }
 {
     writer.write(system, store, numbers_of(start), limit, out)?;
     Ok(())

@@ -1,8 +1,9 @@
 ghost use Rattle.std.specs.Prelude.{◌≡◌, ℕ, ◌^◌, ◌<◌, ◌≤◌, suc, List, [], MatchResult, IfOk, IfErr, IfSome, Err, ◌⊎◌, All, length, sum_by, take};
-ghost use Rattle.aadl_syntax.specs.declared.refusal.Refusal.{Refusal};
-ghost use Rattle.aadl_syntax.specs.declared.refusal.Code.TheVariants.{TooManyFiles};
-ghost use Rattle.aadl_syntax.specs.declared.refusal.Stop.TheVariants.{Refused};
-ghost use Rattle.aadl_syntax.specs.Order.{IsFirst, least, nearer};
+ghost use Rattle.plain_values.specs.declared.refusal.Refusal.{Refusal};
+ghost use Rattle.plain_values.specs.declared.refusal.Code.TheVariants.{TooManyFiles};
+ghost use Rattle.plain_values.specs.declared.refusal.Stop.TheVariants.{Refused};
+ghost use Rattle.plain_values.specs.Order.{IsFirst, least, nearer};
+ghost use Rattle.plain_values.specs.Refusal.{refusal};
 ghost use Rattle.aadl_lexer.specs.Tokens.{IsFault, RefusedAs, Tokens};
 ghost use Rattle.aadl_parser.specs.Files.{StopsAt};
 ghost use Rattle.phases.specs.Meets.{Meets, MeetsBut};
@@ -13,9 +14,10 @@ ghost use Rattle.fta_run.specs.Steps.{AreFronts, IsFileEnd, IsReadEnd};
 
 use aadl_lexer::tokens;
 use aadl_parser::units;
-use aadl_syntax::{Answer, Code, FirstRefusal, List, Name, Place, Refusal, TokenList, Unit, Word};
+use aadl_syntax::{TokenList, Unit};
 use fta_outside::{FileError, Files};
 use phases::Status;
+use plain_values::{Answer, Code, FirstRefusal, List, Name, Place, Refusal, Word};
 use std::alloc::Global;
 use std::marker::Model;
 
@@ -61,10 +63,10 @@ pub fn read_texts<F: Files>(alloc: Global, files: &mut F, names: &[Word]) -> Res
     ensures meets { MeetsBut (IsReadEnd names.now (F.faults files.old) (F.faults files.new)) (λ texts. texts) (texts_of (F.contents files.old) names.now) result }
     // Where too many are named, nothing is read, and that is the refusal.
     ensures unread { most_files < length names.now → files.new ≡ files.old }
-    ensures many { most_files < length names.now → result ≡ Err (Status.Refused (of_words TooManyFiles most_files)) }
+    ensures many { most_files < length names.now → result ≡ Err (Status.Refused (of_words TooManyFiles)) }
 {
     if names.len() > MOST_FILES {
-        return Err(Status::Refused(of_words(Code::TooManyFiles, MOST_FILES as u64)));
+        return Err(Status::Refused(Refusal::of_words(Code::TooManyFiles)));
     }
     let texts = read_files(alloc, files, names)?;
     check_each(texts.items())?;
@@ -129,11 +131,7 @@ fn note_too_long(first: &mut FirstRefusal, file: u32, text: &[u8])
     ensures { first.new ≡ nearer first.old (least (too_long file text.now)) }
 {
     if text.len() > MOST_BYTES {
-        first.note(Refusal {
-            code: Code::FileTooLong,
-            place: Place::Whole(file),
-            limit: MOST_BYTES as u64,
-        });
+        first.note(Refusal::new(Code::FileTooLong, Place::Whole(file)));
     }
 }
 
@@ -145,21 +143,10 @@ fn check_total(texts: &[Name]) -> Result<(), Refusal>
     for text in texts {
         total += text.items().len() as u64;
         if total > MOST_TEXT {
-            return Err(of_words(Code::TooMuchText, MOST_TEXT));
+            return Err(Refusal::of_words(Code::TooMuchText));
         }
     }
     Ok(())
-}
-
-/// A refusal of the words, with its limit, or 0 where it has none.
-pub fn of_words(code: Code, limit: u64) -> Refusal
-    ensures { result ≡ of_words code limit }
-{
-    Refusal {
-        code,
-        place: Place::Words,
-        limit,
-    }
 }
 
 /// The units of each text: it has tokens, is not nested too deep, and has a reading.

@@ -1,11 +1,12 @@
 ghost use Rattle.std.specs.Prelude.{◌≡◌, ◌++◌, codes, decimal};
+ghost use Rattle.plain_values.specs.Refusal.{refusal};
 ghost use Rattle.cutset_writer.specs.Written.{Writes};
 ghost use Rattle.fta_run.specs.Line.{constant_text, file_word, limit_text, place_text, refusal_text, status_line};
 
-use aadl_syntax::{Place, Refusal, Word};
 use fta_outside::{Sink, SinkFailed, write_all};
 use itoa::Buffer;
 use phases::Status;
+use plain_values::{Place, Refusal, Word};
 
 /// Writes the line of a status to the error stream, where these files are named; nothing where all went well. It takes no
 /// memory.

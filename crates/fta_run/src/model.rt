@@ -6,11 +6,12 @@ ghost use Rattle.fta_run.specs.Due.{model_of_texts, model_of_units, target_of};
 ghost use Rattle.fta_run.specs.Model.{HasName};
 
 use crate::input::{Texts, of_words, units_of_texts};
-use aadl_syntax::{Code, List, Name, Root, Unit, is_same};
+use aadl_syntax::Unit;
 use fault_system::FaultSystem;
 use model_phases::{FlatModel, flat_model};
 use package_index::Index;
 use phases::Status;
+use plain_values::{Code, List, Name, Refusal, Root, is_same};
 use std::alloc::Global;
 
 /// The model of the root in files of these texts.
@@ -39,7 +40,7 @@ pub fn find_target(system: &FaultSystem, name: &Name) -> Result<u32, Status>
             return Ok(number);
         }
     }
-    Err(Status::Refused(of_words(Code::UnknownTarget, 0)))
+    Err(Status::Refused(Refusal::of_words(Code::UnknownTarget)))
 }
 
 fn has_name(system: &FaultSystem, number: u32, name: &Name) -> bool

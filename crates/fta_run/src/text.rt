@@ -1,66 +1,12 @@
 ghost use Rattle.std.specs.Prelude.{◌≡◌, ◌++◌, IfOk, OnOk, OnErr, IsErrOf, length};
 ghost use Rattle.fta_outside.specs.Outside.{Rose, with_bytes, TookPrefix};
 ghost use Rattle.fta_run.specs.Text.{number_line, numbers_text};
-ghost use Rattle.fta_run.specs.declared.text.WriteStop.TheVariants.{Failed, Memory};
 
-use aadl_syntax::Mem;
 use fault_system::FaultSystem;
-use fta_outside::{Sink, SinkFailed, write_all};
-use galileo_writer::WriteError;
+use fta_outside::{Sink, WriteError, write_all};
 use itoa::Buffer;
-use phases::Status;
-use std::alloc::{AllocError, Global};
-
-/// Why a text was not written whole.
-#[derive(Clone, Copy, PartialEq, Eq)]
-pub enum WriteStop {
-    /// A write failed.
-    Failed,
-    /// Memory was wanting.
-    Memory,
-}
-
-impl From<AllocError> for WriteStop {
-    ghost from_gives = { λ _ e. e ≡ Memory };
-
-    fn from(_error: AllocError) -> WriteStop {
-        WriteStop::Memory
-    }
-}
-
-impl From<SinkFailed> for WriteStop {
-    ghost from_gives = { λ _ e. e ≡ Failed };
-
-    fn from(_error: SinkFailed) -> WriteStop {
-        WriteStop::Failed
-    }
-}
-
-impl From<WriteError> for WriteStop {
-    ghost use Rattle.fta_run.specs.Shown.{stop_of};
-
-    ghost from_gives = { λ error stop. stop ≡ stop_of error };
-
-    fn from(error: WriteError) -> WriteStop {
-        match error {
-            WriteError::Failed => WriteStop::Failed,
-            WriteError::Memory => WriteStop::Memory,
-        }
-    }
-}
-
-impl From<WriteStop> for Status {
-    ghost use Rattle.fta_run.specs.Shown.{status_shown};
-
-    ghost from_gives = { λ stop status. status ≡ status_shown stop };
-
-    fn from(stop: WriteStop) -> Status {
-        match stop {
-            WriteStop::Failed => Status::WriteFault,
-            WriteStop::Memory => Status::Memory,
-        }
-    }
-}
+use plain_values::Mem;
+use std::alloc::Global;
 
 /// Writes the lines of the numbers of components, facts and events, all at once.
 pub fn write_numbers<S: Sink>(
@@ -68,10 +14,10 @@ pub fn write_numbers<S: Sink>(
     components: u32,
     system: &FaultSystem,
     out: &mut S,
-) -> Result<(), WriteStop>
+) -> Result<(), WriteError>
     ensures whole { OnOk result (S.taken out.new ≡ with_bytes (S.taken out.old) (numbers_text components (length system.now.facts) (length system.now.events))) }
     ensures prefix { OnErr result (TookPrefix (S.taken out.old) (S.taken out.new) (numbers_text components (length system.now.facts) (length system.now.events))) }
-    ensures failed { IsErrOf result WriteStop.Failed → Rose (S.faults out.old) (S.faults out.new) }
+    ensures failed { IsErrOf result WriteError.Failed → Rose (S.faults out.old) (S.faults out.new) }
 {
     let text = numbers_text(alloc, components, system.facts(), system.events())?;
     write_all(out, text.as_slice())?;

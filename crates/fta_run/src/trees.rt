@@ -12,11 +12,10 @@ ghost use Rattle.fta_run.specs.Due.{galileo_of};
 ghost use Rattle.fta_run.specs.Steps.{Prints};
 ghost use Rattle.fta_run.specs.Trees.{IsTreeText};
 
-use crate::text::WriteStop;
 use backward_slice::Slice;
 use dependency_blocks::blocks;
 use fault_system::FaultSystem;
-use fta_outside::Sink;
+use fta_outside::{Sink, WriteError};
 use galileo_writer::write;
 use phases::Status;
 use property_reader::{Rate, conservative_rates};
@@ -63,14 +62,14 @@ fn write_text<S: Sink>(
     tree: &Tree,
     rates: &[Rate],
     out: &mut S,
-) -> Result<(), WriteStop>
+) -> Result<(), WriteError>
     requires made { IsWellMade system.now tree.now }
     requires names { HasTextNames system.now }
     requires conservative { rates.now ≡ replicate (length system.now.events) conservative_rate }
     requires numbers { AreRates system.now rates.now }
     ensures whole { OnOk result (S.taken out.new ≡ with_bytes (S.taken out.old) (tree_text system.now tree.now rates.now)) }
     ensures prefix { OnErr result (TookPrefix (S.taken out.old) (S.taken out.new) (tree_text system.now tree.now rates.now)) }
-    ensures failed { IsErrOf result WriteStop.Failed → Rose (S.faults out.old) (S.faults out.new) }
+    ensures failed { IsErrOf result WriteError.Failed → Rose (S.faults out.old) (S.faults out.new) }
     ensures text { (target : ℕ) → IsTreeFor system.now target tree.now → IsTreeText system.now target (tree_text system.now tree.now rates.now) }
 {
     write(alloc, system, tree, rates, out)?;

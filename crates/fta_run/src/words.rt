@@ -5,9 +5,9 @@ ghost use Rattle.phases.specs.declared.status.Status.TheVariants.{Usage};
 ghost use Rattle.fta_words.specs.Shown.{command_shown};
 ghost use Rattle.fta_run.specs.Words.{IsBuilt, IsCommand};
 
-use aadl_syntax::Word;
 use fta_words::{Command, WordsFault};
 use phases::Status;
+use plain_values::Word;
 use std::alloc::Global;
 
 /// The command that the words give; Usage where they give none that is built.

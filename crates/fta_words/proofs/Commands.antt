@@ -1,10 +1,9 @@
 -- Commands: the reading of their words, and that words are one command at most.
 use Rattle.std.proofs.Common.{◌≡◌, ℕ, Bool, true, false, if◌then◌else◌, List, [], ◌∷◌, ◌++◌, length, drop, ◌==◌, Option, Some, None, codes, refl, sym, ap, subst, ◌∙◌}
 use Rattle.std.specs.List.{AllByRecursion}
-use Rattle.std.proofs.lemmas.Bool.{false≢true}
-use Rattle.std.proofs.lemmas.Bool.{eq-eqb}
-use Rattle.aadl_syntax.specs.Name.{folded, is_same_text}
-use Rattle.aadl_syntax.specs.declared.name.Root.{Root}
+use Rattle.std.proofs.lemmas.Bool.{false≢true, eq-eqb}
+use Rattle.plain_values.specs.Name.{folded, is_same_text}
+use Rattle.plain_values.specs.declared.name.Root.{Root}
 use Rattle.fta_words.specs.declared.command.Command.{Command as CommandInCode}
 use Rattle.fta_words.specs.declared.command.Paging.{Paging}
 use Rattle.fta_words.specs.declared.kind.Kind.{Kind}

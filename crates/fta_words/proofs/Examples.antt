@@ -1,7 +1,7 @@
 -- Small command lines, worked.
 use Rattle.std.proofs.Common.{◌≡◌, ℕ, List, [], ◌∷◌, Some, None, true, codes, refl, arith}
 use Rattle.fta_words.specs.Reading.{values_of}
-use Rattle.aadl_syntax.specs.declared.name.Root.{Root}
+use Rattle.plain_values.specs.declared.name.Root.{Root}
 use Rattle.fta_words.proofs.AllKinds.{ascii_text}
 use Rattle.fta_words.proofs.Commands.{read_name, to_read}
 use Rattle.fta_words.proofs.Identifiers.{word_of}

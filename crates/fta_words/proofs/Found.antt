@@ -7,7 +7,7 @@ use Rattle.std.specs.Str.{bytes_eq}
 use Rattle.std.proofs.lemmas.Bool.{false≢true}
 use Rattle.std.proofs.lemmas.List.Folds.{find-append}
 use Rattle.std.proofs.lemmas.Slice.Eq.{bytes_eq-Decides}
-use Rattle.aadl_syntax.specs.Name.{is_same_text}
+use Rattle.plain_values.specs.Name.{is_same_text}
 use Rattle.clap.specs.Words.{Row, Shape, Text, built, first_of, is_simple, matches_of, one_of, takes}
 use Rattle.clap.specs.Walk.{Walk, arg_by_id, arg_by_long, finished, has_row, nothing_held, reading_by, walk, walk_from, walked, with_default, with_values, more_values, row_text}
 use Rattle.clap.specs.Takes.{default_passes, entered_passes, is_valid, settle_passes, walk_passes}

@@ -3,7 +3,7 @@ use Rattle.std.proofs.Common.{◌≡◌, ◌≤◌, ◌<◌, ℕ, Bool, true, fa
 use Rattle.std.specs.List.{AllByRecursion}
 use Rattle.std.specs.Cmp.{first_so, second_so}
 use Rattle.std.proofs.lemmas.Bool.{false≢true, cases_lt}
-use Rattle.aadl_syntax.specs.declared.name.Root.{Root}
+use Rattle.plain_values.specs.declared.name.Root.{Root}
 use Rattle.aadl_syntax.specs.Form.{IsWord, is_letter, is_letter_or_digit}
 use Rattle.fta_words.specs.Words.{AreJoined, IsRoot, dotted, with_colons}
 use Rattle.fta_words.specs.Naming.{Without}

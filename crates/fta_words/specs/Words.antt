@@ -1,8 +1,8 @@
 -- The words of the command line: a name, plain words, and options.
 use Rattle.std.specs.Prelude.{◌≡◌, ◌≢◌, ◌<◌, ◌≤◌, ◌↔◌, ◌+◌, ◌*◌, ◌-◌, ℕ, Bool, false, ◌==◌, if◌then◌else◌, List, [], ◌∷◌, ◌++◌, drop, length, map, fold, codes, Option, Some, None, IfSome, IsUtf8, Contains, slice_get}
 use Rattle.std.specs.List.{AllByRecursion, flat_map, join_with_byte, list_any}
-use Rattle.aadl_syntax.specs.Name.{folded, is_same_text}
-use Rattle.aadl_syntax.specs.declared.name.Root.{Root}
+use Rattle.plain_values.specs.Name.{folded, is_same_text}
+use Rattle.plain_values.specs.declared.name.Root.{Root}
 use Rattle.aadl_syntax.specs.Form.{IsWord}
 use Rattle.fta_words.specs.declared.command.Paging.{Paging}
 

@@ -3,7 +3,7 @@ ghost use Rattle.fta_words.specs.Words.{AreAll, AreChosen, IsReport};
 ghost use Rattle.fta_words.specs.Naming.{AreInOrder, NamesNoPlaces, NamesPlaces};
 
 use crate::text::split_once;
-use aadl_syntax::{List, Mem, Name, is_same};
+use plain_values::{List, Mem, Name, is_same};
 use std::alloc::{AllocError, Global};
 
 /// The places of the reports that a text names, in order, or of all where no text is given; none where the text is none of such

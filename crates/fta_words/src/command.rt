@@ -14,7 +14,7 @@ use crate::options::{Options, are_options};
 use crate::parsed::options_said;
 use crate::plain::{are_plain, texts_of};
 use crate::root::root_in;
-use aadl_syntax::{List, Mem, Name, Root, Word, fold};
+use plain_values::{List, Mem, Name, Root, Word, fold};
 use std::alloc::Global;
 
 /// What the words ask for.

@@ -1,7 +1,7 @@
 ghost use Rattle.std.specs.Prelude.{◌≡◌, ◌≤◌, length};
 ghost use Rattle.fta_words.specs.Words.{before_options, file_words, is_option, words_before_files};
 
-use aadl_syntax::{Word, is_same};
+use plain_values::{Word, is_same};
 
 /// The words that name files: those behind the first two of `check`, `fmea` and `make`, and behind the first three of any other,
 /// up to the first that begins with `-`.

@@ -2,7 +2,7 @@ ghost use Rattle.std.specs.Prelude.{◌≡◌, ◌↔◌, IsTrue, MatchOption, C
 ghost use Rattle.fta_words.specs.Reading.{flags_of, name_of, valued_of};
 ghost use Rattle.fta_words.specs.declared.kind.Kind.{Kind};
 
-use aadl_syntax::is_same;
+use plain_values::is_same;
 
 /// Which command is asked for.
 #[derive(Clone, Copy)]

@@ -6,7 +6,7 @@ ghost use Rattle.fta_words.specs.Reading.{HaveOptions, NoneStandsFirst, StandsFi
 use crate::kind::{Kind, has_flag, has_valued};
 use crate::plain::is_plain;
 use crate::text::split_once;
-use aadl_syntax::{Word, is_same};
+use plain_values::{Word, is_same};
 
 /// What the options say: a text where one with a value is given, and whether a flag is.
 #[derive(Drop)]

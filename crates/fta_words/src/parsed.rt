@@ -4,9 +4,9 @@ ghost use Rattle.fta_words.specs.Parsed.{StandIn, all_flags, all_valued, flag_ru
 ghost use Rattle.fta_words.specs.Reading.{HaveOptions, Say, options_shown};
 
 use crate::options::Options;
-use aadl_syntax::Mem;
 use clap::error::ErrorKind;
 use clap::{Arg, ArgAction, ArgMatches, Command};
+use plain_values::Mem;
 use std::alloc::{AllocError, Global};
 
 /// What the options say, as `clap` reads their words.

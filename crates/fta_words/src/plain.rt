@@ -2,7 +2,7 @@ ghost use Rattle.std.specs.Prelude.{◌≡◌, ◌↔◌, IfOk, IsTrue, IsUtf8, 
 ghost use Rattle.std.specs.List.{AllByRecursion};
 ghost use Rattle.fta_words.specs.Words.{IsPlainWord};
 
-use aadl_syntax::{Mem, Word};
+use plain_values::{Mem, Word};
 use std::alloc::Global;
 
 /// Whether all words stand for themselves.

@@ -1,12 +1,12 @@
 ghost use Rattle.std.specs.Prelude.{◌≡◌, List, ℕ, Some, IfOk, IfSome};
 ghost use Rattle.std.specs.List.{AllByRecursion};
 ghost use Rattle.aadl_syntax.specs.Form.{IsWord};
-ghost use Rattle.aadl_syntax.specs.Name.{folded};
-ghost use Rattle.aadl_syntax.specs.declared.name.Root.{Root};
+ghost use Rattle.plain_values.specs.Name.{folded};
+ghost use Rattle.plain_values.specs.declared.name.Root.{Root};
 ghost use Rattle.fta_words.specs.Words.{AreJoined, IsRoot, NamesModel, with_colons};
 
 use crate::text::{is_identifier, split_once};
-use aadl_syntax::{List, Mem, Name, Root, Word, fold};
+use plain_values::{List, Mem, Name, Root, Word, fold};
 use std::alloc::Global;
 
 /// The root that a word stands for, if it does and there is a file.

@@ -4,18 +4,11 @@ use Rattle.std.specs.List.{flat_map}
 use Rattle.std.proofs.lemmas.Result.{MatchResult-weaker}
 use Rattle.std.proofs.lemmas.List.Concat.{flat_map-append}
 use Rattle.fta_outside.specs.Outside.{Rose, TookPrefix, with_bytes}
-use Rattle.fta_outside.proofs.Writing.{took_more, wrote_both}
+use Rattle.fta_outside.proofs.Writing.{rose_from, took_more, with_bytes-nil, wrote_both}
 use Rattle.galileo_writer.specs.Galileo.{Line, line_text}
 use Rattle.galileo_writer.specs.Written.{Writes}
-use Rattle.galileo_writer.specs.declared.error.WriteError.{WriteError}
-use Rattle.galileo_writer.specs.declared.error.WriteError.TheVariants.{Failed}
-
-with_bytes-nil : (t : Option (List ℕ)) → with_bytes t [] ≡ t
-with_bytes-nil None = refl
-with_bytes-nil (Some taken) = ap Some (append-nil taken)
-
-rose_from : (f g h : ℕ) → f ≤ g → Rose g h → Rose f h
-rose_from f g h grows rose = elim rose [ inl more ↦ inl (omega arith) | inr last ↦ inr last ]
+use Rattle.fta_outside.specs.declared.error.WriteError.{WriteError}
+use Rattle.fta_outside.specs.declared.error.WriteError.TheVariants.{Failed}
 
 -- nothing was written yet
 pub wrote_none : (t : Option (List ℕ)) → t ≡ with_bytes t []

@@ -2,7 +2,7 @@
 use Rattle.std.specs.Prelude.{ℕ, suc, ◌≡◌, false, ◌||◌, ◌&&◌, List, [], ◌∷◌, ◌++◌, length, map, codes, decimal, unwrap_or, slice_get, slice_index_or, All, Contains}
 use Rattle.std.specs.Option.{option_map}
 use Rattle.aadl_syntax.specs.Form.{IsNumber}
-use Rattle.aadl_syntax.specs.Name.{is_same_text}
+use Rattle.plain_values.specs.Name.{is_same_text}
 use Rattle.fault_system.specs.Truth.{NumberSet}
 use Rattle.fault_system.specs.Systems.{System}
 use Rattle.property_reader.specs.Rates.{conservative_rate}

@@ -1,8 +1,8 @@
 -- What a writer owes: what the sink took, and why it stopped.
 use Rattle.std.specs.Prelude.{◌≡◌, ◌≤◌, ℕ, Option, Result, MatchResult, List}
 use Rattle.fta_outside.specs.Outside.{Rose, TookPrefix, with_bytes}
-use Rattle.galileo_writer.specs.declared.error.WriteError.{WriteError}
-use Rattle.galileo_writer.specs.declared.error.WriteError.TheVariants.{Failed}
+use Rattle.fta_outside.specs.declared.error.WriteError.{WriteError}
+use Rattle.fta_outside.specs.declared.error.WriteError.TheVariants.{Failed}
 
 -- A sink took the whole text, or a front of it; where a write failed its count of faults rose.
 abbrev pub Writes : {T : Type 0} → Result T WriteError → List ℕ → Option (List ℕ) → Option (List ℕ) → ℕ → ℕ → Type 0

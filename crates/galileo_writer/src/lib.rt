@@ -1,11 +1,9 @@
 //! Static fault trees as Galileo texts, and what it means that such a text is true for a set of basic events.
 #![tactic(auto)]
 
-mod error;
 mod laws;
 mod lines;
 mod writing;
 
-pub use error::WriteError;
 pub use laws::{one_text, text_truth};
 pub use writing::write;

@@ -4,9 +4,9 @@ ghost use Rattle.std.specs.Prelude.{◌≡◌, ◌++◌, OnOk, decimal, map, opt
 ghost use Rattle.galileo_writer.specs.Galileo.{inputs_text, kind_text, line_text, rate_word, top_text};
 ghost use Rattle.galileo_writer.specs.TreeText.{event_line, event_name, fact_name, gate_line, gate_name, input_name, name_at, rate_of};
 
-use aadl_syntax::Mem;
 use fault_system::FaultSystem;
 use itoa::Buffer;
+use plain_values::Mem;
 use property_reader::{Rate, RateKind};
 use round_gates::{Gate, GateKind, Input, Tree};
 

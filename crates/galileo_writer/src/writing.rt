@@ -13,10 +13,9 @@ ghost use Rattle.galileo_writer.specs.Truth.{TextTrue};
 ghost use Rattle.galileo_writer.specs.TreeText.{AreRates, HasTextNames, event_line, gate_line, name_at, names_of, tree_galileo, tree_text};
 ghost use Rattle.galileo_writer.specs.Written.{Writes};
 
-use crate::error::WriteError;
 use crate::lines::{push_event, push_gate, push_top};
 use fault_system::FaultSystem;
-use fta_outside::{Sink, write_all};
+use fta_outside::{Sink, WriteError, write_all};
 use property_reader::Rate;
 use round_gates::{Gate, Tree};
 use std::alloc::Global;

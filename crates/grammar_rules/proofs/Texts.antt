@@ -1,8 +1,8 @@
 -- The reading of a whole text.
 use Rattle.std.proofs.Common.{◌≡◌, ℕ, ◌-◌, List, [], length, Ok, Err, refl, sym, ◌∙◌, subst, arith}
 use Rattle.aadl_syntax.specs.declared.token.Token.{Token}
-use Rattle.aadl_syntax.specs.declared.refusal.Stop.{Stop}
-use Rattle.aadl_syntax.specs.declared.refusal.Stop.TheVariants as stop
+use Rattle.plain_values.specs.declared.refusal.Stop.{Stop}
+use Rattle.plain_values.specs.declared.refusal.Stop.TheVariants as stop
 use Rattle.grammar_rules.specs.declared.reader.ReadError.TheVariants.{Refused}
 use Rattle.grammar_rules.specs.declared.reader.Reader.{Reader}
 use Rattle.grammar_rules.specs.Rules.{Rule, gives, ends, joins, Reads, Dead}

@@ -1,7 +1,7 @@
 -- Tests of tokens, and the rules that take one token.
 use Rattle.std.specs.Prelude.{ℕ, Bool, true, false, not, ◌&&◌, if◌then◌else◌, List, Some, None, bytes_eq}
 use Rattle.std.specs.List.{list_any}
-use Rattle.aadl_syntax.specs.declared.place.Spot.{Spot}
+use Rattle.plain_values.specs.declared.spot.Spot.{Spot}
 use Rattle.aadl_syntax.specs.declared.token.TokenKind.{TokenKind}
 use Rattle.aadl_syntax.specs.declared.token.TokenKind.TheVariants.{Word, Number, Text, Sign, AnnexBegin, AnnexRaw, AnnexEnd}
 use Rattle.grammar_rules.specs.Rules.{Test, Rule, gives, gives_file, takes, sees, ◌>>=◌}

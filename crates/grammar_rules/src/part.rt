@@ -1,5 +1,5 @@
 use crate::reader::{ReadError, Reader};
-use aadl_syntax::List;
+use plain_values::List;
 
 /// Parts of which a text may have several, one after the other: a loop of the grammar.
 ///

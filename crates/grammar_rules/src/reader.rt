@@ -6,7 +6,8 @@ ghost use Rattle.std.specs.List.{list_any};
 ghost use Rattle.grammar_rules.specs.Reader.{Gives};
 ghost use Rattle.grammar_rules.specs.Tokens.{is_kind, is_word, is_sign, is_identifier, is_one_of, spot};
 
-use aadl_syntax::{Identifier, Mem, Spot, TokenKind, TokenList, TokenRef, TokenSlice};
+use aadl_syntax::{Identifier, TokenKind, TokenList, TokenRef, TokenSlice};
+use plain_values::{Mem, Spot};
 use std::alloc::{AllocError, Global};
 
 /// Why a reading stopped.

@@ -1,12 +1,13 @@
 ghost use Rattle.std.specs.Prelude.{◌≡◌, ◌-◌, ℕ, List, [], IfOk, IfErr, MatchResult, length};
 ghost use Rattle.aadl_syntax.specs.declared.token.Token.{Token};
-ghost use Rattle.aadl_syntax.specs.declared.refusal.Stop.TheVariants.{Refused, Memory};
+ghost use Rattle.plain_values.specs.declared.refusal.Stop.TheVariants.{Refused, Memory};
 ghost use Rattle.grammar_rules.specs.Rules.{Reads, joins, ends, gives};
 ghost use Rattle.grammar_rules.specs.Reader.{Gives};
 ghost use Rattle.grammar_rules.specs.Texts.{StopsDead, syntax_error, token_place};
 
 use crate::reader::{ReadError, Reader};
-use aadl_syntax::{Answer, Code, Place, Refusal, Stop, TokenList};
+use aadl_syntax::TokenList;
+use plain_values::{Answer, Code, List, Refusal, Spot, Stop};
 use std::alloc::Global;
 
 /// A grammar of whole texts.
@@ -66,12 +67,7 @@ fn syntax_error(file: u32, tokens: &TokenList, end: u32, unseen: usize) -> Stop
 {
     let number = tokens.len().saturating_sub(unseen);
     let at = token_place(tokens, end, number);
-    let place = Place::At { file, at };
-    Stop::Refused(Refusal {
-        code: Code::Syntax,
-        place,
-        limit: 0,
-    })
+    Stop::Refused(Refusal::at(Code::Syntax, Spot { file, at }))
 }
 
 /// Where the token of this number starts, or the place of the end, in bytes.

@@ -1,9 +1,9 @@
 -- Small examples of the definitions, each proved by computing it.
 use Rattle.std.proofs.Common.{ℕ, ◌≡◌, List, [], ◌∷◌, codes, Option, Some, None, refl}
-use Rattle.aadl_syntax.specs.declared.refusal.Code.TheVariants.{TooDeep, UnknownClassifier}
-use Rattle.aadl_syntax.specs.declared.refusal.Place.TheVariants.{At}
+use Rattle.plain_values.specs.declared.refusal.Code.TheVariants.{TooDeep, UnknownClassifier}
+use Rattle.plain_values.specs.declared.refusal.Place.TheVariants.{At}
 use Rattle.package_index.specs.declared.id.ClassifierId.{ClassifierId}
-use Rattle.package_index.specs.Lookup.{refusal}
+use Rattle.plain_values.specs.Refusal.{refusal}
 use Rattle.component_extension.specs.Chain.{chain_from}
 use Rattle.instantiator.specs.declared.path.Component.{Component}
 use Rattle.instantiator.specs.Components.{component_at, component_below, components_of, preorder}

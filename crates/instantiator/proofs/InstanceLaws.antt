@@ -4,14 +4,15 @@ use Rattle.std.specs.Option.{option_or}
 use Rattle.std.proofs.lemmas.Bool.Decides.{nat_tests}
 use Rattle.std.proofs.lemmas.List.{length-map}
 use Rattle.aadl_syntax.specs.declared.core_model.PackageUnit.{PackageUnit}
-use Rattle.aadl_syntax.specs.declared.refusal.Code.{Code}
-use Rattle.aadl_syntax.specs.declared.refusal.Code.TheVariants.{TooManyComponents, TooDeep}
-use Rattle.aadl_syntax.specs.declared.refusal.Place.{Place}
+use Rattle.plain_values.specs.declared.refusal.Code.{Code}
+use Rattle.plain_values.specs.declared.refusal.Code.TheVariants.{TooManyComponents, TooDeep}
+use Rattle.plain_values.specs.declared.refusal.Place.{Place}
+use Rattle.plain_values.specs.Refusal.{over_limit}
 use Rattle.package_index.specs.declared.id.ClassifierId.{ClassifierId}
 use Rattle.instantiator.specs.declared.draft.Draft.{Draft}
 use Rattle.instantiator.specs.declared.occurrence.Occurrence.{Occurrence}
 use Rattle.instantiator.specs.Components.{component_of, components_of, occurrences_of, preorder, root_of}
-use Rattle.instantiator.specs.Refused.{classifier_refusal, component_refusal, first_refusal, limit_refusal, over}
+use Rattle.instantiator.specs.Refused.{classifier_refusal, component_refusal, first_refusal, limit_refusal}
 use Rattle.instantiator.specs.Tables.{Grown, IsInstance, KnowsSteps, StepKey}
 use Rattle.instantiator.specs.Whole.{Kinds, ParentsComeFirst, PathsDiffer, kinds_of}
 use Rattle.instantiator.proofs.PathLaws.{parents-first, paths-differ}
@@ -22,9 +23,9 @@ pub or-none : {A : Type 0} (a b : Option A) → option_or a b ≡ None → (a �
 or-none None b none = (refl, none)
 or-none (Some a) b none = cc
 
-pub not-over : (b : Bool) (code : Code) (place : Place) (limit : ℕ) → over b code place limit ≡ None → b ≡ false
-not-over true code place limit none = cc
-not-over false code place limit none = refl
+pub not-over : (b : Bool) (code : Code) (place : Place) → over_limit b code place ≡ None → b ≡ false
+not-over true code place none = cc
+not-over false code place none = refl
 
 -- components of which none is refused are not too many
 few-from : (packages : List PackageUnit) (all : List Occurrence) (number : ℕ) → first_refusal packages number all ≡ None → number ≤ 4096 → number + length all ≤ 4096
@@ -32,8 +33,8 @@ few-from packages [] number none within = omega (arith, within)
 few-from packages (one ∷ all) number none within =
     let split = or-none (component_refusal packages number one) (first_refusal packages (number + 1) all) none in
     let limits = or-none (limit_refusal number one) (classifier_refusal packages one.classifier) split.0 in
-    let first = or-none (over (nat_le 4096 number) TooManyComponents one.place 4096) (over (nat_le 33 (length one.path)) TooDeep one.place 32) limits.0 in
-    let test = not-over (nat_le 4096 number) TooManyComponents one.place 4096 first.0 in
+    let first = or-none (over_limit (nat_le 4096 number) TooManyComponents one.place) (over_limit (nat_le 33 (length one.path)) TooDeep one.place) limits.0 in
+    let test = not-over (nat_le 4096 number) TooManyComponents one.place first.0 in
     let less : number < 4096 = grind (arith, nat_tests, test) in
     let rest = few-from packages all (number + 1) split.1 (omega (arith, less)) in
     omega (arith, rest)

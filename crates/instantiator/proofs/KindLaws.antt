@@ -6,19 +6,18 @@ use Rattle.std.proofs.lemmas.List.{length-map, map-append}
 use Rattle.std.proofs.lemmas.List.Folds.{list_any-append}
 use Rattle.std.proofs.lemmas.List.Quantifiers.{position-Some}
 use Rattle.aadl_syntax.specs.declared.core_model.PackageUnit.{PackageUnit}
-use Rattle.aadl_syntax.specs.declared.refusal.Refusal.{Refusal}
-use Rattle.aadl_syntax.specs.declared.refusal.Stop.{Stop}
-use Rattle.aadl_syntax.specs.declared.refusal.Stop.TheVariants.{Memory, Refused}
-use Rattle.aadl_syntax.specs.Order.{IsFirst, least}
-use Rattle.aadl_syntax.proofs.OrderLaws.{first_once, least-first}
+use Rattle.plain_values.specs.declared.refusal.Refusal.{Refusal}
+use Rattle.plain_values.specs.declared.refusal.Stop.{Stop}
+use Rattle.plain_values.specs.declared.refusal.Stop.TheVariants.{Memory, Refused}
+use Rattle.plain_values.specs.Order.{IsFirst, least}
+use Rattle.plain_values.proofs.OrderLaws.{first_once, least-first}
 use Rattle.package_index.specs.declared.id.ClassifierId.{ClassifierId}
-use Rattle.package_index.specs.Duplicates.{IsRefused}
+use Rattle.plain_values.specs.Stops.{StopsAtFirst, StopsAt}
 use Rattle.package_index.proofs.KnowsLaws.{some-place}
 use Rattle.component_extension.specs.Chain.{is_among, same_id}
 use Rattle.component_extension.specs.Items.{classifier_faults}
 use Rattle.instantiator.specs.declared.kinds.Kind.{Kind}
 use Rattle.instantiator.specs.declared.path.Component.{Component}
-use Rattle.instantiator.specs.Refused.{StopsAt}
 use Rattle.instantiator.specs.Tables.{AreKinds, Entered, kind_of}
 use Rattle.instantiator.specs.Whole.{Kinds, kind_number, kind_place, kinds_of, with_kind}
 use Rattle.instantiator.proofs.Lists.{get-last, place-new, place-there}
@@ -49,7 +48,7 @@ least-is group first None is empty =
 least-is group first (Some other) is other_is = ap Some (first_once (Contains group) other first other_is is)
 
 -- a refusal of a group that comes first is the least of it
-pub refused-stops : (group : List Refusal) (stop : Stop) → IsRefused (Contains group) stop → StopsAt (least group) stop
+pub refused-stops : (group : List Refusal) (stop : Stop) → StopsAtFirst (Contains group) stop → StopsAt (least group) stop
 refused-stops group Memory is = tt
 refused-stops group (Refused first) is = least-is group first (least group) is (least-first group)
 

@@ -9,7 +9,7 @@ use Rattle.std.proofs.lemmas.List.Elements.{recursion_from_All}
 use Rattle.std.proofs.lemmas.List.Folds.{list_any_at}
 use Rattle.std.proofs.lemmas.List.Quantifiers.{position-Some}
 use Rattle.std.proofs.Math.Seq.{map-set_same}
-use Rattle.aadl_syntax.specs.Name.{is_same_text}
+use Rattle.plain_values.specs.Name.{is_same_text}
 use Rattle.package_index.specs.Names.{is_same_name}
 use Rattle.package_index.proofs.KnowsLaws.{some-place}
 use Rattle.component_extension.specs.Members.{Class, Declared, Kind, Member, declarations, declare, marks_of, member_key, members_along, refined_by, stands}

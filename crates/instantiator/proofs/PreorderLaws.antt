@@ -4,16 +4,17 @@ use Rattle.std.specs.Option.{option_or}
 use Rattle.std.proofs.lemmas.List.{append-nil, length-map, map-append, take-append-drop, take_more}
 use Rattle.std.proofs.lemmas.Grind.{flat_map-append, fold-append}
 use Rattle.aadl_syntax.specs.declared.core_model.PackageUnit.{PackageUnit}
-use Rattle.aadl_syntax.specs.declared.refusal.Refusal.{Refusal}
-use Rattle.aadl_syntax.specs.declared.refusal.Stop.{Stop}
-use Rattle.aadl_syntax.specs.declared.refusal.Stop.TheVariants.{Memory, Refused}
+use Rattle.plain_values.specs.declared.refusal.Refusal.{Refusal}
+use Rattle.plain_values.specs.declared.refusal.Stop.{Stop}
+use Rattle.plain_values.specs.declared.refusal.Stop.TheVariants.{Memory, Refused}
 use Rattle.package_index.specs.declared.id.ClassifierId.{ClassifierId}
 use Rattle.instantiator.specs.declared.draft.Draft.{Draft}
 use Rattle.instantiator.specs.declared.occurrence.Occurrence.{Occurrence}
 use Rattle.instantiator.specs.declared.path.Component.{Component}
 use Rattle.instantiator.specs.Components.{Part, component_of, found, occurrence_of, parts_of, preorder}
 use Rattle.instantiator.specs.Effectives.{effective_at}
-use Rattle.instantiator.specs.Refused.{StopsAt, component_refusal, first_refusal}
+use Rattle.plain_values.specs.Stops.{StopsAt}
+use Rattle.instantiator.specs.Refused.{component_refusal, first_refusal}
 use Rattle.instantiator.specs.Tables.{Added, Grown}
 use Rattle.instantiator.specs.Whole.{Kinds, with_kind, with_kinds}
 use Rattle.instantiator.proofs.Lists.{rest-less}

@@ -7,16 +7,17 @@ use Rattle.std.proofs.lemmas.Bool.Decides.{nat_tests}
 use Rattle.std.proofs.lemmas.List.{append_assoc, append-nil, length-take-le, take-append-drop}
 use Rattle.std.proofs.lemmas.List.Folds.{find-append}
 use Rattle.std.proofs.lemmas.Slice.Eq.{bytes_eq-Decides}
-use Rattle.aadl_syntax.specs.Name.{is_same_text}
+use Rattle.plain_values.specs.Name.{is_same_text}
 use Rattle.aadl_syntax.specs.declared.core_model.PackageUnit.{PackageUnit}
-use Rattle.aadl_syntax.specs.declared.refusal.Code.TheVariants.{TooManyComponents, TooDeep}
+use Rattle.plain_values.specs.declared.refusal.Code.TheVariants.{TooManyComponents, TooDeep}
+use Rattle.plain_values.specs.Refusal.{over_limit}
 use Rattle.package_index.specs.declared.id.ClassifierId.{ClassifierId}
 use Rattle.package_index.specs.Names.{is_same_name}
 use Rattle.instantiator.specs.declared.occurrence.Occurrence.{Occurrence}
 use Rattle.instantiator.specs.declared.path.Component.{Component}
 use Rattle.instantiator.specs.Components.{Part, component_of, found, occurrence_of, occurrences_in, occurrences_of, preorder, root_of}
 use Rattle.instantiator.specs.Reached.{AreReached, has_name, part_named, parts_at, reached}
-use Rattle.instantiator.specs.Refused.{classifier_refusal, component_refusal, first_refusal, instance_refusal, limit_refusal, over}
+use Rattle.instantiator.specs.Refused.{classifier_refusal, component_refusal, first_refusal, instance_refusal, limit_refusal}
 use Rattle.instantiator.proofs.Apart.{Apart, each-weaker}
 use Rattle.instantiator.proofs.InstanceLaws.{not-over, or-none}
 use Rattle.instantiator.proofs.MemberNames.{name-same, same-name}
@@ -153,8 +154,8 @@ module _ (packages : List PackageUnit) where
   shallow (one ∷ all) number none =
       let split = or-none (component_refusal packages number one) (first_refusal packages (number + 1) all) none in
       let limits = or-none (limit_refusal number one) (classifier_refusal packages one.classifier) split.0 in
-      let depth = or-none (over (nat_le 4096 number) TooManyComponents one.place 4096) (over (nat_le 33 (length one.path)) TooDeep one.place 32) limits.0 in
-      let test = not-over (nat_le 33 (length one.path)) TooDeep one.place 32 depth.1 in
+      let depth = or-none (over_limit (nat_le 4096 number) TooManyComponents one.place) (over_limit (nat_le 33 (length one.path)) TooDeep one.place) limits.0 in
+      let test = not-over (nat_le 33 (length one.path)) TooDeep one.place depth.1 in
       let short : length one.path ≤ 32 = grind (arith, nat_tests, test) in
       (short, shallow all (number + 1) split.1)
 

@@ -11,7 +11,7 @@ use Rattle.aadl_syntax.specs.declared.core_model.PackageUnit.{PackageUnit}
 use Rattle.aadl_syntax.specs.declared.core_model.Subcomponent.{Subcomponent}
 use Rattle.aadl_syntax.specs.declared.place.End.{End}
 use Rattle.aadl_syntax.specs.declared.place.Ref.{Ref}
-use Rattle.aadl_syntax.specs.declared.place.Spot.{Spot}
+use Rattle.plain_values.specs.declared.spot.Spot.{Spot}
 use Rattle.package_index.specs.declared.id.ClassifierId.{ClassifierId}
 
 -- ---- parts of a text
@@ -35,6 +35,7 @@ decl_at at name item extends = record {
   subcomponents = [];
   connections = [];
   clauses = [];
+  properties = [];
 }
 
 abbrev pub package_of : List ℕ → List Decl → PackageUnit

@@ -3,11 +3,12 @@ use Rattle.std.specs.Prelude.{ℕ, zero, suc, List, [], ◌∷◌, ◌++◌, map
 use Rattle.aadl_syntax.specs.declared.core_model.PackageUnit.{PackageUnit}
 use Rattle.aadl_syntax.specs.declared.core_model.Subcomponent.{Subcomponent}
 use Rattle.aadl_syntax.specs.declared.place.Ref.{Ref}
-use Rattle.aadl_syntax.specs.declared.refusal.Place.{Place}
-use Rattle.aadl_syntax.specs.declared.refusal.Place.TheVariants.{Words}
-use Rattle.aadl_syntax.specs.declared.refusal.Refusal.{Refusal}
+use Rattle.plain_values.specs.declared.refusal.Place.{Place}
+use Rattle.plain_values.specs.declared.refusal.Place.TheVariants.{Words}
+use Rattle.plain_values.specs.declared.refusal.Refusal.{Refusal}
 use Rattle.package_index.specs.declared.id.ClassifierId.{ClassifierId}
-use Rattle.package_index.specs.Lookup.{look_classifier, place_of, refused_at}
+use Rattle.package_index.specs.Lookup.{look_classifier, refused_at}
+use Rattle.plain_values.specs.Refusal.{place_of}
 use Rattle.package_index.specs.Names.{is_same_name}
 use Rattle.component_extension.specs.declared.effective.Effective.{Effective}
 use Rattle.component_extension.specs.Chain.{then_so}

@@ -1,7 +1,7 @@
 -- What the names of a path lead to, in words of effective subcomponents alone, and which of two paths comes first.
 use Rattle.std.specs.Prelude.{◌≡◌, ℕ, Bool, true, false, cond, nat_lt, IsTrue, List, [], ◌∷◌, find, position, AllPairs, Option, Some, None, option_and_then, option_map}
 use Rattle.std.specs.Option.{option_map_or}
-use Rattle.aadl_syntax.specs.Name.{is_same_text}
+use Rattle.plain_values.specs.Name.{is_same_text}
 use Rattle.aadl_syntax.specs.declared.core_model.PackageUnit.{PackageUnit}
 use Rattle.package_index.specs.declared.id.ClassifierId.{ClassifierId}
 use Rattle.package_index.specs.Names.{is_same_name}

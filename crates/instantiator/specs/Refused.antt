@@ -1,23 +1,15 @@
 -- What is refused of an instance: the first component in preorder of which anything is.
-use Rattle.std.specs.Prelude.{◌≡◌, ⊤, ℕ, ◌+◌, Bool, true, false, nat_le, List, [], ◌∷◌, length, Option, Some, None, Result, Ok, Err}
+use Rattle.std.specs.Prelude.{◌≡◌, ⊤, ℕ, ◌+◌, nat_le, List, [], ◌∷◌, length, Option, Some, None, Result, Ok, Err}
 use Rattle.std.specs.Option.{option_or}
 use Rattle.aadl_syntax.specs.declared.core_model.PackageUnit.{PackageUnit}
-use Rattle.aadl_syntax.specs.declared.refusal.Code.{Code}
-use Rattle.aadl_syntax.specs.declared.refusal.Code.TheVariants.{TooManyComponents, TooDeep}
-use Rattle.aadl_syntax.specs.declared.refusal.Place.{Place}
-use Rattle.aadl_syntax.specs.declared.refusal.Refusal.{Refusal}
-use Rattle.aadl_syntax.specs.declared.refusal.Stop.{Stop}
-use Rattle.aadl_syntax.specs.declared.refusal.Stop.TheVariants.{Memory, Refused}
-use Rattle.aadl_syntax.specs.Order.{least}
+use Rattle.plain_values.specs.declared.refusal.Code.TheVariants.{TooManyComponents, TooDeep}
+use Rattle.plain_values.specs.declared.refusal.Refusal.{Refusal}
+use Rattle.plain_values.specs.Order.{least}
+use Rattle.plain_values.specs.Refusal.{over_limit}
 use Rattle.package_index.specs.declared.id.ClassifierId.{ClassifierId}
 use Rattle.component_extension.specs.Items.{classifier_faults}
 use Rattle.instantiator.specs.declared.occurrence.Occurrence.{Occurrence}
 use Rattle.instantiator.specs.Components.{occurrences_of}
-
--- a refusal at this place, of a code with this limit, where it is exceeded
-abbrev pub over : Bool → Code → Place → ℕ → Option Refusal
-over true code place limit = Some (record { code = code; place = place; limit = limit })
-over false code place limit = None
 
 -- The first refusal of a classifier: that of its name where that is refused, and else the first of its chain and of its
 -- members.
@@ -29,7 +21,7 @@ classifier_refusal packages (Ok (Some id)) = least (classifier_faults packages i
 -- M4 where 4,096 components stand before this one, and M5 where its path has more than 32 names, both at its name
 abbrev pub limit_refusal : ℕ → Occurrence → Option Refusal
 limit_refusal number one =
-    option_or (over (nat_le 4096 number) TooManyComponents one.place 4096) (over (nat_le 33 (length one.path)) TooDeep one.place 32)
+    option_or (over_limit (nat_le 4096 number) TooManyComponents one.place) (over_limit (nat_le 33 (length one.path)) TooDeep one.place)
 
 -- The first refusal of the component of a number, which begins at 0: that of the limits, and then that of its classifier.
 abbrev pub component_refusal : List PackageUnit → ℕ → Occurrence → Option Refusal
@@ -43,8 +35,3 @@ first_refusal packages number (one ∷ more) = option_or (component_refusal pack
 -- The refusal of an instance: that of its first component in preorder that has one.
 abbrev pub instance_refusal : List PackageUnit → ClassifierId → Option Refusal
 instance_refusal packages root = first_refusal packages 0 (occurrences_of packages root)
-
--- It stops with this refusal, or for want of memory.
-abbrev pub StopsAt : Option Refusal → Stop → Type 0
-StopsAt refusal Memory = ⊤
-StopsAt refusal (Refused first) = refusal ≡ Some first

@@ -1,13 +1,15 @@
-ghost use Rattle.std.specs.Prelude.{◌≡◌, ◌≤◌, ◌∷◌, [], length, None, Some, IfOk, MatchResult, option_and_then, slice_get};
+ghost use Rattle.std.specs.Prelude.{◌≡◌, ◌≤◌, ◌∷◌, [], length, None, Some, IfOk, MatchResult};
 ghost use Rattle.instantiator.specs.Components.{found};
-ghost use Rattle.instantiator.specs.Refused.{StopsAt, component_refusal, limit_refusal, over};
+ghost use Rattle.plain_values.specs.Stops.{StopsAt};
+ghost use Rattle.plain_values.specs.Refusal.{refusal};
+ghost use Rattle.instantiator.specs.Refused.{component_refusal, limit_refusal};
 ghost use Rattle.instantiator.specs.Tables.{Added};
 
 use crate::kinds::Kinds;
 use crate::occurrence::{Meant, Occurrence};
 use crate::path::Component;
-use aadl_syntax::{Answer, Code, List, Place, Refusal};
 use package_index::{ClassifierId, Index};
+use plain_values::{Answer, Code, List, Refusal};
 use std::alloc::Global;
 
 /// The components of an instance so far, and their kinds.
@@ -57,16 +59,6 @@ fn within_limits(number: usize, one: &Occurrence<'_>) -> Result<(), Refusal>
     ensures within { MatchResult result (λ _. limit_refusal number one.now ≡ None) (λ refusal. limit_refusal number one.now ≡ Some refusal) }
     ensures short { IfOk result (λ _. length one.now.path ≤ 32) }
 {
-    over(number >= 4096, Code::TooManyComponents, one.place, 4096)?;
-    over(one.path.len() >= 33, Code::TooDeep, one.place, 32)
-}
-
-/// Refuses what exceeds the limit of a code.
-fn over(is_over: bool, code: Code, place: Place, limit: u64) -> Result<(), Refusal>
-    ensures { MatchResult result (λ _. over is_over code place limit ≡ None) (λ refusal. over is_over code place limit ≡ Some refusal) }
-{
-    if is_over {
-        return Err(Refusal { code, place, limit });
-    }
-    Ok(())
+    Refusal::over_limit(number >= 4096, Code::TooManyComponents, one.place)?;
+    Refusal::over_limit(one.path.len() >= 33, Code::TooDeep, one.place)
 }

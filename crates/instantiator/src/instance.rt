@@ -1,7 +1,8 @@
 ghost use Rattle.std.specs.Prelude.{◌≡◌, ◌≤◌, None, IfOk, IfErr, OnOk, length, map, option_and_then, option_copied, option_map, slice_get};
 ghost use Rattle.instantiator.specs.Components.{component_below};
 ghost use Rattle.instantiator.specs.Effectives.{effective_of};
-ghost use Rattle.instantiator.specs.Refused.{StopsAt, instance_refusal};
+ghost use Rattle.plain_values.specs.Stops.{StopsAt};
+ghost use Rattle.instantiator.specs.Refused.{instance_refusal};
 ghost use Rattle.instantiator.specs.Tables.{kind_of};
 ghost use Rattle.instantiator.specs.Whole.{ParentsComeFirst, PathsDiffer, classifier_at, instance_of, kind_number, kinds_of, parent_in, parent_of};
 
@@ -11,9 +12,10 @@ use crate::occurrence::Occurrence;
 use crate::path::{Component, Path};
 use crate::preorder::add_all;
 use crate::steps::{StepTable, Steps, numbers_of};
-use aadl_syntax::{Answer, Identifier, List};
+use aadl_syntax::Identifier;
 use component_extension::Effective;
 use package_index::{ClassifierId, Index};
+use plain_values::{Answer, List};
 use std::alloc::Global;
 use std::marker::Model;
 

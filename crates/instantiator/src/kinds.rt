@@ -1,15 +1,16 @@
-ghost use Rattle.std.specs.Prelude.{◌≡◌, ◌∷◌, ◌++◌, [], length, Some, None, IfOk, OnOk, MatchResult, map, option_copied, option_map, option_and_then, position, slice_get};
+ghost use Rattle.std.specs.Prelude.{◌≡◌, ◌∷◌, ◌++◌, [], length, Some, None, IfOk, OnOk, MatchResult, map, option_copied, option_map, option_and_then, slice_get};
 ghost use Rattle.component_extension.specs.Items.{classifier_faults};
 ghost use Rattle.instantiator.specs.Components.{parts_of};
 ghost use Rattle.instantiator.specs.Effectives.{effective_at, effective_of};
-ghost use Rattle.instantiator.specs.Refused.{StopsAt, classifier_refusal};
+ghost use Rattle.plain_values.specs.Stops.{StopsAt};
+ghost use Rattle.instantiator.specs.Refused.{classifier_refusal};
 ghost use Rattle.instantiator.specs.Tables.{Entered, kind_of};
 ghost use Rattle.instantiator.specs.Whole.{kind_place};
 
 use crate::occurrence::{Meant, Part, parts_of};
-use aadl_syntax::{Answer, List, Mem, Stop};
 use component_extension::Effective;
 use package_index::{ClassifierId, Index};
+use plain_values::{Answer, List, Mem, Stop};
 use std::alloc::Global;
 use std::collections::HashMap;
 use std::marker::Model;

@@ -1,10 +1,11 @@
-ghost use Rattle.std.specs.Prelude.{◌≡◌, ◌++◌, IfOk, OnOk, map, option_copied};
-ghost use Rattle.instantiator.specs.Components.{found, meant, occurrence_of, part_of, parts_of, root_of, stated_by};
+ghost use Rattle.std.specs.Prelude.{◌≡◌, ◌++◌, IfOk, map, option_copied};
+ghost use Rattle.instantiator.specs.Components.{meant, occurrence_of, part_of, parts_of, root_of, stated_by};
 
 use crate::path::Path;
-use aadl_syntax::{Identifier, List, Mem, Place, Ref, Refusal, Subcomponent};
+use aadl_syntax::{Identifier, Ref, Subcomponent};
 use component_extension::{Declaration, Inherited};
 use package_index::{ClassifierId, Index, place_of};
+use plain_values::{List, Mem, Place, Refusal};
 use std::alloc::Global;
 use std::marker::Model;
 
@@ -38,7 +39,7 @@ impl<'a> Part<'a> {
         let subcomponent = member.nearest().item();
         Part {
             name: &subcomponent.name,
-            place: place_of(subcomponent.spot),
+            place: subcomponent.spot.place(),
             classifier: stated_by(index, member.stated()),
         }
     }

@@ -1,7 +1,8 @@
 ghost use Rattle.std.specs.Prelude.{◌≡◌, ◌∷◌, ◌++◌, [], length, map, IfOk};
 
-use aadl_syntax::{Identifier, List, Mem};
+use aadl_syntax::Identifier;
 use package_index::ClassifierId;
+use plain_values::{List, Mem};
 use std::alloc::Global;
 use std::marker::Model;
 

@@ -1,11 +1,12 @@
 ghost use Rattle.std.specs.Prelude.{◌≡◌, ◌≤◌, ◌-◌, length, MatchResult};
 ghost use Rattle.instantiator.specs.Components.{preorder};
-ghost use Rattle.instantiator.specs.Refused.{StopsAt, first_refusal};
+ghost use Rattle.plain_values.specs.Stops.{StopsAt};
+ghost use Rattle.instantiator.specs.Refused.{first_refusal};
 ghost use Rattle.instantiator.specs.Tables.{Grown};
 
 use crate::draft::Draft;
 use crate::occurrence::Occurrence;
-use aadl_syntax::Answer;
+use plain_values::Answer;
 use std::alloc::Global;
 
 /// Adds a component and all that is below it, in preorder.

@@ -5,7 +5,8 @@ ghost use Rattle.instantiator.specs.Tables.{IsTree, KnowsSteps, same_step};
 ghost use Rattle.instantiator.specs.Whole.{ParentsComeFirst, PathsDiffer};
 
 use crate::path::Component;
-use aadl_syntax::{Identifier, Mem};
+use aadl_syntax::Identifier;
+use plain_values::Mem;
 use std::alloc::Global;
 use std::collections::HashMap;
 use std::marker::Model;

@@ -5,7 +5,7 @@ use Rattle.std.proofs.lemmas.List.{append-nil, get_or-replicate, get_or-set_othe
 use Rattle.std.proofs.lemmas.List.Folds.{list_any-append}
 use Rattle.std.proofs.lemmas.Grind.{flat_map-append, get_or-set_at}
 use Rattle.error_types.specs.Search.{is_number_in}
-use Rattle.error_types.specs.Types.{numbers_below}
+use Rattle.plain_values.specs.Numbered.{numbers_below}
 use Rattle.error_types.proofs.RowLaws.{filter-below}
 use Rattle.model_facts.specs.Steps.{Marks}
 

@@ -1,8 +1,7 @@
 -- Lists by number, and what stands apart in them.
 use Rattle.std.proofs.Common.{ℕ, zero, suc, ◌+◌, ◌≡◌, ◌<◌, Bool, true, false, cond, filter, List, [], ◌∷◌, slice_get, get_or, Some, refl, subst, arith}
 use Rattle.std.specs.List.{AllByRecursion}
-use Rattle.package_index.specs.Numbered.{numbered_from}
-use Rattle.error_types.specs.Types.{numbers_below}
+use Rattle.plain_values.specs.Numbered.{numbered_from, numbers_below}
 use Rattle.instantiator.proofs.Apart.{Apart, apart-append, each-append, each-weaker}
 
 -- ---- numbered parts

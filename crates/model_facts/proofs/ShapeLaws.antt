@@ -9,7 +9,7 @@ use Rattle.std.proofs.lemmas.List.Folds.{list_any_at}
 use Rattle.std.proofs.lemmas.List.Quantifiers.{all_pairs_push, position-Some}
 use Rattle.std.proofs.lemmas.Slice.Eq.{bytes_eq-Decides}
 use Rattle.std.proofs.Math.Seq.{map-set_same}
-use Rattle.aadl_syntax.specs.Name.{is_same_text}
+use Rattle.plain_values.specs.Name.{is_same_text}
 use Rattle.aadl_syntax.specs.declared.error_model.EventDecl.{EventDecl}
 use Rattle.aadl_syntax.specs.declared.error_model.Flow.{Flow}
 use Rattle.aadl_syntax.specs.declared.error_model.FlowKind.{FlowKind}
@@ -19,7 +19,7 @@ use Rattle.aadl_syntax.specs.declared.error_model.StateDecl.{StateDecl}
 use Rattle.aadl_syntax.specs.declared.error_model.StateRef.{StateRef}
 use Rattle.aadl_syntax.specs.declared.error_model.TypeSet.{TypeSet}
 use Rattle.package_index.specs.declared.id.ClassifierId.{ClassifierId}
-use Rattle.package_index.specs.Numbered.{numbered_from}
+use Rattle.plain_values.specs.Numbered.{numbered_from}
 use Rattle.package_index.proofs.KnowsLaws.{some-place}
 use Rattle.component_extension.specs.declared.effective.Effective.{Effective}
 use Rattle.component_extension.specs.Chain.{chain_of}
@@ -41,7 +41,7 @@ use Rattle.error_flows.specs.declared.meaning.FlowMeaning.TheVariants.{Event, St
 use Rattle.error_flows.specs.Flows.{flow_meaning, path_meaning, source_meaning}
 use Rattle.error_behavior.specs.declared.states.States.{States}
 use Rattle.error_behavior.specs.Machines.{Machine}
-use Rattle.error_behavior.specs.States.{events_of, keep_state, no_states, states_in, states_of}
+use Rattle.error_behavior.specs.States.{events_of, keep_state, no_states, states_of}
 use Rattle.error_behavior.specs.States as behavior
 use Rattle.instantiator.specs.Effectives.{chain_or_none, effective_of}
 use Rattle.instantiator.proofs.Apart.{Apart, AllPairs-from_Apart, apart-append, apart-flat_map, apart-unmap, each-all, each-append, each-map, each-weaker}

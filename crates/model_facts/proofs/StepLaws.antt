@@ -1,12 +1,11 @@
 -- Lists that grow step by step within a limit, and what is over it.
 use Rattle.std.proofs.Common.{ℕ, ◌+◌, ◌≡◌, ◌<◌, ◌≤◌, true, false, cond, List, [], ◌∷◌, ◌++◌, length, map, take, drop, get_or, Result, Ok, Err, refl, sym, ap, ◌∙◌, subst, add-one, arith}
 use Rattle.std.proofs.lemmas.List.{append-nil, append_assoc, length-append, length-map, length-take-le, map-append, take-append-drop, take_all, take_more}
-use Rattle.aadl_syntax.specs.declared.refusal.Code.{Code}
-use Rattle.aadl_syntax.specs.declared.refusal.Stop.{Stop}
-use Rattle.aadl_syntax.specs.declared.refusal.Stop.TheVariants.{Memory, Refused}
-use Rattle.package_index.specs.Numbered.{numbered_from}
+use Rattle.plain_values.specs.declared.refusal.Code.{Code}
+use Rattle.plain_values.specs.declared.refusal.Stop.{Stop}
+use Rattle.plain_values.specs.declared.refusal.Stop.TheVariants.{Memory, Refused}
+use Rattle.plain_values.specs.Numbered.{numbered_from, numbers_below}
 use Rattle.package_index.proofs.Loops.{numbered-more}
-use Rattle.error_types.specs.Types.{numbers_below}
 use Rattle.error_types.proofs.RowLaws.{length-below}
 use Rattle.propagation_points.specs.Points.{Point, side_of}
 use Rattle.propagation_points.specs.Uses.{side_types}

@@ -2,8 +2,7 @@
 use Rattle.std.specs.Prelude.{ℕ, Bool, true, false, cond, ◌&&◌, nat_eq, List, [], ◌∷◌, ◌++◌, map, length, position, Option}
 use Rattle.std.specs.Bool.{beq}
 use Rattle.std.specs.List.{list_any}
-use Rattle.package_index.specs.Numbered.{numbered_from}
-use Rattle.error_types.specs.Types.{numbers_below}
+use Rattle.plain_values.specs.Numbered.{numbered_from, numbers_below}
 use Rattle.propagation_points.specs.Points.{Point}
 use Rattle.propagation_points.specs.Uses.{side_types}
 use Rattle.error_flows.specs.declared.meaning.FlowMeaning.{FlowMeaning}

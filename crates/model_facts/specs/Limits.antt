@@ -1,9 +1,9 @@
 -- How many facts and events a model may have.
 use Rattle.std.specs.Prelude.{ℕ, nat_lt, List, length, Option}
-use Rattle.aadl_syntax.specs.declared.refusal.Code.TheVariants.{TooManyEvents, TooManyFacts}
-use Rattle.aadl_syntax.specs.declared.refusal.Place.TheVariants.{Words}
-use Rattle.aadl_syntax.specs.declared.refusal.Refusal.{Refusal}
-use Rattle.instantiator.specs.Refused.{over}
+use Rattle.plain_values.specs.declared.refusal.Code.TheVariants.{TooManyEvents, TooManyFacts}
+use Rattle.plain_values.specs.declared.refusal.Place.TheVariants.{Words}
+use Rattle.plain_values.specs.declared.refusal.Refusal.{Refusal}
+use Rattle.plain_values.specs.Refusal.{over_limit}
 use Rattle.model_facts.specs.Assembly.{Assembly, universe_of}
 use Rattle.model_facts.specs.Facts.{events_of, facts_of}
 use Rattle.model_facts.specs.declared.keys.EventKey.{EventKey}
@@ -19,7 +19,7 @@ most_events = 4096
 
 -- M6 where these facts are too many
 abbrev pub many_facts : List FactKey → Option Refusal
-many_facts facts = over (nat_lt most_facts (length facts)) TooManyFacts Words most_facts
+many_facts facts = over_limit (nat_lt most_facts (length facts)) TooManyFacts Words
 
 -- M6 where a model has too many facts
 abbrev pub facts_refusal : Assembly → Option Refusal
@@ -27,7 +27,7 @@ facts_refusal assembly = many_facts (facts_of assembly (universe_of assembly))
 
 -- M7 where these events are too many
 abbrev pub many_events : List EventKey → Option Refusal
-many_events events = over (nat_lt most_events (length events)) TooManyEvents Words most_events
+many_events events = over_limit (nat_lt most_events (length events)) TooManyEvents Words
 
 -- M7 where a model has too many events
 abbrev pub events_refusal : Assembly → Option Refusal

@@ -1,11 +1,10 @@
 -- What the functions that make the facts and the events of a model owe each other.
 use Rattle.std.specs.Prelude.{◌≡◌, ⊤, ℕ, ◌<◌, ◌≤◌, Bool, true, false, ◌||◌, List, ◌++◌, length, slice_index_or, Result, MatchResult}
-use Rattle.aadl_syntax.specs.declared.refusal.Code.{Code}
-use Rattle.aadl_syntax.specs.declared.refusal.Code.TheVariants.{TooManyEvents, TooManyFacts}
-use Rattle.aadl_syntax.specs.declared.refusal.Place.TheVariants.{Words}
-use Rattle.aadl_syntax.specs.declared.refusal.Refusal.{Refusal}
-use Rattle.aadl_syntax.specs.declared.refusal.Stop.{Stop}
-use Rattle.aadl_syntax.specs.declared.refusal.Stop.TheVariants.{Memory, Refused}
+use Rattle.plain_values.specs.declared.refusal.Code.{Code}
+use Rattle.plain_values.specs.declared.refusal.Code.TheVariants.{TooManyEvents, TooManyFacts}
+use Rattle.plain_values.specs.declared.refusal.Stop.{Stop}
+use Rattle.plain_values.specs.declared.refusal.Stop.TheVariants.{Memory, Refused}
+use Rattle.plain_values.specs.Refusal.{of_words}
 use Rattle.error_types.specs.Search.{is_number_in}
 use Rattle.model_facts.specs.Limits.{most_events, most_facts}
 use Rattle.model_facts.specs.declared.keys.EventKey.{EventKey}
@@ -15,10 +14,6 @@ use Rattle.model_facts.specs.declared.keys.FactKind.TheVariants.{Enters, Exits}
 
 -- ---- lists that are made
 
--- the refusal of a code for more items than there may be
-abbrev pub too_many : Code → ℕ → Refusal
-too_many code limit = record { code = code; place = Words; limit = limit }
-
 -- These items stand behind those that were there, and the list is within the limit if it was so.
 pub record Grows {Item : Type 0} (limit : ℕ) (old new items : List Item) : Type 0 where
   pub is : new ≡ old ++ items
@@ -27,7 +22,7 @@ pub record Grows {Item : Type 0} (limit : ℕ) (old new items : List Item) : Typ
 -- There are more items than there may be, and that is the refusal; or memory was wanting.
 abbrev pub Exceeds : {Item : Type 0} → ℕ → Code → List Item → Stop → Type 0
 Exceeds limit code items Memory = ⊤
-Exceeds limit code items (Refused refusal) = (limit < length items) × (refusal ≡ too_many code limit)
+Exceeds limit code items (Refused refusal) = (limit < length items) × (refusal ≡ of_words code)
 
 -- These items are added to a list, or it stops since with them there are too many.
 abbrev pub Adds : {Item Done : Type 0} → ℕ → Code → List Item → List Item → List Item → Result Done Stop → Type 0

@@ -1,10 +1,10 @@
 ghost use Rattle.std.specs.Prelude.{◌≡◌, IfOk, map, option_copied, unwrap_or};
 ghost use Rattle.model_facts.specs.Assembly.{model_at, no_model, points_in};
 
-use aadl_syntax::{List, Mem};
 use error_models::ErrorModel;
 use error_types::TypeTable;
 use instantiator::Instance;
+use plain_values::{List, Mem};
 use propagation_links::Link;
 use propagation_points::Points;
 use std::alloc::Global;

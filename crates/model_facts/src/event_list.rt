@@ -1,7 +1,6 @@
 ghost use Rattle.std.specs.Prelude.{◌≡◌, ◌≤◌, ◌∷◌, [], length, map, MatchResult};
-ghost use Rattle.aadl_syntax.specs.declared.refusal.Code.TheVariants.{TooManyEvents};
-ghost use Rattle.error_types.specs.Types.{numbers_below};
-ghost use Rattle.package_index.specs.Numbered.{numbered_from};
+ghost use Rattle.plain_values.specs.declared.refusal.Code.TheVariants.{TooManyEvents};
+ghost use Rattle.plain_values.specs.Numbered.{numbers_below, numbered_from};
 ghost use Rattle.model_facts.specs.Assembly.{model_at};
 ghost use Rattle.model_facts.specs.Facts.{arrivals, event_in, events_of, model_events, source_events};
 ghost use Rattle.model_facts.specs.Limits.{most_events};
@@ -13,9 +12,9 @@ use crate::keys::{EventKey, EventKind};
 use crate::linked::LinkedSides;
 use crate::lists::push_within;
 use crate::sides::side_numbers;
-use aadl_syntax::{Answer, Code, List, Stop};
 use error_flows::FlowMeaning;
 use error_models::ErrorModel;
+use plain_values::{Answer, Code, List, Stop};
 use propagation_points::Point;
 use std::alloc::Global;
 

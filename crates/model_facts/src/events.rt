@@ -1,6 +1,6 @@
 ghost use Rattle.std.specs.Prelude.{◌≡◌, ◌<◌, ◌^◌, None, length, IfErr, IfOk, OnOk};
 ghost use Rattle.std.specs.HashMap.{get};
-ghost use Rattle.instantiator.specs.Refused.{StopsAt};
+ghost use Rattle.plain_values.specs.Stops.{StopsAt};
 ghost use Rattle.package_index.specs.Tables.{Knows};
 ghost use Rattle.model_facts.specs.Facts.{event_number, events_of, same_event};
 ghost use Rattle.model_facts.specs.Limits.{many_events};
@@ -8,8 +8,8 @@ ghost use Rattle.model_facts.specs.Limits.{many_events};
 use crate::assembly::Assembly;
 use crate::event_list::events_of;
 use crate::keys::EventKey;
-use aadl_syntax::{Answer, List, Mem};
 use package_index::add;
+use plain_values::{Answer, List, Mem};
 use std::alloc::Global;
 use std::collections::HashMap;
 use std::marker::Model;

@@ -1,7 +1,6 @@
 ghost use Rattle.std.specs.Prelude.{◌≡◌, ◌≤◌, ◌∷◌, [], length, map, MatchResult};
-ghost use Rattle.aadl_syntax.specs.declared.refusal.Code.TheVariants.{TooManyFacts};
-ghost use Rattle.error_types.specs.Types.{numbers_below};
-ghost use Rattle.package_index.specs.Numbered.{numbered_from};
+ghost use Rattle.plain_values.specs.declared.refusal.Code.TheVariants.{TooManyFacts};
+ghost use Rattle.plain_values.specs.Numbered.{numbers_below, numbered_from};
 ghost use Rattle.propagation_points.specs.Uses.{side_types};
 ghost use Rattle.model_facts.specs.Assembly.{model_at};
 ghost use Rattle.model_facts.specs.Facts.{fact_in, facts_of, model_facts, point_facts};
@@ -13,8 +12,8 @@ use crate::assembly::Assembly;
 use crate::keys::{FactKey, FactKind};
 use crate::lists::push_within;
 use crate::sides::side_numbers;
-use aadl_syntax::{Answer, Code, List, Stop};
 use error_models::ErrorModel;
+use plain_values::{Answer, Code, List, Stop};
 use propagation_points::{Point, Side};
 use std::alloc::Global;
 

@@ -3,7 +3,7 @@ ghost use Rattle.std.specs.HashSet.{contains};
 ghost use Rattle.model_facts.specs.Facts.{inward_of, is_linked};
 ghost use Rattle.model_facts.specs.Tables.{KnowsSides, same_side_key};
 
-use aadl_syntax::Mem;
+use plain_values::Mem;
 use propagation_links::Link;
 use std::alloc::Global;
 use std::collections::HashSet;

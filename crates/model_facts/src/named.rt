@@ -6,11 +6,12 @@ ghost use Rattle.model_facts.specs.Laws.{AreNamed, IsNamed, IsNamedFlow};
 
 use crate::assembly::Assembly;
 use crate::universe::count_types;
-use aadl_syntax::{Identifier, Mem};
+use aadl_syntax::Identifier;
 use error_flows::FlowMeaning;
 use error_models::ErrorModel;
 use error_types::TypeTable;
 use instantiator::Component;
+use plain_values::Mem;
 use propagation_points::Point;
 
 /// All names of which the names of facts and events are made are identifiers.

@@ -5,9 +5,10 @@ ghost use Rattle.model_facts.specs.Names.{at_point, event_key, event_name, fact_
 
 use crate::assembly::Assembly;
 use crate::keys::{EventKey, EventKind, FactKey, FactKind};
-use aadl_syntax::{Identifier, List, Mem, Name};
+use aadl_syntax::Identifier;
 use error_flows::FlowMeaning;
 use error_types::TypeTable;
+use plain_values::{List, Mem, Name};
 use propagation_points::Point;
 use std::alloc::Global;
 

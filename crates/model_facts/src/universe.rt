@@ -1,13 +1,13 @@
 ghost use Rattle.std.specs.Prelude.{◌≡◌, ◌∷◌, ◌++◌, [], cond, false, filter, flat_map, length, replicate, slice_index_or, IfOk, OnOk};
-ghost use Rattle.error_types.specs.Types.{numbers_below};
-ghost use Rattle.model_facts.specs.Assembly.{declared_numbers, model_numbers, point_numbers, universe_of};
+ghost use Rattle.plain_values.specs.Numbered.{numbers_below};
+ghost use Rattle.model_facts.specs.Assembly.{declared_numbers, point_numbers, universe_of};
 ghost use Rattle.model_facts.specs.Steps.{Marks};
 
 use crate::assembly::Assembly;
 use crate::sides::side_numbers;
-use aadl_syntax::{List, Mem};
 use error_models::ErrorModel;
 use error_types::TypeTable;
+use plain_values::{List, Mem};
 use propagation_points::Point;
 use std::alloc::{AllocError, Global};
 

@@ -1,8 +1,8 @@
 -- A model has one end at most, and stops with refusals alone.
 use Rattle.std.proofs.Common.{◌≡◌, List, Contains, sym, ◌∙◌}
 use Rattle.aadl_syntax.specs.declared.core_model.PackageUnit.{PackageUnit}
-use Rattle.aadl_syntax.specs.declared.refusal.Refusal.{Refusal}
-use Rattle.aadl_syntax.specs.Order.{IsFirst}
+use Rattle.plain_values.specs.declared.refusal.Refusal.{Refusal}
+use Rattle.plain_values.specs.Order.{IsFirst}
 use Rattle.package_index.specs.declared.id.ClassifierId.{ClassifierId}
 use Rattle.phases.specs.Phases.{IsDecided, IsRefusal}
 use Rattle.phases.specs.declared.status.Status.{Status}

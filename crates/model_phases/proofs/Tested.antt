@@ -2,22 +2,22 @@
 use Rattle.std.proofs.Common.{◌≡◌, ◌≤◌, ◌⊎◌, inl, inr, Contains, List, [], length, Option, Some, None, Result, refl, sym, subst, ◌∙◌, arith}
 use Rattle.std.specs.Prelude.{IsErrAnd}
 use Rattle.aadl_syntax.specs.declared.core_model.PackageUnit.{PackageUnit}
-use Rattle.aadl_syntax.specs.declared.refusal.Refusal.{Refusal}
-use Rattle.aadl_syntax.specs.declared.refusal.Stop.{Stop}
-use Rattle.aadl_syntax.specs.declared.refusal.Stop.TheVariants as stop
-use Rattle.aadl_syntax.proofs.OrderLaws.{first_alone}
-use Rattle.package_index.specs.Duplicates.{IsRefused}
+use Rattle.plain_values.specs.declared.refusal.Refusal.{Refusal}
+use Rattle.plain_values.specs.declared.refusal.Stop.{Stop}
+use Rattle.plain_values.specs.declared.refusal.Stop.TheVariants as stop
+use Rattle.plain_values.proofs.OrderLaws.{first_alone}
+use Rattle.plain_values.specs.Stops.{StopsAtFirst, StopsAt}
+use Rattle.plain_values.specs.Refusal.{refusal}
 use Rattle.phases.specs.Meets.{IsMemory, MeetsBut}
 use Rattle.phases.specs.Phases.{Phase, Passes, Stops, chains, tests}
 use Rattle.phases.specs.Stopped.{status_of}
 use Rattle.phases.specs.declared.status.Status.{Status}
 use Rattle.phases.proofs.Steps.{exits, meets_later}
 use Rattle.error_types.specs.Libraries.{HasTooManyTypes, declared_types, greatest_types, libraries_of}
-use Rattle.instantiator.specs.Refused.{StopsAt}
 use Rattle.model_phases.specs.Tests.{IsIt, MeetsTests}
 
 -- a group of refusals that stops a call
-pub group_stops : (Group : Refusal → Type 0) (why : Stop) → IsRefused Group why → Stops (tests Group) (status_of why) ⊎ IsMemory (status_of why)
+pub group_stops : (Group : Refusal → Type 0) (why : Stop) → StopsAtFirst Group why → Stops (tests Group) (status_of why) ⊎ IsMemory (status_of why)
 group_stops Group (stop.Refused refusal) first = inl (record { stopped = (refusal, first, refl) })
 group_stops Group stop.Memory first = inr refl
 

@@ -1,7 +1,8 @@
 ghost use Rattle.std.specs.Prelude.{◌≡◌, IfOk, IfErr, OnOk, None};
 ghost use Rattle.phases.specs.Meets.{Meets};
 ghost use Rattle.phases.specs.Phases.{tests};
-ghost use Rattle.instantiator.specs.Refused.{StopsAt, instance_refusal};
+ghost use Rattle.plain_values.specs.Stops.{StopsAt};
+ghost use Rattle.instantiator.specs.Refused.{instance_refusal};
 ghost use Rattle.instantiator.specs.Whole.{instance_of};
 ghost use Rattle.propagation_links.specs.Links.{links_of};
 ghost use Rattle.propagation_links.specs.Refused.{links_refusal};
@@ -12,7 +13,6 @@ ghost use Rattle.model_phases.specs.Phases.{flat_model, flat_phase};
 ghost use Rattle.model_phases.specs.Tests.{IsIt, MeetsTests};
 
 use crate::kinds::{Kinds, kinds_of};
-use aadl_syntax::{Answer, List};
 use fault_system::FaultSystem;
 use flattener::flatten;
 use instantiator::Instance;
@@ -21,6 +21,7 @@ use model_facts::{
 };
 use package_index::{ClassifierId, Index};
 use phases::Status;
+use plain_values::{Answer, List};
 use propagation_links::{Link, links_of};
 use std::alloc::Global;
 

@@ -7,12 +7,12 @@ ghost use Rattle.error_models.specs.Refused.{machines_refusal};
 ghost use Rattle.model_phases.specs.Phases.{content_tests, kind_tests};
 ghost use Rattle.model_phases.specs.Tests.{IsIt, MeetsTests};
 
-use aadl_syntax::List;
 use error_behavior::UsedMachine;
 use error_models::{ErrorModel, machines_of, models_of, test_sets};
 use error_types::TypeTable;
 use instantiator::Instance;
 use phases::Status;
+use plain_values::List;
 use std::alloc::Global;
 
 /// The error types of the packages of an instance, and the error model of each of its kinds, in order.

@@ -6,12 +6,13 @@ use Rattle.std.proofs.lemmas.List.{append-nil, append_assoc}
 use Rattle.std.proofs.lemmas.List.Folds.{Any-from_list_any, list_any-from_Any}
 use Rattle.std.proofs.lemmas.List.Elements.{Contains-append_cases, Contains-append_left, Contains-append_right}
 use Rattle.aadl_syntax.specs.declared.core_model.PackageUnit.{PackageUnit}
-use Rattle.aadl_syntax.specs.declared.place.Spot.{Spot}
-use Rattle.aadl_syntax.specs.declared.refusal.Code.TheVariants.{DuplicateUnit}
-use Rattle.aadl_syntax.specs.declared.refusal.Refusal.{Refusal}
-use Rattle.aadl_syntax.specs.Order.{IsClear, IsFirst}
+use Rattle.plain_values.specs.declared.spot.Spot.{Spot}
+use Rattle.plain_values.specs.declared.refusal.Code.TheVariants.{DuplicateUnit}
+use Rattle.plain_values.specs.declared.refusal.Refusal.{Refusal}
+use Rattle.plain_values.specs.Order.{IsClear, IsFirst}
 use Rattle.package_index.specs.Duplicates.{IsAgain, IsDuplicate, again_after, again_at, classifiers_again, duplicates, packages_again}
-use Rattle.package_index.specs.Lookup.{has_name, is_named, place_of, refusal}
+use Rattle.package_index.specs.Lookup.{has_name, is_named}
+use Rattle.plain_values.specs.Refusal.{place_of, refusal}
 
 module _ {A : Type 0} where
   none_in : (x : A) → Contains [] x → ⊥

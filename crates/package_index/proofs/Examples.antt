@@ -4,11 +4,12 @@ use Rattle.aadl_syntax.specs.declared.core_model.Alias.{Alias}
 use Rattle.aadl_syntax.specs.declared.core_model.Decl.{Decl}
 use Rattle.aadl_syntax.specs.declared.core_model.PackageUnit.{PackageUnit}
 use Rattle.aadl_syntax.specs.declared.core_model.Unit.TheVariants.{Package, PropertySet}
-use Rattle.aadl_syntax.specs.declared.place.Spot.{Spot}
-use Rattle.aadl_syntax.specs.declared.refusal.Code.TheVariants.{DuplicateUnit, UnknownClassifier, UnknownPackage}
-use Rattle.aadl_syntax.specs.declared.refusal.Place.TheVariants.{At}
+use Rattle.plain_values.specs.declared.spot.Spot.{Spot}
+use Rattle.plain_values.specs.declared.refusal.Code.TheVariants.{DuplicateUnit, UnknownClassifier, UnknownPackage}
+use Rattle.plain_values.specs.declared.refusal.Place.TheVariants.{At}
 use Rattle.package_index.specs.Duplicates.{duplicates}
-use Rattle.package_index.specs.Lookup.{look_classifier, look_package, packages_of, refusal}
+use Rattle.package_index.specs.Lookup.{look_classifier, look_package, packages_of}
+use Rattle.plain_values.specs.Refusal.{refusal}
 
 abbrev spot : ℕ → Spot
 spot at = record { file = 0; at = at }
@@ -25,6 +26,7 @@ type_at at name = record {
   subcomponents = [];
   connections = [];
   clauses = [];
+  properties = [];
 }
 
 abbrev implementation_at : ℕ → List ℕ → List ℕ → Decl

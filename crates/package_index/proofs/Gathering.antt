@@ -3,9 +3,9 @@ use Rattle.std.proofs.Common.{ℕ, ◌+◌, ◌≡◌, ◌<◌, List, [], ◌∷
 use Rattle.std.proofs.lemmas.List.{take_more, append-nil, append_assoc}
 use Rattle.std.proofs.lemmas.Grind.{flat_map-append}
 use Rattle.aadl_syntax.specs.declared.core_model.PackageUnit.{PackageUnit}
-use Rattle.aadl_syntax.specs.declared.refusal.Refusal.{Refusal}
-use Rattle.aadl_syntax.specs.Order.{IsClear, IsFirst, least, nearer}
-use Rattle.aadl_syntax.proofs.OrderLaws.{nearer-none, noted-more, noted-all}
+use Rattle.plain_values.specs.declared.refusal.Refusal.{Refusal}
+use Rattle.plain_values.specs.Order.{IsClear, IsFirst, least, nearer}
+use Rattle.plain_values.proofs.OrderLaws.{nearer-none, noted-more, noted-all}
 use Rattle.package_index.specs.Duplicates.{IsDuplicate, classifiers_again, duplicates, packages_again}
 use Rattle.package_index.specs.Tables.{Gathered}
 use Rattle.package_index.proofs.DuplicateLaws.{told}

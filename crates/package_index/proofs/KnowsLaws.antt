@@ -7,10 +7,10 @@ use Rattle.std.proofs.lemmas.List.Folds.{find_at}
 use Rattle.std.proofs.lemmas.Bool.{false≢true}
 use Rattle.std.proofs.lemmas.Iterator.Adapters.{position_from-zero}
 use Rattle.std.proofs.lemmas.List.{take_more, drop_all, take_all, length-take-le}
-use Rattle.aadl_syntax.specs.declared.place.Spot.{Spot}
-use Rattle.aadl_syntax.specs.declared.refusal.Refusal.{Refusal}
-use Rattle.aadl_syntax.specs.Order.{least, nearer}
-use Rattle.aadl_syntax.proofs.OrderLaws.{nearer-none, noted-more}
+use Rattle.plain_values.specs.declared.spot.Spot.{Spot}
+use Rattle.plain_values.specs.declared.refusal.Refusal.{Refusal}
+use Rattle.plain_values.specs.Order.{least, nearer}
+use Rattle.plain_values.proofs.OrderLaws.{nearer-none, noted-more}
 use Rattle.package_index.specs.Duplicates.{again_at, again_after}
 use Rattle.package_index.specs.Tables.{Added, Knows}
 

@@ -5,10 +5,10 @@ use Rattle.std.proofs.lemmas.List.{append-nil, append_assoc, drop_all, length-ta
 use Rattle.std.proofs.lemmas.List.Elements.{filter-append}
 use Rattle.std.proofs.lemmas.List.Folds.{list_any-append}
 use Rattle.std.proofs.lemmas.Grind.{flat_map-append, fold-append}
-use Rattle.aadl_syntax.specs.declared.refusal.Refusal.{Refusal}
-use Rattle.aadl_syntax.specs.Order.{least, nearer}
-use Rattle.aadl_syntax.proofs.OrderLaws.{nearer-none, noted-more}
-use Rattle.package_index.specs.Numbered.{numbered_from}
+use Rattle.plain_values.specs.declared.refusal.Refusal.{Refusal}
+use Rattle.plain_values.specs.Order.{least, nearer}
+use Rattle.plain_values.proofs.OrderLaws.{nearer-none, noted-more}
+use Rattle.plain_values.specs.Numbered.{numbered_from}
 
 or-none : (b : Bool) → (b || false) ≡ b
 or-none true = refl

@@ -3,13 +3,11 @@ use Rattle.std.specs.Prelude.{◌≡◌, ◌⊎◌, Any, Bool, true, List, [], �
 use Rattle.std.specs.List.{list_any}
 use Rattle.aadl_syntax.specs.declared.core_model.Decl.{Decl}
 use Rattle.aadl_syntax.specs.declared.core_model.PackageUnit.{PackageUnit}
-use Rattle.aadl_syntax.specs.declared.place.Spot.{Spot}
-use Rattle.aadl_syntax.specs.declared.refusal.Code.TheVariants.{DuplicateUnit}
-use Rattle.aadl_syntax.specs.declared.refusal.Refusal.{Refusal}
-use Rattle.aadl_syntax.specs.declared.refusal.Stop.{Stop}
-use Rattle.aadl_syntax.specs.declared.refusal.Stop.TheVariants.{Memory, Refused}
-use Rattle.aadl_syntax.specs.Order.{IsFirst}
-use Rattle.package_index.specs.Lookup.{has_name, is_named, place_of, refusal, refused_so}
+use Rattle.plain_values.specs.declared.spot.Spot.{Spot}
+use Rattle.plain_values.specs.declared.refusal.Code.TheVariants.{DuplicateUnit}
+use Rattle.plain_values.specs.declared.refusal.Refusal.{Refusal}
+use Rattle.package_index.specs.Lookup.{has_name, is_named}
+use Rattle.plain_values.specs.Refusal.{place_of, refusal, refused_so}
 
 -- N1 at a name, where its name was declared before
 abbrev pub again_at : Bool → Spot → List Refusal
@@ -54,8 +52,3 @@ IsSecondClassifier packages n1 = (unit : PackageUnit) × Contains packages unit 
 -- N1: a second package of a name, or a second classifier of a name in a package; at the later name.
 abbrev pub IsDuplicate : List PackageUnit → Refusal → Type 0
 IsDuplicate packages n1 = IsSecondClassifier packages n1 ⊎ IsSecondPackage packages n1
-
--- The first of a group of refusals, or want of memory.
-abbrev pub IsRefused : (Refusal → Type 0) → Stop → Type 0
-IsRefused Group Memory = ⊤
-IsRefused Group (Refused refusal) = IsFirst Group refusal

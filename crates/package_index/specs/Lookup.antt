@@ -2,18 +2,17 @@
 use Rattle.std.specs.Prelude.{ℕ, Bool, true, false, ◌&&◌, List, [], ◌∷◌, slice_get, find, position, flat_map, Option, Some, None, option_map, option_and_then, ok_or, Result, Ok, Err}
 use Rattle.std.specs.Option.{option_or}
 use Rattle.std.specs.Bool.{beq}
-use Rattle.aadl_syntax.specs.Name.{is_same_text}
+use Rattle.plain_values.specs.Name.{is_same_text}
 use Rattle.aadl_syntax.specs.declared.core_model.Alias.{Alias}
 use Rattle.aadl_syntax.specs.declared.core_model.Decl.{Decl}
 use Rattle.aadl_syntax.specs.declared.core_model.PackageUnit.{PackageUnit}
 use Rattle.aadl_syntax.specs.declared.core_model.Unit.{Unit}
 use Rattle.aadl_syntax.specs.declared.core_model.Unit.TheVariants.{Package, PropertySet}
-use Rattle.aadl_syntax.specs.declared.place.Spot.{Spot}
-use Rattle.aadl_syntax.specs.declared.refusal.Code.{Code}
-use Rattle.aadl_syntax.specs.declared.refusal.Code.TheVariants.{UnknownPackage, UnknownClassifier}
-use Rattle.aadl_syntax.specs.declared.refusal.Place.{Place}
-use Rattle.aadl_syntax.specs.declared.refusal.Place.TheVariants.{At}
-use Rattle.aadl_syntax.specs.declared.refusal.Refusal.{Refusal}
+use Rattle.plain_values.specs.declared.refusal.Code.{Code}
+use Rattle.plain_values.specs.declared.refusal.Code.TheVariants.{UnknownPackage, UnknownClassifier}
+use Rattle.plain_values.specs.declared.refusal.Place.{Place}
+use Rattle.plain_values.specs.declared.refusal.Refusal.{Refusal}
+use Rattle.plain_values.specs.Refusal.{refusal}
 use Rattle.package_index.specs.declared.id.ClassifierId.{ClassifierId}
 use Rattle.package_index.specs.Names.{front, is_same_name, is_same_item, last, only}
 
@@ -114,19 +113,6 @@ abbrev pub look_classifier : List PackageUnit → Option ℕ → List (List ℕ)
 look_classifier packages from names item = look_in packages (package_meant packages from (front names)) names item
 
 -- ---- refusals
-
--- a refusal of this code at this place
-abbrev pub refusal : Code → Place → Refusal
-refusal code place = record { code = code; place = place; limit = 0 }
-
--- the place of a name in a text
-abbrev pub place_of : Spot → Place
-place_of spot = At spot.file spot.at
-
--- a refusal at a name, where this is so
-abbrev pub refused_so : Bool → Code → Spot → List Refusal
-refused_so true code spot = refusal code (place_of spot) ∷ []
-refused_so false code spot = []
 
 -- what is found, or the refusal at this place
 abbrev pub refused_at : Place → Result ClassifierId Code → Result ClassifierId Refusal

@@ -2,7 +2,7 @@
 use Rattle.std.specs.Prelude.{ℕ, ◌-◌, Bool, List, [], ◌∷◌, length, take, slice_get, Option, Some, None}
 use Rattle.std.specs.Option.{option_eq}
 use Rattle.std.specs.Cmp.Lexicographic.{pointwise}
-use Rattle.aadl_syntax.specs.Name.{is_same_text}
+use Rattle.plain_values.specs.Name.{is_same_text}
 use Rattle.package_index.specs.declared.words.Words.{Words}
 use Rattle.package_index.specs.declared.words.Words.TheVariants.{Identifiers, Names}
 

@@ -8,8 +8,8 @@ use Rattle.aadl_syntax.specs.declared.core_model.Alias.{Alias}
 use Rattle.aadl_syntax.specs.declared.core_model.Decl.{Decl}
 use Rattle.aadl_syntax.specs.declared.core_model.PackageUnit.{PackageUnit}
 use Rattle.package_index.specs.declared.words.Words.{Words}
-use Rattle.aadl_syntax.specs.declared.refusal.Refusal.{Refusal}
-use Rattle.aadl_syntax.specs.Order.{least, nearer}
+use Rattle.plain_values.specs.declared.refusal.Refusal.{Refusal}
+use Rattle.plain_values.specs.Order.{least, nearer}
 use Rattle.package_index.specs.Duplicates.{classifiers_again}
 use Rattle.package_index.specs.Names.{is_same_name, names_of}
 use Rattle.package_index.specs.Lookup.{has_name, is_alias, is_named}

@@ -1,9 +1,11 @@
 ghost use Rattle.std.specs.Prelude.{◌≡◌, ◌<◌, ◌^◌, [], length, None, Some, option_copied, slice_get, IfOk, IfErr, IsSome, OnOk, flat_map};
 ghost use Rattle.std.specs.HashMap.{get};
-ghost use Rattle.aadl_syntax.specs.Order.{IsClear, least, nearer};
-ghost use Rattle.aadl_syntax.specs.declared.refusal.Place.TheVariants.{Words as InWords};
-ghost use Rattle.package_index.specs.Duplicates.{IsDuplicate, IsRefused, packages_again};
-ghost use Rattle.package_index.specs.Lookup.{aliased_in, classifier_in, declared_by, declared_in, declared_package, decl_of, look_classifier, look_in, look_package, package_alias, package_at, package_meant, package_of, packages_of, place_of, refused_at};
+ghost use Rattle.plain_values.specs.Order.{IsClear, least, nearer};
+ghost use Rattle.plain_values.specs.declared.refusal.Place.TheVariants.{Words as InWords};
+ghost use Rattle.package_index.specs.Duplicates.{IsDuplicate, packages_again};
+ghost use Rattle.plain_values.specs.Stops.{StopsAtFirst};
+ghost use Rattle.package_index.specs.Lookup.{aliased_in, classifier_in, declared_by, declared_in, declared_package, decl_of, look_classifier, look_in, look_package, package_alias, package_at, package_meant, package_of, packages_of, refused_at};
+ghost use Rattle.plain_values.specs.Refusal.{place_of};
 ghost use Rattle.package_index.specs.Names.{names_of};
 ghost use Rattle.package_index.specs.Tables.{Gathered, Knows, has_words, same_words};
 
@@ -12,10 +14,8 @@ use crate::package::Package;
 use crate::refusals::{note_if, place_of};
 use crate::table::add;
 use crate::words::{Words, text_of};
-use aadl_syntax::{
-    Answer, Code, Decl, FirstRefusal, Identifier, List, Mem, Name, PackageUnit, Place, Ref,
-    Refusal, Root, Unit,
-};
+use aadl_syntax::{Decl, Identifier, PackageUnit, Ref, Unit};
+use plain_values::{Answer, Code, FirstRefusal, List, Mem, Name, Place, Refusal, Root};
 use std::alloc::Global;
 use std::collections::HashMap;
 use std::marker::Model;
@@ -54,7 +54,7 @@ impl<'a> Index<'a> {
     pub fn new(alloc: Global, files: &'a [List<Unit>]) -> Answer<Index<'a>>
         ensures packages { IfOk result (λ index. index ≡ packages_of files.now) }
         ensures accepted { OnOk result (IsClear (IsDuplicate (packages_of files.now))) }
-        ensures refused { IfErr result (IsRefused (IsDuplicate (packages_of files.now))) }
+        ensures refused { IfErr result (StopsAtFirst (IsDuplicate (packages_of files.now))) }
     {
         let mut first = FirstRefusal::new();
         let packages = tables_of(alloc, files, &mut first)?;
@@ -79,7 +79,7 @@ impl<'a> Index<'a> {
     {
         let names = Words::Identifiers(reference.names.items());
         let found = self.look_classifier(Some(from), names, text_of(&reference.item));
-        refused_at(place_of(reference.spot), found)
+        refused_at(reference.spot.place(), found)
     }
 
     /// The classifier that the words of a command name. No package alias counts for it.
@@ -225,11 +225,7 @@ fn refused_at(place: Place, found: Result<ClassifierId, Code>) -> Result<Classif
 {
     match found {
         Ok(id) => Ok(id),
-        Err(code) => Err(Refusal {
-            code,
-            place,
-            limit: 0,
-        }),
+        Err(code) => Err(Refusal::new(code, place)),
     }
 }
 
@@ -304,7 +300,7 @@ fn numbers_of<'a>(
             Words::Identifiers(unit.name.items()),
             number as u32,
         )?;
-        note_if(first, !is_new, Code::DuplicateUnit, unit.spot);
+        first.note_if(!is_new, Code::DuplicateUnit, unit.spot);
     }
     Ok(table)
 }

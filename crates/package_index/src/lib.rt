@@ -4,13 +4,11 @@
 mod id;
 mod index;
 mod package;
-mod refusals;
 mod table;
 mod words;
 
 pub use id::ClassifierId;
 pub use index::Index;
 pub use package::Package;
-pub use refusals::{note_if, place_of, refusal};
 pub use table::add;
 pub use words::Words;

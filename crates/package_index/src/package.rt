@@ -1,6 +1,6 @@
 ghost use Rattle.std.specs.Prelude.{◌≡◌, ◌<◌, ◌^◌, length, IfOk, OnOk, option_copied, option_map, position, slice_get};
 ghost use Rattle.std.specs.HashMap.{get};
-ghost use Rattle.aadl_syntax.specs.Order.{least, nearer};
+ghost use Rattle.plain_values.specs.Order.{least, nearer};
 ghost use Rattle.package_index.specs.Duplicates.{classifiers_again};
 ghost use Rattle.package_index.specs.Lookup.{alias_in, declared, is_alias};
 ghost use Rattle.package_index.specs.Tables.{Knows, has_alias, has_key, same_alias_key, same_key};
@@ -8,7 +8,8 @@ ghost use Rattle.package_index.specs.Tables.{Knows, has_alias, has_key, same_ali
 use crate::refusals::note_if;
 use crate::table::add;
 use crate::words::text_of;
-use aadl_syntax::{Alias, Code, Decl, FirstRefusal, Identifier, Mem, PackageUnit};
+use aadl_syntax::{Alias, Decl, Identifier, PackageUnit};
+use plain_values::{Code, FirstRefusal, Mem};
 use std::alloc::Global;
 use std::collections::HashMap;
 use std::marker::Model;
@@ -22,7 +23,6 @@ pub struct Package<'a> {
 }
 
 impl<'a> Model for Package<'a> {
-    ghost use Rattle.std.specs.Prelude.{List};
     ghost use Rattle.aadl_syntax.specs.declared.core_model.PackageUnit.{PackageUnit};
     ghost use Rattle.std.specs.Coded.{codes};
     ghost use Rattle.aadl_syntax.specs.contracts.error_model.Condition as condition;
@@ -116,7 +116,7 @@ fn classifiers_of<'a>(
             (decl.name.text(), text_of(&decl.item)),
             number as u32,
         )?;
-        note_if(first, !is_new, Code::DuplicateUnit, decl.spot);
+        first.note_if(!is_new, Code::DuplicateUnit, decl.spot);
     }
     Ok(table)
 }

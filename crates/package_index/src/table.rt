@@ -2,7 +2,7 @@ ghost use Rattle.std.specs.Prelude.{IfOk};
 ghost use Rattle.std.specs.HashMap.{get};
 ghost use Rattle.package_index.specs.Tables.{Added};
 
-use aadl_syntax::Mem;
+use plain_values::Mem;
 use std::collections::HashMap;
 use std::hash::Hash;
 

@@ -7,7 +7,8 @@ ghost use Rattle.std.specs.Hash.{on_Alike, items_Alike, same_Alike};
 ghost use Rattle.std.proofs.lemmas.Bool.Decides.{Decides-eqb};
 ghost use Rattle.package_index.specs.Names.{front, is_same_name, last, names_of, only};
 
-use aadl_syntax::{Identifier, Name, is_same};
+use aadl_syntax::Identifier;
+use plain_values::{Name, is_same};
 use std::hash::{Hash, Hasher};
 
 /// Names with `::` between them, as they stand in a text or in the words of a command.

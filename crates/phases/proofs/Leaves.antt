@@ -1,8 +1,8 @@
 -- Phases of one step are decided where what passes them and why they stop is.
 use Rattle.std.proofs.Common.{◌≡◌, Result, Ok, Err, refl, sym, ◌∙◌, subst}
-use Rattle.aadl_syntax.specs.declared.refusal.Refusal.{Refusal}
-use Rattle.aadl_syntax.specs.Order.{IsClear, IsFirst}
-use Rattle.aadl_syntax.proofs.OrderLaws.{first_once}
+use Rattle.plain_values.specs.declared.refusal.Refusal.{Refusal}
+use Rattle.plain_values.specs.Order.{IsClear, IsFirst}
+use Rattle.plain_values.proofs.OrderLaws.{first_once}
 use Rattle.phases.specs.Phases.{IsDecidedStep, IsRefusal}
 use Rattle.phases.specs.declared.status.Status.{Status}
 use Rattle.phases.specs.declared.status.Status.TheVariants.{Refused}

@@ -2,7 +2,7 @@
 use Rattle.std.proofs.Common.{◌≡◌, ◌⊎◌, inl, inr, Result, Ok, Err, refl}
 use Rattle.std.specs.Prelude.{IsErrAnd}
 use Rattle.std.proofs.lemmas.Result.{err_from_is_err_and}
-use Rattle.aadl_syntax.specs.declared.refusal.Refusal.{Refusal}
+use Rattle.plain_values.specs.declared.refusal.Refusal.{Refusal}
 use Rattle.phases.specs.Phases.{Phase, yields, tells, chains, computes, Passes, Stops, IsRefusal}
 use Rattle.phases.specs.Meets.{IsMemory, MeetsBut}
 use Rattle.phases.specs.declared.status.Status.TheVariants.{Refused}

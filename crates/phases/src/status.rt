@@ -1,6 +1,7 @@
 ghost use Rattle.std.specs.Prelude.{◌≡◌};
 
-use aadl_syntax::{Refusal, Stop};
+use fta_outside::WriteError;
+use plain_values::{Refusal, Stop};
 use std::alloc::{AllocError, AllocFailed};
 
 /// How a run ended.
@@ -58,6 +59,19 @@ impl<T: Drop> From<AllocFailed<T>> for Status {
 
     fn from(_error: AllocFailed<T>) -> Status {
         Status::Memory
+    }
+}
+
+impl From<WriteError> for Status {
+    ghost use Rattle.phases.specs.Stopped.{status_of_write};
+
+    ghost from_gives = { λ error status. status ≡ status_of_write error };
+
+    fn from(error: WriteError) -> Status {
+        match error {
+            WriteError::Failed => Status::WriteFault,
+            WriteError::Memory => Status::Memory,
+        }
     }
 }
 

@@ -1,18 +1,7 @@
 -- What is found among the sets that have the chosen numbers and so many more.
 use Rattle.std.proofs.Common.{subst, ℕ, zero, suc, ◌+◌, ◌-◌, ◌≡◌, ◌≢◌, ◌<◌, ◌≤◌, Bool, true, false, cond, List, [], ◌∷◌, ◌++◌, length, map, filter, take, ap, ◌∙◌, sym, refl, arith, ap₂, add-one, append_assoc, append-nil, map-id, length-append}
-use Rattle.fault_system.specs.CutSets.{RisesWithin}
+use Rattle.plain_values.specs.Rising.{RisesWithin}
 use Rattle.fault_system.specs.Listings.{choose, rising_sets_up_to}
-
-pub rises-higher : (low a b : ℕ) (xs : List ℕ) → a ≤ b → RisesWithin low a xs → RisesWithin low b xs
-rises-higher low a b [] h r = tt
-rises-higher low a b (x ∷ xs) h r = (r.0, omega (arith, r.1), rises-higher (x + 1) a b xs h r.2)
-
-pub rises-push : (low next : ℕ) (xs : List ℕ) → low ≤ next → RisesWithin low next xs → RisesWithin low (next + 1) (xs ++ next ∷ [])
-rises-push low next [] h r = (h, omega arith, tt)
-rises-push low next (x ∷ xs) h r = (r.0, omega (arith, r.1), rises-push (x + 1) next xs (omega (arith, r.1)) r.2)
-
-pub rises-as : (low high : ℕ) (xs ys : List ℕ) → ys ≡ xs → RisesWithin low high xs → RisesWithin low high ys
-rises-as low high xs ys e = subst (RisesWithin low high) (sym e)
 
 module _ (p : List ℕ → Bool) where
   -- the sets that pass, among those that are `chosen` and `more` of the `count` numbers from next on

@@ -4,11 +4,12 @@
 #![tactic(auto)]
 
 ghost use Rattle.std.specs.Prelude.{◌≡◌, ◌+◌, ◌-◌, ◌<◌, ◌≤◌, ◌++◌, [], ◌∷◌, if◌then◌else◌, None, IfOk, OnOk, filter, length, map};
-ghost use Rattle.fault_system.specs.CutSets.{IsEventSet, RisesWithin, is_minimal};
+ghost use Rattle.fault_system.specs.CutSets.{IsEventSet, is_minimal};
+ghost use Rattle.plain_values.specs.Rising.{RisesWithin};
 ghost use Rattle.fault_system.specs.Listings.{IsListing, choose};
 
-use aadl_syntax::{List, Mem};
 use fault_system::{FaultSystem, computed_listing};
+use plain_values::{List, Mem};
 use std::alloc::Global;
 
 /// The listing of a target: its minimal cut sets, each a rising list of event numbers, fewer events first and then by

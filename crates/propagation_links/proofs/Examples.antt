@@ -4,10 +4,10 @@ use Rattle.aadl_syntax.specs.declared.core_model.Connection.{Connection}
 use Rattle.aadl_syntax.specs.declared.core_model.ConnectionKind.{ConnectionKind}
 use Rattle.aadl_syntax.specs.declared.core_model.ConnectionKind.TheVariants.{Plain, Access}
 use Rattle.aadl_syntax.specs.declared.error_model.UserPath.{UserPath}
-use Rattle.aadl_syntax.specs.declared.refusal.Code.TheVariants.{ConnectionError, FeatureGroup, UnknownEnd}
-use Rattle.aadl_syntax.specs.declared.refusal.Place.TheVariants.{At}
-use Rattle.aadl_syntax.specs.declared.refusal.Refusal.{Refusal}
-use Rattle.package_index.specs.Lookup.{refusal}
+use Rattle.plain_values.specs.declared.refusal.Code.TheVariants.{ConnectionError, FeatureGroup, UnknownEnd}
+use Rattle.plain_values.specs.declared.refusal.Place.TheVariants.{At}
+use Rattle.plain_values.specs.declared.refusal.Refusal.{Refusal}
+use Rattle.plain_values.specs.Refusal.{refusal}
 use Rattle.component_extension.specs.Chain.{chain_from}
 use Rattle.propagation_points.specs.declared.side.Side.TheVariants.{Absent, Declared}
 use Rattle.propagation_points.specs.Points.{Point}

@@ -4,7 +4,7 @@ use Rattle.std.specs.List.{AllByRecursion}
 use Rattle.aadl_syntax.specs.declared.core_model.Connection.{Connection}
 use Rattle.aadl_syntax.specs.declared.core_model.Ends.{Ends}
 use Rattle.aadl_syntax.specs.declared.error_model.UserPath.{UserPath}
-use Rattle.package_index.specs.Numbered.{numbered_from}
+use Rattle.plain_values.specs.Numbered.{numbered_from}
 use Rattle.component_extension.specs.declared.effective.Effective.{Effective}
 use Rattle.component_extension.specs.Items.{Scoped}
 use Rattle.component_extension.specs.Members.{Member}

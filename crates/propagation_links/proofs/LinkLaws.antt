@@ -4,17 +4,17 @@ use Rattle.std.specs.Option.{option_or}
 use Rattle.std.proofs.lemmas.List.Sums.{sum_by_push}
 use Rattle.std.proofs.lemmas.List.{append_assoc, append-nil, get_or_default, take-append-drop, take_all}
 use Rattle.aadl_syntax.specs.declared.core_model.PackageUnit.{PackageUnit}
-use Rattle.aadl_syntax.specs.declared.refusal.Refusal.{Refusal}
-use Rattle.aadl_syntax.specs.declared.refusal.Stop.{Stop}
-use Rattle.aadl_syntax.specs.declared.refusal.Stop.TheVariants.{Memory, Refused}
-use Rattle.aadl_syntax.specs.Order.{least}
+use Rattle.plain_values.specs.declared.refusal.Refusal.{Refusal}
+use Rattle.plain_values.specs.declared.refusal.Stop.{Stop}
+use Rattle.plain_values.specs.declared.refusal.Stop.TheVariants.{Memory, Refused}
+use Rattle.plain_values.specs.Order.{least}
 use Rattle.package_index.specs.declared.id.ClassifierId.{ClassifierId}
-use Rattle.package_index.specs.Numbered.{numbered_from}
+use Rattle.plain_values.specs.Numbered.{numbered_from}
 use Rattle.package_index.proofs.Loops.{numbered-more}
 use Rattle.component_extension.specs.declared.effective.Effective.{Effective}
 use Rattle.instantiator.specs.declared.path.Component.{Component}
 use Rattle.instantiator.specs.Effectives.{effective_at, effective_of, no_effective}
-use Rattle.instantiator.specs.Refused.{StopsAt}
+use Rattle.plain_values.specs.Stops.{StopsAt}
 use Rattle.instantiator.specs.Whole.{classifier_at, effective_in}
 use Rattle.propagation_links.specs.declared.link.Link.{Link}
 use Rattle.propagation_links.specs.Ends.{Pointed}

@@ -2,7 +2,7 @@
 use Rattle.std.specs.Prelude.{ℕ, Bool, true, false, cond, ◌&&◌, not, is_some, List, [], ◌∷◌, codes, slice_get, slice_index_or, Option, Some, None, option_and_then, option_map}
 use Rattle.std.specs.Option.{option_map_or, option_or}
 use Rattle.std.specs.List.{list_any}
-use Rattle.aadl_syntax.specs.Name.{is_same_text}
+use Rattle.plain_values.specs.Name.{is_same_text}
 use Rattle.aadl_syntax.specs.declared.core_model.ConnectionKind.{ConnectionKind}
 use Rattle.aadl_syntax.specs.declared.core_model.ConnectionKind.TheVariants.{Plain, Access, Group}
 use Rattle.package_index.specs.Names.{front, last, only}

@@ -5,20 +5,20 @@ use Rattle.aadl_syntax.specs.declared.core_model.Connection.{Connection}
 use Rattle.aadl_syntax.specs.declared.core_model.Ends.{Ends}
 use Rattle.aadl_syntax.specs.declared.error_model.UserPath.{UserPath}
 use Rattle.aadl_syntax.specs.declared.place.End.{End}
-use Rattle.aadl_syntax.specs.declared.refusal.Code.TheVariants.{ConnectionError, FeatureGroup, TooManyLinks, UnknownEnd}
-use Rattle.aadl_syntax.specs.declared.refusal.Place.TheVariants.{Words}
-use Rattle.aadl_syntax.specs.declared.refusal.Refusal.{Refusal}
-use Rattle.aadl_syntax.specs.Order.{least}
-use Rattle.package_index.specs.Lookup.{refused_so}
+use Rattle.plain_values.specs.declared.refusal.Code.TheVariants.{ConnectionError, FeatureGroup, TooManyLinks, UnknownEnd}
+use Rattle.plain_values.specs.declared.refusal.Place.TheVariants.{Words}
+use Rattle.plain_values.specs.declared.refusal.Refusal.{Refusal}
+use Rattle.plain_values.specs.Order.{least}
+use Rattle.plain_values.specs.Refusal.{refused_so}
 use Rattle.package_index.specs.Names.{front, last}
-use Rattle.package_index.specs.Numbered.{numbered_from}
+use Rattle.plain_values.specs.Numbered.{numbered_from}
 use Rattle.component_extension.specs.declared.effective.Effective.{Effective}
 use Rattle.component_extension.specs.Items.{Scoped}
 use Rattle.component_extension.specs.Members.{Member}
 use Rattle.propagation_points.specs.Points.{Point, place_named}
 use Rattle.instantiator.specs.declared.path.Component.{Component}
 use Rattle.instantiator.specs.Components.{component_below}
-use Rattle.instantiator.specs.Refused.{over}
+use Rattle.plain_values.specs.Refusal.{over_limit}
 use Rattle.instantiator.specs.Whole.{Instance, effective_in}
 use Rattle.propagation_links.specs.Ends.{Pointed, is_access, is_called_as_word, is_point_word, is_subcomponent, points_at}
 use Rattle.propagation_links.specs.Links.{ends_of, is_apart}
@@ -93,7 +93,7 @@ first_fault pointed = slice_get (numbered_from (component_fault pointed) 0 point
 
 -- M14 where there are more than 1,048,576 connections and user paths
 abbrev pub limit_refusal : Pointed → Option Refusal
-limit_refusal pointed = over (nat_le 1048577 (count_links pointed)) TooManyLinks Words 1048576
+limit_refusal pointed = over_limit (nat_le 1048577 (count_links pointed)) TooManyLinks Words
 
 -- The refusal of the links of an instance with these points: M14, and else that of the first component that has one.
 abbrev pub links_refusal : Instance → List (List Point) → Option Refusal

@@ -1,6 +1,6 @@
 -- What the steps of gathering links owe each other.
 use Rattle.std.specs.Prelude.{◌≡◌, ℕ, List, ◌++◌, None}
-use Rattle.aadl_syntax.specs.Order.{least}
+use Rattle.plain_values.specs.Order.{least}
 use Rattle.component_extension.specs.declared.effective.Effective.{Effective}
 use Rattle.propagation_links.specs.declared.link.Link.{Link}
 use Rattle.propagation_links.specs.Ends.{Pointed}

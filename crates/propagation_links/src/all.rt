@@ -1,19 +1,20 @@
 ghost use Rattle.std.specs.Prelude.{◌≡◌, ◌<◌, ◌^◌, None, Some, IfOk, IfErr, OnOk, MatchResult, map};
-ghost use Rattle.instantiator.specs.Refused.{StopsAt};
+ghost use Rattle.plain_values.specs.Stops.{StopsAt};
 ghost use Rattle.propagation_links.specs.Links.{links_of};
 ghost use Rattle.propagation_links.specs.Refused.{count_in, count_links, faults_in, first_fault, limit_refusal, links_refusal};
 ghost use Rattle.propagation_links.specs.Steps.{Linked, AllLinked};
 ghost use Rattle.instantiator.specs.Whole.{effective_in};
-ghost use Rattle.aadl_syntax.specs.Order.{least};
+ghost use Rattle.plain_values.specs.Order.{least};
+ghost use Rattle.plain_values.specs.Refusal.{refusal};
 
 use crate::counted::count_in;
 use crate::link::Link;
 use crate::links::add_links;
 use crate::pointed::Pointed;
 use crate::refused::note_faults;
-use aadl_syntax::{Answer, Code, FirstRefusal, List, Place, Refusal};
 use component_extension::Effective;
 use instantiator::Instance;
+use plain_values::{Answer, Code, FirstRefusal, List, Place, Refusal};
 use propagation_points::Points;
 use std::alloc::Global;
 
@@ -80,14 +81,11 @@ fn add_effective<'a>(
 fn within_limit(pointed: &Pointed) -> Result<(), Refusal>
     ensures { MatchResult result (λ _. limit_refusal pointed.now ≡ None) (λ refusal. limit_refusal pointed.now ≡ Some refusal) }
 {
-    if count_links(pointed) > 1_048_576 {
-        return Err(Refusal {
-            code: Code::TooManyLinks,
-            place: Place::Words,
-            limit: 1_048_576,
-        });
-    }
-    Ok(())
+    Refusal::over_limit(
+        count_links(pointed) > 1_048_576,
+        Code::TooManyLinks,
+        Place::Words,
+    )
 }
 
 /// How many connections and user paths all components have.

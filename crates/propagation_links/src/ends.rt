@@ -4,7 +4,8 @@ ghost use Rattle.package_index.specs.Names.{only};
 ghost use Rattle.propagation_links.specs.Ends.{access_end, access_or_none, connection_end, is_called_as_word, is_empty, is_point_word, is_subcomponent, path_end, point_of, point_or_access};
 
 use crate::pointed::Pointed;
-use aadl_syntax::{Identifier, is_same};
+use aadl_syntax::Identifier;
+use plain_values::is_same;
 use propagation_points::only_name;
 
 /// An end of a connection or a path: the point of this place in the list of a component, and whether that is the

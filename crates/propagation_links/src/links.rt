@@ -1,12 +1,13 @@
 ghost use Rattle.std.specs.Prelude.{◌≡◌, ◌++◌, OnOk, flat_map, option_copied};
 ghost use Rattle.propagation_links.specs.Ends.{is_access, path_end};
-ghost use Rattle.propagation_links.specs.Links.{begins_apart, connection_links, ends_of, from_side, is_apart, link_between, link_of, links_at_ends, links_between, links_both, links_in, path_links, to_side};
+ghost use Rattle.propagation_links.specs.Links.{begins_apart, connection_links, ends_of, from_side, is_apart, link_between, link_of, links_between, links_both, links_in, path_links, to_side};
 
 use crate::ends::FoundEnd;
 use crate::link::{Link, PointAt};
 use crate::pointed::Pointed;
-use aadl_syntax::{Connection, ConnectionKind, Ends, Identifier, List, Mem, UserPath, is_same};
+use aadl_syntax::{Connection, ConnectionKind, Ends, Identifier, UserPath};
 use component_extension::{Effective, InClause, Inherited};
+use plain_values::{List, Mem, is_same};
 
 /// Adds the links of the component of a number.
 pub(crate) fn add_links<'a>(

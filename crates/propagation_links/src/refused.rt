@@ -1,19 +1,20 @@
 ghost use Rattle.std.specs.Prelude.{◌≡◌, ◌++◌, true, flat_map};
-ghost use Rattle.aadl_syntax.specs.Order.{least, nearer};
-ghost use Rattle.aadl_syntax.specs.declared.refusal.Code.TheVariants.{ConnectionError};
-ghost use Rattle.package_index.specs.Lookup.{refused_so};
+ghost use Rattle.plain_values.specs.Order.{least, nearer};
+ghost use Rattle.plain_values.specs.declared.refusal.Code.TheVariants.{ConnectionError};
+ghost use Rattle.plain_values.specs.Refusal.{refused_so};
 ghost use Rattle.propagation_links.specs.Links.{is_apart};
-ghost use Rattle.propagation_links.specs.Refused.{connection_end_faults, connection_faults, ends_faults, faults_in, is_point, means_end, means_point, path_end_faults, path_faults, unknown_end};
+ghost use Rattle.propagation_links.specs.Refused.{connection_end_faults, connection_faults, faults_in, is_point, means_end, means_point, path_end_faults, path_faults, unknown_end};
 
 use crate::ends::is_point_word;
 use crate::links::{ends_of, is_access, is_apart};
 use crate::pointed::Pointed;
-use aadl_syntax::{Code, Connection, End, Ends, FirstRefusal, Identifier, Spot, UserPath};
+use aadl_syntax::{Connection, End, Ends, Identifier, UserPath};
 use component_extension::{Effective, InClause, Inherited};
 use package_index::note_if;
+use plain_values::{Code, FirstRefusal, Spot};
 
 /// Notes what is refused of the component of a number.
-#[tactic(auto, using(component_extension::proofs::Noting::noted_more))]
+#[tactic(auto, using(plain_values::proofs::Noting::noted_more))]
 pub(crate) fn note_faults<'a>(
     first: &mut FirstRefusal,
     pointed: &Pointed<'_, '_, 'a>,
@@ -64,7 +65,7 @@ fn note_connection<'a>(
     }
 }
 
-#[tactic(auto, using(component_extension::proofs::Noting::noted_more))]
+#[tactic(auto, using(plain_values::proofs::Noting::noted_more))]
 fn note_ends(first: &mut FirstRefusal, pointed: &Pointed, number: u32, access: bool, ends: &Ends)
     ensures { first.new ≡ nearer first.old (least (connection_end_faults pointed.now number access (is_apart ends.now) ends.now.from ++ connection_end_faults pointed.now number access (is_apart ends.now) ends.now.to)) }
 {
@@ -84,7 +85,7 @@ fn note_connection_end(
     ensures { first.new ≡ nearer first.old (least (connection_end_faults pointed.now number access apart end.now)) }
 {
     if end.names.items().len() >= 3 {
-        note_if(first, true, Code::FeatureGroup, end.spot);
+        first.note_if(true, Code::FeatureGroup, end.spot);
     } else if !apart {
         note_unknown(first, pointed, number, access, end);
     }
@@ -94,7 +95,7 @@ fn note_unknown(first: &mut FirstRefusal, pointed: &Pointed, number: u32, access
     ensures { first.new ≡ nearer first.old (least (unknown_end pointed.now number access end.now)) }
 {
     let is_known = pointed.means_end(number, access, end.names.items());
-    note_if(first, !is_known, Code::UnknownEnd, end.spot);
+    first.note_if(!is_known, Code::UnknownEnd, end.spot);
 }
 
 fn note_paths<'a>(
@@ -110,7 +111,7 @@ fn note_paths<'a>(
     }
 }
 
-#[tactic(auto, using(component_extension::proofs::Noting::noted_more))]
+#[tactic(auto, using(plain_values::proofs::Noting::noted_more))]
 fn note_path(first: &mut FirstRefusal, pointed: &Pointed, number: u32, path: &UserPath)
     ensures { first.new ≡ nearer first.old (least (path_end_faults pointed.now number path.now.from ++ path_end_faults pointed.now number path.now.to)) }
 {
@@ -122,7 +123,7 @@ fn note_path_end(first: &mut FirstRefusal, pointed: &Pointed, number: u32, end: 
     ensures { first.new ≡ nearer first.old (least (path_end_faults pointed.now number end.now)) }
 {
     let is_known = pointed.means_point(number, end.names.items());
-    note_if(first, !is_known, Code::UnknownEnd, end.spot);
+    first.note_if(!is_known, Code::UnknownEnd, end.spot);
 }
 
 /// Notes each block of connection errors.
@@ -130,7 +131,7 @@ fn note_connection_errors(first: &mut FirstRefusal, blocks: &[Spot])
     ensures { first.new ≡ nearer first.old (least (flat_map (refused_so true ConnectionError) blocks.now)) }
 {
     for spot in blocks {
-        note_if(first, true, Code::ConnectionError, *spot);
+        first.note_if(true, Code::ConnectionError, *spot);
     }
 }
 

@@ -4,8 +4,8 @@ use Rattle.aadl_syntax.specs.declared.core_model.Decl.{Decl}
 use Rattle.aadl_syntax.specs.declared.core_model.FeatureKind.TheVariants.{Inward, Outward, Both, Access}
 use Rattle.aadl_syntax.specs.declared.error_model.Atom.{Atom}
 use Rattle.aadl_syntax.specs.declared.error_model.TypeSet.{TypeSet}
-use Rattle.aadl_syntax.specs.declared.refusal.Code.TheVariants.{FeatureGroup, NotContained, UnknownPoint, UnknownTrigger}
-use Rattle.package_index.specs.Lookup.{place_of, refusal}
+use Rattle.plain_values.specs.declared.refusal.Code.TheVariants.{FeatureGroup, NotContained, UnknownPoint, UnknownTrigger}
+use Rattle.plain_values.specs.Refusal.{place_of, refusal}
 use Rattle.component_extension.specs.declared.effective.Effective.{Effective}
 use Rattle.error_types.specs.declared.scope.Scope.{Scope}
 use Rattle.error_types.specs.Search.{searched}

@@ -61,6 +61,7 @@ device_of name features clause = record {
   subcomponents = [];
   connections = [];
   clauses = clause ∷ [];
+  properties = [];
 }
 
 -- ---- the effective classifier of a device of the second package

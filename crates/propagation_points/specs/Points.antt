@@ -2,7 +2,7 @@
 use Rattle.std.specs.Prelude.{◌≢◌, ℕ, AllPairs, Bool, true, false, cond, ◌&&◌, not, List, [], ◌∷◌, ◌++◌, map, flat_map, fold, find, position, slice_get, Option, Some, None, is_none, option_map, option_and_then, codes}
 use Rattle.std.specs.Bool.{beq}
 use Rattle.std.specs.List.{list_any}
-use Rattle.aadl_syntax.specs.Name.{is_same_text}
+use Rattle.plain_values.specs.Name.{is_same_text}
 use Rattle.aadl_syntax.specs.declared.core_model.Feature.{Feature}
 use Rattle.aadl_syntax.specs.declared.core_model.FeatureKind.{FeatureKind}
 use Rattle.aadl_syntax.specs.declared.core_model.FeatureKind.TheVariants.{Inward, Outward, Both, Access, Group}
@@ -11,9 +11,9 @@ use Rattle.aadl_syntax.specs.declared.error_model.PointItem.{PointItem}
 use Rattle.aadl_syntax.specs.declared.error_model.PointRef.{PointRef}
 use Rattle.aadl_syntax.specs.declared.error_model.TypeSet.{TypeSet}
 use Rattle.aadl_syntax.specs.declared.error_model.UserPoint.{UserPoint}
-use Rattle.aadl_syntax.specs.declared.refusal.Code.TheVariants.{FeatureGroup, UnknownPoint}
-use Rattle.aadl_syntax.specs.declared.refusal.Refusal.{Refusal}
-use Rattle.package_index.specs.Lookup.{place_of, refusal, refused_so}
+use Rattle.plain_values.specs.declared.refusal.Code.TheVariants.{FeatureGroup, UnknownPoint}
+use Rattle.plain_values.specs.declared.refusal.Refusal.{Refusal}
+use Rattle.plain_values.specs.Refusal.{place_of, refusal, refused_so}
 use Rattle.package_index.specs.Names.{only}
 use Rattle.component_extension.specs.declared.effective.Effective.{Effective}
 use Rattle.component_extension.specs.Items.{Clause, Scoped}

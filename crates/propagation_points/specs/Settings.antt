@@ -1,6 +1,6 @@
 -- Where items stand that name points and states.
 use Rattle.std.specs.Prelude.{ℕ, List, slice_get, Option}
-use Rattle.aadl_syntax.specs.declared.refusal.Refusal.{Refusal}
+use Rattle.plain_values.specs.declared.refusal.Refusal.{Refusal}
 use Rattle.error_types.specs.declared.scope.Scope.{Scope}
 use Rattle.error_types.specs.Libraries.{Table}
 use Rattle.propagation_points.specs.declared.uses.ReachedPoint.{ReachedPoint}

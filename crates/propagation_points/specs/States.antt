@@ -1,11 +1,10 @@
 -- The names of the states and of the events of a component, and what refers to a state (EMV2: error behavior).
 use Rattle.std.specs.Prelude.{ℕ, List, ◌++◌, Option, is_none, option_map, position}
-use Rattle.aadl_syntax.specs.Name.{is_same_text}
+use Rattle.plain_values.specs.Name.{is_same_text}
 use Rattle.aadl_syntax.specs.declared.error_model.StateRef.{StateRef}
-use Rattle.aadl_syntax.specs.declared.refusal.Code.TheVariants.{Typed, UnknownState}
-use Rattle.aadl_syntax.specs.declared.refusal.Refusal.{Refusal}
-use Rattle.package_index.specs.Lookup.{refused_so}
-use Rattle.component_extension.specs.Members.{refused_there}
+use Rattle.plain_values.specs.declared.refusal.Code.TheVariants.{Typed, UnknownState}
+use Rattle.plain_values.specs.declared.refusal.Refusal.{Refusal}
+use Rattle.plain_values.specs.Refusal.{refused_so, refused_there}
 use Rattle.propagation_points.specs.Points.{keep_at}
 
 -- the number of a name among these: of the state, or of the event, that has it

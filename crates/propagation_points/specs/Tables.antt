@@ -3,7 +3,7 @@ use Rattle.std.specs.Prelude.{ℕ, Bool, false, ◌&&◌, List, Option, Some, No
 use Rattle.std.specs.Option.{option_or}
 use Rattle.std.specs.Bool.{beq}
 use denote.Ref.{Bor}
-use Rattle.aadl_syntax.specs.Name.{is_same_text}
+use Rattle.plain_values.specs.Name.{is_same_text}
 use Rattle.aadl_syntax.specs.declared.error_model.PointItem.{PointItem}
 use Rattle.package_index.specs.Tables.{Knows, same_text}
 use Rattle.component_extension.specs.Items.{Scoped}

@@ -4,12 +4,12 @@ use Rattle.std.specs.List.{list_any}
 use Rattle.aadl_syntax.specs.declared.error_model.Atom.{Atom}
 use Rattle.aadl_syntax.specs.declared.error_model.PointRef.{PointRef}
 use Rattle.aadl_syntax.specs.declared.error_model.TypeSet.{TypeSet}
-use Rattle.aadl_syntax.specs.declared.place.Spot.{Spot}
-use Rattle.aadl_syntax.specs.declared.refusal.Code.{Code}
-use Rattle.aadl_syntax.specs.declared.refusal.Code.TheVariants.{NotContained, UnknownPoint, UnknownTrigger}
-use Rattle.aadl_syntax.specs.declared.refusal.Refusal.{Refusal}
+use Rattle.plain_values.specs.declared.spot.Spot.{Spot}
+use Rattle.plain_values.specs.declared.refusal.Code.{Code}
+use Rattle.plain_values.specs.declared.refusal.Code.TheVariants.{NotContained, UnknownPoint, UnknownTrigger}
+use Rattle.plain_values.specs.declared.refusal.Refusal.{Refusal}
 use Rattle.package_index.specs.Names.{only}
-use Rattle.package_index.specs.Lookup.{refused_so}
+use Rattle.plain_values.specs.Refusal.{refused_so}
 use Rattle.error_types.specs.declared.scope.Scope.{Scope}
 use Rattle.error_types.specs.Libraries.{Table}
 use Rattle.error_types.specs.Search.{is_number_in}

@@ -5,9 +5,10 @@ ghost use Rattle.propagation_points.specs.Points.{declared_types, declares, prop
 ghost use Rattle.propagation_points.specs.Tables.{SideKey, declares_side, is_side, or_place, same_side};
 
 use crate::open_point::only_name;
-use aadl_syntax::{FirstRefusal, List, Mem, PointItem, TypeSet};
+use aadl_syntax::{PointItem, TypeSet};
 use component_extension::{ClauseText, Effective, InClause};
 use error_types::{Scope, TypeTable};
+use plain_values::{FirstRefusal, List, Mem};
 use std::alloc::Global;
 use std::collections::HashMap;
 use std::marker::Model;

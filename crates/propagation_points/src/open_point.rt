@@ -3,8 +3,9 @@ ghost use Rattle.std.specs.List.{list_any};
 ghost use Rattle.package_index.specs.Names.{only};
 ghost use Rattle.propagation_points.specs.Points.{feature_point, open_points, opens_inward, opens_outward, point_words, stands_for, is_text, user_point, word_point};
 
-use aadl_syntax::{Feature, FeatureKind, Identifier, Mem, PointItem, UserPoint, is_same};
+use aadl_syntax::{Feature, FeatureKind, Identifier, PointItem, UserPoint};
 use component_extension::{Effective, InClause, Inherited};
+use plain_values::{Mem, is_same};
 use std::alloc::Global;
 use std::marker::Model;
 

@@ -1,5 +1,5 @@
 ghost use Rattle.std.specs.Prelude.{◌≡◌, [], IfOk, OnOk, flat_map, map, fold, option_copied, option_map};
-ghost use Rattle.aadl_syntax.specs.Order.{least, nearer};
+ghost use Rattle.plain_values.specs.Order.{least, nearer};
 ghost use Rattle.package_index.specs.Names.{only};
 ghost use Rattle.propagation_points.specs.Points.{NamesDiffer, fault_at, keep_first, place_named, point_faults, point_named, points_of, propagation_faults, side_of, side_with, with_sides};
 
@@ -7,10 +7,11 @@ use crate::declared::DeclaredSides;
 use crate::open_point::{OpenPoint, only_name, open_points};
 use crate::point::Point;
 use crate::side::Side;
-use aadl_syntax::{Code, FirstRefusal, List, Mem, PointItem};
+use aadl_syntax::PointItem;
 use component_extension::{Effective, InClause};
 use error_types::TypeTable;
 use package_index::note_if;
+use plain_values::{Code, FirstRefusal, List, Mem};
 use std::alloc::Global;
 use std::collections::HashMap;
 use std::marker::Model;
@@ -198,8 +199,8 @@ fn note_propagation(first: &mut FirstRefusal, points: &Points, propagation: &Poi
     match only_name(propagation.point.names.items()) {
         Some(name) => {
             let is_unknown = points.place(name.text()).is_none();
-            note_if(first, is_unknown, Code::UnknownPoint, spot);
+            first.note_if(is_unknown, Code::UnknownPoint, spot);
         }
-        None => note_if(first, true, Code::FeatureGroup, spot),
+        None => first.note_if(true, Code::FeatureGroup, spot),
     }
 }

@@ -1,12 +1,13 @@
 ghost use Rattle.std.specs.Prelude.{◌≡◌, IfOk, OnOk, option_copied, slice_get};
-ghost use Rattle.aadl_syntax.specs.Order.{least, nearer};
+ghost use Rattle.plain_values.specs.Order.{least, nearer};
 ghost use Rattle.propagation_points.specs.States.{state_faults, number_named};
 
 use crate::points::Points;
 use crate::states::NameTable;
 use crate::uses::{PointUse, ReachedPoint, reached};
-use aadl_syntax::{FirstRefusal, Mem, StateRef};
+use aadl_syntax::StateRef;
 use error_types::{Scope, TypeTable};
+use plain_values::{FirstRefusal, Mem};
 use std::alloc::Global;
 use std::marker::Model;
 

@@ -2,7 +2,7 @@ ghost use Rattle.std.specs.Prelude.{◌≡◌, not};
 ghost use Rattle.std.specs.List.{list_any};
 ghost use Rattle.error_types.specs.Search.{is_number_in};
 
-use aadl_syntax::List;
+use plain_values::List;
 
 /// A side of a point, inward or outward.
 #[derive(Drop)]

@@ -1,11 +1,11 @@
 ghost use Rattle.std.specs.Prelude.{◌≡◌, [], IfOk, map, option_map};
 ghost use Rattle.propagation_points.specs.Points.{NamesDiffer};
-ghost use Rattle.aadl_syntax.specs.Order.{least, nearer};
-ghost use Rattle.component_extension.specs.Members.{refused_there};
+ghost use Rattle.plain_values.specs.Order.{least, nearer};
 ghost use Rattle.propagation_points.specs.States.{keep_name, state_faults, number_named};
 
-use aadl_syntax::{Code, FirstRefusal, Identifier, List, Mem, Spot, StateRef, TypeSet};
+use aadl_syntax::{Identifier, StateRef, TypeSet};
 use package_index::note_if;
+use plain_values::{Code, FirstRefusal, List, Mem, Spot};
 use std::alloc::Global;
 use std::collections::HashMap;
 use std::marker::Model;
@@ -79,14 +79,14 @@ impl<'a> NameTable<'a> {
     ///
     /// The refusals of the reference are noted: N11 at its name where there is no such state, and P10 at a set of types
     /// behind it.
-    #[tactic(auto, using(component_extension::proofs::Noting::noted_more))]
+    #[tactic(auto, using(plain_values::proofs::Noting::noted_more))]
     pub fn refer(&self, state: &StateRef, first: &mut FirstRefusal) -> Option<u32>
         ensures number { result ≡ number_named self.now state.now.name }
         ensures first { first.new ≡ nearer first.old (least (state_faults self.now state.now)) }
     {
         let number = self.number(state.name.text());
-        note_if(first, number.is_none(), Code::UnknownState, state.spot);
-        note_at(first, Code::Typed, spot_of(&state.set));
+        first.note_if(number.is_none(), Code::UnknownState, state.spot);
+        first.note_at(Code::Typed, spot_of(&state.set));
         number
     }
 }
@@ -98,14 +98,5 @@ pub fn spot_of(set: &Option<TypeSet>) -> Option<Spot>
     match set {
         Some(set) => Some(set.spot),
         None => None,
-    }
-}
-
-/// Notes a refusal at a place, if there is one.
-pub fn note_at(first: &mut FirstRefusal, code: Code, place: Option<Spot>)
-    ensures { first.new ≡ nearer first.old (least (refused_there code place)) }
-{
-    if let Some(spot) = place {
-        note_if(first, true, code, spot);
     }
 }

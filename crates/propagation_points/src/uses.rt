@@ -1,14 +1,15 @@
 ghost use Rattle.std.specs.Prelude.{◌≡◌, IfOk, None, OnOk, cond, option_copied, option_map};
-ghost use Rattle.aadl_syntax.specs.Order.{least, nearer};
+ghost use Rattle.plain_values.specs.Order.{least, nearer};
 ghost use Rattle.propagation_points.specs.Uses.{is_absent, is_outside, reach_of, reached, set_outside, use_faults, used_place, used_side};
 
 use crate::declared::types_in;
 use crate::open_point::only_name;
 use crate::points::Points;
 use crate::side::{Reach, Side, has_other};
-use aadl_syntax::{Atom, Code, FirstRefusal, Identifier, List, Mem, PointRef, Spot, TypeSet};
+use aadl_syntax::{Atom, Identifier, PointRef, TypeSet};
 use error_types::{Scope, TypeTable};
 use package_index::note_if;
+use plain_values::{Code, FirstRefusal, Mem, Spot};
 use std::alloc::Global;
 use std::marker::Model;
 
@@ -108,7 +109,7 @@ pub fn reached<'a>(
 {
     let side = used.side(points);
     let is_absent = is_absent(side);
-    note_if(first, is_absent, used.unknown, used.spot);
+    first.note_if(is_absent, used.unknown, used.spot);
     let reach = reach_of(alloc, types, scope, side, used.set, first)?;
     Ok(reached_at(used.place(points), is_absent, reach))
 }
@@ -143,7 +144,7 @@ fn reach_of<'a>(
     };
     let reached = types_in(alloc, types, scope, set)?;
     let is_outside = is_outside(reached.items(), side);
-    note_if(first, is_outside, Code::NotContained, set.spot);
+    first.note_if(is_outside, Code::NotContained, set.spot);
     Ok(Reach::Only(reached))
 }
 

@@ -2,7 +2,7 @@ ghost use Rattle.std.specs.Prelude.{◌≡◌, All, IfOk, length, replicate};
 ghost use Rattle.aadl_syntax.specs.Form.{IsNumber};
 ghost use Rattle.property_reader.specs.Rates.{conservative_rate};
 
-use aadl_syntax::{List, Mem, Name};
+use plain_values::{List, Mem, Name};
 use std::alloc::Global;
 
 /// What the number of a rate is.

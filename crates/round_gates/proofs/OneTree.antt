@@ -7,7 +7,7 @@ use Rattle.std.specs.Ordering.{ordering_reverse}
 use Rattle.std.specs.declared.cmp.Ordering.TheVariants.{Less, Greater}
 use lib.ListN.{length-map}
 use Rattle.fault_system.specs.Systems.{System, IsSystem}
-use Rattle.aadl_syntax.specs.declared.refusal.Refusal.{Refusal}
+use Rattle.plain_values.specs.declared.refusal.Refusal.{Refusal}
 use Rattle.backward_slice.specs.declared.parts.Slice.{Slice}
 use Rattle.backward_slice.proofs.OneSlice.{one_slice}
 use Rattle.dependency_blocks.specs.Blocks.{BlockNumbers, IsBlocks}

@@ -1,8 +1,7 @@
 -- When a target is constant, when its tree may be too large, and what is answered.
 use Rattle.std.specs.Prelude.{ℕ, ◌*◌, ◌<◌, ◌≡◌, Bool, List, length, map, slice_get, Option, Some, None}
-use Rattle.aadl_syntax.specs.declared.refusal.Code.TheVariants.{TooManyGates}
-use Rattle.aadl_syntax.specs.declared.refusal.Place.TheVariants.{Words}
-use Rattle.aadl_syntax.specs.declared.refusal.Refusal.{Refusal}
+use Rattle.plain_values.specs.declared.refusal.Code.TheVariants.{TooManyGates}
+use Rattle.plain_values.specs.Refusal.{of_words}
 use Rattle.fault_system.specs.Truth.{NumberSet, Has}
 use Rattle.fault_system.specs.Systems.{System}
 use Rattle.fault_system.specs.CutSets.{makes_hold}
@@ -38,13 +37,9 @@ all_places system numbers facts = total (map (stage_places system numbers) facts
 abbrev pub most_places : ℕ
 most_places = 8000000
 
--- M12: the tree may have too many gates
-abbrev pub too_many_gates : Refusal
-too_many_gates = record { code = TooManyGates; place = Words; limit = most_places }
-
 -- why there is no tree: the target is constant; or it is not, and its stages have too many places; want of memory says nothing
 abbrev pub IsGateAnswer : System → BlockNumbers → ℕ → List ℕ → GateAnswer → Type 0
 IsGateAnswer system numbers target facts (Constant is) = IsConstant system target is
 IsGateAnswer system numbers target facts (Refused refusal) =
-    IsVarying system target × (most_places < all_places system numbers facts) × (refusal ≡ too_many_gates)
+    IsVarying system target × (most_places < all_places system numbers facts) × (refusal ≡ of_words TooManyGates)
 IsGateAnswer system numbers target facts Memory = Unit {0}

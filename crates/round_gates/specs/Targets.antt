@@ -1,7 +1,8 @@
 -- What each tree is like, and the tree of a target, or why it has none.
 use Rattle.std.specs.Prelude.{ℕ, ◌<◌, ◌≤◌, ◌≡◌, ◌^◌, Bool, true, false, nat_lt, length, map, slice_get, Some}
 use Rattle.std.specs.List.{AllByRecursion}
-use Rattle.aadl_syntax.specs.declared.refusal.Refusal.{Refusal}
+use Rattle.plain_values.specs.declared.refusal.Refusal.{Refusal}
+use Rattle.plain_values.specs.Refusal.{of_words}
 use Rattle.fault_system.specs.Truth.{NumberSet}
 use Rattle.fault_system.specs.Systems.{System, Holds}
 use Rattle.backward_slice.specs.Slices.{IsSlice}
@@ -15,7 +16,7 @@ use Rattle.round_gates.specs.declared.tree.GateAnswer.TheVariants.{Constant, Ref
 use Rattle.round_gates.specs.declared.tree.Input.{Input}
 use Rattle.round_gates.specs.declared.tree.Input.TheVariants as inputs
 use Rattle.round_gates.specs.declared.tree.Tree.{Tree}
-use Rattle.round_gates.specs.Staged.{IsConstant, IsVarying, all_places, most_places, too_many_gates}
+use Rattle.round_gates.specs.Staged.{IsConstant, IsVarying, all_places, most_places}
 use Rattle.round_gates.specs.Trees.{IsTree, InputsOnce, LeadsTo, NamesRise, events_in, has_gate, key_of}
 
 -- an input is one of so many events, or one of so many gates
@@ -69,7 +70,7 @@ pub record HasLargeTree (system : System) (target : ℕ) (refusal : Refusal) : T
   pub are_blocks : IsBlocks system slice.facts numbers
   pub varying : IsVarying system target
   pub many : most_places < all_places system numbers slice.facts
-  pub refusal_is : refusal ≡ too_many_gates
+  pub refusal_is : refusal ≡ of_words TooManyGates
 
 -- Why a target has no tree: it is constant, or the tree may be too large; want of memory says nothing.
 abbrev pub HasNoTree : System → ℕ → GateAnswer → Type 0

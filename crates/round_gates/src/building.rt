@@ -1,6 +1,6 @@
 //! A tree of the gates that are reached, by fact, stage and place.
 
-ghost use Rattle.std.specs.Prelude.{◌≡◌, ◌+◌, ◌<◌, ◌≤◌, ◌^◌, ◌||◌, ◌++◌, ◌∷◌, [], ℕ, IfOk, OnOk, length, map, filter, option_copied, slice_get, if◌then◌else◌};
+ghost use Rattle.std.specs.Prelude.{◌≡◌, ◌+◌, ◌<◌, ◌≤◌, ◌^◌, ◌||◌, ◌++◌, ◌∷◌, [], ℕ, IfOk, length, map, filter, option_copied, slice_get, if◌then◌else◌};
 ghost use Rattle.std.specs.HashMap.{get};
 ghost use Rattle.std.specs.List.{list_any, range_with_len};
 ghost use Rattle.fault_system.specs.Truth.{member};
@@ -11,9 +11,9 @@ ghost use Rattle.round_gates.specs.Trees.{place_of, input_for, gate_with, gate_f
 
 use crate::node::{GateKey, GateKind, Line, Node};
 use crate::tree::{Gate, Input, Tree};
-use aadl_syntax::{List, Mem};
 use fault_system::Bits;
 use indexmap::IndexSet;
+use plain_values::{List, Mem};
 use std::alloc::Global;
 use std::collections::HashMap;
 
@@ -167,22 +167,13 @@ fn mark_all(marks: &mut Bits, gates: &[Gate])
     }
 }
 
-fn push_if(numbers: &mut List<u32>, number: u32, is_wanted: bool) -> Mem<()>
-    ensures { OnOk result (numbers.new ≡ numbers.old ++ (if is_wanted then number ∷ [] else [])) }
-{
-    if is_wanted {
-        numbers.push(number)?;
-    }
-    Ok(())
-}
-
 /// The numbers of a set, rising.
 fn numbers_of(alloc: Global, marks: &Bits) -> Mem<List<u32>>
     ensures { IfOk result (λ numbers. numbers ≡ filter (member marks.now) (range_with_len 0 (length marks.now))) }
 {
     let mut numbers = List::new(alloc);
     for number in 0..marks.size() {
-        push_if(&mut numbers, number, marks.has(number))?;
+        numbers.push_if(number, marks.has(number))?;
     }
     Ok(numbers)
 }

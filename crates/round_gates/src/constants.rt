@@ -5,8 +5,8 @@ ghost use Rattle.fault_system.specs.Truth.{member};
 ghost use Rattle.fault_system.specs.CutSets.{makes_hold};
 ghost use Rattle.round_gates.specs.Staged.{IsConstant, IsVarying};
 
-use aadl_syntax::Mem;
 use fault_system::{Bits, FaultSystem};
+use plain_values::Mem;
 use std::alloc::Global;
 
 /// The set of all events.

@@ -1,7 +1,8 @@
 //! Laws of the definitions alone: the contract of each function is the law, and its body is empty.
 
 ghost use Rattle.std.specs.Prelude.{◌≡◌, ◌<◌, ◌↔◌, ℕ, Bool};
-ghost use Rattle.aadl_syntax.specs.declared.refusal.Refusal.{Refusal};
+ghost use Rattle.plain_values.specs.declared.refusal.Refusal.{Refusal};
+ghost use Rattle.plain_values.specs.Refusal.{refusal};
 ghost use Rattle.fault_system.specs.Truth.{NumberSet, member};
 ghost use Rattle.fault_system.specs.Systems.{System, IsSystem, Holds, holds_of};
 ghost use Rattle.dependency_blocks.specs.Blocks.{BlockNumbers, number_of, size_of};

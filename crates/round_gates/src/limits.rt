@@ -5,23 +5,11 @@ ghost use Rattle.dependency_blocks.specs.Blocks.{number_of, size_of};
 ghost use Rattle.round_gates.specs.Walks.{places, total};
 ghost use Rattle.round_gates.specs.Staged.{stage_places, all_places, most_places};
 
-use aadl_syntax::{Code, Place, Refusal};
 use dependency_blocks::Blocks;
 use fault_system::{FaultSystem, Formula};
 
 /// The greatest number of places of all stages of a slice.
 const MOST_PLACES: u64 = 8_000_000;
-
-/// The refusal of a slice whose stages have too many places.
-pub(crate) fn too_many_gates() -> Refusal
-    ensures { result ≡ record { code = Code.TooManyGates; place = Place.Words; limit = most_places } }
-{
-    Refusal {
-        code: Code::TooManyGates,
-        place: Place::Words,
-        limit: MOST_PLACES,
-    }
-}
 
 /// What is left of a number after the places of a formula are taken; none where they are more.
 #[cycle(places)]

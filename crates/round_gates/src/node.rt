@@ -1,4 +1,4 @@
-use aadl_syntax::List;
+use plain_values::List;
 
 /// What makes a gate true of its inputs.
 #[derive(Clone, Copy)]

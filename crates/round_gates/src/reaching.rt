@@ -1,18 +1,17 @@
 //! The gates that are reached from the last stage of a target, and no others.
 
-ghost use Rattle.std.specs.Prelude.{◌≡◌, ◌+◌, ◌<◌, ◌^◌, ◌||◌, ◌∷◌, [], IfOk, OnOk, length, true, option_copied};
+ghost use Rattle.std.specs.Prelude.{◌≡◌, ◌+◌, ◌<◌, ◌^◌, ◌||◌, ◌∷◌, [], IfOk, OnOk, length};
 ghost use Rattle.std.specs.HashMap.{get};
 ghost use Rattle.std.specs.List.{IsDistinct};
 ghost use Rattle.round_gates.specs.Trees.{NamesRise};
 ghost use Rattle.round_gates.specs.declared.node.GateKey.{GateKey as Key};
 ghost use Rattle.round_gates.specs.contracts.node.GateKeyPartialEq.TheImpl.{eq-value as key_eq};
 ghost use Rattle.round_gates.specs.Nodes.{has_node, same_key};
-ghost use Rattle.round_gates.specs.Lines.{InOrder, has_line};
-ghost use Rattle.round_gates.specs.Reached.{AreBehind, AreReached, AreReachedFrom, IsVisited, first_some, is_place, has_key, place_from, place_if};
+ghost use Rattle.round_gates.specs.Reached.{AreBehind, AreReached, IsVisited, first_some, is_place, has_key, place_from, place_if};
 
 use crate::node::{GateKey, Line, Node};
-use aadl_syntax::Mem;
 use indexmap::IndexSet;
+use plain_values::Mem;
 use std::alloc::Global;
 use std::collections::HashMap;
 

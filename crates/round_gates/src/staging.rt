@@ -1,29 +1,29 @@
 //! The tree of a target.
 
-ghost use Rattle.std.specs.Prelude.{◌≡◌, ◌+◌, ◌<◌, ◌≤◌, ◌^◌, ◌↔◌, [], ℕ, true, IfErr, IfOk, OnOk, length};
+ghost use Rattle.std.specs.Prelude.{◌≡◌, ◌+◌, ◌<◌, ◌≤◌, ◌^◌, ◌↔◌, [], true, IfErr, IfOk, OnOk, length};
 ghost use Rattle.fault_system.specs.Truth.{NumberSet};
 ghost use Rattle.std.specs.List.{AllByRecursion};
 ghost use Rattle.fault_system.specs.Systems.{Holds};
 ghost use Rattle.backward_slice.specs.Slices.{IsSlice};
 ghost use Rattle.dependency_blocks.specs.Blocks.{IsBlocks, number_of};
 ghost use Rattle.round_gates.specs.Lines.{InOrder, IsKnown, has_line};
-ghost use Rattle.round_gates.specs.Stages.{IsGateOf, last_node};
+ghost use Rattle.round_gates.specs.Stages.{IsGateOf};
 ghost use Rattle.round_gates.specs.Staged.{IsGateAnswer, IsVarying, all_places, most_places};
 ghost use Rattle.round_gates.specs.Targets.{HasNoTree, IsTreeFor, IsWellMade};
 ghost use Rattle.round_gates.specs.Trees.{IsGateTree, IsTree, IsTreeOf, TreeHolds, event_tree};
 
 use crate::building::tree_of;
 use crate::constants::constant;
-use crate::limits::{are_few, block_size, too_many_gates};
+use crate::limits::{are_few, block_size};
 use crate::node::{GateKey, GateKind, Line, Node};
 use crate::reaching::{places_of, reached_in_order};
 use crate::tree::{Gate, GateAnswer, Input, Tree};
 use crate::unrolling::{Unrolling, unroll};
 use crate::walking::node_in;
-use aadl_syntax::{List, Mem};
 use backward_slice::Slice;
 use dependency_blocks::Blocks;
 use fault_system::FaultSystem;
+use plain_values::{Code, List, Mem, Refusal};
 use std::alloc::{AllocError, Global};
 
 /// The tree of an event: an `or` gate at the last stage of the target with this one input.
@@ -135,7 +135,7 @@ pub fn staged(
         return Err(GateAnswer::Constant(always));
     }
     if !are_few(system, blocks, slice.facts.items()) {
-        return Err(GateAnswer::Refused(too_many_gates()));
+        return Err(GateAnswer::Refused(Refusal::of_words(Code::TooManyGates)));
     }
     let tree = whole_tree(alloc, system, slice, blocks)?;
     Ok(tree)

@@ -1,7 +1,7 @@
 ghost use Rattle.std.specs.Prelude.{◌≡◌};
 
 use crate::node::GateKind;
-use aadl_syntax::{List, Refusal};
+use plain_values::{List, Refusal};
 use std::alloc::{AllocError, AllocFailed};
 
 /// An input of a gate.

@@ -1,18 +1,17 @@
 //! The stages of all blocks, one after another, from the lowest block on.
 
-ghost use Rattle.std.specs.Prelude.{◌≡◌, ◌+◌, ◌<◌, ◌≤◌, ◌++◌, ◌∷◌, [], ℕ, All, Contains, IfOk, IfSome, OnOk, length, map, filter, flat_map, slice_index_or};
-ghost use Rattle.backward_slice.specs.Slices.{IsSlice};
+ghost use Rattle.std.specs.Prelude.{◌≡◌, ◌+◌, ◌<◌, ◌≤◌, ◌++◌, ◌∷◌, [], ℕ, All, IfOk, IfSome, OnOk, length, map, flat_map, slice_index_or};
 ghost use Rattle.dependency_blocks.specs.Blocks.{IsBlocks, number_of, size_of};
 ghost use Rattle.round_gates.specs.Walks.{node_in};
-ghost use Rattle.round_gates.specs.Stages.{in_block, fact_walk, low_nodes, stage_nodes};
+ghost use Rattle.round_gates.specs.Stages.{fact_walk, low_nodes};
 ghost use Rattle.round_gates.specs.Unrolled.{AreUnrolled, IsSmall, IsUnrolling, found_in, lines_in, members_of, written};
 
 use crate::node::{Line, Node, Part, Stage};
 use crate::walking::walk_formula;
-use aadl_syntax::{List, Mem};
 use backward_slice::Slice;
 use dependency_blocks::Blocks;
 use fault_system::FaultSystem;
+use plain_values::{List, Mem};
 use std::alloc::Global;
 
 /// The last nodes of the facts of a slice, by number, and the gates of their stages, each behind those that it names.

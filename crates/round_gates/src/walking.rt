@@ -5,9 +5,9 @@ ghost use Rattle.round_gates.specs.Walks.{walk, parts_of, places, total, node_in
 
 use crate::joining::{all_of, any_of, least_of};
 use crate::node::{GateKey, GateKind, Join, Line, Node, Part, Stage};
-use aadl_syntax::{List, Mem};
 use fault_system::Formula;
 use indexmap::IndexSet;
+use plain_values::{List, Mem};
 use std::alloc::Global;
 
 /// What a formula gives: its node, and the place behind its last one.

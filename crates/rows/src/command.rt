@@ -3,9 +3,9 @@
 use crate::expand::{cut, number_of};
 use crate::row::{Row, has_key, head_and_body};
 use crate::text::Text;
-use aadl_syntax::{List, Mem, Word};
 use fta_outside::{MemoryFiles, MemorySink};
 use fta_run::run;
+use plain_values::{List, Mem, Word};
 use std::alloc::Global;
 
 /// Writes what the row wants: the exit status, the output, and what stands on the error stream.

@@ -2,9 +2,8 @@
 
 use crate::text::Text;
 use crate::value::{put_name, put_names, put_ref, put_spot};
-use aadl_syntax::{
-    Atom, Condition, Identifier, List, Source, Spot, StateRef, Term, Transition, TypeSet,
-};
+use aadl_syntax::{Atom, Condition, Identifier, Source, StateRef, Term, Transition, TypeSet};
+use plain_values::Spot;
 
 /// Writes a set of types, and the place of its `{`.
 pub fn put_written_set(set: &TypeSet, out: &mut Text) {

@@ -10,9 +10,10 @@ use crate::value::{
 };
 use aadl_syntax::{
     Association, Composite, Emv2Clause, Emv2Library, EventDecl, EventKind, Flow, FlowKind,
-    Identifier, List, MachineDecl, Outgoing, PointItem, Spot, StateDecl, TokenList, TypeItem,
-    TypeKind, TypesBlock, UserPath,
+    Identifier, MachineDecl, Outgoing, PointItem, StateDecl, TokenList, TypeItem, TypeKind,
+    TypesBlock, UserPath,
 };
+use plain_values::{List, Spot};
 
 /// Writes the error model text of a package.
 pub fn put_library_value(library: &Emv2Library, out: &mut Text) {

@@ -3,7 +3,7 @@
 ghost use Rattle.std.specs.Prelude.{◌≤◌, ◌+◌, IfSome, length};
 
 use crate::text::Text;
-use aadl_syntax::Mem;
+use plain_values::Mem;
 use std::alloc::Global;
 
 /// The named texts.

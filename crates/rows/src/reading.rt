@@ -6,7 +6,8 @@ use crate::text::Text;
 use crate::value::{FILE, put_token};
 use aadl_lexer::tokens;
 use aadl_parser::units;
-use aadl_syntax::{Code, Decl, Place, Refusal, Stop, TokenList, Unit};
+use aadl_syntax::{Decl, TokenList, Unit};
+use plain_values::{Code, Place, Refusal, Stop};
 use std::alloc::Global;
 
 /// The greatest length of a text that has tokens, in bytes.

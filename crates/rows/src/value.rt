@@ -1,7 +1,8 @@
 //! What stands in a value of any kind: names, places and tokens.
 
 use crate::text::Text;
-use aadl_syntax::{End, Identifier, List, PointRef, Ref, Spot, TokenKind};
+use aadl_syntax::{End, Identifier, PointRef, Ref, TokenKind};
+use plain_values::{List, Spot, Word};
 
 /// The number of the file that is read.
 pub const FILE: u32 = 7;

@@ -6,10 +6,11 @@ ghost use Rattle.grammar_rules.specs.Tokens.{is_identifier, is_sign};
 ghost use Rattle.text_tests.specs.Sample.{reserved, name, further_name, further_name-takes, uses, dotted, item, skipped, annexed, sample};
 
 use aadl_lexer::tokens;
-use aadl_syntax::{Identifier, List, Place, Stop, TokenKind, TokenList};
+use aadl_syntax::{Identifier, TokenKind, TokenList};
 use grammar_rules::{
     Balanced, Grammar, Parts, ReadError, Reader, Tail, ToEnd, read_text, token_place,
 };
+use plain_values::{List, Place, Stop};
 use std::alloc::Global;
 
 const RESERVED: [&[u8]; 4] = [b"use", b"item", b"skip", b"end"];

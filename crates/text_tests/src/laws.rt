@@ -2,8 +2,8 @@
 
 use aadl_lexer::{one_fault, one_list};
 use aadl_parser::one_file;
-use aadl_syntax::{Code, Place, Refusal, least_is_first, one_first};
 use fta_run::{Status, one_due, one_output};
+use plain_values::{Code, Place, Refusal, least_is_first, one_first};
 
 #[test]
 fn laws(_rt: HostRuntime) {

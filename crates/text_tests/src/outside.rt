@@ -1,7 +1,7 @@
 //! A real file and a real stream. Rows run over files and sinks in memory.
 
-use aadl_syntax::{Mem, Word};
 use fta_outside::{DiskFiles, FileError, Files, Sink, SinkFailed, StdSink, write_all};
+use plain_values::{Mem, Word};
 use std::alloc::Global;
 use std::fs;
 use std::io::{self, Write};

@@ -1,6 +1,6 @@
 //! Names, lists, codes and the order of refusals.
 
-use aadl_syntax::{Code, FirstRefusal, List, Place, Refusal, fold, is_same};
+use plain_values::{Code, FirstRefusal, List, Place, Refusal, fold, is_same};
 use std::test::Fail;
 
 #[test]

@@ -1,10 +1,9 @@
 -- Rows of marks, set one after the other.
-use Rattle.std.proofs.Common.{ℕ, ◌+◌, ◌≡◌, ◌<◌, Bool, true, false, ◌||◌, List, [], ◌∷◌, ◌++◌, length, drop, get_or, slice_index_or, refl, sym, ap, ◌∙◌, subst, suc, add-one, drop-cons, arith}
-use Rattle.std.proofs.Common.{Option}
-use Rattle.aadl_syntax.specs.declared.refusal.Refusal.{Refusal}
-use Rattle.aadl_syntax.specs.Order.{least, nearer}
-use Rattle.aadl_syntax.proofs.OrderLaws.{noted-more}
-use Rattle.package_index.specs.Numbered.{numbered_from}
+use Rattle.std.proofs.Common.{ℕ, ◌+◌, ◌≡◌, ◌<◌, Bool, true, false, ◌||◌, List, [], ◌∷◌, ◌++◌, length, drop, get_or, slice_index_or, refl, sym, ap, ◌∙◌, subst, suc, add-one, drop-cons, arith, Option}
+use Rattle.plain_values.specs.declared.refusal.Refusal.{Refusal}
+use Rattle.plain_values.specs.Order.{least, nearer}
+use Rattle.plain_values.proofs.OrderLaws.{noted-more}
+use Rattle.plain_values.specs.Numbered.{numbered_from}
 use Rattle.used_sets.specs.Marks.{Marked}
 
 or-assoc : (a b c : Bool) → ((a || b) || c) ≡ (a || (b || c))

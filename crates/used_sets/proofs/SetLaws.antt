@@ -5,7 +5,7 @@ use Rattle.aadl_syntax.specs.declared.error_model.Condition.{Condition, fold-rol
 use Rattle.aadl_syntax.specs.declared.error_model.Condition.TheVariants.{All, Any, AtLeast, AtMost, rolls-All, rolls-Any, rolls-AtLeast, rolls-AtMost}
 use Rattle.aadl_syntax.specs.declared.error_model.Condition.TheOpen as open_one
 use Rattle.aadl_syntax.specs.declared.error_model.TypeSet.{TypeSet}
-use Rattle.aadl_syntax.specs.declared.place.Spot.{Spot}
+use Rattle.plain_values.specs.declared.spot.Spot.{Spot}
 use Rattle.used_sets.specs.Sets.{condition_sets, sets_step}
 
 pub sets-All : (parts : List Condition) → condition_sets (All parts) ≡ flat_map condition_sets parts

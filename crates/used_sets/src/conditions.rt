@@ -2,7 +2,8 @@ ghost use Rattle.std.specs.Prelude.{◌≡◌, ◌++◌, OnOk, flat_map};
 ghost use Rattle.used_sets.specs.Sets.{condition_sets, perhaps_condition_sets, state_sets};
 
 use crate::sets::WrittenSets;
-use aadl_syntax::{Condition, Mem, StateRef};
+use aadl_syntax::{Condition, StateRef};
+use plain_values::Mem;
 
 /// Adds the sets of a condition.
 #[cycle(condition)]

@@ -1,22 +1,23 @@
 ghost use Rattle.std.specs.Prelude.{◌≡◌, ◌++◌, ◌&&◌, [], cond, false, nat_eq, ℕ, IfOk, OnOk, flat_map, length, option_copied, slice_get, slice_index_or};
-ghost use Rattle.aadl_syntax.specs.Order.{least, nearer};
+ghost use Rattle.plain_values.specs.Order.{least, nearer};
 ghost use Rattle.error_types.specs.Libraries.{unknown_libraries};
-ghost use Rattle.package_index.specs.Numbered.{numbered_from};
+ghost use Rattle.plain_values.specs.Numbered.{numbered_from};
 ghost use Rattle.used_sets.specs.Marks.{Marked};
 ghost use Rattle.used_sets.specs.Used.{behavior_faults, behavior_uses, clause_set_faults, effective_faults, faults_with, is_some_set, is_used, item_faults, items_faults, machine_set_faults, machine_sets, propagation_faults, propagation_uses, set_fault, sets_faults, use_clause, used_set_faults, uses_clause, uses_fault};
 
 use crate::items::HasSets;
 use crate::sets::WrittenSets;
-use aadl_syntax::{FirstRefusal, MachineDecl, Mem, Ref, TypeSet};
+use aadl_syntax::{MachineDecl, Ref, TypeSet};
 use component_extension::{Behavior, ClauseText, Effective, InClause, Propagations};
 use error_behavior::UsedMachine;
 use error_types::{Scope, TypeTable};
+use plain_values::{FirstRefusal, Mem};
 use propagation_points::scopes_of;
 use std::alloc::Global;
 
 /// Notes the refusals of the written sets that a component uses: N2, N7, N8 and P4 of the names in the sets of its effective
 /// items and of its machine, and N2 of the libraries that their texts use.
-#[tactic(auto, using(component_extension::proofs::Noting::noted_more))]
+#[tactic(auto, using(plain_values::proofs::Noting::noted_more))]
 pub fn note_used_sets<'a>(
     alloc: Global,
     effective: &Effective<'a>,
@@ -83,7 +84,7 @@ fn note_with<'a>(
 }
 
 /// Notes the refusals of the sets of the effective items of a component, and marks the clauses in which they stand.
-#[tactic(auto, using(component_extension::proofs::Noting::noted_more))]
+#[tactic(auto, using(plain_values::proofs::Noting::noted_more))]
 fn note_effective<'a>(
     alloc: Global,
     effective: &Effective<'a>,
@@ -100,7 +101,7 @@ fn note_effective<'a>(
     note_behavior(alloc, &effective.behavior, types, scopes, marks, first)
 }
 
-#[tactic(auto, using(component_extension::proofs::Noting::noted_more))]
+#[tactic(auto, using(plain_values::proofs::Noting::noted_more))]
 fn note_propagations<'a>(
     alloc: Global,
     propagations: &Propagations<'a>,
@@ -280,7 +281,7 @@ fn note_machine<'a>(
 }
 
 /// Notes the refusals of the sets of a machine, and of the libraries that it uses, if it has a set.
-#[tactic(auto, using(component_extension::proofs::Noting::noted_more))]
+#[tactic(auto, using(plain_values::proofs::Noting::noted_more))]
 fn note_machine_sets<'a>(
     alloc: Global,
     types: &mut TypeTable<'_, 'a>,

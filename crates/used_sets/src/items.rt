@@ -1,11 +1,12 @@
-ghost use Rattle.std.specs.Prelude.{◌≡◌, ◌++◌, OnOk, flat_map};
+ghost use Rattle.std.specs.Prelude.{◌≡◌, ◌++◌, OnOk};
 ghost use Rattle.used_sets.specs.Sets.{flow_kind_sets};
 
 use crate::conditions::{add_condition, add_perhaps, add_states};
 use crate::sets::WrittenSets;
 use aadl_syntax::{
-    Composite, EventDecl, Flow, FlowKind, Mem, Outgoing, PointItem, StateDecl, Transition,
+    Composite, EventDecl, Flow, FlowKind, Outgoing, PointItem, StateDecl, Transition,
 };
+use plain_values::Mem;
 
 /// A kind of item with written sets.
 pub(crate) trait HasSets: Sized {

@@ -1,7 +1,8 @@
-ghost use Rattle.std.specs.Prelude.{◌≡◌, ◌∷◌, [], ◌++◌, OnOk, map, option_to_list, option_and_then};
+ghost use Rattle.std.specs.Prelude.{◌≡◌, ◌∷◌, [], ◌++◌, OnOk, map, option_to_list};
 ghost use Rattle.used_sets.specs.Sets.{perhaps_state_sets};
 
-use aadl_syntax::{List, Mem, StateRef, TypeSet};
+use aadl_syntax::{StateRef, TypeSet};
+use plain_values::{List, Mem};
 use std::alloc::Global;
 use std::marker::Model;
 

@@ -1,5 +1,4 @@
 ghost use Rattle.std.specs.Prelude.{◌≡◌, ◌+◌, ◌<◌, ◌≤◌, ◌^◌, [], ◌∷◌, ◌++◌, map, length, IfOk, All};
-ghost use Rattle.zdd_store.specs.Family.{IsAntichain};
 ghost use Rattle.zdd_store.specs.Store.{IsIn, family_of, Keeps};
 ghost use Rattle.zdd_store.specs.Answers.{IsLeastFamily};
 ghost use Rattle.zdd_families.specs.Steps.{Answered};
@@ -10,7 +9,7 @@ use crate::families::note_minimal;
 use crate::minimal::minimal_sets;
 use crate::product::product_sets;
 use crate::union::union_sets;
-use aadl_syntax::Mem;
+use plain_values::Mem;
 use std::alloc::Global;
 use zdd_store::{Id, Store};
 

@@ -10,7 +10,7 @@ use crate::minimal::minimal_sets;
 use crate::product::product_sets;
 use crate::removal::without_sets;
 use crate::union::union_sets;
-use aadl_syntax::Mem;
+use plain_values::Mem;
 use zdd_store::{Id, Operation, Store};
 
 /// The family of the one set that has this number alone.

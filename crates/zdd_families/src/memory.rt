@@ -2,7 +2,7 @@
 ghost use Rattle.std.specs.Prelude.{◌≡◌, IfSome, IfOk};
 ghost use Rattle.zdd_store.specs.Answers.{IsAnswerOf};
 
-use aadl_syntax::Mem;
+use plain_values::Mem;
 use zdd_store::{Id, Operation, Question, Store};
 
 /// The family that is remembered as the answer, if there is one.

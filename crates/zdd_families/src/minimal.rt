@@ -7,7 +7,7 @@ ghost use Rattle.zdd_families.specs.Steps.{Answered, joined};
 use crate::memory::{known, note};
 use crate::removal::without_sets;
 use crate::split::{first_var, split};
-use aadl_syntax::Mem;
+use plain_values::Mem;
 use zdd_store::{Id, Operation, Store};
 
 /// The minimal sets among those of `lo` and, with the variable added, those of `hi`.

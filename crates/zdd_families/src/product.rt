@@ -8,7 +8,7 @@ use crate::memory::{known, note};
 use crate::minimal::join;
 use crate::split::{Parts, first_var, split};
 use crate::union::union_sets;
-use aadl_syntax::Mem;
+use plain_values::Mem;
 use zdd_store::{Id, Operation, Store};
 
 /// The minimal sets among the unions of a set of the one family and a set of the other, of which each has minimal sets alone.

@@ -5,7 +5,7 @@ ghost use Rattle.zdd_families.specs.Steps.{Answered};
 
 use crate::memory::{known, note};
 use crate::split::{first_var, split};
-use aadl_syntax::Mem;
+use plain_values::Mem;
 use zdd_store::{Id, Operation, Store};
 
 /// The sets of the one family that contain no set of the other.

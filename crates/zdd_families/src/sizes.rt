@@ -6,7 +6,7 @@ ghost use Rattle.zdd_families.specs.Steps.{Answered};
 
 use crate::memory::{known, note};
 use crate::split::{first_var, split};
-use aadl_syntax::Mem;
+use plain_values::Mem;
 use zdd_store::{Id, Operation, Question, Store};
 
 /// The least size of the sets of two families, of which the second are to have one number more.

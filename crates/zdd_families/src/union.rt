@@ -7,7 +7,7 @@ ghost use Rattle.zdd_families.specs.Steps.{Answered, either};
 use crate::memory::{known, note};
 use crate::minimal::join;
 use crate::split::{first_var, split};
-use aadl_syntax::Mem;
+use plain_values::Mem;
 use zdd_store::{Id, Operation, Store};
 
 /// The minimal sets of the union of two families, of which each has minimal sets alone.

@@ -5,9 +5,9 @@ ghost use Rattle.zdd_store.specs.Store.{IsIn, family_of, family_with, no_nodes, 
 
 use crate::id::{Id, Node};
 use crate::question::Question;
-use aadl_syntax::Mem;
 use fta_outside::Steps;
 use indexmap::IndexSet;
+use plain_values::Mem;
 use std::alloc::{AllocError, Global};
 use std::collections::HashMap;
 use std::marker::Model;

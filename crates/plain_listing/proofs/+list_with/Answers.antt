@@ -2,7 +2,8 @@ use Rattle.std.proofs.Common.{◌∙◌, ◌<◌, ◌≢◌, ◌+◌, length, sy
 use Rattle.std.proofs.lemmas.Result.{on_ok_weaker}
 use Rattle.fault_system.specs.CutSets.{is_minimal}
 use Rattle.fault_system.proofs.Elements.{popped}
-use Rattle.plain_listing.proofs.Trying.{rises-higher, rises-push, rises-as, found-both}
+use Rattle.plain_values.proofs.Rising.{rises-as, rises-higher, rises-push}
+use Rattle.plain_listing.proofs.Trying.{found-both}
 use Rattle.plain_listing.proofs.+list_with.Goals as goal
 
 pub list_if_minimal-requires : goal.list_if_minimal-requires

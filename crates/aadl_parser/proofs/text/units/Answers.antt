@@ -1,6 +1,6 @@
 use Rattle.std.proofs.Common.{ℕ, Err, ap, ◌∙◌}
-use Rattle.aadl_syntax.specs.declared.refusal.Stop.{Stop}
-use Rattle.aadl_syntax.specs.declared.refusal.Stop.TheVariants.{Refused}
+use Rattle.plain_values.specs.declared.refusal.Stop.{Stop}
+use Rattle.plain_values.specs.declared.refusal.Stop.TheVariants.{Refused}
 use Rattle.grammar_rules.specs.Texts.{token_place}
 use Rattle.aadl_parser.specs.Files.{too_nested}
 use Rattle.aadl_parser.proofs.Depths.{not_nested, one_nested}

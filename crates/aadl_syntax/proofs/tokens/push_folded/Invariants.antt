@@ -1,5 +1,5 @@
 use Rattle.std.proofs.Common.{◌≡◌, ◌++◌, take}
-use Rattle.aadl_syntax.specs.Name.{folded}
+use Rattle.plain_values.specs.Name.{folded}
 use Rattle.aadl_syntax.proofs.tokens.push_folded.Given as goal
 
 abbrev pub invariant-loop-byte : goal.invariant-loop-byte

@@ -1,5 +1,5 @@
 use Rattle.std.proofs.Common.{ℕ, refl, subst}
-use Rattle.fault_system.specs.CutSets.{RisesWithin}
+use Rattle.plain_values.specs.Rising.{RisesWithin}
 use Rattle.backward_slice.proofs.slicing.whole_slice.Goals as goal
 
 pub returns : goal.returns

@@ -1,7 +1,7 @@
 use Rattle.std.proofs.Common.{[], Contains, Err, IfErr, MatchOption, ap, subst, sym, ◌≡◌, ◌∙◌}
 use Rattle.std.proofs.lemmas.Result.{err_from_is_err_and}
-use Rattle.aadl_syntax.specs.Order.{IsFirst}
-use Rattle.package_index.specs.Duplicates.{IsRefused}
+use Rattle.plain_values.specs.Order.{IsFirst}
+use Rattle.plain_values.specs.Stops.{StopsAtFirst}
 use Rattle.component_extension.specs.Members.{member_faults}
 use Rattle.component_extension.proofs.MemberLaws.{all-noted}
 use Rattle.component_extension.proofs.effective.effective_members.Goals as goal
@@ -13,7 +13,7 @@ returns-in_err-settle-clause-refused c =
     c.new-marks.ensures.items c.in_ok-features.ensures.marks c.in_ok-subcomponents.ensures.marks (c.in_ok-names.ensures ∙ c.in_ok-connections.ensures.marks) in
     let first = subst (λ o. MatchOption o (group ≡ []) (IsFirst (Contains group))) c.in_err-settle.ensures settled in
     let p = err_from_is_err_and c.from_residual-in_err-settle.result c.from_residual-in_err-settle.ensures.1 in
-    subst (λ r. IfErr r (IsRefused (Contains group))) (sym (p.1 ∙ ap Err p.2)) first
+    subst (λ r. IfErr r (StopsAtFirst (Contains group))) (sym (p.1 ∙ ap Err p.2)) first
 
 pub returns-clause-accepted : goal.returns-clause-accepted
 returns-clause-accepted c =

@@ -1,5 +1,5 @@
 use Rattle.std.proofs.Common.{◌≡◌, ◌++◌, flat_map, ap, ◌∙◌}
-use Rattle.aadl_syntax.specs.Order.{least, nearer}
+use Rattle.plain_values.specs.Order.{least, nearer}
 use Rattle.component_extension.specs.Members.{marks_of, members_of, unknown_members}
 use Rattle.component_extension.proofs.MemberLaws.{kind-noted, members-are}
 use Rattle.component_extension.proofs.effective.members_along.Goals as goal

@@ -1,5 +1,5 @@
 use Rattle.std.proofs.Common.{◌≡◌, drop, flat_map}
-use Rattle.aadl_syntax.specs.Order.{least, nearer}
+use Rattle.plain_values.specs.Order.{least, nearer}
 use Rattle.component_extension.proofs.limits.note_all.Given as goal
 
 abbrev pub invariant-loop-member : goal.invariant-loop-member

@@ -1,8 +1,8 @@
 use Rattle.std.proofs.Common.{◌≡◌, not, ap, ◌∙◌}
-use Rattle.aadl_syntax.specs.declared.refusal.Code.TheVariants.{UnknownMember}
-use Rattle.aadl_syntax.specs.Order.{least, nearer}
+use Rattle.plain_values.specs.declared.refusal.Code.TheVariants.{UnknownMember}
+use Rattle.plain_values.specs.Order.{least, nearer}
 use Rattle.component_extension.specs.Members.{stands}
-use Rattle.package_index.specs.Lookup.{refused_so}
+use Rattle.plain_values.specs.Refusal.{refused_so}
 use Rattle.package_index.proofs.Loops.{noting-more}
 use Rattle.component_extension.proofs.members.note_unknown.Goals as goal
 

@@ -1,5 +1,5 @@
 use Rattle.std.proofs.Common.{◌≡◌, drop}
-use Rattle.aadl_syntax.specs.Order.{least, nearer}
+use Rattle.plain_values.specs.Order.{least, nearer}
 use Rattle.component_extension.specs.Members.{unknown_members}
 use Rattle.component_extension.proofs.members.note_unknown.Given as goal
 

@@ -1,9 +1,9 @@
 use Rattle.std.proofs.Common.{◌≡◌, ap, ◌∙◌}
 use Rattle.std.specs.List.{list_any}
-use Rattle.aadl_syntax.specs.declared.refusal.Code.TheVariants.{DuplicateName}
-use Rattle.aadl_syntax.specs.Order.{least, nearer}
+use Rattle.plain_values.specs.declared.refusal.Code.TheVariants.{DuplicateName}
+use Rattle.plain_values.specs.Order.{least, nearer}
 use Rattle.component_extension.specs.Members.{is_earlier}
-use Rattle.package_index.specs.Lookup.{refused_so}
+use Rattle.plain_values.specs.Refusal.{refused_so}
 use Rattle.package_index.proofs.Loops.{noting-more}
 use Rattle.component_extension.proofs.names.note_duplicates.Goals as goal
 

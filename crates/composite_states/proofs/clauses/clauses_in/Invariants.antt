@@ -1,5 +1,5 @@
 use Rattle.std.proofs.Common.{◌≡◌, drop, take}
-use Rattle.aadl_syntax.specs.Order.{least, nearer}
+use Rattle.plain_values.specs.Order.{least, nearer}
 use Rattle.composite_states.specs.Composites.{clauses_in, faults_in}
 use Rattle.composite_states.proofs.clauses.clauses_in.Given as goal
 

@@ -1,5 +1,5 @@
 use Rattle.std.proofs.Common.{◌≡◌, OnOk, subst, ap, ◌∙◌}
-use Rattle.aadl_syntax.specs.Order.{least, nearer}
+use Rattle.plain_values.specs.Order.{least, nearer}
 use Rattle.propagation_points.specs.Points.{scopes_of}
 use Rattle.composite_states.specs.Composites.{faults_in}
 use Rattle.composite_states.proofs.clauses.clauses_of.Goals as goal

@@ -1,5 +1,5 @@
 use Rattle.std.proofs.Common.{◌≡◌, drop, take}
-use Rattle.aadl_syntax.specs.Order.{least, nearer}
+use Rattle.plain_values.specs.Order.{least, nearer}
 use Rattle.error_behavior.specs.Behavior.{clause_emissions, clause_outgoing_faults}
 use Rattle.error_behavior.proofs.behavior.emissions_of.Given as goal
 

@@ -1,8 +1,8 @@
 use Rattle.std.proofs.Common.{flat_map, ap, ◌∙◌}
-use Rattle.aadl_syntax.specs.Order.{least, nearer}
-use Rattle.aadl_syntax.specs.declared.refusal.Code.TheVariants.{MachineExtends, Mapping}
-use Rattle.component_extension.specs.Members.{refused_there}
-use Rattle.error_conditions.proofs.Noted.{noted-four}
+use Rattle.plain_values.specs.Order.{least, nearer}
+use Rattle.plain_values.specs.declared.refusal.Code.TheVariants.{MachineExtends, Mapping}
+use Rattle.plain_values.specs.Refusal.{refused_there}
+use Rattle.plain_values.proofs.Noted.{noted-four}
 use Rattle.error_behavior.specs.States.{event_faults, state_decl_faults}
 use Rattle.error_behavior.proofs.behavior.note_machine.Goals as goal
 

@@ -1,5 +1,5 @@
 use Rattle.std.proofs.Common.{◌≡◌, [], ◌++◌, ap, ◌∙◌}
-use Rattle.aadl_syntax.specs.Order.{least, nearer}
+use Rattle.plain_values.specs.Order.{least, nearer}
 use Rattle.package_index.proofs.Loops.{gathered-more, noting-more}
 use Rattle.error_behavior.specs.Steps.{step_of, transition_faults}
 use Rattle.error_behavior.proofs.behavior.steps_at.Goals as goal

@@ -1,6 +1,6 @@
 use Rattle.std.proofs.Common.{ap, ◌∙◌}
-use Rattle.aadl_syntax.specs.Order.{least, nearer}
-use Rattle.error_conditions.proofs.Noted.{noted-three}
+use Rattle.plain_values.specs.Order.{least, nearer}
+use Rattle.plain_values.proofs.Noted.{noted-three}
 use Rattle.error_behavior.specs.Behavior.{clause_event_faults, clause_transition_faults, machine_faults}
 use Rattle.error_behavior.proofs.behavior.steps_of.Goals as goal
 

@@ -1,5 +1,5 @@
 use Rattle.std.proofs.Common.{ap, ◌∙◌}
-use Rattle.aadl_syntax.specs.Order.{least, nearer}
+use Rattle.plain_values.specs.Order.{least, nearer}
 use Rattle.package_index.proofs.Loops.{noting-more}
 use Rattle.error_behavior.specs.States.{event_faults}
 use Rattle.error_behavior.proofs.events.note_clause_events.Goals as goal

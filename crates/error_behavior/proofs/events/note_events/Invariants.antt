@@ -1,5 +1,5 @@
 use Rattle.std.proofs.Common.{◌≡◌, drop, flat_map}
-use Rattle.aadl_syntax.specs.Order.{least, nearer}
+use Rattle.plain_values.specs.Order.{least, nearer}
 use Rattle.error_behavior.specs.States.{event_faults}
 use Rattle.error_behavior.proofs.events.note_events.Given as goal
 

@@ -1,7 +1,7 @@
 use Rattle.std.proofs.Common.{ap, ◌∙◌}
-use Rattle.aadl_syntax.specs.Order.{least, nearer}
-use Rattle.aadl_syntax.specs.declared.refusal.Code.TheVariants.{Typed}
-use Rattle.component_extension.specs.Members.{refused_there}
+use Rattle.plain_values.specs.Order.{least, nearer}
+use Rattle.plain_values.specs.declared.refusal.Code.TheVariants.{Typed}
+use Rattle.plain_values.specs.Refusal.{refused_there}
 use Rattle.package_index.proofs.Loops.{noting-more}
 use Rattle.error_behavior.specs.States.{state_decl_faults}
 use Rattle.error_behavior.proofs.states.note_states.Goals as goal

@@ -1,8 +1,8 @@
 use Rattle.std.proofs.Common.{◌≡◌, true, ap, ◌∙◌}
-use Rattle.aadl_syntax.specs.Order.{least, nearer}
+use Rattle.plain_values.specs.Order.{least, nearer}
 use Rattle.propagation_points.specs.Settings.{faults_in}
 use Rattle.propagation_points.specs.Uses.{point_use}
-use Rattle.error_conditions.proofs.Noted.{noted-three}
+use Rattle.plain_values.proofs.Noted.{noted-three}
 use Rattle.error_behavior.specs.Steps.{origin_faults, perhaps_faults}
 use Rattle.error_behavior.proofs.transitions.emission_of.Goals as goal
 

@@ -1,8 +1,8 @@
 use Rattle.std.proofs.Common.{◌≡◌, flat_map, ap, ◌∙◌}
-use Rattle.aadl_syntax.specs.Order.{least, nearer}
+use Rattle.plain_values.specs.Order.{least, nearer}
 use Rattle.propagation_points.specs.States.{state_faults}
 use Rattle.error_conditions.specs.Conditions.{condition_faults}
-use Rattle.error_conditions.proofs.Noted.{noted-three}
+use Rattle.plain_values.proofs.Noted.{noted-three}
 use Rattle.error_behavior.specs.Steps.{origin_faults}
 use Rattle.error_behavior.specs.Triggers.{trigger_faults}
 use Rattle.error_behavior.proofs.transitions.step_of.Goals as goal

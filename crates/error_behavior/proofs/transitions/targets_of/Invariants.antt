@@ -1,5 +1,5 @@
 use Rattle.std.proofs.Common.{◌≡◌, drop, flat_map, take}
-use Rattle.aadl_syntax.specs.Order.{least, nearer}
+use Rattle.plain_values.specs.Order.{least, nearer}
 use Rattle.propagation_points.specs.States.{state_faults}
 use Rattle.error_behavior.specs.Steps.{targets_of}
 use Rattle.error_behavior.proofs.transitions.targets_of.Given as goal

@@ -1,5 +1,5 @@
 use Rattle.std.proofs.Common.{◌≡◌, drop, flat_map}
-use Rattle.aadl_syntax.specs.Order.{least, nearer}
+use Rattle.plain_values.specs.Order.{least, nearer}
 use Rattle.error_conditions.specs.Conditions.{no_error_at}
 use Rattle.error_conditions.proofs.atom.note_terms.Given as goal
 

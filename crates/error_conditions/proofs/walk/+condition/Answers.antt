@@ -1,8 +1,8 @@
 use Rattle.std.proofs.Common.{◌≡◌, true, flat_map, sym, ap, ◌∙◌}
-use Rattle.aadl_syntax.proofs.OrderLaws.{noted-more}
-use Rattle.aadl_syntax.specs.Order.{least, nearer}
-use Rattle.aadl_syntax.specs.declared.refusal.Code.TheVariants.{OrLess}
-use Rattle.package_index.specs.Lookup.{refused_so}
+use Rattle.plain_values.proofs.OrderLaws.{noted-more}
+use Rattle.plain_values.specs.Order.{least, nearer}
+use Rattle.plain_values.specs.declared.refusal.Code.TheVariants.{OrLess}
+use Rattle.plain_values.specs.Refusal.{refused_so}
 use Rattle.package_index.proofs.Loops.{noting-more}
 use Rattle.error_conditions.specs.Conditions.{cause_of, condition_faults}
 use Rattle.error_conditions.proofs.ConditionLaws.{faults-All, faults-Any, faults-AtLeast, faults-AtMost, map-more}

@@ -1,5 +1,5 @@
 use Rattle.std.proofs.Common.{◌≡◌, drop, flat_map, map, take}
-use Rattle.aadl_syntax.specs.Order.{least, nearer}
+use Rattle.plain_values.specs.Order.{least, nearer}
 use Rattle.error_conditions.specs.Conditions.{cause_of, condition_faults}
 use Rattle.error_conditions.proofs.walk.+condition.Given as goal
 

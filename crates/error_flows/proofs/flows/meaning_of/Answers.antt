@@ -1,7 +1,7 @@
 use Rattle.std.proofs.Common.{◌≡◌, ◌++◌, true, OnOk, subst, sym}
-use Rattle.aadl_syntax.specs.declared.refusal.Code.TheVariants.{Mapping}
-use Rattle.aadl_syntax.specs.Order.{least, nearer}
-use Rattle.component_extension.specs.Members.{refused_there}
+use Rattle.plain_values.specs.declared.refusal.Code.TheVariants.{Mapping}
+use Rattle.plain_values.specs.Order.{least, nearer}
+use Rattle.plain_values.specs.Refusal.{refused_there}
 use Rattle.propagation_points.specs.Uses.{point_use}
 use Rattle.propagation_points.specs.Settings.{faults_in}
 use Rattle.error_flows.specs.Flows.{flow_faults}

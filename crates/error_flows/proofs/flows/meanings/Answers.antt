@@ -1,5 +1,5 @@
 use Rattle.std.proofs.Common.{◌≡◌, ◌++◌, [], option_to_list, ap, ◌∙◌}
-use Rattle.aadl_syntax.specs.Order.{least, nearer}
+use Rattle.plain_values.specs.Order.{least, nearer}
 use Rattle.package_index.proofs.Loops.{gathered-more, noting-more}
 use Rattle.propagation_points.specs.Settings.{clause_setting}
 use Rattle.error_flows.specs.Flows.{flow_faults, flow_meaning}

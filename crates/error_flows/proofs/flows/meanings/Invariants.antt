@@ -1,5 +1,5 @@
 use Rattle.std.proofs.Common.{◌≡◌, drop, take}
-use Rattle.aadl_syntax.specs.Order.{least, nearer}
+use Rattle.plain_values.specs.Order.{least, nearer}
 use Rattle.error_flows.specs.Flows.{faults_of_flows, meanings}
 use Rattle.error_flows.proofs.flows.meanings.Given as goal
 

@@ -1,8 +1,8 @@
 use Rattle.std.proofs.Common.{true, get_or}
 use Rattle.std.proofs.lemmas.List.{get_or_default}
-use Rattle.aadl_syntax.specs.declared.place.Spot.{Spot}
-use Rattle.aadl_syntax.specs.declared.refusal.Code.TheVariants.{Mapping}
-use Rattle.package_index.specs.Lookup.{refused_so}
+use Rattle.plain_values.specs.declared.spot.Spot.{Spot}
+use Rattle.plain_values.specs.declared.refusal.Code.TheVariants.{Mapping}
+use Rattle.plain_values.specs.Refusal.{refused_so}
 use Rattle.package_index.proofs.Loops.{noting-more}
 use Rattle.error_flows.proofs.flows.note_mappings.Goals as goal
 

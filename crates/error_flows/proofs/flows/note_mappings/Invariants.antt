@@ -1,7 +1,7 @@
 use Rattle.std.proofs.Common.{◌≡◌, drop, flat_map, true}
-use Rattle.aadl_syntax.specs.Order.{least, nearer}
-use Rattle.aadl_syntax.specs.declared.refusal.Code.TheVariants.{Mapping}
-use Rattle.package_index.specs.Lookup.{refused_so}
+use Rattle.plain_values.specs.Order.{least, nearer}
+use Rattle.plain_values.specs.declared.refusal.Code.TheVariants.{Mapping}
+use Rattle.plain_values.specs.Refusal.{refused_so}
 use Rattle.error_flows.proofs.flows.note_mappings.Given as goal
 
 abbrev pub invariant-loop-spot : goal.invariant-loop-spot

@@ -1,8 +1,8 @@
 use Rattle.std.proofs.Common.{◌++◌, ap, ◌∙◌}
-use Rattle.aadl_syntax.specs.declared.refusal.Code.TheVariants.{Mapping}
-use Rattle.aadl_syntax.specs.Order.{least, nearer}
-use Rattle.aadl_syntax.proofs.OrderLaws.{noted-more}
-use Rattle.component_extension.specs.Members.{refused_there}
+use Rattle.plain_values.specs.declared.refusal.Code.TheVariants.{Mapping}
+use Rattle.plain_values.specs.Order.{least, nearer}
+use Rattle.plain_values.proofs.OrderLaws.{noted-more}
+use Rattle.plain_values.specs.Refusal.{refused_there}
 use Rattle.propagation_points.specs.Settings.{faults_in}
 use Rattle.error_flows.proofs.flows.path.Goals as goal
 

@@ -2,12 +2,12 @@ use Rattle.std.proofs.Common.{◌≡◌, List, map, Option, refl, ap, ◌∙◌,
 use Rattle.std.proofs.lemmas.List.{take_all}
 use Rattle.std.proofs.lemmas.Result.{err_from_is_err_and}
 use Rattle.aadl_syntax.specs.declared.core_model.PackageUnit.{PackageUnit}
-use Rattle.aadl_syntax.specs.declared.refusal.Refusal.{Refusal}
+use Rattle.plain_values.specs.declared.refusal.Refusal.{Refusal}
 use Rattle.package_index.specs.declared.id.ClassifierId.{ClassifierId}
 use Rattle.error_behavior.specs.Machines.{Machine, find_machine}
 use Rattle.error_conditions.proofs.ConditionLaws.{map-more}
 use Rattle.instantiator.specs.declared.kinds.Kind.{Kind}
-use Rattle.instantiator.specs.Refused.{StopsAt}
+use Rattle.plain_values.specs.Stops.{StopsAt}
 use Rattle.instantiator.specs.Tables.{kind_of}
 use Rattle.error_models.specs.Below.{kind_machine, machine_of}
 use Rattle.error_models.specs.Refused.{fault_of, first_of, machine_fault}

@@ -1,13 +1,13 @@
-use Rattle.std.proofs.Common.{◌≡◌, None, Some, ap, ◌∙◌, subst, sym}
+use Rattle.std.proofs.Common.{◌≡◌, Some, ap, ◌∙◌, subst, sym}
 use Rattle.std.specs.Option.{option_or}
 use Rattle.std.proofs.lemmas.Result.{err_from_is_err_and}
-use Rattle.aadl_syntax.specs.Order.{least}
+use Rattle.plain_values.specs.Order.{least}
 use Rattle.propagation_points.specs.Points.{point_faults, points_of}
 use Rattle.error_flows.specs.Flows.{all_flow_faults, flows_of}
 use Rattle.error_behavior.specs.Behavior.{behavior_faults, behavior_of}
 use Rattle.error_behavior.specs.States.{states_of}
 use Rattle.composite_states.specs.Composites.{clauses_of, composite_clause_faults}
-use Rattle.instantiator.specs.Refused.{StopsAt}
+use Rattle.plain_values.specs.Stops.{StopsAt}
 use Rattle.error_models.specs.Below.{states_below}
 use Rattle.error_models.specs.Models.{is_composite}
 use Rattle.error_models.proofs.KindLaws.{none-or, none-stops, or-stops}

@@ -1,18 +1,16 @@
-use Rattle.std.proofs.Common.{ℕ, ◌≡◌, ◌<◌, ◌≤◌, List, None, Some, Option, get_or, length, map, refl, ap, ◌∙◌, subst, sym}
+use Rattle.std.proofs.Common.{ℕ, ◌≡◌, ◌<◌, ◌≤◌, List, Some, Option, get_or, length, map, refl, ap, ◌∙◌, subst, sym}
 use lib.ListN.{length-map}
 use Rattle.std.proofs.lemmas.List.{get_or_default, take_all}
 use Rattle.std.proofs.lemmas.Result.{err_from_is_err_and}
 use Rattle.aadl_syntax.specs.declared.core_model.PackageUnit.{PackageUnit}
-use Rattle.aadl_syntax.specs.declared.refusal.Refusal.{Refusal}
 use Rattle.package_index.specs.declared.id.ClassifierId.{ClassifierId}
 use Rattle.error_types.specs.Libraries.{Table}
 use Rattle.error_behavior.specs.Machines.{Machine}
 use Rattle.error_conditions.proofs.ConditionLaws.{map-more}
 use Rattle.instantiator.specs.declared.kinds.Kind.{Kind}
 use Rattle.instantiator.specs.Effectives.{effective_of}
-use Rattle.instantiator.specs.Refused.{StopsAt}
+use Rattle.plain_values.specs.Stops.{StopsAt}
 use Rattle.instantiator.specs.Tables.{kind_of}
-use Rattle.error_models.specs.declared.model.ErrorModel.{ErrorModel}
 use Rattle.error_models.specs.Below.{kind_machine, states_below}
 use Rattle.error_models.specs.Models.{model_of, model_with}
 use Rattle.error_models.specs.Refused.{first_of, model_refusal, refusal_with}

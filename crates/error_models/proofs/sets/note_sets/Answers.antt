@@ -1,8 +1,7 @@
-use Rattle.std.proofs.Common.{◌≡◌, ◌<◌, List, get_or, length, map, refl, ap, ◌∙◌, subst, sym}
+use Rattle.std.proofs.Common.{◌≡◌, ◌<◌, get_or, length, refl, ap, ◌∙◌, subst, sym}
 use lib.ListN.{length-map}
 use Rattle.std.proofs.lemmas.List.{get_or_default}
-use Rattle.aadl_syntax.specs.Order.{least, nearer}
-use Rattle.component_extension.specs.declared.effective.Effective.{Effective}
+use Rattle.plain_values.specs.Order.{least, nearer}
 use Rattle.package_index.proofs.Loops.{noting-more}
 use Rattle.package_index.specs.declared.id.ClassifierId.{ClassifierId}
 use Rattle.error_types.specs.Libraries.{Table}

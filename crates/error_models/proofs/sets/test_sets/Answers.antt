@@ -1,8 +1,8 @@
-use Rattle.std.proofs.Common.{[], Contains, Err, IfErr, MatchOption, None, ap, subst, sym, ◌≡◌, ◌∙◌}
+use Rattle.std.proofs.Common.{[], Contains, Err, IfErr, MatchOption, ap, subst, sym, ◌≡◌, ◌∙◌}
 use Rattle.std.proofs.lemmas.Result.{err_from_is_err_and}
-use Rattle.aadl_syntax.specs.Order.{IsFirst, least, nearer}
-use Rattle.aadl_syntax.proofs.OrderLaws.{noted-all}
-use Rattle.package_index.specs.Duplicates.{IsRefused}
+use Rattle.plain_values.specs.Order.{IsFirst, least, nearer}
+use Rattle.plain_values.proofs.OrderLaws.{noted-all}
+use Rattle.plain_values.specs.Stops.{StopsAtFirst}
 use Rattle.error_models.specs.Refused.{all_set_faults}
 use Rattle.error_models.proofs.sets.test_sets.Goals as goal
 
@@ -12,7 +12,7 @@ returns-in_err-settle-clause-refused c =
     let settled = noted-all c.note_sets.new.first group (c.in_ok-note_sets.ensures.first ∙ ap (λ first. nearer first (least group)) c.new-first.ensures) in
     let first = subst (λ o. MatchOption o (group ≡ []) (IsFirst (Contains group))) c.in_err-settle.ensures settled in
     let p = err_from_is_err_and c.from_residual-in_err-settle.result c.from_residual-in_err-settle.ensures.1 in
-    subst (λ r. IfErr r (IsRefused (Contains group))) (sym (p.1 ∙ ap Err p.2)) first
+    subst (λ r. IfErr r (StopsAtFirst (Contains group))) (sym (p.1 ∙ ap Err p.2)) first
 
 pub returns-clause-accepted : goal.returns-clause-accepted
 returns-clause-accepted c =

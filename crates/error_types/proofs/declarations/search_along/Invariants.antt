@@ -1,6 +1,6 @@
 use Rattle.std.proofs.Common.{◌≡◌, drop}
 use Rattle.std.specs.HashMap.{get}
-use Rattle.aadl_syntax.specs.Order.{nearer}
+use Rattle.plain_values.specs.Order.{nearer}
 use Rattle.error_types.specs.Known.{AreFound, same_search}
 use Rattle.error_types.specs.Search.{search_along}
 use Rattle.error_types.proofs.declarations.search_along.Given as goal

@@ -1,5 +1,5 @@
 use Rattle.std.proofs.Common.{[], ◌++◌, flat_map, take, refl, ap, ◌∙◌, subst}
-use Rattle.aadl_syntax.specs.Order.{nearer}
+use Rattle.plain_values.specs.Order.{nearer}
 use Rattle.package_index.proofs.Loops.{gathered-more}
 use Rattle.error_types.specs.Rows.{Adds, Remembers, row_of}
 use Rattle.error_types.specs.Walk.{term_first, term_types}

@@ -1,5 +1,5 @@
 use Rattle.std.proofs.Common.{◌≡◌, drop, flat_map, take}
-use Rattle.aadl_syntax.specs.Order.{nearer}
+use Rattle.plain_values.specs.Order.{nearer}
 use Rattle.error_types.specs.Rows.{Remembers, row_of}
 use Rattle.error_types.specs.Walk.{term_types, terms_first}
 use Rattle.error_types.proofs.denoted.add_terms.Given as goal

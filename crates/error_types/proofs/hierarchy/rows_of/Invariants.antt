@@ -1,6 +1,6 @@
 use Rattle.std.proofs.Common.{◌≡◌, map}
 use Rattle.error_types.specs.Rows.{row_below}
-use Rattle.error_types.specs.Types.{numbers_below}
+use Rattle.plain_values.specs.Numbered.{numbers_below}
 use Rattle.error_types.proofs.hierarchy.rows_of.Given as goal
 
 abbrev pub invariant-loop-high : goal.invariant-loop-high

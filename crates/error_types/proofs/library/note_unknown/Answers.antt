@@ -1,8 +1,8 @@
 use Rattle.std.proofs.Common.{ℕ, ◌≡◌, Bool, true, false, not, Option, Some, None, is_none, is_some, refl, sym, ap, ◌∙◌}
 use Rattle.std.proofs.lemmas.Bool.{false≢true}
-use Rattle.aadl_syntax.specs.Order.{least, nearer}
-use Rattle.aadl_syntax.specs.declared.refusal.Code.TheVariants.{UnknownPackage}
-use Rattle.package_index.specs.Lookup.{refused_so}
+use Rattle.plain_values.specs.Order.{least, nearer}
+use Rattle.plain_values.specs.declared.refusal.Code.TheVariants.{UnknownPackage}
+use Rattle.plain_values.specs.Refusal.{refused_so}
 use Rattle.package_index.proofs.Loops.{noting-more}
 use Rattle.error_types.specs.Libraries.{library_named}
 use Rattle.error_types.proofs.library.note_unknown.Goals as goal

@@ -1,5 +1,5 @@
 use Rattle.std.proofs.Common.{◌≡◌, drop}
-use Rattle.aadl_syntax.specs.Order.{least, nearer}
+use Rattle.plain_values.specs.Order.{least, nearer}
 use Rattle.error_types.specs.Libraries.{unknown_libraries}
 use Rattle.error_types.proofs.library.note_unknown.Given as goal
 

@@ -1,6 +1,6 @@
 use Rattle.std.proofs.Common.{[], ◌∷◌, ◌++◌, cond, sym, ap, ◌∙◌, take}
 use Rattle.std.proofs.lemmas.List.{append_assoc}
-use Rattle.package_index.specs.Numbered.{numbered_from}
+use Rattle.plain_values.specs.Numbered.{numbered_from}
 use Rattle.package_index.proofs.Loops.{numbered-more}
 use Rattle.error_types.specs.Libraries.{counted}
 use Rattle.error_types.proofs.numbers.add_types.Goals as goal

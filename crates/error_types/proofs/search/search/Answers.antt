@@ -1,5 +1,5 @@
 use Rattle.std.proofs.Common.{sym, ap, ◌∙◌}
-use Rattle.aadl_syntax.specs.Order.{nearer}
+use Rattle.plain_values.specs.Order.{nearer}
 use Rattle.error_types.proofs.Ends.{ends}
 use Rattle.error_types.proofs.SearchLaws.{ends-at-once}
 use Rattle.error_types.proofs.search.search.Goals as goal

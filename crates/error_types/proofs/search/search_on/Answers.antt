@@ -1,5 +1,5 @@
 use Rattle.std.proofs.Common.{◌≡◌, [], sym, ap, ◌∙◌, subst}
-use Rattle.aadl_syntax.specs.Order.{nearer}
+use Rattle.plain_values.specs.Order.{nearer}
 use Rattle.error_types.specs.Course.{left}
 use Rattle.error_types.specs.Leaving.{Leads}
 use Rattle.error_types.specs.Search.{unknown_in}

@@ -1,6 +1,6 @@
 use Rattle.std.proofs.Common.{◌+◌, ◌<◌, ◌^◌, slice_get, refl, sym, ◌∙◌, arith}
 use Rattle.std.specs.Prelude.{option_copied}
-use Rattle.aadl_syntax.specs.Order.{nearer}
+use Rattle.plain_values.specs.Order.{nearer}
 use Rattle.error_types.proofs.SettleLaws.{settled-other, settled-type}
 use Rattle.error_types.proofs.settle.settle_by.Goals as goal
 use Rattle.error_types.proofs.settle.settle_by.Goals.{then-is_type_item, else-is_type_item+in_ok-row}

@@ -1,6 +1,6 @@
 use Rattle.std.proofs.Common.{[], ◌++◌, option_to_list, ap, ◌∙◌}
 use Rattle.std.proofs.lemmas.Result.{IfOk-weaker}
-use Rattle.aadl_syntax.specs.Order.{least}
+use Rattle.plain_values.specs.Order.{least}
 use Rattle.error_types.specs.Trip.{walk_left}
 use Rattle.error_types.specs.Walk.{needs_of, of_item, products_of}
 use Rattle.error_types.proofs.TripLaws.{starts}

@@ -1,5 +1,5 @@
 use Rattle.std.proofs.Common.{◌≡◌, drop, flat_map}
-use Rattle.aadl_syntax.specs.Order.{least, nearer}
+use Rattle.plain_values.specs.Order.{least, nearer}
 use Rattle.error_types.specs.Walk.{product_of_term}
 use Rattle.error_types.proofs.walk.note_products.Given as goal
 

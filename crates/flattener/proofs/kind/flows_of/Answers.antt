@@ -1,6 +1,6 @@
 use Rattle.std.proofs.Common.{ap, sym, ◌∙◌, ◌++◌, ◌+◌, ◌≤◌, List, length, take, subst}
 use Rattle.std.proofs.lemmas.List.{take_all}
-use Rattle.package_index.specs.Numbered.{numbered_from}
+use Rattle.plain_values.specs.Numbered.{numbered_from}
 use Rattle.package_index.proofs.Loops.{numbered-more}
 use Rattle.error_flows.specs.declared.meaning.FlowMeaning.{FlowMeaning}
 use Rattle.flattener.specs.Formulas.{FlowAt, flow_at}

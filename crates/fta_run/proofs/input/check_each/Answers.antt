@@ -1,7 +1,7 @@
 use Rattle.std.proofs.Common.{◌≡◌, [], Option, MatchOption, subst}
 use Rattle.std.proofs.lemmas.Result.{MatchResult-weaker}
-use Rattle.aadl_syntax.specs.declared.refusal.Refusal.{Refusal}
-use Rattle.aadl_syntax.specs.Order.{IsFirst, least, nearer}
+use Rattle.plain_values.specs.declared.refusal.Refusal.{Refusal}
+use Rattle.plain_values.specs.Order.{IsFirst, least, nearer}
 use Rattle.fta_run.specs.Files.{HasTooLong, too_long, too_long_from}
 use Rattle.fta_run.proofs.Inputs.{each_step, each_end}
 use Rattle.fta_run.proofs.input.check_each.Goals as goal

@@ -1,5 +1,5 @@
 use Rattle.std.proofs.Common.{◌≡◌, drop}
-use Rattle.aadl_syntax.specs.Order.{least, nearer}
+use Rattle.plain_values.specs.Order.{least, nearer}
 use Rattle.fta_run.specs.Files.{too_long_from}
 use Rattle.fta_run.proofs.input.check_each.Given as goal
 

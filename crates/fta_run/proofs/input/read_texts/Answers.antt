@@ -1,6 +1,6 @@
 use Rattle.std.proofs.Common.{◌≡◌, ◌≤◌, [], length, sum_by, sym, subst, inl}
 use Rattle.std.proofs.lemmas.List.Elements.{All-from_recursion}
-use Rattle.aadl_syntax.specs.Order.{IsFirst}
+use Rattle.plain_values.specs.Order.{IsFirst}
 use Rattle.phases.specs.Phases.{Stops}
 use Rattle.phases.specs.declared.status.Status.TheVariants.{Refused}
 use Rattle.phases.proofs.Steps.{exits}

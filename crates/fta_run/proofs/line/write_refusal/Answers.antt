@@ -1,6 +1,6 @@
 use Rattle.std.proofs.Common.{◌≡◌, ℕ, List, ◌++◌, codes, sym, ap, ◌∙◌, append_assoc}
 use Rattle.std.proofs.lemmas.Result.{err_from_is_err_and}
-use Rattle.aadl_syntax.specs.Refusal.{code_text}
+use Rattle.plain_values.specs.Refusal.{code_text}
 use Rattle.fta_run.specs.Line.{limit_text, place_text}
 use Rattle.cutset_writer.proofs.Writing.{wrote_not, wrote_then}
 use Rattle.fta_run.proofs.line.write_refusal.Goals as goal

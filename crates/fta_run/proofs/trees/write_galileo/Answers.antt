@@ -1,7 +1,7 @@
 use Rattle.std.proofs.Common.{Err, ap}
 use Rattle.galileo_writer.specs.TreeText.{tree_text}
 use Rattle.fta_run.specs.Due.{galileo_of}
-use Rattle.fta_run.specs.declared.text.WriteStop.{WriteStop}
+use Rattle.fta_outside.specs.declared.error.WriteError.{WriteError}
 use Rattle.fta_run.proofs.Prints.{prints_front}
 use Rattle.fta_run.proofs.trees.write_galileo.Goals as goal
 
@@ -10,4 +10,4 @@ returns-in_err-write_text g c =
     let system = c.args.system.now in
     let target = c.args.part.now.target in
     prints_front (galileo_of target system) (tree_text system c.in_ok-tree.tree c.items.result.now) c.in_err-write_text.field-0.0 c.from_residual-in_err-write_text.result _ _ _ _ c.from_residual-in_err-write_text.ensures.1
-    (record { passed = c.in_err-write_text.ensures.text target c.in_ok-tree.ensures.tree }) c.in_err-write_text.ensures.prefix (λ failed. c.in_err-write_text.ensures.failed (ap (λ (s : WriteStop). Err s) failed))
+    (record { passed = c.in_err-write_text.ensures.text target c.in_ok-tree.ensures.tree }) c.in_err-write_text.ensures.prefix (λ failed. c.in_err-write_text.ensures.failed (ap (λ (s : WriteError). Err s) failed))

@@ -1,5 +1,5 @@
 use Rattle.std.proofs.Common.{sym, ◌∙◌, ap}
-use Rattle.aadl_syntax.specs.Name.{is_same_text}
+use Rattle.plain_values.specs.Name.{is_same_text}
 use Rattle.fta_words.specs.Words.{has_flag}
 use Rattle.fta_words.specs.Reading.{flags_of, valued_of}
 use Rattle.fta_words.proofs.Spelled.{first_is, kinds_apart, none_given, said_here, said_later}

@@ -1,6 +1,6 @@
 use Rattle.std.proofs.Common.{◌≡◌, ℕ, List, Some, None, Bor, length, sym, ap, ◌∙◌, rules, arith}
 use Rattle.std.proofs.lemmas.Bool.{false≢true}
-use Rattle.aadl_syntax.specs.Name.{folded}
+use Rattle.plain_values.specs.Name.{folded}
 use Rattle.fta_words.proofs.Roots.{root_split, same_root}
 use Rattle.fta_words.proofs.root.root_of.Goals as goal
 

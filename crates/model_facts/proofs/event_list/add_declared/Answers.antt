@@ -1,5 +1,5 @@
 use Rattle.std.proofs.lemmas.Result.{err_from_is_err_and}
-use Rattle.aadl_syntax.specs.declared.refusal.Code.TheVariants.{TooManyEvents}
+use Rattle.plain_values.specs.declared.refusal.Code.TheVariants.{TooManyEvents}
 use Rattle.model_facts.specs.Facts.{event_in}
 use Rattle.model_facts.specs.declared.keys.EventKind.TheVariants.{Declared}
 use Rattle.model_facts.specs.Limits.{most_events}

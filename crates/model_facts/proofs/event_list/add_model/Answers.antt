@@ -1,9 +1,8 @@
 use Rattle.std.proofs.Common.{◌++◌, length, map, ap, sym, ◌∙◌, subst}
 use Rattle.std.proofs.lemmas.List.{length-map}
 use Rattle.std.proofs.lemmas.Result.{err_from_is_err_and}
-use Rattle.aadl_syntax.specs.declared.refusal.Code.TheVariants.{TooManyEvents}
-use Rattle.error_types.specs.Types.{numbers_below}
-use Rattle.package_index.specs.Numbered.{numbered_from}
+use Rattle.plain_values.specs.declared.refusal.Code.TheVariants.{TooManyEvents}
+use Rattle.plain_values.specs.Numbered.{numbers_below, numbered_from}
 use Rattle.model_facts.specs.Facts.{arrivals, event_in, source_events}
 use Rattle.model_facts.specs.Limits.{most_events}
 use Rattle.model_facts.specs.Steps.{AddsEvents, Exceeds}

@@ -1,6 +1,6 @@
 use Rattle.std.proofs.Common.{map}
 use Rattle.std.proofs.lemmas.Result.{err_from_is_err_and}
-use Rattle.aadl_syntax.specs.declared.refusal.Code.TheVariants.{TooManyEvents}
+use Rattle.plain_values.specs.declared.refusal.Code.TheVariants.{TooManyEvents}
 use Rattle.model_facts.specs.Facts.{arrivals, event_in}
 use Rattle.model_facts.specs.Limits.{most_events}
 use Rattle.model_facts.proofs.StepLaws.{exceeds-numbered, grows-numbered}

@@ -1,5 +1,5 @@
 use Rattle.std.proofs.Common.{map, take}
-use Rattle.package_index.specs.Numbered.{numbered_from}
+use Rattle.plain_values.specs.Numbered.{numbered_from}
 use Rattle.model_facts.specs.Facts.{arrivals, event_in}
 use Rattle.model_facts.specs.Limits.{most_events}
 use Rattle.model_facts.specs.Steps.{Grows}

@@ -1,8 +1,7 @@
 use Rattle.std.proofs.Common.{◌++◌, length, map, ap, sym, ◌∙◌, subst}
 use Rattle.std.proofs.lemmas.List.{length-map}
-use Rattle.aadl_syntax.specs.declared.refusal.Code.TheVariants.{TooManyFacts}
-use Rattle.error_types.specs.Types.{numbers_below}
-use Rattle.package_index.specs.Numbered.{numbered_from}
+use Rattle.plain_values.specs.declared.refusal.Code.TheVariants.{TooManyFacts}
+use Rattle.plain_values.specs.Numbered.{numbers_below, numbered_from}
 use Rattle.model_facts.specs.Facts.{fact_in, point_facts}
 use Rattle.model_facts.specs.Limits.{most_facts}
 use Rattle.model_facts.specs.Steps.{AddsFacts}

@@ -1,5 +1,5 @@
 use Rattle.std.proofs.Common.{true, false, ◌++◌, map, ap, ◌∙◌, subst}
-use Rattle.aadl_syntax.specs.declared.refusal.Code.TheVariants.{TooManyFacts}
+use Rattle.plain_values.specs.declared.refusal.Code.TheVariants.{TooManyFacts}
 use Rattle.propagation_points.specs.Uses.{side_types}
 use Rattle.model_facts.specs.Facts.{fact_in}
 use Rattle.model_facts.specs.Limits.{most_facts}

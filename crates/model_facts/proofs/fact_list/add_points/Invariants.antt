@@ -1,5 +1,5 @@
 use Rattle.std.proofs.Common.{map, take}
-use Rattle.package_index.specs.Numbered.{numbered_from}
+use Rattle.plain_values.specs.Numbered.{numbered_from}
 use Rattle.model_facts.specs.Facts.{fact_in, point_facts}
 use Rattle.model_facts.specs.Limits.{most_facts}
 use Rattle.model_facts.specs.Steps.{Grows}

@@ -1,5 +1,5 @@
 use Rattle.std.proofs.lemmas.Result.{err_from_is_err_and}
-use Rattle.aadl_syntax.specs.declared.refusal.Code.TheVariants.{TooManyFacts}
+use Rattle.plain_values.specs.declared.refusal.Code.TheVariants.{TooManyFacts}
 use Rattle.model_facts.specs.Facts.{fact_in}
 use Rattle.model_facts.specs.declared.keys.FactKind.TheVariants.{State}
 use Rattle.model_facts.specs.Limits.{most_facts}

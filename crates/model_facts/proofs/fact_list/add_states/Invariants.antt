@@ -1,5 +1,5 @@
 use Rattle.std.proofs.Common.{map}
-use Rattle.error_types.specs.Types.{numbers_below}
+use Rattle.plain_values.specs.Numbered.{numbers_below}
 use Rattle.model_facts.specs.Facts.{fact_in}
 use Rattle.model_facts.specs.Limits.{most_facts}
 use Rattle.model_facts.specs.Steps.{Grows}

@@ -1,5 +1,5 @@
 use Rattle.std.proofs.Common.{◌≡◌, false, filter, slice_index_or}
-use Rattle.error_types.specs.Types.{numbers_below}
+use Rattle.plain_values.specs.Numbered.{numbers_below}
 use Rattle.model_facts.proofs.universe.marked.Given as goal
 
 abbrev pub invariant-loop-number : goal.invariant-loop-number

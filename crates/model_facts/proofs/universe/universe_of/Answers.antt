@@ -1,5 +1,5 @@
 use Rattle.std.proofs.Common.{◌≡◌, false, List, ℕ, Bool, IfOk, filter, length, slice_index_or, ap, ◌∙◌, subst}
-use Rattle.error_types.specs.Types.{numbers_below}
+use Rattle.plain_values.specs.Numbered.{numbers_below}
 use Rattle.model_facts.specs.Assembly.{declared_numbers}
 use Rattle.model_facts.proofs.MarkLaws.{marked-are}
 use Rattle.model_facts.proofs.universe.universe_of.Goals as goal

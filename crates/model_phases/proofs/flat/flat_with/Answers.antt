@@ -2,7 +2,7 @@ use Rattle.std.proofs.Common.{◌≡◌, length, ap, sym, ◌∙◌, subst}
 use Rattle.phases.specs.Meets.{IsMemory}
 use Rattle.phases.specs.Stopped.{status_of}
 use Rattle.phases.proofs.Steps.{ends, exits}
-use Rattle.instantiator.specs.Refused.{StopsAt}
+use Rattle.plain_values.specs.Stops.{StopsAt}
 use Rattle.model_facts.specs.Assembly.{Assembly}
 use Rattle.flattener.specs.Flat.{size_refusal, system_of}
 use Rattle.model_phases.specs.declared.flat.FlatModel.{FlatModel}

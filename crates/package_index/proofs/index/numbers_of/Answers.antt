@@ -1,6 +1,6 @@
 use Rattle.std.proofs.Common.{◌≡◌, ap, ◌∙◌, not, take}
 use Rattle.std.specs.HashMap.{get}
-use Rattle.aadl_syntax.specs.Order.{least, nearer}
+use Rattle.plain_values.specs.Order.{least, nearer}
 use Rattle.package_index.specs.declared.words.Words.{Words}
 use Rattle.package_index.specs.declared.words.Words.TheVariants.{Identifiers}
 use Rattle.package_index.specs.Duplicates.{again_at}

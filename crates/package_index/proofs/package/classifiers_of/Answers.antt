@@ -1,6 +1,6 @@
 use Rattle.std.proofs.Common.{ap, ◌∙◌, take}
 use Rattle.std.specs.HashMap.{get}
-use Rattle.aadl_syntax.specs.Order.{least, nearer}
+use Rattle.plain_values.specs.Order.{least, nearer}
 use Rattle.package_index.specs.Duplicates.{again_at}
 use Rattle.package_index.specs.Lookup.{is_named}
 use Rattle.package_index.specs.Tables.{has_key, Key, same_key}

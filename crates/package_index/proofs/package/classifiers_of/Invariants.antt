@@ -1,6 +1,6 @@
 use Rattle.std.proofs.Common.{◌≡◌, take, drop}
 use Rattle.std.specs.HashMap.{get}
-use Rattle.aadl_syntax.specs.Order.{least, nearer}
+use Rattle.plain_values.specs.Order.{least, nearer}
 use Rattle.package_index.specs.Duplicates.{again_after, classifiers_again}
 use Rattle.package_index.specs.Lookup.{is_named}
 use Rattle.package_index.specs.Tables.{Knows, has_key, same_key}

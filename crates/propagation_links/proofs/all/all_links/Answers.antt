@@ -1,7 +1,7 @@
 use Rattle.std.proofs.Common.{◌<◌, ◌≤◌, ap, ◌∙◌, length, arith}
 use Rattle.std.proofs.lemmas.List.{take_all}
 use Rattle.std.proofs.lemmas.Result.{err_from_is_err_and}
-use Rattle.package_index.specs.Numbered.{numbered_from}
+use Rattle.plain_values.specs.Numbered.{numbered_from}
 use Rattle.instantiator.specs.Whole.{Instance}
 use Rattle.propagation_links.specs.Links.{component_links}
 use Rattle.propagation_links.proofs.LinkLaws.{accepted-all, accepted-more, links-more, stops-at}

@@ -1,5 +1,5 @@
 use Rattle.std.proofs.Common.{◌≡◌, [], take}
-use Rattle.package_index.specs.Numbered.{numbered_from}
+use Rattle.plain_values.specs.Numbered.{numbered_from}
 use Rattle.propagation_links.specs.Links.{component_links}
 use Rattle.propagation_links.specs.Refused.{component_fault}
 use Rattle.propagation_links.proofs.all.all_links.Given as goal

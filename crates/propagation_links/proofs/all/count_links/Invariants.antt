@@ -1,6 +1,6 @@
 use Rattle.std.proofs.Common.{◌≡◌, ◌≤◌, ◌*◌, ◌^◌, ◌∷◌, [], sum, take}
 use Rattle.instantiator.specs.Whole.{effective_in}
-use Rattle.package_index.specs.Numbered.{numbered_from}
+use Rattle.plain_values.specs.Numbered.{numbered_from}
 use Rattle.propagation_links.specs.Refused.{count_in}
 use Rattle.propagation_links.proofs.all.count_links.Given as goal
 

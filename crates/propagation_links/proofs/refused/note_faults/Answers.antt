@@ -1,8 +1,8 @@
 use Rattle.std.proofs.Common.{◌++◌, true, flat_map, ap, ◌∙◌}
-use Rattle.aadl_syntax.specs.declared.refusal.Code.TheVariants.{ConnectionError}
-use Rattle.aadl_syntax.specs.Order.{least, nearer}
-use Rattle.aadl_syntax.proofs.OrderLaws.{noted-more}
-use Rattle.package_index.specs.Lookup.{refused_so}
+use Rattle.plain_values.specs.declared.refusal.Code.TheVariants.{ConnectionError}
+use Rattle.plain_values.specs.Order.{least, nearer}
+use Rattle.plain_values.proofs.OrderLaws.{noted-more}
+use Rattle.plain_values.specs.Refusal.{refused_so}
 use Rattle.propagation_links.specs.Refused.{connection_faults, path_faults}
 use Rattle.propagation_links.proofs.refused.note_faults.Goals as goal
 

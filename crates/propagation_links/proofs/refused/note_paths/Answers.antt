@@ -1,5 +1,5 @@
 use Rattle.std.proofs.Common.{◌++◌, ap, ◌∙◌}
-use Rattle.aadl_syntax.specs.Order.{least, nearer}
+use Rattle.plain_values.specs.Order.{least, nearer}
 use Rattle.aadl_syntax.specs.declared.error_model.UserPath.{UserPath}
 use Rattle.package_index.proofs.Loops.{noting-more}
 use Rattle.propagation_links.specs.Refused.{path_end_faults, path_faults}

@@ -1,5 +1,5 @@
 use Rattle.std.proofs.Common.{◌≡◌, drop, flat_map}
-use Rattle.aadl_syntax.specs.Order.{least, nearer}
+use Rattle.plain_values.specs.Order.{least, nearer}
 use Rattle.propagation_links.specs.Refused.{path_faults}
 use Rattle.propagation_links.proofs.refused.note_paths.Given as goal
 

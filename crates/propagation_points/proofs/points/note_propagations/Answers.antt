@@ -1,5 +1,5 @@
 use Rattle.std.proofs.Common.{ap, ◌∙◌}
-use Rattle.aadl_syntax.specs.Order.{least, nearer}
+use Rattle.plain_values.specs.Order.{least, nearer}
 use Rattle.package_index.specs.Names.{only}
 use Rattle.package_index.proofs.Loops.{noting-more}
 use Rattle.propagation_points.specs.Points.{fault_at, propagation_faults}

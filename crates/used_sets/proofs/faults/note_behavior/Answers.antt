@@ -1,6 +1,6 @@
 use Rattle.std.proofs.Common.{◌≡◌, ◌∙◌}
-use Rattle.aadl_syntax.specs.Order.{least, nearer}
-use Rattle.error_conditions.proofs.Noted.{noted-four}
+use Rattle.plain_values.specs.Order.{least, nearer}
+use Rattle.plain_values.proofs.Noted.{noted-four}
 use Rattle.used_sets.specs.Sets.{composite_sets, event_sets, outgoing_sets, transition_sets}
 use Rattle.used_sets.specs.Used.{items_faults}
 use Rattle.used_sets.proofs.faults.note_behavior.Goals as goal

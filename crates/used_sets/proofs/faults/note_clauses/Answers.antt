@@ -1,5 +1,5 @@
 use Rattle.std.proofs.Common.{◌≡◌, ap, ◌∙◌}
-use Rattle.aadl_syntax.specs.Order.{least, nearer}
+use Rattle.plain_values.specs.Order.{least, nearer}
 use Rattle.propagation_points.specs.Points.{scopes_of}
 use Rattle.used_sets.specs.Used.{faults_with}
 use Rattle.used_sets.proofs.faults.note_clauses.Goals as goal

@@ -1,5 +1,5 @@
 use Rattle.std.proofs.Common.{◌≡◌, ◌+◌, ◌||◌, take, sym, ap, ◌∙◌}
-use Rattle.aadl_syntax.specs.Order.{least, nearer}
+use Rattle.plain_values.specs.Order.{least, nearer}
 use Rattle.package_index.proofs.Loops.{any-more, noting-more}
 use Rattle.used_sets.specs.Used.{item_faults, use_clause, uses_clause}
 use Rattle.used_sets.proofs.MarkLaws.{marked-same, marked-then}

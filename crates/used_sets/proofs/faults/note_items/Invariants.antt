@@ -1,5 +1,5 @@
 use Rattle.std.proofs.Common.{◌≡◌, drop, take}
-use Rattle.aadl_syntax.specs.Order.{least, nearer}
+use Rattle.plain_values.specs.Order.{least, nearer}
 use Rattle.used_sets.specs.Marks.{Marked}
 use Rattle.used_sets.specs.Used.{items_faults, use_clause}
 use Rattle.used_sets.proofs.faults.note_items.Given as goal

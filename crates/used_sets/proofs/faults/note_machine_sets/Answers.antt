@@ -1,8 +1,8 @@
 use Rattle.std.proofs.Common.{◌≡◌, Some, [], cond, flat_map, ap, ◌∙◌}
-use Rattle.aadl_syntax.specs.Order.{least, nearer}
+use Rattle.plain_values.specs.Order.{least, nearer}
 use Rattle.error_types.specs.Libraries.{unknown_libraries}
 use Rattle.error_types.specs.Types.{text_scope}
-use Rattle.error_conditions.proofs.Noted.{noted-two}
+use Rattle.plain_values.proofs.Noted.{noted-two}
 use Rattle.used_sets.specs.Used.{is_some_set, set_fault}
 use Rattle.used_sets.proofs.faults.note_machine_sets.Goals as goal
 

@@ -1,5 +1,5 @@
 use Rattle.std.proofs.Common.{◌≡◌, drop, flat_map, option_copied}
-use Rattle.aadl_syntax.specs.Order.{least, nearer}
+use Rattle.plain_values.specs.Order.{least, nearer}
 use Rattle.used_sets.specs.Used.{set_fault}
 use Rattle.used_sets.proofs.faults.note_sets.Given as goal
 

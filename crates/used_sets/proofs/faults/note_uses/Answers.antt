@@ -1,5 +1,5 @@
 use Rattle.std.proofs.Common.{◌≡◌, [], cond, false, slice_index_or, ap, ◌∙◌}
-use Rattle.aadl_syntax.specs.Order.{least, nearer}
+use Rattle.plain_values.specs.Order.{least, nearer}
 use Rattle.error_types.specs.Libraries.{unknown_libraries}
 use Rattle.used_sets.specs.Used.{uses_fault}
 use Rattle.used_sets.proofs.MarkLaws.{numbered-noting}

@@ -1,6 +1,6 @@
 use Rattle.std.proofs.Common.{◌≡◌, false, drop, slice_index_or}
-use Rattle.aadl_syntax.specs.Order.{least, nearer}
-use Rattle.package_index.specs.Numbered.{numbered_from}
+use Rattle.plain_values.specs.Order.{least, nearer}
+use Rattle.plain_values.specs.Numbered.{numbered_from}
 use Rattle.used_sets.specs.Used.{uses_fault}
 use Rattle.used_sets.proofs.faults.note_uses.Given as goal
 

@@ -1,9 +1,9 @@
 use Rattle.std.proofs.Common.{ℕ, ◌+◌, ◌≡◌, ◌<◌, ◌||◌, [], cond, false, length, slice_index_or, sym, ap, ◌∙◌, subst, arith}
-use Rattle.aadl_syntax.specs.Order.{least, nearer}
+use Rattle.plain_values.specs.Order.{least, nearer}
 use Rattle.component_extension.specs.Items.{Clause}
 use Rattle.error_types.specs.Libraries.{unknown_libraries}
-use Rattle.package_index.specs.Numbered.{numbered_from}
-use Rattle.error_conditions.proofs.Noted.{noted-two}
+use Rattle.plain_values.specs.Numbered.{numbered_from}
+use Rattle.plain_values.proofs.Noted.{noted-two}
 use Rattle.used_sets.specs.Used.{effective_faults, is_used, uses_fault}
 use Rattle.used_sets.proofs.MarkLaws.{numbered-same}
 use Rattle.used_sets.proofs.faults.note_with.Goals as goal

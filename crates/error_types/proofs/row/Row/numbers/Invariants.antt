@@ -1,5 +1,5 @@
 use Rattle.std.proofs.Common.{◌≡◌, filter}
-use Rattle.error_types.specs.Types.{numbers_below}
+use Rattle.plain_values.specs.Numbered.{numbers_below}
 use Rattle.error_types.specs.Words.{bit_in}
 use Rattle.error_types.proofs.row.Row.numbers.Given as goal
 

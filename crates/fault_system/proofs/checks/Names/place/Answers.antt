@@ -1,6 +1,5 @@
-use Rattle.std.proofs.Common.{ap, ◌∙◌}
-use Rattle.aadl_syntax.specs.Name.{is_same_text}
-use Rattle.std.proofs.Common.{position}
+use Rattle.std.proofs.Common.{ap, ◌∙◌, position}
+use Rattle.plain_values.specs.Name.{is_same_text}
 use Rattle.fault_system.proofs.NameTables.{position-keys}
 use Rattle.fault_system.proofs.checks.Names.place.Goals as goal
 

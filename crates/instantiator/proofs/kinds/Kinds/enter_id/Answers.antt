@@ -1,9 +1,9 @@
 use Rattle.std.proofs.Common.{◌≡◌, sym, ap, ◌∙◌, subst}
 use Rattle.std.proofs.lemmas.Result.{err_from_is_err_and}
-use Rattle.aadl_syntax.specs.Order.{least}
+use Rattle.plain_values.specs.Order.{least}
 use Rattle.component_extension.specs.Items.{classifier_faults}
 use Rattle.component_extension.specs.Effective.{IsEffective}
-use Rattle.instantiator.specs.Refused.{StopsAt}
+use Rattle.plain_values.specs.Stops.{StopsAt}
 use Rattle.instantiator.specs.Whole.{Kinds}
 use Rattle.instantiator.proofs.EffectiveIs.{effective-is}
 use Rattle.instantiator.proofs.KindLaws.{entered-again, entered-new, refused-stops}

@@ -1,7 +1,8 @@
 use Rattle.std.proofs.Common.{◌≡◌, Err, IfErr, MatchOption, ap, subst, sym, ◌∙◌}
 use Rattle.std.proofs.lemmas.Result.{err_from_is_err_and}
-use Rattle.aadl_syntax.specs.Order.{IsClear, IsFirst, least, nearer}
-use Rattle.package_index.specs.Duplicates.{IsDuplicate, IsRefused, packages_again}
+use Rattle.plain_values.specs.Order.{IsClear, IsFirst, least, nearer}
+use Rattle.package_index.specs.Duplicates.{IsDuplicate, packages_again}
+use Rattle.plain_values.specs.Stops.{StopsAtFirst}
 use Rattle.package_index.specs.Lookup.{packages_of}
 use Rattle.package_index.proofs.Gathering.{noted-duplicates}
 use Rattle.package_index.proofs.index.Index.new.Goals as goal
@@ -13,7 +14,7 @@ returns-in_err-settle-clause-refused c =
     let settled = noted-duplicates packages c.in_ok-packages.packages c.new-first.result c.tables_of.new.first c.numbers_of.new.first c.new-first.ensures c.in_ok-packages.ensures noted in
     let first = subst (λ o. MatchOption o (IsClear (IsDuplicate packages)) (λ refusal. IsFirst (IsDuplicate packages) refusal)) c.in_err-settle.ensures settled in
     let p = err_from_is_err_and c.from_residual-in_err-settle.result c.from_residual-in_err-settle.ensures.1 in
-    subst (λ r. IfErr r (IsRefused (IsDuplicate packages))) (sym (p.1 ∙ ap Err p.2)) first
+    subst (λ r. IfErr r (StopsAtFirst (IsDuplicate packages))) (sym (p.1 ∙ ap Err p.2)) first
 
 pub returns-clause-accepted : goal.returns-clause-accepted
 returns-clause-accepted c =

@@ -1,5 +1,5 @@
 use Rattle.std.proofs.Common.{IfOk, IsSome, None, option_copied, ap, subst, sym, ◌∙◌}
-use Rattle.aadl_syntax.specs.declared.refusal.Place.TheVariants.{Words}
+use Rattle.plain_values.specs.declared.refusal.Place.TheVariants.{Words}
 use Rattle.package_index.specs.Lookup.{decl_of, refused_at}
 use Rattle.package_index.proofs.FoundLaws.{found-there}
 use Rattle.package_index.proofs.index.Index.root.Goals as goal

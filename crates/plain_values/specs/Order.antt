@@ -3,11 +3,11 @@ use Rattle.std.specs.Prelude.{ℕ, ◌+◌, if◌then◌else◌, List, [], ◌�
 use Rattle.std.specs.Cmp.Lexicographic.{slice_cmp}
 use Rattle.std.specs.Ordering.{nat_cmp, is_gt}
 use Rattle.std.specs.declared.cmp.Ordering.{Ordering}
-use Rattle.aadl_syntax.specs.declared.refusal.Code.{Code}
-use Rattle.aadl_syntax.specs.declared.refusal.Code.TheVariants.{BadByte, OpenString, OpenAnnex, Syntax, DuplicateUnit, UnknownPackage, UnknownClassifier, CyclicExtends, UnknownMember, DuplicateName, UnknownType, CyclicType, UnknownPoint, NotContained, UnknownState, UnknownTrigger, UnknownSubcomponent, UnknownEnd, UnknownMachine, Prototype, Array, FeatureGroup, TypeProduct, OrLess, NoErrorCondition, Others, Recovery, ConnectionError, Typed, Mapping, MachineExtends, FileTooLong, TooManyFiles, TooMuchText, TooNested, TooManyComponents, TooDeep, TooManyFacts, TooManyEvents, TooManyTypes, TooManyPlaces, SliceTooLarge, TooManySliceEvents, TooManyGates, TooManyLinks, UnknownTarget, BadToken}
-use Rattle.aadl_syntax.specs.declared.refusal.Place.{Place}
-use Rattle.aadl_syntax.specs.declared.refusal.Place.TheVariants.{Words, Whole, At}
-use Rattle.aadl_syntax.specs.declared.refusal.Refusal.{Refusal}
+use Rattle.plain_values.specs.declared.refusal.Code.{Code}
+use Rattle.plain_values.specs.declared.refusal.Code.TheVariants.{BadByte, OpenString, OpenAnnex, Syntax, DuplicateUnit, UnknownPackage, UnknownClassifier, CyclicExtends, UnknownMember, DuplicateName, UnknownType, CyclicType, UnknownPoint, NotContained, UnknownState, UnknownTrigger, UnknownSubcomponent, UnknownEnd, UnknownMachine, Prototype, Array, FeatureGroup, TypeProduct, OrLess, NoErrorCondition, Others, Recovery, ConnectionError, Typed, Mapping, MachineExtends, FileTooLong, TooManyFiles, TooMuchText, TooNested, TooManyComponents, TooDeep, TooManyFacts, TooManyEvents, TooManyTypes, TooManyPlaces, SliceTooLarge, TooManySliceEvents, TooManyGates, TooManyLinks, UnknownTarget, BadToken}
+use Rattle.plain_values.specs.declared.refusal.Place.{Place}
+use Rattle.plain_values.specs.declared.refusal.Place.TheVariants.{Words, Whole, At}
+use Rattle.plain_values.specs.declared.refusal.Refusal.{Refusal}
 
 -- the row of a code: among refusals of one place the lower row comes first
 abbrev pub code_row : Code → ℕ

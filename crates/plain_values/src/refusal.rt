@@ -1,5 +1,6 @@
-ghost use Rattle.std.specs.Prelude.{◌≡◌};
+ghost use Rattle.std.specs.Prelude.{◌≡◌, None, Some, MatchResult};
 
+use crate::spot::Spot;
 use std::alloc::{AllocError, AllocFailed};
 
 /// What takes memory answers this: the value, or want of memory.
@@ -105,7 +106,7 @@ pub enum Code {
 }
 
 impl Code {
-    ghost use Rattle.aadl_syntax.specs.Refusal.{code_text};
+    ghost use Rattle.plain_values.specs.Refusal.{code_text, limit_of};
 
     /// The code and the name, as they are printed.
     pub fn text(&self) -> &'static str
@@ -161,6 +162,29 @@ impl Code {
             Code::BadToken => "K1 BadToken",
         }
     }
+
+    /// The limit that is exceeded where a text is refused so, in the unit of its code; 0 where the code has none.
+    pub fn limit(&self) -> u64
+        ensures { result ≡ limit_of self.now }
+    {
+        match self {
+            Code::FileTooLong => 4_194_304,
+            Code::TooManyFiles => 64,
+            Code::TooMuchText => 16_777_216,
+            Code::TooNested => 64,
+            Code::TooManyComponents => 4096,
+            Code::TooDeep => 32,
+            Code::TooManyFacts => 262_144,
+            Code::TooManyEvents => 4096,
+            Code::TooManyTypes => 1024,
+            Code::TooManyPlaces => 4_194_304,
+            Code::SliceTooLarge => 16_384,
+            Code::TooManySliceEvents => 1024,
+            Code::TooManyGates => 8_000_000,
+            Code::TooManyLinks => 1_048_576,
+            _ => 0,
+        }
+    }
 }
 
 /// Where a refusal stands: in the words, in a whole file, or at a byte of a file. Files and bytes are numbered from 0.
@@ -179,6 +203,45 @@ pub struct Refusal {
     pub limit: u64,
 }
 
+impl Refusal {
+    ghost use Rattle.plain_values.specs.Refusal.{of_words, over_limit, place_of, refusal};
+
+    /// A refusal at a place, with the limit of its code.
+    pub fn new(code: Code, place: Place) -> Refusal
+        ensures { result ≡ refusal code place }
+    {
+        Refusal {
+            code,
+            place,
+            limit: code.limit(),
+        }
+    }
+
+    /// A refusal of the words, or of all texts together.
+    pub fn of_words(code: Code) -> Refusal
+        ensures { result ≡ of_words code }
+    {
+        Refusal::new(code, Place::Words)
+    }
+
+    /// Refuses what exceeds the limit of a code.
+    pub fn over_limit(is_over: bool, code: Code, place: Place) -> Result<(), Refusal>
+        ensures { MatchResult result (λ _. over_limit is_over code place ≡ None) (λ refusal. over_limit is_over code place ≡ Some refusal) }
+    {
+        if is_over {
+            return Err(Refusal::new(code, place));
+        }
+        Ok(())
+    }
+
+    /// A refusal at a name or a sign of a text.
+    pub fn at(code: Code, spot: Spot) -> Refusal
+        ensures { result ≡ refusal code (place_of spot) }
+    {
+        Refusal::new(code, spot.place())
+    }
+}
+
 /// Why an answer did not come: the text is refused, or memory was wanting.
 #[derive(Clone, Copy, PartialEq, Eq)]
 pub enum Stop {
@@ -190,7 +253,7 @@ pub enum Stop {
 pub type Answer<T> = Result<T, Stop>;
 
 impl From<Refusal> for Stop {
-    ghost use Rattle.aadl_syntax.specs.declared.refusal.Stop.TheVariants.{Refused};
+    ghost use Rattle.plain_values.specs.declared.refusal.Stop.TheVariants.{Refused};
 
     ghost from_gives = { λ refusal stop. stop ≡ Refused refusal };
 
@@ -200,7 +263,7 @@ impl From<Refusal> for Stop {
 }
 
 impl From<AllocError> for Stop {
-    ghost use Rattle.aadl_syntax.specs.declared.refusal.Stop.TheVariants.{Memory};
+    ghost use Rattle.plain_values.specs.declared.refusal.Stop.TheVariants.{Memory};
 
     ghost from_gives = { λ _ stop. stop ≡ Memory };
 
@@ -210,7 +273,7 @@ impl From<AllocError> for Stop {
 }
 
 impl<T: Drop> From<AllocFailed<T>> for Stop {
-    ghost use Rattle.aadl_syntax.specs.declared.refusal.Stop.TheVariants.{Memory};
+    ghost use Rattle.plain_values.specs.declared.refusal.Stop.TheVariants.{Memory};
 
     ghost from_gives = { λ _ stop. stop ≡ Memory };
 

@@ -11,12 +11,12 @@ use Rattle.std.specs.Cmp.{IsTotalOrder}
 use Rattle.std.proofs.lemmas.Cmp.{on_total, nat_list_cmp_total, tied_itself, upto}
 use Rattle.std.proofs.lemmas.Map.Lookups.{exact_bytes}
 use Rattle.std.proofs.lemmas.List.Elements.{Contains-append_cases, Contains-append_right}
-use Rattle.aadl_syntax.specs.declared.refusal.Code.{Code}
-use Rattle.aadl_syntax.specs.declared.refusal.Code.TheVariants.{BadByte, OpenString, OpenAnnex, Syntax, DuplicateUnit, UnknownPackage, UnknownClassifier, CyclicExtends, UnknownMember, DuplicateName, UnknownType, CyclicType, UnknownPoint, NotContained, UnknownState, UnknownTrigger, UnknownSubcomponent, UnknownEnd, UnknownMachine, Prototype, Array, FeatureGroup, TypeProduct, OrLess, NoErrorCondition, Others, Recovery, ConnectionError, Typed, Mapping, MachineExtends, FileTooLong, TooManyFiles, TooMuchText, TooNested, TooManyComponents, TooDeep, TooManyFacts, TooManyEvents, TooManyTypes, TooManyPlaces, SliceTooLarge, TooManySliceEvents, TooManyGates, TooManyLinks, UnknownTarget, BadToken}
-use Rattle.aadl_syntax.specs.declared.refusal.Place.{Place}
-use Rattle.aadl_syntax.specs.declared.refusal.Place.TheVariants.{Words, Whole, At}
-use Rattle.aadl_syntax.specs.declared.refusal.Refusal.{Refusal}
-use Rattle.aadl_syntax.specs.Order.{code_row, place_key, refusal_key, refusal_cmp, sooner, nearer, least, IsFirst}
+use Rattle.plain_values.specs.declared.refusal.Code.{Code}
+use Rattle.plain_values.specs.declared.refusal.Code.TheVariants.{BadByte, OpenString, OpenAnnex, Syntax, DuplicateUnit, UnknownPackage, UnknownClassifier, CyclicExtends, UnknownMember, DuplicateName, UnknownType, CyclicType, UnknownPoint, NotContained, UnknownState, UnknownTrigger, UnknownSubcomponent, UnknownEnd, UnknownMachine, Prototype, Array, FeatureGroup, TypeProduct, OrLess, NoErrorCondition, Others, Recovery, ConnectionError, Typed, Mapping, MachineExtends, FileTooLong, TooManyFiles, TooMuchText, TooNested, TooManyComponents, TooDeep, TooManyFacts, TooManyEvents, TooManyTypes, TooManyPlaces, SliceTooLarge, TooManySliceEvents, TooManyGates, TooManyLinks, UnknownTarget, BadToken}
+use Rattle.plain_values.specs.declared.refusal.Place.{Place}
+use Rattle.plain_values.specs.declared.refusal.Place.TheVariants.{Words, Whole, At}
+use Rattle.plain_values.specs.declared.refusal.Refusal.{Refusal}
+use Rattle.plain_values.specs.Order.{code_row, place_key, refusal_key, refusal_cmp, sooner, nearer, least, IsFirst}
 
 -- the codes in the order of their rows
 abbrev codes_in_order : List Code
@@ -237,7 +237,7 @@ sooner-assoc a b c false false r' p q r =
     let not_after = upto refusal_cmp-total a b c p q in
     ap (λ x. sooner x c) (sooner-not_after a b p) ∙ sooner-not_after a c not_after ∙ sym (sooner-not_after a b p) ∙ ap (sooner a) (sym (sooner-not_after b c q))
 
-nearer-assoc : (a b c : Option Refusal) → nearer (nearer a b) c ≡ nearer a (nearer b c)
+pub nearer-assoc : (a b c : Option Refusal) → nearer (nearer a b) c ≡ nearer a (nearer b c)
 nearer-assoc None b c = refl
 nearer-assoc (Some a) None c = refl
 nearer-assoc (Some a) (Some b) None = refl

@@ -1,5 +1,5 @@
 ghost use Rattle.std.specs.Prelude.{◌≡◌, ◌↔◌, IsTrue, IfOk};
-ghost use Rattle.aadl_syntax.specs.Name.{folded, is_same_text, lower};
+ghost use Rattle.plain_values.specs.Name.{folded, is_same_text, lower};
 
 use crate::list::List;
 use crate::refusal::Mem;
@@ -27,7 +27,8 @@ pub fn fold(alloc: Global, bytes: &[u8]) -> Mem<Name>
     List::of(letters)
 }
 
-pub(crate) fn lower(byte: u8) -> u8
+/// The byte with its ASCII letter in lower case.
+pub fn lower(byte: u8) -> u8
     ensures { result ≡ lower byte }
 {
     if byte >= b'A' && byte <= b'Z' {
