@@ -7,7 +7,6 @@ use Rattle.aadl_syntax.specs.declared.token.TokenKind.TheVariants.{AnnexBegin, A
 use Rattle.plain_values.specs.declared.refusal.Code.{Code}
 use Rattle.plain_values.specs.declared.refusal.Stop.{Stop}
 use Rattle.plain_values.specs.declared.refusal.Stop.TheVariants.{Refused, Memory}
-use Rattle.plain_values.specs.Refusal.{refused_there}
 use Rattle.aadl_syntax.specs.Token.{token_of}
 use Rattle.aadl_lexer.specs.Tokens.{Piece, AreCut, IsRead, StopsReading, IsForm, IsLongest, IsPlain, NothingBegins, IsBadByte, IsOpenString, IsOpenAnnex, IsStuck, IsAnnex, IsBody, IsFirstEnd, InAnnex, InCore, StuckInAnnex, StopsInside, StuckInCore, Tokens, IsFault, RefusedAs, annex_begin, annex_end, tokens_of}
 use Rattle.aadl_lexer.proofs.Cuts.{bytes_of, tokens_in, IsSoFar, stops_so_far}

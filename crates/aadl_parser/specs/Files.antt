@@ -1,13 +1,10 @@
 -- The answers of the reading of a file.
 use Rattle.std.specs.Prelude.{◌≡◌, ◌⊎◌, ℕ, List}
 use Rattle.aadl_syntax.specs.declared.token.Token.{Token}
-use Rattle.plain_values.specs.declared.refusal.Stop.{Stop}
-use Rattle.plain_values.specs.declared.refusal.Stop.TheVariants.{Refused, Memory}
 use Rattle.plain_values.specs.declared.refusal.Code.TheVariants.{TooNested}
 use Rattle.plain_values.specs.declared.refusal.Place.TheVariants.{At}
 use Rattle.plain_values.specs.declared.refusal.Refusal.{Refusal}
 use Rattle.plain_values.specs.Refusal.{refusal}
-use Rattle.plain_values.specs.Stops.{StopsAt}
 use Rattle.grammar_rules.specs.Rules.{Dead}
 use Rattle.grammar_rules.specs.Texts.{syntax_error, token_place}
 use Rattle.aadl_parser.specs.Packages.{file_units}
@@ -26,7 +23,6 @@ IsTooNested file tokens end refusal = (number : ℕ) × NestedAt tokens number �
 abbrev pub IsSyntaxError : ℕ → List Token → ℕ → Refusal → Type 0
 IsSyntaxError file tokens end refusal = IsShallow tokens × (number : ℕ) × (refusal ≡ syntax_error file (token_place tokens end number)) × Dead file file_units tokens number
 
--- The stop is want of memory, or the refusal of a file that is nested too deep, or of one that has no reading.
-abbrev pub StopsAt : ℕ → List Token → ℕ → Stop → Type 0
-StopsAt file tokens end Memory = Unit {0}
-StopsAt file tokens end (Refused refusal) = IsTooNested file tokens end refusal ⊎ IsSyntaxError file tokens end refusal
+-- The refusal is that of a file that is nested too deep, or of one that has no reading.
+abbrev pub IsUnread : ℕ → List Token → ℕ → Refusal → Type 0
+IsUnread file tokens end refusal = IsTooNested file tokens end refusal ⊎ IsSyntaxError file tokens end refusal

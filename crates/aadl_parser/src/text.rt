@@ -4,11 +4,12 @@ ghost use Rattle.std.specs.Prelude.{◌≡◌, ℕ, List as Items, [], Err, IfOk
 ghost use Rattle.aadl_syntax.specs.declared.token.Token.{Token};
 ghost use Rattle.aadl_syntax.specs.declared.core_model.Unit.{Unit as FileUnit};
 ghost use Rattle.plain_values.specs.declared.refusal.Stop.TheVariants.{Refused, Memory};
+ghost use Rattle.plain_values.specs.Stops.{StopsFor};
 ghost use Rattle.grammar_rules.specs.Rules.{Reads};
 ghost use Rattle.grammar_rules.specs.Texts.{token_place};
 ghost use Rattle.aadl_parser.specs.Packages.{file_units};
 ghost use Rattle.aadl_parser.specs.Nesting.{IsShallow, NestedAt};
-ghost use Rattle.aadl_parser.specs.Files.{too_nested, StopsAt};
+ghost use Rattle.aadl_parser.specs.Files.{too_nested, IsUnread};
 
 use crate::nesting::{NESTING_LIMIT, too_nested_at};
 use crate::packages::file_units;
@@ -46,7 +47,7 @@ pub fn units(alloc: Global, file: u32, tokens: &TokenList, end: u32) -> Answer<L
     ensures nested { (number : ℕ) → NestedAt tokens.now number → result ≡ Err (Refused (too_nested file (token_place tokens.now end number))) }
 
     // A refusal names that bracket, or else a token, or the end, such that no tokens with the same up to and with it have a reading.
-    ensures dead { IfErr result (λ stop. StopsAt file tokens.now end stop) }
+    ensures dead { IfErr result (StopsFor (IsUnread file tokens.now end)) }
 {
     if let Some(number) = too_nested_at(tokens) {
         return Err(nesting_error(file, tokens, end, number));

@@ -2,7 +2,7 @@ ghost use Rattle.std.specs.Prelude.{◌≡◌, ◌<◌, ◌+◌, ◌++◌, ◌�
 ghost use Rattle.plain_values.specs.Stops.{StopsFor};
 ghost use Rattle.fault_system.specs.Truth.{count_true};
 ghost use Rattle.fault_system.specs.Systems.{IsSystem};
-ghost use Rattle.backward_slice.specs.Slices.{IsSlice, IsServed};
+ghost use Rattle.backward_slice.specs.Slices.{HasLargeSlice, IsSlice, IsServed};
 ghost use Rattle.backward_slice.specs.Marks.{IsMarking, IsMarkingBut, IsMarked, IsNumbers};
 
 use crate::marking::{Marking, visit};

@@ -3,7 +3,7 @@ ghost use Rattle.package_index.specs.Lookup.{decl_of};
 ghost use Rattle.component_extension.specs.Chain.{Answers, chain_of, extended, first_type, is_among, next_of, onward, own_type, tested, type_of};
 
 use aadl_syntax::{Decl, Identifier, Ref};
-use package_index::{ClassifierId, Index, refusal};
+use package_index::{ClassifierId, Index};
 use plain_values::{Answer, Code, List, Mem, Refusal, Stop};
 use std::alloc::Global;
 use std::collections::HashMap;

@@ -4,7 +4,6 @@ ghost use Rattle.component_extension.specs.Members.{connection_limits, feature_l
 
 use crate::member::{Inherited, MemberKind};
 use aadl_syntax::{Connection, ConnectionKind, Feature, FeatureKind, Subcomponent};
-use package_index::{note_if, refusal};
 use plain_values::{Code, FirstRefusal, Spot};
 
 /// A kind of member, with what is not supported of it.

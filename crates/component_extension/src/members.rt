@@ -9,7 +9,6 @@ use crate::declaration::Declaration;
 use crate::member::{Inherited, MemberKind};
 use crate::names::PlainNames;
 use crate::rows::{KeyWords, named, put, row_by};
-use package_index::note_if;
 use plain_values::{Code, FirstRefusal, Mem, Spot};
 use std::alloc::Global;
 use std::collections::HashMap;

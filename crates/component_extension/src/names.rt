@@ -9,7 +9,6 @@ ghost use Rattle.package_index.specs.Tables.{same_text};
 
 use crate::declaration::{Declaration, PlainName};
 use crate::member::MemberKind;
-use package_index::note_if;
 use plain_values::{Code, FirstRefusal, Mem};
 use std::alloc::Global;
 use std::collections::HashMap;

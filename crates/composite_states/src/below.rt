@@ -8,7 +8,7 @@ ghost use Rattle.composite_states.specs.Below.{below_at, state_at, state_cause, 
 use aadl_syntax::{Atom, Identifier};
 use error_conditions::{Atoms, Cause, StateBelow, note_no_errors, note_typed, point_meaning};
 use error_types::TypeTable;
-use package_index::{Words, note_if};
+use package_index::Words;
 use plain_values::{Code, FirstRefusal, List, Mem, Spot};
 use propagation_points::{NameTable, Setting};
 use std::alloc::Global;

@@ -9,7 +9,6 @@ use component_extension::{Effective, InClause};
 use error_behavior::States;
 use error_conditions::{Cause, cause_of};
 use error_types::{Scope, TypeTable};
-use package_index::note_if;
 use plain_values::{Code, FirstRefusal, List, Mem};
 use propagation_points::{Points, Setting, scopes_of};
 use std::alloc::Global;

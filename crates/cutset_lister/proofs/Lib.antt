@@ -1,4 +1,3 @@
-mod Behind
 mod Sorted
 pub mod Below
 pub mod BySize

@@ -1,5 +1,5 @@
 -- The sets of a family, size by size.
-use Rattle.std.specs.Prelude.{ℕ, zero, suc, List, [], ◌++◌, map}
+use Rattle.std.specs.Prelude.{ℕ, zero, suc, [], ◌++◌}
 use Rattle.zdd_store.specs.Family.{Family}
 use Rattle.zdd_store.specs.Answers.{sets_of}
 
@@ -7,7 +7,3 @@ use Rattle.zdd_store.specs.Answers.{sets_of}
 unfoldable pub listed : ℕ → Family → Family
 listed zero family = []
 listed (suc size) family = listed size family ++ sets_of size family
-
--- the sets of a family, each behind the same numbers
-unfoldable pub behind : List ℕ → Family → Family
-behind front family = map (λ set. front ++ set) family

@@ -1,5 +1,5 @@
 -- One piece of a line after the other.
-use Rattle.std.proofs.Common.{◌≡◌, ℕ, ◌≤◌, List, [], ◌++◌, length, le_refl, Option, Result, Ok, Err, None, Some, inl, inr, refl, sym, ap, ◌∙◌, append-nil, arith}
+use Rattle.std.proofs.Common.{◌≡◌, ℕ, ◌≤◌, List, [], ◌++◌, length, le_refl, Option, Result, Ok, Err, sym, ap, ◌∙◌, append-nil, arith}
 use Rattle.std.proofs.lemmas.Result.{MatchResult-weaker}
 use Rattle.std.proofs.lemmas.List.{take_all}
 use Rattle.fta_outside.specs.Outside.{Rose, TookPrefix, with_bytes}

@@ -15,7 +15,7 @@ use aadl_syntax::{MachineDecl, Outgoing, Transition};
 use component_extension::{Effective, InClause};
 use error_types::{Scope, TypeTable};
 use plain_values::{Code, FirstRefusal, List, Mem};
-use propagation_points::{NameTable, Points, note_at, scopes_of};
+use propagation_points::{NameTable, Points, scopes_of};
 use std::alloc::Global;
 
 /// The error behavior of a component: the names of its events, which are numbered by their places, from 0; its steps, those of

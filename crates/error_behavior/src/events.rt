@@ -7,9 +7,8 @@ ghost use Rattle.error_behavior.specs.States.{event_faults, events_of, is_recove
 use crate::machines::UsedMachine;
 use aadl_syntax::{EventDecl, EventKind};
 use component_extension::{Effective, InClause};
-use package_index::note_if;
 use plain_values::{Code, FirstRefusal, Mem};
-use propagation_points::{NameTable, note_at, spot_of};
+use propagation_points::{NameTable, spot_of};
 use std::alloc::Global;
 
 /// The names of the events of a component: those of its machine, if it uses one, and then those of its clauses.

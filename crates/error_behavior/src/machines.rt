@@ -5,7 +5,7 @@ ghost use Rattle.error_behavior.specs.Machines.{find_machine, is_machine_named, 
 
 use aadl_syntax::{MachineDecl, Ref};
 use component_extension::{ClauseText, Effective, InClause};
-use package_index::{Index, Words, refusal};
+use package_index::{Index, Words};
 use plain_values::{Code, Refusal, Spot, is_same};
 use std::marker::Model;
 

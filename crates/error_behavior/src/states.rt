@@ -5,7 +5,7 @@ ghost use Rattle.error_behavior.specs.States.{keep_state, no_states, state_decl_
 use crate::machines::UsedMachine;
 use aadl_syntax::StateDecl;
 use plain_values::{Code, FirstRefusal, List, Mem};
-use propagation_points::{NameTable, note_at, spot_of};
+use propagation_points::{NameTable, spot_of};
 use std::alloc::Global;
 
 /// The states of a component, in order, each name once: their names, and which of them are initial. A state is numbered by its

@@ -7,9 +7,8 @@ ghost use Rattle.error_conditions.specs.Conditions.{no_error_at, no_error_faults
 use crate::cause::Cause;
 use aadl_syntax::{Atom, Term, TypeSet};
 use error_types::TypeTable;
-use package_index::note_if;
 use plain_values::{Code, FirstRefusal, List, Mem};
-use propagation_points::{PointUse, ReachedPoint, Setting, note_at, spot_of};
+use propagation_points::{PointUse, ReachedPoint, Setting, spot_of};
 use std::alloc::Global;
 
 /// The meaning of a named part that names a point: one of the types that are reached there comes in. Its refusals are noted.

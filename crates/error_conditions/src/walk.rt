@@ -5,7 +5,6 @@ ghost use Rattle.error_conditions.specs.Conditions.{cause_of, condition_faults};
 use crate::cause::Cause;
 use aadl_syntax::{Atom, Condition};
 use error_types::TypeTable;
-use package_index::note_if;
 use plain_values::{Code, FirstRefusal, List, Mem};
 use std::alloc::Global;
 

@@ -11,11 +11,8 @@ use crate::meaning::FlowMeaning;
 use aadl_syntax::{Flow, FlowKind, Identifier, StateRef};
 use component_extension::{Effective, InClause};
 use error_types::{Scope, TypeTable};
-use package_index::note_if;
 use plain_values::{Code, FirstRefusal, List, Mem, Spot};
-use propagation_points::{
-    NameTable, PointUse, Points, Reach, ReachedPoint, Setting, note_at, scopes_of,
-};
+use propagation_points::{NameTable, PointUse, Points, Reach, ReachedPoint, Setting, scopes_of};
 use std::alloc::Global;
 
 /// The meanings of the flows of a component, in order, sinks left out.

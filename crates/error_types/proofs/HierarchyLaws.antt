@@ -14,36 +14,13 @@ use Rattle.error_types.specs.Walk.{set_types}
 -- ---- one step
 
 module _ (next : ℕ → Option ℕ) (high : ℕ) where
-  one-step : (steps one low : ℕ) → steps ≡ suc one → is_below_in steps next low high ≡ (nat_eq low high || is_base_so (λ number. is_below_in one next number high) (next low))
+  pub one-step : (steps one low : ℕ) → steps ≡ suc one → is_below_in steps next low high ≡ (nat_eq low high || is_base_so (λ number. is_below_in one next number high) (next low))
   unfolding is_below_in
   one-step steps one low more = ap (λ n. is_below_in n next low high) more
 
-  no-step : (steps low : ℕ) → steps ≡ 0 → is_below_in steps next low high ≡ nat_eq low high
+  pub no-step : (steps low : ℕ) → steps ≡ 0 → is_below_in steps next low high ≡ nat_eq low high
   unfolding is_below_in
   no-step steps low none = ap (λ n. is_below_in n next low high) none
-
-  module _ (count i low : ℕ) (within : i < count) (whole : Bool) (left : is_below_in (count - i) next low high ≡ whole) where
-    stepped : (nat_eq low high || is_base_so (λ number. is_below_in (count - (i + 1)) next number high) (next low)) ≡ whole
-    stepped =
-        let more : count - i ≡ suc (count - (i + 1)) = omega (arith, within) in
-        sym (one-step (count - i) (count - (i + 1)) low more) ∙ left
-
-    pub is-itself : nat_eq low high ≡ true → true ≡ whole
-    is-itself same = sym (ap (λ b. b || is_base_so (λ number. is_below_in (count - (i + 1)) next number high) (next low)) same) ∙ stepped
-
-    other : nat_eq low high ≡ false → is_base_so (λ number. is_below_in (count - (i + 1)) next number high) (next low) ≡ whole
-    other apart = sym (ap (λ b. b || is_base_so (λ number. is_below_in (count - (i + 1)) next number high) (next low)) apart) ∙ stepped
-
-    pub has-no-base : nat_eq low high ≡ false → next low ≡ None → false ≡ whole
-    has-no-base apart none = sym (ap (is_base_so (λ number. is_below_in (count - (i + 1)) next number high)) none) ∙ other apart
-
-    pub has-base : (number : ℕ) → nat_eq low high ≡ false → next low ≡ Some number → is_below_in (count - (i + 1)) next number high ≡ whole
-    has-base number apart some = sym (ap (is_base_so (λ number. is_below_in (count - (i + 1)) next number high)) some) ∙ other apart
-
-  pub all-steps : (count i low : ℕ) (whole : Bool) → count ≤ i → is_below_in (count - i) next low high ≡ whole → nat_eq low high ≡ whole
-  all-steps count i low whole past left =
-      let none : count - i ≡ 0 = omega (arith, past) in
-      sym (no-step (count - i) low none) ∙ left
 
 -- ---- names of types
 

@@ -16,3 +16,4 @@ pub mod SettleLaws
 pub mod TermLaws
 pub mod TripLaws
 pub mod TypeRows
+pub mod WalkedRows

@@ -1,5 +1,5 @@
 -- Rows of types, and what is remembered of items.
-use Rattle.std.specs.Prelude.{◌≡◌, ℕ, ◌<◌, ◌^◌, Bool, true, false, ◌||◌, List, [], ◌∷◌, ◌++◌, filter, flat_map, get_or, length, map, replicate, slice_get, Option, None, Some}
+use Rattle.std.specs.Prelude.{◌≡◌, ℕ, ◌<◌, ◌^◌, Bool, true, false, ◌&&◌, ◌||◌, cond, nat_lt, List, [], ◌∷◌, ◌++◌, filter, flat_map, get_or, length, map, replicate, slice_get, slice_set, Option, None, Some}
 use Rattle.std.specs.HashMap.{get}
 use Rattle.std.specs.List.{list_all, list_any}
 use Rattle.plain_values.specs.Order.{nearer}
@@ -44,6 +44,14 @@ row_below bases high = map (λ low. is_below_by bases low high) (numbers_below (
 -- such a row for each type, and then a row of none
 abbrev pub rows_by : List (Option ℕ) → List (List Bool)
 rows_by bases = map (row_below bases) (numbers_below (length bases)) ++ replicate (length bases) false ∷ []
+
+-- the rows of the types with those of the types in them that have a number below this one
+abbrev pub rows_so_far : List (Option ℕ) → ℕ → List (List Bool)
+rows_so_far bases count = map (λ high. map (λ low. nat_lt low count && is_below_by bases low high) (numbers_below (length bases))) (numbers_below (length bases))
+
+-- the rows with this number in the row of this place, where there is one
+abbrev pub put_at : List (List Bool) → ℕ → ℕ → List (List Bool)
+put_at rows place number = cond (nat_lt place (length rows)) (slice_set rows place (slice_set (get_or rows place []) number true)) rows
 
 -- the types that are below one of these, rising
 abbrev pub types_below : Table → List ℕ → List ℕ

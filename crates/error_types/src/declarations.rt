@@ -7,7 +7,6 @@ ghost use Rattle.error_types.specs.Printed.{item_name};
 ghost use Rattle.error_types.specs.Search.{item_found, last_name, name_fault, named, named_in, search_along};
 ghost use Rattle.error_types.specs.Walk.{library_scope, scope_of};
 
-use crate::course::{first_of, note_some};
 use crate::id::{ItemId, Looked};
 use crate::known::Known;
 use crate::library::{Library, libraries_of};
@@ -16,7 +15,7 @@ use crate::scope::Scope;
 use crate::search::search;
 use crate::type_name::TypeName;
 use aadl_syntax::{PackageUnit, Ref, TypeItem};
-use package_index::{Index, Words, refusal};
+use package_index::{Index, Words};
 use plain_values::{Code, FirstRefusal, List, Mem, Refusal, Spot};
 use std::alloc::Global;
 use std::collections::HashMap;

@@ -5,7 +5,6 @@ ghost use Rattle.error_types.specs.Search.{named};
 ghost use Rattle.error_types.specs.Types.{base_of, is_below};
 ghost use Rattle.error_types.specs.Walk.{reached, term_first, term_types, terms_first};
 
-use crate::course::{first_of, note_some};
 use crate::declarations::Declarations;
 use crate::hierarchy::rows_of;
 use crate::id::ItemId;
@@ -14,7 +13,6 @@ use crate::reach::{join_row, reached};
 use crate::row::Row;
 use crate::scope::Scope;
 use aadl_syntax::{Ref, Term};
-use package_index::refusal;
 use plain_values::{Code, FirstRefusal, List, Mem, Refusal};
 use std::alloc::Global;
 use std::collections::HashMap;

@@ -1,10 +1,11 @@
-ghost use Rattle.std.specs.Prelude.{◌≡◌, ◌<◌, ◌^◌, cond, slice_set, true, IfOk, map, length};
+ghost use Rattle.std.specs.Prelude.{◌≡◌, ◌<◌, ◌+◌, ◌^◌, Bool, List as Items, Some, false, length, map, replicate, slice_get, IfOk};
 ghost use Rattle.std.specs.HashMap.{get};
 ghost use Rattle.package_index.specs.Tables.{same_pair};
 ghost use Rattle.error_types.specs.Endings.{AreEnds};
-ghost use Rattle.error_types.specs.Rows.{row_below, rows_by};
-ghost use Rattle.error_types.specs.Types.{base_in, base_of, is_below_by, is_below_in, type_named};
+ghost use Rattle.error_types.specs.Rows.{put_at, rows_by, rows_so_far};
+ghost use Rattle.error_types.specs.Types.{base_in, base_of, type_named};
 ghost use Rattle.error_types.specs.Walk.{library_scope};
+ghost use Rattle.plain_values.specs.Numbered.{numbers_below};
 
 use crate::declarations::Declarations;
 use crate::endings::{Ends, type_of};
@@ -76,71 +77,70 @@ fn type_named<'a>(
     }
 }
 
-/// Whether one type is another, or extends one that is below it.
-fn is_below(bases: &[Option<u32>], low: u32, high: u32) -> bool
-    ensures { result ≡ is_below_in (length bases.now) (base_in bases.now) low high }
-{
-    let mut type_now = low;
-    for _ in 0..bases.len() {
-        if type_now == high {
-            return true;
-        }
-        match base_in(bases, type_now) {
-            Some(base) => type_now = base,
-            None => return false,
-        }
-    }
-    type_now == high
-}
-
 fn base_in(bases: &[Option<u32>], number: u32) -> Option<u32>
     ensures { result ≡ base_in bases.now number }
 {
     *bases.get(number as usize)?
 }
 
-/// Whether both numbers are of types, and the first is below the second.
-fn is_subtype(bases: &[Option<u32>], low: u32, high: u32) -> bool
-    ensures { result ≡ is_below_by bases.now low high }
-{
-    let count = bases.len();
-    (low as usize) < count && (high as usize) < count && is_below(bases, low, high)
-}
-
 /// For each type the row of the types that are below it, and then a row of none.
+///
+/// Each type is put into the rows of those that it is below by going up from it once.
 pub(crate) fn rows_of(alloc: Global, bases: &[Option<u32>]) -> Mem<List<Row>>
     requires { length bases.now < 2 ^ 32 }
     ensures { IfOk result (λ rows. rows ≡ rows_by bases.now) }
 {
-    let mut rows = List::new(alloc);
-    for high in 0..bases.len() {
-        let row = row_below(alloc, bases, high as u32)?;
-        rows.push(row)?;
+    let mut rows = empty_rows(alloc, bases.len() as u32)?;
+    put_all(rows.as_mut_slice(), bases);
+    rows.push(Row::new(alloc, bases.len() as u32)?)?;
+    List::of(rows)
+}
+
+/// So many rows of none of so many numbers.
+fn empty_rows(alloc: Global, count: u32) -> Mem<Vec<Row>>
+    ensures { IfOk result (λ rows. rows.items ≡ map (λ _. replicate count false) (numbers_below count)) }
+{
+    let mut rows = Vec::new(alloc);
+    for _ in 0..count {
+        rows.push(Row::new(alloc, count)?)?;
     }
-    let none = Row::new(alloc, bases.len() as u32)?;
-    rows.push(none)?;
     Ok(rows)
 }
 
-/// The row of the types that are below a type.
-fn row_below(alloc: Global, bases: &[Option<u32>], high: u32) -> Mem<Row>
-    requires { length bases.now < 2 ^ 32 }
-    ensures { IfOk result (λ row. row ≡ row_below bases.now high) }
+/// Puts each type into the rows of those that it is below.
+fn put_all(rows: &mut [Row], bases: &[Option<u32>])
+    requires few { length bases.now < 2 ^ 32 }
+    requires empty { rows.old ≡ rows_so_far bases.now 0 }
+    ensures { rows.new ≡ rows_so_far bases.now (length bases.now) }
 {
-    let mut row = Row::new(alloc, bases.len() as u32)?;
     for low in 0..bases.len() {
-        let is_so = is_subtype(bases, low as u32, high);
-        put_if(&mut row, is_so, low as u32);
+        put_along(rows, bases, low as u32);
     }
-    Ok(row)
 }
 
-/// Puts a number into a row, where this is so.
-fn put_if(row: &mut Row, is_so: bool, number: u32)
-    requires { number < length row.old }
-    ensures { row.new ≡ cond is_so (slice_set row.old number true) row.old }
+/// Puts a type into the rows of those that it is below.
+fn put_along(rows: &mut [Row], bases: &[Option<u32>], low: u32)
+    requires within { low < length bases.now }
+    requires so_far { rows.old ≡ rows_so_far bases.now low }
+    ensures { rows.new ≡ rows_so_far bases.now (low + 1) }
 {
-    if is_so {
-        row.put(number);
+    let mut high = low;
+    for _ in 0..bases.len() {
+        put_at(rows, high, low);
+        match base_in(bases, high) {
+            Some(base) => high = base,
+            None => return,
+        }
+    }
+    put_at(rows, high, low);
+}
+
+/// Puts a number into a row, where there is one.
+fn put_at(rows: &mut [Row], place: u32, number: u32)
+    requires { (row : Items Bool) → slice_get rows.old place ≡ Some row → number < length row }
+    ensures { rows.new ≡ put_at rows.old place number }
+{
+    if (place as usize) < rows.len() {
+        rows[place as usize].put(number);
     }
 }

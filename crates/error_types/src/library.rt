@@ -5,10 +5,9 @@ ghost use Rattle.package_index.specs.Tables.{Knows, same_text};
 ghost use Rattle.error_types.specs.Libraries.{extended_by, has_item_name, items_of, libraries_named, library_named, library_of, libraries_of, unknown_libraries, unknown_to, used_by};
 ghost use Rattle.error_types.specs.Tables.{has_item_text};
 
-use crate::course::first_of;
 use crate::scope::Scope;
 use aadl_syntax::{PackageUnit, Ref, TypeItem, TypesBlock};
-use package_index::{Index, Words, add, note_if};
+use package_index::{Index, Words, add};
 use plain_values::{Code, FirstRefusal, List, Mem, Refusal};
 use std::alloc::Global;
 use std::collections::HashMap;

@@ -3,7 +3,6 @@
 ghost use Rattle.std.specs.Prelude.{◌≡◌, ◌∷◌, [], Bool, List as Items, length, slice_get, IfOk, IfSome, Some};
 ghost use Rattle.error_types.specs.Rows.{Adds, IsReached, Remembers, either, row_of};
 
-use crate::course::first_of;
 use crate::declarations::Declarations;
 use crate::id::ItemId;
 use crate::memory::{Memory, Reached};

@@ -8,7 +8,7 @@ ghost use Rattle.error_types.specs.Libraries.{Library as Text};
 ghost use Rattle.error_types.specs.Leaving.{Leads};
 ghost use Rattle.error_types.specs.Search.{extended, found_at, is_number_in, own_item, search, unknown_in};
 
-use crate::course::{Course, Left, first_of, note_some};
+use crate::course::{Course, Left};
 use crate::id::{ItemId, Looked};
 use crate::known::{Found, Known, remember};
 use crate::library::Library;

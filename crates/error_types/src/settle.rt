@@ -7,7 +7,6 @@ ghost use Rattle.error_types.specs.Libraries.{item_at, number_of};
 ghost use Rattle.error_types.specs.Rows.{IsGathered, IsOfTarget, IsReached, IsSettled, IsSum, Remembers, Stay, either, is_type_item, row_of};
 ghost use Rattle.error_types.specs.Walk.{library_scope, needs_of, of_item};
 
-use crate::course::{first_of, note_some};
 use crate::declarations::Declarations;
 use crate::id::ItemId;
 use crate::memory::{Memory, Reached};
@@ -16,7 +15,6 @@ use crate::numbers::is_type;
 use crate::row::Row;
 use crate::walk::{is_set_item, needs_of, products_of};
 use aadl_syntax::TypeItem;
-use package_index::refusal;
 use plain_values::{Code, FirstRefusal, Mem, Refusal};
 use std::alloc::{AllocError, Global};
 

@@ -6,7 +6,6 @@ ghost use Rattle.error_types.specs.Leaving.{LeavesItem, Offers};
 ghost use Rattle.error_types.specs.Tables.{has_number};
 ghost use Rattle.error_types.specs.Trip.{at_visit, items_on, noting};
 
-use crate::course::note_some;
 use crate::id::ItemId;
 use crate::needs::{Need, Needs, NextName};
 use plain_values::{FirstRefusal, Mem, Refusal};

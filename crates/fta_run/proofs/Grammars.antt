@@ -11,6 +11,7 @@ use Rattle.grammar_rules.proofs.Texts.{reads_once}
 use Rattle.plain_values.specs.declared.refusal.Stop.{Stop}
 use Rattle.plain_values.specs.declared.refusal.Stop.TheVariants as stop
 use Rattle.plain_values.specs.Refusal.{refusal}
+use Rattle.plain_values.specs.Stops.{StopsFor}
 use Rattle.phases.specs.Meets.{IsMemory}
 use Rattle.phases.specs.Phases.{Stops, rejects}
 use Rattle.phases.specs.Stopped.{status_of}
@@ -19,7 +20,7 @@ use Rattle.phases.proofs.Steps.{refused}
 use Rattle.grammar_rules.specs.Texts.{token_place}
 use Rattle.aadl_parser.specs.Packages.{file_units}
 use Rattle.aadl_parser.specs.Nesting.{NestedAt}
-use Rattle.aadl_parser.specs.Files.{IsSyntaxError, IsTooNested, StopsAt, too_nested}
+use Rattle.aadl_parser.specs.Files.{IsSyntaxError, IsTooNested, IsUnread, too_nested}
 use Rattle.fta_run.specs.Files.{AreUnits, AreUnitsOf, HaveUnits, LacksUnits}
 use Rattle.fta_run.specs.Answers.{IsSameStatus}
 
@@ -101,7 +102,7 @@ lacks_once texts tokens a b h k =
 
 -- where the tokens before have units, what stops those of a file stops the phase
 pub units_stop : (texts : List (List ℕ)) (tokens : List (List Token)) (files : List (List FileUnit)) (file : ℕ) (text : List ℕ) (list : List Token) (why : Stop) → file < length texts → text ≡ get_or texts file text → file < length tokens → list ≡ get_or tokens file list
-    → ((k : ℕ) → k < file → (t : List Token) → slice_get tokens k ≡ Some t → AreUnitsOf k t (get_or files k [])) → StopsAt file list (length text) why
+    → ((k : ℕ) → k < file → (t : List Token) → slice_get tokens k ≡ Some t → AreUnitsOf k t (get_or files k [])) → StopsFor (IsUnread file list (length text)) why
     → Stops (rejects (AreUnits tokens) (LacksUnits texts tokens)) (status_of why) ⊎ IsMemory (status_of why)
 units_stop texts tokens files file text list (stop.Refused refusal) within is inside its before stops =
     let lacks : LacksUnits texts tokens refusal = record {

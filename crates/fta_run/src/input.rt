@@ -4,8 +4,9 @@ ghost use Rattle.plain_values.specs.declared.refusal.Code.TheVariants.{TooManyFi
 ghost use Rattle.plain_values.specs.declared.refusal.Stop.TheVariants.{Refused};
 ghost use Rattle.plain_values.specs.Order.{IsFirst, least, nearer};
 ghost use Rattle.plain_values.specs.Refusal.{refusal};
+ghost use Rattle.plain_values.specs.Stops.{StopsFor};
 ghost use Rattle.aadl_lexer.specs.Tokens.{IsFault, RefusedAs, Tokens};
-ghost use Rattle.aadl_parser.specs.Files.{StopsAt};
+ghost use Rattle.aadl_parser.specs.Files.{IsUnread};
 ghost use Rattle.phases.specs.Meets.{Meets, MeetsBut};
 ghost use Rattle.phases.specs.Phases.{answers, rejects};
 ghost use Rattle.fta_run.specs.Due.{texts_of, units_of};
@@ -200,7 +201,7 @@ fn units_of_tokens(
 fn units_of_text(alloc: Global, file: u32, text: &Name, tokens: &TokenList) -> Answer<List<Unit>>
     requires { length text.now ≤ most_bytes }
     ensures ok { IfOk result (λ found. AreUnitsOf file tokens.now found) }
-    ensures err { IfErr result (λ stop. StopsAt file tokens.now (length text.now) stop) }
+    ensures err { IfErr result (StopsFor (IsUnread file tokens.now (length text.now))) }
 {
     units(alloc, file, tokens, text.items().len() as u32)
 }

@@ -5,7 +5,7 @@ ghost use Rattle.phases.specs.Meets.{Meets};
 ghost use Rattle.fta_run.specs.Due.{model_of_texts, model_of_units, target_of};
 ghost use Rattle.fta_run.specs.Model.{HasName};
 
-use crate::input::{Texts, of_words, units_of_texts};
+use crate::input::{Texts, units_of_texts};
 use aadl_syntax::Unit;
 use fault_system::FaultSystem;
 use model_phases::{FlatModel, flat_model};

@@ -1,6 +1,6 @@
 //! The text of a tree, line by line.
 
-ghost use Rattle.std.specs.Prelude.{◌≡◌, ◌++◌, ◌↔◌, ℕ, IsErrOf, OnErr, OnOk, codes, length, map};
+ghost use Rattle.std.specs.Prelude.{◌≡◌, ◌++◌, ◌↔◌, ℕ, IsErrOf, OnErr, OnOk, map};
 ghost use Rattle.std.specs.List.{flat_map};
 ghost use Rattle.fault_system.specs.Truth.{NumberSet};
 ghost use Rattle.fault_system.specs.Systems.{Holds};

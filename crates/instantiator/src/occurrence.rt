@@ -4,7 +4,7 @@ ghost use Rattle.instantiator.specs.Components.{meant, occurrence_of, part_of, p
 use crate::path::Path;
 use aadl_syntax::{Identifier, Ref, Subcomponent};
 use component_extension::{Declaration, Inherited};
-use package_index::{ClassifierId, Index, place_of};
+use package_index::{ClassifierId, Index};
 use plain_values::{List, Mem, Place, Refusal};
 use std::alloc::Global;
 use std::marker::Model;

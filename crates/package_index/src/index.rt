@@ -11,7 +11,6 @@ ghost use Rattle.package_index.specs.Tables.{Gathered, Knows, has_words, same_wo
 
 use crate::id::ClassifierId;
 use crate::package::Package;
-use crate::refusals::{note_if, place_of};
 use crate::table::add;
 use crate::words::{Words, text_of};
 use aadl_syntax::{Decl, Identifier, PackageUnit, Ref, Unit};

@@ -5,7 +5,6 @@ ghost use Rattle.package_index.specs.Duplicates.{classifiers_again};
 ghost use Rattle.package_index.specs.Lookup.{alias_in, declared, is_alias};
 ghost use Rattle.package_index.specs.Tables.{Knows, has_alias, has_key, same_alias_key, same_key};
 
-use crate::refusals::note_if;
 use crate::table::add;
 use crate::words::text_of;
 use aadl_syntax::{Alias, Decl, Identifier, PackageUnit};

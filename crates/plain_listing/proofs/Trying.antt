@@ -1,6 +1,5 @@
 -- What is found among the sets that have the chosen numbers and so many more.
-use Rattle.std.proofs.Common.{subst, ℕ, zero, suc, ◌+◌, ◌-◌, ◌≡◌, ◌≢◌, ◌<◌, ◌≤◌, Bool, true, false, cond, List, [], ◌∷◌, ◌++◌, length, map, filter, take, ap, ◌∙◌, sym, refl, arith, ap₂, add-one, append_assoc, append-nil, map-id, length-append}
-use Rattle.plain_values.specs.Rising.{RisesWithin}
+use Rattle.std.proofs.Common.{ℕ, zero, suc, ◌+◌, ◌-◌, ◌≡◌, ◌≢◌, ◌<◌, ◌≤◌, Bool, true, false, cond, List, [], ◌∷◌, ◌++◌, map, filter, ap, ◌∙◌, sym, refl, arith, ap₂, add-one, append_assoc, append-nil, map-id}
 use Rattle.fault_system.specs.Listings.{choose, rising_sets_up_to}
 
 module _ (p : List ℕ → Bool) where

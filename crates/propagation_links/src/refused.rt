@@ -10,7 +10,6 @@ use crate::links::{ends_of, is_access, is_apart};
 use crate::pointed::Pointed;
 use aadl_syntax::{Connection, End, Ends, Identifier, UserPath};
 use component_extension::{Effective, InClause, Inherited};
-use package_index::note_if;
 use plain_values::{Code, FirstRefusal, Spot};
 
 /// Notes what is refused of the component of a number.

@@ -16,5 +16,5 @@ pub use point::Point;
 pub use points::{Points, points_of};
 pub use setting::Setting;
 pub use side::{Reach, Side};
-pub use states::{NameTable, note_at, spot_of};
+pub use states::{NameTable, spot_of};
 pub use uses::{PointUse, ReachedPoint, reached};

@@ -10,7 +10,6 @@ use crate::side::Side;
 use aadl_syntax::PointItem;
 use component_extension::{Effective, InClause};
 use error_types::TypeTable;
-use package_index::note_if;
 use plain_values::{Code, FirstRefusal, List, Mem};
 use std::alloc::Global;
 use std::collections::HashMap;

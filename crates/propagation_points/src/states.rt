@@ -4,7 +4,6 @@ ghost use Rattle.plain_values.specs.Order.{least, nearer};
 ghost use Rattle.propagation_points.specs.States.{keep_name, state_faults, number_named};
 
 use aadl_syntax::{Identifier, StateRef, TypeSet};
-use package_index::note_if;
 use plain_values::{Code, FirstRefusal, List, Mem, Spot};
 use std::alloc::Global;
 use std::collections::HashMap;

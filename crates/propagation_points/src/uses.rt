@@ -8,7 +8,6 @@ use crate::points::Points;
 use crate::side::{Reach, Side, has_other};
 use aadl_syntax::{Atom, Identifier, PointRef, TypeSet};
 use error_types::{Scope, TypeTable};
-use package_index::note_if;
 use plain_values::{Code, FirstRefusal, Mem, Spot};
 use std::alloc::Global;
 use std::marker::Model;

@@ -9,7 +9,7 @@ use Rattle.error_behavior.proofs.behavior.note_machine.Goals as goal
 pub returns : goal.returns
 returns c =
     let decl = c.args.decl.now in
-    noted-four c.args.first.now c.note_at.new.first c.note_at-2.new.first (refused_there MachineExtends decl.extends) (refused_there Mapping decl.transforms) c.note_at.ensures c.note_at-2.ensures
+    noted-four c.args.first.now c.note_at.new.self c.note_at-2.new.self (refused_there MachineExtends decl.extends) (refused_there Mapping decl.transforms) c.note_at.ensures c.note_at-2.ensures
     c.note_events.new.first c.note_states.new.first (flat_map event_faults decl.events) (flat_map state_decl_faults decl.states)
-    (c.note_events.ensures ∙ ap (λ events. nearer c.note_at-2.new.first (least (flat_map event_faults events))) c.items.ensures.items)
+    (c.note_events.ensures ∙ ap (λ events. nearer c.note_at-2.new.self (least (flat_map event_faults events))) c.items.ensures.items)
     (c.note_states.ensures ∙ ap (λ states. nearer c.note_events.new.first (least (flat_map state_decl_faults states))) c.items-2.ensures.items)

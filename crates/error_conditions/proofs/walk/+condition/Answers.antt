@@ -34,8 +34,8 @@ pub cause_of-returns-in_ok-causes_of-in-AtMost-clause-first :
 cause_of-returns-in_ok-causes_of-in-AtMost-clause-first g t c =
     let faults = g.A.Atoms.faults c.args.atoms.now c.args.types.now in
     c.in_ok-causes_of-in-AtMost.ensures.first
-    ∙ ap (λ all. nearer c.note_if.new.first (least all)) (ap (flat_map (condition_faults faults)) c.items-in-AtMost.ensures.items)
-    ∙ noted-more c.args.first.now c.note_if.new.first (refused_so true OrLess c.in-AtMost.spot) (flat_map (condition_faults faults) c.in-AtMost.parts) c.note_if.ensures
+    ∙ ap (λ all. nearer c.note_if.new.self (least all)) (ap (flat_map (condition_faults faults)) c.items-in-AtMost.ensures.items)
+    ∙ noted-more c.args.first.now c.note_if.new.self (refused_so true OrLess c.in-AtMost.spot) (flat_map (condition_faults faults) c.in-AtMost.parts) c.note_if.ensures
     ∙ ap (λ all. nearer c.args.first.now (least all)) (sym (faults-AtMost faults c.in-AtMost.field-0 c.in-AtMost.parts c.in-AtMost.spot) ∙ ap (condition_faults faults) (sym c.in-AtMost.is))
 
 pub causes_of-loop-part-preserved : goal.causes_of-loop-part-preserved

@@ -10,7 +10,7 @@ pub loop-init : goal.loop-init
 loop-init c =
     let libraries = c.args.libraries.now in
     let name = c.args.name.now in
-    let first : c.note_some.new.first ≡ unknown_in libraries c.args.number = c.note_some.ensures ∙ (λ i. nearer (c.new-noted.ensures i) (c.unknown_in.ensures i)) in
+    let first : c.note_some.new.self ≡ unknown_in libraries c.args.number = c.note_some.ensures ∙ (λ i. nearer (c.new-noted.ensures i) (c.unknown_in.ensures i)) in
     ap (left libraries name) c.in_ok-course.ensures
     ∙ (λ i. left libraries name (record { top = record { library = c.args.number; rest = c.extended-rest.ensures i }; below = []; vain = []; first = first i }))
     ∙ begins libraries name c.args.number c.requires
@@ -24,5 +24,5 @@ returns-in-Ended c =
     let ended = subst (Leads c.args.libraries.now c.args.name.now (left c.args.libraries.now c.args.name.now c.loop.course)) c.in-Ended.is c.in_ok-next.ensures in
     record {
       looked = sym (ap (λ search. search.found) c.loop.invariant) ∙ ended.0;
-      first = sym (ap (λ search. search.first) c.loop.invariant) ∙ ended.1 ∙ sym c.first_of.ensures;
+      first = sym (ap (λ search. search.first) c.loop.invariant) ∙ ended.1 ∙ sym c.noted.ensures;
     }

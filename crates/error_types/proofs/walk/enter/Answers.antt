@@ -9,7 +9,7 @@ pub returns : goal.returns
 returns c =
     let table = c.args.declarations.now in
     let needs = c.needs_of.ensures ∙ ap (of_item (needs_of c.args.through)) c.item-item.ensures in
-    let first = c.first_of.ensures ∙ c.products_of-first.ensures ∙ ap (λ item. least (of_item products_of item)) c.item-item.ensures in
+    let first = c.noted.ensures ∙ c.products_of-first.ensures ∙ ap (λ item. least (of_item products_of item)) c.item-item.ensures in
     ap (walk_left c.args.through table) c.in_ok-next.ensures
     ∙ (λ i. walk_left c.args.through table (at_visit c.args.trip c.args.id (needs i) (c.number_met-number.ensures i) (first i)))
     ∙ enters c.args.through table c.args.trip c.args.need c.args.id c.requires.kind c.requires.new c.requires.apart c.requires.few

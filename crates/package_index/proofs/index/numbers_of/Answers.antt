@@ -23,7 +23,7 @@ loop-number-preserved c =
     record {
       table = knows-more has_words same_words units number unit key (get same_words c.loop-number.table) (get same_words c.add.new.table) _ c.loop-number-test.true c.index-packages-number.is
           (λ other. words_agrees unit key other name) (words_alike key) c.loop-number.invariant.table c.in_ok-is_new.ensures;
-      first = again-more (λ later earlier. has_name later.name earlier) (λ u. u.spot) units number unit c.loop-number.first c.note_if.new.first _ c.loop-number-test.true c.index-packages-number.is
+      first = again-more (λ later earlier. has_name later.name earlier) (λ u. u.spot) units number unit c.loop-number.first c.note_if.new.self _ c.loop-number-test.true c.index-packages-number.is
           (noted ∙ ap (λ is. nearer c.loop-number.first (least (again_at is unit.spot))) (again ∙ same_packages unit key (take number units) name)) c.loop-number.invariant.first;
     }
 

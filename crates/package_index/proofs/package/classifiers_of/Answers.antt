@@ -17,7 +17,7 @@ loop-number-preserved c =
     record {
       table = knows-more has_key same_key decls c.loop-number.number decl key (get same_key c.loop-number.table) (get same_key c.add.new.table) _ c.loop-number-test.true c.index-decls-number.is
           (λ other. key_agrees decl key other c.text.ensures.text c.text_of.ensures) (key_alike key) c.loop-number.invariant.table c.in_ok-is_new.ensures;
-      first = again-more (λ later earlier. is_named later.name later.item earlier) (λ d. d.spot) decls c.loop-number.number decl c.loop-number.first c.note_if.new.first _ c.loop-number-test.true c.index-decls-number.is
+      first = again-more (λ later earlier. is_named later.name later.item earlier) (λ d. d.spot) decls c.loop-number.number decl c.loop-number.first c.note_if.new.self _ c.loop-number-test.true c.index-decls-number.is
           (c.note_if.ensures ∙ ap (λ is. nearer c.loop-number.first (least (again_at is decl.spot))) (again ∙ same_names decl key (take c.loop-number.number decls) c.text.ensures.text c.text_of.ensures)) c.loop-number.invariant.first;
     }
 
