@@ -1,5 +1,8 @@
 -- Rows that are filled by going up from each type.
-use Rattle.std.proofs.Common.{ℕ, zero, suc, ◌+◌, ◌-◌, ◌<◌, ◌≤◌, ◌≡◌, ◌≢◌, inl, inr, Bool, true, false, ◌&&◌, ◌||◌, cond, nat_eq, nat_lt, List, [], length, map, get_or, replicate, set, Option, Some, None, refl, sym, ap, subst, ◌∙◌, arith}
+use Rattle.std.proofs.Common.{ℕ, zero, suc, ◌+◌, ◌-◌, ◌<◌, ◌≤◌, ◌≡◌, ◌≢◌, inl, inr, Bool, true, false, ◌&&◌, ◌||◌, cond, nat_eq, nat_lt, List, [], ◌∷◌, ◌++◌, length, map, get_or, replicate, set, Option, Some, None, refl, sym, ap, subst, ◌∙◌, add-one, arith}
+use Rattle.std.specs.List.{slice_get}
+use Rattle.std.proofs.lemmas.List.{map-append}
+use Rattle.std.proofs.lemmas.Option.{get_or_from_slice_get, slice_get_within}
 use Rattle.std.proofs.lemmas.Bool.{cases_eq, cases_lt, lt-ltb, le-ltb}
 use Rattle.error_types.specs.Rows.{put_at, row_below, rows_so_far}
 use Rattle.plain_values.specs.Numbered.{numbers_below}
@@ -30,7 +33,7 @@ past-grid n f a b past =
     ap (λ t. cond t (set (grid n f) a (set (get_or (grid n f) a []) b true)) (grid n f)) (le-ltb a (length (grid n f)) (omega (arith, past, long (λ h. map (f h) (numbers_below n)) n)))
 
 -- each row has room for each number
-pub grid-room : (n : ℕ) (f : ℕ → ℕ → Bool) (rows : List (List Bool)) (b : ℕ) → rows ≡ grid n f → b < n → (i : ℕ) → i < length rows → b < length (get_or rows i [])
+grid-room : (n : ℕ) (f : ℕ → ℕ → Bool) (rows : List (List Bool)) (b : ℕ) → rows ≡ grid n f → b < n → (i : ℕ) → i < length rows → b < length (get_or rows i [])
 grid-room n f rows b is inside i within =
     let row = λ (h : ℕ). map (f h) (numbers_below n) in
     let fewer : i < n = omega (arith, within, ap length is, long row n) in
@@ -69,6 +72,12 @@ module _ (bases : List (Option ℕ)) (low : ℕ) where
     rows_are = is ∙ same-grid (length bases) (λ h k. nat_lt k low && is_below_by bases k h) (cell (λ _. false)) (λ h k _ _. or-none (nat_lt k low && is_below_by bases k h) (nat_eq k low));
     left = λ high. ap (λ n. is_below_in n (base_in bases) low high) all;
   }
+
+  -- each row that there is has room for this type
+  pub walk-room : low < length bases → (steps now : ℕ) (rows : List (List Bool)) → Walked steps now rows → (place : ℕ) (row : List Bool) → slice_get rows place ≡ Some row → low < length row
+  walk-room less steps now rows walked place row at =
+      let room = grid-room (length bases) (cell walked.seen) rows low walked.rows_are less place (slice_get_within rows place row at) in
+      omega (arith, room, ap length (get_or_from_slice_get rows place row [] at))
 
   abbrev seen_too : (ℕ → Bool) → ℕ → ℕ → Bool
   seen_too seen now high = seen high || nat_eq now high
@@ -174,3 +183,6 @@ pub end-rows : (bases : List (Option ℕ)) → rows_so_far bases (length bases) 
 end-rows bases =
     same-grid (length bases) (λ h k. nat_lt k (length bases) && is_below_by bases k h) (λ h k. is_below_by bases k h)
     (λ h k _ within. ap (λ t. t && is_below_by bases k h) (lt-ltb k (length bases) within))
+
+pub row-more : (f : ℕ → List Bool) (n : ℕ) → map f (numbers_below (n + 1)) ≡ map f (numbers_below n) ++ f n ∷ []
+row-more f n = ap (λ m. map f (numbers_below m)) (add-one n) ∙ map-append f (numbers_below n) (n ∷ [])

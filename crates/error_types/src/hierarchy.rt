@@ -92,7 +92,8 @@ pub(crate) fn rows_of(alloc: Global, bases: &[Option<u32>]) -> Mem<List<Row>>
 {
     let mut rows = empty_rows(alloc, bases.len() as u32)?;
     put_all(rows.as_mut_slice(), bases);
-    rows.push(Row::new(alloc, bases.len() as u32)?)?;
+    let none = Row::new(alloc, bases.len() as u32)?;
+    rows.push(none)?;
     List::of(rows)
 }
 
@@ -102,7 +103,8 @@ fn empty_rows(alloc: Global, count: u32) -> Mem<Vec<Row>>
 {
     let mut rows = Vec::new(alloc);
     for _ in 0..count {
-        rows.push(Row::new(alloc, count)?)?;
+        let row = Row::new(alloc, count)?;
+        rows.push(row)?;
     }
     Ok(rows)
 }
