@@ -96,7 +96,22 @@ def few_used():
     return package(library, body), (3, 2, 2)
 
 
-SHAPES = [ring, states, points, into_one, few_used]
+def extended():
+    """1,024 types, each of which extends the one before, and an open input of the first: each comes in there."""
+    chain = "t0: type;\n" + "".join(f"t{n}: type extends t{n - 1};\n" for n in range(1, 1024))
+    library = "error types\n" + chain + "end types;\n" + (
+        "error behavior m events e: error event; states ok: initial state; bad: state;\n"
+        "transitions ok -[e or in i]-> bad; end behavior;\n"
+    )
+    device = (
+        "device d features i: in event port; annex EMV2 {**\nuse types p; use behavior p::m;\n"
+        "error propagations i: in propagation {t0}; end propagations;\n**}; end d;\n"
+    )
+    system = "system s end s; system implementation s.i subcomponents d1: device d; end s.i;\n"
+    return package(library, device + system), (2, 2 + 1024, 1 + 1024)
+
+
+SHAPES = [ring, states, points, into_one, few_used, extended]
 
 
 def main():
