@@ -1,6 +1,5 @@
 ghost use Rattle.std.specs.Prelude.{◌≡◌, ◌<◌, ◌^◌, ◌∷◌, [], ◌++◌, ◌||◌, false, is_some, length, option_to_list, IfOk, OnOk};
 ghost use Rattle.std.specs.List.{list_any};
-ghost use Rattle.plain_values.specs.Refusal.{refusal};
 ghost use Rattle.error_types.specs.Course.{is_vain};
 ghost use Rattle.error_types.specs.Leaving.{LeavesItem, Offers};
 ghost use Rattle.error_types.specs.Tables.{has_number};

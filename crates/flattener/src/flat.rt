@@ -1,6 +1,5 @@
 ghost use Rattle.std.specs.Prelude.{◌≡◌, None, Some, IfErr, IfOk, MatchResult, OnOk, map};
 ghost use Rattle.plain_values.specs.Stops.{StopsAt};
-ghost use Rattle.plain_values.specs.Refusal.{refusal};
 ghost use Rattle.flattener.specs.Flat.{Flattened, event_info, fact_info, places_refusal, size_refusal, system_by, system_of};
 
 use crate::counts::all_places;

@@ -1,5 +1,4 @@
 ghost use Rattle.std.specs.Prelude.{◌≡◌, ◌++◌, codes, decimal};
-ghost use Rattle.plain_values.specs.Refusal.{refusal};
 ghost use Rattle.cutset_writer.specs.Written.{Writes};
 ghost use Rattle.fta_run.specs.Line.{constant_text, file_word, limit_text, place_text, refusal_text, status_line};
 

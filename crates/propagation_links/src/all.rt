@@ -5,7 +5,6 @@ ghost use Rattle.propagation_links.specs.Refused.{count_in, count_links, faults_
 ghost use Rattle.propagation_links.specs.Steps.{Linked, AllLinked};
 ghost use Rattle.instantiator.specs.Whole.{effective_in};
 ghost use Rattle.plain_values.specs.Order.{least};
-ghost use Rattle.plain_values.specs.Refusal.{refusal};
 
 use crate::counted::count_in;
 use crate::link::Link;

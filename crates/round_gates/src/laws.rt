@@ -2,7 +2,6 @@
 
 ghost use Rattle.std.specs.Prelude.{◌≡◌, ◌<◌, ◌↔◌, ℕ, Bool};
 ghost use Rattle.plain_values.specs.declared.refusal.Refusal.{Refusal};
-ghost use Rattle.plain_values.specs.Refusal.{refusal};
 ghost use Rattle.fault_system.specs.Truth.{NumberSet, member};
 ghost use Rattle.fault_system.specs.Systems.{System, IsSystem, Holds, holds_of};
 ghost use Rattle.dependency_blocks.specs.Blocks.{BlockNumbers, number_of, size_of};
