@@ -1,20 +1,11 @@
 -- Steps of the marking, one after another.
-use Rattle.std.proofs.Common.{ℕ, zero, suc, ◌≡◌, ◌<◌, Bool, true, false, ◌&&◌, ◌||◌, not, List, [], ◌∷◌, ◌++◌, length, set, ⊎_elim, ap, ◌∙◌, sym, subst, refl, arith, length-set, length-append, ◌==◌}
-use Rattle.std.proofs.lemmas.Bool.{false≢true, eqb-true, eq-eqb, or_cases}
+use Rattle.std.proofs.Common.{ℕ, ◌≡◌, ◌<◌, Bool, true, false, ◌&&◌, ◌||◌, not, List, [], ◌∷◌, ◌++◌, length, set, ap, ◌∙◌, sym, subst, refl, arith, length-set, length-append, ◌==◌}
+use Rattle.std.proofs.lemmas.Bool.{false≢true, eqb-true}
 use Rattle.std.proofs.lemmas.List.Folds.{list_any-append}
-use Rattle.fault_system.specs.Truth.{NumberSet, Has, member, set_of, count_true}
-use Rattle.fault_system.proofs.AddTrue.{member-put, count-put}
-use Rattle.fault_system.proofs.TruthLaws.{same_answer}
+use Rattle.fault_system.specs.Truth.{NumberSet, member, set_of, count_true}
+use Rattle.fault_system.proofs.NumberSets.{count-put, member-set}
 use Rattle.backward_slice.specs.Marks.{Adds}
 use Rattle.backward_slice.specs.declared.marking.Marking.{Marking}
-
-pub or_left : (a b : Bool) → a ≡ true → a || b ≡ true
-or_left true b e = refl
-or_left false b e = absurd (false≢true e)
-
-pub or_right : (a b : Bool) → b ≡ true → a || b ≡ true
-or_right true b e = refl
-or_right false b e = e
 
 or_none : (a : Bool) → a ≡ a || false
 or_none true = refl
@@ -23,30 +14,6 @@ or_none false = refl
 or_assoc : (a b c : Bool) → (a || b) || c ≡ a || (b || c)
 or_assoc true b c = refl
 or_assoc false b c = refl
-
-pub member-in : (bs : List Bool) (n : ℕ) → Has (member bs) n → n < length bs
-member-in [] n e = absurd (false≢true e)
-member-in (b ∷ bs) zero e = omega arith
-member-in (b ∷ bs) (suc n) e = omega (arith, member-in bs n e)
-
-put-there : (bs : List Bool) (n m : ℕ) → n < length bs → n ≡ m → Has (member (set bs n true)) m
-put-there [] n m h e = absurd (omega arith)
-put-there (b ∷ bs) zero zero h e = refl
-put-there (b ∷ bs) zero (suc m) h e = absurd (omega arith)
-put-there (b ∷ bs) (suc n) zero h e = absurd (omega arith)
-put-there (b ∷ bs) (suc n) (suc m) h e = put-there bs n m (omega arith) (omega arith)
-
-put-kept : (bs : List Bool) (n m : ℕ) → Has (member bs) m → Has (member (set bs n true)) m
-put-kept [] n m e = e
-put-kept (b ∷ bs) zero zero e = refl
-put-kept (b ∷ bs) zero (suc m) e = e
-put-kept (b ∷ bs) (suc n) zero e = e
-put-kept (b ∷ bs) (suc n) (suc m) e = put-kept bs n m e
-
-member-set : (bs : List Bool) (n m : ℕ) → n < length bs → member (set bs n true) m ≡ member bs m || (n == m)
-member-set bs n m h = same_answer _ _
-    (λ e. ⊎_elim (λ same. or_right (member bs m) _ (eq-eqb n m (sym same))) (λ was. or_left (member bs m) _ was) (member-put bs n m e))
-    (λ e. ⊎_elim (λ was. put-kept bs n m was) (λ same. put-there bs n m h (eqb-true n m same)) (or_cases _ _ e))
 
 fresh : (a e w : Bool) → (e ≡ true → a ≡ false) → (a || e) && not (w || (e || false)) ≡ a && not w
 fresh true true w h = absurd (false≢true (sym (h refl)))

@@ -1,4 +1,3 @@
-pub mod Occurrences
 pub mod Adding
 pub mod Reached
 pub mod Rising

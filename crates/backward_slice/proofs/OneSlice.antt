@@ -1,26 +1,15 @@
 -- A target has one slice, and it is served or refused for one reason.
-use Rattle.std.proofs.Common.{◌≡◌, ◌≤◌, ◌<◌, ◌⊎◌, ℕ, List, [], ◌∷◌, length, Contains, ⊎_elim, inl, inr, sym, ◌∙◌, subst, ap, arith}
-use Rattle.std.proofs.lemmas.Bool.{false≢true}
+use Rattle.std.proofs.Common.{◌≡◌, ℕ, List, length, Contains, ⊎_elim, sym, ◌∙◌, subst, ap, arith}
 use Rattle.plain_values.specs.declared.refusal.Refusal.{Refusal}
-use Rattle.fault_system.specs.Truth.{Has, set_of}
 use Rattle.fault_system.specs.Systems.{System}
 use Rattle.plain_values.specs.Rising.{RisesWithin}
-use Rattle.fault_system.proofs.Elements.{In, In-contains, contains_In}
-use Rattle.fault_system.proofs.CutSetLaws.{same_rising, set_of-first, set_of-rest, set_of-cases}
+use Rattle.fault_system.proofs.NumberSets.{same_rising, contained-in_set, set_of-contained}
 use Rattle.backward_slice.specs.Slices.{IsSlice, IsServed, IsTooLarge, HasLargeSlice}
 use Rattle.backward_slice.specs.declared.parts.Slice.{Slice}
 
-has_in : (xs : List ℕ) (n : ℕ) → In n xs → Has (set_of xs) n
-has_in [] n i = absurd i
-has_in (x ∷ xs) n i = ⊎_elim (λ e. subst (Has (set_of (x ∷ xs))) e (set_of-first x xs)) (λ r. set_of-rest x xs n (has_in xs n r)) i
-
-in_has : (xs : List ℕ) (n : ℕ) → Has (set_of xs) n → In n xs
-in_has [] n h = absurd (false≢true h)
-in_has (x ∷ xs) n h = ⊎_elim (λ e. inl e) (λ r. inr (in_has xs n r)) (set_of-cases x xs n h)
-
 one_list : (high : ℕ) (xs ys : List ℕ) → RisesWithin 0 high xs → RisesWithin 0 high ys → ((n : ℕ) → Contains xs n → Contains ys n) → ((n : ℕ) → Contains ys n → Contains xs n) → xs ≡ ys
 one_list high xs ys r s f g =
-    same_rising 0 0 high xs ys r s (λ n h. has_in ys n (In-contains n ys (f n (contains_In n xs (in_has xs n h))))) (λ n h. has_in xs n (In-contains n xs (g n (contains_In n ys (in_has ys n h)))))
+    same_rising 0 0 high xs ys r s (λ n h. contained-in_set ys n (f n (set_of-contained xs n h))) (λ n h. contained-in_set xs n (g n (set_of-contained ys n h)))
 
 pub one_slice : (system : System) (target : ℕ) (a b : Slice) → IsSlice system target a → IsSlice system target b → a ≡ b
 one_slice system target a b x y =

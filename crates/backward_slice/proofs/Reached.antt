@@ -1,25 +1,16 @@
 -- The marking, from the target alone to the end.
-use Rattle.std.proofs.Common.{ℕ, ◌≡◌, ◌≢◌, ◌<◌, ◌⊎◌, Bool, true, false, ◌&&◌, ◌||◌, not, List, [], ◌∷◌, ◌++◌, length, Some, ⊎_elim, ap, ◌∙◌, sym, subst, refl, arith, append-nil, ◌==◌}
-use Rattle.std.proofs.lemmas.Bool.{false≢true, ne_eqb, or_cases, and_parts, and_from, cases_eq}
-use Rattle.std.proofs.lemmas.List.Elements.{All-get_or}
+use Rattle.std.proofs.Common.{ℕ, ◌≡◌, ◌≢◌, ◌⊎◌, Bool, true, false, ◌&&◌, ◌||◌, not, List, [], ◌∷◌, ◌++◌, length, Some, ⊎_elim, ap, ◌∙◌, sym, subst, refl, arith, append-nil, ◌==◌}
+use Rattle.std.proofs.lemmas.Bool.{false≢true, ne_eqb, or_cases, and_parts, and_from, cases_eq, or_left, or_right}
 use Rattle.std.proofs.lemmas.List.Folds.{list_any-append}
-use Rattle.std.proofs.lemmas.Option.{slice_get_within, get_or_from_slice_get}
 use Rattle.std.specs.List.{slice_get}
-use Rattle.fault_system.specs.Truth.{NumberSet, Has, member, set_of, occurs, in_range}
-use Rattle.fault_system.specs.Systems.{System, IsSystem}
+use Rattle.fault_system.specs.Truth.{NumberSet, Has, member, set_of, occurs, occurs_event}
+use Rattle.fault_system.specs.Systems.{System, IsSystem, IsFact}
 use Rattle.fault_system.specs.declared.formula.FactInfo.{FactInfo}
-use Rattle.backward_slice.specs.Slices.{IsFact, HasItsCauses, DependsOn, DependsOnEvent, occurs_event}
+use Rattle.backward_slice.specs.Slices.{HasItsCauses, DependsOn, DependsOnEvent}
 use Rattle.backward_slice.specs.Marks.{Adds, is_done, IsMarkingBut, IsMarking, IsMarked}
 use Rattle.backward_slice.specs.declared.marking.Marking.{Marking}
-use Rattle.backward_slice.proofs.Occurrences.{occurs-in_range, occurs_event-in_range}
-use Rattle.backward_slice.proofs.Adding.{or_left, or_right, member-in}
-
--- a fact's formula is in range
-pub fact-in_range : (system : System) → IsSystem system → (n : ℕ) (fact : FactInfo) → IsFact system n fact → in_range (length system.facts) (length system.events) fact.formula ≡ true
-fact-in_range system is n fact at =
-    let here : n < length system.facts = slice_get_within system.facts n fact at in
-    subst (λ (f : FactInfo). in_range (length system.facts) (length system.events) f.formula ≡ true) (get_or_from_slice_get system.facts n fact fact at)
-    (All-get_or (λ (f : FactInfo). in_range (length system.facts) (length system.events) f.formula ≡ true) system.facts n fact here is.ranged)
+use Rattle.fault_system.proofs.Occurrences.{occurs-in_range, occurs_event-in_range, fact-in_range}
+use Rattle.fault_system.proofs.NumberSets.{member-in}
 
 same_fact : (system : System) (n m : ℕ) (a b : FactInfo) → n ≡ m → IsFact system n a → IsFact system m b → a ≡ b
 same_fact system n m a b e f g = some_inner _ _ (sym f ∙ ap (slice_get system.facts) e ∙ g) where

@@ -1,12 +1,12 @@
 -- Rising lists of the numbers of a set.
-use Rattle.std.proofs.Common.{ℕ, ◌+◌, ◌≡◌, ◌<◌, ◌≤◌, ◌⊎◌, Bool, true, false, cond, List, [], ◌∷◌, ◌++◌, length, inl, inr, ⊎_elim, ap, ◌∙◌, sym, subst, append-nil, arith}
+use Rattle.std.proofs.Common.{ℕ, ◌+◌, ◌≡◌, ◌<◌, ◌⊎◌, Bool, true, false, cond, List, [], ◌∷◌, ◌++◌, length, inl, inr, ⊎_elim, ap, ◌∙◌, sym, subst, append-nil, arith}
 use Rattle.std.proofs.lemmas.Bool.{false≢true, cases_order}
 use Rattle.fault_system.specs.Truth.{Has, member}
 use Rattle.plain_values.specs.Rising.{RisesWithin}
 use Rattle.plain_values.proofs.Rising.{rises-higher, rises-push}
 use Rattle.fault_system.proofs.Elements.{In, In-contains, contains_In, In-append, In-front, In-back}
 use Rattle.backward_slice.specs.Marks.{IsNumbers}
-use Rattle.backward_slice.proofs.Adding.{member-in}
+use Rattle.fault_system.proofs.NumberSets.{member-in}
 
 -- the numbers of a set below a bound
 pub record NumbersBelow (set : List Bool) (bound : ℕ) (list : List ℕ) : Type 0 where

@@ -1,10 +1,10 @@
 -- What a step of the marking adds.
 use Rattle.std.specs.Prelude.{ℕ, ◌+◌, ◌<◌, ◌≡◌, ◌≢◌, ◌↔◌, Bool, true, ◌&&◌, ◌||◌, not, List, length, Contains}
-use Rattle.fault_system.specs.Truth.{NumberSet, Has, member, set_of, count_true, occurs}
-use Rattle.fault_system.specs.Systems.{System}
+use Rattle.fault_system.specs.Truth.{NumberSet, Has, member, set_of, count_true, occurs, occurs_event}
+use Rattle.fault_system.specs.Systems.{System, IsFact}
 use Rattle.plain_values.specs.Rising.{RisesWithin}
 use Rattle.fault_system.specs.declared.formula.FactInfo.{FactInfo}
-use Rattle.backward_slice.specs.Slices.{DependsOn, DependsOnEvent, IsFact, occurs_event}
+use Rattle.backward_slice.specs.Slices.{DependsOn, DependsOnEvent}
 use Rattle.backward_slice.specs.declared.marking.Marking.{Marking}
 
 -- whether a fact is marked and does not wait

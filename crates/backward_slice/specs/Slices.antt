@@ -1,33 +1,13 @@
 -- The slice of a target: all facts and events that it depends on.
-use Rattle.std.specs.Prelude.{ℕ, ◌<◌, ◌≤◌, ◌≡◌, ◌⊎◌, ◌↔◌, Bool, true, false, ◌==◌, length, Contains, slice_get, Some}
-use Rattle.std.specs.List.{list_any}
+use Rattle.std.specs.Prelude.{ℕ, ◌<◌, ◌≤◌, ◌≡◌, ◌⊎◌, ◌↔◌, true, length, Contains}
 use Rattle.plain_values.specs.declared.refusal.Refusal.{Refusal}
 use Rattle.plain_values.specs.declared.refusal.Code.TheVariants.{SliceTooLarge, TooManySliceEvents}
 use Rattle.plain_values.specs.Refusal.{of_words}
-use Rattle.fault_system.specs.Truth.{NumberSet, Has, occurs}
-use Rattle.fault_system.specs.Systems.{System}
+use Rattle.fault_system.specs.Truth.{NumberSet, Has, occurs, occurs_event}
+use Rattle.fault_system.specs.Systems.{System, IsFact}
 use Rattle.plain_values.specs.Rising.{RisesWithin}
 use Rattle.fault_system.specs.declared.formula.FactInfo.{FactInfo}
-use Rattle.fault_system.specs.declared.formula.Formula.{Formula, fold-Formula}
-use Rattle.fault_system.specs.declared.formula.Formula.TheOpen.{Formula-F, True, Event, Fact, And, Or, AtLeast}
 use Rattle.backward_slice.specs.declared.parts.Slice.{Slice}
-
--- one formula, with whether the event of a number occurs in each part in its place
-abbrev pub occurs_event_step : ℕ → Formula-F Bool → Bool
-occurs_event_step number True = false
-occurs_event_step number (Event n) = n == number
-occurs_event_step number (Fact n) = false
-occurs_event_step number (And parts) = list_any (λ part. part) parts
-occurs_event_step number (Or parts) = list_any (λ part. part) parts
-occurs_event_step number (AtLeast k parts) = list_any (λ part. part) parts
-
--- whether the event of a number occurs in a formula
-abbrev pub occurs_event : ℕ → Formula → Bool
-occurs_event number = fold-Formula Bool (occurs_event_step number)
-
--- the fact of a number
-abbrev pub IsFact : System → ℕ → FactInfo → Type 0
-IsFact system number fact = slice_get system.facts number ≡ Some fact
 
 -- with each fact, the set has all facts that occur in its formula
 abbrev pub HasItsCauses : System → NumberSet → Type 0

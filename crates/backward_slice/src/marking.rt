@@ -1,7 +1,6 @@
 ghost use Rattle.std.specs.Prelude.{◌≡◌, ◌<◌, ◌+◌, OnOk, map, false, ◌==◌};
 ghost use Rattle.std.specs.List.{list_any};
-ghost use Rattle.fault_system.specs.Truth.{occurs};
-ghost use Rattle.backward_slice.specs.Slices.{occurs_event};
+ghost use Rattle.fault_system.specs.Truth.{occurs, occurs_event};
 ghost use Rattle.backward_slice.specs.Marks.{Adds};
 
 use fault_system::{Bits, Formula};

@@ -7,8 +7,7 @@ use Rattle.fault_system.specs.Systems.{System, IsSystem, applied, Holds}
 use Rattle.plain_values.specs.Rising.{RisesWithin}
 use Rattle.fault_system.specs.CutSets.{IsEventSet, IsSubset}
 use Rattle.fault_system.specs.Listings.{IsWithinOrder}
-use Rattle.backward_slice.proofs.Occurrences.{occurs_event-in_range}
-use Rattle.backward_slice.proofs.Reached.{fact-in_range}
+use Rattle.fault_system.proofs.Occurrences.{occurs_event-in_range, fact-in_range}
 use Rattle.zdd_store.specs.Family.{Family, least_of, has, is_within, covers, IsRising, IsAntichain}
 use Rattle.zdd_store.proofs.Orders.{all_contained}
 use Rattle.zdd_families.specs.Unions.{HasMinimalSets}
@@ -17,7 +16,7 @@ use Rattle.zdd_families.proofs.Covers.{covers_member, member_covers, covers_more
 use Rattle.zdd_families.proofs.Telling.{Tells, minimal_sets_of}
 use Rattle.cutset_engine.specs.Families.{HasMinimalCutSets}
 use Rattle.cutset_engine.proofs.Covering.{within-shorter}
-use Rattle.cutset_engine.proofs.Occurring.{truth-grows-on}
+use Rattle.fault_system.proofs.Occurring.{truth-grows-on}
 use Rattle.cutset_engine.proofs.Rounds.{fact_of}
 
 -- the two words for the numbers of a set

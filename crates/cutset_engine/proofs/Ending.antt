@@ -9,7 +9,7 @@ use Rattle.fault_system.specs.Systems.{System, IsSystem, Holds}
 use Rattle.fault_system.specs.Listings.{IsWithinOrder}
 use Rattle.fault_system.proofs.Elements.{In-contains, contains_In, In-filter}
 use Rattle.fault_system.proofs.HoldsLaws.{holds_of-exact}
-use Rattle.fault_system.proofs.CutSetLaws.{RisesWithin-each}
+use Rattle.fault_system.proofs.NumberSets.{RisesWithin-each}
 use Rattle.backward_slice.specs.Slices.{IsSlice}
 use Rattle.backward_slice.specs.declared.parts.Slice.{Slice}
 use Rattle.zdd_store.specs.Family.{Family, covers, has, IsRising, IsAntichain}

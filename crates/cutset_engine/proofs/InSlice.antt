@@ -2,17 +2,17 @@
 use Rattle.std.proofs.Common.{ℕ, zero, suc, map, slice_get, Some, None, ◌≡◌, Bool, true, false, not, ◌||◌, ◌==◌, List, [], ◌∷◌, length, Contains, ⊎_elim, refl, sym, ap, ◌∙◌, subst}
 use Rattle.std.proofs.lemmas.Bool.{false≢true}
 use Rattle.fault_system.specs.Truth.{NumberSet, Has, member, set_of, occurs, truth}
-use Rattle.fault_system.specs.Systems.{System, Holds, applied}
+use Rattle.fault_system.specs.Systems.{System, Holds, applied, IsFact}
 use Rattle.fault_system.specs.CutSets.{IsCutSet, IsMinimalCutSet}
-use Rattle.fault_system.proofs.CutSetLaws.{RisesWithin-filter}
+use Rattle.fault_system.proofs.NumberSets.{RisesWithin-filter, member-map}
 use Rattle.fault_system.specs.declared.formula.FactInfo.{FactInfo}
-use Rattle.backward_slice.specs.Slices.{IsFact, IsSlice}
+use Rattle.backward_slice.specs.Slices.{IsSlice}
 use Rattle.backward_slice.specs.declared.parts.Slice.{Slice}
 use Rattle.zdd_store.specs.Family.{has, is_within}
 use Rattle.zdd_store.proofs.Orders.{contains_first, contains_rest, contains_none, first_or_rest}
 use Rattle.zdd_families.proofs.Subsets.{has_first, has_rest, has_cases, has_none, within_from, within_has}
 use Rattle.cutset_engine.proofs.CutSets.{has-set_of, leave, leave-has, leave-none, leave-within}
-use Rattle.cutset_engine.proofs.Occurring.{truth-grows-on}
+use Rattle.fault_system.proofs.Occurring.{truth-grows-on}
 use Rattle.cutset_engine.proofs.Rounds.{fact_of}
 
 -- the two words for what is in a list
@@ -38,15 +38,6 @@ or_second true b h = refl
 or_second false true h = absurd (false≢true (sym h))
 or_second false false h = refl
 
--- what all formulas say, at the fact of a number
-applied_at : (facts : List FactInfo) (n : ℕ) (fact : FactInfo) (test : FactInfo → Bool) → slice_get facts n ≡ Some fact → member (map test facts) n ≡ test fact
-applied_at [] n fact test is = absurd (none_some fact is)
-  where
-    none_some : (f : FactInfo) → None ≡ Some f → ⊥
-    none_some f e = cc
-applied_at (f ∷ fs) zero fact test is = let same : f ≡ fact = cc in ap test same
-applied_at (f ∷ fs) (suc n) fact test is = applied_at fs n fact test is
-
 module _ (system : System) (target : ℕ) (slice : Slice) (is : IsSlice system target slice) where
   -- a fact of the slice depends on facts of the slice alone
   cause : (n m : ℕ) (fact : FactInfo) → Contains slice.facts n → IsFact system n fact → occurs m fact.formula ≡ true → Contains slice.facts m
@@ -64,7 +55,7 @@ module _ (system : System) (target : ℕ) (slice : Slice) (is : IsSlice system t
           let at = fact_of system es (λ m. xs m || not (has slice.facts m)) n a in
           or_first (xs n) (not (has slice.facts n))
           (closed n
-          (applied_at system.facts n at.fact (λ f. truth es' xs f.formula) at.is
+          (member-map (λ f. truth es' xs f.formula) system.facts n at.fact at.is
           ∙ truth-grows-on es es' (λ m. xs m || not (has slice.facts m)) xs at.fact.formula
           (λ m o e. more m ((is.events m).1 (n, at.fact, (is.facts n).0 (has_contains slice.facts n inside), at.is, o)) e)
           (λ m o e. or_no (xs m) (has slice.facts m) (contains_has slice.facts m (cause n m at.fact (has_contains slice.facts n inside) at.is o)) e)

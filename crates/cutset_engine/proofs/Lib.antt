@@ -1,6 +1,5 @@
 pub mod Covering
 pub mod Parts
-pub mod Occurring
 pub mod StepLaws
 pub mod Rounds
 pub mod CutSets

@@ -6,20 +6,19 @@ use Rattle.std.proofs.lemmas.Option.{slice_get_cases, get_or_from_slice_get}
 use Rattle.std.specs.List.{slice_get}
 use lib.ListN.{length-map}
 use Rattle.fault_system.specs.Truth.{NumberSet, Has, member, truth}
-use Rattle.fault_system.specs.Systems.{System, applied, round}
+use Rattle.fault_system.specs.Systems.{System, applied, round, IsFact}
 use Rattle.fault_system.specs.Listings.{IsWithinOrder}
 use Rattle.fault_system.specs.declared.formula.FactInfo.{FactInfo}
 use Rattle.fault_system.proofs.Marks.{Below-member}
 use Rattle.fault_system.proofs.HoldsLaws.{applied-grows}
-use Rattle.backward_slice.specs.Slices.{IsFact}
-use Rattle.backward_slice.proofs.Adding.{member-in}
+use Rattle.fault_system.proofs.NumberSets.{member-in, member-none}
 use Rattle.zdd_store.specs.Store.{Families, Keeps}
 use Rattle.zdd_store.specs.declared.id.Id.{Id}
 use Rattle.zdd_families.proofs.Ways.{Keeps_trans, Keeps_same}
 use Rattle.cutset_engine.specs.Gates.{covers_each, events_of}
 use Rattle.cutset_engine.specs.Filling.{Task, covered, IsFilling, IsFilled, IsStep, Grows, Reaches, HaveTheirCauses}
 use Rattle.cutset_engine.proofs.Covering.{kept_each}
-use Rattle.cutset_engine.proofs.Occurring.{truth-grows-on}
+use Rattle.fault_system.proofs.Occurring.{truth-grows-on}
 
 -- a sweep after so many of the numbers
 pub record Swept (task : Task) (before after : Families) (old new : List Id) (numbers : List ℕ) (index : ℕ) (changed : Bool) : Type 0 where
@@ -60,11 +59,6 @@ swept-end task before after old new numbers index changed swept all =
       same = swept.same;
     }
 
-none_member : (facts : List FactInfo) (n : ℕ) → Has (member (map (λ _. false) facts)) n → ⊥
-none_member [] n e = false≢true e
-none_member (f ∷ facts) zero e = false≢true e
-none_member (f ∷ facts) (suc n) e = none_member facts n e
-
 -- the fact of a number whose mark is set when all formulas are applied, and what the mark is under any events
 pub record FactOf (system : System) (xs : NumberSet) (n : ℕ) : Type 0 where
   pub fact : FactInfo
@@ -100,7 +94,7 @@ Rounds task numbers store now r =
 
 pub rounds-none : (task : Task) (numbers : List ℕ) (store : Families) (now : List Id) → Rounds task numbers store now 0
 unfolding Rounds
-rounds-none task numbers store now s w n asked has = absurd (none_member task.system.facts n has)
+rounds-none task numbers store now s w n asked has = absurd (false≢true (sym (member-none task.system.facts n) ∙ has))
 
 pub rounds-next : (task : Task) (numbers : List ℕ) (before after : Families) (old new : List Id) (changed : Bool) (r : ℕ) → HaveTheirCauses task.system numbers → Rounds task numbers before old r → IsStep task before after old new (Contains numbers) changed → Rounds task numbers after new (r + 1)
 unfolding Rounds
@@ -111,7 +105,7 @@ rounds-next task numbers before after old new changed r causes rounds step s w n
 -- where nothing changed, all rounds are reached
 pub rounds-all : (task : Task) (numbers : List ℕ) (before after : Families) (old new : List Id) → HaveTheirCauses task.system numbers → IsFilling task before old → Keeps before after → IsStep task before after old new (Contains numbers) false → (r : ℕ) → Rounds task numbers after new r
 unfolding Rounds
-rounds-all task numbers before after old new causes filling kept step zero = λ s w n asked has. absurd (none_member task.system.facts n has)
+rounds-all task numbers before after old new causes filling kept step zero = λ s w n asked has. absurd (false≢true (sym (member-none task.system.facts n) ∙ has))
 rounds-all task numbers before after old new causes filling kept step (suc r) =
     λ s w n asked has.
     let same : covered after new s ≡ covered before old s = ap (λ ids. covers_each after ids s) (step.same refl) ∙ kept_each before after old s kept filling.found in

@@ -1,18 +1,17 @@
 -- One step: the family of one fact is made anew.
 use Rattle.std.proofs.Common.{ℕ, zero, suc, ◌≡◌, ◌≢◌, ◌<◌, Bool, false, List, [], ◌∷◌, length, set, slice_index_or, All, Some, None, ⊎_elim, ap, ◌∙◌, sym, subst, refl, arith, length-set}
 use Rattle.std.proofs.lemmas.Bool.{cases_eq}
-use Rattle.std.proofs.lemmas.List.{get_or-map}
+use Rattle.std.proofs.lemmas.List.{get_or-map, get_or-set_same, get_or-set_other}
 use Rattle.std.proofs.lemmas.Option.{slice_get_within, get_or_from_slice_get, slice_get-get_or}
 use Rattle.std.specs.List.{slice_get}
 use lib.ListN.{length-map}
 use Rattle.fault_system.specs.Truth.{NumberSet, Has, member, truth}
-use Rattle.fault_system.specs.Systems.{System, applied, Holds}
+use Rattle.fault_system.specs.Systems.{System, applied, Holds, IsFact}
 use Rattle.fault_system.specs.Listings.{IsWithinOrder}
 use Rattle.fault_system.specs.declared.formula.FactInfo.{FactInfo}
 use Rattle.fault_system.proofs.Marks.{Below-member}
 use Rattle.fault_system.proofs.HoldsLaws.{applied-grows}
-use Rattle.backward_slice.specs.Slices.{IsFact}
-use Rattle.backward_slice.proofs.Adding.{member-in}
+use Rattle.fault_system.proofs.NumberSets.{member-in}
 use Rattle.zdd_store.specs.Family.{covers}
 use Rattle.zdd_store.specs.Store.{Families, IsIn, family_of, Keeps}
 use Rattle.zdd_store.specs.declared.id.Id.{Id}
@@ -20,26 +19,14 @@ use Rattle.cutset_engine.specs.Gates.{covers_each, events_of, is_true_under, Sta
 use Rattle.cutset_engine.specs.Filling.{Task, covered, next_covered, IsFilling, IsStep}
 use Rattle.cutset_engine.proofs.Covering.{kept_each, kept_in}
 
-member-here : (bs : List Bool) (n : ℕ) (b : Bool) → n < length bs → member (set bs n b) n ≡ b
-member-here [] n b h = absurd (omega arith)
-member-here (c ∷ bs) zero b h = refl
-member-here (c ∷ bs) (suc n) b h = member-here bs n b (omega arith)
-
-member-other : (bs : List Bool) (n m : ℕ) (b : Bool) → m ≢ n → member (set bs n b) m ≡ member bs m
-member-other [] n m b h = refl
-member-other (c ∷ bs) zero zero b h = absurd (h refl)
-member-other (c ∷ bs) zero (suc m) b h = refl
-member-other (c ∷ bs) (suc n) zero b h = refl
-member-other (c ∷ bs) (suc n) (suc m) b h = member-other bs n m b (λ e. h (ap suc e))
-
 -- the marks of one set, of which one is put anew
 module _ (system : System) (es : NumberSet) (c c' : List Bool) (number : ℕ) (b : Bool) (is : c' ≡ set c number b) (at : b ≡ member (applied system es (member c)) number) (fits : number < length c)
     (holds : (n : ℕ) → Has (member c) n → Holds system es n) (stays : (n : ℕ) → Has (member c) n → Has (member (applied system es (member c))) n) where
   here : member c' number ≡ b
-  here = ap (λ bs. member bs number) is ∙ member-here c number b fits
+  here = ap (λ bs. member bs number) is ∙ get_or-set_same c number b false fits
 
   other : (n : ℕ) → n ≢ number → member c' n ≡ member c n
-  other n differ = ap (λ bs. member bs n) is ∙ member-other c number n b differ
+  other n differ = ap (λ bs. member bs n) is ∙ get_or-set_other c number n b false differ
 
   pub marks-grow : (n : ℕ) → Has (member c) n → Has (member c') n
   marks-grow n h = ⊎_elim (λ e. subst (Has (member c')) (sym e) (here ∙ at ∙ stays number (subst (Has (member c)) e h))) (λ differ. other n differ ∙ h) (cases_eq n number)

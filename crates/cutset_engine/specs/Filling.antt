@@ -2,10 +2,9 @@
 use Rattle.std.specs.Prelude.{ℕ, ◌≡◌, Bool, true, false, List, length, All, Contains, Option, Result, IfOk}
 use Rattle.std.specs.declared.alloc.AllocError.{AllocError}
 use Rattle.fault_system.specs.Truth.{Has, member, occurs}
-use Rattle.fault_system.specs.Systems.{System, applied, Holds, holds_of}
+use Rattle.fault_system.specs.Systems.{System, applied, Holds, holds_of, IsFact}
 use Rattle.fault_system.specs.Listings.{IsWithinOrder}
 use Rattle.fault_system.specs.declared.formula.FactInfo.{FactInfo}
-use Rattle.backward_slice.specs.Slices.{IsFact}
 use Rattle.zdd_store.specs.Store.{Families, IsIn, Keeps}
 use Rattle.zdd_store.specs.declared.id.Id.{Id}
 use Rattle.cutset_engine.specs.Gates.{covers_each, events_of}

@@ -9,13 +9,13 @@ use Rattle.std.proofs.lemmas.Bool.{cases_lt, false≢true}
 use Rattle.std.proofs.lemmas.List.{take-append-drop, drop-drop, length-map}
 use Rattle.std.proofs.lemmas.List.Concat.{flat_map-append}
 use Rattle.std.proofs.lemmas.Option.{get_or_from_slice_get, slice_get-map, unwrap_or-slice_get}
-use Rattle.fault_system.specs.Systems.{System, IsSystem, NamesDiffer}
+use Rattle.fault_system.specs.Systems.{System, IsSystem, NamesDiffer, event_name}
 use Rattle.fault_system.specs.CutSets.{IsEventSet}
 use Rattle.plain_values.specs.Rising.{RisesWithin}
 use Rattle.plain_values.proofs.Rising.{rises-higher, rises-push}
 use Rattle.fault_system.specs.declared.formula.EventInfo.{EventInfo}
 use Rattle.fault_system.proofs.Elements.{contains_In, each-made}
-use Rattle.cutset_lister.specs.SetText.{HasTokenNames, IsTokenName, IsSetOfText, event_name, set_text}
+use Rattle.cutset_lister.specs.SetText.{HasTokenNames, IsTokenName, IsSetOfText, set_text}
 use Rattle.cutset_lister.specs.Scanning.{Ends, GoesOn, IsNext, Scanned, names_text}
 
 -- whether a text begins with a name

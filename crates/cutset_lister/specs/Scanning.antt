@@ -1,10 +1,9 @@
 -- How a text is read as a set: over all events in order, which of them the text names next.
 use Rattle.std.specs.Prelude.{ℕ, ◌≡◌, ◌<◌, ◌≤◌, ◌+◌, List, [], ◌∷◌, ◌++◌, length, take, drop}
 use Rattle.std.specs.List.{flat_map}
-use Rattle.fault_system.specs.Systems.{System}
+use Rattle.fault_system.specs.Systems.{System, event_name}
 use Rattle.plain_values.specs.Rising.{RisesWithin}
 use Rattle.fault_system.specs.CutSets.{IsEventSet}
-use Rattle.cutset_lister.specs.SetText.{event_name}
 
 -- the names of a set, each behind a `+`
 abbrev pub names_text : System → List ℕ → List ℕ

@@ -1,17 +1,12 @@
 -- The texts of sets of events, which are page tokens.
-use Rattle.std.specs.Prelude.{ℕ, ◌≡◌, ◌≢◌, List, [], ◌∷◌, map, codes, unwrap_or, slice_get, All, Contains}
-use Rattle.std.specs.Option.{option_map}
+use Rattle.std.specs.Prelude.{ℕ, ◌≡◌, ◌≢◌, List, [], ◌∷◌, map, codes, All, Contains}
 use Rattle.std.specs.List.{join_with_byte}
 use Rattle.plain_values.specs.declared.refusal.Stop.{Stop}
 use Rattle.plain_values.specs.declared.refusal.Stop.TheVariants.{Refused, Memory}
 use Rattle.plain_values.specs.declared.refusal.Code.TheVariants.{BadToken}
 use Rattle.plain_values.specs.Refusal.{of_words}
-use Rattle.fault_system.specs.Systems.{System}
+use Rattle.fault_system.specs.Systems.{System, event_name}
 use Rattle.fault_system.specs.CutSets.{IsEventSet}
-
--- the name of an event by its number
-abbrev pub event_name : System → ℕ → List ℕ
-event_name system number = unwrap_or (option_map (λ event. event.name) (slice_get system.events number)) []
 
 -- a set's text: the names of its events in order with `+` between them, or `none` for the empty set
 abbrev pub set_text : System → List ℕ → List ℕ

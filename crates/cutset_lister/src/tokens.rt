@@ -2,7 +2,8 @@
 
 ghost use Rattle.std.specs.Prelude.{◌≡◌, ◌+◌, ◌<◌, ◌≤◌, ◌∷◌, ◌++◌, ℕ, List as Items, length, IfOk, IfErr, IsOk, OnOk, OnErr, MatchBool, MatchResult, vec_len, vec_capacity};
 ghost use Rattle.plain_values.specs.declared.refusal.Stop.TheVariants.{Memory};
-ghost use Rattle.cutset_lister.specs.SetText.{HasTokenNames, IsBadToken, IsSetOfText, event_name, set_text};
+ghost use Rattle.fault_system.specs.Systems.{event_name};
+ghost use Rattle.cutset_lister.specs.SetText.{HasTokenNames, IsBadToken, IsSetOfText, set_text};
 ghost use Rattle.cutset_lister.specs.Scanning.{AddsText, IsNext, LacksRoom, Scanned, names_text};
 
 use fault_system::FaultSystem;
@@ -60,7 +61,7 @@ fn take_event(
     if place > text.len() {
         return Ok(place);
     }
-    let name = event_name(system, number);
+    let name = system.event_name(number);
     if !is_next(&text[place..], name) {
         return Ok(place);
     }
@@ -82,16 +83,6 @@ fn is_next(text: &[u8], name: &[u8]) -> bool
         return true;
     }
     text[name.len()] == b'+'
-}
-
-/// The name of an event; none where the number is none of an event.
-fn event_name(system: &FaultSystem, number: u32) -> &[u8]
-    ensures { result.now ≡ event_name system.now number }
-{
-    match system.event(number) {
-        Some(event) => event.name.items(),
-        None => &[],
-    }
 }
 
 /// Adds the text of a set: the names of its events in order with `+` between them, or `none` for the empty set.
@@ -120,7 +111,7 @@ fn push_text(system: &FaultSystem, set: &[u32], to: &mut Vec<u8>) -> Mem<()>
     match set.split_first() {
         None => push_bytes(b"none", to),
         Some((first, others)) => {
-            push_bytes(event_name(system, *first), to)?;
+            push_bytes(system.event_name(*first), to)?;
             push_names(system, others, to)
         }
     }
@@ -141,7 +132,7 @@ fn push_name(system: &FaultSystem, event: u32, to: &mut Vec<u8>) -> Mem<()>
         (λ _. LacksRoom (43 ∷ event_name system.now event) to.old.items to.new.items (vec_capacity to.old) (vec_capacity to.new)) }
 {
     push_bytes(b"+", to)?;
-    push_bytes(event_name(system, event), to)
+    push_bytes(system.event_name(event), to)
 }
 
 fn push_bytes(bytes: &[u8], to: &mut Vec<u8>) -> Mem<()>

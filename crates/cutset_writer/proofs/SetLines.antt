@@ -3,12 +3,12 @@ use Rattle.std.proofs.Common.{◌≡◌, ℕ, zero, suc, ◌+◌, ◌<◌, ◌�
 use Rattle.std.specs.Prelude.{unwrap_or}
 use Rattle.std.specs.Option.{option_map}
 use Rattle.std.proofs.lemmas.Fmt.{length-decimal-le}
-use Rattle.fault_system.specs.Systems.{System}
+use Rattle.fault_system.specs.Systems.{System, event_name}
 use Rattle.fault_system.specs.CutSets.{IsEventSet}
 use Rattle.plain_values.specs.Rising.{RisesWithin}
 use Rattle.fault_system.specs.declared.formula.EventInfo.{EventInfo}
 use Rattle.fault_system.proofs.ListingLaws.{length_rising}
-use Rattle.cutset_lister.specs.SetText.{event_name, set_text}
+use Rattle.cutset_lister.specs.SetText.{set_text}
 use Rattle.cutset_lister.specs.Scanning.{names_text}
 use Rattle.cutset_lister.proofs.Scans.{set_text-first}
 use Rattle.cutset_writer.specs.Lengths.{most_line, names_room}

@@ -1,5 +1,5 @@
 ghost use Rattle.std.specs.Prelude.{◌≡◌, ◌+◌, ◌≤◌, ◌++◌, ◌∷◌, [], IfSome, length, decimal, map, sum, vec_capacity, vec_len};
-ghost use Rattle.cutset_lister.specs.SetText.{event_name};
+ghost use Rattle.fault_system.specs.Systems.{event_name};
 ghost use Rattle.cutset_writer.specs.Text.{set_line};
 ghost use Rattle.cutset_writer.specs.Lengths.{most_line};
 

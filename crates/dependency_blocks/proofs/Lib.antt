@@ -4,3 +4,4 @@ pub mod Counting
 mod Sets
 mod Reaching
 mod Ranked
+pub mod AllFacts

@@ -5,10 +5,10 @@ use Rattle.std.proofs.lemmas.Option.{get_or_from_slice_get}
 use Rattle.std.specs.List.{slice_get}
 use Rattle.std.specs.Prelude.{Some}
 use Rattle.fault_system.specs.Truth.{Has, member, occurs}
-use Rattle.fault_system.specs.Systems.{System}
+use Rattle.fault_system.specs.Systems.{System, IsFact}
 use Rattle.fault_system.specs.declared.formula.FactInfo.{FactInfo}
-use Rattle.fault_system.proofs.AddTrue.{member-put}
-use Rattle.backward_slice.specs.Slices.{IsFact, DependsOn}
+use Rattle.fault_system.proofs.NumberSets.{member-put}
+use Rattle.backward_slice.specs.Slices.{DependsOn}
 use Rattle.dependency_blocks.specs.Blocks.{number_of, IsBlocks}
 use Rattle.dependency_blocks.specs.Checks.{leader_of, HasMarked, MarksOf, LeadToFirst, ComeFromFirst, Fall, IsLow}
 

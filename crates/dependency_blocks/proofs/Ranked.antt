@@ -1,22 +1,18 @@
 -- The ranks of what facts depend on are the numbers of their blocks.
-use Rattle.std.proofs.Common.{ℕ, ◌≡◌, ◌<◌, ◌↔◌, ◌==◌, Bool, List, [], length, map, slice_index_or, All, Contains, refl, ap, ◌∙◌, sym, subst, arith}
-use Rattle.std.proofs.lemmas.Bool.{eq-eqb}
+use Rattle.std.proofs.Common.{ℕ, ◌≡◌, ◌<◌, Bool, List, [], length, map, slice_index_or, All, Contains, refl, ap, ◌∙◌, sym, subst, arith}
 use Rattle.std.proofs.lemmas.List.{get_or-map}
-use Rattle.std.proofs.lemmas.List.Folds.{list_any_at}
 use Rattle.fault_system.specs.Truth.{Has, member, set_of}
 use Rattle.fault_system.specs.Systems.{System}
 use Rattle.fault_system.proofs.Marks.{same_marks}
-use Rattle.backward_slice.specs.Slices.{DependsOn}
+use Rattle.fault_system.proofs.NumberSets.{contained-in_set, set_of-contained}
+use Rattle.backward_slice.specs.Slices.{DependsOn, HasItsCauses}
 use Rattle.dependency_blocks.specs.Blocks.{number_of, IsBlocks}
 use Rattle.dependency_blocks.specs.Checks.{HasNumbers, IsTable}
 use Rattle.dependency_blocks.specs.Reach.{HaveReaches, IsReach, rank_of}
 use Rattle.dependency_blocks.proofs.Passes.{depends_self, depends_then, depends_step}
 use Rattle.dependency_blocks.proofs.Sets.{before-within, rank-at_most, rank-same, rank-small}
 
--- a fact of the list is in its set, and in range if all are
-contained-in_set : (facts : List ℕ) (n : ℕ) → Contains facts n → Has (set_of facts) n
-contained-in_set facts n (k, fits, is) = list_any_at (λ m. m == n) facts k n fits (eq-eqb _ _ is)
-
+-- a fact of the list is in range if all are
 pub contained-ranged : (facts : List ℕ) (bound n : ℕ) → All (λ m. m < bound) facts → Contains facts n → n < bound
 contained-ranged facts bound n all (k, fits, is) = subst (λ m. m < bound) is (all k n fits)
 
@@ -26,8 +22,8 @@ pub have-reaches : (system : System) (facts : List ℕ) (wanted : List Bool) (re
 have-reaches system facts wanted reaches all same long reach =
     record { long = long; reach = λ n c. reach n (contained-ranged facts (length system.facts) n all c) (same n ∙ contained-in_set facts n c) }
 
-module _ (system : System) (target : ℕ) (facts : List ℕ) (reaches : List (List Bool)) (numbers : List ℕ)
-    (slice : (n : ℕ) → Contains facts n ↔ DependsOn system target n) (ranged : (n : ℕ) → Contains facts n → n < length system.facts) (few : length system.facts < 4294967296)
+module _ (system : System) (facts : List ℕ) (reaches : List (List Bool)) (numbers : List ℕ)
+    (causes : HasItsCauses system (set_of facts)) (ranged : (n : ℕ) → Contains facts n → n < length system.facts) (few : length system.facts < 4294967296)
     (have : HaveReaches system facts reaches) (table : IsTable facts numbers) (exact : HasNumbers (length system.facts) facts (map (rank_of reaches) reaches) numbers) where
   abbrev own : ℕ → List Bool
   own n = slice_index_or reaches n []
@@ -63,17 +59,15 @@ module _ (system : System) (target : ℕ) (facts : List ℕ) (reaches : List (Li
     );
     falls = λ n m fact c at o.
         let to : DependsOn system n m = depends_step system n m fact at o in
-        let d : Contains facts m = (slice m).1 (depends_then system target n m ((slice n).0 c) to) in
+        let d : Contains facts m = set_of-contained facts m (causes n m fact (contained-in_set facts n c) at o) in
         omega (arith, number-is n c, number-is m d, rank-at_most reaches (own m) (own n) (before-within (own n) (own m) (size-same n m c d) (more n m c d to)));
   }
 
 -- so it is for what the calls answer
-pub found_blocks : (system : System) (target count : ℕ) (facts shown_facts : List ℕ) (reaches shown : List (List Bool)) (ranks shown_ranks numbers : List ℕ) → ((n : ℕ) → Contains facts n ↔ DependsOn system target n) → All (λ n. n < length system.facts) facts
-    → shown_facts ≡ facts → count ≡ length system.facts → count < 4294967296 → shown ≡ reaches → ranks ≡ map (rank_of shown) shown → shown_ranks ≡ ranks
-    → HaveReaches system shown_facts reaches → IsTable shown_facts numbers → HasNumbers count shown_facts shown_ranks numbers → IsBlocks system facts numbers
-found_blocks system target count facts shown_facts reaches shown ranks shown_ranks numbers slice all same_facts same_count few same_reaches are same_ranks have table exact =
-    ranked_blocks system target facts reaches numbers slice (λ n c. contained-ranged facts (length system.facts) n all c) (omega (arith, same_count))
-    (subst (λ fs. HaveReaches system fs reaches) same_facts have) (subst (λ fs. IsTable fs numbers) same_facts table)
+pub found_blocks : (system : System) (count : ℕ) (facts : List ℕ) (reaches shown : List (List Bool)) (ranks shown_ranks numbers : List ℕ) → HasItsCauses system (set_of facts) → All (λ n. n < length system.facts) facts
+    → count ≡ length system.facts → count < 4294967296 → shown ≡ reaches → ranks ≡ map (rank_of shown) shown → shown_ranks ≡ ranks
+    → HaveReaches system facts reaches → IsTable facts numbers → HasNumbers count facts shown_ranks numbers → IsBlocks system facts numbers
+found_blocks system count facts reaches shown ranks shown_ranks numbers causes all same_count few same_reaches are same_ranks have table exact =
+    ranked_blocks system facts reaches numbers causes (λ n c. contained-ranged facts (length system.facts) n all c) (omega (arith, same_count)) have table
     (subst (λ k. HasNumbers k facts (map (rank_of reaches) reaches) numbers) same_count
-    (subst (λ fs. HasNumbers count fs (map (rank_of reaches) reaches) numbers) same_facts
-    (subst (λ rs. HasNumbers count shown_facts rs numbers) (same_ranks ∙ are ∙ ap (λ sets. map (rank_of sets) sets) same_reaches) exact)))
+    (subst (λ rs. HasNumbers count facts rs numbers) (same_ranks ∙ are ∙ ap (λ sets. map (rank_of sets) sets) same_reaches) exact))

@@ -1,14 +1,13 @@
 -- Plain reach: what a step marks, and what is marked when no more comes.
 use Rattle.std.proofs.Common.{ℕ, suc, ◌≡◌, ◌<◌, ◌||◌, Bool, true, false, nat_lt, List, [], ◌∷◌, length, Some, ⊎_elim, ◌∙◌, sym, subst, arith}
-use Rattle.std.proofs.lemmas.Bool.{false≢true, or_cases, lt-ltb}
+use Rattle.std.proofs.lemmas.Bool.{false≢true, or_cases, lt-ltb, or_right}
 use Rattle.fault_system.specs.Truth.{Has, member, count_true, occurs}
-use Rattle.fault_system.specs.Systems.{System, IsSystem}
+use Rattle.fault_system.specs.Systems.{System, IsSystem, IsFact}
 use Rattle.fault_system.specs.declared.formula.FactInfo.{FactInfo}
 use Rattle.fault_system.proofs.Marks.{Below, stay_or_grow}
-use Rattle.backward_slice.specs.Slices.{IsFact, HasItsCauses}
-use Rattle.backward_slice.proofs.Adding.{member-in, or_right}
-use Rattle.backward_slice.proofs.Occurrences.{occurs-in_range}
-use Rattle.backward_slice.proofs.Reached.{fact-in_range}
+use Rattle.backward_slice.specs.Slices.{HasItsCauses}
+use Rattle.fault_system.proofs.NumberSets.{member-in}
+use Rattle.fault_system.proofs.Occurrences.{occurs-in_range, fact-in_range}
 use Rattle.dependency_blocks.specs.Reach.{AllFrom, IsReach}
 use Rattle.dependency_blocks.proofs.Passes.{depends_then, depends_step}
 

@@ -1,10 +1,10 @@
 -- What the tests of proposed blocks establish.
 use Rattle.std.specs.Prelude.{ℕ, ◌≡◌, ◌<◌, ◌≤◌, ◌⊎◌, Bool, true, List, Contains, slice_index_or}
 use Rattle.fault_system.specs.Truth.{Has, member, occurs}
-use Rattle.fault_system.specs.Systems.{System}
+use Rattle.fault_system.specs.Systems.{System, IsFact}
 use Rattle.fault_system.specs.declared.formula.Formula.{Formula}
 use Rattle.fault_system.specs.declared.formula.FactInfo.{FactInfo}
-use Rattle.backward_slice.specs.Slices.{IsFact, DependsOn}
+use Rattle.backward_slice.specs.Slices.{DependsOn}
 use Rattle.dependency_blocks.specs.Blocks.{number_of}
 use Rattle.dependency_blocks.specs.declared.checks.Way.{Way}
 use Rattle.dependency_blocks.specs.declared.checks.Way.TheVariants.{Towards, Onward}

@@ -1,4 +1,4 @@
-//! Proposes the blocks of a slice, in a time that goes with its facts and the places of their formulas.
+//! Proposes the blocks of facts, in a time that goes with its facts and the places of their formulas.
 //!
 //! Nothing is claimed of what is proposed: the tests of `checks` decide.
 
@@ -123,6 +123,20 @@ struct Search {
 }
 
 impl Search {
+    // Walks on from a fact that was not met yet, to all that it leads to.
+    fn walk(&mut self, edges: &Edges, start: u32) -> Mem<()> {
+        if value(self.met.as_slice(), start) != 4_294_967_295 {
+            return Ok(());
+        }
+        self.meet(edges, start)?;
+        for step in 0..u64::MAX {
+            if !self.step(edges)? {
+                return Ok(());
+            }
+        }
+        Ok(())
+    }
+
     fn meet(&mut self, edges: &Edges, fact: u32) -> Mem<()> {
         put(self.met.as_mut_slice(), fact, self.count);
         self.count = self.count.min(4_294_967_293) + 1;
@@ -228,12 +242,12 @@ fn spread(alloc: Global, edges: &Edges, numbers: &[u32], leaders: &[u32]) -> Mem
     Ok(order)
 }
 
-/// Proposes the blocks of the facts on which a target depends.
+/// Proposes the blocks of some facts, to which some of them lead.
 pub(crate) fn propose(
     alloc: Global,
     system: &FaultSystem,
     part: &[u32],
-    target: u32,
+    starts: &[u32],
 ) -> Mem<Proposal> {
     let facts = system.facts();
     let mut inside = Bits::new(alloc, facts)?;
@@ -253,11 +267,8 @@ pub(crate) fn propose(
         path: Vec::new(alloc),
         count: 0,
     };
-    search.meet(&forward, target)?;
-    for step in 0..u64::MAX {
-        if !search.step(&forward)? {
-            break;
-        }
+    for start in starts {
+        search.walk(&forward, *start)?;
     }
     let towards = spread(
         alloc,

@@ -1,6 +1,8 @@
-ghost use Rattle.std.specs.Prelude.{◌≡◌, ◌<◌, ◌⊎◌, ◌^◌, ℕ, Contains, IfOk, IsTrue, length};
-ghost use Rattle.backward_slice.specs.Slices.{IsSlice};
-ghost use Rattle.dependency_blocks.specs.Blocks.{IsBlocks, number_of};
+ghost use Rattle.std.specs.Prelude.{◌≡◌, ◌<◌, ◌⊎◌, ◌^◌, ℕ, All, Contains, IfOk, IsTrue, length};
+ghost use Rattle.plain_values.specs.Numbered.{numbers_below};
+ghost use Rattle.fault_system.specs.Truth.{set_of};
+ghost use Rattle.backward_slice.specs.Slices.{HasItsCauses, IsSlice};
+ghost use Rattle.dependency_blocks.specs.Blocks.{AreAllBlocks, IsBlocks, number_of};
 ghost use Rattle.dependency_blocks.specs.Checks.{HasNumbers, IsTable};
 ghost use Rattle.dependency_blocks.specs.Sizes.{AreSmall};
 
@@ -10,34 +12,60 @@ use crate::finder::{Proposal, propose};
 use crate::ranking::{ranks_of, reaches_of};
 use backward_slice::Slice;
 use fault_system::FaultSystem;
-use plain_values::Mem;
+use plain_values::{List, Mem};
 use std::alloc::Global;
 
 /// The blocks of a slice.
-///
-/// They are proposed by a search along paths and then tested, both in a time that goes with the facts of the system and
-/// the formulas of the slice. Should the tests say no, they are found by plain reach. That is slow, since each formula may
-/// be looked at once for each pair of facts, and takes memory that goes with the square of the facts; no system is known
-/// for which it comes to that. The numbers of blocks have gaps then.
 pub fn blocks(alloc: Global, system: &FaultSystem, slice: &Slice) -> Mem<Blocks>
     requires { IsSlice system.now slice.now.target slice.now }
     ensures { IfOk result (IsBlocks system.now slice.now.facts) }
 {
-    let facts = slice.facts.items();
-    let proposal = propose(alloc, system, facts, slice.target)?;
+    blocks_of(alloc, system, slice.facts.items(), &[slice.target])
+}
+
+/// The blocks of all facts of a system.
+pub fn all_blocks(alloc: Global, system: &FaultSystem) -> Mem<Blocks>
+    ensures { IfOk result (AreAllBlocks system.now) }
+{
+    let facts = all_facts(alloc, system.facts())?;
+    blocks_of(alloc, system, facts.items(), facts.items())
+}
+
+fn all_facts(alloc: Global, count: u32) -> Mem<List<u32>>
+    ensures { IfOk result (λ facts. facts ≡ numbers_below count) }
+{
+    let mut facts = List::new(alloc);
+    for fact in 0..count {
+        facts.push(fact)?;
+    }
+    Ok(facts)
+}
+
+// The blocks of some facts, among which are all on which they depend; some of them lead to all.
+//
+// They are proposed by a search along paths and then tested, both in a time that goes with the facts of the system and
+// their formulas. Should the tests say no, they are found by plain reach. That is slow, since each formula may be looked
+// at once for each pair of facts, and takes memory that goes with the square of the facts; no system is known for which
+// it comes to that. The numbers of blocks have gaps then.
+fn blocks_of(alloc: Global, system: &FaultSystem, facts: &[u32], starts: &[u32]) -> Mem<Blocks>
+    requires ranged { All (λ n. n < length system.now.facts) facts.now }
+    requires causes { HasItsCauses system.now (set_of facts.now) }
+    ensures { IfOk result (IsBlocks system.now facts.now) }
+{
+    let proposal = propose(alloc, system, facts, starts)?;
     let numbers = table(alloc, system.facts(), facts, proposal.numbers.as_slice())?;
     if are_right(alloc, system, facts, numbers.as_slice(), &proposal)? {
         return Blocks::of(alloc, numbers);
     }
-    blocks_by_reach(alloc, system, slice)
+    blocks_by_reach(alloc, system, facts)
 }
 
-/// The blocks of a slice, by plain reach.
-fn blocks_by_reach(alloc: Global, system: &FaultSystem, slice: &Slice) -> Mem<Blocks>
-    requires { IsSlice system.now slice.now.target slice.now }
-    ensures { IfOk result (IsBlocks system.now slice.now.facts) }
+// The same by plain reach.
+fn blocks_by_reach(alloc: Global, system: &FaultSystem, facts: &[u32]) -> Mem<Blocks>
+    requires ranged { All (λ n. n < length system.now.facts) facts.now }
+    requires causes { HasItsCauses system.now (set_of facts.now) }
+    ensures { IfOk result (IsBlocks system.now facts.now) }
 {
-    let facts = slice.facts.items();
     let count = system.facts();
     let reaches = reaches_of(alloc, system, facts)?;
     let ranks = ranks_of(alloc, reaches.as_slice())?;
@@ -82,7 +110,7 @@ fn all_numbered(numbers: &[u32], facts: &[u32]) -> bool
     true
 }
 
-/// The proposed numbers of the facts of a slice, and none for all other facts.
+/// The proposed numbers of some facts, and none for all other facts.
 fn table(alloc: Global, count: u32, facts: &[u32], proposed: &[u32]) -> Mem<Vec<u32>>
     ensures table { IfOk result (λ numbers. IsTable facts.now numbers.items) }
     ensures small { IfOk result (λ numbers. AreSmall numbers.items) }

@@ -12,4 +12,4 @@ mod ranking;
 mod reach;
 
 pub use block_table::Blocks;
-pub use finding::blocks;
+pub use finding::{all_blocks, blocks};

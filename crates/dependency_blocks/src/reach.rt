@@ -4,7 +4,8 @@ ghost use Rattle.std.specs.Prelude.{◌≡◌, ◌<◌, ◌||◌, ◌==◌, ℕ,
 ghost use Rattle.std.specs.List.{list_any};
 ghost use Rattle.fault_system.specs.Truth.{Has, member, count_true, occurs};
 ghost use Rattle.fault_system.specs.declared.formula.FactInfo.{FactInfo};
-ghost use Rattle.backward_slice.specs.Slices.{HasItsCauses, IsFact};
+ghost use Rattle.fault_system.specs.Systems.{IsFact};
+ghost use Rattle.backward_slice.specs.Slices.{HasItsCauses};
 ghost use Rattle.dependency_blocks.specs.Reach.{AllFrom, IsReach};
 
 use fault_system::{Bits, FaultSystem, Formula};

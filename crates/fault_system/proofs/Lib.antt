@@ -1,7 +1,13 @@
 pub mod TruthLaws
 pub mod Marks
+pub mod NumberSets
+pub mod Occurring
+pub mod Occurrences
 pub mod HoldsLaws
-pub mod AddTrue
+pub mod RoundLaws
+pub mod NextRound
+pub mod Fitting
+pub mod Untouched
 pub mod CutSetLaws
 pub mod Elements
 pub mod Orders

@@ -1,13 +1,14 @@
 -- The sets that are tried, their order, and that those which are minimal are the listing; a listing covers its target.
 use Rattle.std.proofs.Common.{ℕ, zero, suc, ◌+◌, ◌≡◌, ◌<◌, ◌≤◌, ◌⊎◌, ◌↔◌, Bool, true, false, cond, not, ◌&&◌, eqb, List, [], ◌∷◌, length, map, filter, Contains, Option, None, Some, unwrap_or, inl, inr, ⊎_elim, ap, ◌∙◌, sym, refl, subst, arith, eq-eqb}
-use Rattle.std.proofs.lemmas.Bool.{false≢true}
+use Rattle.std.proofs.lemmas.Bool.{false≢true, and_parts, cases_Bool}
 use Rattle.std.specs.List.{list_all}
 use Rattle.fault_system.specs.Truth.{Has, set_of}
 use Rattle.fault_system.specs.Systems.{System, Holds}
 use Rattle.plain_values.specs.Rising.{RisesWithin}
 use Rattle.fault_system.specs.CutSets.{IsEventSet, IsCutSet, IsSubset, IsMinimalCutSet, is_minimal, makes_hold, without}
 use Rattle.fault_system.specs.Listings.{IsBefore, IsInListingOrder, IsListing, IsWithinOrder, choose, rising_sets_up_to, listing}
-use Rattle.fault_system.proofs.CutSetLaws.{either, and_true, RisesWithin-lower, RisesWithin-filter, Holds-grows, makes_hold-exact, is_minimal-exact, is_minimal-sound, set_of-filter, set_of-first, set_of-rest, set_of-cases, same_set}
+use Rattle.fault_system.proofs.CutSetLaws.{Holds-grows, makes_hold-exact, is_minimal-exact, is_minimal-sound}
+use Rattle.fault_system.proofs.NumberSets.{RisesWithin-lower, RisesWithin-filter, set_of-filter, set_of-first, set_of-rest, set_of-cases, same_set}
 use Rattle.fault_system.proofs.Elements.{In, In-contains, contains_In, In-append, In-front, In-back, In-map, In-mapped, In-filter, In-filtered, each-at, each-made}
 use Rattle.fault_system.proofs.Orders.{before_cases, before_made, order-append, order-filter}
 
@@ -126,7 +127,7 @@ not_all : (p : ℕ → Bool) (xs : List ℕ) → list_all p xs ≡ false → (n 
 not_all p [] e = absurd (false≢true (sym e))
 not_all p (x ∷ xs) e = ⊎_elim
     (λ on. let t = not_all p xs (subst (λ b. b && list_all p xs ≡ false) on e) in (t.0, set_of-rest x xs t.0 t.1, t.2))
-    (λ off. (x, set_of-first x xs, off)) (either (p x))
+    (λ off. (x, set_of-first x xs, off)) (cases_Bool (p x))
 
 filter_short : (b : Bool) (x : ℕ) (xs : List ℕ) (n : ℕ) → length xs ≤ n → length (cond b (x ∷ xs) xs) ≤ suc n
 filter_short true x xs n h = omega arith
@@ -158,7 +159,7 @@ module _ (system : System) (target : ℕ) where
       let same : set_of (filter p set) ≡ without (set_of set) n = same_set (set_of-filter p set) in (
         filter p set,
         (RisesWithin-filter p 0 (length system.events) set cut.0, (makes_hold-exact system target (set_of (filter p set))).0 (subst (λ es. makes_hold system target es ≡ true) (sym same) still)),
-        (λ m k. (and_true _ _ (sym (set_of-filter p set m) ∙ k)).0),
+        (λ m k. (and_parts _ _ (sym (set_of-filter p set m) ∙ k)).0),
         filter_shorter p set n spare.1 (ap not (eq-eqb n n refl)),
       )
     where
@@ -169,12 +170,12 @@ module _ (system : System) (target : ℕ) where
   minimal_within : (k : ℕ) (set : List ℕ) → length set ≤ k → IsCutSet system target set → (found : List ℕ) × IsMinimalCutSet system target found × IsSubset found set × (length found ≤ length set)
   minimal_within zero set few cut = ⊎_elim
       (λ yes. (set, is_minimal-sound system target set cut.0 yes, (λ n h. h), omega arith))
-      (λ no. absurd (omega (arith, (fewer_events set cut no).3))) (either (is_minimal system target set))
+      (λ no. absurd (omega (arith, (fewer_events set cut no).3))) (cases_Bool (is_minimal system target set))
   minimal_within (suc k) set few cut = ⊎_elim
       (λ yes. (set, is_minimal-sound system target set cut.0 yes, (λ n h. h), omega arith))
       (λ no. let less = fewer_events set cut no in
       let found = minimal_within k less.0 (omega (arith, less.3)) less.1 in
-      (found.0, found.1, (λ n h. less.2 n (found.2 n h)), omega (arith, found.3, less.3))) (either (is_minimal system target set))
+      (found.0, found.1, (λ n h. less.2 n (found.2 n h)), omega (arith, found.3, less.3))) (cases_Bool (is_minimal system target set))
 
   fewer_within : (most : Option ℕ) (a b : List ℕ) → length a ≤ length b → IsWithinOrder most b → IsWithinOrder most a
   fewer_within None a b h w = tt

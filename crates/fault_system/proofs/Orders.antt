@@ -1,22 +1,9 @@
 -- The listing order: it is strict, and a list in it is determined by its elements; pages join.
-use Rattle.std.proofs.Common.{ℕ, zero, suc, ◌≡◌, ◌<◌, ◌⊎◌, Bool, true, false, cond, ◌||◌, eqb, ltb, List, [], ◌∷◌, ◌++◌, length, filter, take, drop, append-nil, append_assoc, Option, None, Some, inl, inr, ⊎_elim, ap, ◌∙◌, sym, refl, subst, arith, eqb-true, eq-eqb, ltb-true, lt-ltb}
-use Rattle.std.proofs.lemmas.Bool.{false≢true}
+use Rattle.std.proofs.Common.{ℕ, zero, suc, ◌≡◌, ◌<◌, ◌⊎◌, Bool, true, false, cond, eqb, ltb, List, [], ◌∷◌, ◌++◌, length, filter, take, drop, append-nil, append_assoc, Option, None, Some, inl, inr, ⊎_elim, ap, ◌∙◌, sym, refl, subst, arith, eqb-true, eq-eqb, ltb-true, lt-ltb}
+use Rattle.std.proofs.lemmas.Bool.{false≢true, and_from, and_parts, cases_Bool, or_cases, or_left, or_right}
 use Rattle.std.specs.List.{AllByRecursion}
 use Rattle.fault_system.specs.Listings.{is_lower, is_before, IsBefore, IsInListingOrder, sets_after, first_of}
-use Rattle.fault_system.proofs.CutSetLaws.{either, and_true, and_made}
 use Rattle.fault_system.proofs.Elements.{In, In-append, In-back, In-filter, each-at, each-made}
-
-or_true : (a b : Bool) → a || b ≡ true → (a ≡ true) ⊎ (b ≡ true)
-or_true true b e = inl refl
-or_true false b e = inr e
-
-or_left : (a b : Bool) → a ≡ true → a || b ≡ true
-or_left true b e = refl
-or_left false b e = absurd (false≢true e)
-
-or_right : (a b : Bool) → b ≡ true → a || b ≡ true
-or_right true b e = refl
-or_right false b e = e
 
 -- the order by cases
 abbrev pub Lower : List ℕ → List ℕ → Type 0
@@ -28,25 +15,25 @@ lower_cases : (xs ys : List ℕ) → is_lower xs ys ≡ true → Lower xs ys
 lower_cases [] ys e = false≢true e
 lower_cases (x ∷ xs) [] e = false≢true e
 lower_cases (x ∷ xs) (y ∷ ys) e = ⊎_elim (λ l. inl (ltb-true x y l))
-    (λ r. let both = and_true (eqb x y) (is_lower xs ys) r in inr (eqb-true x y both.0, lower_cases xs ys both.1))
-    (or_true _ _ e)
+    (λ r. let both = and_parts (eqb x y) (is_lower xs ys) r in inr (eqb-true x y both.0, lower_cases xs ys both.1))
+    (or_cases _ _ e)
 
 lower_made : (xs ys : List ℕ) → Lower xs ys → is_lower xs ys ≡ true
 lower_made [] ys l = absurd l
 lower_made (x ∷ xs) [] l = absurd l
 lower_made (x ∷ xs) (y ∷ ys) l = ⊎_elim (λ h. or_left _ _ (lt-ltb x y h))
-    (λ h. or_right (ltb x y) _ (and_made _ _ (eq-eqb x y h.0) (lower_made xs ys h.1))) l
+    (λ h. or_right (ltb x y) _ (and_from _ _ (eq-eqb x y h.0) (lower_made xs ys h.1))) l
 
 abbrev pub Before : List ℕ → List ℕ → Type 0
 Before a b = (length a < length b) ⊎ ((length a ≡ length b) × Lower a b)
 
 pub before_cases : (a b : List ℕ) → IsBefore a b → Before a b
 before_cases a b e = ⊎_elim (λ l. inl (ltb-true _ _ l))
-    (λ r. let both = and_true (eqb (length a) (length b)) (is_lower a b) r in inr (eqb-true _ _ both.0, lower_cases a b both.1)) (or_true _ _ e)
+    (λ r. let both = and_parts (eqb (length a) (length b)) (is_lower a b) r in inr (eqb-true _ _ both.0, lower_cases a b both.1)) (or_cases _ _ e)
 
 pub before_made : (a b : List ℕ) → Before a b → IsBefore a b
 before_made a b h = ⊎_elim (λ l. or_left _ _ (lt-ltb _ _ l))
-    (λ r. or_right (ltb (length a) (length b)) _ (and_made _ _ (eq-eqb _ _ r.0) (lower_made a b r.1))) h
+    (λ r. or_right (ltb (length a) (length b)) _ (and_from _ _ (eq-eqb _ _ r.0) (lower_made a b r.1))) h
 
 lower_not_both : (xs ys : List ℕ) → Lower xs ys → Lower ys xs → ⊥
 lower_not_both [] ys l m = l
@@ -130,10 +117,10 @@ follows [] last rest o =
     ∙ filter_all (is_before last) rest (λ s i. each-at (IsBefore last) s rest o.0 i)
   where
     not_before_itself : (a : List ℕ) → is_before a a ≡ false
-    not_before_itself a = ⊎_elim (λ e. absurd (not_both_before a a e e)) (λ e. e) (either (is_before a a))
+    not_before_itself a = ⊎_elim (λ e. absurd (not_both_before a a e e)) (λ e. e) (cases_Bool (is_before a a))
 follows (a ∷ front) last rest o =
     ap (λ b. cond b (a ∷ filter (is_before last) (front ++ last ∷ rest)) (filter (is_before last) (front ++ last ∷ rest)))
-    (⊎_elim (λ e. absurd (not_both_before a last (each-at (IsBefore a) last (front ++ last ∷ rest) o.0 (In-back last front (last ∷ rest) (inl refl))) e)) (λ e. e) (either (is_before last a)))
+    (⊎_elim (λ e. absurd (not_both_before a last (each-at (IsBefore a) last (front ++ last ∷ rest) o.0 (In-back last front (last ∷ rest) (inl refl))) e)) (λ e. e) (cases_Bool (is_before last a)))
     ∙ follows front last rest o.1
 
 -- what stands after a later set stands after an earlier one
@@ -144,8 +131,8 @@ narrowed after last before (a ∷ sets) = ⊎_elim
     ∙ narrowed_step (is_before last a) (narrowed after last before sets))
     (λ off. ap (λ b. filter (is_before last) (cond b (a ∷ filter (is_before after) sets) (filter (is_before after) sets))) off
     ∙ narrowed after last before sets
-    ∙ ap (λ b. cond b (a ∷ filter (is_before last) sets) (filter (is_before last) sets)) (sym (not_later (either (is_before last a)) off)))
-    (either (is_before after a))
+    ∙ ap (λ b. cond b (a ∷ filter (is_before last) sets) (filter (is_before last) sets)) (sym (not_later (cases_Bool (is_before last a)) off)))
+    (cases_Bool (is_before after a))
   where
     narrowed_step : (b : Bool) → filter (is_before last) (filter (is_before after) sets) ≡ filter (is_before last) sets → cond b (a ∷ filter (is_before last) (filter (is_before after) sets)) (filter (is_before last) (filter (is_before after) sets)) ≡ cond b (a ∷ filter (is_before last) sets) (filter (is_before last) sets)
     narrowed_step true e = ap (λ xs. a ∷ xs) e

@@ -1,5 +1,5 @@
 -- Cut sets of a target, and the minimal ones (NUREG-0492).
-use Rattle.std.specs.Prelude.{ℕ, ◌+◌, ◌<◌, ◌≤◌, ◌≡◌, Bool, List, [], ◌∷◌, length, ◌==◌, ◌&&◌, not}
+use Rattle.std.specs.Prelude.{ℕ, ◌≡◌, Bool, List, length, ◌==◌, ◌&&◌, not}
 use Rattle.std.specs.List.{list_all}
 use Rattle.fault_system.specs.Truth.{NumberSet, Has, member, set_of}
 use Rattle.plain_values.specs.Rising.{RisesWithin}

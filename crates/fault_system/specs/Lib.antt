@@ -2,3 +2,4 @@ pub mod Truth
 pub mod Systems
 pub mod CutSets
 pub mod Listings
+pub mod Rounds

@@ -1,5 +1,6 @@
 -- Systems of facts and events, and which facts hold under a set of events.
-use Rattle.std.specs.Prelude.{ℕ, zero, suc, ◌≡◌, ◌≢◌, Bool, true, false, List, map, length, AllPairs, All}
+use Rattle.std.specs.Prelude.{ℕ, zero, suc, ◌≡◌, ◌≢◌, Bool, true, false, List, [], map, length, slice_get, Some, unwrap_or, AllPairs, All}
+use Rattle.std.specs.Option.{option_map}
 use Rattle.fault_system.specs.Truth.{NumberSet, Has, member, truth, in_range}
 use Rattle.fault_system.specs.declared.formula.FactInfo.{FactInfo}
 use Rattle.fault_system.specs.declared.formula.EventInfo.{EventInfo}
@@ -8,6 +9,18 @@ use Rattle.fault_system.specs.declared.formula.EventInfo.{EventInfo}
 pub record System : Type 0 where
   pub facts : List FactInfo
   pub events : List EventInfo
+
+-- the fact of a number
+abbrev pub IsFact : System → ℕ → FactInfo → Type 0
+IsFact system number fact = slice_get system.facts number ≡ Some fact
+
+-- the name of a fact by its number
+abbrev pub fact_name : System → ℕ → List ℕ
+fact_name system number = unwrap_or (option_map (λ fact. fact.name) (slice_get system.facts number)) []
+
+-- the name of an event by its number
+abbrev pub event_name : System → ℕ → List ℕ
+event_name system number = unwrap_or (option_map (λ event. event.name) (slice_get system.events number)) []
 
 -- no two names are the same
 abbrev pub NamesDiffer : List (List ℕ) → Type 0

@@ -51,6 +51,19 @@ occurs_step number (AtLeast k parts) = list_any (λ part. part) parts
 abbrev pub occurs : ℕ → Formula → Bool
 occurs number = fold-Formula Bool (occurs_step number)
 
+-- one formula, with whether the event of a number occurs in each part in its place
+abbrev pub occurs_event_step : ℕ → Formula-F Bool → Bool
+occurs_event_step number True = false
+occurs_event_step number (Event n) = n == number
+occurs_event_step number (Fact n) = false
+occurs_event_step number (And parts) = list_any (λ part. part) parts
+occurs_event_step number (Or parts) = list_any (λ part. part) parts
+occurs_event_step number (AtLeast k parts) = list_any (λ part. part) parts
+
+-- whether the event of a number occurs in a formula
+abbrev pub occurs_event : ℕ → Formula → Bool
+occurs_event number = fold-Formula Bool (occurs_event_step number)
+
 -- one formula, with whether each part is in range in its place
 abbrev pub in_range_step : ℕ → ℕ → Formula-F Bool → Bool
 in_range_step facts events True = true

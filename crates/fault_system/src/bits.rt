@@ -5,6 +5,18 @@ use plain_values::Mem;
 use std::alloc::Global;
 use std::marker::Model;
 
+/// A set of numbers.
+pub trait Numbers {
+    ghost use Rattle.std.specs.Prelude.{◌≡◌};
+    ghost use Rattle.fault_system.specs.Truth.{NumberSet};
+
+    ghost set: { Self → NumberSet };
+
+    /// Whether a number is in the set.
+    fn is_in(&self, number: u32) -> bool
+        ensures { result ≡ set self.now number };
+}
+
 /// A set of numbers below its size.
 #[derive(Drop)]
 pub struct Bits {
@@ -72,5 +84,13 @@ impl Bits {
         ensures { self.new ≡ slice_set self.old number false }
     {
         self.bits[number as usize] = false;
+    }
+}
+
+impl Numbers for Bits {
+    ghost set = { member };
+
+    fn is_in(&self, number: u32) -> bool {
+        self.has(number)
     }
 }

@@ -2,7 +2,7 @@ ghost use Rattle.std.specs.Prelude.{◌≡◌, map, nat_le};
 ghost use Rattle.std.specs.List.{list_all};
 ghost use Rattle.fault_system.specs.Truth.{count_true, in_range, member, truth};
 
-use crate::bits::Bits;
+use crate::bits::{Bits, Numbers};
 use plain_values::{List, Name};
 
 /// What makes a fact hold, over events and facts by their numbers.
@@ -25,13 +25,13 @@ pub enum Formula {
 impl Formula {
     /// Whether the formula is true under a set of events and a set of facts.
     #[cycle(truth)]
-    pub fn is_true(&self, events: &Bits, facts: &Bits) -> bool
-        ensures { result ≡ truth (member events.now) (member facts.now) self.now }
+    pub fn is_true<S: Numbers>(&self, events: &Bits, facts: &S) -> bool
+        ensures { result ≡ truth (member events.now) (S.set facts.now) self.now }
     {
         match self {
             Formula::True => true,
             Formula::Event(number) => events.has(*number),
-            Formula::Fact(number) => facts.has(*number),
+            Formula::Fact(number) => facts.is_in(*number),
             Formula::And(parts) => are_true(parts.items(), parts.items().len(), events, facts),
             Formula::Or(parts) => are_true(parts.items(), 1, events, facts),
             Formula::AtLeast(least, parts) => are_true(
@@ -61,9 +61,9 @@ impl Formula {
 
 // Whether at least so many of the places are true.
 #[cycle(truth)]
-fn are_true(parts: &[Formula], least: usize, events: &Bits, facts: &Bits) -> bool
+fn are_true<S: Numbers>(parts: &[Formula], least: usize, events: &Bits, facts: &S) -> bool
     ensures { result
-        ≡ nat_le least (count_true (map (truth (member events.now) (member facts.now)) parts.now)) }
+        ≡ nat_le least (count_true (map (truth (member events.now) (S.set facts.now)) parts.now)) }
 {
     let mut count = 0;
     for part in parts {

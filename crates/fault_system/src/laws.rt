@@ -1,8 +1,9 @@
 //! Laws of the definitions alone: the contract of each function is the law, and its body is empty.
 
 ghost use Rattle.std.specs.Prelude.{◌≡◌, ◌↔◌, ◌++◌, ◌∷◌, [], ℕ, Bool, List, Option, None, Some, Contains};
-ghost use Rattle.fault_system.specs.Truth.{set_of};
+ghost use Rattle.fault_system.specs.Truth.{NumberSet, set_of};
 ghost use Rattle.fault_system.specs.Systems.{System, Holds};
+ghost use Rattle.fault_system.specs.Rounds.{AreRounds, IsChanged, IsChecked, IsTable, no_event, only};
 ghost use Rattle.fault_system.specs.CutSets.{IsEventSet, IsSubset};
 ghost use Rattle.fault_system.specs.Listings.{IsInListingOrder, IsListing, IsPage, IsWithinOrder, listing};
 
@@ -34,4 +35,22 @@ pub fn join()
         (last : List ℕ) (rest all : List (List ℕ)) (more ended both : Bool) → IsInListingOrder sets
         → IsPage sets after limit (front ++ last ∷ []) more → IsPage sets (Some last) None rest ended
         → IsPage sets after None all both → (front ++ last ∷ []) ++ rest ≡ all }
+{}
+
+/// A table fits the formulas exactly if it is the table of the rounds.
+pub fn table_of_rounds()
+    ensures { (system : System) (events : NumberSet) (times : List ℕ)
+        → IsTable system events times ↔ AreRounds system events times }
+{}
+
+/// A table under no event that is changed where an event reaches is the table under that event alone.
+pub fn changed_table()
+    ensures { (system : System) (event : ℕ) (old new : List ℕ) → IsTable system no_event old
+        → IsChanged system event old new → IsTable system (only event) new }
+{}
+
+/// A table under no event whose changes were checked is the table under the event alone.
+pub fn checked_table()
+    ensures { (system : System) (event : ℕ) (old new changes : List ℕ) → IsTable system no_event old
+        → IsChecked system event old new changes → IsTable system (only event) new }
 {}

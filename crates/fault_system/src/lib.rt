@@ -6,10 +6,13 @@ mod checks;
 mod formula;
 mod laws;
 mod places;
+mod rounds;
 mod system;
 
-pub use bits::Bits;
+pub use bits::{Bits, Numbers};
 pub use checks::{Named, Names, is_system, names_differ};
 pub use formula::{EventInfo, FactInfo, Formula};
-pub use laws::{computed_listing, cover, join, one_listing};
+pub use laws::{
+    changed_table, checked_table, computed_listing, cover, join, one_listing, table_of_rounds,
+};
 pub use system::FaultSystem;

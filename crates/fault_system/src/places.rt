@@ -1,11 +1,13 @@
-//! The order in which facts come to hold, found in one pass over the places of the formulas.
+//! The rounds in which facts come to hold, found in one pass over the places of the formulas.
 //!
-//! Nothing is claimed of this order: who uses it tests each fact, and looks at the end that no fact is missing. So it
-//! decides how long that takes, and not what holds.
+//! Nothing is claimed of these rounds: who uses them tests each fact, and makes the rounds in another way where a test
+//! fails. So the pass decides how long that takes, and not what holds.
+
+ghost use Rattle.std.specs.Prelude.{◌<◌, ◌^◌, length};
 
 use crate::bits::Bits;
 use crate::formula::{FactInfo, Formula};
-use plain_values::{List, Mem};
+use plain_values::Mem;
 use std::alloc::Global;
 
 /// The places of formulas, numbered: first the whole formula of each fact, then the parts.
@@ -75,26 +77,34 @@ impl Places {
         Ok(())
     }
 
-    // Goes on from the true places: the facts in the order in which they come to hold.
+    // Goes on from the true places, round by round: the round in which each fact comes to hold, and 0 for the others.
     fn run(&mut self, alloc: Global) -> Mem<Vec<u32>> {
-        let mut order = Vec::new(alloc);
+        let mut rounds = vec![in alloc; 0u32; self.last.len()]?;
+        let mut earlier = Vec::new(alloc);
+        let mut now = Vec::new(alloc);
+        let mut round: u32 = 1;
         let mut told = None;
-        for step in 0..self.wholes.len().min(1 << 32) * 2 {
+        for step in 0..self.wholes.len().min(1 << 32) * 4 + 4 {
             if let Some(place) = told {
                 self.tell(place)?;
                 told = value_at(self.before.as_slice(), place);
             } else if let Some(place) = self.waiting.pop() {
-                if (place as usize) < self.last.len() {
-                    order.push(place)?;
-                    told = value_at(self.last.as_slice(), place);
+                if (place as usize) < rounds.len() {
+                    rounds[place as usize] = round;
+                    now.push(place)?;
                 } else if let Some(whole) = self.wholes.get(place as usize).copied() {
                     self.tell(whole)?;
                 }
+            } else if let Some(fact) = earlier.pop() {
+                told = value_at(self.last.as_slice(), fact);
+            } else if now.is_empty() {
+                return Ok(rounds);
             } else {
-                return Ok(order);
+                std::mem::swap(&mut earlier, &mut now);
+                round = round.saturating_add(1);
             }
         }
-        Ok(order)
+        Ok(rounds)
     }
 }
 
@@ -136,10 +146,12 @@ fn add_parts(places: &mut Places, place: u32, parts: &[Formula], events: &Bits) 
     Ok(())
 }
 
-/// The facts in an order in which they come to hold under a set of events, each after those that make its formula true.
-pub(crate) fn order_of(alloc: Global, facts: &List<FactInfo>, events: &Bits) -> Mem<Vec<u32>> {
-    let mut places = Places::new(alloc, facts.items().len())?;
-    for (number, fact) in facts.items().iter().enumerate() {
+/// The rounds in which facts come to hold under a set of events, one for each fact, and 0 for those that do not hold.
+pub(crate) fn rounds_of(alloc: Global, facts: &[FactInfo], events: &Bits) -> Mem<Vec<u32>>
+    requires { length facts.now < 2 ^ 32 }
+{
+    let mut places = Places::new(alloc, facts.len())?;
+    for (number, fact) in facts.iter().enumerate() {
         add(&mut places, number as u32, &fact.formula, events)?;
     }
     places.run(alloc)

@@ -1,10 +1,10 @@
-ghost use Rattle.std.specs.Prelude.{◌≡◌, ◌↔◌, ◌<◌, ℕ, length, false, not, IfOk, OnOk, IsTrue, option_copied, slice_get};
+ghost use Rattle.std.specs.Prelude.{◌≡◌, ◌↔◌, ◌<◌, ◌^◌, ℕ, length, false, not, IfOk, OnOk, IsTrue, option_copied, slice_get};
 ghost use Rattle.std.specs.List.{list_all};
 ghost use Rattle.fault_system.specs.Truth.{NumberSet, Has, member, count_true, set_of};
 
 use crate::bits::Bits;
 use crate::formula::{EventInfo, FactInfo};
-use crate::places::order_of;
+use crate::rounds::timed;
 use plain_values::{List, Mem};
 use std::alloc::Global;
 use std::marker::Model;
@@ -31,7 +31,7 @@ impl Model for FaultSystem {
 }
 
 impl FaultSystem {
-    ghost use Rattle.fault_system.specs.Systems.{IsSystem, IsClosed, Holds, holds_of};
+    ghost use Rattle.fault_system.specs.Systems.{IsSystem, Holds, event_name, fact_name, holds_of};
     ghost use Rattle.fault_system.specs.CutSets.{IsEventSet, IsMinimalCutSet, is_minimal, makes_hold, without};
 
     /// The system of these facts and events.
@@ -58,6 +58,42 @@ impl FaultSystem {
         self.events.items().len() as u32
     }
 
+    /// The facts, in their order.
+    pub fn fact_infos(&self) -> &[FactInfo]
+        ensures facts { result.now ≡ self.now.facts }
+        ensures few { length self.now.facts < 2 ^ 32 }
+    {
+        self.facts.items()
+    }
+
+    /// The events, in their order.
+    pub fn event_infos(&self) -> &[EventInfo]
+        ensures events { result.now ≡ self.now.events }
+        ensures few { length self.now.events < 2 ^ 32 }
+    {
+        self.events.items()
+    }
+
+    /// The name of a fact; empty where the number is none of a fact.
+    pub fn fact_name(&self, number: u32) -> &[u8]
+        ensures { result.now ≡ fact_name self.now number }
+    {
+        match self.fact(number) {
+            Some(fact) => fact.name.items(),
+            None => &[],
+        }
+    }
+
+    /// The name of an event; empty where the number is none of an event.
+    pub fn event_name(&self, number: u32) -> &[u8]
+        ensures { result.now ≡ event_name self.now number }
+    {
+        match self.event(number) {
+            Some(event) => event.name.items(),
+            None => &[],
+        }
+    }
+
     /// The fact of a number; none where the number is none of a fact.
     pub fn fact(&self, number: u32) -> Option<&FactInfo>
         ensures { option_copied result ≡ slice_get self.now.facts number }
@@ -75,66 +111,13 @@ impl FaultSystem {
     /// The facts that hold under a set of events: those that are in every set of facts which has each fact whose
     /// formula is true under the events and that set. A loop of facts without an event makes none of them hold.
     pub fn holds(&self, alloc: Global, events: &Bits) -> Mem<Bits>
-        requires { length events.now ≡ length self.now.events }
         ensures size { IfOk result (λ facts. length facts ≡ length self.now.facts) }
         ensures exact { IfOk result
             (λ facts. (n : ℕ) → Has (member facts) n ↔ Holds self.now (member events.now) n) }
         ensures computed { IfOk result (λ facts. facts ≡ holds_of self.now (member events.now)) }
     {
-        let order = order_of(alloc, &self.facts, events)?;
-        let mut facts = Bits::new(alloc, self.facts())?;
-        self.add_in_order(events, order.as_slice(), &mut facts);
-        while self.add_true(events, &mut facts) {}
-        Ok(facts)
-    }
-
-    // Adds those of some facts whose formula is true when their turn comes.
-    fn add_in_order(&self, events: &Bits, order: &[u32], facts: &mut Bits)
-        requires { length facts.old ≡ length self.now.facts }
-        ensures size { length facts.new ≡ length facts.old }
-        ensures least { (closed : NumberSet) → IsClosed self.now (member events.now) closed
-            → ((n : ℕ) → Has (member facts.old) n → Has closed n)
-            → (n : ℕ) → Has (member facts.new) n → Has closed n }
-    {
-        for number in order {
-            self.add_if_true(events, *number, facts);
-        }
-    }
-
-    // Adds a fact if its formula is true.
-    fn add_if_true(&self, events: &Bits, number: u32, facts: &mut Bits)
-        requires { length facts.old ≡ length self.now.facts }
-        ensures size { length facts.new ≡ length facts.old }
-        ensures least { (closed : NumberSet) → IsClosed self.now (member events.now) closed
-            → ((n : ℕ) → Has (member facts.old) n → Has closed n)
-            → (n : ℕ) → Has (member facts.new) n → Has closed n }
-    {
-        let items = self.facts.items();
-        if (number as usize) < items.len()
-            && items[number as usize].formula.is_true(events, facts)
-        {
-            facts.put(number);
-        }
-    }
-
-    // Adds each fact whose formula is true, one after another; whether a fact was added.
-    fn add_true(&self, events: &Bits, facts: &mut Bits) -> bool
-        requires { length facts.old ≡ length self.now.facts }
-        ensures size { length facts.new ≡ length facts.old }
-        ensures least { (closed : NumberSet) → IsClosed self.now (member events.now) closed
-            → ((n : ℕ) → Has (member facts.old) n → Has closed n)
-            → (n : ℕ) → Has (member facts.new) n → Has closed n }
-        ensures done { result ≡ false → IsClosed self.now (member events.now) (member facts.new) }
-        ensures more { IsTrue result → count_true facts.old < count_true facts.new }
-    {
-        let mut added = false;
-        for (number, fact) in self.facts.items().iter().enumerate() {
-            if !facts.has(number as u32) && fact.formula.is_true(events, facts) {
-                facts.put(number as u32);
-                added = true;
-            }
-        }
-        added
+        let rounds = self.rounds(alloc, events)?;
+        Ok(timed(alloc, &rounds)?)
     }
 
     /// Whether a set of events, given by their rising numbers, is a minimal cut set of a target: the target holds
@@ -150,9 +133,8 @@ impl FaultSystem {
         Ok(is_minimal)
     }
 
-    // Whether the target holds under a set of events.
-    fn makes_hold(&self, alloc: Global, target: u32, events: &Bits) -> Mem<bool>
-        requires { length events.now ≡ length self.now.events }
+    /// Whether a target holds under a set of events.
+    pub fn makes_hold(&self, alloc: Global, target: u32, events: &Bits) -> Mem<bool>
         ensures { IfOk result (λ answer. answer ≡ makes_hold self.now target (member events.now)) }
     {
         let facts = self.holds(alloc, events)?;
@@ -161,8 +143,7 @@ impl FaultSystem {
 
     // Whether the target does not hold without any one of these events.
     fn needs_each(&self, alloc: Global, target: u32, set: &[u32], events: &mut Bits) -> Mem<bool>
-        requires size { length events.old ≡ length self.now.events }
-        requires set { (n : ℕ) → member events.old n ≡ set_of set.now n }
+        requires { (n : ℕ) → member events.old n ≡ set_of set.now n }
         ensures { IfOk result (λ answer. answer
             ≡ list_all (λ n. not (makes_hold self.now target (without (set_of set.now) n))) set.now) }
     {
@@ -176,11 +157,9 @@ impl FaultSystem {
 
     // Whether the target holds without one of the events, which are as before afterwards.
     fn holds_without(&self, alloc: Global, target: u32, event: u32, events: &mut Bits) -> Mem<bool>
-        requires size { length events.old ≡ length self.now.events }
-        requires event { Has (member events.old) event }
+        requires { Has (member events.old) event }
         ensures answer { IfOk result
             (λ answer. answer ≡ makes_hold self.now target (without (member events.old) event)) }
-        ensures size { length events.new ≡ length events.old }
         ensures same { OnOk result ((n : ℕ) → member events.new n ≡ member events.old n) }
     {
         events.take(event);

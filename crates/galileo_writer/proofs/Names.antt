@@ -9,12 +9,12 @@ use Rattle.std.proofs.lemmas.List.Elements.{All-get_or}
 use Rattle.std.proofs.lemmas.Slice.Eq.{bytes_eq-Decides}
 use Rattle.plain_values.specs.Name.{is_same_text}
 use Rattle.fault_system.specs.Truth.{NumberSet}
-use Rattle.fault_system.specs.Systems.{System, IsSystem, NamesDiffer}
+use Rattle.fault_system.specs.Systems.{System, IsSystem, NamesDiffer, event_name, fact_name}
 use Rattle.fault_system.proofs.Elements.{In, In-append, In-back, In-contains, contains_In}
 use Rattle.round_gates.specs.declared.tree.Gate.{Gate}
 use Rattle.round_gates.specs.Trees.{key_of}
 use Rattle.galileo_writer.specs.Galileo.{IsPlainName}
-use Rattle.galileo_writer.specs.TreeText.{HasTextNames, event_name, fact_name, gate_name, has_name}
+use Rattle.galileo_writer.specs.TreeText.{HasTextNames, gate_name, has_name}
 use Rattle.galileo_writer.proofs.Bytes.{IsDigit, cut-first, cut-last, decimal-lacks}
 
 -- ---- names by number

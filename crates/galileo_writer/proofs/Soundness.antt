@@ -7,7 +7,7 @@ use Rattle.std.proofs.lemmas.List.{get_or-append_right, get_or_append_left, get_
 use Rattle.std.proofs.lemmas.List.Elements.{Contains-get_or}
 use Rattle.std.proofs.lemmas.List.Kept.{AllPairs-cons, AllPairs-filter}
 use Rattle.std.specs.List.{AllByRecursion, list_any, range_with_len}
-use Rattle.fault_system.specs.Systems.{System, IsSystem, NamesDiffer}
+use Rattle.fault_system.specs.Systems.{System, IsSystem, NamesDiffer, event_name}
 use Rattle.fault_system.proofs.Elements.{In, In-back, In-contains, In-front, In-mapped, contains_In}
 use Rattle.property_reader.specs.declared.rate.Rate.{Rate}
 use Rattle.round_gates.specs.declared.tree.Gate.{Gate}
@@ -19,7 +19,7 @@ use Rattle.round_gates.specs.Trees.{InputsOnce, is_event}
 use Rattle.galileo_writer.specs.Galileo.{Line}
 use Rattle.galileo_writer.specs.Sound.{HasInputLines, HasLine, IsSound}
 use Rattle.galileo_writer.specs.Truth.{name_of}
-use Rattle.galileo_writer.specs.TreeText.{HasTextNames, event_line, event_name, gate_line, gate_name, input_name, name_at, tree_galileo}
+use Rattle.galileo_writer.specs.TreeText.{HasTextNames, event_line, gate_line, gate_name, input_name, name_at, tree_galileo}
 use Rattle.galileo_writer.proofs.Names.{event-or-gate, item-there, named-here}
 use Rattle.galileo_writer.proofs.TreeNames.{event-within, gate-at-name, gates-differ, good, in-tree, one-event, one-input, or-right, or-true}
 

@@ -6,7 +6,7 @@ use Rattle.std.proofs.lemmas.List.Elements.{All-get_or}
 use Rattle.std.specs.List.{AllByRecursion, list_any}
 use Rattle.aadl_syntax.specs.Form.{IsNumber}
 use Rattle.fault_system.specs.Truth.{NumberSet}
-use Rattle.fault_system.specs.Systems.{System, IsSystem, Holds}
+use Rattle.fault_system.specs.Systems.{System, IsSystem, Holds, event_name}
 use Rattle.fault_system.proofs.Elements.{In}
 use Rattle.fault_system.proofs.Marks.{Below}
 use Rattle.property_reader.specs.Rates.{conservative_rate}
@@ -24,7 +24,7 @@ use Rattle.round_gates.proofs.MadeWell.{made-well}
 use Rattle.round_gates.proofs.TreeTruth.{kind-below, tree-truth}
 use Rattle.galileo_writer.specs.Galileo.{Galileo, IsKind, IsPlainLine, IsPlainName, IsTextOf, Line}
 use Rattle.galileo_writer.specs.Truth.{IsClosedText, NameSet, Tells, TextTrue, line_true, name_of}
-use Rattle.galileo_writer.specs.TreeText.{AreRates, HasTextNames, event_line, event_name, gate_line, gate_name, has_name, input_name, name_at, names_of, tree_galileo, tree_text}
+use Rattle.galileo_writer.specs.TreeText.{AreRates, HasTextNames, event_line, gate_line, gate_name, has_name, input_name, name_at, names_of, tree_galileo, tree_text}
 use Rattle.galileo_writer.proofs.Names.{event-or-gate, event-plain, gate-plain, has-none, has-own, item-there, named-here}
 use Rattle.galileo_writer.proofs.OneText.{one-text}
 use Rattle.galileo_writer.proofs.TreeNames.{event-within, in-tree, or-right, or-true, at-event, at-name, gate-at-name, gates-differ, good}

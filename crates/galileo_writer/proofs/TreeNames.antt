@@ -5,7 +5,7 @@ use Rattle.std.proofs.lemmas.Bool.{false≢true, cases_order}
 use Rattle.std.proofs.lemmas.List.{get_or_default}
 use Rattle.std.specs.List.{AllByRecursion, list_any, range_with_len}
 use Rattle.fault_system.proofs.Elements.{In, In-filter, In-filtered}
-use Rattle.fault_system.specs.Systems.{System, IsSystem, NamesDiffer}
+use Rattle.fault_system.specs.Systems.{System, IsSystem, NamesDiffer, event_name}
 use Rattle.round_gates.specs.declared.tree.Gate.{Gate}
 use Rattle.round_gates.specs.declared.tree.Input.{Input}
 use Rattle.round_gates.specs.declared.tree.Input.TheVariants as inputs
@@ -14,7 +14,7 @@ use Rattle.round_gates.specs.Targets.{IsWellMade, IsWellMadeGate, IsWithin}
 use Rattle.round_gates.specs.Trees.{is_event, key_of}
 use Rattle.round_gates.proofs.OneTree.{one-position}
 use Rattle.round_gates.proofs.TreeTruth.{key-there}
-use Rattle.galileo_writer.specs.TreeText.{HasTextNames, event_name, gate_name, input_name, name_at}
+use Rattle.galileo_writer.specs.TreeText.{HasTextNames, gate_name, input_name, name_at}
 use Rattle.galileo_writer.proofs.Names.{event-or-gate, item-there, named-at, named-here, one-gate-name, one-number}
 
 all-at : {X : Type 0} (P : X → Type 0) (xs : List X) → AllByRecursion P xs → (n : ℕ) (x : X) → slice_get xs n ≡ Some x → P x

@@ -4,7 +4,7 @@ use Rattle.std.specs.Option.{option_map}
 use Rattle.aadl_syntax.specs.Form.{IsNumber}
 use Rattle.plain_values.specs.Name.{is_same_text}
 use Rattle.fault_system.specs.Truth.{NumberSet}
-use Rattle.fault_system.specs.Systems.{System}
+use Rattle.fault_system.specs.Systems.{System, event_name, fact_name}
 use Rattle.property_reader.specs.Rates.{conservative_rate}
 use Rattle.property_reader.specs.declared.rate.Rate.{Rate}
 use Rattle.round_gates.specs.declared.tree.Gate.{Gate}
@@ -13,14 +13,6 @@ use Rattle.round_gates.specs.declared.tree.Input.TheVariants as inputs
 use Rattle.round_gates.specs.declared.tree.Tree.{Tree}
 use Rattle.galileo_writer.specs.Galileo.{Line, GateLine, EventLine, Galileo, IsPlainName, galileo_text}
 use Rattle.galileo_writer.specs.Truth.{NameSet}
-
--- the name of an event by its number
-abbrev pub event_name : System → ℕ → List ℕ
-event_name system number = unwrap_or (option_map (λ event. event.name) (slice_get system.events number)) []
-
--- the name of a fact by its number
-abbrev pub fact_name : System → ℕ → List ℕ
-fact_name system number = unwrap_or (option_map (λ fact. fact.name) (slice_get system.facts number)) []
 
 -- the name of a gate: its fact, `@`, its stage, `.` and its place
 abbrev pub gate_name : System → Gate → List ℕ

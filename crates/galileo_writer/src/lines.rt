@@ -2,33 +2,14 @@
 
 ghost use Rattle.std.specs.Prelude.{◌≡◌, ◌++◌, OnOk, decimal, map, option_copied, slice_get};
 ghost use Rattle.galileo_writer.specs.Galileo.{inputs_text, kind_text, line_text, rate_word, top_text};
-ghost use Rattle.galileo_writer.specs.TreeText.{event_line, event_name, fact_name, gate_line, gate_name, input_name, name_at, rate_of};
+ghost use Rattle.fault_system.specs.Systems.{event_name};
+ghost use Rattle.galileo_writer.specs.TreeText.{event_line, gate_line, gate_name, input_name, name_at, rate_of};
 
 use fault_system::FaultSystem;
 use itoa::Buffer;
 use plain_values::Mem;
 use property_reader::{Rate, RateKind};
 use round_gates::{Gate, GateKind, Input, Tree};
-
-/// The name of an event; none where the number is none of an event.
-fn event_name(system: &FaultSystem, number: u32) -> &[u8]
-    ensures { result.now ≡ event_name system.now number }
-{
-    match system.event(number) {
-        Some(event) => event.name.items(),
-        None => &[],
-    }
-}
-
-/// The name of a fact; none where the number is none of a fact.
-fn fact_name(system: &FaultSystem, number: u32) -> &[u8]
-    ensures { result.now ≡ fact_name system.now number }
-{
-    match system.fact(number) {
-        Some(fact) => fact.name.items(),
-        None => &[],
-    }
-}
 
 fn push_number(line: &mut Vec<u8>, number: u64) -> Mem<()>
     ensures { OnOk result (line.new.items ≡ line.old.items ++ decimal number) }
@@ -42,7 +23,7 @@ fn push_number(line: &mut Vec<u8>, number: u64) -> Mem<()>
 fn push_gate_name(line: &mut Vec<u8>, system: &FaultSystem, gate: &Gate) -> Mem<()>
     ensures { OnOk result (line.new.items ≡ line.old.items ++ gate_name system.now gate.now) }
 {
-    line.extend_from_slice(fact_name(system, gate.fact))?;
+    line.extend_from_slice(system.fact_name(gate.fact))?;
     line.push(b'@')?;
     push_number(line, u64::from(gate.stage))?;
     line.push(b'.')?;
@@ -87,7 +68,7 @@ fn push_input_name(
 {
     match input {
         Input::Event(number) => {
-            line.extend_from_slice(event_name(system, number))?;
+            line.extend_from_slice(system.event_name(number))?;
             Ok(())
         }
         Input::Gate(number) => push_name_at(line, system, gates, number),
@@ -188,7 +169,7 @@ pub(crate) fn push_event(
     ensures { OnOk result (line.new.items ≡ line.old.items ++ line_text (event_line system.now rates.now number)) }
 {
     line.push(b'"')?;
-    line.extend_from_slice(event_name(system, number))?;
+    line.extend_from_slice(system.event_name(number))?;
     line.extend_from_slice(b"\" ")?;
     push_rate(line, rates, number)?;
     line.extend_from_slice(b";\n")?;

@@ -2,10 +2,9 @@
 use Rattle.std.proofs.Common.{ℕ, zero, suc, ◌+◌, ◌-◌, ◌≡◌, ◌≢◌, ◌<◌, ◌≤◌, ◌⊎◌, Bool, true, false, List, [], ◌∷◌, length, slice_get, Option, Some, None, inl, inr, ⊎_elim, ap, ◌∙◌, sym, subst, refl, arith}
 use Rattle.std.proofs.lemmas.Bool.{eqb-true}
 use Rattle.std.specs.List.{AllByRecursion}
-use Rattle.fault_system.specs.Systems.{System, IsSystem}
+use Rattle.fault_system.specs.Systems.{System, IsSystem, IsFact}
 use Rattle.fault_system.specs.declared.formula.FactInfo.{FactInfo}
-use Rattle.backward_slice.specs.Slices.{IsFact}
-use Rattle.backward_slice.proofs.Reached.{fact-in_range}
+use Rattle.fault_system.proofs.Occurrences.{fact-in_range}
 use Rattle.dependency_blocks.specs.Blocks.{BlockNumbers, number_of, size_of}
 use Rattle.round_gates.specs.declared.node.GateKey.{GateKey}
 use Rattle.round_gates.specs.declared.node.Line.{Line}

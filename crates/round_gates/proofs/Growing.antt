@@ -6,6 +6,7 @@ use Rattle.fault_system.specs.Truth.{NumberSet, Has, member}
 use Rattle.fault_system.specs.Systems.{System, holds_of}
 use Rattle.fault_system.specs.CutSets.{makes_hold}
 use Rattle.fault_system.proofs.Marks.{Below-member}
+use Rattle.fault_system.proofs.NumberSets.{member-in, member-replicate}
 use Rattle.fault_system.proofs.HoldsLaws.{applied-grows, holds_of-closed, holds_of-exact}
 use Rattle.round_gates.specs.Staged.{IsConstant, IsVarying}
 use Rattle.round_gates.specs.Targets.{IsConstantly, all_events, no_events}
@@ -16,40 +17,20 @@ holds-grow system es more in_more n e =
     (holds_of-exact system es n).0 e (member (holds_of system more))
     (λ m h. holds_of-closed system more m (Below-member _ _ (applied-grows es more (member (holds_of system more)) (member (holds_of system more)) in_more (λ k i. i) system) m h))
 
-past_end : (xs : List Bool) (n : ℕ) → length xs ≤ n → member xs n ≡ false
-past_end [] n h = refl
-past_end (x ∷ xs) zero h = absurd (omega arith)
-past_end (x ∷ xs) (suc n) h = past_end xs n (omega arith)
-
 not_both : (b : Bool) → (b ≡ true → ⊥) → b ≡ false
 not_both true h = absurd (h refl)
 not_both false h = refl
 
-pub member-inside : (marks : List Bool) (n : ℕ) → member marks n ≡ true → n < length marks
-member-inside marks n e = ⊎_elim (λ same. absurd (false≢true (sym (past_end marks n (omega arith)) ∙ e))) (λ apart. ⊎_elim (λ less. less) (λ more. absurd (false≢true (sym (past_end marks n (omega arith)) ∙ e))) apart) (cases_order n (length marks))
-
-none-marked : (count n : ℕ) → member (replicate count false) n ≡ false
-none-marked count n = ⊎_elim
-    (λ same. past_end (replicate count false) n (long same))
-    (λ apart. ⊎_elim (λ less. get_or-replicate count n false false less) (λ more. past_end (replicate count false) n (longer more)) apart)
-    (cases_order n count)
-  where
-    long : n ≡ count → length (replicate count false) ≤ n
-    long e = omega (arith, length-replicate count false)
-
-    longer : count < n → length (replicate count false) ≤ n
-    longer h = omega (arith, length-replicate count false)
-
 module _ (system : System) (target : ℕ) where
   pub always : (none : List Bool) → none ≡ replicate (length system.events) false → makes_hold system target (member none) ≡ true → IsConstant system target true
-  always none is e events inside = holds-grow system (member none) events (λ n h. absurd (false≢true (sym (ap (λ bits. member bits n) is ∙ none-marked (length system.events) n) ∙ h))) target e
+  always none is e events inside = holds-grow system (member none) events (λ n h. absurd (false≢true (sym (ap (λ bits. member bits n) is ∙ member-replicate (length system.events) n) ∙ h))) target e
 
   pub never : (all : List Bool) → ((n : ℕ) → n < length system.events → member all n ≡ true) → makes_hold system target (member all) ≡ false → IsConstant system target false
   never all each e events inside = not_both _ (λ h. false≢true (sym e ∙ holds-grow system events (member all) (λ n i. each n (inside n i)) target h))
 
   pub varies : (none all : List Bool) → length none ≡ length system.events → length all ≡ length system.events → makes_hold system target (member none) ≡ false → makes_hold system target (member all) ≡ true → IsVarying system target
-  varies none all long_none long_all e f true constant = false≢true (sym e ∙ constant (member none) (λ n h. let i : n < length none = member-inside none n h in omega arith))
-  varies none all long_none long_all e f false constant = false≢true (sym (constant (member all) (λ n h. let i : n < length all = member-inside all n h in omega arith)) ∙ f)
+  varies none all long_none long_all e f true constant = false≢true (sym e ∙ constant (member none) (λ n h. let i : n < length none = member-in none n h in omega arith))
+  varies none all long_none long_all e f false constant = false≢true (sym (constant (member all) (λ n h. let i : n < length all = member-in all n h in omega arith)) ∙ f)
 
   -- a target is constant exactly where it holds under no event, or does not hold under all
   pub constantly : (is : Bool) → IsConstant system target is ↔ IsConstantly system target is

@@ -1,27 +1,19 @@
 -- The last stage of a set of facts has exactly those of its facts that hold.
 use Rattle.std.proofs.Common.{ℕ, zero, suc, ◌+◌, ◌≡◌, ◌<◌, ◌≤◌, ◌⊎◌, Bool, true, false, cond, ◌&&◌, ◌==◌, List, [], ◌∷◌, map, inl, inr, ⊎_elim, ap, ◌∙◌, sym, subst, refl, arith}
-use Rattle.std.proofs.lemmas.Bool.{false≢true, and_parts, and_from, ne_eqb, eq-eqb}
+use Rattle.std.proofs.lemmas.Bool.{false≢true, and_right, and_parts, and_from, ne_eqb, eq-eqb}
 use Rattle.std.proofs.lemmas.List.Sums.{sum_by-cons}
 use Rattle.fault_system.specs.Truth.{NumberSet, Has, member, count_true}
 use Rattle.fault_system.specs.Systems.{System, applied, IsClosed, holds_of}
 use Rattle.fault_system.specs.declared.formula.FactInfo.{FactInfo}
 use Rattle.fault_system.proofs.TruthLaws.{same_answer}
+use Rattle.fault_system.proofs.NumberSets.{member-none}
 use Rattle.fault_system.proofs.Marks.{Below, Below-member, stay_or_grow}
 use Rattle.fault_system.proofs.HoldsLaws.{applied-grows, holds_of-closed, holds_of-exact}
 use Rattle.dependency_blocks.specs.Blocks.{BlockNumbers, number_of, size_of}
 use Rattle.round_gates.specs.Stages.{in_block, kept_marks, joined_marks, stage_truth}
 
-no_mark : {X : Type 0} (xs : List X) (n : ℕ) → Has (member (map (λ _. false) xs)) n → ⊥
-no_mark [] n e = false≢true e
-no_mark (x ∷ xs) zero e = false≢true e
-no_mark (x ∷ xs) (suc n) e = no_mark xs n e
-
-and_false : (b : Bool) → b && false ≡ false
-and_false true = refl
-and_false false = refl
-
 pub member-kept : (inside : NumberSet) (marks : List Bool) (n : ℕ) → member (kept_marks inside marks) n ≡ inside n && member marks n
-member-kept inside [] n = sym (and_false (inside n))
+member-kept inside [] n = sym (and_right (inside n) false refl)
 member-kept inside (mark ∷ marks) zero = refl
 member-kept inside (mark ∷ marks) (suc n) = member-kept (λ m. inside (suc m)) marks n
 
@@ -76,7 +68,7 @@ module _ (system : System) (events inside : NumberSet) where
 
   -- what is true in a stage holds
   pub stage-holds : (r n : ℕ) → Has (member (stage r)) n → Has (member holds) n
-  stage-holds zero n e = absurd (no_mark system.facts n e)
+  stage-holds zero n e = absurd (false≢true (sym (member-none system.facts n) ∙ e))
   stage-holds (suc r) n e =
       let true_now : Has (member (applied system events (joined r))) n = (and_parts (inside n) _ (sym (member-kept inside _ n) ∙ e)).1 in
       holds_of-closed system events n

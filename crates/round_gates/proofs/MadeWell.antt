@@ -5,11 +5,11 @@ use Rattle.std.proofs.lemmas.Option.{slice_get_within, slice_get_cases}
 use Rattle.std.proofs.lemmas.List.Elements.{All-get_or}
 use Rattle.std.specs.List.{AllByRecursion, range_with_len}
 use lib.ListN.{length-map}
-use Rattle.fault_system.specs.Systems.{System, IsSystem}
+use Rattle.fault_system.specs.Systems.{System, IsSystem, IsFact}
 use Rattle.fault_system.specs.declared.formula.FactInfo.{FactInfo}
 use Rattle.fault_system.specs.declared.formula.Formula.{Formula, map-Formula, roll-Formula, fold-roll-Formula, ind-Formula}
 use Rattle.fault_system.specs.declared.formula.Formula.TheOpen.{Formula-F, True, Event, Fact, And, Or, AtLeast}
-use Rattle.backward_slice.specs.Slices.{IsSlice, IsFact}
+use Rattle.backward_slice.specs.Slices.{IsSlice}
 use Rattle.backward_slice.specs.declared.parts.Slice.{Slice}
 use Rattle.dependency_blocks.specs.Blocks.{BlockNumbers, IsBlocks, number_of, size_of}
 use Rattle.round_gates.specs.declared.node.Node.{Node}
@@ -25,7 +25,8 @@ use Rattle.round_gates.specs.Trees.{IsGateTree, IsTreeOf, InputsOnce, event_tree
 use Rattle.round_gates.specs.Walks.{places, places_step}
 use Rattle.round_gates.proofs.Basics.{or_left, or_right, some_inner}
 use Rattle.round_gates.proofs.GatePlaces.{IsGateAt, gate-at, low-ranged}
-use Rattle.round_gates.proofs.Wholes.{rises-below, size-positive, target-inside, total-at}
+use Rattle.fault_system.proofs.NumberSets.{RisesWithin-each}
+use Rattle.round_gates.proofs.Wholes.{size-positive, target-inside, total-at}
 
 all-from : {X : Type 0} (P : X → Type 0) (xs : List X) → ((n : ℕ) (x : X) → slice_get xs n ≡ Some x → P x) → AllByRecursion P xs
 all-from P [] each = tt
@@ -147,7 +148,7 @@ module _ (system : System) (facts : List ℕ) (numbers : BlockNumbers) (blocks :
         let own : IsBlocks system slice.facts numbers = subst (λ (fs : List ℕ). IsBlocks system fs numbers) (sym same) blocks in
         let there = target-inside system target slice numbers is own in
         let fact : target < length system.facts
-        = subst (λ (n : ℕ). n < length system.facts) there.0.2 (All-get_or (λ (n : ℕ). n < length system.facts) slice.facts there.0.0 target there.0.1 (rises-below 0 (length system.facts) slice.facts is.facts_rise)) in
+        = subst (λ (n : ℕ). n < length system.facts) there.0.2 (All-get_or (λ (n : ℕ). n < length system.facts) slice.facts there.0.0 target there.0.1 (RisesWithin-each 0 (length system.facts) slice.facts is.facts_rise)) in
         subst (IsWellMade system) (sym tree_is)
         (made-event target event fact (short fact there.1 (slice_get_cases system.facts target).1) (low-ranged system is_system numbers (number_of numbers target + 1) target event last))
       where

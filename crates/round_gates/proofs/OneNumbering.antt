@@ -5,12 +5,11 @@ use Rattle.std.proofs.lemmas.Bool.Decides.{nat_tests}
 use Rattle.std.proofs.lemmas.List.Sums.{sum_by-cons}
 use Rattle.std.specs.List.{list_any}
 use Rattle.fault_system.specs.Truth.{occurs, occurs_step}
-use Rattle.fault_system.specs.Systems.{System, IsSystem}
+use Rattle.fault_system.specs.Systems.{System, IsSystem, IsFact}
 use Rattle.fault_system.specs.declared.formula.FactInfo.{FactInfo}
 use Rattle.fault_system.specs.declared.formula.Formula.{Formula, map-Formula, roll-Formula, fold-roll-Formula, ind-Formula}
 use Rattle.fault_system.specs.declared.formula.Formula.TheOpen.{Formula-F, True, Event, Fact, And, Or, AtLeast}
 use Rattle.fault_system.proofs.TruthLaws.{same_answer}
-use Rattle.backward_slice.specs.Slices.{IsFact}
 use Rattle.dependency_blocks.specs.Blocks.{BlockNumbers, IsBlocks, number_of, size_of}
 use Rattle.round_gates.specs.declared.node.GateKind.TheVariants as kinds
 use Rattle.round_gates.specs.declared.node.Line.{Line}

@@ -1,12 +1,12 @@
 -- The gates of all stages are met together: there is a truth of gates under which each gate of a stage is met and the last
 -- node of a fact is true exactly where the fact holds.
 use Rattle.std.proofs.Common.{ℕ, zero, suc, ◌+◌, ◌-◌, ◌≡◌, ◌<◌, ◌≤◌, ◌⊎◌, Bool, true, false, cond, ◌&&◌, List, [], ◌∷◌, map, slice_get, Option, Some, None, Contains, ⊎_elim, ap, ◌∙◌, sym, subst, refl, arith}
-use Rattle.std.proofs.lemmas.Bool.{false≢true, eqb-true, eq-eqb, ne_eqb, cases_order}
+use Rattle.std.proofs.lemmas.Bool.{false≢true, and_right, eqb-true, eq-eqb, ne_eqb, cases_order}
 use Rattle.std.specs.List.{AllByRecursion}
 use Rattle.fault_system.specs.Truth.{NumberSet, member, truth, occurs}
-use Rattle.fault_system.specs.Systems.{System, applied, holds_of}
+use Rattle.fault_system.specs.Systems.{System, applied, holds_of, IsFact}
 use Rattle.fault_system.specs.declared.formula.FactInfo.{FactInfo}
-use Rattle.backward_slice.specs.Slices.{IsFact}
+use Rattle.fault_system.proofs.NumberSets.{member-map, member-none, member-past}
 use Rattle.dependency_blocks.specs.Blocks.{BlockNumbers, IsBlocks, number_of, size_of}
 use Rattle.round_gates.specs.declared.node.Line.{Line}
 use Rattle.round_gates.specs.declared.node.Node.{Node}
@@ -17,16 +17,6 @@ use Rattle.round_gates.specs.Stages.{in_block, joined_marks, stage_truth, formul
 use Rattle.round_gates.specs.Truths.{GateSet, node_true, IsMet}
 use Rattle.round_gates.proofs.LastStage.{member-kept, last-stage}
 use Rattle.round_gates.proofs.WalkTruth.{LooksRight, walk-kept}
-
-pub member-map : {X : Type 0} (f : X → Bool) (xs : List X) (n : ℕ) (x : X) → slice_get xs n ≡ Some x → member (map f xs) n ≡ f x
-member-map f [] n x e = cc
-member-map f (y ∷ xs) zero x e = let same : y ≡ x = cc in ap f same
-member-map f (y ∷ xs) (suc n) x e = member-map f xs n x e
-
-pub member-none : {X : Type 0} (f : X → Bool) (xs : List X) (n : ℕ) → slice_get xs n ≡ None → member (map f xs) n ≡ false
-member-none f [] n e = refl
-member-none f (y ∷ xs) zero e = cc
-member-none f (y ∷ xs) (suc n) e = member-none f xs n e
 
 pub among-all : {X : Type 0} (P : X → Type 0) (xs : List X) (x : X) → AllByRecursion P xs → IsAmong x xs → P x
 among-all P [] x all is = absurd is
@@ -129,22 +119,13 @@ module _ (system : System) (facts : List ℕ) (numbers : BlockNumbers) (blocks :
       ∙ ap (λ (facts : NumberSet). facts m) (sym (true_in-is stage block before e s))
 
   past_facts : (block stage fact : ℕ) → slice_get system.facts fact ≡ None → member (stage_truth system events (in_block numbers block) (suc stage)) fact ≡ false
-  past_facts block stage fact e = member-kept (in_block numbers block) _ fact ∙ ap (λ b. in_block numbers block fact && b) (member-none _ system.facts fact e) ∙ and_false (in_block numbers block fact)
-    where
-      and_false : (b : Bool) → b && false ≡ false
-      and_false true = refl
-      and_false false = refl
+  past_facts block stage fact e = member-kept (in_block numbers block) _ fact ∙ and_right (in_block numbers block fact) _ (member-past _ system.facts fact e)
 
   -- a stage of a fact of a block is right
   stage-right : (block : ℕ) → block < 4294967295 → LowRight block → (stage fact : ℕ) → number_of numbers fact ≡ block
       → val (stage_nodes system numbers (low_nodes system numbers block) block stage fact) ≡ member (stage_truth system events (in_block numbers block) stage) fact
   stage-right block small low zero fact e =
-      ap val (stage-first system numbers (low_nodes system numbers block) block fact (eq-eqb _ _ e)) ∙ sym (no_mark_at system.facts fact)
-    where
-      no_mark_at : {X : Type 0} (xs : List X) (n : ℕ) → member (map (λ _. false) xs) n ≡ false
-      no_mark_at [] n = refl
-      no_mark_at (x ∷ xs) zero = refl
-      no_mark_at (x ∷ xs) (suc n) = no_mark_at xs n
+      ap val (stage-first system numbers (low_nodes system numbers block) block fact (eq-eqb _ _ e)) ∙ sym (member-none system.facts fact)
   stage-right block small low (suc stage) fact e =
       ap val (stage-in system numbers (low_nodes system numbers block) block stage fact (eq-eqb _ _ e))
       ∙ by (slice_get system.facts fact) refl (stage-right block small low stage)

@@ -1,29 +1,27 @@
 -- From one stage of a block to the next, and from one block to the next.
 use Rattle.std.proofs.Common.{ℕ, zero, suc, ◌+◌, ◌-◌, ◌≡◌, ◌<◌, ◌≤◌, ◌⊎◌, Bool, true, false, cond, ◌&&◌, ◌==◌, List, [], ◌∷◌, ◌++◌, length, map, All, Contains, Option, Some, None, slice_get, flat_map, inl, inr, ap, ◌∙◌, sym, subst, refl, arith, add-one, append_assoc}
-use Rattle.std.proofs.lemmas.Bool.{false≢true, eqb-true, eq-eqb, ne_eqb}
+use Rattle.std.proofs.lemmas.Bool.{false≢true, eqb-true, eq-eqb, ne_eqb, and_from, and_right}
 use Rattle.std.proofs.lemmas.List.Concat.{flat_map-cons}
 use Rattle.std.proofs.lemmas.List.Folds.{list_any_at}
 use Rattle.std.specs.List.{AllByRecursion}
 use Rattle.fault_system.specs.Truth.{set_of}
 use Rattle.fault_system.specs.Systems.{System, IsSystem}
 use Rattle.fault_system.specs.declared.formula.FactInfo.{FactInfo}
-use Rattle.backward_slice.proofs.Reached.{fact-in_range}
+use Rattle.fault_system.proofs.Occurrences.{fact-in_range}
 use Rattle.dependency_blocks.specs.Blocks.{BlockNumbers, IsBlocks, number_of, size_of}
 use Rattle.round_gates.specs.declared.node.Line.{Line}
 use Rattle.round_gates.specs.declared.node.Node.{Node}
 use Rattle.round_gates.specs.declared.node.Node.TheVariants.{Never}
 use Rattle.round_gates.specs.declared.node.Stage.{Stage}
+use Rattle.fault_system.proofs.NumberSets.{contained-in_set, set_of-filter}
 use Rattle.round_gates.specs.Walks.{node_in}
 use Rattle.round_gates.specs.Lines.{IsKnown, InOrder}
 use Rattle.round_gates.specs.Stages.{in_block, formula_walk, fact_walk, stage_nodes, low_nodes, last_node, looks_of, IsAmong, IsGateOf}
 use Rattle.round_gates.specs.Unrolled.{members_of, stage_at, found_in, lines_in, written, AreUnrolled, IsUnrolling}
 use Rattle.round_gates.proofs.Ordered.{known-more, order-append, walk-ordered}
 use Rattle.round_gates.proofs.StageTruth.{stage-out, stage-first, stage-in, low-zero, low-suc}
-use Rattle.round_gates.proofs.Writing.{written-is, set_of-filter}
+use Rattle.round_gates.proofs.Writing.{written-is}
 use Rattle.round_gates.proofs.Basics.{not_here, all-map, all-append, or_left, or_right}
-
-pub contained-in_set : (facts : List ℕ) (n : ℕ) → Contains facts n → set_of facts n ≡ true
-contained-in_set facts n (k, fits, is) = list_any_at (λ m. m == n) facts k n fits (eq-eqb _ _ is)
 
 all-among : {X : Type 0} (xs : List X) → AllByRecursion (λ x. IsAmong x xs) xs
 all-among {X} [] = tt
@@ -82,11 +80,11 @@ module _ (system : System) (is_system : IsSystem system) (facts : List ℕ) (num
     member-is : (fact : ℕ) → set_of members fact ≡ in_block numbers block fact
     member-is fact = set_of-filter (in_block numbers block) facts fact ∙ by (in_block numbers block fact) refl
       where
-        by : (b : Bool) → in_block numbers block fact ≡ b → b && set_of facts fact ≡ b
+        by : (b : Bool) → in_block numbers block fact ≡ b → set_of facts fact && b ≡ b
         by true is =
             let same : number_of numbers fact ≡ block = eqb-true _ _ is in
-            contained-in_set facts fact ((blocks.inside fact).1 (omega arith))
-        by false is = refl
+            and_from (set_of facts fact) true (contained-in_set facts fact ((blocks.inside fact).1 (omega arith))) refl
+        by false is = and_right (set_of facts fact) false refl
 
     module _ (stage : ℕ) (more : stage < size_of numbers block) (nodes : List Node) (are : (fact : ℕ) → node_in nodes fact ≡ now stage fact) where
       look_is : node_in nodes ≡ now stage

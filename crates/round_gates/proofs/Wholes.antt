@@ -26,12 +26,6 @@ pub if_ok : {X E : Type 0} (P Q : X → Type 0) → ((x : X) → P x → Q x) �
 if_ok P Q f (Ok x) p = f x p
 if_ok P Q f (Err e) p = tt
 
--- the rising numbers of a list are in range
-pub rises-below : (low high : ℕ) (xs : List ℕ) → RisesWithin low high xs → All (λ n. n < high) xs
-rises-below low high [] h k d fits = absurd (omega arith)
-rises-below low high (x ∷ xs) h zero d fits = h.1
-rises-below low high (x ∷ xs) h (suc k) d fits = rises-below (x + 1) high xs h.2 k d (omega arith)
-
 -- the target of a slice is in a block
 pub target-inside : (system : System) (target : ℕ) (slice : Slice) (numbers : BlockNumbers) → IsSlice system target slice → IsBlocks system slice.facts numbers → Contains slice.facts target × (number_of numbers target < 4294967295)
 target-inside system target slice numbers is blocks =

@@ -53,21 +53,3 @@ places-inside system from stage most members all found is =
     at [] k d h = absurd (omega arith)
     at (m ∷ ms) zero d h = refl
     at (m ∷ ms) (suc k) d h = at ms k d (omega arith)
-
--- a number is among those of a list that pass a test
-pub set_of-filter : (test : ℕ → Bool) (xs : List ℕ) (n : ℕ) → set_of (filter test xs) n ≡ test n && set_of xs n
-set_of-filter test [] n = none (test n)
-  where
-    none : (b : Bool) → false ≡ b && false
-    none true = refl
-    none false = refl
-set_of-filter test (x ∷ xs) n = by (test x) refl (x == n) refl (test n) refl (set_of-filter test xs n)
-  where
-    by : (p : Bool) → test x ≡ p → (e : Bool) → (x == n) ≡ e → (q : Bool) → test n ≡ q → set_of (filter test xs) n ≡ test n && set_of xs n
-        → set_of (cond p (x ∷ filter test xs) (filter test xs)) n ≡ q && (e || set_of xs n)
-    by true is true same true has rest = ap (λ b. b || set_of (filter test xs) n) same
-    by true is true same false has rest = absurd (false≢true (sym has ∙ ap test (sym (eqb-true _ _ same)) ∙ is))
-    by true is false other q has rest = ap (λ b. b || set_of (filter test xs) n) other ∙ rest ∙ ap (λ b. b && set_of xs n) has
-    by false is true same true has rest = absurd (false≢true (sym is ∙ ap test (eqb-true _ _ same) ∙ has))
-    by false is true same false has rest = rest ∙ ap (λ b. b && set_of xs n) has
-    by false is false other q has rest = rest ∙ ap (λ b. b && set_of xs n) has

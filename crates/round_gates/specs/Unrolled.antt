@@ -1,9 +1,8 @@
 -- The stages of all blocks, one after another, from the lowest block on.
 use Rattle.std.specs.Prelude.{ℕ, ◌<◌, ◌≡◌, ◌^◌, List, [], ◌∷◌, length, filter, Contains, ◌==◌, if◌then◌else◌}
 use Rattle.std.specs.List.{AllByRecursion}
-use Rattle.fault_system.specs.Systems.{System}
+use Rattle.fault_system.specs.Systems.{System, IsFact}
 use Rattle.fault_system.specs.declared.formula.FactInfo.{FactInfo}
-use Rattle.backward_slice.specs.Slices.{IsFact}
 use Rattle.dependency_blocks.specs.Blocks.{BlockNumbers}
 use Rattle.round_gates.specs.declared.node.Line.{Line}
 use Rattle.round_gates.specs.declared.node.Node.{Node}

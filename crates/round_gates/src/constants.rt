@@ -2,7 +2,6 @@
 
 ghost use Rattle.std.specs.Prelude.{◌≡◌, ◌<◌, ℕ, IfOk, MatchOption, length, true};
 ghost use Rattle.fault_system.specs.Truth.{member};
-ghost use Rattle.fault_system.specs.CutSets.{makes_hold};
 ghost use Rattle.round_gates.specs.Staged.{IsConstant, IsVarying};
 
 use fault_system::{Bits, FaultSystem};
@@ -28,26 +27,17 @@ fn put_all(events: &mut Bits)
     }
 }
 
-/// Whether a target holds under a set of events.
-fn holds_under(alloc: Global, system: &FaultSystem, target: u32, events: &Bits) -> Mem<bool>
-    requires { length events.now ≡ length system.now.events }
-    ensures { IfOk result (λ is. is ≡ makes_hold system.now target (member events.now)) }
-{
-    let facts = system.holds(alloc, events)?;
-    Ok(facts.has(target))
-}
-
 /// Whether a target always holds, or never; none where it holds under some events and not under others. It holds under no
 /// event, or else not under all of them.
 pub(crate) fn constant(alloc: Global, system: &FaultSystem, target: u32) -> Mem<Option<bool>>
     ensures { IfOk result (λ found. MatchOption found (IsVarying system.now target) (IsConstant system.now target)) }
 {
     let none = Bits::new(alloc, system.events())?;
-    if holds_under(alloc, system, target, &none)? {
+    if system.makes_hold(alloc, target, &none)? {
         return Ok(Some(true));
     }
     let all = all_events(alloc, system.events())?;
-    if !holds_under(alloc, system, target, &all)? {
+    if !system.makes_hold(alloc, target, &all)? {
         return Ok(Some(false));
     }
     Ok(None)

@@ -1,7 +1,6 @@
 use Rattle.std.proofs.Common.{map, take}
 use Rattle.std.specs.List.{list_any}
-use Rattle.fault_system.specs.Truth.{occurs}
-use Rattle.backward_slice.specs.Slices.{occurs_event}
+use Rattle.fault_system.specs.Truth.{occurs, occurs_event}
 use Rattle.backward_slice.specs.Marks.{Adds}
 use Rattle.backward_slice.proofs.marking.+visit.Given as goal
 

@@ -1,7 +1,7 @@
 use Rattle.std.proofs.Common.{arith, ◌∷◌}
 use Rattle.std.proofs.lemmas.Result.{err_from_is_err_and}
 use Rattle.std.specs.Prelude.{vec_capacity}
-use Rattle.cutset_lister.specs.SetText.{event_name}
+use Rattle.fault_system.specs.Systems.{event_name}
 use Rattle.cutset_lister.proofs.Buffers.{lacks_pieces}
 use Rattle.cutset_lister.proofs.tokens.push_names.Goals as goal
 

@@ -1,7 +1,8 @@
 use Rattle.std.proofs.Common.{◌≡◌, ◌∷◌, rules}
 use Rattle.std.specs.Prelude.{vec_capacity}
 use Rattle.cutset_lister.specs.Scanning.{names_text}
-use Rattle.cutset_lister.specs.SetText.{event_name, set_text}
+use Rattle.fault_system.specs.Systems.{event_name}
+use Rattle.cutset_lister.specs.SetText.{set_text}
 use Rattle.cutset_lister.proofs.Buffers.{adds_or_lacks}
 use Rattle.cutset_lister.proofs.Scans.{set_text-first}
 use Rattle.cutset_lister.proofs.tokens.push_text.Goals as goal

@@ -12,7 +12,7 @@ pub returns-then-place-text-clause-one : goal.returns-then-place-text-clause-one
 returns-then-place-text-clause-one c = λ set has. absurd (scan-none c.args.system.now c.args.text.now c.in_ok-set.set.items c.in_ok-set.place c.in_ok-set.ensures (search rules) c.if-place-text.true set has)
 
 pub returns-then-place-text-clause-refused : goal.returns-then-place-text-clause-refused
-returns-then-place-text-clause-refused c = (λ set has. scan-none c.args.system.now c.args.text.now c.in_ok-set.set.items c.in_ok-set.place c.in_ok-set.ensures (search rules) c.if-place-text.true set has, refl)
+returns-then-place-text-clause-refused c = (λ set has. scan-none c.args.system.now c.args.text.now c.in_ok-set.set.items c.in_ok-set.place c.in_ok-set.ensures (search rules) c.if-place-text.true set has, c.of_words.ensures)
 
 pub returns-clause-set : goal.returns-clause-set
 returns-clause-set c =

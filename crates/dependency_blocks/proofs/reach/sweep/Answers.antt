@@ -1,7 +1,7 @@
 use Rattle.std.proofs.Common.{ℕ, ◌≡◌, true, ◌∙◌, below_more}
 use Rattle.fault_system.specs.Truth.{Has, member, occurs}
 use Rattle.fault_system.specs.declared.formula.FactInfo.{FactInfo}
-use Rattle.backward_slice.specs.Slices.{IsFact}
+use Rattle.fault_system.specs.Systems.{IsFact}
 use Rattle.dependency_blocks.proofs.reach.sweep.Goals as goal
 
 pub loop-number-preserved : goal.loop-number-preserved

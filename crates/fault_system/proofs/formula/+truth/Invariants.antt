@@ -3,5 +3,5 @@ use Rattle.fault_system.specs.Truth.{count_true, member, truth}
 use Rattle.fault_system.proofs.formula.+truth.Given as goal
 
 abbrev pub invariant-are_true-loop-part : goal.invariant-are_true-loop-part
-invariant-are_true-loop-part l =
-    (l.count ≤ l.part-index) × (l.count + count_true (map (truth (member l.events) (member l.facts)) (drop l.part-index l.parts)) ≡ count_true (map (truth (member l.events) (member l.facts)) l.parts))
+invariant-are_true-loop-part g l =
+    (l.count ≤ l.part-index) × (l.count + count_true (map (truth (member l.events) (g.S.Numbers.set l.facts)) (drop l.part-index l.parts)) ≡ count_true (map (truth (member l.events) (g.S.Numbers.set l.facts)) l.parts))

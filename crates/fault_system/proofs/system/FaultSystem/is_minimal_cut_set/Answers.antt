@@ -1,5 +1,6 @@
 use Rattle.std.proofs.Common.{ℕ, ◌<◌, All, sym, ◌∙◌, subst}
-use Rattle.fault_system.proofs.CutSetLaws.{RisesWithin-each, is_minimal-exact, minimal_answer-no, minimal_answer-yes}
+use Rattle.fault_system.proofs.NumberSets.{RisesWithin-each}
+use Rattle.fault_system.proofs.CutSetLaws.{is_minimal-exact, minimal_answer-no, minimal_answer-yes}
 use Rattle.fault_system.proofs.system.FaultSystem.is_minimal_cut_set.Goals as goal
 use Rattle.fault_system.proofs.system.FaultSystem.is_minimal_cut_set.Goals.{then-is_cut_set+in_ok-is_minimal, else-is_cut_set}
 

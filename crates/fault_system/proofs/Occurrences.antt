@@ -1,11 +1,14 @@
 -- What occurs in a formula that is in range is in range.
-use Rattle.std.proofs.Common.{ℕ, ◌≡◌, ◌<◌, Bool, true, List, [], ◌∷◌, map, ⊎_elim, ◌∙◌, sym, subst}
+use Rattle.std.proofs.Common.{ℕ, ◌≡◌, ◌<◌, Bool, true, List, [], ◌∷◌, length, map, ⊎_elim, ◌∙◌, sym, subst}
 use Rattle.std.proofs.lemmas.Bool.{false≢true, ltb-true, eqb-true, and_parts, or_cases}
 use Rattle.std.specs.List.{list_all, list_any}
-use Rattle.fault_system.specs.Truth.{occurs, occurs_step, in_range, in_range_step}
+use Rattle.fault_system.specs.Truth.{occurs, occurs_step, occurs_event, occurs_event_step, in_range, in_range_step}
+use Rattle.fault_system.specs.Systems.{System, IsSystem, IsFact}
+use Rattle.fault_system.specs.declared.formula.FactInfo.{FactInfo}
+use Rattle.std.proofs.lemmas.List.Elements.{All-get_or}
+use Rattle.std.proofs.lemmas.Option.{slice_get_within, get_or_from_slice_get}
 use Rattle.fault_system.specs.declared.formula.Formula.{Formula, map-Formula, roll-Formula, fold-roll-Formula, ind-Formula}
 use Rattle.fault_system.specs.declared.formula.Formula.TheOpen.{Formula-F, True, Event, Fact, And, Or, AtLeast}
-use Rattle.backward_slice.specs.Slices.{occurs_event, occurs_event_step}
 
 module _ (facts events number : ℕ) where
   abbrev Below : Formula → Type 0
@@ -68,3 +71,10 @@ module _ (facts events number : ℕ) where
   -- an event that occurs in a formula in range is one of so many
   pub occurs_event-in_range : (f : Formula) → in_range facts events f ≡ true → occurs_event number f ≡ true → number < events
   occurs_event-in_range = ind-Formula EventBelow (λ x y is. event_rolled x (subst EventLayer is (event_layer y)))
+
+-- a fact's formula is in range
+pub fact-in_range : (system : System) → IsSystem system → (n : ℕ) (fact : FactInfo) → IsFact system n fact → in_range (length system.facts) (length system.events) fact.formula ≡ true
+fact-in_range system is n fact at =
+    let here : n < length system.facts = slice_get_within system.facts n fact at in
+    subst (λ (f : FactInfo). in_range (length system.facts) (length system.events) f.formula ≡ true) (get_or_from_slice_get system.facts n fact fact at)
+    (All-get_or (λ (f : FactInfo). in_range (length system.facts) (length system.events) f.formula ≡ true) system.facts n fact here is.ranged)

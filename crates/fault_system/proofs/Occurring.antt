@@ -1,14 +1,12 @@
--- The truth of a formula depends on what occurs in it alone.
-use Rattle.std.proofs.Common.{ℕ, ◌≡◌, Bool, true, List, [], ◌∷◌, map, ◌∙◌, sym, subst}
+-- The truth of a formula depends on what occurs in it alone, and grows with the events and the facts.
+use Rattle.std.proofs.Common.{ℕ, ◌≡◌, Bool, true, List, [], ◌∷◌, map, ◌∙◌, sym, refl, subst}
+use Rattle.std.proofs.lemmas.Bool.{eq-eqb, or_left, or_right}
 use Rattle.std.specs.List.{list_any}
-use Rattle.fault_system.specs.Truth.{NumberSet, Has, truth, truth_step, occurs, occurs_step}
+use Rattle.fault_system.specs.Truth.{NumberSet, Has, truth, truth_step, occurs, occurs_step, occurs_event, occurs_event_step}
 use Rattle.fault_system.specs.declared.formula.Formula.{Formula, map-Formula, roll-Formula, fold-roll-Formula, ind-Formula}
 use Rattle.fault_system.specs.declared.formula.Formula.TheOpen.{Formula-F, True, Event, Fact, And, Or, AtLeast}
 use Rattle.fault_system.proofs.Marks.{Below, Below-all, Below-any, Below-at_least}
-use Rattle.backward_slice.specs.Slices.{occurs_event, occurs_event_step}
-use Rattle.backward_slice.proofs.Adding.{or_left, or_right}
-use Rattle.std.proofs.lemmas.Bool.{eq-eqb}
-use Rattle.std.proofs.Common.{refl}
+use Rattle.fault_system.proofs.TruthLaws.{same_answer}
 
 module _ (es es' xs xs' : NumberSet) where
   abbrev Grows : Formula → Type 0
@@ -42,3 +40,12 @@ module _ (es es' xs xs' : NumberSet) where
   -- what is true stays true where what occurs in the formula stays
   pub truth-grows-on : (f : Formula) → ((n : ℕ) → occurs_event n f ≡ true → Has es n → Has es' n) → ((n : ℕ) → occurs n f ≡ true → Has xs n → Has xs' n) → truth es xs f ≡ true → truth es' xs' f ≡ true
   truth-grows-on = ind-Formula Grows (λ x y is. rolled x (subst Layer is (layer y)))
+
+  pub truth-grows : ((n : ℕ) → Has es n → Has es' n) → ((n : ℕ) → Has xs n → Has xs' n) → (f : Formula) → truth es xs f ≡ true → truth es' xs' f ≡ true
+  truth-grows more_events more_facts f = truth-grows-on f (λ n _. more_events n) (λ n _. more_facts n)
+
+-- it is the same where what occurs in the formula is the same
+pub truth-same : (es es' xs xs' : NumberSet) (f : Formula) → ((n : ℕ) → occurs_event n f ≡ true → es n ≡ es' n) → ((n : ℕ) → occurs n f ≡ true → xs n ≡ xs' n) → truth es xs f ≡ truth es' xs' f
+truth-same es es' xs xs' f e x = same_answer _ _
+    (truth-grows-on es es' xs xs' f (λ n o h. sym (e n o) ∙ h) (λ n o h. sym (x n o) ∙ h))
+    (truth-grows-on es' es xs' xs f (λ n o h. e n o ∙ h) (λ n o h. x n o ∙ h))
