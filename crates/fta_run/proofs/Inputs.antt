@@ -10,11 +10,11 @@ use Rattle.plain_values.specs.declared.refusal.Place.TheVariants.{Whole}
 use Rattle.plain_values.specs.declared.refusal.Refusal.{Refusal}
 use Rattle.plain_values.specs.Order.{IsClear, IsFirst, least, nearer}
 use Rattle.plain_values.proofs.OrderLaws.{nearer-none, noted-more, least-first, first_alone}
-use Rattle.plain_values.specs.Refusal.{refusal}
+use Rattle.plain_values.specs.Refusal.{refusal, of_words}
 use Rattle.phases.specs.Phases.{Passes, Stops}
 use Rattle.phases.specs.declared.status.Status.TheVariants.{Refused}
 use Rattle.fta_run.specs.Due.{texts_of}
-use Rattle.fta_run.specs.Files.{HasTooLong, HasTooMuch, MayContain, NamesTooMany, most_bytes, most_files, most_text, of_words, too_long, too_long_from}
+use Rattle.fta_run.specs.Files.{HasTooLong, HasTooMuch, MayContain, NamesTooMany, most_bytes, most_files, most_text, too_long, too_long_from}
 use Rattle.fta_run.specs.Steps.{AreFronts}
 
 -- ---- noting the files that are too long, one after the other

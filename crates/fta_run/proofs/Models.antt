@@ -28,7 +28,7 @@ use Rattle.phases.proofs.Steps.{computed, meets_later}
 use Rattle.model_phases.specs.Phases.{flat_model}
 use Rattle.model_phases.specs.declared.flat.FlatModel.{FlatModel}
 use Rattle.fta_run.specs.Due.{model_of_units}
-use Rattle.fta_run.specs.Files.{of_words}
+use Rattle.plain_values.specs.Refusal.{of_words}
 use Rattle.fta_run.specs.Model.{HasDuplicate, HasName, IsFactNamed, LacksTarget, root_named}
 
 -- ---- the root

@@ -15,7 +15,8 @@ use Rattle.package_index.specs.Lookup.{packages_of}
 use Rattle.model_phases.proofs.Decided.{IsARefusal, model_stops}
 use Rattle.backward_slice.specs.Slices.{HasLargeSlice}
 use Rattle.fta_run.specs.Words.{Check, Command, Cuts, Tree, Fmea, Report, Make, files_of, GiveCommand, GiveNoCommand, IsCommand, file_words}
-use Rattle.fta_run.specs.Files.{HasTooLong, HasTooMuch, LacksTokens, LacksUnits, NamesTooMany, most_files, of_words}
+use Rattle.fta_run.specs.Files.{HasTooLong, HasTooMuch, LacksTokens, LacksUnits, NamesTooMany, most_files}
+use Rattle.plain_values.specs.Refusal.{of_words}
 use Rattle.fta_words.specs.declared.command.Paging.{Paging}
 use Rattle.fta_run.specs.Model.{HasDuplicate, LacksStart, LacksTarget, root_named}
 use Rattle.fta_run.specs.Due.{command_text, cuts_text, due, model_of_files, model_of_texts, texts_of, tree_text}

@@ -12,7 +12,7 @@ use Rattle.package_index.specs.Duplicates.{IsDuplicate}
 use Rattle.package_index.specs.Lookup.{look_classifier, packages_of, refused_at}
 use Rattle.package_index.specs.declared.id.ClassifierId.{ClassifierId}
 use Rattle.fta_words.specs.Words.{Says}
-use Rattle.fta_run.specs.Files.{of_words}
+use Rattle.plain_values.specs.Refusal.{of_words}
 
 -- N1: a package of a name, or a classifier of a name in a package, is declared again.
 abbrev pub HasDuplicate : List (List FileUnit) → Refusal → Type 0

@@ -9,7 +9,8 @@ ghost use Rattle.aadl_parser.specs.Files.{IsUnread};
 ghost use Rattle.phases.specs.Meets.{Meets, MeetsBut};
 ghost use Rattle.phases.specs.Phases.{answers, rejects};
 ghost use Rattle.fta_run.specs.Due.{texts_of, units_of};
-ghost use Rattle.fta_run.specs.Files.{AreTokens, AreUnits, AreUnitsOf, HasTooLong, HasTooMuch, LacksTokens, LacksUnits, most_bytes, most_files, most_text, of_words, too_long, too_long_from};
+ghost use Rattle.fta_run.specs.Files.{AreTokens, AreUnits, AreUnitsOf, HasTooLong, HasTooMuch, LacksTokens, LacksUnits, most_bytes, most_files, most_text, too_long, too_long_from};
+ghost use Rattle.plain_values.specs.Refusal.{of_words};
 ghost use Rattle.fta_run.specs.Steps.{AreFronts, IsFileEnd, IsReadEnd};
 
 use aadl_lexer::tokens;
