@@ -155,7 +155,7 @@ fn text_rest_len(text: &[u8]) -> Option<usize>
 
 /// How long the number is that begins here with a digit.
 #[tactic(auto, unfolding(crate::specs::Scan::number_len))]
-fn number_len(text: &[u8]) -> usize
+pub fn number_len(text: &[u8]) -> usize
     ensures within { result ≤ length text.now }
     ensures value { result ≡ number_len text.now }
 {
@@ -187,7 +187,7 @@ fn decimals_len(text: &[u8]) -> usize
 
 /// How long the run of digits is, or 0.
 #[tactic(auto, unfolding(crate::specs::Scan::digits_len))]
-fn digits_len(text: &[u8]) -> usize
+pub fn digits_len(text: &[u8]) -> usize
     ensures within { result ≤ length text.now }
     ensures value { result ≡ digits_len is_digit text.now }
 {

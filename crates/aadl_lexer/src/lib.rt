@@ -10,6 +10,7 @@ mod form;
 mod laws;
 mod lexer;
 
-pub use byte::{is_letter, is_letter_or_digit};
+pub use byte::{is_blank, is_digit, is_letter, is_letter_or_digit};
+pub use form::{digits_len, number_len};
 pub use laws::{one_fault, one_list};
 pub use lexer::tokens;
