@@ -1,5 +1,5 @@
 -- Minimal cut sets have events of the slice alone.
-use Rattle.std.proofs.Common.{ℕ, zero, suc, map, slice_get, Some, None, ◌≡◌, Bool, true, false, not, ◌||◌, ◌==◌, List, [], ◌∷◌, length, Contains, ⊎_elim, refl, sym, ap, ◌∙◌, subst}
+use Rattle.std.proofs.Common.{ℕ, ◌≡◌, Bool, true, false, not, ◌||◌, ◌==◌, List, [], ◌∷◌, length, Contains, ⊎_elim, refl, sym, ap, ◌∙◌, subst}
 use Rattle.std.proofs.lemmas.Bool.{false≢true}
 use Rattle.fault_system.specs.Truth.{NumberSet, Has, member, set_of, occurs, truth}
 use Rattle.fault_system.specs.Systems.{System, Holds, applied, IsFact}

@@ -1,5 +1,5 @@
 -- Sweeps over some facts, and what as many rounds as there are facts reach.
-use Rattle.std.proofs.Common.{ℕ, zero, suc, ◌+◌, ◌≡◌, ◌<◌, ◌≤◌, Bool, true, false, ◌||◌, List, [], ◌∷◌, map, length, slice_index_or, Contains, Some, ⊎_elim, ap, ◌∙◌, sym, subst, refl, arith, below_more, add-one}
+use Rattle.std.proofs.Common.{ℕ, zero, suc, ◌+◌, ◌≡◌, ◌<◌, ◌≤◌, Bool, true, false, ◌||◌, List, length, slice_index_or, Contains, Some, ⊎_elim, ap, ◌∙◌, sym, subst, refl, arith, below_more, add-one}
 use Rattle.std.proofs.lemmas.Bool.{false≢true}
 use Rattle.std.proofs.lemmas.List.{get_or-map}
 use Rattle.std.proofs.lemmas.Option.{slice_get_cases, get_or_from_slice_get}

@@ -1,14 +1,14 @@
 //! Laws of the definitions alone: the contract of each function is the law, and its body is empty.
 
-ghost use Rattle.std.specs.Prelude.{◌≡◌, ◌↔◌, ℕ, List};
+ghost use Rattle.std.specs.Prelude.{◌≡◌, ◌↔◌, ℕ, List, map};
 ghost use Rattle.fault_system.specs.Truth.{NumberSet};
-ghost use Rattle.fault_system.specs.Systems.{System, IsSystem, Holds};
+ghost use Rattle.fault_system.specs.Systems.{System, IsSystem, Holds, NamesDiffer};
 ghost use Rattle.property_reader.specs.declared.rate.Rate.{Rate};
 ghost use Rattle.round_gates.specs.declared.tree.Tree.{Tree};
-ghost use Rattle.round_gates.specs.Targets.{IsTreeFor};
+ghost use Rattle.round_gates.specs.Targets.{IsTreeFor, IsWellMade};
 ghost use Rattle.galileo_writer.specs.Galileo.{Galileo, IsTextOf};
 ghost use Rattle.galileo_writer.specs.Truth.{TextTrue};
-ghost use Rattle.galileo_writer.specs.TreeText.{AreRates, HasTextNames, names_of, tree_galileo, tree_text};
+ghost use Rattle.galileo_writer.specs.TreeText.{AreRates, HasTextNames, gate_name, names_of, tree_galileo, tree_text};
 
 /// Bytes are one text at most.
 pub fn one_text()
@@ -21,4 +21,10 @@ pub fn text_truth()
     ensures { (system : System) (target : ℕ) (tree : Tree) (rates : List Rate) (events : NumberSet)
         → IsSystem system → HasTextNames system → AreRates system rates → IsTreeFor system target tree
         → TextTrue (tree_text system tree rates) (names_of system events) ↔ Holds system events target }
+{}
+
+/// The gates of a well-made tree have different names.
+pub fn gates_differ()
+    ensures { (system : System) (tree : Tree) → IsSystem system → HasTextNames system → IsWellMade system tree
+        → NamesDiffer (map (gate_name system) tree.gates) }
 {}

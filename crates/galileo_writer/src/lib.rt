@@ -5,5 +5,6 @@ mod laws;
 mod lines;
 mod writing;
 
-pub use laws::{one_text, text_truth};
+pub use laws::{gates_differ, one_text, text_truth};
+pub use lines::gate_name;
 pub use writing::write;

@@ -1,15 +1,16 @@
 //! The lines of gates and of events, one at a time.
 
-ghost use Rattle.std.specs.Prelude.{◌≡◌, ◌++◌, OnOk, decimal, map, option_copied, slice_get};
+ghost use Rattle.std.specs.Prelude.{◌≡◌, ◌++◌, IfOk, OnOk, decimal, map, option_copied, slice_get};
 ghost use Rattle.galileo_writer.specs.Galileo.{inputs_text, kind_text, line_text, rate_word, top_text};
 ghost use Rattle.fault_system.specs.Systems.{event_name};
 ghost use Rattle.galileo_writer.specs.TreeText.{event_line, gate_line, gate_name, input_name, name_at, rate_of};
 
 use fault_system::FaultSystem;
 use itoa::Buffer;
-use plain_values::Mem;
+use plain_values::{List, Mem, Name};
 use property_reader::{Rate, RateKind};
 use round_gates::{Gate, GateKind, Input, Tree};
+use std::alloc::Global;
 
 fn push_number(line: &mut Vec<u8>, number: u64) -> Mem<()>
     ensures { OnOk result (line.new.items ≡ line.old.items ++ decimal number) }
@@ -17,6 +18,15 @@ fn push_number(line: &mut Vec<u8>, number: u64) -> Mem<()>
     let mut buffer = Buffer::new();
     line.extend_from_slice(buffer.format(number).as_bytes())?;
     Ok(())
+}
+
+/// The name of a gate: its fact, `@`, its stage, `.` and its place.
+pub fn gate_name(alloc: Global, system: &FaultSystem, gate: &Gate) -> Mem<Name>
+    ensures { IfOk result (λ name. name ≡ gate_name system.now gate.now) }
+{
+    let mut name = Vec::new(alloc);
+    push_gate_name(&mut name, system, gate)?;
+    Ok(List::of(name)?)
 }
 
 /// Adds the name of a gate.

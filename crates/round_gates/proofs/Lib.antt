@@ -23,3 +23,4 @@ pub mod TreeTruth
 pub mod OneNumbering
 pub mod OneTree
 pub mod Examples
+pub mod GateFormulas

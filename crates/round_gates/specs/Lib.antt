@@ -8,3 +8,4 @@ pub mod Reached
 pub mod Trees
 pub mod Staged
 pub mod Targets
+pub mod Formulas

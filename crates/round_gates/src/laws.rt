@@ -1,15 +1,18 @@
 //! Laws of the definitions alone: the contract of each function is the law, and its body is empty.
 
-ghost use Rattle.std.specs.Prelude.{◌≡◌, ◌<◌, ◌↔◌, ℕ, Bool};
+ghost use Rattle.std.specs.Prelude.{◌≡◌, ◌<◌, ◌↔◌, ℕ, Bool, true};
+ghost use Rattle.std.specs.List.{AllByRecursion, list_any};
 ghost use Rattle.plain_values.specs.declared.refusal.Refusal.{Refusal};
-ghost use Rattle.fault_system.specs.Truth.{NumberSet, member};
+ghost use Rattle.fault_system.specs.Truth.{NumberSet, in_range, member, occurs, occurs_event, truth};
 ghost use Rattle.fault_system.specs.Systems.{System, IsSystem, Holds, holds_of};
 ghost use Rattle.dependency_blocks.specs.Blocks.{BlockNumbers, number_of, size_of};
+ghost use Rattle.round_gates.specs.declared.tree.Gate.{Gate};
 ghost use Rattle.round_gates.specs.declared.tree.Tree.{Tree};
+ghost use Rattle.round_gates.specs.Formulas.{gate_formula};
 ghost use Rattle.round_gates.specs.Stages.{in_block, stage_truth};
 ghost use Rattle.round_gates.specs.Staged.{IsConstant};
-ghost use Rattle.round_gates.specs.Targets.{HasLargeTree, IsConstantly, IsTreeFor, IsWellMade};
-ghost use Rattle.round_gates.specs.Trees.{TreeHolds};
+ghost use Rattle.round_gates.specs.Targets.{HasLargeTree, IsConstantly, IsTreeFor, IsWellMade, IsWithin};
+ghost use Rattle.round_gates.specs.Trees.{TreeHolds, gate_true, has_gate, is_event};
 
 /// The last stage of a fact is true exactly where the fact holds: of a block of facts, however they feed each other, as
 /// many stages are enough as there are facts in the block.
@@ -41,4 +44,14 @@ pub fn tree_truth()
 pub fn one_tree()
     ensures one { (system : System) (target : ℕ) (a b : Tree) → IsSystem system → IsTreeFor system target a → IsTreeFor system target b → a ≡ b }
     ensures none { (system : System) (target : ℕ) (tree : Tree) (refusal : Refusal) → IsSystem system → IsTreeFor system target tree → HasLargeTree system target refusal → ⊥ }
+{}
+
+/// The formula of a gate says what the gate says: it is true where the gate is, the gates and the events that are inputs
+/// occur in it, and it is in range where the inputs are.
+pub fn gate_formulas()
+    ensures truth { (events facts : NumberSet) (gate : Gate) → truth events facts (gate_formula gate) ≡ gate_true events facts gate }
+    ensures gates { (n : ℕ) (gate : Gate) → occurs n (gate_formula gate) ≡ has_gate gate.inputs n }
+    ensures events { (n : ℕ) (gate : Gate) → occurs_event n (gate_formula gate) ≡ list_any (is_event n) gate.inputs }
+    ensures range { (gates events : ℕ) (gate : Gate) → AllByRecursion (IsWithin events gates) gate.inputs
+        → in_range gates events (gate_formula gate) ≡ true }
 {}

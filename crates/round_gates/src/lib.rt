@@ -4,6 +4,7 @@
 
 mod building;
 mod constants;
+mod formulas;
 mod joining;
 mod laws;
 mod limits;
@@ -14,7 +15,8 @@ mod tree;
 mod unrolling;
 mod walking;
 
-pub use laws::{constant_targets, last_stage, made_well, one_tree, tree_truth};
+pub use formulas::{gate_formula, input_formula, kind_formula};
+pub use laws::{constant_targets, gate_formulas, last_stage, made_well, one_tree, tree_truth};
 pub use node::GateKind;
 pub use staging::staged;
 pub use tree::{Gate, GateAnswer, Input, Tree};

@@ -1,4 +1,4 @@
-use Rattle.std.proofs.Common.{◌≡◌, ◌∙◌, refl, rules}
+use Rattle.std.proofs.Common.{◌≡◌, ◌∙◌, rules}
 use Rattle.std.specs.Prelude.{codes}
 use Rattle.cutset_lister.proofs.Scans.{none-one, scan-found, scan-none, scan-one}
 use Rattle.cutset_lister.proofs.tokens.read_token.Goals as goal
