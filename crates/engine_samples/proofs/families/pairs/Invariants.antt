@@ -1,6 +1,6 @@
 use Rattle.std.proofs.Common.{◌≤◌}
 use Rattle.zdd_store.specs.Store.{IsIn}
-use Rattle.diagram_counts.proofs.families.pairs.Given as goal
+use Rattle.engine_samples.proofs.families.pairs.Given as goal
 
 abbrev pub invariant-loop-at : goal.invariant-loop-at
 invariant-loop-at l = record {
