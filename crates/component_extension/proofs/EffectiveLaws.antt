@@ -8,9 +8,9 @@ use Rattle.plain_values.proofs.OrderLaws.{least-first}
 use Rattle.package_index.specs.declared.id.ClassifierId.{ClassifierId}
 use Rattle.plain_values.specs.Stops.{StopsAtFirst}
 use Rattle.component_extension.specs.Chain.{Answers, chain_of}
-use Rattle.component_extension.specs.Items.{classifier_faults, faults_along}
+use Rattle.component_extension.specs.Items.{classifier_refusals, refusals_along}
 
-pub chain-refused : (packages : List PackageUnit) (id : ClassifierId) (stop : Stop) → Answers (chain_of packages id) (Err stop) → StopsAtFirst (Contains (classifier_faults packages id)) stop
+pub chain-refused : (packages : List PackageUnit) (id : ClassifierId) (stop : Stop) → Answers (chain_of packages id) (Err stop) → StopsAtFirst (Contains (classifier_refusals packages id)) stop
 chain-refused packages id Memory stops = tt
 chain-refused packages id (Refused refusal) stops =
-    subst (λ group. IsFirst (Contains group) refusal) (sym (ap (faults_along packages) stops)) (least-first (refusal ∷ []))
+    subst (λ group. IsFirst (Contains group) refusal) (sym (ap (refusals_along packages) stops)) (least-first (refusal ∷ []))

@@ -18,7 +18,7 @@ use Rattle.package_index.specs.declared.id.ClassifierId.{ClassifierId}
 use Rattle.plain_values.specs.Refusal.{refusal}
 use Rattle.component_extension.specs.Chain.{chain_from, chain_of}
 use Rattle.component_extension.specs.Items.{classes_of, clauses_of, gathered, machine_of, perhaps_named}
-use Rattle.component_extension.specs.Members.{Member, connections, member_faults, members_along, subcomponents}
+use Rattle.component_extension.specs.Members.{Member, connections, member_refusals, members_along, subcomponents}
 use Rattle.component_extension.specs.Rows.{named}
 
 abbrev spot : ℕ → Spot
@@ -153,19 +153,19 @@ members_of_s_j = refl
 connections_of_s_j : map (λ member. member.nearest.item.name) (members_along connections (classes_of (packages_with []) (id 4 ∷ id 2 ∷ id 1 ∷ []))) ≡ codes "c1" ∷ codes "c2" ∷ []
 connections_of_s_j = refl
 
-accepted : member_faults (classes_of (packages_with []) (id 4 ∷ id 2 ∷ id 1 ∷ [])) ≡ []
+accepted : member_refusals (classes_of (packages_with []) (id 4 ∷ id 2 ∷ id 1 ∷ [])) ≡ []
 accepted = refl
 
 -- z: refined to device v
-unknown_member : member_faults (classes_of (packages_with (subcomponent_at 50 (codes "z") true None ∷ [])) (id 4 ∷ id 2 ∷ id 1 ∷ [])) ≡ refusal UnknownMember (At 0 50) ∷ []
+unknown_member : member_refusals (classes_of (packages_with (subcomponent_at 50 (codes "z") true None ∷ [])) (id 4 ∷ id 2 ∷ id 1 ∷ [])) ≡ refusal UnknownMember (At 0 50) ∷ []
 unknown_member = refl
 
 -- a second declaration of a name, of another kind: c1 is a connection
-duplicate_name : member_faults (classes_of (packages_with (subcomponent_at 50 (codes "c1") false None ∷ [])) (id 4 ∷ id 2 ∷ id 1 ∷ [])) ≡ refusal DuplicateName (At 0 50) ∷ []
+duplicate_name : member_refusals (classes_of (packages_with (subcomponent_at 50 (codes "c1") false None ∷ [])) (id 4 ∷ id 2 ∷ id 1 ∷ [])) ≡ refusal DuplicateName (At 0 50) ∷ []
 duplicate_name = refl
 
 -- a member of the same classifier is not inherited
-refined_in_place : member_faults (classes_of (packages_with (subcomponent_at 50 (codes "z") false None ∷ subcomponent_at 60 (codes "z") true None ∷ [])) (id 4 ∷ id 2 ∷ id 1 ∷ [])) ≡ refusal UnknownMember (At 0 60) ∷ []
+refined_in_place : member_refusals (classes_of (packages_with (subcomponent_at 50 (codes "z") false None ∷ subcomponent_at 60 (codes "z") true None ∷ [])) (id 4 ∷ id 2 ∷ id 1 ∷ [])) ≡ refusal UnknownMember (At 0 60) ∷ []
 refined_in_place = refl
 
 -- ---- error model items

@@ -10,7 +10,7 @@ use Rattle.package_index.specs.declared.id.ClassifierId.{ClassifierId}
 use Rattle.package_index.specs.Lookup.{decl_of}
 use Rattle.plain_values.specs.Numbered.{numbered_from}
 use Rattle.component_extension.specs.Chain.{chain_of}
-use Rattle.component_extension.specs.Members.{Class, InPackage, member_faults}
+use Rattle.component_extension.specs.Members.{Class, InPackage, member_refusals}
 use Rattle.component_extension.specs.Rows.{Key, named, put}
 
 -- ---- the classifiers and their clauses
@@ -74,10 +74,10 @@ spots_of spots clauses = flat_map (λ clause. spots clause.item) clauses
 -- ---- refusals
 
 -- the refusals of a chain, or those of its members
-abbrev pub faults_along : List PackageUnit → Result (List ClassifierId) Refusal → List Refusal
-faults_along packages (Err refusal) = refusal ∷ []
-faults_along packages (Ok chain) = member_faults (classes_of packages chain)
+abbrev pub refusals_along : List PackageUnit → Result (List ClassifierId) Refusal → List Refusal
+refusals_along packages (Err refusal) = refusal ∷ []
+refusals_along packages (Ok chain) = member_refusals (classes_of packages chain)
 
 -- The refusals of a classifier of an index: the first fault of its chain, or else all those of its members.
-abbrev pub classifier_faults : List PackageUnit → ClassifierId → List Refusal
-classifier_faults packages id = faults_along packages (chain_of packages id)
+abbrev pub classifier_refusals : List PackageUnit → ClassifierId → List Refusal
+classifier_refusals packages id = refusals_along packages (chain_of packages id)

@@ -193,8 +193,8 @@ abbrev pub members_along : {Item : Type 0} → Kind Item → List Class → List
 members_along kind classes = members_of kind (marks_of kind (declarations kind classes)) (declarations kind classes)
 
 -- N5 and the limits of the members of a kind
-abbrev pub faults_of : {Item : Type 0} → Kind Item → (Member Item → List Refusal) → List Class → List Refusal
-faults_of kind limits classes =
+abbrev pub refusals_of : {Item : Type 0} → Kind Item → (Member Item → List Refusal) → List Class → List Refusal
+refusals_of kind limits classes =
     unknown_members kind (marks_of kind (declarations kind classes)) (declarations kind classes) ++ flat_map limits (members_along kind classes)
 
 -- the names of a kind that a chain declares without `refined to`
@@ -206,7 +206,7 @@ abbrev pub all_marks : List Class → List Mark
 all_marks classes = (marks_along features classes ++ marks_along subcomponents classes) ++ marks_along connections classes
 
 -- The refusals of the members of a chain, farthest classifier first, are one group: N5, N6, P1 of bindings, P2 and P3.
-abbrev pub member_faults : List Class → List Refusal
-member_faults classes =
-    faults_of features feature_limits classes
-    ++ (faults_of subcomponents subcomponent_limits classes ++ (faults_of connections connection_limits classes ++ duplicates (all_marks classes) (all_marks classes)))
+abbrev pub member_refusals : List Class → List Refusal
+member_refusals classes =
+    refusals_of features feature_limits classes
+    ++ (refusals_of subcomponents subcomponent_limits classes ++ (refusals_of connections connection_limits classes ++ duplicates (all_marks classes) (all_marks classes)))

@@ -2,8 +2,8 @@ ghost use Rattle.std.specs.Prelude.{◌≡◌, ◌++◌, [], Contains, IfOk, IfE
 ghost use Rattle.plain_values.specs.Order.{least, nearer};
 ghost use Rattle.plain_values.specs.Stops.{StopsAtFirst};
 ghost use Rattle.component_extension.specs.Effective.{AreMembers, IsEffective};
-ghost use Rattle.component_extension.specs.Items.{classifier_faults};
-ghost use Rattle.component_extension.specs.Members.{faults_of, marks_along, member_faults, members_along};
+ghost use Rattle.component_extension.specs.Items.{classifier_refusals};
+ghost use Rattle.component_extension.specs.Members.{refusals_of, marks_along, member_refusals, members_along};
 
 use crate::chain::chain_of;
 use crate::classifier::{Classifier, classifiers_of};
@@ -52,8 +52,8 @@ impl<'a> Effective<'a> {
     /// place, as `effective_members` has them.
     pub fn of(alloc: Global, index: &Index<'a>, id: ClassifierId) -> Answer<Effective<'a>>
         ensures effective { IfOk result (IsEffective index.now id) }
-        ensures accepted { OnOk result (classifier_faults index.now id ≡ []) }
-        ensures refused { IfErr result (StopsAtFirst (Contains (classifier_faults index.now id))) }
+        ensures accepted { OnOk result (classifier_refusals index.now id ≡ []) }
+        ensures refused { IfErr result (StopsAtFirst (Contains (classifier_refusals index.now id))) }
     {
         let chain = chain_of(alloc, index, id)?;
         let classifiers = classifiers_of(alloc, index, chain.items())?;
@@ -82,8 +82,8 @@ impl<'a> Effective<'a> {
 /// bindings of an effective subcomponent, P2 at an effective array, P3 at an effective feature group or its connection.
 pub fn effective_members<'a>(alloc: Global, classifiers: &[Classifier<'a>]) -> Answer<Members<'a>>
     ensures members { IfOk result (AreMembers classifiers.now) }
-    ensures accepted { OnOk result (member_faults classifiers.now ≡ []) }
-    ensures refused { IfErr result (StopsAtFirst (Contains (member_faults classifiers.now))) }
+    ensures accepted { OnOk result (member_refusals classifiers.now ≡ []) }
+    ensures refused { IfErr result (StopsAtFirst (Contains (member_refusals classifiers.now))) }
 {
     let mut first = FirstRefusal::new();
     let mut marks = Vec::new(alloc);
@@ -109,7 +109,7 @@ fn members_along<'a, M: Limited>(
 ) -> Mem<List<Inherited<'a, M>>>
     ensures members { IfOk result (λ members. members ≡ members_along M.kind classifiers.now) }
     ensures marks { OnOk result (marks.new.items ≡ marks.old.items ++ marks_along M.kind classifiers.now) }
-    ensures first { OnOk result (first.new ≡ nearer first.old (least (faults_of M.kind M.limits classifiers.now))) }
+    ensures first { OnOk result (first.new ≡ nearer first.old (least (refusals_of M.kind M.limits classifiers.now))) }
 {
     let all = declarations::<M>(alloc, classifiers)?;
     let mut own = Vec::new(alloc);

@@ -7,12 +7,12 @@ use Rattle.plain_values.specs.declared.refusal.Refusal.{Refusal}
 use Rattle.plain_values.specs.Refusal.{refused_so}
 use Rattle.package_index.specs.Names.{front, last}
 use Rattle.error_types.specs.Libraries.{Table}
-use Rattle.propagation_points.specs.Settings.{Setting, faults_in}
+use Rattle.propagation_points.specs.Settings.{Setting, refusals_in}
 use Rattle.propagation_points.specs.States.{number_named}
 use Rattle.propagation_points.specs.Uses.{atom_use}
 use Rattle.error_conditions.specs.declared.cause.Cause.{Cause}
 use Rattle.error_conditions.specs.declared.cause.Cause.TheVariants.{Any, State}
-use Rattle.error_conditions.specs.Conditions.{no_error_faults, point_meaning, typed_faults}
+use Rattle.error_conditions.specs.Conditions.{no_error_refusals, point_meaning, typed_refusals}
 
 -- The states of the component to which names of subcomponents lead, if they lead to one.
 abbrev pub StatesAt : Type 0
@@ -49,13 +49,13 @@ abbrev pub state_named : StatesAt → Atom → Cause
 state_named states_at atom = state_cause (front atom.names) (state_at states_at atom.names)
 
 -- N13 where there is no such component below, N11 where it has no such state, both at the first name
-abbrev pub unknown_faults : List (List ℕ) → Spot → Option (List (List ℕ)) → List Refusal
-unknown_faults names spot None = refused_so true UnknownSubcomponent spot
-unknown_faults names spot (Some states) = refused_so (is_none (state_in names (Some states))) UnknownState spot
+abbrev pub unknown_refusals : List (List ℕ) → Spot → Option (List (List ℕ)) → List Refusal
+unknown_refusals names spot None = refused_so true UnknownSubcomponent spot
+unknown_refusals names spot (Some states) = refused_so (is_none (state_in names (Some states))) UnknownState spot
 
 -- the refusals of a named part that names a state of a component below
-abbrev pub state_named_faults : StatesAt → Atom → List Refusal
-state_named_faults states_at atom = unknown_faults atom.names atom.spot (below_at states_at (front atom.names)) ++ typed_faults atom
+abbrev pub state_named_refusals : StatesAt → Atom → List Refusal
+state_named_refusals states_at atom = unknown_refusals atom.names atom.spot (below_at states_at (front atom.names)) ++ typed_refusals atom
 
 -- ---- named parts
 
@@ -65,6 +65,6 @@ composite_meaning states_at setting table atom = cond atom.inward (point_meaning
 
 -- The refusals of a named part of a composite state: P6 at a `noerror` of its set; of a point N9 and N10; of a state N13, N11
 -- and P10.
-abbrev pub composite_faults : StatesAt → Setting → Table → Atom → List Refusal
-composite_faults states_at setting table atom =
-    no_error_faults atom.set ++ cond atom.inward (faults_in table setting (atom_use atom)) (state_named_faults states_at atom)
+abbrev pub composite_refusals : StatesAt → Setting → Table → Atom → List Refusal
+composite_refusals states_at setting table atom =
+    no_error_refusals atom.set ++ cond atom.inward (refusals_in table setting (atom_use atom)) (state_named_refusals states_at atom)

@@ -11,12 +11,12 @@ use Rattle.error_types.specs.declared.scope.Scope.{Scope}
 use Rattle.error_types.specs.Libraries.{Table}
 use Rattle.propagation_points.specs.Points.{Point, scopes_of}
 use Rattle.propagation_points.specs.Settings.{Setting, clause_setting}
-use Rattle.propagation_points.specs.States.{number_named, state_faults}
+use Rattle.propagation_points.specs.States.{number_named, state_refusals}
 use Rattle.error_conditions.specs.declared.cause.Cause.{Cause}
-use Rattle.error_conditions.specs.Conditions.{cause_of, condition_faults}
+use Rattle.error_conditions.specs.Conditions.{cause_of, condition_refusals}
 use Rattle.error_behavior.specs.declared.states.States.{States}
 use Rattle.composite_states.specs.declared.meaning.ClauseMeaning.{ClauseMeaning}
-use Rattle.composite_states.specs.Below.{StatesAt, composite_faults, composite_meaning}
+use Rattle.composite_states.specs.Below.{StatesAt, composite_refusals, composite_meaning}
 
 -- ---- meaning
 
@@ -41,9 +41,9 @@ clauses_of states_at table points states effective =
 -- ---- refusals
 
 -- the refusals of a condition, if there is one
-abbrev pub perhaps_faults : StatesAt → Setting → Table → Option Condition → List Refusal
-perhaps_faults states_at setting table None = []
-perhaps_faults states_at setting table (Some condition) = condition_faults (composite_faults states_at setting table) condition
+abbrev pub perhaps_refusals : StatesAt → Setting → Table → Option Condition → List Refusal
+perhaps_refusals states_at setting table None = []
+perhaps_refusals states_at setting table (Some condition) = condition_refusals (composite_refusals states_at setting table) condition
 
 -- whether this is a state that is not initial
 abbrev pub is_not_initial : List Bool → Option ℕ → Bool
@@ -51,22 +51,22 @@ is_not_initial initial None = false
 is_not_initial initial (Some number) = not (slice_index_or initial number true)
 
 -- P7 at a clause of `others` to a state that is not initial
-abbrev pub others_faults : States → Composite → List Refusal
-others_faults states composite =
+abbrev pub others_refusals : States → Composite → List Refusal
+others_refusals states composite =
     refused_so (is_none composite.condition && is_not_initial states.initial (number_named states.names composite.target.name)) Others composite.spot
 
 -- The refusals of a clause: those of its condition, N11 and P10 of its target, and P7.
-abbrev pub clause_faults : StatesAt → Setting → Table → List Bool → Composite → List Refusal
-clause_faults states_at setting table initial composite =
-    perhaps_faults states_at setting table composite.condition
-    ++ (state_faults setting.states composite.target ++ others_faults (record { names = setting.states; initial = initial }) composite)
+abbrev pub clause_refusals : StatesAt → Setting → Table → List Bool → Composite → List Refusal
+clause_refusals states_at setting table initial composite =
+    perhaps_refusals states_at setting table composite.condition
+    ++ (state_refusals setting.states composite.target ++ others_refusals (record { names = setting.states; initial = initial }) composite)
 
 -- the refusals of clauses
-abbrev pub faults_in : StatesAt → Table → List Point → States → List Scope → List (Scoped Composite) → List Refusal
-faults_in states_at table points states scopes composites =
-    flat_map (λ scoped. clause_faults states_at (clause_setting points states.names scopes scoped.scope) table states.initial scoped.item) composites
+abbrev pub refusals_in : StatesAt → Table → List Point → States → List Scope → List (Scoped Composite) → List Refusal
+refusals_in states_at table points states scopes composites =
+    flat_map (λ scoped. clause_refusals states_at (clause_setting points states.names scopes scoped.scope) table states.initial scoped.item) composites
 
 -- The refusals of the composite clauses of a component, one group.
-abbrev pub composite_clause_faults : StatesAt → Table → List Point → States → Effective → List Refusal
-composite_clause_faults states_at table points states effective =
-    faults_in states_at table points states (scopes_of table.packages effective.clauses) effective.behavior.composites
+abbrev pub composite_clause_refusals : StatesAt → Table → List Point → States → Effective → List Refusal
+composite_clause_refusals states_at table points states effective =
+    refusals_in states_at table points states (scopes_of table.packages effective.clauses) effective.behavior.composites

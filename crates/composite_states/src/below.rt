@@ -3,7 +3,7 @@ ghost use Rattle.plain_values.specs.Order.{least, nearer};
 ghost use Rattle.package_index.specs.Names.{front};
 ghost use Rattle.plain_values.specs.declared.refusal.Code.TheVariants.{UnknownState};
 ghost use Rattle.plain_values.specs.Refusal.{refused_so};
-ghost use Rattle.composite_states.specs.Below.{below_at, state_at, state_cause, state_in, state_named, state_named_faults, unknown_faults};
+ghost use Rattle.composite_states.specs.Below.{below_at, state_at, state_cause, state_in, state_named, state_named_refusals, unknown_refusals};
 
 use aadl_syntax::{Atom, Identifier};
 use error_conditions::{Atoms, Cause, StateBelow, note_no_errors, note_typed, point_meaning};
@@ -46,11 +46,11 @@ impl<'s, 'a, B> Model for CompositePlace<'s, 'a, B> {
 }
 
 impl<'s, 'a, B: StatesBelow<'a>> Atoms for CompositePlace<'s, 'a, B> {
-    ghost use Rattle.composite_states.specs.Below.{composite_faults, composite_meaning};
+    ghost use Rattle.composite_states.specs.Below.{composite_refusals, composite_meaning};
 
     ghost meaning = { λ place. composite_meaning (B.states_at place.below) place.setting };
 
-    ghost faults = { λ place. composite_faults (B.states_at place.below) place.setting };
+    ghost faults = { λ place. composite_refusals (B.states_at place.below) place.setting };
 
     #[tactic(auto, using(plain_values::proofs::Noting::noted_more))]
     fn meaning<'t>(
@@ -77,7 +77,7 @@ fn state_named<'a, B: StatesBelow<'a>>(
     first: &mut FirstRefusal,
 ) -> Mem<Cause>
     ensures meaning { IfOk result (λ cause. cause ≡ state_named (B.states_at below.now) atom.now) }
-    ensures first { OnOk result (first.new ≡ nearer first.old (least (state_named_faults (B.states_at below.now) atom.now))) }
+    ensures first { OnOk result (first.new ≡ nearer first.old (least (state_named_refusals (B.states_at below.now) atom.now))) }
 {
     let names = atom.names.items();
     let state = known_state(below, names, atom.spot, first);
@@ -93,7 +93,7 @@ fn known_state<'a, B: StatesBelow<'a>>(
     first: &mut FirstRefusal,
 ) -> Option<u32>
     ensures state { result ≡ state_at (B.states_at below.now) names.now }
-    ensures first { first.new ≡ nearer first.old (least (unknown_faults names.now spot (below_at (B.states_at below.now) (front names.now)))) }
+    ensures first { first.new ≡ nearer first.old (least (unknown_refusals names.now spot (below_at (B.states_at below.now) (front names.now)))) }
 {
     match below_at(below, path_of(names)) {
         Some(states) => state_in(states, names, spot, first),

@@ -1,6 +1,6 @@
 ghost use Rattle.std.specs.Prelude.{◌≡◌, ◌&&◌, ◌++◌, IfOk, OnOk, is_none, option_map, option_to_list};
 ghost use Rattle.plain_values.specs.Order.{least, nearer};
-ghost use Rattle.composite_states.specs.Composites.{clause_faults, clause_of, clauses_in, clauses_of, composite_clause_faults, condition_of, faults_in, is_not_initial, perhaps_faults};
+ghost use Rattle.composite_states.specs.Composites.{clause_refusals, clause_of, clauses_in, clauses_of, composite_clause_refusals, condition_of, refusals_in, is_not_initial, perhaps_refusals};
 
 use crate::below::{CompositePlace, StatesBelow};
 use crate::meaning::ClauseMeaning;
@@ -29,7 +29,7 @@ pub fn clauses_of<'a, B: StatesBelow<'a>>(
 ) -> Mem<List<ClauseMeaning>>
     ensures kept { types.new ≡ types.old }
     ensures clauses { IfOk result (λ clauses. clauses ≡ clauses_of (B.states_at below.now) types.old points.now states.now effective.now) }
-    ensures first { OnOk result (first.new ≡ nearer first.old (least (composite_clause_faults (B.states_at below.now) types.old points.now states.now effective.now))) }
+    ensures first { OnOk result (first.new ≡ nearer first.old (least (composite_clause_refusals (B.states_at below.now) types.old points.now states.now effective.now))) }
 {
     let scopes = scopes_of(alloc, types, effective.clauses.items())?;
     let composites = effective.behavior.composites.items();
@@ -57,7 +57,7 @@ fn clauses_in<'s, 'a, B: StatesBelow<'a>>(
 ) -> Mem<List<ClauseMeaning>>
     ensures kept { types.new ≡ types.old }
     ensures clauses { IfOk result (λ clauses. clauses ≡ clauses_in (B.states_at below.now) types.old points.now states.now.names scopes.now composites.now) }
-    ensures first { OnOk result (first.new ≡ nearer first.old (least (faults_in (B.states_at below.now) types.old points.now states.now scopes.now composites.now))) }
+    ensures first { OnOk result (first.new ≡ nearer first.old (least (refusals_in (B.states_at below.now) types.old points.now states.now scopes.now composites.now))) }
 {
     let mut clauses = List::new(alloc);
     for composite in composites {
@@ -90,7 +90,7 @@ fn add_clause<'a, B: StatesBelow<'a>>(
 ) -> Mem<()>
     ensures kept { types.new ≡ types.old }
     ensures clauses { OnOk result (clauses.new ≡ clauses.old ++ clause_of (B.states_at place.now.below) place.now.setting types.old composite.now) }
-    ensures first { OnOk result (first.new ≡ nearer first.old (least (clause_faults (B.states_at place.now.below) place.now.setting types.old initial.now composite.now))) }
+    ensures first { OnOk result (first.new ≡ nearer first.old (least (clause_refusals (B.states_at place.now.below) place.now.setting types.old initial.now composite.now))) }
 {
     let condition = condition_of(alloc, types, place, &composite.condition, first)?;
     let target = place.setting.refer(&composite.target, first);
@@ -134,7 +134,7 @@ fn condition_of<'a, B: StatesBelow<'a>>(
 ) -> Mem<Option<Cause>>
     ensures kept { types.new ≡ types.old }
     ensures condition { IfOk result (λ found. found ≡ condition_of (B.states_at place.now.below) place.now.setting types.old condition.now) }
-    ensures first { OnOk result (first.new ≡ nearer first.old (least (perhaps_faults (B.states_at place.now.below) place.now.setting types.old condition.now))) }
+    ensures first { OnOk result (first.new ≡ nearer first.old (least (perhaps_refusals (B.states_at place.now.below) place.now.setting types.old condition.now))) }
 {
     match condition {
         Some(condition) => Ok(Some(cause_of(alloc, place, types, condition, first)?)),

@@ -17,8 +17,8 @@ use Rattle.error_behavior.specs.declared.behavior.Texts.{Texts}
 use Rattle.error_behavior.specs.declared.steps.Emission.{Emission}
 use Rattle.error_behavior.specs.declared.steps.Step.{Step}
 use Rattle.error_behavior.specs.Machines.{Machine}
-use Rattle.error_behavior.specs.States.{event_faults, events_of, state_decl_faults, states_of}
-use Rattle.error_behavior.specs.Steps.{emission_of, outgoing_faults, step_of, transition_faults}
+use Rattle.error_behavior.specs.States.{event_refusals, events_of, state_decl_refusals, states_of}
+use Rattle.error_behavior.specs.Steps.{emission_of, outgoing_refusals, step_of, transition_refusals}
 use Rattle.error_behavior.specs.Triggers.{TriggerPlace, Vocabulary, place_in}
 
 -- ---- texts
@@ -74,38 +74,38 @@ behavior_of table points machine effective = behavior_with table (vocabulary_of 
 
 -- the refusals of a declared machine but for its transitions: P12 where it extends another, P11 where it uses transformations,
 -- and those of its events and states
-abbrev pub decl_faults : MachineDecl → List Refusal
-decl_faults decl =
-    refused_there MachineExtends decl.extends ++ (refused_there Mapping decl.transforms ++ (flat_map event_faults decl.events ++ flat_map state_decl_faults decl.states))
+abbrev pub decl_refusals : MachineDecl → List Refusal
+decl_refusals decl =
+    refused_there MachineExtends decl.extends ++ (refused_there Mapping decl.transforms ++ (flat_map event_refusals decl.events ++ flat_map state_decl_refusals decl.states))
 
 -- the refusals of a machine, if there is one: those of its declaration and of its transitions
-abbrev pub machine_faults : Table → Vocabulary → Texts → Option Machine → List Refusal
-machine_faults table words texts None = []
-machine_faults table words texts (Some machine) = decl_faults machine.item ++ flat_map (transition_faults (machine_place words texts) table) machine.item.transitions
+abbrev pub machine_refusals : Table → Vocabulary → Texts → Option Machine → List Refusal
+machine_refusals table words texts None = []
+machine_refusals table words texts (Some machine) = decl_refusals machine.item ++ flat_map (transition_refusals (machine_place words texts) table) machine.item.transitions
 
 -- the refusals of events of clauses
-abbrev pub clause_event_faults : List (Scoped EventDecl) → List Refusal
-clause_event_faults events = flat_map (λ scoped. event_faults scoped.item) events
+abbrev pub clause_event_refusals : List (Scoped EventDecl) → List Refusal
+clause_event_refusals events = flat_map (λ scoped. event_refusals scoped.item) events
 
 -- the refusals of transitions of clauses
-abbrev pub clause_transition_faults : Table → Vocabulary → Texts → List (Scoped Transition) → List Refusal
-clause_transition_faults table words texts transitions = flat_map (λ scoped. transition_faults (clause_place words texts scoped.scope) table scoped.item) transitions
+abbrev pub clause_transition_refusals : Table → Vocabulary → Texts → List (Scoped Transition) → List Refusal
+clause_transition_refusals table words texts transitions = flat_map (λ scoped. transition_refusals (clause_place words texts scoped.scope) table scoped.item) transitions
 
 -- the refusals of outgoing conditions of clauses
-abbrev pub clause_outgoing_faults : Table → Vocabulary → Texts → List (Scoped Outgoing) → List Refusal
-clause_outgoing_faults table words texts outgoing = flat_map (λ scoped. outgoing_faults (clause_place words texts scoped.scope) table scoped.item) outgoing
+abbrev pub clause_outgoing_refusals : Table → Vocabulary → Texts → List (Scoped Outgoing) → List Refusal
+clause_outgoing_refusals table words texts outgoing = flat_map (λ scoped. outgoing_refusals (clause_place words texts scoped.scope) table scoped.item) outgoing
 
 -- the refusals with these words and texts, but for those of outgoing conditions
-abbrev pub step_faults : Table → Vocabulary → Texts → Option Machine → Effective → List Refusal
-step_faults table words texts machine effective =
-    machine_faults table words texts machine ++ (clause_event_faults effective.behavior.events ++ clause_transition_faults table words texts effective.behavior.transitions)
+abbrev pub step_refusals : Table → Vocabulary → Texts → Option Machine → Effective → List Refusal
+step_refusals table words texts machine effective =
+    machine_refusals table words texts machine ++ (clause_event_refusals effective.behavior.events ++ clause_transition_refusals table words texts effective.behavior.transitions)
 
 -- the refusals with these words and texts
-abbrev pub faults_with : Table → Vocabulary → Texts → Option Machine → Effective → List Refusal
-faults_with table words texts machine effective =
-    step_faults table words texts machine effective ++ clause_outgoing_faults table words texts effective.behavior.outgoing
+abbrev pub refusals_with : Table → Vocabulary → Texts → Option Machine → Effective → List Refusal
+refusals_with table words texts machine effective =
+    step_refusals table words texts machine effective ++ clause_outgoing_refusals table words texts effective.behavior.outgoing
 
 -- The refusals of the error behavior of a component, one group: those of its machine, and of the events, transitions and
 -- outgoing conditions of its clauses.
-abbrev pub behavior_faults : Table → List Point → Option Machine → Effective → List Refusal
-behavior_faults table points machine effective = faults_with table (vocabulary_of points machine effective) (texts_of table machine effective) machine effective
+abbrev pub behavior_refusals : Table → List Point → Option Machine → Effective → List Refusal
+behavior_refusals table points machine effective = refusals_with table (vocabulary_of points machine effective) (texts_of table machine effective) machine effective

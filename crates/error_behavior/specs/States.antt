@@ -37,8 +37,8 @@ states_of None = no_states
 states_of (Some machine) = states_in machine.item.states
 
 -- P10 at the set of types of a state
-abbrev pub state_decl_faults : StateDecl → List Refusal
-state_decl_faults state = refused_there Typed (option_map (λ set. set.spot) state.set)
+abbrev pub state_decl_refusals : StateDecl → List Refusal
+state_decl_refusals state = refused_there Typed (option_map (λ set. set.spot) state.set)
 
 -- ---- events
 
@@ -63,5 +63,5 @@ is_recovery Recover = true
 is_recovery Repair = true
 
 -- the refusals of an event: P8 where it is a recover or a repair event, and P10 at its set of types
-abbrev pub event_faults : EventDecl → List Refusal
-event_faults event = refused_so (is_recovery event.kind) Recovery event.spot ++ refused_there Typed (option_map (λ set. set.spot) event.set)
+abbrev pub event_refusals : EventDecl → List Refusal
+event_refusals event = refused_so (is_recovery event.kind) Recovery event.spot ++ refused_there Typed (option_map (λ set. set.spot) event.set)

@@ -6,12 +6,12 @@ use Rattle.package_index.specs.Names.{only}
 use Rattle.error_types.specs.declared.scope.Scope.{Scope}
 use Rattle.error_types.specs.Libraries.{Table}
 use Rattle.propagation_points.specs.Points.{Point}
-use Rattle.propagation_points.specs.Settings.{Setting, faults_in}
+use Rattle.propagation_points.specs.Settings.{Setting, refusals_in}
 use Rattle.propagation_points.specs.States.{number_named}
 use Rattle.propagation_points.specs.Uses.{atom_use}
 use Rattle.error_conditions.specs.declared.cause.Cause.{Cause}
 use Rattle.error_conditions.specs.declared.cause.Cause.TheVariants.{Event}
-use Rattle.error_conditions.specs.Conditions.{no_error_faults, point_meaning, typed_faults}
+use Rattle.error_conditions.specs.Conditions.{no_error_refusals, point_meaning, typed_refusals}
 
 -- Where a trigger stands: the points and the states of the component, the text in which it is read, and the component's events.
 pub record TriggerPlace : Type 0 where
@@ -42,11 +42,11 @@ abbrev pub trigger_meaning : TriggerPlace → Table → Atom → Cause
 trigger_meaning place table atom = event_or_point table place.setting atom (event_named place.events atom)
 
 -- the refusals of a named part that names this event, or else a point
-abbrev pub event_or_point_faults : Table → Setting → Atom → Option ℕ → List Refusal
-event_or_point_faults table setting atom (Some event) = typed_faults atom
-event_or_point_faults table setting atom None = faults_in table setting (atom_use atom)
+abbrev pub event_or_point_refusals : Table → Setting → Atom → Option ℕ → List Refusal
+event_or_point_refusals table setting atom (Some event) = typed_refusals atom
+event_or_point_refusals table setting atom None = refusals_in table setting (atom_use atom)
 
 -- The refusals of a named part of a trigger: P6 at a `noerror` of its set; P10 at the set of an event; of a point N9 after `in`,
 -- else N12, and N10.
-abbrev pub trigger_faults : TriggerPlace → Table → Atom → List Refusal
-trigger_faults place table atom = no_error_faults atom.set ++ event_or_point_faults table place.setting atom (event_named place.events atom)
+abbrev pub trigger_refusals : TriggerPlace → Table → Atom → List Refusal
+trigger_refusals place table atom = no_error_refusals atom.set ++ event_or_point_refusals table place.setting atom (event_named place.events atom)

@@ -1,9 +1,9 @@
 ghost use Rattle.std.specs.Prelude.{◌≡◌, ◌++◌, IfOk, OnOk, flat_map, option_copied, option_map, slice_get};
 ghost use Rattle.plain_values.specs.Order.{least, nearer};
 ghost use Rattle.error_types.specs.Types.{text_scope};
-ghost use Rattle.error_behavior.specs.Behavior.{behavior_faults, behavior_of, behavior_with, clause_emissions, clause_outgoing_faults, clause_steps, clause_transition_faults, decl_faults, faults_with, machine_faults, machine_steps, step_faults, texts_of};
+ghost use Rattle.error_behavior.specs.Behavior.{behavior_refusals, behavior_of, behavior_with, clause_emissions, clause_outgoing_refusals, clause_steps, clause_transition_refusals, decl_refusals, refusals_with, machine_refusals, machine_steps, step_refusals, texts_of};
 ghost use Rattle.error_behavior.specs.States.{states_of};
-ghost use Rattle.error_behavior.specs.Steps.{step_of, transition_faults};
+ghost use Rattle.error_behavior.specs.Steps.{step_of, transition_refusals};
 
 use crate::events::{events_of, note_clause_events, note_events};
 use crate::machines::UsedMachine;
@@ -52,7 +52,7 @@ pub fn behavior_of<'a>(
     requires { states.now ≡ (states_of machine.now).names }
     ensures kept { types.new ≡ types.old }
     ensures behavior { IfOk result (λ behavior. behavior ≡ behavior_of types.old points.now machine.now effective.now) }
-    ensures first { OnOk result (first.new ≡ nearer first.old (least (behavior_faults types.old points.now machine.now effective.now))) }
+    ensures first { OnOk result (first.new ≡ nearer first.old (least (behavior_refusals types.old points.now machine.now effective.now))) }
 {
     let events = events_of(alloc, machine, effective)?;
     let texts = texts_of(alloc, types, machine, effective)?;
@@ -113,7 +113,7 @@ fn meanings<'s, 'a>(
     ensures kept { types.new ≡ types.old }
     ensures steps { IfOk result (λ made. made.0 ≡ (behavior_with types.old (record { points = points.now; states = states.now; events = events.now }) texts.now machine.now effective.now).steps) }
     ensures emissions { IfOk result (λ made. made.1 ≡ (behavior_with types.old (record { points = points.now; states = states.now; events = events.now }) texts.now machine.now effective.now).emissions) }
-    ensures first { OnOk result (first.new ≡ nearer first.old (least (faults_with types.old (record { points = points.now; states = states.now; events = events.now }) texts.now machine.now effective.now))) }
+    ensures first { OnOk result (first.new ≡ nearer first.old (least (refusals_with types.old (record { points = points.now; states = states.now; events = events.now }) texts.now machine.now effective.now))) }
 {
     let words = Vocabulary::new(points, states, events);
     let steps = steps_of(alloc, types, &words, texts, machine, effective, first)?;
@@ -135,7 +135,7 @@ fn steps_of<'s, 'a>(
 ) -> Mem<List<Step>>
     ensures kept { types.new ≡ types.old }
     ensures steps { IfOk result (λ steps. steps ≡ machine_steps types.old words.now texts.now machine.now ++ clause_steps types.old words.now texts.now effective.now.behavior.transitions) }
-    ensures first { OnOk result (first.new ≡ nearer first.old (least (step_faults types.old words.now texts.now machine.now effective.now))) }
+    ensures first { OnOk result (first.new ≡ nearer first.old (least (step_refusals types.old words.now texts.now machine.now effective.now))) }
 {
     let mut steps = machine_steps(alloc, types, words, texts, machine, first)?;
     note_clause_events(first, effective.behavior.events.items());
@@ -156,7 +156,7 @@ fn machine_steps<'s, 'a>(
 ) -> Mem<List<Step>>
     ensures kept { types.new ≡ types.old }
     ensures steps { IfOk result (λ steps. steps ≡ machine_steps types.old words.now texts.now machine.now) }
-    ensures first { OnOk result (first.new ≡ nearer first.old (least (machine_faults types.old words.now texts.now machine.now))) }
+    ensures first { OnOk result (first.new ≡ nearer first.old (least (machine_refusals types.old words.now texts.now machine.now))) }
 {
     match machine {
         Some(machine) => {
@@ -192,7 +192,7 @@ fn clause_scope(texts: &Texts, number: usize) -> Option<&Scope>
 /// Notes the refusals of a declared machine, but for its transitions.
 #[tactic(auto, using(plain_values::proofs::Noting::noted_more))]
 fn note_machine(first: &mut FirstRefusal, decl: &MachineDecl)
-    ensures { first.new ≡ nearer first.old (least (decl_faults decl.now)) }
+    ensures { first.new ≡ nearer first.old (least (decl_refusals decl.now)) }
 {
     first.note_at(Code::MachineExtends, decl.extends);
     first.note_at(Code::Mapping, decl.transforms);
@@ -210,7 +210,7 @@ fn steps_at<'a>(
 ) -> Mem<List<Step>>
     ensures kept { types.new ≡ types.old }
     ensures steps { IfOk result (λ steps. steps ≡ flat_map (step_of place.now types.old) transitions.now) }
-    ensures first { OnOk result (first.new ≡ nearer first.old (least (flat_map (transition_faults place.now types.old) transitions.now))) }
+    ensures first { OnOk result (first.new ≡ nearer first.old (least (flat_map (transition_refusals place.now types.old) transitions.now))) }
 {
     let mut steps = List::new(alloc);
     for transition in transitions {
@@ -231,7 +231,7 @@ fn add_clause_steps<'s, 'a>(
 ) -> Mem<()>
     ensures kept { types.new ≡ types.old }
     ensures steps { OnOk result (steps.new ≡ steps.old ++ clause_steps types.old words.now texts.now transitions.now) }
-    ensures first { OnOk result (first.new ≡ nearer first.old (least (clause_transition_faults types.old words.now texts.now transitions.now))) }
+    ensures first { OnOk result (first.new ≡ nearer first.old (least (clause_transition_refusals types.old words.now texts.now transitions.now))) }
 {
     for transition in transitions {
         let place = words.place(clause_scope(texts, transition.scope()));
@@ -251,7 +251,7 @@ fn emissions_of<'s, 'a>(
 ) -> Mem<List<Emission>>
     ensures kept { types.new ≡ types.old }
     ensures emissions { IfOk result (λ emissions. emissions ≡ clause_emissions types.old words.now texts.now outgoing.now) }
-    ensures first { OnOk result (first.new ≡ nearer first.old (least (clause_outgoing_faults types.old words.now texts.now outgoing.now))) }
+    ensures first { OnOk result (first.new ≡ nearer first.old (least (clause_outgoing_refusals types.old words.now texts.now outgoing.now))) }
 {
     let mut emissions = List::new(alloc);
     for condition in outgoing {

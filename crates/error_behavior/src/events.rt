@@ -1,8 +1,8 @@
 ghost use Rattle.std.specs.Prelude.{◌≡◌, [], IfOk, flat_map, fold, map};
 ghost use Rattle.plain_values.specs.Order.{least, nearer};
 ghost use Rattle.propagation_points.specs.States.{keep_name};
-ghost use Rattle.error_behavior.specs.Behavior.{clause_event_faults};
-ghost use Rattle.error_behavior.specs.States.{event_faults, events_of, is_recovery, machine_events};
+ghost use Rattle.error_behavior.specs.Behavior.{clause_event_refusals};
+ghost use Rattle.error_behavior.specs.States.{event_refusals, events_of, is_recovery, machine_events};
 
 use crate::machines::UsedMachine;
 use aadl_syntax::{EventDecl, EventKind};
@@ -54,7 +54,7 @@ fn with_clauses<'a>(before: NameTable<'a>, events: &[InClause<'a, EventDecl>]) -
 
 /// Notes the refusals of events that a machine declares: P8 and P10.
 pub(crate) fn note_events(first: &mut FirstRefusal, decls: &[EventDecl])
-    ensures { first.new ≡ nearer first.old (least (flat_map event_faults decls.now)) }
+    ensures { first.new ≡ nearer first.old (least (flat_map event_refusals decls.now)) }
 {
     for decl in decls {
         note_event(first, decl);
@@ -63,7 +63,7 @@ pub(crate) fn note_events(first: &mut FirstRefusal, decls: &[EventDecl])
 
 /// Notes the refusals of events that clauses declare.
 pub(crate) fn note_clause_events(first: &mut FirstRefusal, events: &[InClause<'_, EventDecl>])
-    ensures { first.new ≡ nearer first.old (least (clause_event_faults events.now)) }
+    ensures { first.new ≡ nearer first.old (least (clause_event_refusals events.now)) }
 {
     for event in events {
         note_event(first, event.item());
@@ -72,7 +72,7 @@ pub(crate) fn note_clause_events(first: &mut FirstRefusal, events: &[InClause<'_
 
 #[tactic(auto, using(plain_values::proofs::Noting::noted_more))]
 fn note_event(first: &mut FirstRefusal, decl: &EventDecl)
-    ensures { first.new ≡ nearer first.old (least (event_faults decl.now)) }
+    ensures { first.new ≡ nearer first.old (least (event_refusals decl.now)) }
 {
     first.note_if(is_recovery(decl.kind), Code::Recovery, decl.spot);
     first.note_at(Code::Typed, spot_of(&decl.set));

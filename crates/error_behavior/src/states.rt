@@ -1,6 +1,6 @@
 ghost use Rattle.std.specs.Prelude.{◌≡◌, IfOk, flat_map};
 ghost use Rattle.plain_values.specs.Order.{least, nearer};
-ghost use Rattle.error_behavior.specs.States.{keep_state, no_states, state_decl_faults, states_in, states_of};
+ghost use Rattle.error_behavior.specs.States.{keep_state, no_states, state_decl_refusals, states_in, states_of};
 
 use crate::machines::UsedMachine;
 use aadl_syntax::StateDecl;
@@ -59,7 +59,7 @@ fn with_state<'a>(states: States<'a>, decl: &'a StateDecl) -> Mem<States<'a>>
 
 /// Notes P10 at the set of each state that has one.
 pub(crate) fn note_states(first: &mut FirstRefusal, decls: &[StateDecl])
-    ensures { first.new ≡ nearer first.old (least (flat_map state_decl_faults decls.now)) }
+    ensures { first.new ≡ nearer first.old (least (flat_map state_decl_refusals decls.now)) }
 {
     for decl in decls {
         first.note_at(Code::Typed, spot_of(&decl.set));

@@ -1,8 +1,8 @@
 ghost use Rattle.std.specs.Prelude.{◌≡◌, ◌++◌, IfOk, OnOk, flat_map, option_and_then, option_map, option_to_list};
 ghost use Rattle.plain_values.specs.Order.{least, nearer};
-ghost use Rattle.propagation_points.specs.States.{state_faults};
+ghost use Rattle.propagation_points.specs.States.{state_refusals};
 ghost use Rattle.error_conditions.specs.Conditions.{cause_of};
-ghost use Rattle.error_behavior.specs.Steps.{emission_of, origin_faults, origin_of, outgoing_faults, perhaps_faults, step_of, targets_of, transition_faults, trigger_of};
+ghost use Rattle.error_behavior.specs.Steps.{emission_of, origin_refusals, origin_of, outgoing_refusals, perhaps_refusals, step_of, targets_of, transition_refusals, trigger_of};
 
 use crate::steps::{Emission, Origin, Step};
 use crate::triggers::TriggerPlace;
@@ -20,7 +20,7 @@ fn origin_of(
     first: &mut FirstRefusal,
 ) -> Option<Origin>
     ensures origin { result ≡ origin_of setting.now.states state.now }
-    ensures first { first.new ≡ nearer first.old (least (origin_faults setting.now.states state.now)) }
+    ensures first { first.new ≡ nearer first.old (least (origin_refusals setting.now.states state.now)) }
 {
     match state {
         Some(state) => {
@@ -39,7 +39,7 @@ fn targets_of(
     first: &mut FirstRefusal,
 ) -> Mem<List<u32>>
     ensures targets { IfOk result (λ numbers. numbers ≡ targets_of setting.now.states targets.now) }
-    ensures first { OnOk result (first.new ≡ nearer first.old (least (flat_map (state_faults setting.now.states) targets.now))) }
+    ensures first { OnOk result (first.new ≡ nearer first.old (least (flat_map (state_refusals setting.now.states) targets.now))) }
 {
     let mut numbers = List::new(alloc);
     for target in targets {
@@ -68,7 +68,7 @@ pub(crate) fn add_step<'a>(
 ) -> Mem<()>
     ensures kept { types.new ≡ types.old }
     ensures steps { OnOk result (steps.new ≡ steps.old ++ step_of place.now types.old transition.now) }
-    ensures first { OnOk result (first.new ≡ nearer first.old (least (transition_faults place.now types.old transition.now))) }
+    ensures first { OnOk result (first.new ≡ nearer first.old (least (transition_refusals place.now types.old transition.now))) }
 {
     if let Some(step) = step_of(alloc, types, place, transition, first)? {
         steps.push(step)?;
@@ -86,7 +86,7 @@ fn step_of<'a>(
 ) -> Mem<Option<Step>>
     ensures kept { types.new ≡ types.old }
     ensures step { IfOk result (λ step. option_to_list step ≡ step_of place.now types.old transition.now) }
-    ensures first { OnOk result (first.new ≡ nearer first.old (least (transition_faults place.now types.old transition.now))) }
+    ensures first { OnOk result (first.new ≡ nearer first.old (least (transition_refusals place.now types.old transition.now))) }
 {
     let origin = origin_of(&place.setting, &transition.source.state, first);
     let trigger = cause_of(alloc, place, types, &transition.condition, first)?;
@@ -117,7 +117,7 @@ fn trigger_of<'a>(
 ) -> Mem<Option<Cause>>
     ensures kept { types.new ≡ types.old }
     ensures trigger { IfOk result (λ trigger. trigger ≡ trigger_of place.now types.old condition.now) }
-    ensures first { OnOk result (first.new ≡ nearer first.old (least (perhaps_faults place.now types.old condition.now))) }
+    ensures first { OnOk result (first.new ≡ nearer first.old (least (perhaps_refusals place.now types.old condition.now))) }
 {
     match condition {
         Some(condition) => Ok(Some(cause_of(alloc, place, types, condition, first)?)),
@@ -136,7 +136,7 @@ pub(crate) fn add_emission<'a>(
 ) -> Mem<()>
     ensures kept { types.new ≡ types.old }
     ensures emissions { OnOk result (emissions.new ≡ emissions.old ++ emission_of place.now types.old outgoing.now) }
-    ensures first { OnOk result (first.new ≡ nearer first.old (least (outgoing_faults place.now types.old outgoing.now))) }
+    ensures first { OnOk result (first.new ≡ nearer first.old (least (outgoing_refusals place.now types.old outgoing.now))) }
 {
     if let Some(emission) = emission_of(alloc, types, place, outgoing, first)? {
         emissions.push(emission)?;
@@ -154,7 +154,7 @@ fn emission_of<'a>(
 ) -> Mem<Option<Emission>>
     ensures kept { types.new ≡ types.old }
     ensures emission { IfOk result (λ emission. option_to_list emission ≡ emission_of place.now types.old outgoing.now) }
-    ensures first { OnOk result (first.new ≡ nearer first.old (least (outgoing_faults place.now types.old outgoing.now))) }
+    ensures first { OnOk result (first.new ≡ nearer first.old (least (outgoing_refusals place.now types.old outgoing.now))) }
 {
     let origin = origin_of(&place.setting, &outgoing.source.state, first);
     let trigger = trigger_of(alloc, types, place, &outgoing.condition, first)?;

@@ -1,6 +1,6 @@
 ghost use Rattle.std.specs.Prelude.{◌≡◌, IfOk, OnOk, option_copied};
 ghost use Rattle.plain_values.specs.Order.{least, nearer};
-ghost use Rattle.error_behavior.specs.Triggers.{event_named, event_or_point, event_or_point_faults, trigger_faults, trigger_meaning};
+ghost use Rattle.error_behavior.specs.Triggers.{event_named, event_or_point, event_or_point_refusals, trigger_refusals, trigger_meaning};
 
 use aadl_syntax::Atom;
 use error_conditions::{Atoms, Cause, note_no_errors, note_typed, point_meaning};
@@ -94,7 +94,7 @@ impl<'s, 'a> TriggerPlace<'s, 'a> {
 impl<'s, 'a> Atoms for TriggerPlace<'s, 'a> {
     ghost meaning = { trigger_meaning };
 
-    ghost faults = { trigger_faults };
+    ghost faults = { trigger_refusals };
 
     #[tactic(auto, using(plain_values::proofs::Noting::noted_more))]
     fn meaning<'t>(
@@ -120,7 +120,7 @@ fn event_or_point<'a>(
 ) -> Mem<Cause>
     ensures kept { types.new ≡ types.old }
     ensures meaning { IfOk result (λ cause. cause ≡ event_or_point types.old setting.now atom.now event) }
-    ensures first { OnOk result (first.new ≡ nearer first.old (least (event_or_point_faults types.old setting.now atom.now event))) }
+    ensures first { OnOk result (first.new ≡ nearer first.old (least (event_or_point_refusals types.old setting.now atom.now event))) }
 {
     match event {
         Some(event) => {

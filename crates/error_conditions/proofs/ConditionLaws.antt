@@ -10,22 +10,22 @@ use Rattle.plain_values.specs.declared.spot.Spot.{Spot}
 use Rattle.plain_values.specs.declared.refusal.Code.TheVariants.{OrLess}
 use Rattle.plain_values.specs.declared.refusal.Refusal.{Refusal}
 use Rattle.plain_values.specs.Refusal.{place_of, refusal}
-use Rattle.error_conditions.specs.Conditions.{condition_faults, faults_step}
+use Rattle.error_conditions.specs.Conditions.{condition_refusals, refusals_step}
 
 module _ (faults : Atom → List Refusal) where
-  pub faults-All : (parts : List Condition) → condition_faults faults (All parts) ≡ flat_map (condition_faults faults) parts
-  faults-All parts = ap (condition_faults faults) (sym (rolls-All parts)) ∙ fold-roll-Condition (List Refusal) (faults_step faults) (open_one.All parts) ∙ flat_map-map (λ part. part) (condition_faults faults) parts
+  pub faults-All : (parts : List Condition) → condition_refusals faults (All parts) ≡ flat_map (condition_refusals faults) parts
+  faults-All parts = ap (condition_refusals faults) (sym (rolls-All parts)) ∙ fold-roll-Condition (List Refusal) (refusals_step faults) (open_one.All parts) ∙ flat_map-map (λ part. part) (condition_refusals faults) parts
 
-  pub faults-Any : (parts : List Condition) → condition_faults faults (Any parts) ≡ flat_map (condition_faults faults) parts
-  faults-Any parts = ap (condition_faults faults) (sym (rolls-Any parts)) ∙ fold-roll-Condition (List Refusal) (faults_step faults) (open_one.Any parts) ∙ flat_map-map (λ part. part) (condition_faults faults) parts
+  pub faults-Any : (parts : List Condition) → condition_refusals faults (Any parts) ≡ flat_map (condition_refusals faults) parts
+  faults-Any parts = ap (condition_refusals faults) (sym (rolls-Any parts)) ∙ fold-roll-Condition (List Refusal) (refusals_step faults) (open_one.Any parts) ∙ flat_map-map (λ part. part) (condition_refusals faults) parts
 
-  pub faults-AtLeast : (least : ℕ) (parts : List Condition) → condition_faults faults (AtLeast least parts) ≡ flat_map (condition_faults faults) parts
-  faults-AtLeast least parts = ap (condition_faults faults) (sym (rolls-AtLeast least parts)) ∙ fold-roll-Condition (List Refusal) (faults_step faults) (open_one.AtLeast least parts) ∙ flat_map-map (λ part. part) (condition_faults faults) parts
+  pub faults-AtLeast : (least : ℕ) (parts : List Condition) → condition_refusals faults (AtLeast least parts) ≡ flat_map (condition_refusals faults) parts
+  faults-AtLeast least parts = ap (condition_refusals faults) (sym (rolls-AtLeast least parts)) ∙ fold-roll-Condition (List Refusal) (refusals_step faults) (open_one.AtLeast least parts) ∙ flat_map-map (λ part. part) (condition_refusals faults) parts
 
-  pub faults-AtMost : (most : ℕ) (parts : List Condition) (spot : Spot) → condition_faults faults (AtMost most parts spot) ≡ refusal OrLess (place_of spot) ∷ flat_map (condition_faults faults) parts
+  pub faults-AtMost : (most : ℕ) (parts : List Condition) (spot : Spot) → condition_refusals faults (AtMost most parts spot) ≡ refusal OrLess (place_of spot) ∷ flat_map (condition_refusals faults) parts
   faults-AtMost most parts spot =
-      ap (condition_faults faults) (sym (rolls-AtMost most parts spot)) ∙ fold-roll-Condition (List Refusal) (faults_step faults) (open_one.AtMost most parts spot)
-      ∙ ap (λ rest. refusal OrLess (place_of spot) ∷ rest) (flat_map-map (λ part. part) (condition_faults faults) parts)
+      ap (condition_refusals faults) (sym (rolls-AtMost most parts spot)) ∙ fold-roll-Condition (List Refusal) (refusals_step faults) (open_one.AtMost most parts spot)
+      ∙ ap (λ rest. refusal OrLess (place_of spot) ∷ rest) (flat_map-map (λ part. part) (condition_refusals faults) parts)
 
 -- what the items give, with one item more
 pub map-more : {A B : Type 0} (f : A → B) (xs : List A) (i : ℕ) (x : A) (y : B) (before after : List B) → i < length xs → x ≡ get_or xs i x

@@ -33,16 +33,16 @@ abbrev pub cause_of : (Atom → Cause) → Condition → Cause
 cause_of meaning = fold-Condition Cause (cause_step meaning)
 
 -- one condition, with the refusals of its parts in their places: P5 at the number of an `orless`
-abbrev pub faults_step : (Atom → List Refusal) → Condition-F (List Refusal) → List Refusal
-faults_step faults (condition.Atom atom) = faults atom
-faults_step faults (condition.All parts) = flat_map (λ part. part) parts
-faults_step faults (condition.Any parts) = flat_map (λ part. part) parts
-faults_step faults (condition.AtLeast least parts) = flat_map (λ part. part) parts
-faults_step faults (condition.AtMost most parts spot) = refusal OrLess (place_of spot) ∷ flat_map (λ part. part) parts
+abbrev pub refusals_step : (Atom → List Refusal) → Condition-F (List Refusal) → List Refusal
+refusals_step faults (condition.Atom atom) = faults atom
+refusals_step faults (condition.All parts) = flat_map (λ part. part) parts
+refusals_step faults (condition.Any parts) = flat_map (λ part. part) parts
+refusals_step faults (condition.AtLeast least parts) = flat_map (λ part. part) parts
+refusals_step faults (condition.AtMost most parts spot) = refusal OrLess (place_of spot) ∷ flat_map (λ part. part) parts
 
 -- the refusals of a condition, where its named parts have these
-abbrev pub condition_faults : (Atom → List Refusal) → Condition → List Refusal
-condition_faults faults = fold-Condition (List Refusal) (faults_step faults)
+abbrev pub condition_refusals : (Atom → List Refusal) → Condition → List Refusal
+condition_refusals faults = fold-Condition (List Refusal) (refusals_step faults)
 
 -- ---- named parts
 
@@ -62,10 +62,10 @@ no_error_at (One name) = []
 no_error_at (Product spot) = []
 
 -- P6 at each `noerror` of the set of a named part
-abbrev pub no_error_faults : Option TypeSet → List Refusal
-no_error_faults None = []
-no_error_faults (Some set) = flat_map no_error_at set.terms
+abbrev pub no_error_refusals : Option TypeSet → List Refusal
+no_error_refusals None = []
+no_error_refusals (Some set) = flat_map no_error_at set.terms
 
 -- P10 at the set of a named part that names an event or a state
-abbrev pub typed_faults : Atom → List Refusal
-typed_faults atom = refused_there Typed (option_map (λ set. set.spot) atom.set)
+abbrev pub typed_refusals : Atom → List Refusal
+typed_refusals atom = refused_there Typed (option_map (λ set. set.spot) atom.set)

@@ -1,8 +1,8 @@
 ghost use Rattle.std.specs.Prelude.{◌≡◌, IfOk, OnOk, flat_map};
 ghost use Rattle.plain_values.specs.Order.{least, nearer};
-ghost use Rattle.propagation_points.specs.Settings.{faults_in};
+ghost use Rattle.propagation_points.specs.Settings.{refusals_in};
 ghost use Rattle.propagation_points.specs.Uses.{atom_use};
-ghost use Rattle.error_conditions.specs.Conditions.{no_error_at, no_error_faults, point_cause, point_meaning, typed_faults};
+ghost use Rattle.error_conditions.specs.Conditions.{no_error_at, no_error_refusals, point_cause, point_meaning, typed_refusals};
 
 use crate::cause::Cause;
 use aadl_syntax::{Atom, Term, TypeSet};
@@ -21,7 +21,7 @@ pub fn point_meaning<'a>(
 ) -> Mem<Cause>
     ensures kept { types.new ≡ types.old }
     ensures meaning { IfOk result (λ cause. cause ≡ point_meaning types.old setting.now atom.now) }
-    ensures first { OnOk result (first.new ≡ nearer first.old (least (faults_in types.old setting.now (atom_use atom.now)))) }
+    ensures first { OnOk result (first.new ≡ nearer first.old (least (refusals_in types.old setting.now (atom_use atom.now)))) }
 {
     let used = PointUse::of_atom(atom);
     let reached = setting.reached(alloc, types, &used, first)?;
@@ -39,7 +39,7 @@ fn point_cause(alloc: Global, reached: Option<ReachedPoint>) -> Cause
 
 /// Notes P6 at each `noerror` of the set of a named part.
 pub fn note_no_errors(first: &mut FirstRefusal, set: &Option<TypeSet>)
-    ensures { first.new ≡ nearer first.old (least (no_error_faults set.now)) }
+    ensures { first.new ≡ nearer first.old (least (no_error_refusals set.now)) }
 {
     if let Some(set) = set {
         note_terms(first, set.terms.items());
@@ -64,7 +64,7 @@ fn note_term(first: &mut FirstRefusal, term: &Term)
 
 /// Notes P10 at the set of a named part that names an event or a state.
 pub fn note_typed(first: &mut FirstRefusal, atom: &Atom)
-    ensures { first.new ≡ nearer first.old (least (typed_faults atom.now)) }
+    ensures { first.new ≡ nearer first.old (least (typed_refusals atom.now)) }
 {
     first.note_at(Code::Typed, spot_of(&atom.set));
 }

@@ -1,6 +1,6 @@
 ghost use Rattle.std.specs.Prelude.{◌≡◌, ◌++◌, IfOk, OnOk, flat_map, map};
 ghost use Rattle.plain_values.specs.Order.{least, nearer};
-ghost use Rattle.error_conditions.specs.Conditions.{cause_of, condition_faults};
+ghost use Rattle.error_conditions.specs.Conditions.{cause_of, condition_refusals};
 
 use crate::cause::Cause;
 use aadl_syntax::{Atom, Condition};
@@ -45,7 +45,7 @@ pub fn cause_of<'a, A: Atoms>(
 ) -> Mem<Cause>
     ensures kept { types.new ≡ types.old }
     ensures cause { IfOk result (λ cause. cause ≡ cause_of (A.meaning atoms.now types.old) condition.now) }
-    ensures first { OnOk result (first.new ≡ nearer first.old (least (condition_faults (A.faults atoms.now types.old) condition.now))) }
+    ensures first { OnOk result (first.new ≡ nearer first.old (least (condition_refusals (A.faults atoms.now types.old) condition.now))) }
 {
     match condition {
         Condition::Atom(atom) => atoms.meaning(alloc, types, atom, first),
@@ -86,7 +86,7 @@ fn causes_of<'a, A: Atoms>(
 ) -> Mem<List<Cause>>
     ensures kept { types.new ≡ types.old }
     ensures causes { IfOk result (λ causes. causes ≡ map (cause_of (A.meaning atoms.now types.old)) parts.now) }
-    ensures first { OnOk result (first.new ≡ nearer first.old (least (flat_map (condition_faults (A.faults atoms.now types.old)) parts.now))) }
+    ensures first { OnOk result (first.new ≡ nearer first.old (least (flat_map (condition_refusals (A.faults atoms.now types.old)) parts.now))) }
 {
     let mut causes = List::new(alloc);
     for part in parts {

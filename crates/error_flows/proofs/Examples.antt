@@ -17,7 +17,7 @@ use Rattle.propagation_points.specs.declared.side.Reach.TheVariants.{Only, Whole
 use Rattle.propagation_points.specs.Points.{Point, points_of}
 use Rattle.propagation_points.proofs.Sample.{clause_of, device_of, effective_of, feature_of, point_at, propagation_at, set_at, spot, table}
 use Rattle.error_flows.specs.declared.meaning.FlowMeaning.TheVariants.{Event, State, Carry, Change}
-use Rattle.error_flows.specs.Flows.{all_flow_faults, flows_of}
+use Rattle.error_flows.specs.Flows.{all_flow_refusals, flows_of}
 
 abbrev flow_of : List ℕ → FlowKind → Flow
 flow_of name kind = record { name = name; spot = spot 0; kind = kind }
@@ -60,7 +60,7 @@ meanings : flows_of table points states (effective_of (device_with flows))
 unfolding searched follow type_named is_below_in
 meanings = refl
 
-accepted : all_flow_faults table points states (effective_of (device_with flows)) ≡ []
+accepted : all_flow_refusals table points states (effective_of (device_with flows)) ≡ []
 unfolding searched follow type_named is_below_in
 accepted = refl
 
@@ -72,7 +72,7 @@ wrong_sides =
     flow_of (codes "s") (Source (point_at 1 (codes "i" ∷ [])) None None) ∷ flow_of (codes "k") (Sink (point_at 2 (codes "o" ∷ [])) None)
     ∷ flow_of (codes "p") (Path (point_at 3 (codes "o" ∷ [])) None (point_at 4 (codes "i" ∷ [])) None None) ∷ flow_of (codes "d") (Sink (point_at 5 (codes "i" ∷ codes "i" ∷ [])) None) ∷ []
 
-sides : all_flow_faults table points states (effective_of (device_with wrong_sides))
+sides : all_flow_refusals table points states (effective_of (device_with wrong_sides))
     ≡ refusal UnknownPoint (place_of (spot 1)) ∷ refusal UnknownPoint (place_of (spot 2)) ∷ refusal UnknownPoint (place_of (spot 3)) ∷ refusal UnknownPoint (place_of (spot 4))
     ∷ refusal UnknownPoint (place_of (spot 5)) ∷ []
 unfolding searched follow type_named is_below_in
@@ -84,7 +84,7 @@ wrong_sets =
     flow_of (codes "k") (Sink (point_at 1 (codes "i" ∷ [])) (only 2 (codes "serviceerror")))
     ∷ flow_of (codes "p") (Path (point_at 3 (codes "i" ∷ [])) (only 4 (codes "badvalue")) (point_at 5 (codes "o" ∷ [])) (only 6 (codes "badvalue")) None) ∷ []
 
-sets : all_flow_faults table points states (effective_of (device_with wrong_sets)) ≡ refusal NotContained (place_of (spot 2)) ∷ refusal NotContained (place_of (spot 6)) ∷ []
+sets : all_flow_refusals table points states (effective_of (device_with wrong_sets)) ≡ refusal NotContained (place_of (spot 2)) ∷ refusal NotContained (place_of (spot 6)) ∷ []
 unfolding searched follow type_named is_below_in
 sets = refl
 
@@ -97,7 +97,7 @@ wrong_rest =
 abbrev with_mappings : Effective
 with_mappings = record (effective_of (device_with wrong_rest)) { others = record { associations = []; mappings = spot 7 ∷ []; connection_errors = [] } }
 
-rest : all_flow_faults table points states with_mappings
+rest : all_flow_refusals table points states with_mappings
     ≡ refusal UnknownState (place_of (spot 2)) ∷ refusal Typed (place_of (spot 3)) ∷ refusal Mapping (place_of (spot 6)) ∷ refusal Mapping (place_of (spot 7)) ∷ []
 unfolding searched follow type_named is_below_in
 rest = refl

@@ -15,8 +15,8 @@ use Rattle.propagation_points.specs.declared.side.Reach.{Reach}
 use Rattle.propagation_points.specs.declared.side.Reach.TheVariants.{Whole, Only}
 use Rattle.propagation_points.specs.declared.uses.ReachedPoint.{ReachedPoint}
 use Rattle.propagation_points.specs.Points.{Point, scopes_of}
-use Rattle.propagation_points.specs.Settings.{Setting, clause_setting, faults_in, reached_in}
-use Rattle.propagation_points.specs.States.{state_faults, number_named}
+use Rattle.propagation_points.specs.Settings.{Setting, clause_setting, refusals_in, reached_in}
+use Rattle.propagation_points.specs.States.{state_refusals, number_named}
 use Rattle.propagation_points.specs.Uses.{point_use}
 use Rattle.error_flows.specs.declared.meaning.FlowMeaning.{FlowMeaning}
 use Rattle.error_flows.specs.declared.meaning.FlowMeaning.TheVariants.{Event, State, Carry, Change}
@@ -43,17 +43,17 @@ flow_meaning table setting name (Path from from_set to to_set mapping) =
 -- ---- refusals
 
 -- N11 and P10 at the state of a source, if it names one
-abbrev pub when_faults : Setting → Option StateRef → List Refusal
-when_faults setting None = []
-when_faults setting (Some state) = state_faults setting.states state
+abbrev pub when_refusals : Setting → Option StateRef → List Refusal
+when_refusals setting None = []
+when_refusals setting (Some state) = state_refusals setting.states state
 
 -- The refusals of a flow in a setting: N9 and N10 of its points and sets, N11 and P10 of the state of a source, and P11 at the
 -- mappings that a path uses.
-abbrev pub flow_faults : Table → Setting → FlowKind → List Refusal
-flow_faults table setting (Source point set state) = faults_in table setting (point_use point true set) ++ when_faults setting state
-flow_faults table setting (Sink point set) = faults_in table setting (point_use point false set)
-flow_faults table setting (Path from from_set to to_set mapping) =
-    faults_in table setting (point_use from false from_set) ++ (faults_in table setting (point_use to true to_set) ++ refused_there Mapping mapping)
+abbrev pub flow_refusals : Table → Setting → FlowKind → List Refusal
+flow_refusals table setting (Source point set state) = refusals_in table setting (point_use point true set) ++ when_refusals setting state
+flow_refusals table setting (Sink point set) = refusals_in table setting (point_use point false set)
+flow_refusals table setting (Path from from_set to to_set mapping) =
+    refusals_in table setting (point_use from false from_set) ++ (refusals_in table setting (point_use to true to_set) ++ refused_there Mapping mapping)
 
 -- ---- the flows of a component
 
@@ -63,14 +63,14 @@ meanings table points states scopes flows =
     flat_map (λ flow. option_to_list (flow_meaning table (clause_setting points states scopes flow.scope) flow.item.name flow.item.kind)) flows
 
 -- The refusals of flows.
-abbrev pub faults_of_flows : Table → List Point → List (List ℕ) → List Scope → List (Scoped Flow) → List Refusal
-faults_of_flows table points states scopes flows = flat_map (λ flow. flow_faults table (clause_setting points states scopes flow.scope) flow.item.kind) flows
+abbrev pub refusals_of_flows : Table → List Point → List (List ℕ) → List Scope → List (Scoped Flow) → List Refusal
+refusals_of_flows table points states scopes flows = flat_map (λ flow. flow_refusals table (clause_setting points states scopes flow.scope) flow.item.kind) flows
 
 -- The flows of a component with these points and states, sinks left out.
 abbrev pub flows_of : Table → List Point → List (List ℕ) → Effective → List FlowMeaning
 flows_of table points states effective = meanings table points states (scopes_of table.packages effective.clauses) effective.propagations.flows
 
 -- The refusals of the flows of a component: those of each flow, and P11 at each use of mappings by a clause.
-abbrev pub all_flow_faults : Table → List Point → List (List ℕ) → Effective → List Refusal
-all_flow_faults table points states effective =
-    faults_of_flows table points states (scopes_of table.packages effective.clauses) effective.propagations.flows ++ flat_map (refused_so true Mapping) effective.others.mappings
+abbrev pub all_flow_refusals : Table → List Point → List (List ℕ) → Effective → List Refusal
+all_flow_refusals table points states effective =
+    refusals_of_flows table points states (scopes_of table.packages effective.clauses) effective.propagations.flows ++ flat_map (refused_so true Mapping) effective.others.mappings

@@ -2,10 +2,10 @@ ghost use Rattle.std.specs.Prelude.{◌≡◌, ◌++◌, IfOk, OnOk, true, flat_
 ghost use Rattle.plain_values.specs.Order.{least, nearer};
 ghost use Rattle.plain_values.specs.declared.refusal.Code.TheVariants.{Mapping};
 ghost use Rattle.plain_values.specs.Refusal.{refused_so, refused_there};
-ghost use Rattle.propagation_points.specs.Settings.{faults_in, reached_in};
-ghost use Rattle.propagation_points.specs.States.{state_faults, number_named};
+ghost use Rattle.propagation_points.specs.Settings.{refusals_in, reached_in};
+ghost use Rattle.propagation_points.specs.States.{state_refusals, number_named};
 ghost use Rattle.error_flows.specs.declared.meaning.FlowMeaning.TheVariants.{Event, State};
-ghost use Rattle.error_flows.specs.Flows.{all_flow_faults, faults_of_flows, flow_faults, flow_meaning, flows_of, meanings, path_meaning, source_meaning, when_faults};
+ghost use Rattle.error_flows.specs.Flows.{all_flow_refusals, refusals_of_flows, flow_refusals, flow_meaning, flows_of, meanings, path_meaning, source_meaning, when_refusals};
 
 use crate::meaning::FlowMeaning;
 use aadl_syntax::{Flow, FlowKind, Identifier, StateRef};
@@ -30,7 +30,7 @@ pub fn flows_of<'a>(
 ) -> Mem<List<FlowMeaning>>
     ensures kept { types.new ≡ types.old }
     ensures flows { IfOk result (λ flows. flows ≡ flows_of types.old points.now states.now effective.now) }
-    ensures first { OnOk result (first.new ≡ nearer first.old (least (all_flow_faults types.old points.now states.now effective.now))) }
+    ensures first { OnOk result (first.new ≡ nearer first.old (least (all_flow_refusals types.old points.now states.now effective.now))) }
 {
     let scopes = scopes_of(alloc, types, effective.clauses.items())?;
     let flows = effective.propagations.flows.items();
@@ -59,7 +59,7 @@ fn meanings<'s, 'a>(
 ) -> Mem<List<FlowMeaning>>
     ensures kept { types.new ≡ types.old }
     ensures flows { IfOk result (λ found. found ≡ meanings types.old points.now states.now scopes.now flows.now) }
-    ensures first { OnOk result (first.new ≡ nearer first.old (least (faults_of_flows types.old points.now states.now scopes.now flows.now))) }
+    ensures first { OnOk result (first.new ≡ nearer first.old (least (refusals_of_flows types.old points.now states.now scopes.now flows.now))) }
 {
     let mut found = List::new(alloc);
     for flow in flows {
@@ -80,7 +80,7 @@ fn add_meaning<'a>(
 ) -> Mem<()>
     ensures kept { types.new ≡ types.old }
     ensures found { OnOk result (found.new ≡ found.old ++ option_to_list (flow_meaning types.old setting.now flow.now.name flow.now.kind)) }
-    ensures first { OnOk result (first.new ≡ nearer first.old (least (flow_faults types.old setting.now flow.now.kind))) }
+    ensures first { OnOk result (first.new ≡ nearer first.old (least (flow_refusals types.old setting.now flow.now.kind))) }
 {
     if let Some(meaning) = meaning_of(alloc, types, setting, flow, first)? {
         found.push(meaning)?;
@@ -97,7 +97,7 @@ fn meaning_of<'a>(
 ) -> Mem<Option<FlowMeaning>>
     ensures kept { types.new ≡ types.old }
     ensures meaning { IfOk result (λ meaning. meaning ≡ flow_meaning types.old setting.now flow.now.name flow.now.kind) }
-    ensures first { OnOk result (first.new ≡ nearer first.old (least (flow_faults types.old setting.now flow.now.kind))) }
+    ensures first { OnOk result (first.new ≡ nearer first.old (least (flow_refusals types.old setting.now flow.now.kind))) }
 {
     match &flow.kind {
         FlowKind::Source(point, set, state) => {
@@ -130,7 +130,7 @@ fn source<'a>(
 ) -> Mem<Option<FlowMeaning>>
     ensures kept { types.new ≡ types.old }
     ensures meaning { IfOk result (λ meaning. meaning ≡ option_and_then (source_meaning setting.now name.now state.now) (reached_in types.old setting.now used.now)) }
-    ensures first { OnOk result (first.new ≡ nearer first.old (least (faults_in types.old setting.now used.now ++ when_faults setting.now state.now))) }
+    ensures first { OnOk result (first.new ≡ nearer first.old (least (refusals_in types.old setting.now used.now ++ when_refusals setting.now state.now))) }
 {
     let reached = setting.reached(alloc, types, used, first)?;
     match state {
@@ -160,7 +160,7 @@ fn state_source(
     first: &mut FirstRefusal,
 ) -> Option<FlowMeaning>
     ensures meaning { result ≡ option_and_then (λ reached. option_map (λ number. State number reached) (number_named setting.now.states state.now.name)) reached }
-    ensures first { first.new ≡ nearer first.old (least (state_faults setting.now.states state.now)) }
+    ensures first { first.new ≡ nearer first.old (least (state_refusals setting.now.states state.now)) }
 {
     let number = setting.refer(state, first);
     Some(FlowMeaning::State(number?, reached?))
@@ -179,7 +179,7 @@ fn path<'a>(
 ) -> Mem<Option<FlowMeaning>>
     ensures kept { types.new ≡ types.old }
     ensures meaning { IfOk result (λ meaning. meaning ≡ option_and_then (λ start. option_map (λ end. path_meaning start end.point end.types) (reached_in types.old setting.now end.now)) (reached_in types.old setting.now start.now)) }
-    ensures first { OnOk result (first.new ≡ nearer first.old (least (faults_in types.old setting.now start.now ++ (faults_in types.old setting.now end.now ++ refused_there Mapping mapping)))) }
+    ensures first { OnOk result (first.new ≡ nearer first.old (least (refusals_in types.old setting.now start.now ++ (refusals_in types.old setting.now end.now ++ refused_there Mapping mapping)))) }
 {
     let from = setting.reached(alloc, types, start, first)?;
     let to = setting.reached(alloc, types, end, first)?;

@@ -10,15 +10,15 @@ use Rattle.plain_values.specs.Refusal.{refusal}
 use Rattle.package_index.specs.declared.id.ClassifierId.{ClassifierId}
 use Rattle.component_extension.specs.declared.effective.Effective.{Effective}
 use Rattle.error_types.specs.Libraries.{Table}
-use Rattle.propagation_points.specs.Points.{point_faults, points_of}
-use Rattle.error_flows.specs.Flows.{all_flow_faults}
+use Rattle.propagation_points.specs.Points.{point_refusals, points_of}
+use Rattle.error_flows.specs.Flows.{all_flow_refusals}
 use Rattle.error_behavior.specs.declared.machines.MachineId.{MachineId}
-use Rattle.error_behavior.specs.Behavior.{behavior_faults}
+use Rattle.error_behavior.specs.Behavior.{behavior_refusals}
 use Rattle.error_behavior.specs.Machines.{Machine, find_machine}
 use Rattle.error_behavior.specs.States.{states_of}
 use Rattle.composite_states.specs.Below.{StatesAt}
-use Rattle.composite_states.specs.Composites.{composite_clause_faults}
-use Rattle.used_sets.specs.Used.{used_set_faults}
+use Rattle.composite_states.specs.Composites.{composite_clause_refusals}
+use Rattle.used_sets.specs.Used.{used_set_refusals}
 use Rattle.instantiator.specs.Effectives.{effective_of}
 use Rattle.error_models.specs.Below.{kind_machine, states_below}
 
@@ -45,22 +45,22 @@ machines_refusal packages kinds = first_of (map (machine_fault packages) kinds)
 -- ---- written sets
 
 -- the refusals of the written sets that a component of this classifier uses
-unfoldable pub set_faults : Table → ClassifierId → List Refusal
-set_faults table id = used_set_faults table (kind_machine table.packages id) (effective_of table.packages id)
+unfoldable pub set_refusals : Table → ClassifierId → List Refusal
+set_refusals table id = used_set_refusals table (kind_machine table.packages id) (effective_of table.packages id)
 
 -- The refusals of all written sets that are used, one group.
-abbrev pub all_set_faults : Table → List ClassifierId → List Refusal
-all_set_faults table kinds = flat_map (set_faults table) kinds
+abbrev pub all_set_refusals : Table → List ClassifierId → List Refusal
+all_set_refusals table kinds = flat_map (set_refusals table) kinds
 
 -- ---- error models
 
 -- The first refusal of the error model of a component, by its groups: its points, its machine, its flows and its composite states.
 abbrev pub refusal_with : Table → Effective → Option Machine → StatesAt → Option Refusal
 refusal_with table effective machine below =
-    option_or (least (point_faults table effective))
-    (option_or (least (behavior_faults table (points_of table effective) machine effective))
-    (option_or (least (all_flow_faults table (points_of table effective) (states_of machine).names effective))
-    (least (composite_clause_faults below table (points_of table effective) (states_of machine) effective))))
+    option_or (least (point_refusals table effective))
+    (option_or (least (behavior_refusals table (points_of table effective) machine effective))
+    (option_or (least (all_flow_refusals table (points_of table effective) (states_of machine).names effective))
+    (least (composite_clause_refusals below table (points_of table effective) (states_of machine) effective))))
 
 -- the same for a component of this classifier
 unfoldable pub model_refusal : Table → List ClassifierId → ClassifierId → Option Refusal

@@ -1,10 +1,10 @@
 ghost use Rattle.std.specs.Prelude.{◌≡◌, [], None, Some, IfErr, IfOk, OnOk, map};
 ghost use Rattle.plain_values.specs.Order.{least};
-ghost use Rattle.propagation_points.specs.Points.{point_faults, points_of};
-ghost use Rattle.error_flows.specs.Flows.{all_flow_faults, flows_of};
-ghost use Rattle.error_behavior.specs.Behavior.{behavior_faults, behavior_of};
+ghost use Rattle.propagation_points.specs.Points.{point_refusals, points_of};
+ghost use Rattle.error_flows.specs.Flows.{all_flow_refusals, flows_of};
+ghost use Rattle.error_behavior.specs.Behavior.{behavior_refusals, behavior_of};
 ghost use Rattle.error_behavior.specs.States.{states_of};
-ghost use Rattle.composite_states.specs.Composites.{clauses_of, composite_clause_faults};
+ghost use Rattle.composite_states.specs.Composites.{clauses_of, composite_clause_refusals};
 ghost use Rattle.plain_values.specs.Stops.{StopsAt};
 ghost use Rattle.error_models.specs.Below.{kind_machine, states_below};
 ghost use Rattle.error_models.specs.Models.{is_composite, model_of, model_with};
@@ -95,8 +95,8 @@ fn points<'a>(
 ) -> Answer<Points<'a>>
     ensures kept { types.new ≡ types.old }
     ensures points { IfOk result (λ points. points ≡ points_of types.old effective.now) }
-    ensures accepted { OnOk result (least (point_faults types.old effective.now) ≡ None) }
-    ensures refused { IfErr result (StopsAt (least (point_faults types.old effective.now))) }
+    ensures accepted { OnOk result (least (point_refusals types.old effective.now) ≡ None) }
+    ensures refused { IfErr result (StopsAt (least (point_refusals types.old effective.now))) }
 {
     let mut first = FirstRefusal::new();
     let points = points_of(alloc, effective, types, &mut first)?;
@@ -115,8 +115,8 @@ fn behavior<'a>(
     requires { states.now ≡ (states_of machine.now).names }
     ensures kept { types.new ≡ types.old }
     ensures behavior { IfOk result (λ behavior. behavior ≡ behavior_of types.old points.now machine.now effective.now) }
-    ensures accepted { OnOk result (least (behavior_faults types.old points.now machine.now effective.now) ≡ None) }
-    ensures refused { IfErr result (StopsAt (least (behavior_faults types.old points.now machine.now effective.now))) }
+    ensures accepted { OnOk result (least (behavior_refusals types.old points.now machine.now effective.now) ≡ None) }
+    ensures refused { IfErr result (StopsAt (least (behavior_refusals types.old points.now machine.now effective.now))) }
 {
     let mut first = FirstRefusal::new();
     let behavior = behavior_of(alloc, effective, machine, states, types, points, &mut first)?;
@@ -133,8 +133,8 @@ fn flows<'a>(
 ) -> Answer<List<FlowMeaning>>
     ensures kept { types.new ≡ types.old }
     ensures flows { IfOk result (λ flows. flows ≡ flows_of types.old points.now states.now effective.now) }
-    ensures accepted { OnOk result (least (all_flow_faults types.old points.now states.now effective.now) ≡ None) }
-    ensures refused { IfErr result (StopsAt (least (all_flow_faults types.old points.now states.now effective.now))) }
+    ensures accepted { OnOk result (least (all_flow_refusals types.old points.now states.now effective.now) ≡ None) }
+    ensures refused { IfErr result (StopsAt (least (all_flow_refusals types.old points.now states.now effective.now))) }
 {
     let mut first = FirstRefusal::new();
     let flows = flows_of(alloc, effective, types, points, states, &mut first)?;
@@ -152,8 +152,8 @@ fn composites<'a>(
 ) -> Answer<List<ClauseMeaning>>
     ensures kept { types.new ≡ types.old }
     ensures clauses { IfOk result (λ clauses. clauses ≡ clauses_of (states_below below.now.tree.packages below.now.tree.kinds (Some below.now.classifier)) types.old points.now states.now effective.now) }
-    ensures accepted { OnOk result (least (composite_clause_faults (states_below below.now.tree.packages below.now.tree.kinds (Some below.now.classifier)) types.old points.now states.now effective.now) ≡ None) }
-    ensures refused { IfErr result (StopsAt (least (composite_clause_faults (states_below below.now.tree.packages below.now.tree.kinds (Some below.now.classifier)) types.old points.now states.now effective.now))) }
+    ensures accepted { OnOk result (least (composite_clause_refusals (states_below below.now.tree.packages below.now.tree.kinds (Some below.now.classifier)) types.old points.now states.now effective.now) ≡ None) }
+    ensures refused { IfErr result (StopsAt (least (composite_clause_refusals (states_below below.now.tree.packages below.now.tree.kinds (Some below.now.classifier)) types.old points.now states.now effective.now))) }
 {
     let mut first = FirstRefusal::new();
     let clauses = clauses_of(alloc, effective, types, points, states, below, &mut first)?;

@@ -2,7 +2,7 @@ ghost use Rattle.std.specs.Prelude.{◌≡◌, [], Contains, IfErr, OnOk, map};
 ghost use Rattle.plain_values.specs.Order.{least, nearer};
 ghost use Rattle.plain_values.specs.Stops.{StopsAtFirst};
 ghost use Rattle.error_models.specs.Below.{kind_machine};
-ghost use Rattle.error_models.specs.Refused.{all_set_faults};
+ghost use Rattle.error_models.specs.Refused.{all_set_refusals};
 
 use error_behavior::UsedMachine;
 use error_types::TypeTable;
@@ -24,8 +24,8 @@ pub fn test_sets<'a>(
     requires machines { machines.now ≡ map (kind_machine instance.now.packages) instance.now.kinds }
     requires packages { types.old.packages ≡ instance.now.packages }
     ensures kept { types.new ≡ types.old }
-    ensures accepted { OnOk result (all_set_faults types.old instance.now.kinds ≡ []) }
-    ensures refused { IfErr result (StopsAtFirst (Contains (all_set_faults types.old instance.now.kinds))) }
+    ensures accepted { OnOk result (all_set_refusals types.old instance.now.kinds ≡ []) }
+    ensures refused { IfErr result (StopsAtFirst (Contains (all_set_refusals types.old instance.now.kinds))) }
 {
     let mut first = FirstRefusal::new();
     note_sets(alloc, instance, machines, types, &mut first)?;
@@ -43,7 +43,7 @@ fn note_sets<'a>(
     requires machines { machines.now ≡ map (kind_machine instance.now.packages) instance.now.kinds }
     requires packages { types.old.packages ≡ instance.now.packages }
     ensures kept { types.new ≡ types.old }
-    ensures first { OnOk result (first.new ≡ nearer first.old (least (all_set_faults types.old instance.now.kinds))) }
+    ensures first { OnOk result (first.new ≡ nearer first.old (least (all_set_refusals types.old instance.now.kinds))) }
 {
     for (number, kind) in instance.kinds().iter().enumerate() {
         note_used_sets(alloc, &kind.effective, &machines[number], types, first)?;

@@ -15,7 +15,7 @@ use Rattle.package_index.specs.declared.id.ClassifierId.{ClassifierId}
 use Rattle.plain_values.specs.Stops.{StopsAtFirst, StopsAt}
 use Rattle.package_index.proofs.KnowsLaws.{some-place}
 use Rattle.component_extension.specs.Chain.{is_among, same_id}
-use Rattle.component_extension.specs.Items.{classifier_faults}
+use Rattle.component_extension.specs.Items.{classifier_refusals}
 use Rattle.instantiator.specs.declared.kinds.Kind.{Kind}
 use Rattle.instantiator.specs.declared.path.Component.{Component}
 use Rattle.instantiator.specs.Tables.{AreKinds, Entered, kind_of}
@@ -74,14 +74,14 @@ module _ (packages : List PackageUnit) (kinds : List Kind) (table : ℕ × ℕ �
   pub entered-again : (self : Kinds) → so_far ≡ self → (id : ClassifierId) (number : ℕ) → kind_place self.ids id ≡ Some number → Entered self self (Ok (Some id)) (Some number)
   entered-again self view id number is = subst (λ s. Entered s s (Ok (Some id)) (Some number)) view (again-here id number (ap (λ (s : Kinds). kind_place s.ids id) view ∙ is))
 
-  module _ (kind : Kind) (is : kind ≡ kind_of packages kind.classifier) (clear : classifier_faults packages kind.classifier ≡ []) (new : kind_place own kind.classifier ≡ None) (table' : ℕ × ℕ → Option ℕ)
+  module _ (kind : Kind) (is : kind ≡ kind_of packages kind.classifier) (clear : classifier_refusals packages kind.classifier ≡ []) (new : kind_place own kind.classifier ≡ None) (table' : ℕ × ℕ → Option ℕ)
       (added : (other : ClassifierId) → table' (other.«package», other.decl) ≡ cond (same_id kind.classifier other) (Some (length kinds)) (table (other.«package», other.decl))) where
     more : map (λ kind. kind.classifier) (kinds ++ kind ∷ []) ≡ own ++ kind.classifier ∷ []
     more = map-append (λ kind. kind.classifier) kinds (kind ∷ [])
 
-    faultless : (other : ClassifierId) (a b : Bool) → is_among own other ≡ a → same_id kind.classifier other ≡ b → (a || (b || false)) ≡ true → classifier_faults packages other ≡ []
+    faultless : (other : ClassifierId) (a b : Bool) → is_among own other ≡ a → same_id kind.classifier other ≡ b → (a || (b || false)) ≡ true → classifier_refusals packages other ≡ []
     faultless other true b among same one = are.accepted other among
-    faultless other false true among same one = ap (classifier_faults packages) (sym (same-is kind.classifier other same)) ∙ clear
+    faultless other false true among same one = ap (classifier_refusals packages) (sym (same-is kind.classifier other same)) ∙ clear
     faultless other false false among same one = absurd (false≢true one)
 
     -- the kinds with one more
@@ -102,7 +102,7 @@ module _ (packages : List PackageUnit) (kinds : List Kind) (table : ℕ × ℕ �
     }
 
 -- the kind of a classifier that was not among them
-pub entered-new : (old new : Kinds) (id : ClassifierId) (number : ℕ) → kind_place old.ids id ≡ None → classifier_faults old.packages id ≡ [] → new ≡ record old { ids = old.ids ++ id ∷ [] } → number ≡ length old.ids → Entered old new (Ok (Some id)) (Some number)
+pub entered-new : (old new : Kinds) (id : ClassifierId) (number : ℕ) → kind_place old.ids id ≡ None → classifier_refusals old.packages id ≡ [] → new ≡ record old { ids = old.ids ++ id ∷ [] } → number ≡ length old.ids → Entered old new (Ok (Some id)) (Some number)
 entered-new old new id number none clear is last =
     let among : is_among old.ids id ≡ false = sym (among-place old.ids id) ∙ ap is_some none in
     record {

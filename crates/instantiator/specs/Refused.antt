@@ -7,7 +7,7 @@ use Rattle.plain_values.specs.declared.refusal.Refusal.{Refusal}
 use Rattle.plain_values.specs.Order.{least}
 use Rattle.plain_values.specs.Refusal.{over_limit}
 use Rattle.package_index.specs.declared.id.ClassifierId.{ClassifierId}
-use Rattle.component_extension.specs.Items.{classifier_faults}
+use Rattle.component_extension.specs.Items.{classifier_refusals}
 use Rattle.instantiator.specs.declared.occurrence.Occurrence.{Occurrence}
 use Rattle.instantiator.specs.Components.{occurrences_of}
 
@@ -16,7 +16,7 @@ use Rattle.instantiator.specs.Components.{occurrences_of}
 abbrev pub classifier_refusal : List PackageUnit → Result (Option ClassifierId) Refusal → Option Refusal
 classifier_refusal packages (Err refusal) = Some refusal
 classifier_refusal packages (Ok None) = None
-classifier_refusal packages (Ok (Some id)) = least (classifier_faults packages id)
+classifier_refusal packages (Ok (Some id)) = least (classifier_refusals packages id)
 
 -- M4 where 4,096 components stand before this one, and M5 where its path has more than 32 names, both at its name
 abbrev pub limit_refusal : ℕ → Occurrence → Option Refusal

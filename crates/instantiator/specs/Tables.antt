@@ -6,7 +6,7 @@ use Rattle.plain_values.specs.declared.refusal.Refusal.{Refusal}
 use Rattle.package_index.specs.declared.id.ClassifierId.{ClassifierId}
 use Rattle.package_index.specs.Tables.{same_text}
 use Rattle.component_extension.specs.Chain.{is_among}
-use Rattle.component_extension.specs.Items.{classifier_faults}
+use Rattle.component_extension.specs.Items.{classifier_refusals}
 use Rattle.instantiator.specs.declared.draft.Draft.{Draft}
 use Rattle.instantiator.specs.declared.kinds.Kind.{Kind}
 use Rattle.instantiator.specs.declared.occurrence.Occurrence.{Occurrence}
@@ -52,7 +52,7 @@ kind_of packages id = record { classifier = id; effective = effective_of package
 pub record AreKinds (packages : List PackageUnit) (kinds : List Kind) (table : ℕ × ℕ → Option ℕ) : Type 0 where
   pub effective : kinds ≡ map (kind_of packages) (map (λ kind. kind.classifier) kinds)
   pub known : KnowsKinds (map (λ kind. kind.classifier) kinds) table
-  pub accepted : (id : ClassifierId) → is_among (map (λ kind. kind.classifier) kinds) id ≡ true → classifier_faults packages id ≡ []
+  pub accepted : (id : ClassifierId) → is_among (map (λ kind. kind.classifier) kinds) id ≡ true → classifier_refusals packages id ≡ []
 
 -- The kind of a classifier that may be none, which has this number, is among the kinds now, and nothing is refused of it.
 pub record Entered (before after : Kinds) (classifier : Result (Option ClassifierId) Refusal) (kind : Option ℕ) : Type 0 where

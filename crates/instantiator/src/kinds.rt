@@ -1,5 +1,5 @@
 ghost use Rattle.std.specs.Prelude.{◌≡◌, ◌∷◌, ◌++◌, [], length, Some, None, IfOk, OnOk, MatchResult, map, option_copied, option_map, option_and_then, slice_get};
-ghost use Rattle.component_extension.specs.Items.{classifier_faults};
+ghost use Rattle.component_extension.specs.Items.{classifier_refusals};
 ghost use Rattle.instantiator.specs.Components.{parts_of};
 ghost use Rattle.instantiator.specs.Effectives.{effective_at, effective_of};
 ghost use Rattle.plain_values.specs.Stops.{StopsAt};
@@ -130,7 +130,7 @@ impl<'i, 'a> Kinds<'i, 'a> {
     fn add(&mut self, kind: Kind<'a>) -> Mem<usize>
         requires effective { kind ≡ kind_of self.old.packages kind.classifier }
         requires new { kind_place self.old.ids kind.classifier ≡ None }
-        requires accepted { classifier_faults self.old.packages kind.classifier ≡ [] }
+        requires accepted { classifier_refusals self.old.packages kind.classifier ≡ [] }
         ensures kinds { OnOk result (self.new ≡ record self.old { ids = self.old.ids ++ kind.entry.classifier ∷ [] }) }
         ensures number { IfOk result (λ number. number ≡ length self.old.ids) }
     {

@@ -10,7 +10,7 @@ use Rattle.phases.specs.declared.status.Status.TheVariants.{Refused}
 use Rattle.phases.proofs.Endings.{StopsOnly}
 use Rattle.phases.proofs.Leaves.{decided_accepts, decided_tests}
 use Rattle.error_types.specs.Libraries.{HasTooManyTypes, Table, table_of}
-use Rattle.error_models.specs.Refused.{all_set_faults, machines_refusal, models_refusal}
+use Rattle.error_models.specs.Refused.{all_set_refusals, machines_refusal, models_refusal}
 use Rattle.instantiator.specs.Refused.{instance_refusal}
 use Rattle.instantiator.specs.Whole.{Instance, instance_of}
 use Rattle.propagation_links.specs.Refused.{links_refusal}
@@ -24,7 +24,7 @@ use Rattle.model_phases.specs.Tests.{IsIt}
 module _ (Same : Status → Status → Type 0) (itself : (status : Status) → Same status status) where
   content_decided : (types : Table) (kinds : List ClassifierId) → IsDecided Same (content_tests types kinds)
   content_decided types kinds = (
-    decided_tests Same itself (Contains (all_set_faults types kinds)),
+    decided_tests Same itself (Contains (all_set_refusals types kinds)),
     λ _ right. decided_tests Same itself (IsIt (models_refusal types kinds)),
   )
 
@@ -60,7 +60,7 @@ first_is : (Stands : Refusal → Type 0) (status : Status) → IsRefusal (IsFirs
 first_is Stands status is = (is.0, is.2)
 
 content_stops : (types : Table) (kinds : List ClassifierId) → StopsOnly IsARefusal (content_tests types kinds)
-content_stops types kinds = (first_is (Contains (all_set_faults types kinds)), λ _ right. first_is (IsIt (models_refusal types kinds)))
+content_stops types kinds = (first_is (Contains (all_set_refusals types kinds)), λ _ right. first_is (IsIt (models_refusal types kinds)))
 
 kinds_stop : (instance : Instance) → StopsOnly IsARefusal (kind_tests instance)
 kinds_stop instance = (

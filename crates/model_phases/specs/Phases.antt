@@ -6,7 +6,7 @@ use Rattle.package_index.specs.declared.id.ClassifierId.{ClassifierId}
 use Rattle.error_types.specs.Libraries.{HasTooManyTypes, Table, table_of}
 use Rattle.instantiator.specs.Refused.{instance_refusal}
 use Rattle.instantiator.specs.Whole.{Instance, instance_of}
-use Rattle.error_models.specs.Refused.{all_set_faults, machines_refusal, models_refusal}
+use Rattle.error_models.specs.Refused.{all_set_refusals, machines_refusal, models_refusal}
 use Rattle.propagation_links.specs.Refused.{links_refusal}
 use Rattle.model_facts.specs.Assembly.{Assembly, assembly_of, points_in}
 use Rattle.flattener.specs.Flat.{size_refusal, system_of}
@@ -18,7 +18,7 @@ use Rattle.model_phases.specs.Tests.{IsIt}
 -- error model (N9 to N13, P3, P5 to P8, P10 to P12)
 abbrev pub content_tests : Table → List ClassifierId → Phase (Unit {0})
 content_tests types kinds = do
-  _ ← tests (Contains (all_set_faults types kinds))
+  _ ← tests (Contains (all_set_refusals types kinds))
   tests (IsIt (models_refusal types kinds))
 
 -- what is tested of the kinds of components of an instance: each uses a machine that there is (N2, N15), there are not too many

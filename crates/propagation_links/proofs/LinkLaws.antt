@@ -19,7 +19,7 @@ use Rattle.instantiator.specs.Whole.{classifier_at, effective_in}
 use Rattle.propagation_links.specs.declared.link.Link.{Link}
 use Rattle.propagation_links.specs.Ends.{Pointed}
 use Rattle.propagation_links.specs.Links.{component_links, links_in}
-use Rattle.propagation_links.specs.Refused.{component_fault, faults_in, first_fault, limit_refusal}
+use Rattle.propagation_links.specs.Refused.{component_fault, refusals_in, first_fault, limit_refusal}
 use Rattle.propagation_links.specs.Steps.{Linked}
 
 -- ---- the effective classifier of a component
@@ -63,7 +63,7 @@ module _ (pointed : Pointed) (i : ℕ) (within : i < length pointed.instance.com
   component_is = get_or_default all i (record { path = []; classifier = None }) component within
 
   abbrev faults : List Refusal
-  faults = faults_in pointed i (effective_in pointed.instance i)
+  faults = refusals_in pointed i (effective_in pointed.instance i)
 
   -- the links of one component more
   pub links-more : (before after : List Link) → before ≡ numbered_from (component_links pointed) 0 (take i all) → Linked pointed i (effective_in pointed.instance i) before after → after ≡ numbered_from (component_links pointed) 0 (take (i + 1) all)

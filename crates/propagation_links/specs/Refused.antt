@@ -35,8 +35,8 @@ means_point pointed number names =
     option_map_or (λ component. option_map_or (is_point pointed component) (last names) false) (component_below pointed.instance.components number (front names)) false
 
 -- N14 at an end of a user path that means no point
-abbrev pub path_end_faults : Pointed → ℕ → End → List Refusal
-path_end_faults pointed number end = refused_so (not (means_point pointed number end.names)) UnknownEnd end.spot
+abbrev pub path_end_refusals : Pointed → ℕ → End → List Refusal
+path_end_refusals pointed number end = refused_so (not (means_point pointed number end.names)) UnknownEnd end.spot
 
 -- whether an end of a connection means something: a point, or in an access connection a subcomponent alone
 abbrev pub means_end : Pointed → ℕ → Bool → List (List ℕ) → Bool
@@ -48,36 +48,36 @@ abbrev pub unknown_end : Pointed → ℕ → Bool → End → List Refusal
 unknown_end pointed number access end = refused_so (not (means_end pointed number access end.names)) UnknownEnd end.spot
 
 -- P3 at an end of a connection with three names or more, and else N14 unless the connection is apart from the model
-abbrev pub connection_end_faults : Pointed → ℕ → Bool → Bool → End → List Refusal
-connection_end_faults pointed number access apart end =
+abbrev pub connection_end_refusals : Pointed → ℕ → Bool → Bool → End → List Refusal
+connection_end_refusals pointed number access apart end =
     cond (nat_le 3 (length end.names)) (refused_so true FeatureGroup end.spot) (cond apart [] (unknown_end pointed number access end))
 
 -- ---- connections and paths
 
 -- the refusals of the ends of a connection, if it has any
-abbrev pub ends_faults : Pointed → ℕ → Bool → Option Ends → List Refusal
-ends_faults pointed number access None = []
-ends_faults pointed number access (Some ends) =
-    connection_end_faults pointed number access (is_apart ends) ends.from ++ connection_end_faults pointed number access (is_apart ends) ends.to
+abbrev pub ends_refusals : Pointed → ℕ → Bool → Option Ends → List Refusal
+ends_refusals pointed number access None = []
+ends_refusals pointed number access (Some ends) =
+    connection_end_refusals pointed number access (is_apart ends) ends.from ++ connection_end_refusals pointed number access (is_apart ends) ends.to
 
-abbrev pub connection_faults : Pointed → ℕ → Member Connection → List Refusal
-connection_faults pointed number member = ends_faults pointed number (is_access member.nearest.item.kind) (ends_of member)
+abbrev pub connection_refusals : Pointed → ℕ → Member Connection → List Refusal
+connection_refusals pointed number member = ends_refusals pointed number (is_access member.nearest.item.kind) (ends_of member)
 
-abbrev pub path_faults : Pointed → ℕ → Scoped UserPath → List Refusal
-path_faults pointed number scoped = path_end_faults pointed number scoped.item.from ++ path_end_faults pointed number scoped.item.to
+abbrev pub path_refusals : Pointed → ℕ → Scoped UserPath → List Refusal
+path_refusals pointed number scoped = path_end_refusals pointed number scoped.item.from ++ path_end_refusals pointed number scoped.item.to
 
 -- ---- all refusals
 
 -- The refusals of the component of a number with this effective classifier: those of the ends of its connections and paths,
 -- and P9 at each block of connection errors.
-abbrev pub faults_in : Pointed → ℕ → Effective → List Refusal
-faults_in pointed number effective =
-    flat_map (connection_faults pointed number) effective.members.connections
-    ++ (flat_map (path_faults pointed number) effective.propagations.user_paths ++ flat_map (refused_so true ConnectionError) effective.others.connection_errors)
+abbrev pub refusals_in : Pointed → ℕ → Effective → List Refusal
+refusals_in pointed number effective =
+    flat_map (connection_refusals pointed number) effective.members.connections
+    ++ (flat_map (path_refusals pointed number) effective.propagations.user_paths ++ flat_map (refused_so true ConnectionError) effective.others.connection_errors)
 
 -- the first refusal of the component of a number, if it has one
 abbrev pub component_fault : Pointed → ℕ → Component → List Refusal
-component_fault pointed number component = option_to_list (least (faults_in pointed number (effective_in pointed.instance number)))
+component_fault pointed number component = option_to_list (least (refusals_in pointed number (effective_in pointed.instance number)))
 
 -- how many connections and user paths a component has
 abbrev pub count_in : Effective → ℕ

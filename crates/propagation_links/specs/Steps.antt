@@ -5,12 +5,12 @@ use Rattle.component_extension.specs.declared.effective.Effective.{Effective}
 use Rattle.propagation_links.specs.declared.link.Link.{Link}
 use Rattle.propagation_links.specs.Ends.{Pointed}
 use Rattle.propagation_links.specs.Links.{all_links, links_in}
-use Rattle.propagation_links.specs.Refused.{faults_in, first_fault}
+use Rattle.propagation_links.specs.Refused.{refusals_in, first_fault}
 
 -- The links of a component are added, of which nothing is refused.
 pub record Linked (pointed : Pointed) (number : ℕ) (effective : Effective) (before after : List Link) : Type 0 where
   pub links : after ≡ before ++ links_in pointed number effective
-  pub accepted : least (faults_in pointed number effective) ≡ None
+  pub accepted : least (refusals_in pointed number effective) ≡ None
 
 -- These are all links, and nothing is refused.
 pub record AllLinked (pointed : Pointed) (links : List Link) : Type 0 where

@@ -1,7 +1,7 @@
 ghost use Rattle.std.specs.Prelude.{◌≡◌, ◌<◌, ◌^◌, None, Some, IfOk, IfErr, OnOk, MatchResult, map};
 ghost use Rattle.plain_values.specs.Stops.{StopsAt};
 ghost use Rattle.propagation_links.specs.Links.{links_of};
-ghost use Rattle.propagation_links.specs.Refused.{count_in, count_links, faults_in, first_fault, limit_refusal, links_refusal};
+ghost use Rattle.propagation_links.specs.Refused.{count_in, count_links, refusals_in, first_fault, limit_refusal, links_refusal};
 ghost use Rattle.propagation_links.specs.Steps.{Linked, AllLinked};
 ghost use Rattle.instantiator.specs.Whole.{effective_in};
 ghost use Rattle.plain_values.specs.Order.{least};
@@ -53,7 +53,7 @@ fn all_links(alloc: Global, pointed: &Pointed) -> Answer<List<Link>>
 
 /// Adds the links of the component of a number, unless anything is refused of it.
 fn add_component(links: &mut List<Link>, pointed: &Pointed, number: u32) -> Answer<()>
-    ensures { MatchResult result (λ _. Linked pointed.now number (effective_in pointed.now.instance number) links.old links.new) (StopsAt (least (faults_in pointed.now number (effective_in pointed.now.instance number)))) }
+    ensures { MatchResult result (λ _. Linked pointed.now number (effective_in pointed.now.instance number) links.old links.new) (StopsAt (least (refusals_in pointed.now number (effective_in pointed.now.instance number)))) }
 {
     match pointed.instance().effective(number) {
         Some(effective) => add_effective(links, pointed, number, effective),
@@ -67,7 +67,7 @@ fn add_effective<'a>(
     number: u32,
     effective: &Effective<'a>,
 ) -> Answer<()>
-    ensures { MatchResult result (λ _. Linked pointed.now number effective.now links.old links.new) (StopsAt (least (faults_in pointed.now number effective.now))) }
+    ensures { MatchResult result (λ _. Linked pointed.now number effective.now links.old links.new) (StopsAt (least (refusals_in pointed.now number effective.now))) }
 {
     let mut first = FirstRefusal::new();
     note_faults(&mut first, pointed, number, effective);

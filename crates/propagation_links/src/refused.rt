@@ -3,7 +3,7 @@ ghost use Rattle.plain_values.specs.Order.{least, nearer};
 ghost use Rattle.plain_values.specs.declared.refusal.Code.TheVariants.{ConnectionError};
 ghost use Rattle.plain_values.specs.Refusal.{refused_so};
 ghost use Rattle.propagation_links.specs.Links.{is_apart};
-ghost use Rattle.propagation_links.specs.Refused.{connection_end_faults, connection_faults, faults_in, is_point, means_end, means_point, path_end_faults, path_faults, unknown_end};
+ghost use Rattle.propagation_links.specs.Refused.{connection_end_refusals, connection_refusals, refusals_in, is_point, means_end, means_point, path_end_refusals, path_refusals, unknown_end};
 
 use crate::ends::is_point_word;
 use crate::links::{ends_of, is_access, is_apart};
@@ -20,7 +20,7 @@ pub(crate) fn note_faults<'a>(
     number: u32,
     effective: &Effective<'a>,
 )
-    ensures { first.new ≡ nearer first.old (least (faults_in pointed.now number effective.now)) }
+    ensures { first.new ≡ nearer first.old (least (refusals_in pointed.now number effective.now)) }
 {
     note_connections(
         first,
@@ -43,7 +43,7 @@ fn note_connections<'a>(
     number: u32,
     connections: &[Inherited<'a, Connection>],
 )
-    ensures { first.new ≡ nearer first.old (least (flat_map (connection_faults pointed.now number) connections.now)) }
+    ensures { first.new ≡ nearer first.old (least (flat_map (connection_refusals pointed.now number) connections.now)) }
 {
     for connection in connections {
         note_connection(first, pointed, number, connection);
@@ -56,7 +56,7 @@ fn note_connection<'a>(
     number: u32,
     connection: &Inherited<'a, Connection>,
 )
-    ensures { first.new ≡ nearer first.old (least (connection_faults pointed.now number connection.now)) }
+    ensures { first.new ≡ nearer first.old (least (connection_refusals pointed.now number connection.now)) }
 {
     let access = is_access(connection.nearest().item().kind);
     if let Some(ends) = ends_of(connection) {
@@ -66,7 +66,7 @@ fn note_connection<'a>(
 
 #[tactic(auto, using(plain_values::proofs::Noting::noted_more))]
 fn note_ends(first: &mut FirstRefusal, pointed: &Pointed, number: u32, access: bool, ends: &Ends)
-    ensures { first.new ≡ nearer first.old (least (connection_end_faults pointed.now number access (is_apart ends.now) ends.now.from ++ connection_end_faults pointed.now number access (is_apart ends.now) ends.now.to)) }
+    ensures { first.new ≡ nearer first.old (least (connection_end_refusals pointed.now number access (is_apart ends.now) ends.now.from ++ connection_end_refusals pointed.now number access (is_apart ends.now) ends.now.to)) }
 {
     let apart = is_apart(ends);
     note_connection_end(first, pointed, number, access, apart, &ends.from);
@@ -81,7 +81,7 @@ fn note_connection_end(
     apart: bool,
     end: &End,
 )
-    ensures { first.new ≡ nearer first.old (least (connection_end_faults pointed.now number access apart end.now)) }
+    ensures { first.new ≡ nearer first.old (least (connection_end_refusals pointed.now number access apart end.now)) }
 {
     if end.names.items().len() >= 3 {
         first.note_if(true, Code::FeatureGroup, end.spot);
@@ -103,7 +103,7 @@ fn note_paths<'a>(
     number: u32,
     paths: &[InClause<'a, UserPath>],
 )
-    ensures { first.new ≡ nearer first.old (least (flat_map (path_faults pointed.now number) paths.now)) }
+    ensures { first.new ≡ nearer first.old (least (flat_map (path_refusals pointed.now number) paths.now)) }
 {
     for path in paths {
         note_path(first, pointed, number, path.item());
@@ -112,14 +112,14 @@ fn note_paths<'a>(
 
 #[tactic(auto, using(plain_values::proofs::Noting::noted_more))]
 fn note_path(first: &mut FirstRefusal, pointed: &Pointed, number: u32, path: &UserPath)
-    ensures { first.new ≡ nearer first.old (least (path_end_faults pointed.now number path.now.from ++ path_end_faults pointed.now number path.now.to)) }
+    ensures { first.new ≡ nearer first.old (least (path_end_refusals pointed.now number path.now.from ++ path_end_refusals pointed.now number path.now.to)) }
 {
     note_path_end(first, pointed, number, &path.from);
     note_path_end(first, pointed, number, &path.to);
 }
 
 fn note_path_end(first: &mut FirstRefusal, pointed: &Pointed, number: u32, end: &End)
-    ensures { first.new ≡ nearer first.old (least (path_end_faults pointed.now number end.now)) }
+    ensures { first.new ≡ nearer first.old (least (path_end_refusals pointed.now number end.now)) }
 {
     let is_known = pointed.means_point(number, end.names.items());
     first.note_if(!is_known, Code::UnknownEnd, end.spot);

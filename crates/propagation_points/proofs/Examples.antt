@@ -13,8 +13,8 @@ use Rattle.error_types.specs.Types.{is_below_in, type_named}
 use Rattle.error_types.specs.Walk.{follow}
 use Rattle.propagation_points.specs.declared.side.Reach.TheVariants.{Only, Whole}
 use Rattle.propagation_points.specs.declared.side.Side.TheVariants.{Absent, Free, Declared}
-use Rattle.propagation_points.specs.Points.{Point, point_faults, points_of, scopes_of}
-use Rattle.propagation_points.specs.Uses.{atom_use, point_use, reached, reached_types, use_faults}
+use Rattle.propagation_points.specs.Points.{Point, point_refusals, points_of, scopes_of}
+use Rattle.propagation_points.specs.Uses.{atom_use, point_use, reached, reached_types, use_refusals}
 use Rattle.propagation_points.proofs.Sample.{clause_of, device_of, effective_of, feature_of, no_error_at, packages, point_at, propagation_at, set_at, spot, table, user_point_of}
 
 -- ---- points of every kind
@@ -47,9 +47,9 @@ points_of_every_kind : points_of table own ≡ all_points
 unfolding searched follow type_named is_below_in
 points_of_every_kind = refl
 
-no_faults : point_faults table own ≡ []
+no_refusals : point_refusals table own ≡ []
 unfolding searched follow type_named is_below_in
-no_faults = refl
+no_refusals = refl
 
 -- ---- propagations that are refused
 
@@ -61,9 +61,9 @@ wrong =
     (propagation_at 1 (codes "p" ∷ []) false true (codes "badvalue" ∷ []) ∷ propagation_at 2 (codes "o" ∷ codes "p" ∷ []) false true (codes "badvalue" ∷ [])
     ∷ propagation_at 3 (codes "o" ∷ []) false true (codes "badvalue" ∷ []) ∷ propagation_at 4 (codes "p" ∷ []) true true (codes "badvalue" ∷ []) ∷ []) [] [])
 
-three_faults : point_faults table (effective_of wrong) ≡ refusal UnknownPoint (place_of (spot 1)) ∷ refusal FeatureGroup (place_of (spot 2)) ∷ refusal UnknownPoint (place_of (spot 4)) ∷ []
+three_refusals : point_refusals table (effective_of wrong) ≡ refusal UnknownPoint (place_of (spot 1)) ∷ refusal FeatureGroup (place_of (spot 2)) ∷ refusal UnknownPoint (place_of (spot 4)) ∷ []
 unfolding searched follow type_named is_below_in
-three_faults = refl
+three_refusals = refl
 
 -- ---- uses
 
@@ -85,17 +85,17 @@ some_types : reached table all_points text (point_use (point_at 1 (codes "proces
 unfolding searched follow type_named is_below_in
 some_types = refl
 
-some_types_there : use_faults table all_points text (point_use (point_at 1 (codes "processor" ∷ [])) true only_bad) ≡ []
+some_types_there : use_refusals table all_points text (point_use (point_at 1 (codes "processor" ∷ [])) true only_bad) ≡ []
 unfolding searched follow type_named is_below_in
 some_types_there = refl
 
 -- N10 at the set, where a type is not declared for the side
-outside : use_faults table all_points text (point_use (point_at 1 (codes "o" ∷ [])) true only_bad) ≡ refusal NotContained (place_of (spot 9)) ∷ []
+outside : use_refusals table all_points text (point_use (point_at 1 (codes "o" ∷ [])) true only_bad) ≡ refusal NotContained (place_of (spot 9)) ∷ []
 unfolding searched follow type_named is_below_in
 outside = refl
 
 -- a free side has no type outside; types that no declared set of the instance has select nothing there
-free_side : use_faults table all_points text (point_use (point_at 1 (codes "u" ∷ [])) true only_bad) ≡ []
+free_side : use_refusals table all_points text (point_use (point_at 1 (codes "u" ∷ [])) true only_bad) ≡ []
 unfolding searched follow type_named is_below_in
 free_side = refl
 
@@ -103,24 +103,24 @@ free_types : reached_types (0 ∷ 1 ∷ []) Free (Only (1 ∷ 3 ∷ [])) ≡ 1 �
 free_types = refl
 
 -- N9 where the point has no such side, where there is no such point, and at a dotted name
-no_side : use_faults table all_points text (point_use (point_at 1 (codes "o" ∷ [])) false only_bad) ≡ refusal UnknownPoint (place_of (spot 1)) ∷ []
+no_side : use_refusals table all_points text (point_use (point_at 1 (codes "o" ∷ [])) false only_bad) ≡ refusal UnknownPoint (place_of (spot 1)) ∷ []
 unfolding searched follow type_named is_below_in
 no_side = refl
 
-no_point : use_faults table all_points text (point_use (point_at 1 (codes "p" ∷ [])) true None) ≡ refusal UnknownPoint (place_of (spot 1)) ∷ []
+no_point : use_refusals table all_points text (point_use (point_at 1 (codes "p" ∷ [])) true None) ≡ refusal UnknownPoint (place_of (spot 1)) ∷ []
 no_point = refl
 
-dotted : use_faults table all_points text (point_use (point_at 1 (codes "o" ∷ codes "o" ∷ [])) true None) ≡ refusal UnknownPoint (place_of (spot 1)) ∷ []
+dotted : use_refusals table all_points text (point_use (point_at 1 (codes "o" ∷ codes "o" ∷ [])) true None) ≡ refusal UnknownPoint (place_of (spot 1)) ∷ []
 dotted = refl
 
 -- N12 at an atom without `in`, and N9 after `in`
 abbrev atom_after : Bool → Atom
 atom_after inward = record { inward = inward; names = codes "o" ∷ []; spot = spot 1; set = None }
 
-trigger : use_faults table all_points text (atom_use (atom_after false)) ≡ refusal UnknownTrigger (place_of (spot 1)) ∷ []
+trigger : use_refusals table all_points text (atom_use (atom_after false)) ≡ refusal UnknownTrigger (place_of (spot 1)) ∷ []
 trigger = refl
 
-after_in : use_faults table all_points text (atom_use (atom_after true)) ≡ refusal UnknownPoint (place_of (spot 1)) ∷ []
+after_in : use_refusals table all_points text (atom_use (atom_after true)) ≡ refusal UnknownPoint (place_of (spot 1)) ∷ []
 after_in = refl
 
 nothing_reached : reached table all_points text (point_use (point_at 1 (codes "o" ∷ [])) false None) ≡ None
@@ -140,6 +140,6 @@ points_of_source : points_of table (effective_of source) ≡ source_points
 unfolding searched follow type_named is_below_in
 points_of_source = refl
 
-no_faults_of_source : point_faults table (effective_of source) ≡ []
+no_refusals_of_source : point_refusals table (effective_of source) ≡ []
 unfolding searched follow type_named is_below_in
-no_faults_of_source = refl
+no_refusals_of_source = refl

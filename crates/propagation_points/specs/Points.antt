@@ -178,9 +178,9 @@ fault_at points reference None = refusal FeatureGroup (place_of reference.spot) 
 fault_at points reference (Some name) = refused_so (is_none (place_named points name)) UnknownPoint reference.spot
 
 -- the refusals of a propagation
-abbrev pub propagation_faults : List Point → Scoped PointItem → List Refusal
-propagation_faults points scoped = fault_at points scoped.item.point (only scoped.item.point.names)
+abbrev pub propagation_refusals : List Point → Scoped PointItem → List Refusal
+propagation_refusals points scoped = fault_at points scoped.item.point (only scoped.item.point.names)
 
 -- The refusals of the points of a component: N9 and P3 of its propagations, also of those with `not`.
-abbrev pub point_faults : Table → Effective → List Refusal
-point_faults table effective = flat_map (propagation_faults (points_of table effective)) effective.propagations.points
+abbrev pub point_refusals : Table → Effective → List Refusal
+point_refusals table effective = flat_map (propagation_refusals (points_of table effective)) effective.propagations.points

@@ -5,7 +5,7 @@ use Rattle.error_types.specs.declared.scope.Scope.{Scope}
 use Rattle.error_types.specs.Libraries.{Table}
 use Rattle.propagation_points.specs.declared.uses.ReachedPoint.{ReachedPoint}
 use Rattle.propagation_points.specs.Points.{Point}
-use Rattle.propagation_points.specs.Uses.{PointUse, reached, use_faults}
+use Rattle.propagation_points.specs.Uses.{PointUse, reached, use_refusals}
 
 -- A setting: the points and the states of the component, and the text in which an item is read.
 pub record Setting : Type 0 where
@@ -22,5 +22,5 @@ abbrev pub reached_in : Table → Setting → PointUse → Option ReachedPoint
 reached_in table setting used = reached table setting.points setting.scope used
 
 -- the refusals of a use of a point in a setting
-abbrev pub faults_in : Table → Setting → PointUse → List Refusal
-faults_in table setting used = use_faults table setting.points setting.scope used
+abbrev pub refusals_in : Table → Setting → PointUse → List Refusal
+refusals_in table setting used = use_refusals table setting.points setting.scope used

@@ -16,5 +16,5 @@ abbrev pub keep_name : List (List ℕ) → List ℕ → List (List ℕ)
 keep_name names name = keep_at (number_named names name) names name
 
 -- The refusals of a reference to a state: N11 where there is no such state, and P10 at a set of types behind it.
-abbrev pub state_faults : List (List ℕ) → StateRef → List Refusal
-state_faults states state = refused_so (is_none (number_named states state.name)) UnknownState state.spot ++ refused_there Typed (option_map (λ set. set.spot) state.set)
+abbrev pub state_refusals : List (List ℕ) → StateRef → List Refusal
+state_refusals states state = refused_so (is_none (number_named states state.name)) UnknownState state.spot ++ refused_there Typed (option_map (λ set. set.spot) state.set)

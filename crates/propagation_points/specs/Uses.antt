@@ -110,6 +110,6 @@ set_outside table scope side (Some set) = refused_so (is_outside (types_in table
 
 -- The refusals of a use: its own where the component has no such point or not that side, which is N9, or N12 at an atom without
 -- `in`; and N10.
-abbrev pub use_faults : Table → List Point → Option Scope → PointUse → List Refusal
-use_faults table points scope used =
+abbrev pub use_refusals : Table → List Point → Option Scope → PointUse → List Refusal
+use_refusals table points scope used =
     refused_so (is_absent (used_side points used)) used.unknown used.spot ++ set_outside table scope (used_side points used) used.set

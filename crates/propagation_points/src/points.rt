@@ -1,7 +1,7 @@
 ghost use Rattle.std.specs.Prelude.{◌≡◌, [], IfOk, OnOk, flat_map, map, fold, option_copied, option_map};
 ghost use Rattle.plain_values.specs.Order.{least, nearer};
 ghost use Rattle.package_index.specs.Names.{only};
-ghost use Rattle.propagation_points.specs.Points.{NamesDiffer, fault_at, keep_first, place_named, point_faults, point_named, points_of, propagation_faults, side_of, side_with, with_sides};
+ghost use Rattle.propagation_points.specs.Points.{NamesDiffer, fault_at, keep_first, place_named, point_refusals, point_named, points_of, propagation_refusals, side_of, side_with, with_sides};
 
 use crate::declared::DeclaredSides;
 use crate::open_point::{OpenPoint, only_name, open_points};
@@ -112,7 +112,7 @@ pub fn points_of<'a>(
 ) -> Mem<Points<'a>>
     ensures kept { types.new ≡ types.old }
     ensures points { IfOk result (λ points. points ≡ points_of types.old effective.now) }
-    ensures first { OnOk result (first.new ≡ nearer first.old (least (point_faults types.old effective.now))) }
+    ensures first { OnOk result (first.new ≡ nearer first.old (least (point_refusals types.old effective.now))) }
 {
     let points = made_points(alloc, effective, types)?;
     note_propagations(first, &points, effective.propagations.points.items());
@@ -184,7 +184,7 @@ fn note_propagations<'a>(
     points: &Points<'a>,
     propagations: &[InClause<'a, PointItem>],
 )
-    ensures { first.new ≡ nearer first.old (least (flat_map (propagation_faults points.now) propagations.now)) }
+    ensures { first.new ≡ nearer first.old (least (flat_map (propagation_refusals points.now) propagations.now)) }
 {
     for propagation in propagations {
         note_propagation(first, points, propagation.item());

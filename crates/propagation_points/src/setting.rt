@@ -1,6 +1,6 @@
 ghost use Rattle.std.specs.Prelude.{◌≡◌, IfOk, OnOk, option_copied, slice_get};
 ghost use Rattle.plain_values.specs.Order.{least, nearer};
-ghost use Rattle.propagation_points.specs.States.{state_faults, number_named};
+ghost use Rattle.propagation_points.specs.States.{state_refusals, number_named};
 
 use crate::points::Points;
 use crate::states::NameTable;
@@ -34,7 +34,7 @@ impl<'s, 'a> Model for Setting<'s, 'a> {
 }
 
 impl<'s, 'a> Setting<'s, 'a> {
-    ghost use Rattle.propagation_points.specs.Settings.{clause_setting, faults_in, reached_in};
+    ghost use Rattle.propagation_points.specs.Settings.{clause_setting, refusals_in, reached_in};
 
     /// The setting of items that are read in this text, if there is one.
     pub fn new(
@@ -77,7 +77,7 @@ impl<'s, 'a> Setting<'s, 'a> {
     ) -> Mem<Option<ReachedPoint>>
         ensures kept { types.new ≡ types.old }
         ensures reached { IfOk result (λ found. found ≡ reached_in types.old self.now used.now) }
-        ensures first { OnOk result (first.new ≡ nearer first.old (least (faults_in types.old self.now used.now))) }
+        ensures first { OnOk result (first.new ≡ nearer first.old (least (refusals_in types.old self.now used.now))) }
     {
         reached(alloc, self.points, types, self.scope, used, first)
     }
@@ -85,7 +85,7 @@ impl<'s, 'a> Setting<'s, 'a> {
     /// The number of the state to which a text refers. The refusals of the reference are noted.
     pub fn refer(&self, state: &StateRef, first: &mut FirstRefusal) -> Option<u32>
         ensures number { result ≡ number_named self.now.states state.now.name }
-        ensures first { first.new ≡ nearer first.old (least (state_faults self.now.states state.now)) }
+        ensures first { first.new ≡ nearer first.old (least (state_refusals self.now.states state.now)) }
     {
         self.states.refer(state, first)
     }

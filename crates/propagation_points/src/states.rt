@@ -1,7 +1,7 @@
 ghost use Rattle.std.specs.Prelude.{◌≡◌, [], IfOk, map, option_map};
 ghost use Rattle.propagation_points.specs.Points.{NamesDiffer};
 ghost use Rattle.plain_values.specs.Order.{least, nearer};
-ghost use Rattle.propagation_points.specs.States.{keep_name, state_faults, number_named};
+ghost use Rattle.propagation_points.specs.States.{keep_name, state_refusals, number_named};
 
 use aadl_syntax::{Identifier, StateRef, TypeSet};
 use plain_values::{Code, FirstRefusal, List, Mem, Spot};
@@ -81,7 +81,7 @@ impl<'a> NameTable<'a> {
     #[tactic(auto, using(plain_values::proofs::Noting::noted_more))]
     pub fn refer(&self, state: &StateRef, first: &mut FirstRefusal) -> Option<u32>
         ensures number { result ≡ number_named self.now state.now.name }
-        ensures first { first.new ≡ nearer first.old (least (state_faults self.now state.now)) }
+        ensures first { first.new ≡ nearer first.old (least (state_refusals self.now state.now)) }
     {
         let number = self.number(state.name.text());
         first.note_if(number.is_none(), Code::UnknownState, state.spot);

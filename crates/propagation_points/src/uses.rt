@@ -1,6 +1,6 @@
 ghost use Rattle.std.specs.Prelude.{◌≡◌, IfOk, None, OnOk, cond, option_copied, option_map};
 ghost use Rattle.plain_values.specs.Order.{least, nearer};
-ghost use Rattle.propagation_points.specs.Uses.{is_absent, is_outside, reach_of, reached, set_outside, use_faults, used_place, used_side};
+ghost use Rattle.propagation_points.specs.Uses.{is_absent, is_outside, reach_of, reached, set_outside, use_refusals, used_place, used_side};
 
 use crate::declared::types_in;
 use crate::open_point::only_name;
@@ -104,7 +104,7 @@ pub fn reached<'a>(
 ) -> Mem<Option<ReachedPoint>>
     ensures kept { types.new ≡ types.old }
     ensures reached { IfOk result (λ found. found ≡ reached types.old points.now (option_copied scope.entry) used.now) }
-    ensures first { OnOk result (first.new ≡ nearer first.old (least (use_faults types.old points.now (option_copied scope.entry) used.now))) }
+    ensures first { OnOk result (first.new ≡ nearer first.old (least (use_refusals types.old points.now (option_copied scope.entry) used.now))) }
 {
     let side = used.side(points);
     let is_absent = is_absent(side);

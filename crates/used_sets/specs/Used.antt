@@ -25,12 +25,12 @@ set_fault table None set = []
 set_fault table (Some scope) set = option_to_list (set_first table scope set)
 
 -- the first refusals of the sets of an item, which are read in the text of its clause
-abbrev pub item_faults : {Item : Type 0} → (Item → List TypeSet) → Table → List Scope → Scoped Item → List Refusal
-item_faults sets table scopes scoped = flat_map (set_fault table (slice_get scopes scoped.scope)) (sets scoped.item)
+abbrev pub item_refusals : {Item : Type 0} → (Item → List TypeSet) → Table → List Scope → Scoped Item → List Refusal
+item_refusals sets table scopes scoped = flat_map (set_fault table (slice_get scopes scoped.scope)) (sets scoped.item)
 
 -- the first refusals of the sets of items
-abbrev pub items_faults : {Item : Type 0} → (Item → List TypeSet) → Table → List Scope → List (Scoped Item) → List Refusal
-items_faults sets table scopes items = flat_map (item_faults sets table scopes) items
+abbrev pub items_refusals : {Item : Type 0} → (Item → List TypeSet) → Table → List Scope → List (Scoped Item) → List Refusal
+items_refusals sets table scopes items = flat_map (item_refusals sets table scopes) items
 
 -- whether there is a set
 abbrev pub is_some_set : List TypeSet → Bool
@@ -48,19 +48,19 @@ use_clause sets items number = list_any (uses_clause sets number) items
 -- ---- the sets of a component
 
 -- those of its points and flows
-abbrev pub propagation_faults : Table → List Scope → Propagations → List Refusal
-propagation_faults table scopes propagations = items_faults point_sets table scopes propagations.points ++ items_faults flow_sets table scopes propagations.flows
+abbrev pub propagation_refusals : Table → List Scope → Propagations → List Refusal
+propagation_refusals table scopes propagations = items_refusals point_sets table scopes propagations.points ++ items_refusals flow_sets table scopes propagations.flows
 
 -- those of its events, transitions, outgoing conditions and composite states
-abbrev pub behavior_faults : Table → List Scope → Behavior → List Refusal
-behavior_faults table scopes behavior =
-    items_faults event_sets table scopes behavior.events
-    ++ (items_faults transition_sets table scopes behavior.transitions
-    ++ (items_faults outgoing_sets table scopes behavior.outgoing ++ items_faults composite_sets table scopes behavior.composites))
+abbrev pub behavior_refusals : Table → List Scope → Behavior → List Refusal
+behavior_refusals table scopes behavior =
+    items_refusals event_sets table scopes behavior.events
+    ++ (items_refusals transition_sets table scopes behavior.transitions
+    ++ (items_refusals outgoing_sets table scopes behavior.outgoing ++ items_refusals composite_sets table scopes behavior.composites))
 
 -- The first refusals of the written sets of the effective items of a component, where its clauses have these texts.
-abbrev pub effective_faults : Table → List Scope → Effective → List Refusal
-effective_faults table scopes effective = propagation_faults table scopes effective.propagations ++ behavior_faults table scopes effective.behavior
+abbrev pub effective_refusals : Table → List Scope → Effective → List Refusal
+effective_refusals table scopes effective = propagation_refusals table scopes effective.propagations ++ behavior_refusals table scopes effective.behavior
 
 -- whether a point or a flow of the clause of a number has a written set
 abbrev pub propagation_uses : Propagations → ℕ → Bool
@@ -82,12 +82,12 @@ uses_fault table is_used number clause = cond (is_used number) (unknown_librarie
 
 -- the refusals of the sets of the effective items of a component, where its clauses have these texts, and of the libraries that
 -- these clauses use
-abbrev pub faults_with : Table → List Scope → Effective → List Refusal
-faults_with table scopes effective = effective_faults table scopes effective ++ numbered_from (uses_fault table (is_used effective)) 0 effective.clauses
+abbrev pub refusals_with : Table → List Scope → Effective → List Refusal
+refusals_with table scopes effective = effective_refusals table scopes effective ++ numbered_from (uses_fault table (is_used effective)) 0 effective.clauses
 
 -- the same with the texts that the clauses have
-abbrev pub clause_set_faults : Table → Effective → List Refusal
-clause_set_faults table effective = faults_with table (scopes_of table.packages effective.clauses) effective
+abbrev pub clause_set_refusals : Table → Effective → List Refusal
+clause_set_refusals table effective = refusals_with table (scopes_of table.packages effective.clauses) effective
 
 -- ---- the sets of a machine
 
@@ -96,17 +96,17 @@ abbrev pub machine_sets : MachineDecl → List TypeSet
 machine_sets decl = flat_map event_sets decl.events ++ (flat_map state_decl_sets decl.states ++ flat_map transition_sets decl.transitions)
 
 -- the refusals of a machine with these sets: if there are any, N2 of the libraries that it uses, and theirs
-abbrev pub sets_faults : Table → Machine → List TypeSet → List Refusal
-sets_faults table machine sets =
+abbrev pub sets_refusals : Table → Machine → List TypeSet → List Refusal
+sets_refusals table machine sets =
     cond (is_some_set sets) (unknown_libraries table.packages machine.«package» machine.item.uses) []
     ++ flat_map (set_fault table (Some (text_scope table.packages machine.«package» machine.item.uses))) sets
 
 -- the refusals of the sets of a machine, if there is one
-abbrev pub machine_set_faults : Table → Option Machine → List Refusal
-machine_set_faults table None = []
-machine_set_faults table (Some machine) = sets_faults table machine (machine_sets machine.item)
+abbrev pub machine_set_refusals : Table → Option Machine → List Refusal
+machine_set_refusals table None = []
+machine_set_refusals table (Some machine) = sets_refusals table machine (machine_sets machine.item)
 
 -- The refusals of the written sets that a component uses, one group: N2, N7, N8 and P4 of the names in the sets of its effective
 -- items and of its machine, and N2 of the libraries that their texts use.
-abbrev pub used_set_faults : Table → Option Machine → Effective → List Refusal
-used_set_faults table machine effective = clause_set_faults table effective ++ machine_set_faults table machine
+abbrev pub used_set_refusals : Table → Option Machine → Effective → List Refusal
+used_set_refusals table machine effective = clause_set_refusals table effective ++ machine_set_refusals table machine

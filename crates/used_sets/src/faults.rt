@@ -3,7 +3,7 @@ ghost use Rattle.plain_values.specs.Order.{least, nearer};
 ghost use Rattle.error_types.specs.Libraries.{unknown_libraries};
 ghost use Rattle.plain_values.specs.Numbered.{numbered_from};
 ghost use Rattle.used_sets.specs.Marks.{Marked};
-ghost use Rattle.used_sets.specs.Used.{behavior_faults, behavior_uses, clause_set_faults, effective_faults, faults_with, is_some_set, is_used, item_faults, items_faults, machine_set_faults, machine_sets, propagation_faults, propagation_uses, set_fault, sets_faults, use_clause, used_set_faults, uses_clause, uses_fault};
+ghost use Rattle.used_sets.specs.Used.{behavior_refusals, behavior_uses, clause_set_refusals, effective_refusals, refusals_with, is_some_set, is_used, item_refusals, items_refusals, machine_set_refusals, machine_sets, propagation_refusals, propagation_uses, set_fault, sets_refusals, use_clause, used_set_refusals, uses_clause, uses_fault};
 
 use crate::items::HasSets;
 use crate::sets::WrittenSets;
@@ -26,7 +26,7 @@ pub fn note_used_sets<'a>(
     first: &mut FirstRefusal,
 ) -> Mem<()>
     ensures kept { types.new ≡ types.old }
-    ensures first { OnOk result (first.new ≡ nearer first.old (least (used_set_faults types.old machine.now effective.now))) }
+    ensures first { OnOk result (first.new ≡ nearer first.old (least (used_set_refusals types.old machine.now effective.now))) }
 {
     note_clauses(alloc, effective, types, first)?;
     note_machine(alloc, machine, types, first)
@@ -40,7 +40,7 @@ fn note_clauses<'a>(
     first: &mut FirstRefusal,
 ) -> Mem<()>
     ensures kept { types.new ≡ types.old }
-    ensures first { OnOk result (first.new ≡ nearer first.old (least (clause_set_faults types.old effective.now))) }
+    ensures first { OnOk result (first.new ≡ nearer first.old (least (clause_set_refusals types.old effective.now))) }
 {
     let clauses = effective.clauses.items();
     let scopes = scopes_of(alloc, types, clauses)?;
@@ -76,7 +76,7 @@ fn note_with<'a>(
     requires none { (number : ℕ) → slice_index_or marks.old number false ≡ false }
     requires long { length marks.old ≡ length effective.now.clauses }
     ensures kept { types.new ≡ types.old }
-    ensures first { OnOk result (first.new ≡ nearer first.old (least (faults_with types.old scopes.now effective.now))) }
+    ensures first { OnOk result (first.new ≡ nearer first.old (least (refusals_with types.old scopes.now effective.now))) }
 {
     note_effective(alloc, effective, types, scopes, marks, first)?;
     note_uses(types, effective.clauses.items(), marks, first);
@@ -94,7 +94,7 @@ fn note_effective<'a>(
     first: &mut FirstRefusal,
 ) -> Mem<()>
     ensures kept { types.new ≡ types.old }
-    ensures first { OnOk result (first.new ≡ nearer first.old (least (effective_faults types.old scopes.now effective.now))) }
+    ensures first { OnOk result (first.new ≡ nearer first.old (least (effective_refusals types.old scopes.now effective.now))) }
     ensures marks { OnOk result (Marked marks.old marks.new (is_used effective.now)) }
 {
     note_propagations(alloc, &effective.propagations, types, scopes, marks, first)?;
@@ -111,7 +111,7 @@ fn note_propagations<'a>(
     first: &mut FirstRefusal,
 ) -> Mem<()>
     ensures kept { types.new ≡ types.old }
-    ensures first { OnOk result (first.new ≡ nearer first.old (least (propagation_faults types.old scopes.now propagations.now))) }
+    ensures first { OnOk result (first.new ≡ nearer first.old (least (propagation_refusals types.old scopes.now propagations.now))) }
     ensures marks { OnOk result (Marked marks.old marks.new (propagation_uses propagations.now)) }
 {
     let points = propagations.points.items();
@@ -130,7 +130,7 @@ fn note_behavior<'a>(
     first: &mut FirstRefusal,
 ) -> Mem<()>
     ensures kept { types.new ≡ types.old }
-    ensures first { OnOk result (first.new ≡ nearer first.old (least (behavior_faults types.old scopes.now behavior.now))) }
+    ensures first { OnOk result (first.new ≡ nearer first.old (least (behavior_refusals types.old scopes.now behavior.now))) }
     ensures marks { OnOk result (Marked marks.old marks.new (behavior_uses behavior.now)) }
 {
     let events = behavior.events.items();
@@ -154,7 +154,7 @@ fn note_items<'a, T: HasSets>(
     first: &mut FirstRefusal,
 ) -> Mem<()>
     ensures kept { types.new ≡ types.old }
-    ensures first { OnOk result (first.new ≡ nearer first.old (least (items_faults T.sets types.old scopes.now items.now))) }
+    ensures first { OnOk result (first.new ≡ nearer first.old (least (items_refusals T.sets types.old scopes.now items.now))) }
     ensures marks { OnOk result (Marked marks.old marks.new (use_clause T.sets items.now)) }
 {
     for item in items {
@@ -172,7 +172,7 @@ fn note_item<'a, T: HasSets>(
     first: &mut FirstRefusal,
 ) -> Mem<()>
     ensures kept { types.new ≡ types.old }
-    ensures first { OnOk result (first.new ≡ nearer first.old (least (item_faults T.sets types.old scopes.now item.now))) }
+    ensures first { OnOk result (first.new ≡ nearer first.old (least (item_refusals T.sets types.old scopes.now item.now))) }
     ensures marks { OnOk result (Marked marks.old marks.new (λ number. uses_clause T.sets number item.now)) }
 {
     let mut sets = WrittenSets::new(alloc);
@@ -271,7 +271,7 @@ fn note_machine<'a>(
     first: &mut FirstRefusal,
 ) -> Mem<()>
     ensures kept { types.new ≡ types.old }
-    ensures first { OnOk result (first.new ≡ nearer first.old (least (machine_set_faults types.old machine.now))) }
+    ensures first { OnOk result (first.new ≡ nearer first.old (least (machine_set_refusals types.old machine.now))) }
 {
     if let Some(machine) = machine {
         let sets = machine_sets(alloc, machine.decl())?;
@@ -290,7 +290,7 @@ fn note_machine_sets<'a>(
     first: &mut FirstRefusal,
 ) -> Mem<()>
     ensures kept { types.new ≡ types.old }
-    ensures first { OnOk result (first.new ≡ nearer first.old (least (sets_faults types.old machine.now sets.now))) }
+    ensures first { OnOk result (first.new ≡ nearer first.old (least (sets_refusals types.old machine.now sets.now))) }
 {
     let uses = machine.decl().uses.items();
     note_unknown_if(types, is_some_set(sets), machine.package(), uses, first);

@@ -2,13 +2,13 @@ use Rattle.std.proofs.Common.{[], Contains, Err, IfErr, MatchOption, ap, subst, 
 use Rattle.std.proofs.lemmas.Result.{err_from_is_err_and}
 use Rattle.plain_values.specs.Order.{IsFirst}
 use Rattle.plain_values.specs.Stops.{StopsAtFirst}
-use Rattle.component_extension.specs.Members.{member_faults}
+use Rattle.component_extension.specs.Members.{member_refusals}
 use Rattle.component_extension.proofs.MemberLaws.{all-noted}
 use Rattle.component_extension.proofs.effective.effective_members.Goals as goal
 
 pub returns-in_err-settle-clause-refused : goal.returns-in_err-settle-clause-refused
 returns-in_err-settle-clause-refused c =
-    let group = member_faults c.args.classifiers.now in
+    let group = member_refusals c.args.classifiers.now in
     let settled = all-noted c.args.classifiers.now _ _ _ _ _ _ _ _ _ c.new-first.ensures c.in_ok-features.ensures.first c.in_ok-subcomponents.ensures.first c.in_ok-connections.ensures.first c.note_duplicates.ensures
     c.new-marks.ensures.items c.in_ok-features.ensures.marks c.in_ok-subcomponents.ensures.marks (c.in_ok-names.ensures ∙ c.in_ok-connections.ensures.marks) in
     let first = subst (λ o. MatchOption o (group ≡ []) (IsFirst (Contains group))) c.in_err-settle.ensures settled in
@@ -17,7 +17,7 @@ returns-in_err-settle-clause-refused c =
 
 pub returns-clause-accepted : goal.returns-clause-accepted
 returns-clause-accepted c =
-    let group = member_faults c.args.classifiers.now in
+    let group = member_refusals c.args.classifiers.now in
     let settled = all-noted c.args.classifiers.now _ _ _ _ _ _ _ _ _ c.new-first.ensures c.in_ok-features.ensures.first c.in_ok-subcomponents.ensures.first c.in_ok-connections.ensures.first c.note_duplicates.ensures
     c.new-marks.ensures.items c.in_ok-features.ensures.marks c.in_ok-subcomponents.ensures.marks (c.in_ok-names.ensures ∙ c.in_ok-connections.ensures.marks) in
     subst (λ o. MatchOption o (group ≡ []) (IsFirst (Contains group))) c.in_ok-settle.ensures settled

@@ -1,7 +1,7 @@
 use Rattle.std.proofs.Common.{◌≡◌, OnOk, subst, ap, ◌∙◌}
 use Rattle.plain_values.specs.Order.{least, nearer}
 use Rattle.propagation_points.specs.Points.{scopes_of}
-use Rattle.composite_states.specs.Composites.{faults_in}
+use Rattle.composite_states.specs.Composites.{refusals_in}
 use Rattle.composite_states.proofs.clauses.clauses_of.Goals as goal
 
 pub returns-clause-first : goal.returns-clause-first
@@ -11,6 +11,6 @@ returns-clause-first g c =
     let effective = c.args.effective.now in
     let scopes : c.items-2.result.now ≡ scopes_of table.packages effective.clauses = c.items-2.ensures.items ∙ c.in_ok-scopes.ensures ∙ ap (scopes_of table.packages) c.items.ensures.items in
     let all =
-    ap (λ texts. faults_in below table c.args.points.now c.args.states.now texts c.items-composites.result.now) scopes
-    ∙ ap (faults_in below table c.args.points.now c.args.states.now (scopes_of table.packages effective.clauses)) c.items-composites.ensures.items in
+    ap (λ texts. refusals_in below table c.args.points.now c.args.states.now texts c.items-composites.result.now) scopes
+    ∙ ap (refusals_in below table c.args.points.now c.args.states.now (scopes_of table.packages effective.clauses)) c.items-composites.ensures.items in
     subst (λ faults. OnOk c.clauses_in.result (c.clauses_in.new.first ≡ nearer c.args.first.now (least faults))) all c.clauses_in.ensures.first

@@ -1,11 +1,11 @@
 use Rattle.std.proofs.Common.{◌≡◌, drop, take}
 use Rattle.plain_values.specs.Order.{least, nearer}
-use Rattle.error_behavior.specs.Behavior.{clause_emissions, clause_outgoing_faults}
+use Rattle.error_behavior.specs.Behavior.{clause_emissions, clause_outgoing_refusals}
 use Rattle.error_behavior.proofs.behavior.emissions_of.Given as goal
 
 abbrev pub invariant-loop-condition : goal.invariant-loop-condition
 invariant-loop-condition l = record {
   kept : l.types ≡ l.fn.types;
   emissions : l.emissions ≡ clause_emissions l.fn.types l.words l.texts (take l.condition-index l.outgoing);
-  first : nearer l.first (least (clause_outgoing_faults l.fn.types l.words l.texts (drop l.condition-index l.outgoing))) ≡ nearer l.fn.first (least (clause_outgoing_faults l.fn.types l.words l.texts l.outgoing));
+  first : nearer l.first (least (clause_outgoing_refusals l.fn.types l.words l.texts (drop l.condition-index l.outgoing))) ≡ nearer l.fn.first (least (clause_outgoing_refusals l.fn.types l.words l.texts l.outgoing));
 }

@@ -1,11 +1,11 @@
 use Rattle.std.proofs.Common.{◌≡◌, drop, flat_map, take}
 use Rattle.plain_values.specs.Order.{least, nearer}
-use Rattle.error_behavior.specs.Steps.{step_of, transition_faults}
+use Rattle.error_behavior.specs.Steps.{step_of, transition_refusals}
 use Rattle.error_behavior.proofs.behavior.steps_at.Given as goal
 
 abbrev pub invariant-loop-transition : goal.invariant-loop-transition
 invariant-loop-transition l = record {
   kept : l.types ≡ l.fn.types;
   steps : l.steps ≡ flat_map (step_of l.place l.fn.types) (take l.transition-index l.transitions);
-  first : nearer l.first (least (flat_map (transition_faults l.place l.fn.types) (drop l.transition-index l.transitions))) ≡ nearer l.fn.first (least (flat_map (transition_faults l.place l.fn.types) l.transitions));
+  first : nearer l.first (least (flat_map (transition_refusals l.place l.fn.types) (drop l.transition-index l.transitions))) ≡ nearer l.fn.first (least (flat_map (transition_refusals l.place l.fn.types) l.transitions));
 }

@@ -1,7 +1,7 @@
 use Rattle.std.proofs.Common.{ap, ◌∙◌}
 use Rattle.plain_values.specs.Order.{least, nearer}
 use Rattle.plain_values.proofs.Noted.{noted-three}
-use Rattle.error_behavior.specs.Behavior.{clause_event_faults, clause_transition_faults, machine_faults}
+use Rattle.error_behavior.specs.Behavior.{clause_event_refusals, clause_transition_refusals, machine_refusals}
 use Rattle.error_behavior.proofs.behavior.steps_of.Goals as goal
 
 pub returns-clause-first : goal.returns-clause-first
@@ -10,7 +10,7 @@ returns-clause-first c =
     let words = c.args.words.now in
     let texts = c.args.texts.now in
     let behavior = c.args.effective.now.behavior in
-    noted-three c.args.first.now c.machine_steps.new.first c.note_clause_events.new.first (machine_faults table words texts c.args.machine.now) (clause_event_faults behavior.events) c.in_ok-steps.ensures.first
-    (c.note_clause_events.ensures ∙ ap (λ events. nearer c.machine_steps.new.first (least (clause_event_faults events))) c.items.ensures.items)
-    c.add_clause_steps.new.first (clause_transition_faults table words texts behavior.transitions)
-    (c.in_ok-add_clause_steps.ensures.first ∙ (λ i. nearer c.note_clause_events.new.first (least (clause_transition_faults (c.in_ok-steps.ensures.kept i) words texts (c.items-transitions.ensures.items i)))))
+    noted-three c.args.first.now c.machine_steps.new.first c.note_clause_events.new.first (machine_refusals table words texts c.args.machine.now) (clause_event_refusals behavior.events) c.in_ok-steps.ensures.first
+    (c.note_clause_events.ensures ∙ ap (λ events. nearer c.machine_steps.new.first (least (clause_event_refusals events))) c.items.ensures.items)
+    c.add_clause_steps.new.first (clause_transition_refusals table words texts behavior.transitions)
+    (c.in_ok-add_clause_steps.ensures.first ∙ (λ i. nearer c.note_clause_events.new.first (least (clause_transition_refusals (c.in_ok-steps.ensures.kept i) words texts (c.items-transitions.ensures.items i)))))

@@ -1,9 +1,9 @@
 use Rattle.std.proofs.Common.{◌≡◌, true, ap, ◌∙◌}
 use Rattle.plain_values.specs.Order.{least, nearer}
-use Rattle.propagation_points.specs.Settings.{faults_in}
+use Rattle.propagation_points.specs.Settings.{refusals_in}
 use Rattle.propagation_points.specs.Uses.{point_use}
 use Rattle.plain_values.proofs.Noted.{noted-three}
-use Rattle.error_behavior.specs.Steps.{origin_faults, perhaps_faults}
+use Rattle.error_behavior.specs.Steps.{origin_refusals, perhaps_refusals}
 use Rattle.error_behavior.proofs.transitions.emission_of.Goals as goal
 
 pub returns-clause-first : goal.returns-clause-first
@@ -12,7 +12,7 @@ returns-clause-first c =
     let table = c.args.types.now in
     let outgoing = c.args.outgoing.now in
     let setting : c.place.inside.setting ≡ place.setting = ap (λ p. p.setting) c.place.view_is in
-    noted-three c.args.first.now c.origin_of-origin.new.first c.trigger_of.new.first (origin_faults place.setting.states outgoing.source.state) (perhaps_faults place table outgoing.condition)
-    (c.origin_of-origin.ensures.first ∙ ap (λ each. nearer c.args.first.now (least (origin_faults each.states outgoing.source.state))) setting) c.in_ok-trigger.ensures.first
-    c.reached.new.first (faults_in table place.setting (point_use outgoing.point true outgoing.set))
-    (c.in_ok-reached.ensures.first ∙ (λ i. nearer c.trigger_of.new.first (least (faults_in (c.in_ok-trigger.ensures.kept i) (setting i) (c.new-used.ensures i)))))
+    noted-three c.args.first.now c.origin_of-origin.new.first c.trigger_of.new.first (origin_refusals place.setting.states outgoing.source.state) (perhaps_refusals place table outgoing.condition)
+    (c.origin_of-origin.ensures.first ∙ ap (λ each. nearer c.args.first.now (least (origin_refusals each.states outgoing.source.state))) setting) c.in_ok-trigger.ensures.first
+    c.reached.new.first (refusals_in table place.setting (point_use outgoing.point true outgoing.set))
+    (c.in_ok-reached.ensures.first ∙ (λ i. nearer c.trigger_of.new.first (least (refusals_in (c.in_ok-trigger.ensures.kept i) (setting i) (c.new-used.ensures i)))))

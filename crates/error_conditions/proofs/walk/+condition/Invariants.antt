@@ -1,11 +1,11 @@
 use Rattle.std.proofs.Common.{◌≡◌, drop, flat_map, map, take}
 use Rattle.plain_values.specs.Order.{least, nearer}
-use Rattle.error_conditions.specs.Conditions.{cause_of, condition_faults}
+use Rattle.error_conditions.specs.Conditions.{cause_of, condition_refusals}
 use Rattle.error_conditions.proofs.walk.+condition.Given as goal
 
 abbrev pub invariant-causes_of-loop-part : goal.invariant-causes_of-loop-part
 invariant-causes_of-loop-part g l = record {
   kept : l.types ≡ l.fn.types;
   causes : l.causes ≡ map (cause_of (g.A.Atoms.meaning l.atoms l.fn.types)) (take l.part-index l.parts);
-  first : nearer l.first (least (flat_map (condition_faults (g.A.Atoms.faults l.atoms l.fn.types)) (drop l.part-index l.parts))) ≡ nearer l.fn.first (least (flat_map (condition_faults (g.A.Atoms.faults l.atoms l.fn.types)) l.parts));
+  first : nearer l.first (least (flat_map (condition_refusals (g.A.Atoms.faults l.atoms l.fn.types)) (drop l.part-index l.parts))) ≡ nearer l.fn.first (least (flat_map (condition_refusals (g.A.Atoms.faults l.atoms l.fn.types)) l.parts));
 }

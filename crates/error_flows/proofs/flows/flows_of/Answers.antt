@@ -4,7 +4,7 @@ use Rattle.plain_values.specs.Order.{least, nearer}
 use Rattle.plain_values.proofs.OrderLaws.{noted-more}
 use Rattle.plain_values.specs.Refusal.{refused_so}
 use Rattle.propagation_points.specs.Points.{scopes_of}
-use Rattle.error_flows.specs.Flows.{faults_of_flows}
+use Rattle.error_flows.specs.Flows.{refusals_of_flows}
 use Rattle.error_flows.proofs.flows.flows_of.Goals as goal
 
 pub returns-clause-first : goal.returns-clause-first
@@ -15,5 +15,5 @@ returns-clause-first c =
     let states = c.args.states.now in
     let scopes : c.items-2.result.now ≡ scopes_of table.packages effective.clauses = c.items-2.ensures.items ∙ c.in_ok-scopes.ensures ∙ ap (scopes_of table.packages) c.items.ensures.items in
     c.note_mappings.ensures ∙ ap (λ mappings. nearer c.meanings.new.first (least (flat_map (refused_so true Mapping) mappings))) c.items-3.ensures.items
-    ∙ noted-more c.args.first.now c.meanings.new.first (faults_of_flows table points states (scopes_of table.packages effective.clauses) effective.propagations.flows) (flat_map (refused_so true Mapping) effective.others.mappings)
-    (c.in_ok-found.ensures.first ∙ (λ i. nearer c.args.first.now (least (faults_of_flows table points states (scopes i) (c.items-flows.ensures.items i)))))
+    ∙ noted-more c.args.first.now c.meanings.new.first (refusals_of_flows table points states (scopes_of table.packages effective.clauses) effective.propagations.flows) (flat_map (refused_so true Mapping) effective.others.mappings)
+    (c.in_ok-found.ensures.first ∙ (λ i. nearer c.args.first.now (least (refusals_of_flows table points states (scopes i) (c.items-flows.ensures.items i)))))

@@ -3,8 +3,8 @@ use Rattle.plain_values.specs.declared.refusal.Code.TheVariants.{Mapping}
 use Rattle.plain_values.specs.Order.{least, nearer}
 use Rattle.plain_values.specs.Refusal.{refused_there}
 use Rattle.propagation_points.specs.Uses.{point_use}
-use Rattle.propagation_points.specs.Settings.{faults_in}
-use Rattle.error_flows.specs.Flows.{flow_faults}
+use Rattle.propagation_points.specs.Settings.{refusals_in}
+use Rattle.error_flows.specs.Flows.{flow_refusals}
 use Rattle.error_flows.proofs.flows.meaning_of.Goals as goal
 
 pub returns-in-Path-clause-first : goal.returns-in-Path-clause-first
@@ -12,6 +12,6 @@ returns-in-Path-clause-first c =
     let table = c.args.types.now in
     let setting = c.args.setting.now in
     let mapping = refused_there Mapping c.in-Path.mapping in
-    subst (λ kind. OnOk c.path.result (c.path.new.first ≡ nearer c.args.first.now (least (flow_faults table setting kind)))) (sym c.in-Path.is)
-    (subst (λ start. OnOk c.path.result (c.path.new.first ≡ nearer c.args.first.now (least (faults_in table setting start ++ (faults_in table setting (point_use c.in-Path.to true c.in-Path.to_set) ++ mapping))))) c.new-start.ensures
-    (subst (λ end. OnOk c.path.result (c.path.new.first ≡ nearer c.args.first.now (least (faults_in table setting c.new-start.result ++ (faults_in table setting end ++ mapping))))) c.new-end.ensures c.path.ensures.first))
+    subst (λ kind. OnOk c.path.result (c.path.new.first ≡ nearer c.args.first.now (least (flow_refusals table setting kind)))) (sym c.in-Path.is)
+    (subst (λ start. OnOk c.path.result (c.path.new.first ≡ nearer c.args.first.now (least (refusals_in table setting start ++ (refusals_in table setting (point_use c.in-Path.to true c.in-Path.to_set) ++ mapping))))) c.new-start.ensures
+    (subst (λ end. OnOk c.path.result (c.path.new.first ≡ nearer c.args.first.now (least (refusals_in table setting c.new-start.result ++ (refusals_in table setting end ++ mapping))))) c.new-end.ensures c.path.ensures.first))

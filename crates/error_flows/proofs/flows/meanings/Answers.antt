@@ -2,7 +2,7 @@ use Rattle.std.proofs.Common.{◌≡◌, ◌++◌, [], option_to_list, ap, ◌�
 use Rattle.plain_values.specs.Order.{least, nearer}
 use Rattle.package_index.proofs.Loops.{gathered-more, noting-more}
 use Rattle.propagation_points.specs.Settings.{clause_setting}
-use Rattle.error_flows.specs.Flows.{flow_faults, flow_meaning}
+use Rattle.error_flows.specs.Flows.{flow_refusals, flow_meaning}
 use Rattle.error_flows.proofs.flows.meanings.Goals as goal
 
 pub loop-flow-preserved : goal.loop-flow-preserved
@@ -15,6 +15,6 @@ loop-flow-preserved c =
       kept = c.in_ok-add_meaning.ensures.kept ∙ kept;
       found = gathered-more c.args.flows.now c.loop-flow.flow-index flow c.loop-flow-test.true c.flow-item.is (λ each. option_to_list (flow_meaning c.args.types.now (setting each.scope) each.item.name each.item.kind)) [] c.loop-flow.found _ c.loop-flow.invariant.found
           (c.in_ok-add_meaning.ensures.found ∙ (λ i. c.loop-flow.found ++ option_to_list (flow_meaning (kept i) (here i) (c.item.ensures i).name (c.item.ensures i).kind)));
-      first = noting-more c.args.flows.now c.loop-flow.flow-index flow c.loop-flow-test.true c.flow-item.is (λ each. flow_faults c.args.types.now (setting each.scope) each.item.kind) c.loop-flow.first _ _
-          (c.in_ok-add_meaning.ensures.first ∙ (λ i. nearer c.loop-flow.first (least (flow_faults (kept i) (here i) (c.item.ensures i).kind)))) c.loop-flow.invariant.first;
+      first = noting-more c.args.flows.now c.loop-flow.flow-index flow c.loop-flow-test.true c.flow-item.is (λ each. flow_refusals c.args.types.now (setting each.scope) each.item.kind) c.loop-flow.first _ _
+          (c.in_ok-add_meaning.ensures.first ∙ (λ i. nearer c.loop-flow.first (least (flow_refusals (kept i) (here i) (c.item.ensures i).kind)))) c.loop-flow.invariant.first;
     }

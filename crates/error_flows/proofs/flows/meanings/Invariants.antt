@@ -1,11 +1,11 @@
 use Rattle.std.proofs.Common.{◌≡◌, drop, take}
 use Rattle.plain_values.specs.Order.{least, nearer}
-use Rattle.error_flows.specs.Flows.{faults_of_flows, meanings}
+use Rattle.error_flows.specs.Flows.{refusals_of_flows, meanings}
 use Rattle.error_flows.proofs.flows.meanings.Given as goal
 
 abbrev pub invariant-loop-flow : goal.invariant-loop-flow
 invariant-loop-flow l = record {
   kept : l.types ≡ l.fn.types;
   found : l.found ≡ meanings l.fn.types l.points l.states l.scopes (take l.flow-index l.flows);
-  first : nearer l.first (least (faults_of_flows l.fn.types l.points l.states l.scopes (drop l.flow-index l.flows))) ≡ nearer l.fn.first (least (faults_of_flows l.fn.types l.points l.states l.scopes l.flows));
+  first : nearer l.first (least (refusals_of_flows l.fn.types l.points l.states l.scopes (drop l.flow-index l.flows))) ≡ nearer l.fn.first (least (refusals_of_flows l.fn.types l.points l.states l.scopes l.flows));
 }

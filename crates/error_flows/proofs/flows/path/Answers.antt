@@ -3,16 +3,16 @@ use Rattle.plain_values.specs.declared.refusal.Code.TheVariants.{Mapping}
 use Rattle.plain_values.specs.Order.{least, nearer}
 use Rattle.plain_values.proofs.OrderLaws.{noted-more}
 use Rattle.plain_values.specs.Refusal.{refused_there}
-use Rattle.propagation_points.specs.Settings.{faults_in}
+use Rattle.propagation_points.specs.Settings.{refusals_in}
 use Rattle.error_flows.proofs.flows.path.Goals as goal
 
 pub returns-clause-first : goal.returns-clause-first
 returns-clause-first c =
     let table = c.args.types.now in
     let setting = c.args.setting.now in
-    let start = faults_in table setting c.args.start.now in
-    let end = faults_in table setting c.args.end.now in
+    let start = refusals_in table setting c.args.start.now in
+    let end = refusals_in table setting c.args.end.now in
     let mapping = refused_there Mapping c.args.mapping in
     c.note_at.ensures
-    ∙ noted-more c.reached.new.first c.reached-2.new.first end mapping (c.in_ok-to.ensures.first ∙ ap (λ types. nearer c.reached.new.first (least (faults_in types setting c.args.end.now))) c.in_ok-from.ensures.kept)
+    ∙ noted-more c.reached.new.first c.reached-2.new.first end mapping (c.in_ok-to.ensures.first ∙ ap (λ types. nearer c.reached.new.first (least (refusals_in types setting c.args.end.now))) c.in_ok-from.ensures.kept)
     ∙ noted-more c.args.first.now c.reached.new.first start (end ++ mapping) c.in_ok-from.ensures.first

@@ -2,11 +2,11 @@ use Rattle.std.proofs.Common.{◌≡◌, Some, ap, ◌∙◌, subst, sym}
 use Rattle.std.specs.Option.{option_or}
 use Rattle.std.proofs.lemmas.Result.{err_from_is_err_and}
 use Rattle.plain_values.specs.Order.{least}
-use Rattle.propagation_points.specs.Points.{point_faults, points_of}
-use Rattle.error_flows.specs.Flows.{all_flow_faults, flows_of}
-use Rattle.error_behavior.specs.Behavior.{behavior_faults, behavior_of}
+use Rattle.propagation_points.specs.Points.{point_refusals, points_of}
+use Rattle.error_flows.specs.Flows.{all_flow_refusals, flows_of}
+use Rattle.error_behavior.specs.Behavior.{behavior_refusals, behavior_of}
 use Rattle.error_behavior.specs.States.{states_of}
-use Rattle.composite_states.specs.Composites.{clauses_of, composite_clause_faults}
+use Rattle.composite_states.specs.Composites.{clauses_of, composite_clause_refusals}
 use Rattle.plain_values.specs.Stops.{StopsAt}
 use Rattle.error_models.specs.Below.{states_below}
 use Rattle.error_models.specs.Models.{is_composite}
@@ -20,12 +20,12 @@ returns-in_err-behavior-clause-refused c =
     let machine = c.args.machine.now in
     let below = states_below c.args.below.now.tree.packages c.args.below.now.tree.kinds (Some c.args.below.now.classifier) in
     let stop = c.in_err-behavior.field-0.0 in
-    let first = least (point_faults table effective) in
-    let second = least (behavior_faults table (points_of table effective) machine effective) in
-    let third = least (all_flow_faults table (points_of table effective) (states_of machine).names effective) in
-    let last = least (composite_clause_faults below table (points_of table effective) (states_of machine) effective) in
-    let same : least (behavior_faults c.points.new.types c.in_ok-points.points machine effective) ≡ second =
-    λ i. least (behavior_faults (c.in_ok-points.ensures.kept i) (c.in_ok-points.ensures.points i) machine effective) in
+    let first = least (point_refusals table effective) in
+    let second = least (behavior_refusals table (points_of table effective) machine effective) in
+    let third = least (all_flow_refusals table (points_of table effective) (states_of machine).names effective) in
+    let last = least (composite_clause_refusals below table (points_of table effective) (states_of machine) effective) in
+    let same : least (behavior_refusals c.points.new.types c.in_ok-points.points machine effective) ≡ second =
+    λ i. least (behavior_refusals (c.in_ok-points.ensures.kept i) (c.in_ok-points.ensures.points i) machine effective) in
     let p = err_from_is_err_and c.from_residual-in_err-behavior.result c.from_residual-in_err-behavior.ensures.1 in
     rw (p.1, p.2) (none-stops first (option_or second (option_or third last)) stop c.in_ok-points.ensures.accepted
     (or-stops second (option_or third last) stop (subst (λ o. StopsAt o stop) same c.in_err-behavior.ensures.refused)))
@@ -37,15 +37,15 @@ returns-in_err-flows-clause-refused c =
     let machine = c.args.machine.now in
     let below = states_below c.args.below.now.tree.packages c.args.below.now.tree.kinds (Some c.args.below.now.classifier) in
     let stop = c.in_err-flows.field-0.0 in
-    let first = least (point_faults table effective) in
-    let second = least (behavior_faults table (points_of table effective) machine effective) in
-    let third = least (all_flow_faults table (points_of table effective) (states_of machine).names effective) in
-    let last = least (composite_clause_faults below table (points_of table effective) (states_of machine) effective) in
+    let first = least (point_refusals table effective) in
+    let second = least (behavior_refusals table (points_of table effective) machine effective) in
+    let third = least (all_flow_refusals table (points_of table effective) (states_of machine).names effective) in
+    let last = least (composite_clause_refusals below table (points_of table effective) (states_of machine) effective) in
     let kept : c.behavior.new.types ≡ table = c.in_ok-behavior.ensures.kept ∙ c.in_ok-points.ensures.kept in
-    let same : least (behavior_faults c.points.new.types c.in_ok-points.points machine effective) ≡ second =
-    λ i. least (behavior_faults (c.in_ok-points.ensures.kept i) (c.in_ok-points.ensures.points i) machine effective) in
-    let next : least (all_flow_faults c.behavior.new.types c.in_ok-points.points c.in_ok-states.states.names effective) ≡ third =
-    λ i. least (all_flow_faults (kept i) (c.in_ok-points.ensures.points i) (c.in_ok-states.ensures i).names effective) in
+    let same : least (behavior_refusals c.points.new.types c.in_ok-points.points machine effective) ≡ second =
+    λ i. least (behavior_refusals (c.in_ok-points.ensures.kept i) (c.in_ok-points.ensures.points i) machine effective) in
+    let next : least (all_flow_refusals c.behavior.new.types c.in_ok-points.points c.in_ok-states.states.names effective) ≡ third =
+    λ i. least (all_flow_refusals (kept i) (c.in_ok-points.ensures.points i) (c.in_ok-states.ensures i).names effective) in
     let p = err_from_is_err_and c.from_residual-in_err-flows.result c.from_residual-in_err-flows.ensures.1 in
     rw (p.1, p.2) (none-stops first (option_or second (option_or third last)) stop c.in_ok-points.ensures.accepted
     (none-stops second (option_or third last) stop (sym same ∙ c.in_ok-behavior.ensures.accepted) (or-stops third last stop (subst (λ o. StopsAt o stop) next c.in_err-flows.ensures.refused))))
@@ -57,18 +57,18 @@ returns-in_err-composites-clause-refused c =
     let machine = c.args.machine.now in
     let below = states_below c.args.below.now.tree.packages c.args.below.now.tree.kinds (Some c.args.below.now.classifier) in
     let stop = c.in_err-composites.field-0.0 in
-    let first = least (point_faults table effective) in
-    let second = least (behavior_faults table (points_of table effective) machine effective) in
-    let third = least (all_flow_faults table (points_of table effective) (states_of machine).names effective) in
-    let last = least (composite_clause_faults below table (points_of table effective) (states_of machine) effective) in
+    let first = least (point_refusals table effective) in
+    let second = least (behavior_refusals table (points_of table effective) machine effective) in
+    let third = least (all_flow_refusals table (points_of table effective) (states_of machine).names effective) in
+    let last = least (composite_clause_refusals below table (points_of table effective) (states_of machine) effective) in
     let kept : c.behavior.new.types ≡ table = c.in_ok-behavior.ensures.kept ∙ c.in_ok-points.ensures.kept in
     let kept_on : c.flows.new.types ≡ table = c.in_ok-flows.ensures.kept ∙ kept in
-    let same : least (behavior_faults c.points.new.types c.in_ok-points.points machine effective) ≡ second =
-    λ i. least (behavior_faults (c.in_ok-points.ensures.kept i) (c.in_ok-points.ensures.points i) machine effective) in
-    let next : least (all_flow_faults c.behavior.new.types c.in_ok-points.points c.in_ok-states.states.names effective) ≡ third =
-    λ i. least (all_flow_faults (kept i) (c.in_ok-points.ensures.points i) (c.in_ok-states.ensures i).names effective) in
-    let here : least (composite_clause_faults below c.flows.new.types c.in_ok-points.points c.in_ok-states.states effective) ≡ last =
-    λ i. least (composite_clause_faults below (kept_on i) (c.in_ok-points.ensures.points i) (c.in_ok-states.ensures i) effective) in
+    let same : least (behavior_refusals c.points.new.types c.in_ok-points.points machine effective) ≡ second =
+    λ i. least (behavior_refusals (c.in_ok-points.ensures.kept i) (c.in_ok-points.ensures.points i) machine effective) in
+    let next : least (all_flow_refusals c.behavior.new.types c.in_ok-points.points c.in_ok-states.states.names effective) ≡ third =
+    λ i. least (all_flow_refusals (kept i) (c.in_ok-points.ensures.points i) (c.in_ok-states.ensures i).names effective) in
+    let here : least (composite_clause_refusals below c.flows.new.types c.in_ok-points.points c.in_ok-states.states effective) ≡ last =
+    λ i. least (composite_clause_refusals below (kept_on i) (c.in_ok-points.ensures.points i) (c.in_ok-states.ensures i) effective) in
     let p = err_from_is_err_and c.from_residual-in_err-composites.result c.from_residual-in_err-composites.ensures.1 in
     rw (p.1, p.2) (none-stops first (option_or second (option_or third last)) stop c.in_ok-points.ensures.accepted
     (none-stops second (option_or third last) stop (sym same ∙ c.in_ok-behavior.ensures.accepted)
@@ -104,18 +104,18 @@ returns-clause-accepted c =
     let effective = c.args.effective.now in
     let machine = c.args.machine.now in
     let below = states_below c.args.below.now.tree.packages c.args.below.now.tree.kinds (Some c.args.below.now.classifier) in
-    let first = least (point_faults table effective) in
-    let second = least (behavior_faults table (points_of table effective) machine effective) in
-    let third = least (all_flow_faults table (points_of table effective) (states_of machine).names effective) in
-    let last = least (composite_clause_faults below table (points_of table effective) (states_of machine) effective) in
+    let first = least (point_refusals table effective) in
+    let second = least (behavior_refusals table (points_of table effective) machine effective) in
+    let third = least (all_flow_refusals table (points_of table effective) (states_of machine).names effective) in
+    let last = least (composite_clause_refusals below table (points_of table effective) (states_of machine) effective) in
     let kept : c.behavior.new.types ≡ table = c.in_ok-behavior.ensures.kept ∙ c.in_ok-points.ensures.kept in
     let kept_on : c.flows.new.types ≡ table = c.in_ok-flows.ensures.kept ∙ kept in
-    let same : least (behavior_faults c.points.new.types c.in_ok-points.points machine effective) ≡ second =
-    λ i. least (behavior_faults (c.in_ok-points.ensures.kept i) (c.in_ok-points.ensures.points i) machine effective) in
-    let next : least (all_flow_faults c.behavior.new.types c.in_ok-points.points c.in_ok-states.states.names effective) ≡ third =
-    λ i. least (all_flow_faults (kept i) (c.in_ok-points.ensures.points i) (c.in_ok-states.ensures i).names effective) in
-    let here : least (composite_clause_faults below c.flows.new.types c.in_ok-points.points c.in_ok-states.states effective) ≡ last =
-    λ i. least (composite_clause_faults below (kept_on i) (c.in_ok-points.ensures.points i) (c.in_ok-states.ensures i) effective) in
+    let same : least (behavior_refusals c.points.new.types c.in_ok-points.points machine effective) ≡ second =
+    λ i. least (behavior_refusals (c.in_ok-points.ensures.kept i) (c.in_ok-points.ensures.points i) machine effective) in
+    let next : least (all_flow_refusals c.behavior.new.types c.in_ok-points.points c.in_ok-states.states.names effective) ≡ third =
+    λ i. least (all_flow_refusals (kept i) (c.in_ok-points.ensures.points i) (c.in_ok-states.ensures i).names effective) in
+    let here : least (composite_clause_refusals below c.flows.new.types c.in_ok-points.points c.in_ok-states.states effective) ≡ last =
+    λ i. least (composite_clause_refusals below (kept_on i) (c.in_ok-points.ensures.points i) (c.in_ok-states.ensures i) effective) in
     none-or first (option_or second (option_or third last)) c.in_ok-points.ensures.accepted
     (none-or second (option_or third last) (sym same ∙ c.in_ok-behavior.ensures.accepted)
     (none-or third last (sym next ∙ c.in_ok-flows.ensures.accepted) (sym here ∙ c.in_ok-composites.ensures.accepted)))

@@ -7,14 +7,14 @@ use Rattle.package_index.specs.declared.id.ClassifierId.{ClassifierId}
 use Rattle.error_types.specs.Libraries.{Table}
 use Rattle.instantiator.specs.Effectives.{effective_of}
 use Rattle.instantiator.specs.Tables.{kind_of}
-use Rattle.used_sets.specs.Used.{used_set_faults}
+use Rattle.used_sets.specs.Used.{used_set_refusals}
 use Rattle.error_models.specs.Below.{kind_machine}
-use Rattle.error_models.specs.Refused.{set_faults}
+use Rattle.error_models.specs.Refused.{set_refusals}
 use Rattle.error_models.proofs.KindLaws.{made-at}
 use Rattle.error_models.proofs.sets.note_sets.Goals as goal
 
-faults-of : (table : Table) (id : ClassifierId) → used_set_faults table (kind_machine table.packages id) (effective_of table.packages id) ≡ set_faults table id
-unfolding set_faults
+faults-of : (table : Table) (id : ClassifierId) → used_set_refusals table (kind_machine table.packages id) (effective_of table.packages id) ≡ set_refusals table id
+unfolding set_refusals
 faults-of table id = refl
 
 pub loop-number-preserved : goal.loop-number-preserved
@@ -32,10 +32,10 @@ loop-number-preserved c =
     let kept : c.loop-number.types ≡ table = c.loop-number.invariant.kept in
     let kind : one ≡ kind_of packages id = made-at (kind_of packages) ids c.kinds-kind-items.result.now i one.classifier one all within c.kind-item.is in
     let machine : c.index-machines-number.result ≡ kind_machine packages id = made-at (kind_machine packages) ids c.args.machines.now i one.classifier c.index-machines-number.result machines within c.index-machines-number.is in
-    let made : used_set_faults c.loop-number.types c.index-machines-number.result one.effective ≡ set_faults table id =
-    (λ k. used_set_faults (kept k) (machine k) (kind k).effective) ∙ (λ k. used_set_faults table (kind_machine (sym same k) id) (effective_of (sym same k) id)) ∙ faults-of table id in
+    let made : used_set_refusals c.loop-number.types c.index-machines-number.result one.effective ≡ set_refusals table id =
+    (λ k. used_set_refusals (kept k) (machine k) (kind k).effective) ∙ (λ k. used_set_refusals table (kind_machine (sym same k) id) (effective_of (sym same k) id)) ∙ faults-of table id in
     record {
       kept = c.in_ok-note_used_sets.ensures.kept ∙ kept;
-      first = noting-more ids i id within (get_or_default ids i one.classifier id within) (set_faults table) c.loop-number.first _ _
+      first = noting-more ids i id within (get_or_default ids i one.classifier id within) (set_refusals table) c.loop-number.first _ _
           (c.in_ok-note_used_sets.ensures.first ∙ ap (λ faults. nearer c.loop-number.first (least faults)) made) c.loop-number.invariant.first;
     }

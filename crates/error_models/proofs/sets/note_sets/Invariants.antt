@@ -1,10 +1,10 @@
 use Rattle.std.proofs.Common.{◌≡◌, drop, flat_map}
 use Rattle.plain_values.specs.Order.{least, nearer}
-use Rattle.error_models.specs.Refused.{set_faults}
+use Rattle.error_models.specs.Refused.{set_refusals}
 use Rattle.error_models.proofs.sets.note_sets.Given as goal
 
 abbrev pub invariant-loop-number : goal.invariant-loop-number
 invariant-loop-number l = record {
   kept : l.types ≡ l.fn.types;
-  first : nearer l.first (least (flat_map (set_faults l.fn.types) (drop l.number l.instance.kinds))) ≡ nearer l.fn.first (least (flat_map (set_faults l.fn.types) l.instance.kinds));
+  first : nearer l.first (least (flat_map (set_refusals l.fn.types) (drop l.number l.instance.kinds))) ≡ nearer l.fn.first (least (flat_map (set_refusals l.fn.types) l.instance.kinds));
 }

@@ -1,8 +1,8 @@
 use Rattle.std.proofs.Common.{◌≡◌, drop, flat_map}
 use Rattle.plain_values.specs.Order.{least, nearer}
-use Rattle.propagation_links.specs.Refused.{connection_faults}
+use Rattle.propagation_links.specs.Refused.{connection_refusals}
 use Rattle.propagation_links.proofs.refused.note_connections.Given as goal
 
 abbrev pub invariant-loop-connection : goal.invariant-loop-connection
 invariant-loop-connection l =
-    nearer l.first (least (flat_map (connection_faults l.pointed l.number) (drop l.connection-index l.connections))) ≡ nearer l.fn.first (least (flat_map (connection_faults l.pointed l.number) l.connections))
+    nearer l.first (least (flat_map (connection_refusals l.pointed l.number) (drop l.connection-index l.connections))) ≡ nearer l.fn.first (least (flat_map (connection_refusals l.pointed l.number) l.connections))

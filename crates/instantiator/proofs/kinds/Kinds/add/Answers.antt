@@ -4,7 +4,7 @@ use Rattle.package_index.specs.Tables.{same_pair}
 use Rattle.component_extension.specs.Chain.{same_id}
 use Rattle.instantiator.specs.Tables.{AreKinds, kind_of}
 use Rattle.instantiator.specs.Whole.{Kinds, kind_place}
-use Rattle.component_extension.specs.Items.{classifier_faults}
+use Rattle.component_extension.specs.Items.{classifier_refusals}
 use Rattle.instantiator.proofs.KindLaws.{kinds-more}
 use Rattle.instantiator.proofs.kinds.Kinds.add.Goals as goal
 
@@ -17,6 +17,6 @@ invariant_of-self-2 c =
     let items = c.in_ok-push.ensures.items ∙ ap (λ front. front ++ kind ∷ []) c.reserve.ensures.items in
     subst (λ kinds. AreKinds inside.index.now kinds (get same_pair c.insert.new.self)) (sym items)
     (kinds-more inside.index.now inside.list.items table c.self.invariant kind (c.requires.effective ∙ ap (λ packages. kind_of packages kind.classifier) view)
-    (ap (λ packages. classifier_faults packages kind.classifier) (sym view) ∙ c.requires.accepted)
+    (ap (λ packages. classifier_refusals packages kind.classifier) (sym view) ∙ c.requires.accepted)
     (ap (λ (kinds : Kinds). kind_place kinds.ids kind.classifier) c.self.view_is ∙ c.requires.new) (get same_pair c.insert.new.self)
     (λ other. c.in_ok-insert.ensures.updates.0 (other.«package», other.decl) ∙ ap (λ n. cond (same_id kind.classifier other) (Some n) (table (other.«package», other.decl))) (ap length c.as_slice-number.ensures.value)))

@@ -1,7 +1,7 @@
 use Rattle.std.proofs.Common.{◌≡◌, sym, ap, ◌∙◌, subst}
 use Rattle.std.proofs.lemmas.Result.{err_from_is_err_and}
 use Rattle.plain_values.specs.Order.{least}
-use Rattle.component_extension.specs.Items.{classifier_faults}
+use Rattle.component_extension.specs.Items.{classifier_refusals}
 use Rattle.component_extension.specs.Effective.{IsEffective}
 use Rattle.plain_values.specs.Stops.{StopsAt}
 use Rattle.instantiator.specs.Whole.{Kinds}
@@ -16,7 +16,7 @@ pub returns-in_err-effective : goal.returns-in_err-effective
 returns-in_err-effective c =
     let view : c.self.inside.index.now ≡ c.args.self.now.packages = ap (λ (kinds : Kinds). kinds.packages) c.self.view_is in
     let p = err_from_is_err_and c.from_residual.result c.from_residual.ensures.1 in
-    rw (p.1, p.2) (subst (λ packages. StopsAt (least (classifier_faults packages c.args.id)) c.in_err-effective.field-0.0) view (refused-stops _ _ c.in_err-effective.ensures.refused))
+    rw (p.1, p.2) (subst (λ packages. StopsAt (least (classifier_refusals packages c.args.id)) c.in_err-effective.field-0.0) view (refused-stops _ _ c.in_err-effective.ensures.refused))
 
 pub add-requires-clause-effective : goal.add-requires-clause-effective
 add-requires-clause-effective c =
@@ -28,4 +28,4 @@ add-requires-clause-effective c =
 pub returns : goal.returns
 returns c =
     let view : c.self.inside.index.now ≡ c.args.self.now.packages = ap (λ (kinds : Kinds). kinds.packages) c.self.view_is in
-    entered-new c.args.self.now c.add.new.self c.args.id _ (sym c.number.ensures ∙ c.in_default.is) (ap (λ packages. classifier_faults packages c.args.id) (sym view) ∙ c.in_ok-effective.ensures.accepted) c.in_ok-add.ensures.kinds c.in_ok-add.ensures.number
+    entered-new c.args.self.now c.add.new.self c.args.id _ (sym c.number.ensures ∙ c.in_default.is) (ap (λ packages. classifier_refusals packages c.args.id) (sym view) ∙ c.in_ok-effective.ensures.accepted) c.in_ok-add.ensures.kinds c.in_ok-add.ensures.number
