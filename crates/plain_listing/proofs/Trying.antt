@@ -1,5 +1,5 @@
 -- What is found among the sets that have the chosen numbers and so many more.
-use Rattle.std.proofs.Common.{ℕ, zero, suc, ◌+◌, ◌-◌, ◌≡◌, ◌≢◌, ◌<◌, ◌≤◌, Bool, true, false, cond, List, [], ◌∷◌, ◌++◌, map, filter, ap, ◌∙◌, sym, refl, arith, ap₂, add-one, append_assoc, append-nil, map-id}
+use Rattle.std.proofs.Common.{ℕ, zero, suc, ◌+◌, ◌-◌, ◌≡◌, ◌≢◌, ◌<◌, Bool, true, false, cond, List, [], ◌∷◌, ◌++◌, map, filter, ap, ◌∙◌, sym, refl, arith, ap₂, add-one, append_assoc, append-nil, map-id}
 use Rattle.fault_system.specs.Listings.{choose, rising_sets_up_to}
 
 module _ (p : List ℕ → Bool) where

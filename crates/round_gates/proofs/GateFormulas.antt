@@ -1,5 +1,5 @@
 -- The formula of a gate says what the gate says: its truth, what occurs in it, and whether it is in range.
-use Rattle.std.proofs.Common.{ℕ, ◌≡◌, Bool, true, ◌&&◌, ◌||◌, ◌==◌, List, [], ◌∷◌, map, nat_le, ap, ◌∙◌, sym, refl}
+use Rattle.std.proofs.Common.{ℕ, ◌≡◌, Bool, true, ◌||◌, List, [], ◌∷◌, map, nat_le, ap, ◌∙◌, sym, refl}
 use Rattle.std.proofs.lemmas.Bool.{and_from, lt-ltb}
 use Rattle.std.specs.List.{AllByRecursion, list_all, list_any}
 use Rattle.fault_system.specs.Truth.{NumberSet, count_true, in_range, in_range_step, occurs, occurs_event, occurs_event_step, occurs_step, truth}

@@ -1,7 +1,6 @@
 -- A target that holds under no event always holds, and one that does not hold under all events never does.
-use Rattle.std.proofs.Common.{ℕ, zero, suc, ◌≡◌, ◌<◌, ◌≤◌, ◌↔◌, Bool, true, false, List, [], ◌∷◌, length, replicate, ⊎_elim, ap, ◌∙◌, sym, refl, arith, rules, tests, nat_lt}
-use Rattle.std.proofs.lemmas.Bool.{false≢true, ltb-true, cases_order}
-use Rattle.std.proofs.lemmas.List.{get_or-replicate, length-replicate}
+use Rattle.std.proofs.Common.{ℕ, ◌≡◌, ◌<◌, ◌↔◌, Bool, true, false, List, length, replicate, ap, ◌∙◌, sym, refl, arith, rules, tests, nat_lt}
+use Rattle.std.proofs.lemmas.Bool.{false≢true, ltb-true}
 use Rattle.fault_system.specs.Truth.{NumberSet, Has, member}
 use Rattle.fault_system.specs.Systems.{System, holds_of}
 use Rattle.fault_system.specs.CutSets.{makes_hold}

@@ -1,6 +1,6 @@
 -- The gates of all stages are met together: there is a truth of gates under which each gate of a stage is met and the last
 -- node of a fact is true exactly where the fact holds.
-use Rattle.std.proofs.Common.{ℕ, zero, suc, ◌+◌, ◌-◌, ◌≡◌, ◌<◌, ◌≤◌, ◌⊎◌, Bool, true, false, cond, ◌&&◌, List, [], ◌∷◌, map, slice_get, Option, Some, None, Contains, ⊎_elim, ap, ◌∙◌, sym, subst, refl, arith}
+use Rattle.std.proofs.Common.{ℕ, zero, suc, ◌+◌, ◌-◌, ◌≡◌, ◌<◌, ◌≤◌, ◌⊎◌, Bool, true, false, cond, ◌&&◌, List, [], ◌∷◌, slice_get, Option, Some, None, Contains, ⊎_elim, ap, ◌∙◌, sym, subst, refl, arith}
 use Rattle.std.proofs.lemmas.Bool.{false≢true, and_right, eqb-true, eq-eqb, ne_eqb, cases_order}
 use Rattle.std.specs.List.{AllByRecursion}
 use Rattle.fault_system.specs.Truth.{NumberSet, member, truth, occurs}

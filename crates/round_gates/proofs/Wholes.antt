@@ -5,7 +5,6 @@ use Rattle.std.proofs.lemmas.List.{get_or_default}
 use Rattle.std.proofs.lemmas.List.Sums.{sum_by-cons}
 use Rattle.fault_system.specs.Truth.{NumberSet, member}
 use Rattle.fault_system.specs.Systems.{System, Holds, holds_of}
-use Rattle.plain_values.specs.Rising.{RisesWithin}
 use Rattle.fault_system.proofs.HoldsLaws.{holds_of-exact}
 use Rattle.backward_slice.specs.Slices.{IsSlice, DependsOn}
 use Rattle.backward_slice.specs.declared.parts.Slice.{Slice}

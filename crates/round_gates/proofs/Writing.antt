@@ -1,5 +1,5 @@
 -- Nodes by number, as they are written.
-use Rattle.std.proofs.Common.{ℕ, zero, suc, ◌+◌, ◌≡◌, ◌<◌, Bool, true, false, cond, ◌&&◌, ◌||◌, ◌==◌, List, [], ◌∷◌, length, map, filter, drop, All, get_or, set, ap, ◌∙◌, sym, subst, refl, arith, get_or-set_same, get_or-set_other}
+use Rattle.std.proofs.Common.{ℕ, zero, suc, ◌+◌, ◌≡◌, ◌<◌, Bool, true, false, cond, ◌||◌, ◌==◌, List, [], ◌∷◌, length, map, drop, All, get_or, set, ap, ◌∙◌, sym, subst, refl, arith, get_or-set_same, get_or-set_other}
 use Rattle.std.proofs.lemmas.Bool.{false≢true, eqb-true, eq-eqb}
 use Rattle.fault_system.specs.Truth.{set_of}
 use Rattle.fault_system.specs.Systems.{System}
