@@ -1,11 +1,11 @@
 -- The fields of a value are those as which its tokens read.
-use Rattle.std.proofs.Common.{◌≡◌, ◌↔◌, ℕ, suc, List, [], length, Option, None, Some, refl, sym, subst, ◌∙◌}
+use Rattle.std.proofs.Common.{◌≡◌, ◌↔◌, suc, List, [], length, None, Some, refl, sym, subst, ◌∙◌}
 use Rattle.aadl_syntax.specs.declared.token.Token.{Token}
 use Rattle.grammar_rules.specs.Rules.{Reads}
 use Rattle.grammar_rules.specs.Running.{Outcome, read, dead, run}
 use Rattle.grammar_rules.proofs.Laws.{IsOutcome, is_outcome}
 use Rattle.property_reader.specs.declared.field.Field.{Field}
-use Rattle.property_reader.specs.Fields.{fields, rate_value, value_fields, value_read}
+use Rattle.property_reader.specs.Fields.{rate_value, value_fields, value_read}
 
 -- nothing is left behind a value
 nothing_left : (tokens : List Token) (its : List Field) (rest : List Token) → Reads 0 rate_value tokens its rest → rest ≡ []

@@ -1,5 +1,5 @@
 -- The fields of the value of a rate (EMV2: a record of `OccurrenceDistribution`).
-use Rattle.std.specs.Prelude.{ℕ, suc, List, [], ◌∷◌, codes, length, Option, None, Some}
+use Rattle.std.specs.Prelude.{suc, List, [], ◌∷◌, codes, length, Option, None, Some}
 use Rattle.aadl_syntax.specs.declared.token.Token.{Token}
 use Rattle.grammar_rules.specs.Parts.{parts_after}
 use Rattle.grammar_rules.specs.Rules.{Rule, gives, ends, ◌>>=◌}

@@ -172,6 +172,8 @@ fn only_text(tokens: &TokenList, kind: TokenKind) -> Option<&[u8]>
 fn field_named<'f>(fields: &'f [Field], name: &[u8]) -> Option<&'f TokenList>
     ensures { option_copied result ≡ field_named name.now fields.now }
 {
-    let field = fields.iter().find(|field| is_same(field.name.text(), name))?;
+    let field = fields
+        .iter()
+        .find(|field| is_same(field.name.text(), name))?;
     Some(&field.value)
 }
