@@ -7,4 +7,5 @@ pub mod ShapeLaws
 pub mod NameLaws
 pub mod RootLaws
 pub mod PlainLaws
+pub mod EffectLaws
 pub mod Examples

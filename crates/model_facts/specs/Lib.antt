@@ -1,4 +1,5 @@
 pub mod Assembly
+pub mod Effects
 pub mod Facts
 pub mod Names
 pub mod Limits

@@ -13,14 +13,14 @@ use std::marker::Model;
 /// A model put together: the components of an instance, the types that its packages declare, the error model of each of its
 /// kinds, in order, and the links between its points.
 #[derive(Drop)]
-pub struct Assembly<'m, 'i, 'a> {
-    instance: &'m Instance<'i, 'a>,
-    types: &'m TypeTable<'i, 'a>,
-    models: &'m [ErrorModel<'a>],
+pub struct Assembly<'m> {
+    instance: &'m Instance<'m, 'm>,
+    types: &'m TypeTable<'m, 'm>,
+    models: &'m [ErrorModel<'m>],
     links: &'m [Link],
 }
 
-impl<'m, 'i, 'a> Model for Assembly<'m, 'i, 'a> {
+impl<'m> Model for Assembly<'m> {
     ghost use Rattle.std.specs.Coded.{codes};
     ghost use Rattle.aadl_syntax.specs.contracts.error_model.Condition as condition;
     ghost use Rattle.propagation_points.specs.contracts.side.Side as side;
@@ -34,14 +34,14 @@ impl<'m, 'i, 'a> Model for Assembly<'m, 'i, 'a> {
     ghost view = { λ a. record { instance = a.instance.now; types = a.types.now; models = a.models.now; links = a.links.now } };
 }
 
-impl<'m, 'i, 'a> Assembly<'m, 'i, 'a> {
+impl<'m> Assembly<'m> {
     /// An instance with these types, models of its kinds, and links.
     pub fn new(
-        instance: &'m Instance<'i, 'a>,
-        types: &'m TypeTable<'i, 'a>,
-        models: &'m [ErrorModel<'a>],
+        instance: &'m Instance<'m, 'm>,
+        types: &'m TypeTable<'m, 'm>,
+        models: &'m [ErrorModel<'m>],
         links: &'m [Link],
-    ) -> Assembly<'m, 'i, 'a>
+    ) -> Assembly<'m>
         ensures { result ≡ record { instance = instance.now; types = types.now; models = models.now; links = links.now } }
     {
         Assembly {
@@ -53,21 +53,21 @@ impl<'m, 'i, 'a> Assembly<'m, 'i, 'a> {
     }
 
     /// The instance.
-    pub fn instance(&self) -> &'m Instance<'i, 'a>
+    pub fn instance(&self) -> &'m Instance<'m, 'm>
         ensures { result.now ≡ self.now.instance }
     {
         self.instance
     }
 
     /// The types.
-    pub fn types(&self) -> &'m TypeTable<'i, 'a>
+    pub fn types(&self) -> &'m TypeTable<'m, 'm>
         ensures { result.now ≡ self.now.types }
     {
         self.types
     }
 
     /// The error models of the kinds, in order.
-    pub fn models(&self) -> &'m [ErrorModel<'a>]
+    pub fn models(&self) -> &'m [ErrorModel<'m>]
         ensures { result.now ≡ self.now.models }
     {
         self.models
@@ -81,7 +81,7 @@ impl<'m, 'i, 'a> Assembly<'m, 'i, 'a> {
     }
 
     /// The error model of the component of a number; none where it has no classifier, and so nothing in it.
-    pub fn model(&self, component: u32) -> Option<&'m ErrorModel<'a>>
+    pub fn model(&self, component: u32) -> Option<&'m ErrorModel<'m>>
         ensures { unwrap_or (option_copied result) no_model ≡ model_at self.now component }
     {
         self.models.get(self.instance.kind(component)?)

@@ -157,7 +157,7 @@ fn name_at<'m>(names: &'m [&Identifier], number: u32) -> &'m [u8]
 }
 
 /// The name of a state of a component, or nothing.
-fn state_name<'m>(assembly: &Assembly<'m, '_, '_>, owner: u32, number: u32) -> &'m [u8]
+fn state_name<'m>(assembly: &Assembly<'m>, owner: u32, number: u32) -> &'m [u8]
     ensures { result.now ≡ slice_index_or (model_at assembly.now owner).states.names number [] }
 {
     match assembly.model(owner) {
@@ -167,7 +167,7 @@ fn state_name<'m>(assembly: &Assembly<'m, '_, '_>, owner: u32, number: u32) -> &
 }
 
 /// The name of an error event of a component, or nothing.
-fn declared_name<'m>(assembly: &Assembly<'m, '_, '_>, owner: u32, number: u32) -> &'m [u8]
+fn declared_name<'m>(assembly: &Assembly<'m>, owner: u32, number: u32) -> &'m [u8]
     ensures { result.now ≡ slice_index_or (model_at assembly.now owner).behavior.events number [] }
 {
     match assembly.model(owner) {
@@ -177,7 +177,7 @@ fn declared_name<'m>(assembly: &Assembly<'m, '_, '_>, owner: u32, number: u32) -
 }
 
 /// The name of a source of a component that names no state, or nothing.
-fn source_name<'m>(assembly: &Assembly<'m, '_, '_>, owner: u32, number: u32) -> &'m [u8]
+fn source_name<'m>(assembly: &Assembly<'m>, owner: u32, number: u32) -> &'m [u8]
     ensures { result.now ≡ source_name (slice_get (model_at assembly.now owner).flows number) }
 {
     match assembly.model(owner) {
@@ -187,7 +187,7 @@ fn source_name<'m>(assembly: &Assembly<'m, '_, '_>, owner: u32, number: u32) -> 
 }
 
 /// The name of a point of a component, or nothing.
-fn point_name<'m>(assembly: &Assembly<'m, '_, '_>, owner: u32, number: u32) -> &'m [u8]
+fn point_name<'m>(assembly: &Assembly<'m>, owner: u32, number: u32) -> &'m [u8]
     ensures { result.now ≡ point_name (model_at assembly.now owner) number }
 {
     match assembly.model(owner) {

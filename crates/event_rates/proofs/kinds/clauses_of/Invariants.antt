@@ -1,0 +1,5 @@
+use Rattle.std.proofs.Common.{◌≡◌, map, take}
+use Rattle.event_rates.proofs.kinds.clauses_of.Given as goal
+
+abbrev pub invariant-loop-association : goal.invariant-loop-association
+invariant-loop-association l = map (λ association. association.now) l.list ≡ map (λ scoped. scoped.item) (take l.association-index l.associations)

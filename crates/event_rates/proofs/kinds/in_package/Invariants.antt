@@ -1,0 +1,5 @@
+use Rattle.std.proofs.Common.{◌≡◌, map, take}
+use Rattle.event_rates.proofs.kinds.in_package.Given as goal
+
+abbrev pub invariant-loop-decl : goal.invariant-loop-decl
+invariant-loop-decl l = l.machines ≡ map (λ machine. machine.associations) (take l.decl-index l.decls)

@@ -1,0 +1,24 @@
+use Rattle.std.proofs.Common.{ap, take, sym, subst, ◌∙◌}
+use Rattle.std.proofs.lemmas.List.{take_all}
+use Rattle.std.specs.HashMap.{get}
+use Rattle.package_index.specs.Tables.{same_words}
+use Rattle.package_index.proofs.Loops.{any-more}
+use Rattle.event_rates.specs.Associations.{is_distribution}
+use Rattle.event_rates.specs.Fitting.{PutsAt}
+use Rattle.event_rates.proofs.FittingLaws.{HasPut, put-all, put-more, put-none}
+use Rattle.event_rates.proofs.table.add_association.Goals as goal
+
+pub loop-target-preserved : goal.loop-target-preserved
+loop-target-preserved c =
+    let targets = c.items-target-items.result.now in
+    let k = c.loop-target.target-index in
+    let one = c.target-item.result in
+    put-more (get same_words c.args.fitting.now) (get same_words c.loop-target.fitting) (get same_words c.put.new.fitting) _ _ one c.args.association.now
+    (λ p. any-more targets k one c.loop-target-test.true c.target-item.is p) c.loop-target.invariant
+    (subst (λ target. PutsAt (get same_words c.loop-target.fitting) (get same_words c.put.new.fitting) target c.args.association.now) c.items-in-loop-target.ensures.items c.in_ok-put.ensures)
+
+pub returns : goal.returns
+returns c =
+    let targets = c.items-target-items.result.now in
+    put-all (get same_words c.args.fitting.now) (get same_words c.loop-target.fitting) targets c.args.association.now c.items-target-items.ensures.items (sym c.if-not-is_distribution.false ∙ c.is_distribution.ensures ∙ ap is_distribution c.items.ensures.items)
+    (subst (λ all. HasPut (get same_words c.args.fitting.now) (get same_words c.loop-target.fitting) all c.args.association.now) (take_all c.loop-target.target-index targets c.loop-target-test.false) c.loop-target.invariant)

@@ -1,0 +1,78 @@
+-- The associations of rates, and which of them fits an event.
+use Rattle.std.specs.Prelude.{ℕ, Bool, true, false, ◌&&◌, List, [], ◌∷◌, ◌++◌, codes, filter, map, slice_get, Option, None, Some}
+use Rattle.std.specs.List.{last_or, list_any}
+use Rattle.std.specs.Option.{option_or, option_map_or}
+use Rattle.plain_values.specs.Name.{is_same_text}
+use Rattle.aadl_syntax.specs.declared.error_model.Association.{Association}
+use Rattle.fault_system.specs.declared.formula.EventInfo.{EventInfo}
+use Rattle.package_index.specs.Names.{is_same_name}
+use Rattle.component_extension.specs.declared.effective.Effective.{Effective}
+use Rattle.error_behavior.specs.Machines.{Machine}
+use Rattle.error_models.specs.Below.{machine_of}
+use Rattle.instantiator.specs.Components.{component_below}
+use Rattle.instantiator.specs.Whole.{Instance, effective_in}
+use Rattle.property_reader.specs.declared.rate.Rate.{Rate}
+use Rattle.property_reader.specs.Rates.{association_rate}
+
+-- ---- one text
+
+-- whether there are no names
+abbrev pub is_empty : List (List ℕ) → Bool
+is_empty [] = true
+is_empty (name ∷ names) = false
+
+-- whether two names are `EMV2::OccurrenceDistribution`
+abbrev pub is_of_emv2 : List ℕ → List ℕ → Bool
+is_of_emv2 first second = is_same_text first (codes "emv2") && is_same_text second (codes "occurrencedistribution")
+
+-- whether a property is that of rates, where this is its first name: `OccurrenceDistribution` alone, or behind `EMV2`
+abbrev pub is_distribution_behind : List ℕ → List (List ℕ) → Bool
+is_distribution_behind first [] = is_same_text first (codes "occurrencedistribution")
+is_distribution_behind first (second ∷ further) = is_empty further && is_of_emv2 first second
+
+-- whether a property is that of rates: `OccurrenceDistribution`, bare or of EMV2
+abbrev pub is_distribution : List (List ℕ) → Bool
+is_distribution [] = false
+is_distribution (first ∷ rest) = is_distribution_behind first rest
+
+-- whether an association gives rates, and these names are one of its targets
+abbrev pub fits : List (List ℕ) → Association → Bool
+fits names association = is_distribution association.name && list_any (λ target. is_same_name target names) association.targets
+
+-- The last of these associations that fits.
+abbrev pub last_fitting : List (List ℕ) → List Association → Option Association
+last_fitting names associations = last_or None (filter (fits names) associations)
+
+-- ---- a model
+
+-- the associations of the clauses of a component
+abbrev pub clause_associations : Effective → List Association
+clause_associations effective = map (λ scoped. scoped.item) effective.others.associations
+
+-- the associations of a machine, if there is one
+abbrev pub machine_associations : Option Machine → List Association
+machine_associations None = []
+machine_associations (Some machine) = machine.item.associations
+
+-- The association that fits an event of the component to which a path leads: that of the outermost component on the way, from the
+-- one of this number on, that has one. Its target is what is left of the path, and then the event's key.
+abbrev pub fitting_along : Instance → Option ℕ → List (List ℕ) → List (List ℕ) → Option Association
+fitting_along instance None path key = None
+fitting_along instance (Some number) [] key = last_fitting key (clause_associations (effective_in instance number))
+fitting_along instance (Some number) (name ∷ path) key =
+    option_or (last_fitting (name ∷ path ++ key) (clause_associations (effective_in instance number)))
+    (fitting_along instance (component_below instance.components number (name ∷ [])) path key)
+
+-- the path of the component of a number
+abbrev pub path_in : Instance → ℕ → List (List ℕ)
+path_in instance number = option_map_or (λ component. component.path) (slice_get instance.components number) []
+
+-- The association that counts for an event: one that fits on the way from the root to its component, or else one of its machine.
+abbrev pub association_of : Instance → EventInfo → Option Association
+association_of instance event =
+    option_or (fitting_along instance (Some 0) (path_in instance event.owner) event.key)
+    (last_fitting event.key (machine_associations (machine_of instance.packages (effective_in instance event.owner))))
+
+-- The rate of an event of a model.
+abbrev pub rate_in : Instance → EventInfo → Rate
+rate_in instance event = association_rate (association_of instance event)

@@ -1,0 +1,119 @@
+ghost use Rattle.std.specs.Prelude.{◌≡◌, ◌++◌, ◌∷◌, [], ℕ, All, IfOk, List, OnOk, map, option_copied};
+ghost use Rattle.aadl_syntax.specs.Form.{IsNumber};
+ghost use Rattle.instantiator.specs.Components.{component_below};
+ghost use Rattle.event_rates.specs.Associations.{association_of, fitting_along, path_in, rate_in};
+
+use crate::kinds::Tables;
+use aadl_syntax::{Association, Identifier};
+use fault_system::EventInfo;
+use instantiator::Instance;
+use plain_values::{List, Mem, Name};
+use property_reader::{Rate, rate_of};
+use std::alloc::Global;
+
+/// The rates of events of a model, in order (EMV2: `OccurrenceDistribution`).
+///
+/// The association of the outermost component on the way to an event's own that has one for it counts, of these the last; where
+/// there is none, the last of the machine. An event that has none gets the conservative rate.
+pub fn rates_of(alloc: Global, instance: &Instance<'_, '_>, events: &[EventInfo]) -> Mem<List<Rate>>
+    ensures rates { IfOk result (λ rates. rates ≡ map (rate_in instance.now) events.now) }
+    ensures numbers { IfOk result (λ rates. All (λ rate. IsNumber rate.text) rates) }
+{
+    let tables = Tables::of(alloc, instance)?;
+    let mut rates = List::new(alloc);
+    for event in events {
+        let rate = tables.rate_in(alloc, event)?;
+        rates.push(rate)?;
+    }
+    Ok(rates)
+}
+
+impl<'r> Tables<'r> {
+    /// The rate of an event.
+    fn rate_in(&self, alloc: Global, event: &EventInfo) -> Mem<Rate>
+        ensures rate { IfOk result (λ rate. rate ≡ rate_in self.now event.now) }
+        ensures number { IfOk result (λ rate. IsNumber rate.text) }
+    {
+        let names = names_of(alloc, self.path(event.owner), event.key.items())?;
+        rate_of(alloc, self.association_of(event, names.items()))
+    }
+
+    /// The association that counts for an event, whose path and key these names are.
+    fn association_of(&self, event: &EventInfo, names: &[Name]) -> Option<&'r Association>
+        requires { names.now ≡ path_in self.now event.now.owner ++ event.now.key }
+        ensures { option_copied result ≡ association_of self.now event.now }
+    {
+        match self.fitting_along(Some(0), self.path(event.owner), names) {
+            Some(association) => Some(association),
+            None => self.of_machine(event.owner, event.key.items()),
+        }
+    }
+
+    /// The association of the outermost component that has one for these names, on the way from a component along a path; the names
+    /// begin with the path.
+    fn fitting_along(
+        &self,
+        component: Option<u32>,
+        path: &[&Identifier],
+        names: &[Name],
+    ) -> Option<&'r Association>
+        ensures { (key : List (List ℕ)) → names.now ≡ map (λ name. name.now) path.now ++ key → option_copied result ≡ fitting_along self.now component (map (λ name. name.now) path.now) key }
+    {
+        let component = component?;
+        if let Some(association) = self.of_clauses(component, names) {
+            return Some(association);
+        }
+        let (name, path) = path.split_first()?;
+        let (_, names) = names.split_first()?;
+        let below = self.below(component, *name);
+        self.fitting_along(below, path, names)
+    }
+
+    /// The component of this name in a component.
+    fn below(&self, component: u32, name: &Identifier) -> Option<u32>
+        ensures { result ≡ component_below self.now.components component (name.now ∷ []) }
+    {
+        self.instance()
+            .find_below(component, std::slice::from_ref(name))
+    }
+
+    /// The names of the path of a component.
+    fn path(&self, component: u32) -> &'r [&'r Identifier]
+        ensures { map (λ name. name.now) result.now ≡ path_in self.now component }
+    {
+        match self.instance().components().get(component as usize) {
+            Some(component) => component.path.names(),
+            None => &[],
+        }
+    }
+}
+
+/// A path, and then a key.
+fn names_of(alloc: Global, path: &[&Identifier], key: &[Name]) -> Mem<List<Name>>
+    ensures { IfOk result (λ names. names ≡ map (λ name. name.now) path.now ++ key.now) }
+{
+    let mut names = List::new(alloc);
+    add_path(alloc, &mut names, path)?;
+    for name in key {
+        let name = copied(alloc, name.items())?;
+        names.push(name)?;
+    }
+    Ok(names)
+}
+
+/// Adds the names of a path.
+fn add_path(alloc: Global, names: &mut List<Name>, path: &[&Identifier]) -> Mem<()>
+    ensures { OnOk result (names.new ≡ names.old ++ map (λ name. name.now) path.now) }
+{
+    for name in path {
+        let name = copied(alloc, name.text())?;
+        names.push(name)?;
+    }
+    Ok(())
+}
+
+fn copied(alloc: Global, text: &[u8]) -> Mem<Name>
+    ensures { IfOk result (λ name. name ≡ text.now) }
+{
+    List::of(Vec::from_slice(alloc, text)?)
+}

@@ -1,0 +1,7 @@
+use Rattle.std.proofs.Common.{◌≡◌, ◌+◌, ◌++◌, flat_map}
+use Rattle.plain_values.specs.Numbered.{numbers_below}
+use Rattle.model_maker.specs.Text.{further_stage}
+use Rattle.model_maker.proofs.text.push_further.Given as goal
+
+abbrev pub invariant-loop-k : goal.invariant-loop-k
+invariant-loop-k l = l.text.items ≡ l.fn.text.items ++ flat_map (λ k. further_stage (k + 2)) (numbers_below l.k)
