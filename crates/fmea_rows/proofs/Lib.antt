@@ -1,0 +1,7 @@
+pub mod RowLaws
+pub mod RowOrder
+pub mod TableLaws
+pub mod UserLaws
+pub mod TestLaws
+pub mod LineLaws
+pub mod WriteLaws

@@ -1,0 +1,10 @@
+use Rattle.std.proofs.Common.{ℕ, take}
+use Rattle.fault_system.specs.Truth.{Has, member, set_of}
+use Rattle.fmea_rows.specs.Tables.{FitsAround, IsTested, facts_of}
+use Rattle.fmea_rows.proofs.testing.fit_around.Given as goal
+
+abbrev pub invariant-loop-change : goal.invariant-loop-change
+invariant-loop-change l = record {
+  tested : IsTested l.system (member l.only) l.times l.mark l.marks;
+  fit : (g : ℕ) → Has (set_of (facts_of (take l.change-index l.changes))) g → FitsAround l.system (member l.only) l.times l.users g;
+}

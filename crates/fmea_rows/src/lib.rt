@@ -1,0 +1,18 @@
+//! Tables of failure modes and effects: for each event the effects that it reaches alone, with its rate, and the table as
+//! comma-separated values.
+#![tactic(auto)]
+
+mod change;
+mod fields;
+mod laws;
+mod proposing;
+mod row;
+mod table;
+mod testing;
+mod users;
+mod writing;
+
+pub use laws::{computed_rows, one_table, reads_back};
+pub use row::Row;
+pub use table::rows;
+pub use writing::write_rows;

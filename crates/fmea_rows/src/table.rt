@@ -1,0 +1,212 @@
+//! The rows of all events.
+//!
+//! For each event the table of rounds under no event is changed where the event is felt, tested, and put back. What passes the
+//! tests is right. That what is proposed always passes is not proved, so where a test failed the rounds under the event would be
+//! made anew.
+
+ghost use Rattle.std.specs.Prelude.{◌≡◌, ◌≤◌, ◌<◌, ◌+◌, ◌^◌, ◌++◌, ℕ, IfOk, IsTrue, OnOk, length, map, slice_index_or, replicate};
+ghost use Rattle.plain_values.specs.Rising.{RisesWithin};
+ghost use Rattle.fault_system.specs.Truth.{member};
+ghost use Rattle.fault_system.specs.Rounds.{IsTable, no_event, only, time_of};
+ghost use Rattle.fmea_rows.specs.Rows.{AreRows, event_rows, rows_of};
+ghost use Rattle.fmea_rows.specs.Tables.{AreUsers, IsBetween, IsKnown, IsRight, changed_rows, is_new, table_rows};
+
+use crate::change::{Change, are_rising, make_changes, take_back, time_at};
+use crate::proposing::Proposer;
+use crate::row::Row;
+use crate::testing::fits_where_felt;
+use crate::users::{Users, users_of};
+use fault_system::{Bits, FaultSystem, checked_table, table_of_rounds};
+use plain_values::{List, Mem};
+use std::alloc::Global;
+
+/// What is known of all events: the rounds of all facts under no event, which facts are effects, and in which formulas each fact
+/// and each event occurs.
+#[derive(Drop)]
+pub(crate) struct Known {
+    base: List<u32>,
+    effects: Bits,
+    users: Users,
+}
+
+/// What is used for each event again: the table that is changed and put back, the marks of the facts that were tested, and
+/// what proposes changes.
+#[derive(Drop)]
+pub(crate) struct Desk {
+    times: Vec<u32>,
+    marks: Vec<u32>,
+    proposer: Proposer,
+}
+
+/// The rows of an FMEA table: for each event each effect that holds under the event alone and not under no event, with
+/// the round in which it comes to hold; by event, and then by effect. The effects are the rising numbers of facts.
+///
+/// The time goes with the formulas of the facts that the events reach, and not with events times facts.
+pub fn rows(alloc: Global, system: &FaultSystem, effects: &[u32]) -> Mem<List<Row>>
+    requires { RisesWithin 0 (length system.now.facts) effects.now }
+    ensures rows { IfOk result (λ rows. rows ≡ rows_of system.now effects.now) }
+    ensures exact { IfOk result (AreRows system.now effects.now) }
+{
+    let known = known_of(alloc, system, effects)?;
+    let mut desk = desk_of(alloc, &known)?;
+    let mut rows = List::new(alloc);
+    for event in 0..system.events() {
+        add_rows(alloc, system, effects, &known, event, &mut desk, &mut rows)?;
+    }
+    Ok(rows)
+}
+
+// What is known of all events.
+fn known_of(alloc: Global, system: &FaultSystem, effects: &[u32]) -> Mem<Known>
+    requires { RisesWithin 0 (length system.now.facts) effects.now }
+    ensures { IfOk result (IsKnown system.now effects.now) }
+{
+    table_of_rounds();
+    let none = Bits::new(alloc, system.events())?;
+    Ok(Known {
+        base: system.rounds(alloc, &none)?,
+        effects: Bits::of(alloc, system.facts(), effects)?,
+        users: users_of(alloc, system)?,
+    })
+}
+
+// The table of no event, without marks.
+fn desk_of(alloc: Global, known: &Known) -> Mem<Desk>
+    ensures { IfOk result (λ desk. IsBetween known.now.base 0 desk.times.items desk.marks.items) }
+{
+    let base = known.base.items();
+    Ok(Desk {
+        times: Vec::from_slice(alloc, base)?,
+        marks: vec![in alloc; 0u32; base.len()]?,
+        proposer: Proposer::new(alloc, base)?,
+    })
+}
+
+// Adds the rows of an event.
+fn add_rows(
+    alloc: Global,
+    system: &FaultSystem,
+    effects: &[u32],
+    known: &Known,
+    event: u32,
+    desk: &mut Desk,
+    rows: &mut List<Row>,
+) -> Mem<()>
+    requires event { event < length system.now.events }
+    requires rise { RisesWithin 0 (length system.now.facts) effects.now }
+    requires known { IsKnown system.now effects.now known.now }
+    requires between { IsBetween known.now.base event desk.old.times.items desk.old.marks.items }
+    ensures rows { OnOk result (rows.new ≡ rows.old ++ event_rows system.now effects.now event) }
+    ensures between { OnOk result
+        (IsBetween known.now.base (event + 1) desk.new.times.items desk.new.marks.items) }
+{
+    let changes = desk.proposer.propose(alloc, system, &known.users, event)?;
+    let alone = Bits::of(alloc, system.events(), &[event])?;
+    if is_right(system, known, event, &alone, changes.as_slice(), desk) {
+        add_changed(known, event, changes.as_slice(), rows)?;
+        return Ok(());
+    }
+    add_plain(alloc, system, known, effects, event, &alone, rows)
+}
+
+// Whether the table of no event with these changes is that of an event alone.
+fn is_right(
+    system: &FaultSystem,
+    known: &Known,
+    event: u32,
+    alone: &Bits,
+    changes: &[Change],
+    desk: &mut Desk,
+) -> bool
+    requires event { event < length system.now.events }
+    requires few { event + 1 < 2 ^ 32 }
+    requires alone { member alone.now ≡ only event }
+    requires base { IsTable system.now no_event known.now.base }
+    requires users { AreUsers system.now known.now.users }
+    requires between { IsBetween known.now.base event desk.old.times.items desk.old.marks.items }
+    ensures right { IsTrue result → IsRight system.now event known.now.base changes.now }
+    ensures between { IsBetween known.now.base (event + 1) desk.new.times.items desk.new.marks.items }
+{
+    checked_table();
+    if !are_rising(changes, system.facts()) {
+        return false;
+    }
+    make_changes(desk.times.as_mut_slice(), changes);
+    let fits = fits_where_felt(
+        system,
+        &known.users,
+        event,
+        alone,
+        desk.times.as_slice(),
+        changes,
+        desk.marks.as_mut_slice(),
+    );
+    take_back(desk.times.as_mut_slice(), known.base.items(), changes);
+    fits
+}
+
+// Adds the rows of an event that makes these changes.
+fn add_changed(known: &Known, event: u32, changes: &[Change], rows: &mut List<Row>) -> Mem<()>
+    ensures { OnOk result (rows.new ≡ rows.old ++ changed_rows known.now event changes.now) }
+{
+    for change in changes {
+        let is_reached = known.effects.has(change.fact)
+            && is_new(known.base.items(), change.fact, change.time);
+        rows.push_if(row_of(event, change.fact, change.time), is_reached)?;
+    }
+    Ok(())
+}
+
+// Adds the rows of an event from its own table.
+fn add_plain(
+    alloc: Global,
+    system: &FaultSystem,
+    known: &Known,
+    effects: &[u32],
+    event: u32,
+    alone: &Bits,
+    rows: &mut List<Row>,
+) -> Mem<()>
+    requires alone { member alone.now ≡ only event }
+    requires base { IsTable system.now no_event known.now.base }
+    ensures { OnOk result (rows.new ≡ rows.old ++ event_rows system.now effects.now event) }
+{
+    table_of_rounds();
+    let times = system.rounds(alloc, alone)?;
+    add_reached(known.base.items(), times.items(), effects, event, rows)?;
+    Ok(())
+}
+
+// Adds the rows of an event over some effects, as its table says.
+fn add_reached(
+    base: &[u32],
+    times: &[u32],
+    effects: &[u32],
+    event: u32,
+    rows: &mut List<Row>,
+) -> Mem<()>
+    ensures { OnOk result (rows.new ≡ rows.old ++ table_rows base.now times.now event effects.now) }
+{
+    for effect in effects {
+        let time = time_at(times, *effect);
+        rows.push_if(row_of(event, *effect, time), is_new(base, *effect, time))?;
+    }
+    Ok(())
+}
+
+fn row_of(event: u32, effect: u32, round: u32) -> Row
+    ensures { result ≡ record { event = event; effect = effect; round = round } }
+{
+    Row {
+        event,
+        effect,
+        round,
+    }
+}
+
+// Whether a fact has no time in the table of no event, and one under an event.
+fn is_new(base: &[u32], fact: u32, time: u32) -> bool
+    ensures { result ≡ is_new base.now fact time }
+{
+    time_at(base, fact) == 0 && time > 0
+}
