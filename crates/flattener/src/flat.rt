@@ -1,6 +1,6 @@
-ghost use Rattle.std.specs.Prelude.{◌≡◌, None, Some, IfErr, IfOk, MatchResult, OnOk, map};
+ghost use Rattle.std.specs.Prelude.{◌≡◌, None, Some, IfOk, MatchResult, map};
 ghost use Rattle.plain_values.specs.Stops.{StopsAt};
-ghost use Rattle.flattener.specs.Flat.{Flattened, event_info, fact_info, places_refusal, size_refusal, system_by, system_of};
+ghost use Rattle.flattener.specs.Flat.{Flattened, event_info, fact_info, places_refusal, system_by};
 
 use crate::counts::all_places;
 use crate::facts::meaning_of;
@@ -9,28 +9,14 @@ use crate::numbers::Numbers;
 use fault_system::{EventInfo, FactInfo, FaultSystem, is_system};
 use model_facts::{
     Assembly, EventKey, EventTable, FactKey, FactTable, event_key, event_name, fact_name,
-    universe_of,
 };
 use plain_values::{Answer, Code, List, Mem, Place, Refusal};
 use std::alloc::{AllocError, Global};
 
-/// The system of a model: its facts with their formulas, and its events.
+/// The system of a model with this universe, and these facts and events: its facts with their formulas, and its events.
 ///
-/// M6 where there are more than 262,144 facts, or else M7 where there are more than 4,096 events, or else M9 where the formulas
-/// have more than 4,194,304 places.
-pub fn flatten(alloc: Global, assembly: &Assembly) -> Answer<FaultSystem>
-    ensures system { IfOk result (λ system. system ≡ system_of assembly.now) }
-    ensures accepted { OnOk result (size_refusal assembly.now ≡ None) }
-    ensures refused { IfErr result (StopsAt (size_refusal assembly.now)) }
-{
-    let universe = universe_of(alloc, assembly)?;
-    let facts = FactTable::of(alloc, assembly, universe.items())?;
-    let events = EventTable::of(alloc, assembly)?;
-    with_numbers(alloc, assembly, universe.items(), &facts, &events)
-}
-
-/// The system of a model with this universe, and these facts and events.
-fn with_numbers(
+/// M9 where the formulas have more than 4,194,304 places.
+pub fn flatten(
     alloc: Global,
     assembly: &Assembly,
     universe: &[u32],

@@ -16,15 +16,15 @@ use std::marker::Model;
 
 /// The error model of a kind of components, with what leads to each state and out of each point. Contracts see the model.
 #[derive(Drop)]
-pub(crate) struct Kind<'m, 'a> {
-    model: &'m ErrorModel<'a>,
+pub(crate) struct Kind<'m> {
+    model: &'m ErrorModel<'m>,
     steps: HashMap<u32, List<&'m Step>>,
     conditions: HashMap<u32, List<&'m Cause>>,
     emissions: HashMap<u32, List<&'m Emission>>,
     flows: HashMap<u32, List<(u32, &'m FlowMeaning)>>,
 }
 
-impl<'m, 'a> Model for Kind<'m, 'a> {
+impl<'m> Model for Kind<'m> {
     ghost use Rattle.std.specs.Coded.{codes};
     ghost use Rattle.aadl_syntax.specs.contracts.error_model.Condition as condition;
     ghost use Rattle.propagation_points.specs.contracts.side.Side as side;
@@ -44,9 +44,9 @@ impl<'m, 'a> Model for Kind<'m, 'a> {
     ghost invariant = { λ k. AreSteps k.model.now.behavior.steps (get nat_eq k.steps) × AreConditions k.model.now.composites (get nat_eq k.conditions) × AreEmissions k.model.now.behavior.emissions (get nat_eq k.emissions) × AreFlows k.model.now.flows (get nat_eq k.flows) };
 }
 
-impl<'m, 'a> Kind<'m, 'a> {
+impl<'m> Kind<'m> {
     /// The kind of this error model.
-    pub(crate) fn of(alloc: Global, model: &'m ErrorModel<'a>) -> Mem<Kind<'m, 'a>>
+    pub(crate) fn of(alloc: Global, model: &'m ErrorModel<'m>) -> Mem<Kind<'m>>
         ensures { IfOk result (λ kind. kind ≡ model.now) }
     {
         let steps = steps_of(alloc, model.behavior.steps.items())?;
@@ -63,7 +63,7 @@ impl<'m, 'a> Kind<'m, 'a> {
     }
 
     /// The error model.
-    pub(crate) fn model(&self) -> &'m ErrorModel<'a>
+    pub(crate) fn model(&self) -> &'m ErrorModel<'m>
         ensures { result.now ≡ self.now }
     {
         self.model

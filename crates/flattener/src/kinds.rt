@@ -11,12 +11,12 @@ use std::marker::Model;
 
 /// The kinds of components of a model, in order, and one in which nothing happens. Contracts see their error models.
 #[derive(Drop)]
-pub(crate) struct Kinds<'m, 'a> {
-    list: List<Kind<'m, 'a>>,
-    nothing: Kind<'m, 'a>,
+pub(crate) struct Kinds<'m> {
+    list: List<Kind<'m>>,
+    nothing: Kind<'m>,
 }
 
-impl<'m, 'a> Model for Kinds<'m, 'a> {
+impl<'m> Model for Kinds<'m> {
     ghost use Rattle.std.specs.Prelude.{List};
     ghost use Rattle.std.specs.Coded.{codes};
     ghost use Rattle.aadl_syntax.specs.contracts.error_model.Condition as condition;
@@ -36,13 +36,13 @@ impl<'m, 'a> Model for Kinds<'m, 'a> {
     ghost invariant = { λ k. k.nothing ≡ no_model };
 }
 
-impl<'m, 'a> Kinds<'m, 'a> {
+impl<'m> Kinds<'m> {
     /// The kinds of these error models; `nothing` is the one of a component without a classifier.
     pub(crate) fn of(
         alloc: Global,
-        models: &'m [ErrorModel<'a>],
-        nothing: &'m ErrorModel<'a>,
-    ) -> Mem<Kinds<'m, 'a>>
+        models: &'m [ErrorModel<'m>],
+        nothing: &'m ErrorModel<'m>,
+    ) -> Mem<Kinds<'m>>
         requires { nothing.now ≡ no_model }
         ensures { IfOk result (λ kinds. kinds ≡ models.now) }
     {
@@ -55,7 +55,7 @@ impl<'m, 'a> Kinds<'m, 'a> {
     }
 
     /// The kind of a number, and the one in which nothing happens where there is none.
-    pub(crate) fn kind(&self, number: Option<usize>) -> &Kind<'m, 'a>
+    pub(crate) fn kind(&self, number: Option<usize>) -> &Kind<'m>
         ensures { result.now ≡ kind_model self.now number }
     {
         match number {
@@ -64,7 +64,7 @@ impl<'m, 'a> Kinds<'m, 'a> {
         }
     }
 
-    fn at(&self, number: usize) -> &Kind<'m, 'a>
+    fn at(&self, number: usize) -> &Kind<'m>
         ensures { result.now ≡ kind_model self.now (Some number) }
     {
         let items = self.list.items();

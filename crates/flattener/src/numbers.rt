@@ -22,16 +22,16 @@ pub(crate) type SideKey = (u32, u32, bool);
 
 /// A model whose facts and events are numbered, with the sides from which links lead into each side.
 #[derive(Drop)]
-pub(crate) struct Numbers<'n, 'k, 'm, 'i, 'a> {
-    assembly: &'n Assembly<'m, 'i, 'a>,
+pub(crate) struct Numbers<'n> {
+    assembly: &'n Assembly<'n>,
     universe: &'n [u32],
     facts: &'n FactTable,
     events: &'n EventTable,
-    kinds: &'n Kinds<'k, 'a>,
+    kinds: &'n Kinds<'n>,
     links: HashMap<SideKey, List<PointAt>>,
 }
 
-impl<'n, 'k, 'm, 'i, 'a> Model for Numbers<'n, 'k, 'm, 'i, 'a> {
+impl<'n> Model for Numbers<'n> {
     ghost use Rattle.std.specs.Coded.{codes};
     ghost use Rattle.aadl_syntax.specs.contracts.error_model.Condition as condition;
     ghost use Rattle.propagation_points.specs.contracts.side.Side as side;
@@ -51,16 +51,16 @@ impl<'n, 'k, 'm, 'i, 'a> Model for Numbers<'n, 'k, 'm, 'i, 'a> {
     ghost invariant = { λ n. (n.kinds.now ≡ n.assembly.now.models) × AreLinks n.assembly.now.links (get same_key n.links) };
 }
 
-impl<'n, 'k, 'm, 'i, 'a> Numbers<'n, 'k, 'm, 'i, 'a> {
+impl<'n> Numbers<'n> {
     /// A model with this universe, and these facts, events and kinds.
     pub(crate) fn new(
         alloc: Global,
-        assembly: &'n Assembly<'m, 'i, 'a>,
+        assembly: &'n Assembly<'n>,
         universe: &'n [u32],
         facts: &'n FactTable,
         events: &'n EventTable,
-        kinds: &'n Kinds<'k, 'a>,
-    ) -> Mem<Numbers<'n, 'k, 'm, 'i, 'a>>
+        kinds: &'n Kinds<'n>,
+    ) -> Mem<Numbers<'n>>
         requires { kinds.now ≡ assembly.now.models }
         ensures { IfOk result (λ numbers. numbers ≡ record { assembly = assembly.now; universe = universe.now; facts = facts.now; events = events.now }) }
     {
@@ -76,14 +76,14 @@ impl<'n, 'k, 'm, 'i, 'a> Numbers<'n, 'k, 'm, 'i, 'a> {
     }
 
     /// The model.
-    pub(crate) fn assembly(&self) -> &'n Assembly<'m, 'i, 'a>
+    pub(crate) fn assembly(&self) -> &'n Assembly<'n>
         ensures { result.now ≡ self.now.assembly }
     {
         self.assembly
     }
 
     /// The instance.
-    pub(crate) fn instance(&self) -> &'m Instance<'i, 'a>
+    pub(crate) fn instance(&self) -> &'n Instance<'n, 'n>
         ensures { result.now ≡ self.now.assembly.instance }
     {
         self.assembly.instance()
@@ -118,7 +118,7 @@ impl<'n, 'k, 'm, 'i, 'a> Numbers<'n, 'k, 'm, 'i, 'a> {
     }
 
     /// The component of a number.
-    pub(crate) fn site(&self, owner: u32) -> Site<'_, 'n, 'k, 'm, 'i, 'a>
+    pub(crate) fn site(&self, owner: u32) -> Site<'_>
         ensures { result ≡ site_of self.now owner }
     {
         let kind = self.kinds.kind(self.instance().kind(owner));

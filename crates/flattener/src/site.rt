@@ -17,13 +17,13 @@ use std::marker::Model;
 
 /// A component of a model: its number, and its kind.
 #[derive(Drop)]
-pub(crate) struct Site<'s, 'n, 'k, 'm, 'i, 'a> {
-    numbers: &'s Numbers<'n, 'k, 'm, 'i, 'a>,
+pub(crate) struct Site<'s> {
+    numbers: &'s Numbers<'s>,
     owner: u32,
-    kind: &'s Kind<'k, 'a>,
+    kind: &'s Kind<'s>,
 }
 
-impl<'s, 'n, 'k, 'm, 'i, 'a> Model for Site<'s, 'n, 'k, 'm, 'i, 'a> {
+impl<'s> Model for Site<'s> {
     ghost use Rattle.std.specs.Coded.{codes};
     ghost use Rattle.aadl_syntax.specs.contracts.error_model.Condition as condition;
     ghost use Rattle.propagation_points.specs.contracts.side.Side as side;
@@ -37,13 +37,9 @@ impl<'s, 'n, 'k, 'm, 'i, 'a> Model for Site<'s, 'n, 'k, 'm, 'i, 'a> {
     ghost view = { λ s. record { numbered = s.numbers.now; owner = s.owner; model = s.kind.now } };
 }
 
-impl<'s, 'n, 'k, 'm, 'i, 'a> Site<'s, 'n, 'k, 'm, 'i, 'a> {
+impl<'s> Site<'s> {
     /// The component of a number, of this kind.
-    pub(crate) fn new(
-        numbers: &'s Numbers<'n, 'k, 'm, 'i, 'a>,
-        owner: u32,
-        kind: &'s Kind<'k, 'a>,
-    ) -> Site<'s, 'n, 'k, 'm, 'i, 'a>
+    pub(crate) fn new(numbers: &'s Numbers<'s>, owner: u32, kind: &'s Kind<'s>) -> Site<'s>
         ensures { result ≡ record { numbered = numbers.now; owner = owner; model = kind.now } }
     {
         Site {
@@ -54,7 +50,7 @@ impl<'s, 'n, 'k, 'm, 'i, 'a> Site<'s, 'n, 'k, 'm, 'i, 'a> {
     }
 
     /// The model in which it is.
-    pub(crate) fn numbers(&self) -> &'s Numbers<'n, 'k, 'm, 'i, 'a>
+    pub(crate) fn numbers(&self) -> &'s Numbers<'s>
         ensures { result.now ≡ self.now.numbered }
     {
         self.numbers
@@ -68,7 +64,7 @@ impl<'s, 'n, 'k, 'm, 'i, 'a> Site<'s, 'n, 'k, 'm, 'i, 'a> {
     }
 
     /// Its kind.
-    pub(crate) fn kind(&self) -> &'s Kind<'k, 'a>
+    pub(crate) fn kind(&self) -> &'s Kind<'s>
         ensures { result.now ≡ self.now.model }
     {
         self.kind

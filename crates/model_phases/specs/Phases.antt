@@ -1,5 +1,5 @@
 -- The phases of a model: what is refused of a root in packages, in order, and else its system.
-use Rattle.std.specs.Prelude.{◌≡◌, List, length, Contains}
+use Rattle.std.specs.Prelude.{◌≡◌, List, length, map, Contains}
 use Rattle.aadl_syntax.specs.declared.core_model.PackageUnit.{PackageUnit}
 use Rattle.phases.specs.Phases.{Phase, accepts, tests, ◌>>=◌}
 use Rattle.package_index.specs.declared.id.ClassifierId.{ClassifierId}
@@ -9,9 +9,11 @@ use Rattle.instantiator.specs.Whole.{Instance, instance_of}
 use Rattle.error_models.specs.Refused.{all_set_refusals, machines_refusal, models_refusal}
 use Rattle.propagation_links.specs.Refused.{links_refusal}
 use Rattle.model_facts.specs.Assembly.{Assembly, assembly_of, points_in}
+use Rattle.model_facts.specs.Effects.{effects_of}
 use Rattle.flattener.specs.Flat.{size_refusal, system_of}
+use Rattle.event_rates.specs.Associations.{rate_in}
 use Rattle.model_phases.specs.declared.flat.FlatModel.{FlatModel}
-use Rattle.model_phases.specs.Named.{IsPlainSystem}
+use Rattle.model_phases.specs.Named.{IsPlainModel}
 use Rattle.model_phases.specs.Tests.{IsIt}
 
 -- what is tested of the error models of kinds of components: the written sets that they use (N2, N7, N8, P4), and then each
@@ -29,14 +31,20 @@ kind_tests instance = do
   _ ← tests (HasTooManyTypes instance.packages)
   content_tests (table_of instance.packages) instance.kinds
 
--- a model as a system: how many components it has, and what holds in it
+-- a model as a system: how many components it has, what holds in it, which of its facts are effects of failures, and the rates of its
+-- events
 abbrev pub flat_of : Assembly → FlatModel
-flat_of assembly = record { components = length assembly.instance.components; system = system_of assembly }
+flat_of assembly = record {
+  components = length assembly.instance.components;
+  system = system_of assembly;
+  effects = effects_of assembly;
+  rates = map (rate_in assembly.instance) (system_of assembly).events;
+}
 
--- This is the model that is put together, as a system whose names are plain.
+-- This is the model that is put together, and it is plain.
 pub record IsFlat (assembly : Assembly) (model : FlatModel) : Type 0 where
   pub model_is : model ≡ flat_of assembly
-  pub plain : IsPlainSystem model.system
+  pub plain : IsPlainModel model
 
 -- a model that is put together, as a system that is not too large (M6, M7, M9)
 abbrev pub flat_phase : Assembly → Phase FlatModel

@@ -1,28 +1,25 @@
-ghost use Rattle.std.specs.Prelude.{◌≡◌, IfOk, IfErr, OnOk, None};
+ghost use Rattle.std.specs.Prelude.{◌≡◌, IfOk};
 ghost use Rattle.phases.specs.Meets.{Meets};
 ghost use Rattle.phases.specs.Phases.{tests};
-ghost use Rattle.plain_values.specs.Stops.{StopsAt};
 ghost use Rattle.instantiator.specs.Refused.{instance_refusal};
 ghost use Rattle.instantiator.specs.Whole.{instance_of};
 ghost use Rattle.propagation_links.specs.Links.{links_of};
 ghost use Rattle.propagation_links.specs.Refused.{links_refusal};
 ghost use Rattle.model_facts.specs.Assembly.{points_in};
-ghost use Rattle.flattener.specs.Flat.{size_refusal, system_of};
-ghost use Rattle.model_phases.specs.Named.{IsPlainSystem};
 ghost use Rattle.model_phases.specs.Phases.{flat_model, flat_phase};
 ghost use Rattle.model_phases.specs.Tests.{IsIt, MeetsTests};
 
 use crate::kinds::{Kinds, kinds_of};
+use crate::system::plain_system;
+use event_rates::rates_of;
 use fault_system::FaultSystem;
-use flattener::flatten;
 use instantiator::Instance;
-use model_facts::{
-    Assembly, are_named, event_names_are_plain, fact_names_are_plain, points_of_models,
-};
+use model_facts::{Assembly, points_of_models};
 use package_index::{ClassifierId, Index};
 use phases::Status;
-use plain_values::{Answer, List};
+use plain_values::List;
 use propagation_links::{Link, links_of};
+use property_reader::Rate;
 use std::alloc::Global;
 
 /// A model as a system.
@@ -32,13 +29,19 @@ pub struct FlatModel {
     pub components: u32,
     /// Its facts and its events.
     pub system: FaultSystem,
+    /// The numbers of its facts that are effects of failures, rising: that a component is in a state which is not an initial one,
+    /// and that an error exits at a point.
+    pub effects: List<u32>,
+    /// The rate of each event.
+    pub rates: List<Rate>,
 }
 
 /// The model of a root in the packages of an index, as a system.
 ///
 /// It is tested phase by phase, and the first that refuses decides: its components (M4, M5, N2 to N6, P1 to P3), their machines
 /// (N2, N15), the error types (M8), the written sets that are used (N2, N7, N8, P4), the error models (N9 to N13, P3, P5
-/// to P8, P10 to P12), the links (M14, N14, P3, P9), and the size (M6, M7, M9).
+/// to P8, P10 to P12), the links (M14, N14, P3, P9), and the size (M6, M7, M9). Rates are not tested: a value that is none gives the
+/// conservative rate.
 pub fn flat_model(alloc: Global, index: &Index, root: ClassifierId) -> Result<FlatModel, Status>
     ensures { Meets (flat_model index.now root) result }
 {
@@ -83,24 +86,12 @@ fn flat_with<'m, 'i, 'a>(
     ensures { Meets (flat_phase (record { instance = instance.now; types = kinds.now.types; models = kinds.now.models; links = links.now })) result }
 {
     let assembly = Assembly::new(instance, &kinds.types, kinds.models.items(), links.items());
-    let system = plain_system(alloc, &assembly)?;
+    let facts = plain_system(alloc, &assembly)?;
+    let rates = rates_of(alloc, instance, facts.system.event_infos())?;
     Ok(FlatModel {
         components: instance.components().len() as u32,
-        system,
+        system: facts.system,
+        effects: facts.effects,
+        rates,
     })
-}
-
-/// The system of a model. Its names are made of identifiers, and so they are plain.
-fn plain_system(alloc: Global, assembly: &Assembly) -> Answer<FaultSystem>
-    ensures system { IfOk result (λ system. system ≡ system_of assembly.now) }
-    ensures plain { IfOk result IsPlainSystem }
-    ensures accepted { OnOk result (size_refusal assembly.now ≡ None) }
-    ensures refused { IfErr result (StopsAt (size_refusal assembly.now)) }
-{
-    are_named(assembly)?;
-    fact_names_are_plain();
-    event_names_are_plain();
-    let system = flatten(alloc, assembly)?;
-    let _facts = system.facts();
-    Ok(system)
 }

@@ -3,5 +3,6 @@
 
 mod flat;
 mod kinds;
+mod system;
 
 pub use flat::{FlatModel, flat_model};

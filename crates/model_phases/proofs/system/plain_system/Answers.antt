@@ -5,7 +5,7 @@ use Rattle.fault_system.specs.Systems.{System}
 use Rattle.model_facts.specs.Laws.{IsPlain}
 use Rattle.flattener.specs.Flat.{event_info, fact_info}
 use Rattle.flattener.specs.Numbered.{numbered_of}
-use Rattle.model_phases.proofs.flat.plain_system.Goals as goal
+use Rattle.model_phases.proofs.system.plain_system.Goals as goal
 
 pub returns-clause-plain : goal.returns-clause-plain
 returns-clause-plain c =
@@ -14,6 +14,6 @@ returns-clause-plain c =
     let events = All-map (λ event. IsPlain event.name) (event_info c.args.assembly.now) numbered.events (λ k d lt. c.event_names_are_plain.ensures c.args.assembly.now c.in_ok-are_named.ensures _) in
     record {
       is_system = c.facts-facts.ensures.system;
-      fact_names = subst (λ (s : System). All (λ fact. IsPlain fact.name) s.facts) (sym c.in_ok-system.ensures.system) facts;
-      event_names = subst (λ (s : System). All (λ event. IsPlain event.name) s.events) (sym c.in_ok-system.ensures.system) events;
+      fact_names = subst (λ (s : System). All (λ fact. IsPlain fact.name) s.facts) (sym c.in_ok-made.ensures.system) facts;
+      event_names = subst (λ (s : System). All (λ event. IsPlain event.name) s.events) (sym c.in_ok-made.ensures.system) events;
     }
