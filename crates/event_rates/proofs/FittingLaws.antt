@@ -7,7 +7,7 @@ use denote.Ref.{Bor}
 use Rattle.aadl_syntax.specs.declared.error_model.Association.{Association}
 use Rattle.package_index.specs.Names.{is_same_name, names_of}
 use Rattle.package_index.specs.declared.words.Words.{Words}
-use Rattle.event_rates.specs.Associations.{fits, is_distribution, last_fitting}
+use Rattle.event_rates.specs.Associations.{fits, is_distribution}
 use Rattle.event_rates.specs.Fitting.{AddsAssociation, KnowsFitting, PutsAt, held}
 
 -- an item more

@@ -1,3 +1,4 @@
+mod AskedEffects
 mod Commands
 mod Names
 mod Inputs

@@ -8,12 +8,13 @@ use Rattle.fault_system.specs.declared.formula.FactInfo.{FactInfo}
 use Rattle.fault_system.proofs.Elements.{In-contains, each-at}
 use Rattle.cutset_lister.specs.SetText.{HasTokenNames, IsTokenName}
 use Rattle.galileo_writer.specs.Galileo.{IsPlainName}
-use Rattle.galileo_writer.specs.TreeText.{HasTextNames}
+use Rattle.fmea_rows.specs.Text.{HasFieldNames, IsPlainField}
+use Rattle.galileo_writer.specs.TreeText.{AreRates, HasTextNames}
 use Rattle.phases.specs.Meets.{Meets}
 use Rattle.phases.specs.Phases.{Passed}
 use Rattle.phases.specs.declared.status.Status.{Status}
 use Rattle.model_facts.specs.Laws.{IsPlain, Lacks}
-use Rattle.model_phases.specs.Named.{IsPlainSystem}
+use Rattle.model_phases.specs.Named.{IsPlainModel, IsPlainSystem}
 use Rattle.model_phases.specs.declared.flat.FlatModel.{FlatModel}
 use Rattle.fta_run.specs.Due.{model_of_files, model_of_texts}
 
@@ -27,6 +28,12 @@ no_line_feed name plain = lacks 10 name plain.plain.1.0
 
 no_quote : (name : List ℕ) → IsPlain name → Contains name 34 → ⊥
 no_quote name plain = lacks 34 name plain.plain.1.1.1.1.0
+
+no_return : (name : List ℕ) → IsPlain name → Contains name 13 → ⊥
+no_return name plain = lacks 13 name plain.plain.1.1.0
+
+no_comma : (name : List ℕ) → IsPlain name → Contains name 44 → ⊥
+no_comma name plain = lacks 44 name plain.plain.1.1.1.1.1.1.0
 
 no_plus : (name : List ℕ) → IsPlain name → Contains name 43 → ⊥
 no_plus name plain = lacks 43 name plain.plain.1.1.1.1.1.0
@@ -54,10 +61,31 @@ text_names system plain = record {
   no_at = All-weaker (λ (event : EventInfo). IsPlain event.name) (λ (event : EventInfo). Contains event.name 64 → ⊥) (λ event is. no_at event.name is) system.events plain.event_names;
 }
 
--- the model of a root has plain names
-pub plain_model : (contents : List ℕ → Option (List ℕ)) (root : Root) (files : List (List ℕ)) (model : FlatModel) → Passed (model_of_files contents root files) model → IsPlainSystem model.system
+field_name : (name : List ℕ) → IsPlain name → IsPlainField name
+field_name name plain = record { no_comma = no_comma name plain; no_quote = no_quote name plain; no_line_feed = no_line_feed name plain; no_return = no_return name plain }
+
+pub field_names : (system : System) → IsPlainSystem system → HasFieldNames system
+field_names system plain = record {
+  facts = All-weaker (λ (fact : FactInfo). IsPlain fact.name) (λ (fact : FactInfo). IsPlainField fact.name) (λ fact is. field_name fact.name is) system.facts plain.fact_names;
+  events = All-weaker (λ (event : EventInfo). IsPlain event.name) (λ (event : EventInfo). IsPlainField event.name) (λ event is. field_name event.name is) system.events plain.event_names;
+}
+
+pub model_text_names : (model : FlatModel) → IsPlainModel model → HasTextNames model.system
+model_text_names model plain = text_names model.system plain.system
+
+pub model_field_names : (model : FlatModel) → IsPlainModel model → HasFieldNames model.system
+model_field_names model plain = field_names model.system plain.system
+
+pub model_system : (model : FlatModel) → IsPlainModel model → IsPlainSystem model.system
+model_system model plain = plain.system
+
+pub model_rates : (model : FlatModel) → IsPlainModel model → AreRates model.system model.rates
+model_rates model plain = record { each = plain.each; numbers = plain.numbers }
+
+-- the model of a root is plain
+pub plain_model : (contents : List ℕ → Option (List ℕ)) (root : Root) (files : List (List ℕ)) (model : FlatModel) → Passed (model_of_files contents root files) model → IsPlainModel model
 plain_model contents root files model at = at.2.2.2.2.2.2.2.2.plain
 
-pub plain_texts : (root : Root) (texts : List (List ℕ)) (result : Result FlatModel Status) → Meets (model_of_texts root texts) result → IfOk result (λ model. IsPlainSystem model.system)
+pub plain_texts : (root : Root) (texts : List (List ℕ)) (result : Result FlatModel Status) → Meets (model_of_texts root texts) result → IfOk result IsPlainModel
 plain_texts root texts (Ok model) passes = passes.passed.2.2.2.2.2.2.2.plain
 plain_texts root texts (Err status) end = tt

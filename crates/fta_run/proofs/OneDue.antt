@@ -1,5 +1,5 @@
 -- One end at most is due for the words and the contents, where these are told.
-use Rattle.std.proofs.Common.{◌≡◌, ℕ, Bool, List, [], ◌∷◌, Option, Some, None, IsSome, IfSome, Result, length, replicate, refl, sym, ap, ◌∙◌, inl, inr}
+use Rattle.std.proofs.Common.{◌≡◌, ℕ, Bool, List, [], ◌∷◌, Option, Some, None, IsSome, IfSome, Result, refl, sym, ap, ◌∙◌, inl, inr}
 use Rattle.std.specs.List.{AllByRecursion}
 use Rattle.std.proofs.lemmas.Bool.{false≢true}
 use Rattle.plain_values.specs.declared.name.Root.{Root}
@@ -9,7 +9,7 @@ use Rattle.fault_system.specs.Systems.{System}
 use Rattle.aadl_syntax.specs.declared.core_model.Unit.{Unit as FileUnit}
 use Rattle.fault_system.specs.Listings.{IsListing}
 use Rattle.cutset_lister.proofs.Scans.{one-set}
-use Rattle.property_reader.specs.Rates.{conservative_rate}
+use Rattle.property_reader.specs.declared.rate.Rate.{Rate}
 use Rattle.round_gates.specs.Targets.{IsConstantly}
 use Rattle.round_gates.specs.Staged.{IsConstant}
 use Rattle.round_gates.proofs.Growing.{constantly, one-constant}
@@ -140,15 +140,15 @@ module _ (system : System) (target : ℕ) where
         ]
       ]
 
-  galileo_decided : IsPlainSystem system → IsDecided IsSameStatus (galileo_of target system)
-  galileo_decided plain = record {
-    one_value = λ a b h k. h.text_is ∙ ap (λ tree. galileo_text system tree (replicate (length system.events) conservative_rate)) (one-tree system plain.is_system target h.tree k.tree h.is_tree k.is_tree) ∙ sym k.text_is;
+  galileo_decided : (rates : List Rate) → IsPlainSystem system → IsDecided IsSameStatus (galileo_of target system rates)
+  galileo_decided rates plain = record {
+    one_value = λ a b h k. h.text_is ∙ ap (λ tree. galileo_text system tree rates) (one-tree system plain.is_system target h.tree k.tree h.is_tree k.is_tree) ∙ sym k.text_is;
     apart = λ text status is lacks. elim lacks [ inl x ↦ varies x.0 x.1 is.is_tree.varying | inr x ↦ tree-or-large system plain.is_system target is.tree x.0 is.is_tree x.1 ];
     one_stop = λ a b h k. inl (one_lack a b h k);
   }
 
-tree_decided : (target : List ℕ) (system : System) → IsPlainSystem system → IsDecided IsSameStatus (tree_text target system)
-tree_decided target system plain = (target_decided target system, λ number named. (slice_decided number system, λ slice served. galileo_decided system number plain))
+tree_decided : (target : List ℕ) (system : System) (rates : List Rate) → IsPlainSystem system → IsDecided IsSameStatus (tree_text target system rates)
+tree_decided target system rates plain = (target_decided target system, λ number named. (slice_decided number system, λ slice served. galileo_decided system number rates plain))
 
 files_model_decided : (contents : List ℕ → Option (List ℕ)) (root : Root) (files : List (List ℕ)) → AllByRecursion (λ file. IsSome (contents file)) files → IsDecided IsSameStatus (model_of_files contents root files)
 files_model_decided contents root files told = (texts_decided contents files told, λ texts are. texts_model_decided root texts)
@@ -158,9 +158,9 @@ nothing_decided = decided_accepts IsSameStatus (λ (text : List ℕ). ⊥) (λ a
 
 command_decided : (contents : List ℕ → Option (List ℕ)) (command : Command) → AllByRecursion (λ file. IsSome (contents file)) (files_of command) → IsDecided IsSameStatus (command_text contents command)
 command_decided contents (Check root files) told = (files_model_decided contents root files told, λ model at. tt)
-command_decided contents (Cuts root target files paging) told = (files_model_decided contents root files told, λ model at. cuts_decided target paging model.system (plain_model contents root files model at))
-command_decided contents (Tree root target files) told = (files_model_decided contents root files told, λ model at. tree_decided target model.system (plain_model contents root files model at))
-command_decided contents (Fmea root files all) told = nothing_decided
+command_decided contents (Cuts root target files paging) told = (files_model_decided contents root files told, λ model at. cuts_decided target paging model.system (plain_model contents root files model at).system)
+command_decided contents (Tree root target files) told = (files_model_decided contents root files told, λ model at. tree_decided target model.system model.rates (plain_model contents root files model at).system)
+command_decided contents (Fmea root files all) told = (files_model_decided contents root files told, λ model at. tt)
 command_decided contents (Report root target files chosen max_order) told = nothing_decided
 command_decided contents (Make number text) told = nothing_decided
 

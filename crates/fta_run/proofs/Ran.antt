@@ -14,6 +14,7 @@ use Rattle.fault_system.specs.Systems.{System}
 use Rattle.package_index.specs.Lookup.{packages_of}
 use Rattle.model_phases.proofs.Decided.{IsARefusal, model_stops}
 use Rattle.backward_slice.specs.Slices.{HasLargeSlice}
+use Rattle.property_reader.specs.declared.rate.Rate.{Rate}
 use Rattle.fta_run.specs.Words.{Check, Command, Cuts, Tree, Fmea, Report, Make, files_of, GiveCommand, GiveNoCommand, IsCommand, file_words}
 use Rattle.fta_run.specs.Files.{HasTooLong, HasTooMuch, LacksTokens, LacksUnits, NamesTooMany, most_files}
 use Rattle.plain_values.specs.Refusal.{of_words}
@@ -47,8 +48,8 @@ cuts_stop target paging system = (
   λ number named. (refusal_is (LacksStart system paging.after), λ start begins. (refusal_is (HasLargeSlice system number), λ slice served. ((λ s none. absurd none), λ sets are. tt))),
 )
 
-tree_stop : (target : List ℕ) (system : System) → StopsOnly IsAnEnd (tree_text target system)
-tree_stop target system = (
+tree_stop : (target : List ℕ) (system : System) (rates : List Rate) → StopsOnly IsAnEnd (tree_text target system rates)
+tree_stop target system rates = (
   (λ s is. inl (refusal_is (IsFirst (LacksTarget system target)) s is)),
   λ number named. ((λ s is. inl (refusal_is (HasLargeSlice system number) s is)), λ slice served. (λ s lacks. elim lacks [ inl constant ↦ inr (constant.0, constant.2) | inr large ↦ inl (large.0, large.2) ])),
 )
@@ -74,8 +75,8 @@ files_model_stops contents root files = (texts_stop contents files, λ texts rea
 command_stops : (contents : List ℕ → Option (List ℕ)) (command : Command) → StopsOnly IsAnEnd (command_text contents command)
 command_stops contents (Check root files) = (refusals (model_of_files contents root files) (files_model_stops contents root files), λ model at. tt)
 command_stops contents (Cuts root target files paging) = (refusals (model_of_files contents root files) (files_model_stops contents root files), λ model at. refusals (cuts_text target paging model.system) (cuts_stop target paging model.system))
-command_stops contents (Tree root target files) = (refusals (model_of_files contents root files) (files_model_stops contents root files), λ model at. tree_stop target model.system)
-command_stops contents (Fmea root files all) = λ s none. absurd none
+command_stops contents (Tree root target files) = (refusals (model_of_files contents root files) (files_model_stops contents root files), λ model at. tree_stop target model.system model.rates)
+command_stops contents (Fmea root files all) = (refusals (model_of_files contents root files) (files_model_stops contents root files), λ model at. tt)
 command_stops contents (Report root target files chosen max_order) = λ s none. absurd none
 command_stops contents (Make number text) = λ s none. absurd none
 

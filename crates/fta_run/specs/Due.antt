@@ -1,5 +1,5 @@
 -- What is due: from the bytes of the words and of the files to the text of a command, or to the status with which it ends.
-use Rattle.std.specs.Prelude.{ℕ, List, length, Option}
+use Rattle.std.specs.Prelude.{ℕ, Bool, List, length, Option}
 use Rattle.plain_values.specs.declared.name.Root.{Root}
 use Rattle.aadl_syntax.specs.declared.core_model.Unit.{Unit as FileUnit}
 use Rattle.phases.specs.Phases.{Phase, yields, tells, accepts, tests, answers, rejects, computes, finds, ◌>>=◌}
@@ -10,10 +10,14 @@ use Rattle.backward_slice.specs.Slices.{HasLargeSlice, IsServed}
 use Rattle.backward_slice.specs.declared.parts.Slice.{Slice}
 use Rattle.fault_system.specs.Listings.{IsListing}
 use Rattle.cutset_writer.specs.Text.{listing_page}
+use Rattle.property_reader.specs.declared.rate.Rate.{Rate}
+use Rattle.fmea_rows.specs.Rows.{rows_of}
+use Rattle.fmea_rows.specs.Text.{table_text}
 use Rattle.fta_words.specs.declared.command.Paging.{Paging}
 use Rattle.model_phases.specs.Phases.{flat_model}
 use Rattle.model_phases.specs.declared.flat.FlatModel.{FlatModel}
 use Rattle.fta_run.specs.Words.{Command, Check, Cuts, Tree, Fmea, Report, Make, IsCommand}
+use Rattle.fta_run.specs.Effects.{asked_effects}
 use Rattle.fta_run.specs.Files.{MayContain, NamesTooMany, HasTooLong, HasTooMuch, AreTokens, LacksTokens, AreUnits, LacksUnits}
 use Rattle.fta_run.specs.Model.{HasDuplicate, IsFactNamed, IsStart, LacksStart, LacksTarget, root_named}
 use Rattle.fta_run.specs.Text.{numbers_text}
@@ -84,15 +88,19 @@ cuts_text target paging system = do
   page_of number start paging system
 
 -- the text of a target's tree
-abbrev pub galileo_of : ℕ → System → Phase (List ℕ)
-galileo_of number system = tells (IsTreeText system number) (LacksTree system number)
+abbrev pub galileo_of : ℕ → System → List Rate → Phase (List ℕ)
+galileo_of number system rates = tells (IsTreeText system rates number) (LacksTree system number)
 
 -- the text of `tree`
-abbrev pub tree_text : List ℕ → System → Phase (List ℕ)
-tree_text target system = do
+abbrev pub tree_text : List ℕ → System → List Rate → Phase (List ℕ)
+tree_text target system rates = do
   number ← target_of target system
   _ ← slice_of number system
-  galileo_of number system
+  galileo_of number system rates
+
+-- the text of `fmea`: the rows of the effects of the root, or of all components
+abbrev pub fmea_text : Bool → FlatModel → Phase (List ℕ)
+fmea_text all model = yields (table_text model.system model.rates (rows_of model.system (asked_effects all model)))
 
 -- nothing passes: the text of a command that is not built
 abbrev pub no_text : Phase (List ℕ)
@@ -108,8 +116,10 @@ command_text contents (Cuts root target files paging) = do
   cuts_text target paging model.system
 command_text contents (Tree root target files) = do
   model ← model_of_files contents root files
-  tree_text target model.system
-command_text contents (Fmea root files all) = no_text
+  tree_text target model.system model.rates
+command_text contents (Fmea root files all) = do
+  model ← model_of_files contents root files
+  fmea_text all model
 command_text contents (Report root target files chosen max_order) = no_text
 command_text contents (Make number text) = no_text
 

@@ -1,5 +1,6 @@
 pub mod Answers
 pub mod Due
+pub mod Effects
 pub mod Files
 pub mod Line
 pub mod Model

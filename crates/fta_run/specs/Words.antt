@@ -3,12 +3,12 @@ use Rattle.std.specs.Prelude.{ℕ, List, []}
 use Rattle.fta_words.specs.Words.{IsCommand as AreWordsOf}
 pub use Rattle.fta_words.specs.Words.{Command, Check, Cuts, Tree, Fmea, Report, Make, files_of, file_words}
 
--- The command is built: all are but the FMEA table, the reports and the model that is made.
+-- The command is built: all are but the reports and the model that is made.
 abbrev pub IsBuilt : Command → Type 0
 IsBuilt (Check root files) = Unit {0}
 IsBuilt (Cuts root target files paging) = Unit {0}
 IsBuilt (Tree root target files) = Unit {0}
-IsBuilt (Fmea root files all) = ⊥
+IsBuilt (Fmea root files all) = Unit {0}
 IsBuilt (Report root target files chosen max_order) = ⊥
 IsBuilt (Make number text) = ⊥
 

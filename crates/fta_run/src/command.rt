@@ -7,15 +7,16 @@ ghost use Rattle.phases.specs.declared.status.Status.TheVariants.{Refused, Memor
 ghost use Rattle.plain_values.specs.declared.refusal.Code.TheVariants.{TooManyFiles};
 ghost use Rattle.plain_values.specs.Refusal.{of_words};
 ghost use Rattle.fta_words.specs.Shown.{command_shown};
-ghost use Rattle.model_phases.specs.Named.{IsPlainSystem};
+ghost use Rattle.model_phases.specs.Named.{IsPlainModel, IsPlainSystem};
 ghost use Rattle.fta_run.specs.Line.{status_line};
 ghost use Rattle.fta_run.specs.Answers.{AllTold, AnswersWords, BeginsWithMemory, IsCaused, IsJustified, IsManyAnswer, IsOutput, MayCome, Took};
-ghost use Rattle.fta_run.specs.Due.{check_text, command_text, cuts_text, due, model_of_files, tree_text};
+ghost use Rattle.fta_run.specs.Due.{check_text, command_text, cuts_text, due, fmea_text, model_of_files, tree_text};
 ghost use Rattle.fta_run.specs.Files.{most_files};
-ghost use Rattle.fta_run.specs.Words.{Check, Command as AnyCommand, Cuts, GiveNoCommand, IsBuilt, IsCommand, Tree, file_words, files_of};
+ghost use Rattle.fta_run.specs.Words.{Check, Command as AnyCommand, Cuts, Fmea, GiveNoCommand, IsBuilt, IsCommand, Tree, file_words, files_of};
 ghost use Rattle.fta_run.specs.Steps.{IsReadEnd, Prints, Runs, RunsBut, ended};
 
 use crate::cut_sets::{find_slice, find_start, write_page};
+use crate::fmea::write_table;
 use crate::input::read_texts;
 use crate::line::write_line;
 use crate::model::{find_target, model_of_texts};
@@ -33,8 +34,9 @@ use std::alloc::Global;
 /// Runs the command that the words give, and says how it ended.
 ///
 /// `check ROOT FILE..` writes the numbers of components, facts and events of the model of a root in the files,
-/// `cuts ROOT TARGET FILE..` a page of the minimal cut sets of a fact in it, and `tree ROOT TARGET FILE..` its static fault
-/// tree as Galileo text. Under every status but Done one line is written to `err`; a fault of `err` changes nothing.
+/// `cuts ROOT TARGET FILE..` a page of the minimal cut sets of a fact in it, `tree ROOT TARGET FILE..` its static fault tree as
+/// Galileo text, and `fmea ROOT FILE..` the table of the effects that each event reaches alone. Under every status but Done one
+/// line is written to `err`; a fault of `err` changes nothing.
 pub fn run<F: Files, S: Sink, E: Sink>(
     alloc: Global,
     words: &[Word],
@@ -138,7 +140,12 @@ fn write_command<F: Files, S: Sink>(
             target,
             files: names,
         } => tree(alloc, root, target, names, files, out),
-        Command::Fmea { .. } | Command::Report { .. } | Command::Make { .. } => Err(Status::Usage),
+        Command::Fmea {
+            root,
+            files: names,
+            all,
+        } => fmea(alloc, root, names, *all, files, out),
+        Command::Report { .. } | Command::Make { .. } => Err(Status::Usage),
     }
 }
 
@@ -191,7 +198,24 @@ fn tree<F: Files, S: Sink>(
     ensures many { most_files < length names.now → IsManyAnswer (ended result) }
 {
     let model = read_model(alloc, root, names, files)?;
-    write_tree(alloc, &model.system, target, out)
+    write_tree(alloc, &model, target, out)
+}
+
+/// Writes the FMEA table of the model of a root.
+fn fmea<F: Files, S: Sink>(
+    alloc: Global,
+    root: &Root,
+    names: &[Word],
+    all: bool,
+    files: &mut F,
+    out: &mut S,
+) -> Result<(), Status>
+    ensures end { RunsBut (IsReadEnd names.now (F.faults files.old) (F.faults files.new)) (command_text (F.contents files.old) (Fmea root.now names.now all)) result (S.taken out.old) (S.taken out.new) (S.faults out.old) (S.faults out.new) }
+    ensures too_many { most_files < length names.now → files.new ≡ files.old }
+    ensures many { most_files < length names.now → IsManyAnswer (ended result) }
+{
+    let model = read_model(alloc, root, names, files)?;
+    write_fmea(alloc, &model, all, out)
 }
 
 /// The model of a root in the files of these names.
@@ -204,7 +228,7 @@ fn read_model<F: Files>(
     ensures meets { MeetsBut (IsReadEnd names.now (F.faults files.old) (F.faults files.new)) (λ model. model) (model_of_files (F.contents files.old) root.now names.now) result }
     ensures unread { most_files < length names.now → files.new ≡ files.old }
     ensures many { most_files < length names.now → result ≡ Err (Refused (of_words TooManyFiles)) }
-    ensures plain { IfOk result (λ model. IsPlainSystem model.system) }
+    ensures plain { IfOk result IsPlainModel }
 {
     let texts = read_texts(alloc, files, names)?;
     model_of_texts(alloc, root, &texts)
@@ -236,17 +260,30 @@ fn write_cuts<S: Sink>(
     write_page(alloc, system, &part, &start, paging, out)
 }
 
-/// Writes the tree of a target in a system.
+/// Writes the tree of a target in a model.
 fn write_tree<S: Sink>(
     alloc: Global,
-    system: &FaultSystem,
+    model: &FlatModel,
     target: &Name,
     out: &mut S,
 ) -> Result<(), Status>
-    requires { IsPlainSystem system.now }
-    ensures { Prints (tree_text target.now system.now) result (S.taken out.old) (S.taken out.new) (S.faults out.old) (S.faults out.new) }
+    requires { IsPlainModel model.now }
+    ensures { Prints (tree_text target.now model.now.system model.now.rates) result (S.taken out.old) (S.taken out.new) (S.faults out.old) (S.faults out.new) }
 {
-    let number = find_target(system, target)?;
-    let part = find_slice(alloc, system, number)?;
-    write_galileo(alloc, system, &part, out)
+    let number = find_target(&model.system, target)?;
+    let part = find_slice(alloc, &model.system, number)?;
+    write_galileo(alloc, &model.system, model.rates.items(), &part, out)
+}
+
+/// Writes the FMEA table of a model.
+fn write_fmea<S: Sink>(
+    alloc: Global,
+    model: &FlatModel,
+    all: bool,
+    out: &mut S,
+) -> Result<(), Status>
+    requires { IsPlainModel model.now }
+    ensures { Prints (fmea_text all model.now) result (S.taken out.old) (S.taken out.new) (S.faults out.old) (S.faults out.new) }
+{
+    write_table(alloc, model, all, out)
 }

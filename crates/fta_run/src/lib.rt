@@ -3,6 +3,7 @@
 
 mod command;
 mod cut_sets;
+mod fmea;
 mod input;
 mod laws;
 mod line;

@@ -31,7 +31,10 @@ fn is_built(command: &Command<'_>) -> bool
     ensures { IsTrue result ↔ IsBuilt (command_shown command.now) }
 {
     match command {
-        Command::Check { .. } | Command::Cuts { .. } | Command::Tree { .. } => true,
-        Command::Fmea { .. } | Command::Report { .. } | Command::Make { .. } => false,
+        Command::Check { .. }
+        | Command::Cuts { .. }
+        | Command::Tree { .. }
+        | Command::Fmea { .. } => true,
+        Command::Report { .. } | Command::Make { .. } => false,
     }
 }

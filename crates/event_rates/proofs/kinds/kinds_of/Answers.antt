@@ -1,4 +1,4 @@
-use Rattle.std.proofs.Common.{◌≡◌, List, map, refl, ap, ◌∙◌}
+use Rattle.std.proofs.Common.{map, refl, ap, ◌∙◌}
 use Rattle.std.proofs.lemmas.List.{take_all}
 use Rattle.instantiator.specs.declared.kinds.Kind.{Kind}
 use Rattle.error_models.proofs.KindLaws.{kinds-mapped}

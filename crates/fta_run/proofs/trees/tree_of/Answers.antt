@@ -4,7 +4,7 @@ use Rattle.round_gates.proofs.Growing.{constantly}
 use Rattle.fta_run.proofs.trees.tree_of.Goals as goal
 
 pub returns-in-Err-Constant-clause-none : goal.returns-in-Err-Constant-clause-none
-returns-in-Err-Constant-clause-none c =
+returns-in-Err-Constant-clause-none c = λ rates.
     let system = c.args.system.now in
     let target = c.args.part.now.target in
     let always = c.in-Err-Constant.always in
