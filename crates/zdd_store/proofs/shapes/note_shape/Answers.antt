@@ -1,7 +1,7 @@
-use Rattle.std.proofs.Common.{◌≡◌, length, ap, sym, subst, ◌∙◌}
+use Rattle.std.proofs.Common.{◌≡◌, length, ap, sym, subst, ◌∙◌, arith}
 use Rattle.std.specs.Prelude.{is_ok}
 use Rattle.zdd_store.specs.Family.{branch}
-use Rattle.zdd_store.specs.Store.{family_of}
+use Rattle.zdd_store.specs.Store.{family_at, family_of}
 use Rattle.zdd_store.specs.Answers.{HasShape}
 use Rattle.zdd_store.specs.Nodes.{AreShapes, HasShapeAt}
 use Rattle.zdd_store.proofs.Shaped.{shapes-pushed}
