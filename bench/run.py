@@ -1,7 +1,7 @@
 #!/usr/bin/env python3
 """Runs aadl_fta over the shapes, and scram beside it where it is installed, and prints a table.
 
-    run.py --tool PROGRAM [--scram PROGRAM] [--seconds N] [--megabytes N] [--random N] [NAME..]
+    run.py --tool PROGRAM [--scram PROGRAM] [--seconds N] [--megabytes N] [--random N] [--beside PROGRAM] [NAME..]
 
 Without names all shapes are run; with `--random N` so many random networks, from seeds that are drawn. A run that takes more processor seconds or more memory than is allowed is ended.
 """
@@ -90,7 +90,11 @@ def row(shape, options, folder):
     words = [options.tool, *shape.words(), folder / f"{shape.name}.aadl", *shape.options]
     done = run(words, folder / "listing", options.seconds, options.megabytes)
     cells += [f"{done.seconds:.2f}", f"{done.megabytes:.0f}", *outcome(shape, done)]
-    if options.scram is None:
+    if options.beside:
+        other = run([options.beside, *words[1:]], folder / "other", options.seconds, options.megabytes)
+        same = other.status == done.status and (folder / "other").read_bytes() == (folder / "listing").read_bytes()
+        cells += [f"{other.seconds:.2f}", f"{other.megabytes:.0f}", "same" if same else "ended" if other.status < 0 else "OTHER"]
+    if not options.scram:
         return cells + ["", "", ""]
     report = folder / "report.xml"
     report.unlink(missing_ok=True)
@@ -114,11 +118,14 @@ def main():
     parser.add_argument("--scram", default=shutil.which("scram"), help="the program scram; none where it is not installed")
     parser.add_argument("--seconds", type=int, default=60, help="processor seconds that a run may take")
     parser.add_argument("--megabytes", type=int, default=4096, help="memory that a run may take")
+    parser.add_argument("--beside", help="another build of aadl_fta, which is run on the same and must write the same")
     parser.add_argument("--random", type=int, default=0, help="run so many random networks in place of the shapes")
     parser.add_argument("names", nargs="*", help="names of shapes; all without any")
     options = parser.parse_args()
 
-    head = ["shape", "gates", "events", "sets", "s", "MB", "listed", "", "scram s", "scram MB", "scram sets"]
+    head = ["shape", "gates", "events", "sets", "s", "MB", "listed", ""]
+    head += ["other s", "other MB", "other's bytes"] if options.beside else []
+    head += ["scram s", "scram MB", "scram sets"]
     print("| " + " | ".join(head) + " |")
     print("|---" * len(head) + "|", flush=True)
     with tempfile.TemporaryDirectory() as folder:
