@@ -4,10 +4,13 @@
     shapes.py                  lists the shapes
     shapes.py FOLDER [NAME..]  writes NAME.aadl and NAME.xml of these shapes, or of all
 
-A shape is a machine of one component: events, states, and transitions from a state to a state on a condition. `ok` is
-its initial state. Every other state is a gate: it holds where a transition leads to it whose source holds and whose
-condition is true. The Open-PSA tree has a gate for each state on which the target depends, and says the same; how many
-minimal cut sets there are is known from the shape and never taken from a program.
+A shape is a machine of one component, or a network of gates.
+
+A machine has events, states, and transitions from a state to a state on a condition. `ok` is its initial state. Every
+other state is a gate: it holds where a transition leads to it whose source holds and whose condition is true. In a
+network each event is a device with an error source, and each gate a device with an input for each event and gate of its
+formula, and an output that comes where the formula is true. The Open-PSA tree has a gate for each one on which the target
+depends, and says the same; how many minimal cut sets there are is known from the shape and never taken from a program.
 """
 
 import random
@@ -49,9 +52,11 @@ class Shape:
     about: str
     target: str
     sets: int | None  # how many minimal cut sets it has, where that is known
-    machine: Machine | None = None
+    machine: Machine | None = None  # else it is a network of its gates
     gates: dict | None = None  # the tree, where it is not that of the machine
     refusal: str | None = None  # the code of the refusal that must come in place of sets
+    options: tuple = ()  # further words of the call
+    order: int | None = None  # the greatest order, where one is given
 
     def tree(self):
         """The gates of the tree by name; that of the target is the top."""
@@ -61,10 +66,13 @@ class Shape:
         """How many gates and how many events there are."""
         if self.machine is not None:
             return len(self.machine.states) - 1, len(self.machine.events)
-        events = set()
-        for formula in self.gates.values():
-            collect(formula, set(), events)
-        return len(self.gates), len(events)
+        return len(self.gates), len(events_of(self.gates))
+
+    def words(self):
+        """The words of the call of aadl_fta, but for the file."""
+        if self.machine is not None:
+            return ["cuts", "p::s", f"root/state:{self.target}"]
+        return ["cuts", "p::s.i", f"root.{self.target}/out:o{{p::t}}"]
 
 
 def gates_of(machine):
@@ -193,7 +201,7 @@ def written_out(least, count):
                  comb(count, least), Machine(events, [INITIAL, "bad"], from_ok([("bad", condition)])))
 
 
-# ---- shapes that are trees alone
+# ---- networks of gates
 
 
 def counted(least, count):
@@ -219,6 +227,24 @@ def grid(rows, columns):
                  None, gates=gates)
 
 
+def short(shape, order):
+    """A shape with a greatest order."""
+    shape.name += f"_order_{order}"
+    shape.about += f", sets of at most {order}"
+    shape.sets = None
+    shape.options, shape.order = ("--max-order", str(order)), order
+    return shape
+
+
+def first_line(shape):
+    """A shape of which only the first set is asked for."""
+    shape.name += "_first"
+    shape.about += ", the first set"
+    shape.sets = 1
+    shape.options = ("--limit", "1")
+    return shape
+
+
 def random_gates(count, events, seed):
     """Gates over the gates just before and events, drawn at random from a seed."""
     draw = random.Random(seed)
@@ -231,16 +257,69 @@ def random_gates(count, events, seed):
                  gates=gates)
 
 
+def spread(count, events, seed):
+    """Gates over any gates before and events, drawn at random from a seed: much is shared, far apart."""
+    draw = random.Random(seed)
+    gates, known = {}, names("e", events)
+    for g in range(count):
+        parts = draw.sample(known[-max(events // 2, 8):], draw.randint(2, 3))
+        kind = draw.random()
+        gates[f"g{g}"] = at_least(2, parts) if kind < 0.1 and len(parts) > 2 else (both if kind < 0.5 else either)(*parts)
+        known.append(("state", f"g{g}"))
+    return Shape(f"spread_{count}_{events}_{seed}", f"{count} gates at random over {events} events, far apart", f"g{count - 1}",
+                 None, gates=gates)
+
+
+def hub(count, events, seed):
+    """Choices of three to six events that meet three by three, and all of these in one, at random from a seed."""
+    draw = random.Random(seed)
+    known, gates = names("e", events), {}
+    for g in range(count):
+        gates[f"g{g}"] = either(*draw.sample(known, draw.randint(3, 6)))
+    middle = names("m", count // 3)
+    for name in middle:
+        gates[name] = both(*(("state", f"g{g}") for g in draw.sample(range(count), 3)))
+    gates["top"] = either(*(("state", name) for name in middle))
+    return Shape(f"hub_{count}_{events}_{seed}", f"{count} choices over {events} events that meet in one", "top", None, gates=gates)
+
+
+def bomb(count):
+    """All of some pairs and all of their events: one set, and before it all choices where the order is a bad one."""
+    a, b = names("a", count), names("b", count)
+    gates = {
+        "whole": both(*a, *b),
+        "choices": both(*(either(x, y) for x, y in zip(a, b))),
+        "top": both(("state", "choices"), ("state", "whole")),
+    }
+    return Shape(f"bomb_{2 * count}", f"{count} pairs, and all of their events, badly numbered", "top", 1, gates=gates)
+
+
+def drawn(seed):
+    """A random network, of a kind and size that the seed gives."""
+    draw = random.Random(seed)
+    events = draw.randint(20, 120)
+    kind = draw.randrange(4)
+    if kind == 0:
+        return random_gates(draw.randint(events, 2 * events), events, seed)
+    if kind == 1:
+        return spread(draw.randint(events // 2, events), events, seed)
+    if kind == 2:
+        return short(hub(draw.randint(events, 3 * events), events, seed), draw.randint(3, 5))
+    return grid(draw.randint(3, 7), draw.randint(3, 8))
+
+
 def all_shapes():
-    """The shapes of one machine, and then those that are trees alone."""
+    """The shapes of one machine, and then the networks."""
     return [
         chain(100, 100), chain(1000, 1000), chain(16383, 8),
         pairs(16, True), pairs(12, False), pairs(16, False), ladder(16),
         scattered(30), ring(100, False), ring(500, False), ring(1000, True),
         any_of(1024), any_of(1025, "M11"), star(500), chains(20, 50),
         written_out(5, 10), written_out(7, 14),
-        counted(50, 100), counted(100, 300), grid(6, 6), grid(10, 10),
-        random_gates(30, 30, 1), random_gates(100, 60, 2),
+        counted(3, 60), counted(12, 24), counted(36, 40), first_line(counted(100, 300)),
+        grid(6, 6), grid(10, 6), first_line(grid(8, 8)), short(grid(20, 50), 4),
+        short(hub(300, 200, 3), 3), bomb(30),
+        random_gates(100, 60, 2), random_gates(200, 120, 8), random_gates(300, 150, 9), spread(36, 50, 3),
     ]
 
 
@@ -263,6 +342,52 @@ def aadl_text(machine):
     lines += [f"{event}: error event;" for event in machine.events]
     lines += ["states", *states, "transitions", *steps, "end behavior;", "**};"]
     lines += ["system s", "annex EMV2 {** use behavior p::m; **};", "end s;", "end p;", ""]
+    return "\n".join(lines)
+
+
+def leaves(formula):
+    """The events and gates that occur in a formula, each once, in their order."""
+    if isinstance(formula, str) or formula[0] == "state":
+        return [formula]
+    found = []
+    for part in formula[-1]:
+        found += [leaf for leaf in leaves(part) if leaf not in found]
+    return found
+
+
+def events_of(gates):
+    """The events of some gates, in the order in which they first occur."""
+    return list(dict.fromkeys(leaf for formula in gates.values() for leaf in leaves(formula) if isinstance(leaf, str)))
+
+
+def input_text(formula, inputs, inside=False):
+    """A formula over the inputs of a gate, as AADL text."""
+    if isinstance(formula, str) or formula[0] == "state":
+        return inputs[formula]
+    if formula[0] == "atleast":
+        return f"{formula[1]} ormore ({', '.join(input_text(part, inputs) for part in formula[2])})"
+    text = f" {formula[0]} ".join(input_text(part, inputs, True) for part in formula[1])
+    return f"({text})" if inside and len(formula[1]) > 1 else text
+
+
+def network_text(gates, events):
+    """The package `p` with a device for each event and gate, and the system `s.i` that connects them."""
+    lines = ["package p", "public", "annex EMV2 {** error types t: type; end types; **};"]
+    lines += ["device basic features o: out event port; annex EMV2 {** use types p;",
+              "error propagations o: out propagation {t}; flows e: error source o{t}; end propagations; **}; end basic;"]
+    parts, links = [f"{event}: device basic;" for event in events], []
+    for name, formula in gates.items():
+        found = leaves(formula)
+        inputs = {leaf: f"i{n}" for n, leaf in enumerate(found)}
+        ports = " ".join(f"{port}: in event port;" for port in inputs.values())
+        sides = " ".join(f"{port}: in propagation {{t}};" for port in inputs.values())
+        lines += [f"device gate_{name} features o: out event port; {ports} annex EMV2 {{** use types p;",
+                  f"error propagations o: out propagation {{t}}; {sides} end propagations;",
+                  f"component error behavior propagations all -[{input_text(formula, inputs)}]-> o{{t}}; end component; **}}; end gate_{name};"]
+        parts.append(f"{name}: device gate_{name};")
+        for leaf, port in inputs.items():
+            links.append(f"c{len(links)}: port {leaf if isinstance(leaf, str) else leaf[1]}.o -> {name}.{port};")
+    lines += ["system s end s;", "system implementation s.i", "subcomponents", *parts, "connections", *links, "end s.i;", "end p;", ""]
     return "\n".join(lines)
 
 
@@ -310,17 +435,16 @@ def open_psa_text(gates, top):
 
 
 def write(shape, folder):
-    """Writes a shape as NAME.xml and, where it is a machine, as NAME.aadl."""
+    """Writes a shape as NAME.xml and as NAME.aadl."""
     (folder / f"{shape.name}.xml").write_text(open_psa_text(shape.tree(), shape.target))
-    if shape.machine is not None:
-        (folder / f"{shape.name}.aadl").write_text(aadl_text(shape.machine))
+    text = network_text(shape.gates, events_of(shape.gates)) if shape.machine is None else aadl_text(shape.machine)
+    (folder / f"{shape.name}.aadl").write_text(text)
 
 
 def main(words):
     if not words:
         for shape in all_shapes():
-            later = "" if shape.machine is not None else " (a tree alone)"
-            print(f"{shape.name:24} {shape.about}{later}")
+            print(f"{shape.name:32} {shape.about}")
         return
     folder = Path(words[0])
     folder.mkdir(parents=True, exist_ok=True)

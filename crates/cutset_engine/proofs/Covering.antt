@@ -1,20 +1,20 @@
 -- What families cover when they are kept, cut and joined.
-use Rattle.std.proofs.Common.{ℕ, zero, suc, ◌+◌, ◌≡◌, ◌<◌, ◌≤◌, ◌⊎◌, Bool, true, false, cond, ◌&&◌, ◌||◌, not, nat_le, slice_index_or, List, [], ◌∷◌, ◌++◌, map, filter, length, All, Option, Some, Result, Ok, Err, IfOk, inl, inr, ⊎_elim, ap, ◌∙◌, sym, subst, refl, arith, leb-true, le-leb}
-use Rattle.std.proofs.lemmas.Bool.{lt-leb, leb-false, cases_lt, or_cases}
+use Rattle.std.proofs.Common.{ℕ, zero, suc, ◌+◌, ◌≡◌, ◌<◌, ◌≤◌, ◌⊎◌, Bool, true, false, cond, ◌&&◌, ◌||◌, not, nat_le, slice_index_or, List, [], ◌∷◌, ◌++◌, map, length, All, Option, Some, Result, Ok, Err, IfOk, inl, inr, ⊎_elim, ap, ◌∙◌, sym, subst, refl, arith, leb-true, le-leb}
+use Rattle.std.proofs.lemmas.Bool.{lt-leb, cases_lt, or_cases}
 use Rattle.std.proofs.lemmas.List.Elements.{All-weaker}
 use Rattle.std.specs.List.{list_all, list_any, AllByRecursion}
 use Rattle.std.specs.declared.alloc.AllocError.{AllocError}
 use Rattle.fault_system.specs.Truth.{count_true}
 use Rattle.fault_system.specs.Listings.{IsWithinOrder}
 use Rattle.fault_system.proofs.TruthLaws.{same_answer}
-use Rattle.zdd_store.specs.Family.{Family, covers, has, is_within, IsRising}
+use Rattle.zdd_store.specs.Family.{covers, IsRising}
 use Rattle.zdd_store.specs.Store.{Families, IsIn, family_of, Keeps, IsSound}
-use Rattle.zdd_store.specs.Answers.{sets_up_to, IsLeastFamily}
+use Rattle.zdd_store.specs.Answers.{sets_up_to, IsAsked, IsLeastUpTo}
 use Rattle.zdd_store.specs.declared.id.Id.{Id}
 use Rattle.zdd_families.specs.Unions.{some_of}
 use Rattle.zdd_families.proofs.Ways.{Keeps_trans, Keeps_same}
 use Rattle.zdd_families.proofs.Pairs.{covers-empty, covers-unit}
-use Rattle.zdd_families.proofs.Subsets.{has_first, has_rest, has_cases, has_none, least-has, within_has, within_from}
+use Rattle.zdd_families.proofs.Shorter.{covers_cut}
 use Rattle.cutset_engine.specs.Gates.{covers_each, Stands, Made, of_all, of_both}
 use Rattle.cutset_engine.specs.declared.gates.Gate.{Gate}
 use Rattle.cutset_engine.specs.declared.gates.Gate.TheVariants.{And, Or}
@@ -66,36 +66,6 @@ some_of-count (suc k) store (id ∷ ids) set =
     (λ i. some_of-count (suc k) store ids set i || (covers (family_of store id) set && some_of-count k store ids set i))
     ∙ sym (some_step k (covers (family_of store id) set) (count_true (covers_each store ids set)))
 
--- a set without one of its numbers: all others are left
-remove_one : (set : List ℕ) (n : ℕ) → has set n ≡ true → (rest : List ℕ) × (length set ≡ length rest + 1) × ((x : ℕ) → (x ≡ n → ⊥) → has set x ≡ true → has rest x ≡ true)
-remove_one [] n h = absurd (has_none n h)
-remove_one (m ∷ ms) n h =
-    ⊎_elim (λ e. (ms, omega arith, λ x differ here. ⊎_elim (λ same. absurd (differ (sym same ∙ e))) (λ r. r) (has_cases m ms x here)))
-    (λ k. let r = remove_one ms n k in (m ∷ r.0, omega (arith, r.1), λ x differ here. ⊎_elim (λ same. subst (λ y. has (m ∷ r.0) y ≡ true) same (has_first m r.0)) (λ there. has_rest m r.0 x (r.2 x differ there)) (has_cases m ms x here)))
-    (has_cases m ms n h)
-
--- a rising set within another is no longer
-pub within-shorter : (part set : List ℕ) → IsRising part → is_within part set ≡ true → length part ≤ length set
-unfolding IsRising
-within-shorter [] set rising within = omega arith
-within-shorter (n ∷ ns) set rising within =
-    let r = remove_one set n (within_has (n ∷ ns) set n within (has_first n ns)) in
-    let rest : is_within ns r.0 ≡ true = within_from ns r.0 (λ x h. r.2 x (λ same. absurd (omega (arith, rising.0, least-has ns x h))) (within_has (n ∷ ns) set x within (has_rest n ns x h))) in
-    omega (arith, r.1, within-shorter ns r.0 rising.1 rest)
-
--- the sets of at most so many numbers cover what all cover, where no more are asked
-pub covers_cut : (most : ℕ) (family : Family) (set : List ℕ) → AllByRecursion IsRising family → length set ≤ most → covers (sets_up_to most family) set ≡ covers family set
-unfolding covers sets_up_to
-covers_cut most [] set rising few = refl
-covers_cut most (part ∷ family) set rising few = by (nat_le (length part) most) refl (covers_cut most family set rising.1 few) where
-  by : (b : Bool) → nat_le (length part) most ≡ b → list_any (λ p. is_within p set) (filter (λ s. nat_le (length s) most) family) ≡ list_any (λ p. is_within p set) family
-      → list_any (λ p. is_within p set) (cond b (part ∷ filter (λ s. nat_le (length s) most) family) (filter (λ s. nat_le (length s) most) family)) ≡ is_within part set || list_any (λ p. is_within p set) family
-  by true e rest = ap (λ b. is_within part set || b) rest
-  by false e rest = out (is_within part set) refl where
-    out : (b : Bool) → is_within part set ≡ b → list_any (λ p. is_within p set) (filter (λ s. nat_le (length s) most) family) ≡ b || list_any (λ p. is_within p set) family
-    out true w = let l : most < length part = leb-false _ _ e in absurd (omega (arith, within-shorter part set rising.0 w))
-    out false w = rest
-
 pub sound_rising : (store : Families) (id : Id) → IsSound store → IsIn store id → AllByRecursion IsRising (family_of store id)
 sound_rising store id sound found = sound.rising id.position found
 
@@ -130,10 +100,10 @@ made_cut before after k most id (Ok answer) sound found is kept here family =
     }
 made_cut before after k most id (Err e) sound found is kept here family = record { kept = kept; made = tt }
 
-pub made_some : (before middle after : Families) (most : Option ℕ) (k : ℕ) (parts : List Id) (choice : Id) (result : Result Id AllocError) → Keeps before middle → IsLeastFamily (some_of k (map (family_of before) parts)) (family_of middle choice) → Made middle after most (covers (family_of middle choice)) result
+pub made_some : (before middle after : Families) (most : Option ℕ) (bound k : ℕ) (parts : List Id) (choice : Id) (result : Result Id AllocError) → ((set : List ℕ) → IsWithinOrder most set → IsAsked bound set) → Keeps before middle → IsLeastUpTo bound (some_of k (map (family_of before) parts)) (family_of middle choice) → Made middle after most (covers (family_of middle choice)) result
     → Made before after most (λ set. nat_le k (count_true (covers_each before parts set))) result
-made_some before middle after most k parts choice result kept least made =
-    made_then before middle after most _ _ result kept made (λ set h. least.covering set ∙ some_of-count k before parts set)
+made_some before middle after most bound k parts choice result asked kept least made =
+    made_then before middle after most _ _ result kept made (λ set h. least.covering set (asked set h) ∙ some_of-count k before parts set)
 
 pub of_all-append : (gate : Gate) (xs ys : List Bool) → of_all gate (xs ++ ys) ≡ of_both gate (of_all gate xs) (of_all gate ys)
 of_all-append And xs ys = list_all-append (λ b. b) xs ys

@@ -23,7 +23,8 @@ use Rattle.family_renaming.specs.Renaming.{name_of, renamed, AreInverse, IsRenam
 use Rattle.cutset_engine.specs.Gates.{covers_each, events_of}
 use Rattle.cutset_engine.specs.Filling.{Task, covered, IsFilling, IsFilled, HaveTheirCauses}
 use Rattle.cutset_engine.specs.Families.{HasMinimalCutSets, IsLeast, sets_to}
-use Rattle.cutset_engine.proofs.Covering.{covers_cut, sound_rising}
+use Rattle.zdd_families.proofs.Shorter.{covers_cut}
+use Rattle.cutset_engine.proofs.Covering.{sound_rising}
 use Rattle.cutset_engine.proofs.CutSets.{has_minimal_cut_sets, order-shorter}
 use Rattle.cutset_engine.proofs.Renamed.{renamed-shorter, variables_of, variables_has, renamed-covers, renamed-apart}
 

@@ -6,20 +6,26 @@ ghost use Rattle.cutset_engine.specs.Families.{HasMinimalCutSets, IsLeast, sets_
 
 use crate::agenda::Agenda;
 use crate::filling::{fill, fill_fact};
-use crate::inner_order::inner_order;
+use crate::inner_order::{Way, inner_order};
+use crate::race::{Distance, Race, Try};
 use backward_slice::Slice;
 use dependency_blocks::Blocks;
 use family_renaming::in_event_order;
 use fault_system::FaultSystem;
 use plain_values::Mem;
 use std::alloc::Global;
-use zdd_families::{min_union, up_to_size};
+use zdd_families::{copied, min_union, up_to_size};
 use zdd_store::{Id, Store};
+
+/// How many tries there are before one may remember all.
+const TRIES: u32 = 24;
 
 /// The minimal cut sets of the target of a slice, of at most so many events where a greatest order is given, as a family
 /// of sets of event numbers. The blocks decide how long it takes, and not what is found.
 ///
-/// Each number of the store keeps its family, also where memory is refused.
+/// It is tried with one order of the variables after the other, and each try ends where it remembers too much; then those
+/// that came farthest may remember more. What a try that was given up made is dropped. Each number of the store keeps its
+/// family, also where memory is refused.
 pub fn family(
     alloc: Global,
     system: &FaultSystem,
@@ -33,9 +39,84 @@ pub fn family(
     ensures exact { IfOk result (λ id. HasMinimalCutSets system.now slice.now.target most (family_of store.new id)) }
     ensures kept { Keeps store.old store.new }
 {
+    let mut race = Race::new();
+    for round in 0..TRIES {
+        let mut distance = Distance::NONE;
+        if let Ok(id) = family_within(
+            alloc,
+            system,
+            slice,
+            blocks,
+            most,
+            race.next(),
+            &mut distance,
+            store,
+        ) {
+            return Ok(id);
+        }
+        race.tell(distance);
+    }
+    let mut distance = Distance::NONE;
+    let all = Try {
+        way: race.next().way,
+        answers: u64::MAX,
+    };
+    family_within(
+        alloc,
+        system,
+        slice,
+        blocks,
+        most,
+        all,
+        &mut distance,
+        store,
+    )
+}
+
+/// The family, made over an order of the variables in a store of its own that remembers so many answers at most. How far
+/// it came is told in any case.
+fn family_within(
+    alloc: Global,
+    system: &FaultSystem,
+    slice: &Slice,
+    blocks: &Blocks,
+    most: Option<u32>,
+    turn: Try,
+    distance: &mut Distance,
+    store: &mut Store,
+) -> Mem<Id>
+    requires { IsSlice system.now slice.now.target slice.now }
+    ensures found { IfOk result (IsIn store.new) }
+    ensures exact { IfOk result (λ id. HasMinimalCutSets system.now slice.now.target most (family_of store.new id)) }
+    ensures kept { Keeps store.old store.new }
+{
+    let mut own = Store::limited(alloc, turn.answers);
+    let made = family_by(
+        alloc, system, slice, blocks, most, turn.way, distance, &mut own,
+    )?;
+    let answer = copied(alloc, &own, store, made)?;
+    Ok(answer)
+}
+
+/// The family, made over an order of the variables and brought into the order of the events.
+fn family_by(
+    alloc: Global,
+    system: &FaultSystem,
+    slice: &Slice,
+    blocks: &Blocks,
+    most: Option<u32>,
+    way: Way,
+    distance: &mut Distance,
+    store: &mut Store,
+) -> Mem<Id>
+    requires { IsSlice system.now slice.now.target slice.now }
+    ensures found { IfOk result (IsIn store.new) }
+    ensures exact { IfOk result (λ id. HasMinimalCutSets system.now slice.now.target most (family_of store.new id)) }
+    ensures kept { Keeps store.old store.new }
+{
     let _events = system.events();
     let mut agenda = Agenda::new(alloc, system, blocks, slice.target)?;
-    let order = inner_order(alloc, system, agenda.facts(), slice.target)?;
+    let order = inner_order(alloc, system, way, agenda.facts(), slice.target)?;
     let now = families(
         alloc,
         store,
@@ -44,6 +125,7 @@ pub fn family(
         most,
         slice,
         &mut agenda,
+        distance,
     )?;
     let target = number_at(now.as_slice(), slice.target);
     let inner = least_family(store, most, target)?;
@@ -68,6 +150,7 @@ fn families(
     most: Option<u32>,
     slice: &Slice,
     agenda: &mut Agenda,
+    distance: &mut Distance,
 ) -> Mem<Vec<Id>>
     requires { IsSlice system.now slice.now.target slice.now }
     ensures kept { Keeps store.old store.new }
@@ -83,6 +166,7 @@ fn families(
         most,
         slice,
         agenda,
+        distance,
         now.as_mut_slice(),
     )?;
     Ok(now)
@@ -109,6 +193,7 @@ fn fill_in_order(
     most: Option<u32>,
     slice: &Slice,
     agenda: &mut Agenda,
+    distance: &mut Distance,
     now: &mut [Id],
 ) -> Mem<()>
     requires slice { IsSlice system.now slice.now.target slice.now }
@@ -119,7 +204,7 @@ fn fill_in_order(
         (IsFilled (record { system = system.now; order = order.now; most = most }) slice.now.facts store.new now.new) }
 {
     store.laws();
-    settle(alloc, store, system, order, most, agenda, now)?;
+    settle(alloc, store, system, order, most, agenda, distance, now)?;
     fill(alloc, store, system, order, most, slice.facts.items(), now)
 }
 
@@ -131,6 +216,7 @@ fn settle(
     order: &[u32],
     most: Option<u32>,
     agenda: &mut Agenda,
+    distance: &mut Distance,
     now: &mut [Id],
 ) -> Mem<()>
     requires { IsFilling (record { system = system.now; order = order.now; most = most }) store.old now.old }
@@ -144,6 +230,8 @@ fn settle(
         if fill_fact(alloc, store, system, order, most, now, fact)? {
             agenda.tell(fact);
         }
+        distance.facts = distance.facts.saturating_add(1);
+        distance.left = store.answers_left();
     }
     Ok(())
 }

@@ -1,14 +1,16 @@
-ghost use Rattle.std.specs.Prelude.{◌≡◌, ◌<◌, [], All, Some, nat_le};
+ghost use Rattle.std.specs.Prelude.{◌≡◌, ◌<◌, ℕ, List, [], All, Some, nat_le};
 ghost use Rattle.std.specs.List.Sorted.{IsPermutation};
 ghost use Rattle.fault_system.specs.Truth.{count_true};
+ghost use Rattle.fault_system.specs.Listings.{IsWithinOrder};
 ghost use Rattle.zdd_store.specs.Family.{covers};
 ghost use Rattle.zdd_store.specs.Store.{IsIn, family_of};
+ghost use Rattle.zdd_store.specs.Answers.{IsAsked};
 ghost use Rattle.zdd_families.specs.Steps.{either, both};
 ghost use Rattle.cutset_engine.specs.Gates.{Made, covers_each, of_all, of_both};
 
 use plain_values::Mem;
 use std::alloc::Global;
-use zdd_families::{at_least, look, min_product, min_union, up_to_size};
+use zdd_families::{at_least_up_to, look, min_product_up_to, min_union, up_to_size};
 use zdd_store::{Id, Store};
 
 /// The first variable of a family; 2 ^ 32 - 1 where it has none.
@@ -31,6 +33,16 @@ pub(crate) fn cut(store: &mut Store, most: Option<u32>, id: Id) -> Mem<Id>
     }
 }
 
+/// How many numbers a set has at most that is asked for: 2 ^ 32 - 1 where there is no greatest order.
+fn bound_of(most: Option<u32>) -> u32
+    ensures { (set : List ℕ) → IsWithinOrder most set → IsAsked result set }
+{
+    match most {
+        Some(most) => most,
+        None => 4_294_967_295,
+    }
+}
+
 /// The minimal sets of the one or the other family.
 pub(crate) fn one_of_two(store: &mut Store, most: Option<u32>, a: Id, b: Id) -> Mem<Id>
     requires a_in { IsIn store.old a }
@@ -47,7 +59,7 @@ pub(crate) fn both_of_two(store: &mut Store, most: Option<u32>, a: Id, b: Id) ->
     requires b_in { IsIn store.old b }
     ensures { Made store.old store.new most (both (family_of store.old a) (family_of store.old b)) result }
 {
-    let product = min_product(store, a, b)?;
+    let product = min_product_up_to(store, a, b, bound_of(most))?;
     cut(store, most, product)
 }
 
@@ -131,6 +143,6 @@ pub(crate) fn some_of(
     requires { All (IsIn store.old) parts.now }
     ensures { Made store.old store.new most (λ set. nat_le least (count_true (covers_each store.old parts.now set))) result }
 {
-    let choice = at_least(alloc, store, least, parts)?;
+    let choice = at_least_up_to(alloc, store, least, parts, bound_of(most))?;
     cut(store, most, choice)
 }

@@ -1,22 +1,52 @@
-//! In which order the events are best numbered as variables.
+//! In which orders the events are numbered as variables.
 //!
-//! Nothing is claimed of it: it decides how large the diagrams become, and not what is found.
+//! Nothing is claimed of them: an order decides how large the diagrams become, and not what is found. None is best for all
+//! systems, and each makes the diagrams of some very large.
 
 use family_renaming::VariableOrder;
 use fault_system::{Bits, FaultSystem, Formula};
 use plain_values::Mem;
 use std::alloc::Global;
 
-// About how many places of gates and of events there are under a formula, with those of its facts.
-#[derive(Clone, Copy, PartialEq, Eq, PartialOrd, Ord)]
+/// An order of the events.
+#[derive(Clone, Copy, PartialEq, Eq)]
+pub(crate) enum Way {
+    /// As they are numbered.
+    Numbered,
+    /// As the target meets them depth-first, the parts of each gate as they are written.
+    Written,
+    /// As the target meets them breadth-first.
+    Breadth,
+    /// As the target meets them depth-first, of each gate the parts with the fewest events first.
+    Fewest,
+    /// As the target meets them depth-first, of each gate the deepest parts first.
+    Deepest,
+}
+
+/// How many orders there are.
+pub(crate) const WAYS: u32 = 5;
+
+/// The orders, one after the other.
+pub(crate) fn way_of(number: u32) -> Way {
+    match number {
+        0 => Way::Numbered,
+        1 => Way::Written,
+        2 => Way::Breadth,
+        3 => Way::Fewest,
+        _ => Way::Deepest,
+    }
+}
+
+// About how many places of events there are under a formula, with those of its facts, and how many gates above the lowest.
+#[derive(Clone, Copy)]
 struct Size {
-    gates: u32,
     events: u32,
+    depth: u32,
 }
 
 const NOTHING: Size = Size {
-    gates: 0,
     events: 0,
+    depth: 0,
 };
 
 #[cycle(measured)]
@@ -24,26 +54,29 @@ fn measured(sizes: &[Size], formula: &Formula) -> Size {
     match formula {
         Formula::True => NOTHING,
         Formula::Event(_) => Size {
-            gates: 0,
             events: 1,
+            depth: 0,
         },
         Formula::Fact(number) => sizes.get(*number as usize).copied().unwrap_or(NOTHING),
         Formula::And(parts) | Formula::Or(parts) | Formula::AtLeast(_, parts) => {
-            sum_of(sizes, parts.items())
+            size_of(sizes, parts.items())
         }
     }
 }
 
 #[cycle(measured)]
-fn sum_of(sizes: &[Size], parts: &[Formula]) -> Size {
-    let mut gates = 1u32;
+fn size_of(sizes: &[Size], parts: &[Formula]) -> Size {
     let mut events = 0u32;
+    let mut depth = 0u32;
     for part in parts {
         let here = measured(sizes, part);
-        gates = gates.saturating_add(here.gates);
         events = events.saturating_add(here.events);
+        depth = depth.max(here.depth);
     }
-    Size { gates, events }
+    Size {
+        events,
+        depth: depth.saturating_add(1),
+    }
 }
 
 // The size of the formula of each fact, where each stands behind those of its formula.
@@ -62,10 +95,13 @@ fn sizes_of(alloc: Global, system: &FaultSystem, facts: &[u32]) -> Mem<Vec<Size>
 
 #[derive(Drop)]
 struct Walk<'a> {
+    way: Way,
     sizes: Vec<Size>,
     facts: Bits,
     events: Bits,
-    stack: Vec<&'a Formula>,
+    waiting: Vec<&'a Formula>,
+    // how many of those that wait are done, where the first comes first
+    done: usize,
     order: Vec<u32>,
 }
 
@@ -84,30 +120,59 @@ impl<'a> Walk<'a> {
         }
         self.facts.put(number);
         if let Some(fact) = system.fact(number) {
-            self.stack.push(&fact.formula)?;
+            self.waiting.push(&fact.formula)?;
         }
         Ok(())
     }
 
-    // Puts the parts of a formula on the stack, so that those with most gates come first: a gate of events alone does not
-    // ask for an order of them.
+    // Where a part stands among the others of its gate: that with the greatest number comes first.
+    fn rank_of(&self, part: &Formula) -> u32 {
+        let size = measured(self.sizes.as_slice(), part);
+        match self.way {
+            Way::Numbered | Way::Written | Way::Breadth => 0,
+            Way::Fewest => u32::MAX.saturating_sub(size.events),
+            Way::Deepest => size.depth,
+        }
+    }
+
+    // Lets all parts wait, so that the first of them is taken first.
     fn meet_parts(&mut self, alloc: Global, parts: &'a [Formula]) -> Mem<()> {
+        if self.way == Way::Breadth {
+            return self.meet_behind(parts);
+        }
         let mut keys = Vec::new(alloc);
         for (place, part) in parts.iter().enumerate().rev() {
-            keys.push((measured(self.sizes.as_slice(), part), place))?;
+            keys.push((self.rank_of(part), place))?;
         }
-        keys.sort_by_key(|key: &(Size, usize)| key.0)?;
+        keys.sort_by_key(|key: &(u32, usize)| key.0)?;
         for (_, place) in keys.as_slice() {
             if let Some(part) = parts.get(*place) {
-                self.stack.push(part)?;
+                self.waiting.push(part)?;
             }
         }
         Ok(())
     }
 
-    // Takes the next formula from the stack; whether there was one.
+    fn meet_behind(&mut self, parts: &'a [Formula]) -> Mem<()> {
+        for part in parts {
+            self.waiting.push(part)?;
+        }
+        Ok(())
+    }
+
+    // The formula whose turn it is; none where none waits.
+    fn next(&mut self) -> Option<&'a Formula> {
+        if self.way != Way::Breadth {
+            return self.waiting.pop();
+        }
+        let formula = self.waiting.get(self.done).copied()?;
+        self.done = self.done.saturating_add(1);
+        Some(formula)
+    }
+
+    // Goes through the next formula; whether there was one.
     fn go_on(&mut self, alloc: Global, system: &'a FaultSystem) -> Mem<bool> {
-        let Some(formula) = self.stack.pop() else {
+        let Some(formula) = self.next() else {
             return Ok(false);
         };
         match formula {
@@ -122,18 +187,24 @@ impl<'a> Walk<'a> {
     }
 }
 
-/// An order of all events: as a target meets them depth-first, and the others behind them.
+/// An order of all events: as the way says for those on which a target depends, and the others behind them.
 pub(crate) fn inner_order(
     alloc: Global,
     system: &FaultSystem,
+    way: Way,
     facts: &[u32],
     target: u32,
 ) -> Mem<VariableOrder> {
+    if way == Way::Numbered {
+        return VariableOrder::of(alloc, Vec::new(alloc));
+    }
     let mut walk = Walk {
+        way,
         sizes: sizes_of(alloc, system, facts)?,
         facts: Bits::new(alloc, system.facts())?,
         events: Bits::new(alloc, system.events())?,
-        stack: Vec::new(alloc),
+        waiting: Vec::new(alloc),
+        done: 0,
         order: Vec::new(alloc),
     };
     walk.meet_fact(system, target)?;

@@ -16,6 +16,7 @@ mod formulas;
 mod gates;
 mod inner_order;
 mod laws;
+mod race;
 
 pub use families::family;
 pub use laws::in_slice;

@@ -1,5 +1,5 @@
 -- What a table knows after one more answer, and in a store that keeps what it had.
-use Rattle.std.proofs.Common.{◌≡◌, ◌≤◌, ℕ, Bool, true, false, cond, List, length, Option, Some, refl, sym, ap, ◌∙◌, subst, arith}
+use Rattle.std.proofs.Common.{◌≤◌, ℕ, List, length, Option, sym, ap, ◌∙◌, subst, arith}
 use Rattle.std.specs.HashMap.{get}
 use Rattle.zdd_store.specs.Family.{Family, least_number}
 use Rattle.zdd_store.specs.Store.{Families, IsIn, family_of, Keeps}
@@ -11,16 +11,6 @@ use Rattle.family_renaming.specs.declared.parting.Place.{Place}
 use Rattle.family_renaming.specs.declared.from_top.Known.{Known}
 use Rattle.family_renaming.specs.contracts.parting.PlacePartialEq.TheImpl.{eq-value as place_eq}
 use Rattle.zdd_store.specs.contracts.id.IdPartialEq.TheImpl.{eq-value as id_eq}
-
--- what holds of each answer and of one more holds of each after that is put in
-pub knows_more : {K X : Type 0} (eq : K → K → Bool) (P : K → X → Type 0) (before after : K → Option X) (key : K) (value : X)
-    → ((k : K) → eq key k ≡ true → key ≡ k) → ((k : K) → after k ≡ cond (eq key k) (Some value) (before k)) → P key value
-    → ((k : K) (x : X) → before k ≡ Some x → P k x) → (k : K) (x : X) → after k ≡ Some x → P k x
-knows_more {K} {X} eq P before after key value exact put right known k x e = by (eq key k) refl (sym (put k) ∙ e)
-  where
-    by : (b : Bool) → eq key k ≡ b → cond b (Some value) (before k) ≡ Some x → P k x
-    by true same is = let one : value ≡ x = cc in subst (λ j. P j x) (exact k same) (subst (P key) one right)
-    by false other is = known k x is
 
 pub found_kept : (before after : Families) (id : Id) → Keeps before after → IsIn before id → IsIn after id
 found_kept before after id kept here = let more : length before ≤ length after = kept.more in omega arith

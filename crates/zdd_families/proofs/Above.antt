@@ -1,5 +1,5 @@
 -- The numbers of a set from a bound on, and that a least family has no smaller numbers than what its test looks at.
-use Rattle.std.proofs.Common.{◌≡◌, ℕ, ◌≤◌, ◌⊎◌, Bool, true, false, cond, List, [], ◌∷◌, filter, Contains, refl, sym, ap, ◌∙◌, subst, inl, inr, arith}
+use Rattle.std.proofs.Common.{◌≡◌, ℕ, ◌+◌, ◌<◌, ◌≤◌, ◌⊎◌, length, Bool, true, false, cond, List, [], ◌∷◌, filter, Contains, refl, sym, ap, ◌∙◌, subst, inl, inr, arith}
 use Rattle.std.specs.Prelude.{nat_le}
 use Rattle.std.proofs.lemmas.Bool.{false≢true, leb-true, le-leb}
 use Rattle.zdd_store.specs.Family.{Family, least_of, least_number, has, is_within, covers}
@@ -86,3 +86,24 @@ pub least_number-most : (family : Family) → least_number family ≤ 4294967296
 unfolding least_number
 least_number-most [] = omega arith
 least_number-most (set ∷ sets) = let rest : least_number sets ≤ 4294967296 = least_number-most sets in omega arith
+
+above-le : (low : ℕ) (set : List ℕ) → length (above low set) ≤ length set
+unfolding above
+above-le low [] = omega arith
+above-le low (n ∷ ns) = by (nat_le low n) (above-le low ns)
+  where
+    by : (b : Bool) → length (filter (nat_le low) ns) ≤ length ns → length (cond b (n ∷ filter (nat_le low) ns) (filter (nat_le low) ns)) ≤ length (n ∷ ns)
+    by true h = omega arith
+    by false h = omega arith
+
+-- without a number that it has, a set is shorter
+pub above-shorter : (low : ℕ) (set : List ℕ) (x : ℕ) → has set x ≡ true → x < low → length (above low set) + 1 ≤ length set
+unfolding above
+above-shorter low [] x here h = absurd (has_none x here)
+above-shorter low (n ∷ ns) x here h = by (nat_le low n) refl (has_cases n ns x here) (λ k. above-shorter low ns x k h) (above-le low ns)
+  where
+    by : (b : Bool) → nat_le low n ≡ b → (n ≡ x) ⊎ (has ns x ≡ true) → (has ns x ≡ true → length (filter (nat_le low) ns) + 1 ≤ length ns) → length (filter (nat_le low) ns) ≤ length ns
+        → length (cond b (n ∷ filter (nat_le low) ns) (filter (nat_le low) ns)) + 1 ≤ length (n ∷ ns)
+    by true e (inl is) more le = let above_low : low ≤ n = leb-true low n e in absurd (omega arith)
+    by true e (inr k) more le = let m : length (filter (nat_le low) ns) + 1 ≤ length ns = more k in omega arith
+    by false e c more le = omega arith

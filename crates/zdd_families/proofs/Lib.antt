@@ -6,6 +6,9 @@ pub mod Splits
 pub mod Above
 pub mod Ways
 pub mod Pairs
+pub mod Shorter
+pub mod Products
 pub mod Telling
 pub mod Tables
 pub mod Sizing
+pub mod Copying

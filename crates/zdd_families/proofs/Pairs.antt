@@ -4,7 +4,7 @@ use Rattle.zdd_store.specs.Family.{Family, branch, least_number, has, is_within,
 use Rattle.zdd_store.specs.Store.{Families, IsIn, family_at, family_of, Keeps, IsSound}
 use Rattle.zdd_store.specs.Answers.{IsLeastFamily}
 use Rattle.zdd_store.specs.declared.id.Id.{Id}
-use Rattle.zdd_families.specs.Steps.{IsFound, Answered, IsSplit, CanCross, AnyFamily, joined, either, both, across}
+use Rattle.zdd_families.specs.Steps.{IsFound, Answered, IsSplit, CanCross, AnyFamily, joined, either, both}
 use Rattle.zdd_families.specs.declared.split.Parts.{Parts}
 use Rattle.zdd_families.proofs.Covers.{covers-branch}
 use Rattle.zdd_families.proofs.Above.{above, covers-above, least-bound, least_number-most}
@@ -117,24 +117,6 @@ either_bits false true lb ha hb = refl
 either_bits false false true ha hb = refl
 either_bits false false false ha hb = refl
 
-both_bits : (h la lb ha hb : Bool) → ((la && lb) || (h && ((ha && hb) || ((ha && lb) || (la && hb))))) ≡ ((la || (h && ha)) && (lb || (h && hb)))
-both_bits true true true ha hb = refl
-both_bits true true false true true = refl
-both_bits true true false true false = refl
-both_bits true true false false true = refl
-both_bits true true false false false = refl
-both_bits true false true true true = refl
-both_bits true false true true false = refl
-both_bits true false true false true = refl
-both_bits true false true false false = refl
-both_bits true false false true true = refl
-both_bits true false false true false = refl
-both_bits true false false false true = refl
-both_bits true false false false false = refl
-both_bits false true true ha hb = refl
-both_bits false true false ha hb = refl
-both_bits false false lb ha hb = refl
-
 -- the minimal sets of two branches, from those of their children
 module _ (before s1 s2 after : Families) (a b lo hi answer : Id) (first second : Parts) (var l1 l2 l3 : ℕ)
     (split_a : IsSplit before a var first) (split_b : IsSplit before b var second) (k1 : Keeps before s1) (k2 : Keeps s1 s2) where
@@ -158,28 +140,6 @@ module _ (before s1 s2 after : Families) (a b lo hi answer : Id) (first second :
           (f2.right.covering set ∙ ap (λ f. either f (family_of s1 second.hi) set) (k1.same first.hi.position split_a.hi_in) ∙ ap (λ f. either (family_of before first.hi) f set) (k1.same second.hi.position split_b.hi_in))
           ∙ either_bits (has set var) (covers (family_of before first.lo) set) (covers (family_of before second.lo) set) (covers (family_of before first.hi) set) (covers (family_of before second.hi) set)
           ∙ sym (ap (λ c. c || covers (family_of before b) set) (covers_a set) ∙ ap (λ c. (covers (family_of before first.lo) set || (has set var && covers (family_of before first.hi) set)) || c) (covers_b set))
-
-  -- with the sets that the product with the variable covers, as they were before the first call
-  pub both_made : IsFound s1 l1 (IsLeastFamily (both (family_of before first.lo) (family_of before second.lo))) lo
-      → IsFound s2 l2 (IsLeastFamily (across s1 first second)) hi
-      → IsFound after l3 (IsLeastFamily (joined var (family_of s2 lo) (family_of s2 hi))) answer
-      → IsLeastFamily (both (family_of before a) (family_of before b)) (family_of after answer)
-  both_made f1 f2 f3 = retest (joined var (family_of s2 lo) (family_of s2 hi)) (both (family_of before a) (family_of before b)) (family_of after answer) same f3.right
-    where
-      across_before : (set : List ℕ) → across s1 first second set ≡ across before first second set
-      across_before set =
-          ap (λ f. (covers f set && covers (family_of s1 second.hi) set) || ((covers f set && covers (family_of s1 second.lo) set) || (covers (family_of s1 first.lo) set && covers (family_of s1 second.hi) set))) (k1.same first.hi.position split_a.hi_in)
-          ∙ ap (λ f. (covers (family_of before first.hi) set && covers f set) || ((covers (family_of before first.hi) set && covers (family_of s1 second.lo) set) || (covers (family_of s1 first.lo) set && covers f set))) (k1.same second.hi.position split_b.hi_in)
-          ∙ ap (λ f. (covers (family_of before first.hi) set && covers (family_of before second.hi) set) || ((covers (family_of before first.hi) set && covers f set) || (covers (family_of s1 first.lo) set && covers (family_of before second.hi) set))) (k1.same second.lo.position split_b.lo_in)
-          ∙ ap (λ f. (covers (family_of before first.hi) set && covers (family_of before second.hi) set) || ((covers (family_of before first.hi) set && covers (family_of before second.lo) set) || (covers f set && covers (family_of before second.hi) set))) (k1.same first.lo.position split_a.lo_in)
-
-      same : (set : List ℕ) → joined var (family_of s2 lo) (family_of s2 hi) set ≡ both (family_of before a) (family_of before b) set
-      same set =
-          ap (λ f. covers f set || (has set var && covers (family_of s2 hi) set)) (k2.same lo.position f1.found)
-          ∙ ap (λ c. c || (has set var && covers (family_of s2 hi) set)) (f1.right.covering set)
-          ∙ ap (λ c. both (family_of before first.lo) (family_of before second.lo) set || (has set var && c)) (f2.right.covering set ∙ across_before set)
-          ∙ both_bits (has set var) (covers (family_of before first.lo) set) (covers (family_of before second.lo) set) (covers (family_of before first.hi) set) (covers (family_of before second.hi) set)
-          ∙ sym (ap (λ c. c && covers (family_of before b) set) (covers_a set) ∙ ap (λ c. (covers (family_of before first.lo) set || (has set var && covers (family_of before first.hi) set)) && c) (covers_b set))
 
 -- a split family of minimal sets can be crossed, also after the store grew
 pub can_cross : (before after : Families) (id : Id) (var : ℕ) (parts : Parts) → IsSplit before id var parts → IsAntichain (family_of before id) → Keeps before after → CanCross after var parts

@@ -5,37 +5,15 @@ use Rattle.std.specs.List.{AllByRecursion}
 use Rattle.std.proofs.lemmas.Bool.{leb-true, le-leb}
 use Rattle.zdd_store.specs.Family.{Family, branch, least_number}
 use Rattle.zdd_store.specs.Store.{Families, IsIn, family_at, family_of, Keeps, IsSound}
-use Rattle.zdd_store.specs.Answers.{HasAtLeast, HasAtMost, sets_up_to, sets_of, AnswersSize}
+use Rattle.zdd_store.specs.Answers.{HasAtLeast, HasAtMost, sets_up_to, sets_of}
 use Rattle.zdd_store.specs.declared.id.Id.{Id}
-use Rattle.zdd_store.proofs.Branches.{with_var, branch-with_var, branch-empty}
+use Rattle.zdd_store.proofs.Branches.{branch-empty}
 use Rattle.zdd_store.proofs.Orders.{all_contained}
 use Rattle.zdd_families.specs.Steps.{IsFound, Answered, IsSplit}
 use Rattle.zdd_families.specs.declared.split.Parts.{Parts}
 use Rattle.zdd_families.proofs.Ways.{answered, Keeps_same}
 use Rattle.zdd_families.proofs.Booleans.{same_test}
 use Rattle.zdd_families.proofs.Joins.{least-filter, filter-branch, same_filter, filter_keeps, filter_drops}
-
-all_branch : (P : List ℕ → Type 0) (var : ℕ) (lo hi : Family) → AllByRecursion P lo → AllByRecursion (λ set. P (var ∷ set)) hi → AllByRecursion P (with_var var hi lo)
-unfolding with_var
-all_branch P var lo [] h k = h
-all_branch P var lo (set ∷ sets) h k = (k.0, all_branch P var lo sets h k.1)
-
-all_weaker : (P Q : List ℕ → Type 0) (family : Family) → ((set : List ℕ) → P set → Q set) → AllByRecursion P family → AllByRecursion Q family
-all_weaker P Q [] f h = tt
-all_weaker P Q (set ∷ sets) f h = (f set h.0, all_weaker P Q sets f h.1)
-
-pub least_size_branch : (size lo_size hi_size var : ℕ) (lo hi : Family) → size ≤ lo_size → size ≤ hi_size + 1 → HasAtLeast lo_size lo → HasAtLeast hi_size hi → HasAtLeast size (branch var lo hi)
-least_size_branch size lo_size hi_size var lo hi h k l r =
-    subst (HasAtLeast size) (sym (branch-with_var var lo hi))
-    (all_branch (λ set. size ≤ length set) var lo hi (all_weaker (λ set. lo_size ≤ length set) (λ set. size ≤ length set) lo (λ set e. omega arith) l)
-    (all_weaker (λ set. hi_size ≤ length set) (λ set. size ≤ length (var ∷ set)) hi (λ set e. omega arith) r))
-
-pub greatest_size_branch : (size lo_size hi_size var : ℕ) (lo hi : Family) → lo_size ≤ size → (size < 4294967295 → hi_size + 1 ≤ size) → HasAtMost lo_size lo → HasAtMost hi_size hi → HasAtMost size (branch var lo hi)
-greatest_size_branch size lo_size hi_size var lo hi h k l r fits =
-    let more : hi_size + 1 ≤ size = k fits in
-    subst (AllByRecursion (λ set. length set ≤ size)) (sym (branch-with_var var lo hi))
-    (all_branch (λ set. length set ≤ size) var lo hi (all_weaker (λ set. length set ≤ lo_size) (λ set. length set ≤ size) lo (λ set e. omega arith) (l (omega arith)))
-    (all_weaker (λ set. length set ≤ hi_size) (λ set. length (var ∷ set) ≤ size) hi (λ set e. omega arith) (r (omega arith))))
 
 -- with a number more
 le_more : (most : ℕ) (var : ℕ) (set : List ℕ) → 1 ≤ most → nat_le (length (var ∷ set)) most ≡ nat_le (length set) (most - 1)
@@ -137,21 +115,6 @@ pub least-of : (size : ℕ) (family : Family) → least_number family ≤ least_
 unfolding sets_of
 least-of size family = least-filter _ family
 
--- the sizes of a split family, in stores that are the same
-module _ (s0 s1 : Families) (a : Id) (parts : Parts) (var size lo hi : ℕ) (same : s1 ≡ s0) (split : IsSplit s0 a var parts) where
-  pub greatest_made : lo ≤ size → (size < 4294967295 → hi + 1 ≤ size) → HasAtMost lo (family_of s0 parts.lo) → HasAtMost hi (family_of s1 parts.hi) → HasAtMost size (family_of s0 a)
-  greatest_made h k l r =
-      subst (HasAtMost size) (sym split.family)
-      (greatest_size_branch size lo hi var (family_of s0 parts.lo) (family_of s0 parts.hi) h k l (subst (λ s. HasAtMost hi (family_of s parts.hi)) same r))
-
-  pub least_made : size ≤ lo → size ≤ hi + 1 → HasAtLeast lo (family_of s0 parts.lo) → HasAtLeast hi (family_of s1 parts.hi) → HasAtLeast size (family_of s0 a)
-  least_made h k l r =
-      subst (HasAtLeast size) (sym split.family)
-      (least_size_branch size lo hi var (family_of s0 parts.lo) (family_of s0 parts.hi) h k l (subst (λ s. HasAtLeast hi (family_of s parts.hi)) same r))
-
-pub answers_size : (s0 s2 : Families) (IsRight : Family → Type 0) (a : Id) → s2 ≡ s0 → IsIn s0 a → IsRight (family_of s0 a) → AnswersSize s2 IsRight a.position
-answers_size s0 s2 IsRight a same here right = subst (λ s. AnswersSize s IsRight a.position) (sym same) (record { first_in = here; right = right })
-
 -- what is told of a family of one store holds in a store that is the same
 pub told_up_to : (store : Families) (a : Id) (most : ℕ) → IsSound store → a.position < 2 → family_of store a ≡ sets_up_to most (family_of store a)
 told_up_to store a most sound h = by a.position refl h
@@ -161,31 +124,40 @@ told_up_to store a most sound h = by a.position refl h
     by (suc zero) e k = let is : family_of store a ≡ [] ∷ [] = ap (family_at store) e ∙ sound.unit in is ∙ up_to_unit most ∙ ap (sets_up_to most) (sym is)
     by (suc (suc n)) e k = absurd (omega arith)
 
+-- where each set has the size, all are left
+pub all_of : (size : ℕ) (family : Family) → size < 4294967295 → HasAtLeast size family → HasAtMost size family → family ≡ sets_of size family
+unfolding sets_of
+all_of size family fits many few =
+    sym (filter_keeps _ family (λ set here.
+    let low : size ≤ length set = all_contained (λ s. size ≤ length s) family set many here in
+    let high : length set ≤ size = all_contained (λ s. length s ≤ size) family set (few fits) here in
+    eq-eqb (length set) size (omega arith)))
+
 -- an answer of a filter that the sizes tell
-pub told_answer : (s0 s1 : Families) (a id : Id) (F : Family → Family) → s1 ≡ s0 → ((family : Family) → least_number family ≤ least_number (F family)) → IsIn s0 id → family_of s0 id ≡ F (family_of s0 a)
-    → Answered s0 s1 (least_number (family_of s0 a)) (λ family. family ≡ F (family_of s0 a)) (Ok id)
-told_answer s0 s1 a id F same least here is =
-    let fewer : least_number (family_of s0 a) ≤ least_number (F (family_of s0 a)) = least (family_of s0 a) in
-    let low : least_number (family_of s0 id) ≡ least_number (F (family_of s0 a)) = ap least_number is in
-    subst (λ s. Answered s0 s (least_number (family_of s0 a)) (λ family. family ≡ F (family_of s0 a)) (Ok id)) (sym same) (answered id here (omega arith) is)
+pub told_answer : (store : Families) (a id : Id) (F : Family → Family) → ((family : Family) → least_number family ≤ least_number (F family)) → IsIn store id → family_of store id ≡ F (family_of store a)
+    → Answered store store (least_number (family_of store a)) (λ family. family ≡ F (family_of store a)) (Ok id)
+told_answer store a id F least here is =
+    let fewer : least_number (family_of store a) ≤ least_number (F (family_of store a)) = least (family_of store a) in
+    let low : least_number (family_of store id) ≡ least_number (F (family_of store a)) = ap least_number is in
+    answered id here (omega arith) is
 
 pub Keeps_is : (s0 s1 : Families) → s1 ≡ s0 → Keeps s0 s1
 Keeps_is s0 s1 same = subst (Keeps s0) (sym same) (Keeps_same s0)
 
 -- a filter of a family of which only the sets without the variable are left
-pub filter_lo : (s0 s1 s2 : Families) (a lo : Id) (parts : Parts) (var : ℕ) (F : Family → Family) → s1 ≡ s0 → IsSplit s1 a var parts
-    → F (branch var (family_of s1 parts.lo) (family_of s1 parts.hi)) ≡ F (family_of s1 parts.lo) → family_of s2 lo ≡ F (family_of s1 parts.lo) → family_of s2 lo ≡ F (family_of s0 a)
-filter_lo s0 s1 s2 a lo parts var F same split none is = is ∙ sym none ∙ ap F (sym split.family) ∙ ap (λ s. F (family_of s a)) same
+pub filter_lo : (s1 s2 : Families) (a lo : Id) (parts : Parts) (var : ℕ) (F : Family → Family) → IsSplit s1 a var parts
+    → F (branch var (family_of s1 parts.lo) (family_of s1 parts.hi)) ≡ F (family_of s1 parts.lo) → family_of s2 lo ≡ F (family_of s1 parts.lo) → family_of s2 lo ≡ F (family_of s1 a)
+filter_lo s1 s2 a lo parts var F split none is = is ∙ sym none ∙ ap F (sym split.family)
 
 -- a filter of a family, from those of its parts
-pub filter_made : (s0 s1 s2 s3 s4 : Families) (a lo hi answer : Id) (parts : Parts) (var l1 l2 : ℕ) (F G : Family → Family) → s1 ≡ s0 → IsSplit s1 a var parts
+pub filter_made : (s1 s2 s3 s4 : Families) (a lo hi answer : Id) (parts : Parts) (var l1 l2 : ℕ) (F G : Family → Family) → IsSplit s1 a var parts
     → F (branch var (family_of s1 parts.lo) (family_of s1 parts.hi)) ≡ branch var (F (family_of s1 parts.lo)) (G (family_of s1 parts.hi)) → Keeps s1 s2 → Keeps s2 s3
     → IsFound s2 l1 (λ f. f ≡ F (family_of s1 parts.lo)) lo → IsFound s3 l2 (λ f. f ≡ G (family_of s2 parts.hi)) hi
-    → family_of s4 answer ≡ branch var (family_of s3 lo) (family_of s3 hi) → family_of s4 answer ≡ F (family_of s0 a)
-filter_made s0 s1 s2 s3 s4 a lo hi answer parts var l1 l2 F G same split step k2 k3 f1 f2 made =
+    → family_of s4 answer ≡ branch var (family_of s3 lo) (family_of s3 hi) → family_of s4 answer ≡ F (family_of s1 a)
+filter_made s1 s2 s3 s4 a lo hi answer parts var l1 l2 F G split step k2 k3 f1 f2 made =
     made ∙ ap (λ f. branch var f (family_of s3 hi)) (k3.same lo.position f1.found ∙ f1.right)
     ∙ ap (branch var (F (family_of s1 parts.lo))) (f2.right ∙ ap G (k2.same parts.hi.position split.hi_in))
-    ∙ sym step ∙ ap F (sym split.family) ∙ ap (λ s. F (family_of s a)) same
+    ∙ sym step ∙ ap F (sym split.family)
 
 pub least_filtered : (F : Family → Family) (a family : Family) → ((f : Family) → least_number f ≤ least_number (F f)) → family ≡ F a → least_number a ≤ least_number family
 least_filtered F a family least e = subst (λ f. least_number a ≤ least_number f) (sym e) (least a)

@@ -6,7 +6,7 @@ use Rattle.zdd_store.specs.Family.{Family, branch, least_number, has, covers, Is
 use Rattle.zdd_store.specs.Store.{Families, IsIn, family_at, family_of, Keeps, IsSound}
 use Rattle.zdd_store.specs.Answers.{IsLeastFamily, AnswersOne, AnswersTwo}
 use Rattle.zdd_store.specs.declared.id.Id.{Id}
-use Rattle.zdd_store.proofs.Branches.{le-least_number-branch}
+use Rattle.zdd_store.proofs.Branches.{le-least_number-branch, branch-empty}
 use Rattle.zdd_families.specs.Steps.{IsFound, Answered, IsSplit, joined}
 use Rattle.zdd_families.specs.declared.split.Parts.{Parts}
 use Rattle.zdd_families.proofs.Joins.{least-filter, without-branch, without-none, without-unit, without-same, least-join}
@@ -86,6 +86,27 @@ without_made before s1 s2 s3 after a b lo beside hi answer first second var l1 l
     ∙ sym (without-branch var (family_of before first.lo) (family_of before first.hi) (family_of before second.lo) (family_of before second.hi)
     split_a.lo_greater split_a.hi_greater split_b.lo_greater split_b.hi_greater)
     ∙ sym (ap (sets_without (family_of before a)) split_b.family ∙ ap (λ f. sets_without f (branch var (family_of before second.lo) (family_of before second.hi))) split_a.family)
+
+-- where the first variable is the second family's alone, only its sets without it count
+pub without_skip : (before after : Families) (a b : Id) (first second : Parts) (var : ℕ) (result : Result Id AllocError) → IsSound before → first.hi.position ≡ 0
+    → IsSplit before a var first → IsSplit before b var second
+    → Answered before after (least_number (family_of before first.lo)) (λ family. family ≡ sets_without (family_of before first.lo) (family_of before second.lo)) result
+    → Answered before after (least_number (family_of before a)) (λ family. family ≡ sets_without (family_of before a) (family_of before b)) result
+without_skip before after a b first second var result sound zero_is split_a split_b answer =
+    let none : family_of before first.hi ≡ [] = ap (family_at before) zero_is ∙ sound.empty in
+    let own : family_of before first.lo ≡ family_of before a =
+    sym (branch-empty var (family_of before first.lo)) ∙ ap (branch var (family_of before first.lo)) (sym none) ∙ sym split_a.family in
+    let whole : sets_without (family_of before a) (family_of before b) ≡ branch var (sets_without (family_of before first.lo) (family_of before second.lo)) (sets_without (sets_without (family_of before first.hi) (family_of before second.hi)) (family_of before second.lo)) =
+    ap (sets_without (family_of before a)) split_b.family ∙ ap (λ f. sets_without f (branch var (family_of before second.lo) (family_of before second.hi))) split_a.family
+    ∙ without-branch var (family_of before first.lo) (family_of before first.hi) (family_of before second.lo) (family_of before second.hi)
+    split_a.lo_greater split_a.hi_greater split_b.lo_greater split_b.hi_greater in
+    let nothing : sets_without (sets_without (family_of before first.hi) (family_of before second.hi)) (family_of before second.lo) ≡ [] =
+    ap (λ f. sets_without (sets_without f (family_of before second.hi)) (family_of before second.lo)) none
+    ∙ ap (λ f. sets_without f (family_of before second.lo)) (without-empty (family_of before second.hi)) ∙ without-empty (family_of before second.lo) in
+    let same : sets_without (family_of before first.lo) (family_of before second.lo) ≡ sets_without (family_of before a) (family_of before b) =
+    sym (whole ∙ ap (branch var (sets_without (family_of before first.lo) (family_of before second.lo))) nothing ∙ branch-empty var (sets_without (family_of before first.lo) (family_of before second.lo))) in
+    subst (λ g. Answered before after (least_number (family_of before a)) (λ family. family ≡ g) result) same
+    (subst (λ f. Answered before after (least_number f) (λ family. family ≡ sets_without (family_of before first.lo) (family_of before second.lo)) result) own answer)
 
 -- what each call keeps, all keep
 pub Keeps_trans : (a b c : Families) → Keeps a b → Keeps b c → Keeps a c

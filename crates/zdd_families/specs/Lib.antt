@@ -1,3 +1,4 @@
 pub mod Unions
 pub mod Steps
 pub mod Rows
+pub mod Copies

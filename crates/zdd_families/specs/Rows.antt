@@ -1,8 +1,9 @@
--- Rows of the table of at least so many of some families: the entry at k has the minimal sets of at least k of them.
+-- Rows of the table of at least so many of some families: the entry at k has the minimal sets of at least k of them, as far as
+-- sets are asked for.
 use Rattle.std.specs.Prelude.{ℕ, zero, suc, ◌<◌, ◌≡◌, Bool, ◌&&◌, ◌||◌, List, length, slice_index_or}
 use Rattle.zdd_store.specs.Family.{Family, covers, IsAntichain}
 use Rattle.zdd_store.specs.Store.{Families, IsIn, family_of}
-use Rattle.zdd_store.specs.Answers.{IsLeastFamily}
+use Rattle.zdd_store.specs.Answers.{IsLeastUpTo}
 use Rattle.zdd_store.specs.declared.id.Id.{Id}
 use Rattle.zdd_families.specs.Steps.{IsFound}
 use Rattle.zdd_families.specs.Unions.{some_of}
@@ -13,21 +14,21 @@ pub record IsMinimalNumber (store : Families) (id : Id) : Type 0 where
   pub apart : IsAntichain (family_of store id)
 
 -- the entry at each place k of a row has the minimal sets of at least k of the families
-abbrev pub IsRow : Families → List Family → List Id → Type 0
-IsRow store families row =
-    (k : ℕ) (d : Id) → k < length row → IsFound store 0 (IsLeastFamily (some_of k families)) (slice_index_or row k d)
+abbrev pub IsRow : ℕ → Families → List Family → List Id → Type 0
+IsRow most store families row =
+    (k : ℕ) (d : Id) → k < length row → IsFound store 0 (IsLeastUpTo most (some_of k families)) (slice_index_or row k d)
 
 -- the sets that `here` covers, and those that both the part and `below` cover
 abbrev pub with_part : Family → Family → Family → List ℕ → Bool
 with_part part below here set = covers here set || (covers part set && covers below set)
 
 -- an entry of the row with one part more: the first stays, and each other is of the two entries of the row at its place and below
-abbrev pub IsEntry : Families → Families → Id → List Id → ℕ → Id → Type 0
-IsEntry before after part row zero entry = (d : Id) → IsFound after 0 (IsLeastFamily (covers (family_of before (slice_index_or row zero d)))) entry
-IsEntry before after part row (suc k) entry =
-    (d : Id) → IsFound after 0 (IsLeastFamily (with_part (family_of before part) (family_of before (slice_index_or row k d)) (family_of before (slice_index_or row (suc k) d)))) entry
+abbrev pub IsEntry : ℕ → Families → Families → Id → List Id → ℕ → Id → Type 0
+IsEntry most before after part row zero entry = (d : Id) → IsFound after 0 (IsLeastUpTo most (covers (family_of before (slice_index_or row zero d)))) entry
+IsEntry most before after part row (suc k) entry =
+    (d : Id) → IsFound after 0 (IsLeastUpTo most (with_part (family_of before part) (family_of before (slice_index_or row k d)) (family_of before (slice_index_or row (suc k) d)))) entry
 
 -- the row with one part more
-pub record IsNextRow (before after : Families) (part : Id) (row next : List Id) : Type 0 where
+pub record IsNextRow (most : ℕ) (before after : Families) (part : Id) (row next : List Id) : Type 0 where
   pub long : length next ≡ length row
-  pub entries : (k : ℕ) (d : Id) → k < length next → IsEntry before after part row k (slice_index_or next k d)
+  pub entries : (k : ℕ) (d : Id) → k < length next → IsEntry most before after part row k (slice_index_or next k d)

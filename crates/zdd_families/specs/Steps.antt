@@ -1,5 +1,5 @@
 -- What an operation answers, and how a family is split at a variable.
-use Rattle.std.specs.Prelude.{ℕ, ◌<◌, ◌≤◌, ◌≡◌, Bool, ◌&&◌, ◌||◌, List, Result, IfOk}
+use Rattle.std.specs.Prelude.{ℕ, ◌<◌, ◌≤◌, ◌≡◌, min, Bool, ◌&&◌, ◌||◌, List, Result, IfOk}
 use Rattle.std.specs.declared.alloc.AllocError.{AllocError}
 use Rattle.zdd_store.specs.Family.{Family, branch, least_number, covers, has, IsAntichain}
 use Rattle.zdd_store.specs.Store.{Families, IsIn, family_of, Keeps}
@@ -52,8 +52,15 @@ pub record CanCross (store : Families) (var : ℕ) (parts : Parts) : Type 0 wher
 -- the sets that both of two families cover, where at least one of the two does it by a set with the variable
 abbrev pub across : Families → Parts → Parts → List ℕ → Bool
 across store first second set =
-    both (family_of store first.hi) (family_of store second.hi) set
-    || (both (family_of store first.hi) (family_of store second.lo) set || both (family_of store first.lo) (family_of store second.hi) set)
+    (covers (family_of store first.hi) set && either (family_of store second.lo) (family_of store second.hi) set)
+    || both (family_of store first.lo) (family_of store second.hi) set
+
+-- one of two families that covers what both cover
+pub record IsOperand (store : Families) (a b id : Id) : Type 0 where
+  pub found : IsIn store id
+  pub apart : IsAntichain (family_of store id)
+  pub least : min (least_number (family_of store a)) (least_number (family_of store b)) ≤ least_number (family_of store id)
+  pub same : (set : List ℕ) → covers (family_of store id) set ≡ both (family_of store a) (family_of store b) set
 
 -- any family is right
 abbrev pub AnyFamily : Family → Type 0

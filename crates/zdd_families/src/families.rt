@@ -1,17 +1,16 @@
 ghost use Rattle.std.specs.Prelude.{◌≡◌, [], ◌∷◌, IfOk};
 ghost use Rattle.zdd_store.specs.Family.{IsAntichain, sets_without};
 ghost use Rattle.zdd_store.specs.Store.{IsIn, family_of, Keeps};
-ghost use Rattle.zdd_store.specs.Answers.{IsLeastFamily};
+ghost use Rattle.zdd_store.specs.Answers.{IsLeastFamily, IsLeastUpTo};
 ghost use Rattle.zdd_families.specs.Steps.{Answered, either, both};
 ghost use Rattle.zdd_families.specs.Unions.{HasMinimalSets, IsInEither, IsUnionOfBoth};
 
-use crate::memory::note;
 use crate::minimal::minimal_sets;
-use crate::product::product_sets;
+use crate::product::kept_product;
 use crate::removal::without_sets;
-use crate::union::union_sets;
+use crate::union::kept_union;
 use plain_values::Mem;
-use zdd_store::{Id, Operation, Store};
+use zdd_store::{Id, Store};
 
 /// The family of the one set that has this number alone.
 pub fn single(store: &mut Store, var: u32) -> Mem<Id>
@@ -23,15 +22,14 @@ pub fn single(store: &mut Store, var: u32) -> Mem<Id>
     store.make(var, Id::EMPTY, Id::UNIT)
 }
 
-/// Remembers of a family of minimal sets that it is its own family of minimal sets.
-pub(crate) fn note_minimal(store: &mut Store, id: Id) -> Mem<Id>
-    requires found { IsIn store.old id }
-    requires apart { IsAntichain (family_of store.old id) }
+/// Notes of a family of minimal sets that it is one.
+pub(crate) fn note_minimal(store: &mut Store, id: Id) -> Id
+    requires { IsAntichain (family_of store.old id) }
     ensures same { store.new ≡ store.old }
-    ensures id { IfOk result (λ noted. noted ≡ id) }
+    ensures id { result ≡ id }
 {
-    note(store, Operation::Minimal, id, 0, id)?;
-    Ok(id)
+    store.note_apart(id);
+    id
 }
 
 /// The minimal sets of the union of any two families.
@@ -42,20 +40,21 @@ fn union_of_minimal(store: &mut Store, a: Id, b: Id) -> Mem<Id>
 {
     let first = minimal_sets(store, a)?;
     let second = minimal_sets(store, b)?;
-    let answer = union_sets(store, first, second)?;
-    note_minimal(store, answer)
+    let answer = kept_union(store, first, second)?;
+    Ok(note_minimal(store, answer))
 }
 
-/// The minimal sets among the unions of a set of the one and a set of the other of any two families.
-fn product_of_minimal(store: &mut Store, a: Id, b: Id) -> Mem<Id>
+/// The minimal sets among the unions of a set of the one and a set of the other of any two families, as far as sets are
+/// asked for.
+fn product_of_minimal(store: &mut Store, a: Id, b: Id, most: u32) -> Mem<Id>
     requires a_in { IsIn store.old a }
     requires b_in { IsIn store.old b }
-    ensures { Answered store.old store.new 0 (IsLeastFamily (both (family_of store.old a) (family_of store.old b))) result }
+    ensures { Answered store.old store.new 0 (IsLeastUpTo most (both (family_of store.old a) (family_of store.old b))) result }
 {
     let first = minimal_sets(store, a)?;
     let second = minimal_sets(store, b)?;
-    let answer = product_sets(store, first, second)?;
-    note_minimal(store, answer)
+    let answer = kept_product(store, first, second, most)?;
+    Ok(note_minimal(store, answer))
 }
 
 /// The minimal sets of the union of two families.
@@ -83,8 +82,21 @@ pub fn min_product(store: &mut Store, a: Id, b: Id) -> Mem<Id>
     ensures kept { Keeps store.old store.new }
 {
     store.laws();
-    let answer = product_of_minimal(store, a, b)?;
+    let answer = product_of_minimal(store, a, b, 4_294_967_295)?;
     store.laws();
+    Ok(answer)
+}
+
+/// What `min_product` gives, as far as sets of at most so many numbers are asked for; where these are 2 ^ 32 - 1 each set
+/// is.
+pub fn min_product_up_to(store: &mut Store, a: Id, b: Id, most: u32) -> Mem<Id>
+    requires a_in { IsIn store.old a }
+    requires b_in { IsIn store.old b }
+    ensures found { IfOk result (IsIn store.new) }
+    ensures covers { IfOk result (λ id. IsLeastUpTo most (both (family_of store.old a) (family_of store.old b)) (family_of store.new id)) }
+    ensures kept { Keeps store.old store.new }
+{
+    let answer = product_of_minimal(store, a, b, most)?;
     Ok(answer)
 }
 

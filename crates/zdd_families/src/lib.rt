@@ -6,6 +6,7 @@
 #![tactic(auto)]
 
 mod choice;
+mod copies;
 mod families;
 mod memory;
 mod minimal;
@@ -15,7 +16,8 @@ mod sizes;
 mod split;
 mod union;
 
-pub use choice::at_least;
-pub use families::{min_product, min_union, single, without};
+pub use choice::{at_least, at_least_up_to};
+pub use copies::copied;
+pub use families::{min_product, min_product_up_to, min_union, single, without};
 pub use sizes::{of_size, up_to_size};
 pub use split::look;

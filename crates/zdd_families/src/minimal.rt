@@ -8,7 +8,7 @@ use crate::memory::{known, note};
 use crate::removal::without_sets;
 use crate::split::{first_var, split};
 use plain_values::Mem;
-use zdd_store::{Id, Operation, Store};
+use zdd_store::{Id, Operation, Question, Store};
 
 /// The minimal sets among those of `lo` and, with the variable added, those of `hi`.
 pub(crate) fn join(store: &mut Store, var: u32, lo: Id, hi: Id) -> Mem<Id>
@@ -33,7 +33,17 @@ pub(crate) fn minimal_sets(store: &mut Store, a: Id) -> Mem<Id>
     if a == Id::EMPTY || a == Id::UNIT {
         return Ok(a);
     }
-    if let Some(answer) = known(store, Operation::Minimal, a, 0) {
+    let shape = store.shape(a);
+    if shape.apart {
+        return Ok(a);
+    }
+    let question = Question {
+        operation: Operation::Minimal,
+        first: a,
+        second: 0,
+        most: 0,
+    };
+    if let Some(answer) = known(store, question) {
         return Ok(answer);
     }
     let var = first_var(store, a, a);
@@ -41,5 +51,5 @@ pub(crate) fn minimal_sets(store: &mut Store, a: Id) -> Mem<Id>
     let lo = minimal_sets(store, parts.lo)?;
     let hi = minimal_sets(store, parts.hi)?;
     let answer = join(store, var, lo, hi)?;
-    note(store, Operation::Minimal, a, 0, answer)
+    note(store, question, answer)
 }

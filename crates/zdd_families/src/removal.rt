@@ -1,4 +1,4 @@
-ghost use Rattle.std.specs.Prelude.{◌≡◌};
+ghost use Rattle.std.specs.Prelude.{◌≡◌, IsTrue};
 ghost use Rattle.zdd_store.specs.Family.{least_number, sets_without};
 ghost use Rattle.zdd_store.specs.Store.{IsIn, family_of};
 ghost use Rattle.zdd_families.specs.Steps.{Answered};
@@ -6,7 +6,25 @@ ghost use Rattle.zdd_families.specs.Steps.{Answered};
 use crate::memory::{known, note};
 use crate::split::{first_var, split};
 use plain_values::Mem;
-use zdd_store::{Id, Operation, Store};
+use zdd_store::{Id, Operation, Question, Store};
+
+/// Whether each set of the one family is too small to contain a set of the other, by the sizes of their sets.
+fn are_too_small(store: &Store, a: Id, b: Id) -> bool
+    requires a_in { IsIn store.now a }
+    requires b_in { IsIn store.now b }
+    ensures { IsTrue result → sets_without (family_of store.now a) (family_of store.now b) ≡ family_of store.now a }
+{
+    store.laws();
+    let first = store.shape(a);
+    let second = store.shape(b);
+    if first.greatest >= 4_294_967_295 {
+        return false;
+    }
+    if first.greatest < second.least {
+        return true;
+    }
+    false
+}
 
 /// The sets of the one family that contain no set of the other.
 pub(crate) fn without_sets(store: &mut Store, a: Id, b: Id) -> Mem<Id>
@@ -21,15 +39,28 @@ pub(crate) fn without_sets(store: &mut Store, a: Id, b: Id) -> Mem<Id>
     if a == b || b == Id::UNIT {
         return Ok(Id::EMPTY);
     }
-    if let Some(answer) = known(store, Operation::Without, a, b.position) {
-        return Ok(answer);
+    let small = are_too_small(store, a, b);
+    if small {
+        return Ok(a);
     }
     let var = first_var(store, a, b);
     let first = split(store, a, var);
     let second = split(store, b, var);
+    if first.hi.position == 0 {
+        return without_sets(store, first.lo, second.lo);
+    }
+    let question = Question {
+        operation: Operation::Without,
+        first: a,
+        second: b.position,
+        most: 0,
+    };
+    if let Some(answer) = known(store, question) {
+        return Ok(answer);
+    }
     let lo = without_sets(store, first.lo, second.lo)?;
     let beside = without_sets(store, first.hi, second.hi)?;
     let hi = without_sets(store, beside, second.lo)?;
     let answer = store.make(var, lo, hi)?;
-    note(store, Operation::Without, a, b.position, answer)
+    note(store, question, answer)
 }

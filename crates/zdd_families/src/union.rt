@@ -4,11 +4,11 @@ ghost use Rattle.zdd_store.specs.Store.{IsIn, family_of};
 ghost use Rattle.zdd_store.specs.Answers.{IsLeastFamily};
 ghost use Rattle.zdd_families.specs.Steps.{Answered, either};
 
-use crate::memory::{known, note};
+use crate::memory::{keep, kept, known, note};
 use crate::minimal::join;
 use crate::split::{first_var, split};
 use plain_values::Mem;
-use zdd_store::{Id, Operation, Store};
+use zdd_store::{Id, Operation, Question, Store};
 
 /// The minimal sets of the union of two families, of which each has minimal sets alone.
 #[cycle(union)]
@@ -43,7 +43,13 @@ fn union_anew(store: &mut Store, a: Id, b: Id) -> Mem<Id>
     requires b_apart { IsAntichain (family_of store.old b) }
     ensures { Answered store.old store.new (min (least_number (family_of store.old a)) (least_number (family_of store.old b))) (IsLeastFamily (either (family_of store.old a) (family_of store.old b))) result }
 {
-    if let Some(answer) = known(store, Operation::MinUnion, a, b.position) {
+    let question = Question {
+        operation: Operation::MinUnion,
+        first: a,
+        second: b.position,
+        most: 0,
+    };
+    if let Some(answer) = known(store, question) {
         return Ok(answer);
     }
     let var = first_var(store, a, b);
@@ -52,5 +58,26 @@ fn union_anew(store: &mut Store, a: Id, b: Id) -> Mem<Id>
     let lo = union_sets(store, first.lo, second.lo)?;
     let hi = union_sets(store, first.hi, second.hi)?;
     let answer = join(store, var, lo, hi)?;
-    note(store, Operation::MinUnion, a, b.position, answer)
+    note(store, question, answer)
+}
+
+/// What `union_sets` answers; the answer is kept.
+pub(crate) fn kept_union(store: &mut Store, a: Id, b: Id) -> Mem<Id>
+    requires a_in { IsIn store.old a }
+    requires b_in { IsIn store.old b }
+    requires a_apart { IsAntichain (family_of store.old a) }
+    requires b_apart { IsAntichain (family_of store.old b) }
+    ensures { Answered store.old store.new (min (least_number (family_of store.old a)) (least_number (family_of store.old b))) (IsLeastFamily (either (family_of store.old a) (family_of store.old b))) result }
+{
+    let question = Question {
+        operation: Operation::MinUnion,
+        first: a,
+        second: b.position,
+        most: 0,
+    };
+    if let Some(answer) = kept(store, question) {
+        return Ok(answer);
+    }
+    let answer = union_sets(store, a, b)?;
+    keep(store, question, answer)
 }

@@ -9,11 +9,13 @@ use Rattle.std.specs.List.{list_any, AllByRecursion}
 use Rattle.zdd_store.specs.Family.{Family, branch, least_number, IsRising, IsInOrder, HaveSameSets}
 use Rattle.zdd_store.specs.Store.{Families, family_at, family_with, no_nodes, Keeps, Fits, IsCanonical, IsSound}
 use Rattle.zdd_store.specs.Nodes.{with_node, families, IsNodeAt, IsStore}
-use Rattle.zdd_store.specs.Answers.{IsAnswer, IsAnswerOf, KnowsRight, AnswersOne, AnswersTwo, AnswersSize}
+use Rattle.zdd_store.specs.Answers.{IsAnswer, IsAnswerOf, AreRight, KnowsRight, AnswersOne, AnswersTwo}
 use Rattle.zdd_store.specs.declared.id.Node.{Node}
 use Rattle.zdd_store.specs.declared.question.Operation.{Operation}
-use Rattle.zdd_store.specs.declared.question.Operation.TheVariants.{Minimal, MinUnion, MinProduct, Without, UpToSize, OfSize, LeastSize, GreatestSize}
+use Rattle.zdd_store.specs.declared.question.Operation.TheVariants.{Minimal, MinUnion, MinProduct, Without, UpToSize, OfSize}
 use Rattle.zdd_store.specs.declared.question.Question.{Question}
+use Rattle.zdd_store.specs.declared.question.Known.{Known}
+use Rattle.std.proofs.lemmas.List.Elements.{All-weaker}
 use Rattle.zdd_store.proofs.Branches.{rising-branch, same_branch, branch-some, branch-not_unit}
 use Rattle.zdd_store.proofs.Orders.{ordered-branch, equal_families, contains_none, contains_first}
 
@@ -85,32 +87,26 @@ two_kept before after IsRight first second answer kept a =
           (subst (IsRight (family_at before first) (family_at before second)) (sym (kept.same answer a.answer_in)) a.right));
     }
 
-size_kept : (before after : Families) (IsRight : Family → Type 0) (first : ℕ) → Keeps before after → AnswersSize before IsRight first → AnswersSize after IsRight first
-size_kept before after IsRight first kept a =
-    let more : length before ≤ length after = kept.more in
-    record {
-      first_in = let here : first < length before = a.first_in in omega arith;
-      right = subst IsRight (sym (kept.same first a.first_in)) a.right;
-    }
-
-answer_kept : (before after : Families) (operation : Operation) (first second answer : ℕ) → Keeps before after → IsAnswerOf before operation first second answer → IsAnswerOf after operation first second answer
-answer_kept before after Minimal first second answer kept a = one_kept before after _ first answer kept a
-answer_kept before after MinUnion first second answer kept a = two_kept before after _ first second answer kept a
-answer_kept before after MinProduct first second answer kept a = two_kept before after _ first second answer kept a
-answer_kept before after Without first second answer kept a = two_kept before after _ first second answer kept a
-answer_kept before after UpToSize first second answer kept a = one_kept before after _ first answer kept a
-answer_kept before after OfSize first second answer kept a = one_kept before after _ first answer kept a
-answer_kept before after LeastSize first second answer kept a = size_kept before after _ first kept a
-answer_kept before after GreatestSize first second answer kept a = size_kept before after _ first kept a
+answer_kept : (before after : Families) (operation : Operation) (first second most answer : ℕ) → Keeps before after → IsAnswerOf before operation first second most answer → IsAnswerOf after operation first second most answer
+answer_kept before after Minimal first second most answer kept a = one_kept before after _ first answer kept a
+answer_kept before after MinUnion first second most answer kept a = two_kept before after _ first second answer kept a
+answer_kept before after MinProduct first second most answer kept a = two_kept before after _ first second answer kept a
+answer_kept before after Without first second most answer kept a = two_kept before after _ first second answer kept a
+answer_kept before after UpToSize first second most answer kept a = one_kept before after _ first answer kept a
+answer_kept before after OfSize first second most answer kept a = one_kept before after _ first answer kept a
 
 pub IsAnswer-kept : (before after : Families) (question : Question) (answer : ℕ) → Keeps before after → IsAnswer before question answer → IsAnswer after question answer
-IsAnswer-kept before after question answer kept a = answer_kept before after question.operation question.first.position question.second answer kept a
+IsAnswer-kept before after question answer kept a = answer_kept before after question.operation question.first.position question.second question.most answer kept a
+
+pub AreRight-kept : (before after : Families) (table : List Known) → Keeps before after → AreRight before table → AreRight after table
+AreRight-kept before after table kept right =
+    All-weaker (λ (k : Known). IsAnswer before k.question k.answer) (λ (k : Known). IsAnswer after k.question k.answer) (λ k h. IsAnswer-kept before after k.question k.answer kept h) table right
 
 pub KnowsRight-kept : (before after : Families) (known : Question → Option ℕ) → Keeps before after → KnowsRight before known → KnowsRight after known
 KnowsRight-kept before after known kept right question answer e = IsAnswer-kept before after question answer kept (right question answer e)
 
 -- an item of a list with one more is one of the list, or the last
-last_or_before : {A : Type 0} (xs : List A) (x y : A) (i : ℕ) → slice_get (xs ++ x ∷ []) i ≡ Some y → (slice_get xs i ≡ Some y) ⊎ ((i ≡ length xs) × (x ≡ y))
+pub last_or_before : {A : Type 0} (xs : List A) (x y : A) (i : ℕ) → slice_get (xs ++ x ∷ []) i ≡ Some y → (slice_get xs i ≡ Some y) ⊎ ((i ≡ length xs) × (x ≡ y))
 last_or_before [] x y zero e = inr (refl, cc)
 last_or_before [] x y (suc i) e = cc
 last_or_before (z ∷ xs) x y zero e = inl e

@@ -3,26 +3,32 @@ use Rattle.std.proofs.Common.{◌≡◌, ℕ, ◌+◌, ◌-◌, ◌<◌, ◌≤�
 use Rattle.std.proofs.lemmas.Option.{slice_get_within, slice_get-get_or}
 use Rattle.std.specs.List.{list_any}
 use Rattle.zdd_store.specs.Store.{Families, family_at, family_with, Keeps, Fits}
-use Rattle.zdd_store.specs.Nodes.{families, IsNodeAt, IsStore}
-use Rattle.zdd_store.specs.Answers.{KnowsRight}
+use Rattle.zdd_store.specs.Nodes.{families, AreShapes, IsNodeAt, IsStore}
+use Rattle.zdd_store.specs.Answers.{AreRight, KnowsRight}
 use Rattle.zdd_store.specs.declared.id.Node.{Node}
+use Rattle.zdd_store.specs.declared.question.Known.{Known}
 use Rattle.zdd_store.specs.declared.question.Question.{Question}
-use Rattle.zdd_store.proofs.Growing.{Inserted, inserted, KnowsRight-kept, family_with-kept, length-families}
+use Rattle.zdd_store.specs.declared.shapes.Shape.{Shape}
+use Rattle.zdd_store.proofs.Growing.{Inserted, inserted, AreRight-kept, KnowsRight-kept, family_with-kept, length-families}
+use Rattle.zdd_store.proofs.Shaped.{AreShapes-kept}
 
--- the store after an insert: its nodes and answers, and what each number keeps
-pub record Made (store : Families) (known : Question → Option ℕ) (node : Node) (after : List Node) (index : ℕ) : Type 0 where
+-- the store after an insert: its nodes, what is known of them, its answers, and what each number keeps
+pub record Made (store : Families) (shapes : List Shape) (known : List Known) (kept_answers : Question → Option ℕ) (node : Node) (after : List Node) (index : ℕ) : Type 0 where
   pub nodes : IsStore after
-  pub answers : KnowsRight (families after) known
+  pub shaped : AreShapes (families after) shapes
+  pub answers : AreRight (families after) known
+  pub kept_right : KnowsRight (families after) kept_answers
   pub kept : Keeps store (families after)
   pub found : index + 2 < length (families after)
+  pub own : family_at (families after) (index + 2) ≡ family_with (families after) node
   pub family : family_at (families after) (index + 2) ≡ family_with store node
 
 pub made : (eq : Node → Node → Bool) → ((a : Node) → eq a a ≡ true) → ((a b : Node) → eq a b ≡ true → a ≡ b)
-    → (before after : List Node) (store : Families) (known : Question → Option ℕ) (node : Node) (index : ℕ)
-    → families before ≡ store → IsStore before → KnowsRight (families before) known → length before < 4294967292 → Fits store node
+    → (before after : List Node) (store : Families) (shapes : List Shape) (known : List Known) (kept_answers : Question → Option ℕ) (node : Node) (index : ℕ)
+    → families before ≡ store → IsStore before → AreShapes (families before) shapes → AreRight (families before) known → KnowsRight (families before) kept_answers → length before < 4294967292 → Fits store node
     → after ≡ (if list_any (eq node) before then before else before ++ node ∷ [])
-    → (k : Node) → slice_get after index ≡ Some k → eq node k ≡ true → Made store known node after index
-made eq same exact before after store known node index view nodes answers room fits keys k here equal =
+    → (k : Node) → slice_get after index ≡ Some k → eq node k ≡ true → Made store shapes known kept_answers node after index
+made eq same exact before after store shapes known kept_answers node index view nodes shaped answers kept_right room fits keys k here equal =
     let P : Families → Type 0 = λ f. Fits f node in
     let fit : Fits (families before) node = subst P (sym view) fits in
     let grown : Inserted before after = subst (Inserted before) (sym keys) (inserted eq same before node nodes room fit) in
@@ -33,9 +39,12 @@ made eq same exact before after store known node index view nodes answers room f
     let many : length (families after) ≡ length after + 2 = length-families after in
     record {
       nodes = grown.store;
-      answers = KnowsRight-kept (families before) (families after) known grown.kept answers;
+      shaped = AreShapes-kept (families before) (families after) shapes grown.kept shaped;
+      answers = AreRight-kept (families before) (families after) known grown.kept answers;
+      kept_right = KnowsRight-kept (families before) (families after) kept_answers grown.kept kept_right;
       kept = subst K view grown.kept;
       found = omega arith;
+      own = at.family;
       family = at.family ∙ family_with-kept (families before) (families after) node grown.kept fit ∙ ap (λ f. family_with f node) view;
     }
 

@@ -1,11 +1,13 @@
--- What the store remembers: questions on its families, each with a right answer.
-use Rattle.std.specs.Prelude.{ℕ, ◌<◌, ◌≤◌, ◌≡◌, Bool, List, length, filter, ◌==◌, ◌&&◌, ◌||◌, nat_le, Option, Some}
+-- What the store remembers: questions on its families, each with a right answer; and what is known of families.
+use Rattle.std.specs.Prelude.{ℕ, ◌<◌, ◌≤◌, ◌≡◌, Bool, List, length, filter, min, IsTrue, ◌==◌, ◌&&◌, ◌||◌, nat_le, All, Option, Some}
 use Rattle.std.specs.List.{AllByRecursion}
-use Rattle.zdd_store.specs.Family.{Family, covers, sets_without, IsAntichain}
+use Rattle.zdd_store.specs.Family.{Family, covers, least_number, sets_without, IsAntichain}
 use Rattle.zdd_store.specs.Store.{Families, family_at}
 use Rattle.zdd_store.specs.declared.question.Operation.{Operation}
-use Rattle.zdd_store.specs.declared.question.Operation.TheVariants.{Minimal, MinUnion, MinProduct, Without, UpToSize, OfSize, LeastSize, GreatestSize}
+use Rattle.zdd_store.specs.declared.question.Operation.TheVariants.{Minimal, MinUnion, MinProduct, Without, UpToSize, OfSize}
 use Rattle.zdd_store.specs.declared.question.Question.{Question}
+use Rattle.zdd_store.specs.declared.question.Known.{Known}
+use Rattle.zdd_store.specs.declared.shapes.Shape.{Shape}
 
 -- The family has exactly the minimal ones of the sets that pass a test which each larger set passes too: it covers
 -- what passes, and none of its sets is within another.
@@ -29,6 +31,28 @@ HasAtLeast size family = AllByRecursion (λ set. size ≤ length set) family
 abbrev pub HasAtMost : ℕ → Family → Type 0
 HasAtMost size family = size < 4294967295 → AllByRecursion (λ set. length set ≤ size) family
 
+-- what is known of a family: between how many and how many numbers its sets have, and that none of them is within another
+pub record HasShape (family : Family) (shape : Shape) : Type 0 where
+  pub least : HasAtLeast shape.least family
+  pub greatest : HasAtMost shape.greatest family
+  pub apart : IsTrue shape.apart → IsAntichain family
+
+-- a set is asked for: it has at most so many numbers; where these are 2 ^ 32 - 1 each set is
+abbrev pub IsAsked : ℕ → List ℕ → Type 0
+IsAsked most set = most < 4294967295 → length set ≤ most
+
+-- Of the sets that are asked for the family covers those that pass a test which each larger set passes too, and none of
+-- its sets is within another.
+pub record IsLeastUpTo (most : ℕ) (test : List ℕ → Bool) (family : Family) : Type 0 where
+  pub covering : (set : List ℕ) → IsAsked most set → covers family set ≡ test set
+  pub apart : IsAntichain family
+
+-- as far as sets are asked for, the family has the minimal unions of a set of the one and a set of the other family, and no
+-- number that is less than all of theirs
+pub record IsProductUpTo (most : ℕ) (a b family : Family) : Type 0 where
+  pub least : min (least_number a) (least_number b) ≤ least_number family
+  pub right : IsLeastUpTo most (λ set. covers a set && covers b set) family
+
 -- the three positions are in the store, and the answer is right for their families
 pub record AnswersTwo (store : Families) (IsRight : Family → Family → Family → Type 0) (first second answer : ℕ) : Type 0 where
   pub first_in : first < length store
@@ -42,25 +66,24 @@ pub record AnswersOne (store : Families) (IsRight : Family → Family → Type 0
   pub answer_in : answer < length store
   pub right : IsRight (family_at store first) (family_at store answer)
 
--- the position is in the store, and the number that answers is right for its family
-pub record AnswersSize (store : Families) (IsRight : Family → Type 0) (first : ℕ) : Type 0 where
-  pub first_in : first < length store
-  pub right : IsRight (family_at store first)
-
--- the answer to an operation on the family at `first`, and at `second` or with the size `second`, is right
-abbrev pub IsAnswerOf : Families → Operation → ℕ → ℕ → ℕ → Type 0
-IsAnswerOf store Minimal first second answer = AnswersOne store (λ a r. IsLeastFamily (covers a) r) first answer
-IsAnswerOf store MinUnion first second answer = AnswersTwo store (λ a b r. IsLeastFamily (λ set. covers a set || covers b set) r) first second answer
-IsAnswerOf store MinProduct first second answer = AnswersTwo store (λ a b r. IsLeastFamily (λ set. covers a set && covers b set) r) first second answer
-IsAnswerOf store Without first second answer = AnswersTwo store (λ a b r. r ≡ sets_without a b) first second answer
-IsAnswerOf store UpToSize first second answer = AnswersOne store (λ a r. r ≡ sets_up_to second a) first answer
-IsAnswerOf store OfSize first second answer = AnswersOne store (λ a r. r ≡ sets_of second a) first answer
-IsAnswerOf store LeastSize first second answer = AnswersSize store (λ a. HasAtLeast answer a) first
-IsAnswerOf store GreatestSize first second answer = AnswersSize store (λ a. HasAtMost answer a) first
+-- the answer to an operation on the family at `first`, and at `second` or with the size `second`, for sets of at most so
+-- many numbers, is right
+abbrev pub IsAnswerOf : Families → Operation → ℕ → ℕ → ℕ → ℕ → Type 0
+IsAnswerOf store Minimal first second most answer = AnswersOne store (λ a r. IsLeastFamily (covers a) r) first answer
+IsAnswerOf store MinUnion first second most answer = AnswersTwo store (λ a b r. IsLeastFamily (λ set. covers a set || covers b set) r) first second answer
+IsAnswerOf store MinProduct first second most answer = AnswersTwo store (IsProductUpTo most) first second answer
+IsAnswerOf store Without first second most answer = AnswersTwo store (λ a b r. r ≡ sets_without a b) first second answer
+IsAnswerOf store UpToSize first second most answer = AnswersOne store (λ a r. r ≡ sets_up_to second a) first answer
+IsAnswerOf store OfSize first second most answer = AnswersOne store (λ a r. r ≡ sets_of second a) first answer
 
 -- the answer to a question is right
 abbrev pub IsAnswer : Families → Question → ℕ → Type 0
-IsAnswer store question answer = IsAnswerOf store question.operation question.first.position question.second answer
+IsAnswer store question answer =
+    IsAnswerOf store question.operation question.first.position question.second question.most answer
+
+-- each answer of a table is right
+abbrev pub AreRight : Families → List Known → Type 0
+AreRight store table = All (λ known. IsAnswer store known.question known.answer) table
 
 -- each answer that is known is right
 abbrev pub KnowsRight : Families → (Question → Option ℕ) → Type 0

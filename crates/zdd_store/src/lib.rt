@@ -4,10 +4,13 @@
 //! numbers. Equal families have equal numbers, and the family of a number never changes.
 #![tactic(auto)]
 
+mod answers;
 mod id;
 mod question;
+mod shapes;
 mod store;
 
 pub use id::{Id, Node};
 pub use question::{Operation, Question};
+pub use shapes::Shape;
 pub use store::Store;

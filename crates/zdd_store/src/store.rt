@@ -1,10 +1,12 @@
 ghost use Rattle.std.specs.Prelude.{◌≡◌, ◌+◌, ◌<◌, ◌↔◌, IsSome, IfSome, IfOk, Ok};
-ghost use Rattle.zdd_store.specs.Family.{branch, least_number};
-ghost use Rattle.zdd_store.specs.Answers.{IsAnswer};
+ghost use Rattle.zdd_store.specs.Family.{branch, least_number, IsAntichain};
+ghost use Rattle.zdd_store.specs.Answers.{HasShape, IsAnswer};
 ghost use Rattle.zdd_store.specs.Store.{IsIn, family_of, family_with, no_nodes, Keeps, Fits, IsSound};
 
+use crate::answers::{answer_in, make_room, put};
 use crate::id::{Id, Node};
-use crate::question::Question;
+use crate::question::{Known, Question};
+use crate::shapes::{Shape, note_apart, note_shape, shape_of};
 use fta_outside::Steps;
 use indexmap::IndexSet;
 use plain_values::Mem;
@@ -17,7 +19,11 @@ use std::sync::ledger::Ledger;
 #[derive(Drop)]
 pub struct Store {
     nodes: IndexSet<Node>,
-    known: HashMap<Question, u32>,
+    shapes: Vec<Shape>,
+    known: Vec<Known>,
+    kept: HashMap<Question, u32>,
+    // how many answers may still be remembered
+    left: u64,
 }
 
 impl Model for Store {
@@ -25,15 +31,15 @@ impl Model for Store {
 
     ghost Value = { Families };
 
-    ghost use Rattle.zdd_store.specs.Nodes.{families, IsStore};
+    ghost use Rattle.zdd_store.specs.Nodes.{families, AreShapes, IsStore};
 
     ghost view = { λ s. families s.nodes.keys };
 
     ghost use Rattle.std.specs.Prelude.{◌≡◌};
     ghost use Rattle.std.specs.HashMap.{get};
-    ghost use Rattle.zdd_store.specs.Answers.{KnowsRight};
+    ghost use Rattle.zdd_store.specs.Answers.{AreRight, KnowsRight};
 
-    ghost invariant = { λ s. IsStore s.nodes.keys × KnowsRight (families s.nodes.keys) (get ⟦<Question as PartialEq>⟧.eq s.known) };
+    ghost invariant = { λ s. IsStore s.nodes.keys × AreShapes (families s.nodes.keys) s.shapes.items × AreRight (families s.nodes.keys) s.known.items × KnowsRight (families s.nodes.keys) (get ⟦<Question as PartialEq>⟧.eq s.kept) };
 }
 
 impl Store {
@@ -41,9 +47,19 @@ impl Store {
     pub fn new(alloc: Global) -> Store
         ensures { result ≡ no_nodes }
     {
+        Store::limited(alloc, u64::MAX)
+    }
+
+    /// A store without nodes that remembers so many answers: a further one is a refused growth of memory.
+    pub fn limited(alloc: Global, answers: u64) -> Store
+        ensures { result ≡ no_nodes }
+    {
         Store {
             nodes: IndexSet::new(alloc),
-            known: HashMap::new(alloc),
+            shapes: Vec::new(alloc),
+            known: Vec::new(alloc),
+            kept: HashMap::new(alloc),
+            left: answers,
         }
     }
 
@@ -70,6 +86,7 @@ impl Store {
             return Err(AllocError);
         }
         let (index, _) = self.nodes.insert_full(Node { var, lo, hi })?;
+        note_shape(&mut self.shapes, index, lo, hi);
         Ok(Id {
             position: index as u32 + 2,
         })
@@ -89,20 +106,63 @@ impl Store {
         self.nodes.get_index(id.position as usize - 2).copied()
     }
 
-    /// An answer to the question that was remembered, if there is one; it is right.
+    /// What is known of a number's family.
+    pub fn shape(&self, id: Id) -> Shape
+        ensures { HasShape (family_of self.now id) result }
+    {
+        shape_of(self.shapes.as_slice(), id)
+    }
+
+    /// Notes of a number's family that no set is within another one. No number's family changes.
+    pub fn note_apart(&mut self, id: Id)
+        requires { IsAntichain (family_of self.old id) }
+        ensures { self.new ≡ self.old }
+    {
+        note_apart(self.shapes.as_mut_slice(), id);
+    }
+
+    /// An answer to the question, if it is still remembered; it is right.
     pub fn recall(&self, question: Question) -> Option<u32>
         ensures { IfSome result (IsAnswer self.now question) }
     {
-        self.known.get(&question).copied()
+        answer_in(self.known.as_slice(), question)
     }
 
-    /// Remembers a right answer. No number's family changes, also where memory is refused.
+    /// Remembers a right answer, in place of one that was remembered before if there are many. No number's family changes,
+    /// also where memory is refused.
     pub fn remember(&mut self, question: Question, answer: u32) -> Mem<()>
         requires { IsAnswer self.old question answer }
         ensures { self.new ≡ self.old }
     {
-        self.known.insert(question, answer)?;
+        let nodes = self.nodes.len();
+        if self.left == 0 {
+            return Err(AllocError);
+        }
+        self.left -= 1;
+        make_room(&mut self.known, nodes)?;
+        put(self.known.as_mut_slice(), Known { question, answer });
         Ok(())
+    }
+
+    /// An answer to the question, if it was kept; it is right.
+    pub fn recall_kept(&self, question: Question) -> Option<u32>
+        ensures { IfSome result (IsAnswer self.now question) }
+    {
+        self.kept.get(&question).copied()
+    }
+
+    /// Keeps a right answer for as long as there is the store. No number's family changes, also where memory is refused.
+    pub fn keep(&mut self, question: Question, answer: u32) -> Mem<()>
+        requires { IsAnswer self.old question answer }
+        ensures { self.new ≡ self.old }
+    {
+        self.kept.insert(question, answer)?;
+        Ok(())
+    }
+
+    /// How many answers may still be remembered.
+    pub fn answers_left(&self) -> u64 {
+        self.left
     }
 
     /// What holds of the families of every store.

@@ -5,7 +5,7 @@ use Rattle.zdd_store.specs.Store.{IsIn, family_of}
 use Rattle.zdd_store.specs.declared.id.Id.{Id}
 use Rattle.zdd_store.specs.contracts.id.IdPartialEq.TheImpl.{eq-value as id_eq}
 use Rattle.family_renaming.specs.Splitting.{IsOrdered}
-use Rattle.family_renaming.proofs.Tables.{knows_more}
+use Rattle.zdd_families.proofs.Copying.{knows_more}
 use Rattle.family_renaming.proofs.from_top.note_ordered.Goals as goal
 
 id_exact : (a b : Id) → (id_eq).it a b ≡ true → a ≡ b

@@ -5,7 +5,7 @@ use Rattle.zdd_store.specs.Store.{IsIn, family_of}
 use Rattle.family_renaming.specs.Splitting.{IsParted}
 use Rattle.family_renaming.specs.declared.parting.Place.{Place}
 use Rattle.family_renaming.specs.contracts.parting.PlacePartialEq.TheImpl.{eq-value as place_eq}
-use Rattle.family_renaming.proofs.Tables.{knows_more}
+use Rattle.zdd_families.proofs.Copying.{knows_more}
 use Rattle.family_renaming.proofs.parting.note_parts.Goals as goal
 
 place_exact : (a b : Place) → (place_eq).it a b ≡ true → a ≡ b

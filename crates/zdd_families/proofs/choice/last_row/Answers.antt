@@ -23,17 +23,17 @@ loop-at-preserved c =
     record {
       within = omega arith;
       long = long ∙ ap length c.as_slice.ensures.value ∙ c.loop-at.invariant.long;
-      row = subst (λ f. IsRow c.next_row.new.store f c.in_ok-row-2.row.items) (sym is)
-          (row_same c.next_row.new.store (family_of c.minimal_sets.new.store c.in_ok-part.part) (family_of c.args.store.now old) (drop c.loop-at.at families) c.in_ok-row-2.row.items
+      row = subst (λ f. IsRow c.args.most c.next_row.new.store f c.in_ok-row-2.row.items) (sym is)
+          (row_same c.args.most c.next_row.new.store (family_of c.minimal_sets.new.store c.in_ok-part.part) (family_of c.args.store.now old) (drop c.loop-at.at families) c.in_ok-row-2.row.items
           (λ set. part.right.covering set ∙ ap (λ f. covers f set) old_is)
-          (row_next c.minimal_sets.new.store c.next_row.new.store (drop c.loop-at.at families) c.in_ok-part.part c.as_slice.result.now c.in_ok-row-2.row.items c.in_ok-row-2.ensures.next c.next_row.ensures.kept
-          (subst (IsRow c.minimal_sets.new.store (drop c.loop-at.at families)) (sym c.as_slice.ensures.value)
-          (row_kept c.loop-at.store c.minimal_sets.new.store (drop c.loop-at.at families) c.loop-at.row.items c.minimal_sets.ensures.kept c.loop-at.invariant.row))));
+          (row_next c.args.most c.minimal_sets.new.store c.next_row.new.store (drop c.loop-at.at families) c.in_ok-part.part c.as_slice.result.now c.in_ok-row-2.row.items c.in_ok-row-2.ensures.next c.next_row.ensures.kept
+          (subst (IsRow c.args.most c.minimal_sets.new.store (drop c.loop-at.at families)) (sym c.as_slice.ensures.value)
+          (row_kept c.args.most c.loop-at.store c.minimal_sets.new.store (drop c.loop-at.at families) c.loop-at.row.items c.minimal_sets.ensures.kept c.loop-at.invariant.row))));
       kept = Keeps_trans _ _ _ (Keeps_trans _ _ _ c.loop-at.invariant.kept c.minimal_sets.ensures.kept) c.next_row.ensures.kept;
     }
 
 pub next_row-requires-clause-row_is : goal.next_row-requires-clause-row_is
 next_row-requires-clause-row_is c =
-    row_minimal c.minimal_sets.new.store (drop c.loop-at.at (map (family_of c.args.store.now) c.args.parts.now)) c.as_slice.result.now
-    (subst (IsRow c.minimal_sets.new.store (drop c.loop-at.at (map (family_of c.args.store.now) c.args.parts.now))) (sym c.as_slice.ensures.value)
-    (row_kept c.loop-at.store c.minimal_sets.new.store (drop c.loop-at.at (map (family_of c.args.store.now) c.args.parts.now)) c.loop-at.row.items c.minimal_sets.ensures.kept c.loop-at.invariant.row))
+    row_minimal c.args.most c.minimal_sets.new.store (drop c.loop-at.at (map (family_of c.args.store.now) c.args.parts.now)) c.as_slice.result.now
+    (subst (IsRow c.args.most c.minimal_sets.new.store (drop c.loop-at.at (map (family_of c.args.store.now) c.args.parts.now))) (sym c.as_slice.ensures.value)
+    (row_kept c.args.most c.loop-at.store c.minimal_sets.new.store (drop c.loop-at.at (map (family_of c.args.store.now) c.args.parts.now)) c.loop-at.row.items c.minimal_sets.ensures.kept c.loop-at.invariant.row))

@@ -7,7 +7,7 @@ abbrev pub invariant-loop-at : goal.invariant-loop-at
 invariant-loop-at l = record {
   within : l.at ≤ length l.parts;
   long : length l.row.items ≡ l.k + 1;
-  row : IsRow l.store (drop l.at (map (family_of l.fn.store) l.parts)) l.row.items;
+  row : IsRow l.most l.store (drop l.at (map (family_of l.fn.store) l.parts)) l.row.items;
   kept : Keeps l.fn.store l.store;
 }
 

@@ -9,5 +9,5 @@ abbrev pub invariant-loop-at : goal.invariant-loop-at
 invariant-loop-at l = record {
   kept : Keeps l.fn.store l.store;
   long : length l.next.items ≡ l.at;
-  entries : (k : ℕ) (d : Id) → k < length l.next.items → IsEntry l.fn.store l.store l.part l.row k (slice_index_or l.next.items k d);
+  entries : (k : ℕ) (d : Id) → k < length l.next.items → IsEntry l.most l.fn.store l.store l.part l.row k (slice_index_or l.next.items k d);
 }

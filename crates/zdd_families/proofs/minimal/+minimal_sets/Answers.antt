@@ -1,9 +1,12 @@
-use Rattle.std.proofs.Common.{sym, subst, Ok}
+use Rattle.std.proofs.Common.{refl, sym, subst, Ok, arith}
 use Rattle.zdd_store.specs.Family.{least_number, covers}
 use Rattle.zdd_store.specs.Store.{family_of, Keeps}
 use Rattle.zdd_store.specs.Answers.{IsLeastFamily}
-use Rattle.zdd_families.proofs.Ways.{finish_one, answers_one, least-minimal, Keeps_same, Keeps_trans, minimal_made}
+use Rattle.zdd_families.proofs.Ways.{answered, finish_one, answers_one, least-minimal, Keeps_same, Keeps_trans, minimal_made}
 use Rattle.zdd_families.proofs.minimal.+minimal_sets.Goals as goal
+
+pub returns-then-shape : goal.returns-then-shape
+returns-then-shape t c = answered c.args.a c.requires (omega arith) (record { covering = λ set. refl; apart = c.shape-shape.ensures.apart c.if-shape.true })
 
 pub returns-in-Some : goal.returns-in-Some
 returns-in-Some t c =

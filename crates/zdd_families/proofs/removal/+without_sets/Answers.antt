@@ -1,7 +1,7 @@
 use Rattle.std.proofs.Common.{◌≡◌, ◌≤◌, ◌∙◌, sym, subst, eqb-true}
 use Rattle.zdd_store.specs.Family.{least_number, sets_without}
 use Rattle.zdd_store.specs.Store.{family_of, Keeps}
-use Rattle.zdd_families.proofs.Ways.{answered_without, least-without, without_empty_first, without_empty_second, without_same, without_unit, without_made, Keeps_four, answers_two, finish_two}
+use Rattle.zdd_families.proofs.Ways.{answered_without, least-without, without_empty_first, without_empty_second, without_same, without_unit, without_made, without_skip, Keeps_four, answers_two, finish_two}
 use Rattle.zdd_families.proofs.removal.+without_sets.Goals as goal
 use Rattle.zdd_families.proofs.removal.+without_sets.Goals.{then-eq-via-then-eq, then-eq-via-else-eq+then-eq-2, then-eq-3-via-then-eq-3, then-eq-3-via-else-eq-3+then-eq-4}
 
@@ -17,28 +17,36 @@ returns-then-eq-3 t c = elim c.then-eq-3.branch [
   | then-eq-3-via-else-eq-3+then-eq-4 w ↦ without_unit c.args.store.now c.args.a c.args.b c.laws.ensures (eqb-true c.args.b.position 1 (sym w.eq-else-eq-3.ensures ∙ w.if-eq-4.true))
 ]
 
+pub returns-then-small : goal.returns-then-small
+returns-then-small t c = answered_without c.args.store.now c.args.a c.args.b c.args.a c.requires.a_in (sym (c.are_too_small-small.ensures c.if-small.true))
+
+pub returns-then-first-eq0 : goal.returns-then-first-eq0
+returns-then-first-eq0 t c =
+    without_skip c.args.store.now c.without_sets.new.store c.args.a c.args.b c.split-first.result c.split-second.result c.first_var-var.result c.without_sets.result c.laws.ensures c.if-first-eq0.true
+    c.split-first.ensures c.split-second.ensures c.without_sets.ensures
+
 pub returns-in-Some : goal.returns-in-Some
 returns-in-Some t c = answered_without c.args.store.now c.args.a c.args.b c.in-Some.answer c.in-Some.ensures.answer_in c.in-Some.ensures.right
 
 -- the answer after its making
 right : (t : _) (c : goal.After-note-arg-1 t) → family_of c.make.new.self c.in_ok-answer.answer ≡ sets_without (family_of c.args.store.now c.args.a) (family_of c.args.store.now c.args.b)
 right t c =
-    without_made c.args.store.now c.without_sets.new.store c.without_sets-2.new.store c.without_sets-3.new.store c.make.new.self c.args.a c.args.b
+    without_made c.args.store.now c.without_sets-2.new.store c.without_sets-3.new.store c.without_sets-4.new.store c.make.new.self c.args.a c.args.b
     c.in_ok-lo.lo c.in_ok-beside.beside c.in_ok-hi.hi c.in_ok-answer.answer c.split-first.result c.split-second.result c.first_var-var.result _ _ _
-    c.split-first.ensures c.split-second.ensures c.without_sets.ensures.kept c.without_sets-2.ensures.kept c.without_sets-3.ensures.kept c.make.ensures.kept
+    c.split-first.ensures c.split-second.ensures c.without_sets-2.ensures.kept c.without_sets-3.ensures.kept c.without_sets-4.ensures.kept c.make.ensures.kept
     c.in_ok-lo.ensures.answer c.in_ok-beside.ensures.answer c.in_ok-hi.ensures.answer c.in_ok-answer.ensures.family
 
 pub note-requires : goal.note-requires
 note-requires t c =
     answers_two c.args.store.now c.make.new.self (λ a b r. r ≡ sets_without a b) c.args.a c.args.b c.in_ok-answer.answer
-    (Keeps_four c.args.store.now _ _ _ c.make.new.self c.without_sets.ensures.kept c.without_sets-2.ensures.kept c.without_sets-3.ensures.kept c.make.ensures.kept)
+    (Keeps_four c.args.store.now _ _ _ c.make.new.self c.without_sets-2.ensures.kept c.without_sets-3.ensures.kept c.without_sets-4.ensures.kept c.make.ensures.kept)
     c.requires.a_in c.requires.b_in c.in_ok-answer.ensures.found (right t c)
 
 pub returns : goal.returns
 returns t c =
     finish_two c.args.store.now c.note.new.store (λ a b r. r ≡ sets_without a b) (least_number (family_of c.args.store.now c.args.a)) c.args.a c.args.b c.note.result
     (subst (Keeps c.args.store.now) (sym c.note.ensures.same)
-    (Keeps_four c.args.store.now _ _ _ c.make.new.self c.without_sets.ensures.kept c.without_sets-2.ensures.kept c.without_sets-3.ensures.kept c.make.ensures.kept))
+    (Keeps_four c.args.store.now _ _ _ c.make.new.self c.without_sets-2.ensures.kept c.without_sets-3.ensures.kept c.without_sets-4.ensures.kept c.make.ensures.kept))
     c.requires.a_in c.requires.b_in least_without_is c.note.ensures.right
   where
     least_without_is : (family : _) → family ≡ sets_without (family_of c.args.store.now c.args.a) (family_of c.args.store.now c.args.b) → least_number (family_of c.args.store.now c.args.a) ≤ least_number family

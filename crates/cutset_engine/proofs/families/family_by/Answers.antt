@@ -4,7 +4,7 @@ use Rattle.zdd_store.specs.Store.{IsIn}
 use Rattle.zdd_store.specs.declared.id.Id.{Id}
 use Rattle.cutset_engine.specs.Filling.{IsFilled}
 use Rattle.cutset_engine.proofs.Ending.{exact-made, target-fact}
-use Rattle.cutset_engine.proofs.families.family.Goals as goal
+use Rattle.cutset_engine.proofs.families.family_by.Goals as goal
 
 pub number_at-target-requires : goal.number_at-target-requires
 number_at-target-requires c =

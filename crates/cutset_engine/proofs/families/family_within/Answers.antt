@@ -1,0 +1,7 @@
+use Rattle.std.proofs.Common.{sym, subst}
+use Rattle.cutset_engine.specs.Families.{HasMinimalCutSets}
+use Rattle.cutset_engine.proofs.families.family_within.Goals as goal
+
+pub returns-clause-exact : goal.returns-clause-exact
+returns-clause-exact c =
+    subst (HasMinimalCutSets c.args.system.now c.args.slice.now.target c.args.most) (sym c.in_ok-answer.ensures.family) c.in_ok-made.ensures.exact
