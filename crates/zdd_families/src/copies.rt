@@ -20,13 +20,7 @@ fn known_copy(from: &Store, to: &Store, known: &HashMap<Id, Id>, id: Id) -> Opti
 }
 
 /// Remembers a copy of a family, and gives it back.
-fn note_copy(
-    from: &Store,
-    to: &Store,
-    known: &mut HashMap<Id, Id>,
-    id: Id,
-    copy: Id,
-) -> Mem<Id>
+fn note_copy(from: &Store, to: &Store, known: &mut HashMap<Id, Id>, id: Id, copy: Id) -> Mem<Id>
     requires copy { IsCopy to.now (family_of from.now id) copy }
     requires known { KnowsCopies from.now to.now (get ⟦<Id as PartialEq>⟧.eq known.old) }
     ensures known { KnowsCopies from.now to.now (get ⟦<Id as PartialEq>⟧.eq known.new) }
