@@ -3,8 +3,8 @@
 //!
 //! The lines of a system are `event NAME`, `fact NAME FORMULA`, `effects NUMBER ..` or `effects all`, and `table`, which prints its
 //! table. A formula stands with its parts before it: `t` is always true, `e0` the first event, `f0` the first fact, and `and2`,
-//! `or2` and `2of3` take so many parts. `random SEED COUNT` and `rings GROUPS SIZE FACTS` make systems of their own. A line that
-//! begins with `#` says nothing.
+//! `or2` and `2of3` take so many parts. `random SEED COUNT`, `rings GROUPS SIZE FACTS` and `ring table GROUPS SIZE FACTS` make
+//! systems of their own. A line that begins with `#` says nothing.
 #![tactic(auto)]
 
 mod compared;

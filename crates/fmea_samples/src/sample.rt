@@ -7,7 +7,7 @@ ghost use Rattle.fmea_rows.specs.Text.{HasFieldNames};
 use crate::compared::print_compared;
 use crate::names::{are_plain, are_rising};
 use crate::reading::{formula_of, name_of, number_of};
-use crate::rings::print_rings;
+use crate::rings::{print_ring_table, print_rings};
 use fault_system::{EventInfo, FactInfo, FaultSystem, is_system};
 use fmea_rows::{rows, write_rows};
 use fta_outside::Sink;
@@ -55,6 +55,8 @@ impl Sample {
             print_compared(rt, alloc, numbers)?;
         } else if let Some(numbers) = line.strip_prefix(b"rings ") {
             print_rings(rt, alloc, numbers)?;
+        } else if let Some(numbers) = line.strip_prefix(b"ring table ") {
+            print_ring_table(rt, alloc, numbers, out)?;
         }
         Ok(())
     }
@@ -122,8 +124,8 @@ impl Sample {
     }
 }
 
-// Writes the table of a system over some effects.
-fn write_table<S: Sink>(
+/// Writes the table of a system over some effects.
+pub fn write_table<S: Sink>(
     rt: &impl Print,
     alloc: Global,
     system: &FaultSystem,
