@@ -1,0 +1,13 @@
+pub mod LineLaws
+pub mod Ends
+pub mod TextLaws
+pub mod NameLists
+pub mod LinesRead
+pub mod Figures
+pub mod Firsts
+pub mod NodeLaws
+pub mod TreeLaws
+pub mod SystemLaws
+pub mod CycleLaws
+pub mod TreeTexts
+pub mod OneAnswer

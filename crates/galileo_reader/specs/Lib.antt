@@ -1,0 +1,8 @@
+pub mod Marks
+pub mod Statements
+pub mod Nodes
+pub mod Trees
+pub mod Truth
+pub mod TreeSystems
+pub mod Tables
+pub mod Cycles

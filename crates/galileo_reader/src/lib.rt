@@ -1,0 +1,25 @@
+//! Static fault trees in Galileo text, read, and as systems of facts and events.
+//!
+//! A text is read to its end or refused at a place; it has one reading at most, and one answer.
+#![tactic(auto)]
+
+mod answer;
+mod building;
+mod checks;
+mod cycles;
+mod front;
+mod laws;
+mod lines;
+mod nodes;
+mod number;
+mod reading;
+mod saying;
+mod statement;
+mod system;
+mod token;
+mod tree;
+
+pub use answer::read;
+pub use laws::{one_answer, one_line, one_text};
+pub use system::to_system;
+pub use tree::{Flaw, GalileoFault, NamedEvent, NamedGate, NamedTree};
