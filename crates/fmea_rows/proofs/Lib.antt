@@ -5,3 +5,4 @@ pub mod UserLaws
 pub mod TestLaws
 pub mod LineLaws
 pub mod WriteLaws
+pub mod Examples
