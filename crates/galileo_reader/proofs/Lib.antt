@@ -11,3 +11,7 @@ pub mod SystemLaws
 pub mod CycleLaws
 pub mod TreeTexts
 pub mod OneAnswer
+pub mod Again
+pub mod WrittenLines
+pub mod WrittenTrees
+pub mod RoundTrip

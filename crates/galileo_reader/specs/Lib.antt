@@ -6,3 +6,4 @@ pub mod Truth
 pub mod TreeSystems
 pub mod Tables
 pub mod Cycles
+pub mod Written

@@ -1,8 +1,14 @@
 //! Laws of the definitions alone: the contract of each function is the law, and its body is empty.
 
-ghost use Rattle.std.specs.Prelude.{◌≡◌, ℕ, List};
+ghost use Rattle.std.specs.Prelude.{◌≡◌, ◌≤◌, ℕ, List, length};
+ghost use Rattle.fault_system.specs.Systems.{IsSystem, System};
+ghost use Rattle.galileo_writer.specs.TreeText.{AreRates, HasTextNames, tree_text};
+ghost use Rattle.property_reader.specs.declared.rate.Rate.{Rate};
+ghost use Rattle.round_gates.specs.Targets.{IsWellMade};
+ghost use Rattle.round_gates.specs.declared.tree.Tree.{Tree};
 ghost use Rattle.galileo_reader.specs.Statements.{AreLines, IsBadAt, IsLine};
 ghost use Rattle.galileo_reader.specs.Trees.{IsFlawed, IsRead};
+ghost use Rattle.galileo_reader.specs.Written.{named_tree};
 ghost use Rattle.galileo_reader.specs.declared.statement.Statement.{Statement};
 ghost use Rattle.galileo_reader.specs.declared.tree.Flaw.{Flaw};
 ghost use Rattle.galileo_reader.specs.declared.tree.NamedTree.{NamedTree};
@@ -24,4 +30,11 @@ pub fn one_answer()
     ensures tree { (text : List ℕ) (a b : NamedTree) → IsRead text a → IsRead text b → a ≡ b }
     ensures apart { (text : List ℕ) (tree : NamedTree) (flaw : Flaw) → IsRead text tree → IsFlawed text flaw → ⊥ }
     ensures flaw { (text : List ℕ) (a b : Flaw) → IsFlawed text a → IsFlawed text b → a ≡ b }
+{}
+
+/// The text of a tree, which may have at most 4,194,304 bytes, reads as the tree: its gates, their kinds and their inputs in
+/// order, its top, its events and their rates, under the names that are written.
+pub fn round_trip()
+    ensures { (system : System) (tree : Tree) (rates : List Rate) → IsSystem system → HasTextNames system → AreRates system rates → IsWellMade system tree
+        → length (tree_text system tree rates) ≤ 4194304 → IsRead (tree_text system tree rates) (named_tree system tree rates) }
 {}
