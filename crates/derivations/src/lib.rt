@@ -1,0 +1,10 @@
+//! Derivations: why a set of events makes a fact hold, step by step, and a check of them that trusts no maker.
+#![tactic(auto)]
+
+mod checking;
+mod derivation;
+mod given;
+mod marks;
+
+pub use checking::check_derivation;
+pub use derivation::{Derivation, Finding, Firing};
