@@ -75,6 +75,9 @@ fn are_true(parts: &[Formula], least: usize, given: &Given<'_>) -> bool
 {
     let mut count = 0;
     for part in parts {
+        if count >= least {
+            return true;
+        }
         if is_true(part, given) {
             count += 1;
         }
