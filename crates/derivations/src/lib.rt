@@ -5,6 +5,8 @@ mod checking;
 mod derivation;
 mod given;
 mod marks;
+mod writing;
 
 pub use checking::check_derivation;
 pub use derivation::{Derivation, Finding, Firing};
+pub use writing::write_step;
