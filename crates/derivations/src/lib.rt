@@ -5,8 +5,11 @@ mod checking;
 mod derivation;
 mod given;
 mod marks;
+mod reading;
+mod text;
 mod writing;
 
 pub use checking::check_derivation;
 pub use derivation::{Derivation, Finding, Firing};
+pub use text::read_steps;
 pub use writing::write_step;
