@@ -1,9 +1,9 @@
 -- A line is read as the one step that has it.
-use Rattle.std.proofs.Common.{ℕ, zero, suc, ◌+◌, ◌-◌, ◌%◌, ◌≡◌, ◌≢◌, ◌<◌, ◌≤◌, ◌^◌, ◌⊎◌, ◌==◌, ◌&&◌, not, Bool, true, false, cond, if◌then◌else◌, nat_le, nat_lt, List, [], ◌∷◌, ◌++◌, length, map, take, drop, decimal, position, Option, Some, None, get_or, All, AllPairs, append_assoc, ap, ◌∙◌, sym, refl, subst, arith, inl, inr, ⊎_elim, le-leb, leb-true}
+use Rattle.std.proofs.Common.{ℕ, zero, suc, ◌+◌, ◌%◌, ◌≡◌, ◌<◌, ◌≤◌, ◌^◌, ◌==◌, ◌&&◌, not, Bool, true, false, cond, if◌then◌else◌, nat_le, nat_lt, List, [], ◌∷◌, ◌++◌, length, map, take, drop, decimal, Option, Some, None, append_assoc, ap, ◌∙◌, sym, refl, subst, arith, le-leb, leb-true}
 use Rattle.std.proofs.lemmas.Bool.{false≢true, eqb-true, eq-eqb, false_from_ne_true, and_parts}
 use Rattle.std.proofs.lemmas.List.Sums.{position_or_len_is}
 use Rattle.std.proofs.lemmas.List.Quantifiers.{position-Some}
-use Rattle.std.specs.List.{list_all, prefix_len, position_or_len, AllByRecursion}
+use Rattle.std.specs.List.{list_all, prefix_len, position_or_len}
 use Rattle.std.specs.Option.{option_and_then}
 use Rattle.plain_values.specs.Name.{is_same_text}
 use Rattle.fault_system.specs.Truth.{NumberSet}
@@ -27,8 +27,8 @@ module _ (names : List (List ℕ)) where
   pub place-some : NamesDiffer names → (n : ℕ) → n < length names → place_of names (name_at names n) ≡ Some n
   place-some differ n l =
       let at : position_or_len (λ other. is_same_text other (name_at names n)) names ≡ n =
-          position_or_len_is (λ other. is_same_text other (name_at names n)) names n [] (omega arith)
-          (λ k h. false_from_ne_true _ (λ same. differ k n [] h l (same-of _ _ same))) (λ _. of-same (name_at names n) (name_at names n) refl) in
+      position_or_len_is (λ other. is_same_text other (name_at names n)) names n [] (omega arith)
+      (λ k h. false_from_ne_true _ (λ same. differ k n [] h l (same-of _ _ same))) (λ _. of-same (name_at names n) (name_at names n) refl) in
       rw at (within (le-leb (suc n) (length names) l))
     where
       within : nat_lt n (length names) ≡ true → cond (nat_lt n (length names)) (Some n) None ≡ Some n

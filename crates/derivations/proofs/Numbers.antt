@@ -63,6 +63,7 @@ use_of-some (suc limit) u digits few l is = ⊎_elim
   where
     apart : digits ≡ decimal (limit + 1) → u < limit → ⊥
     apart same below = let e : u + 1 ≡ limit + 1 = decimal_injective (u + 1) (limit + 1) (omega arith) (omega arith) (sym is ∙ same) in omega arith
+
     cases : (a b : ℕ) → a < b + 1 → (a < b) ⊎ (a ≡ b)
     cases zero zero h = inr refl
     cases zero (suc b) h = inl (omega arith)

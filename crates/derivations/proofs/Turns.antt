@@ -1,9 +1,8 @@
 -- One word more of a line.
-use Rattle.std.proofs.Common.{ℕ, zero, suc, ◌+◌, ◌≡◌, ◌<◌, Bool, true, false, cond, List, [], ◌∷◌, length, take, drop, ◌-◌, decimal, if◌then◌else◌, Option, Some, None, Result, Ok, Err, IfOk, IsTrue, ◌↔◌, ◌≤◌, ap, ◌∙◌, sym, refl, subst, arith}
+use Rattle.std.proofs.Common.{ℕ, zero, suc, ◌+◌, ◌≡◌, ◌<◌, Bool, true, false, cond, List, [], ◌∷◌, length, take, drop, ◌-◌, decimal, if◌then◌else◌, Option, Some, None, Result, Ok, Err, IfOk, IsTrue, ◌↔◌, ◌≤◌, ap, ◌∙◌, sym, refl, arith}
 use Rattle.std.proofs.lemmas.Bool.{false≢true, false_from_ne_true}
 use Rattle.std.specs.declared.alloc.AllocError.{AllocError}
 use lib.ListN.{drop_of_length-le}
-use Rattle.plain_values.specs.Name.{is_same_text}
 use Rattle.derivations.specs.declared.derivation.Firing.{Firing}
 use Rattle.derivations.proofs.Numbers.{same-of, of-same}
 use Rattle.std.specs.Option.{option_and_then}

@@ -1,5 +1,5 @@
 -- No text is that of two derivations, and none that is one has a bad place.
-use Rattle.std.proofs.Common.{ℕ, zero, suc, ◌+◌, ◌≡◌, ◌<◌, ◌≤◌, ◌^◌, Bool, true, false, List, [], ◌∷◌, ◌++◌, length, take, drop, append_assoc, Some, None, ap, ◌∙◌, sym, refl, subst, arith}
+use Rattle.std.proofs.Common.{ℕ, suc, ◌+◌, ◌≡◌, ◌<◌, ◌^◌, true, List, [], ◌∷◌, ◌++◌, length, take, drop, append_assoc, ap, ◌∙◌, sym, refl, subst, arith}
 use Rattle.std.specs.List.{list_all, prefix_len}
 use Rattle.fault_system.specs.Truth.{NumberSet}
 use Rattle.fault_system.specs.Systems.{NamesDiffer}
@@ -15,8 +15,7 @@ after-feed (byte ∷ bytes) rest = after-feed bytes rest
 
 same-front : (u v p q : List ℕ) → list_all unfed u ≡ true → list_all unfed v ≡ true → u ++ (10 ∷ p) ≡ v ++ (10 ∷ q) → (u ≡ v) × (p ≡ q)
 same-front u v p q plain_u plain_v e =
-    let len : length u ≡ length v = sym (fed-at u p plain_u) ∙ ap (prefix_len unfed) e ∙ fed-at v q plain_v in
-    (
+    let len : length u ≡ length v = sym (fed-at u p plain_u) ∙ ap (prefix_len unfed) e ∙ fed-at v q plain_v in (
       sym (take-front u (10 ∷ p)) ∙ ap (take (length u)) e ∙ ap (λ n. take n (v ++ (10 ∷ q))) len ∙ take-front v (10 ∷ q),
       sym (after-feed u p) ∙ ap (drop (suc (length u))) e ∙ ap (λ n. drop (suc n) (v ++ (10 ∷ q))) len ∙ after-feed v q,
     )
@@ -28,8 +27,7 @@ no-bytes (byte ∷ bytes) p e = cc
 module _ (facts names : List (List ℕ)) (events : NumberSet) (facts_differ : NamesDiffer facts) (differ : NamesDiffer names) (fact_names : AreLineNames facts) (line_names : AreLineNames names) where
   one-step : (number : ℕ) → number < 2 ^ 32 → (a b : Firing) (p q : List ℕ) → HasLine facts names events number a → HasLine facts names events number b → line_of facts names number a ++ (10 ∷ p) ≡ line_of facts names number b ++ (10 ∷ q) → (a ≡ b) × (p ≡ q)
   one-step number few a b p q has_a has_b e =
-      let same = same-front (line_of facts names number a) (line_of facts names number b) p q (line-unfed facts names events number few fact_names line_names a has_a) (line-unfed facts names events number few fact_names line_names b has_b) e in
-      (
+      let same = same-front (line_of facts names number a) (line_of facts names number b) p q (line-unfed facts names events number few fact_names line_names a has_a) (line-unfed facts names events number few fact_names line_names b has_b) e in (
         some-same a b (sym (line-again facts names events number few fact_names line_names a has_a facts_differ differ) ∙ ap (step_of facts names events number) same.0 ∙ line-again facts names events number few fact_names line_names b has_b facts_differ differ),
         same.1,
       )

@@ -1,5 +1,5 @@
 -- How a line is read: word by word.
-use Rattle.std.specs.Prelude.{ℕ, zero, suc, ◌+◌, ◌≡◌, ◌==◌, ◌&&◌, Bool, true, false, cond, if◌then◌else◌, nat_le, List, [], ◌∷◌, ◌++◌, length, map, drop, decimal, Option, Some, None, position}
+use Rattle.std.specs.Prelude.{ℕ, zero, suc, ◌+◌, ◌==◌, ◌&&◌, Bool, false, cond, if◌then◌else◌, nat_le, List, [], ◌∷◌, ◌++◌, drop, decimal, Option, Some, None, position}
 use Rattle.std.specs.Option.{option_and_then}
 use Rattle.plain_values.specs.Name.{is_same_text}
 use Rattle.fault_system.specs.Truth.{NumberSet}

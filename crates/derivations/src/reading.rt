@@ -5,9 +5,9 @@ ghost use Rattle.std.specs.List.{prefix_len};
 ghost use Rattle.fault_system.specs.Truth.{member};
 
 use crate::derivation::Firing;
-use plain_values::{List, Mem};
 use fault_system::{Bits, Names};
 use itoa::Buffer;
+use plain_values::{List, Mem};
 use std::alloc::Global;
 use std::marker::Model;
 
@@ -84,10 +84,10 @@ impl Model for Items {
     ghost Value = { Read };
 
     ghost view = { λ i. record {
-        events = i.events.items;
-        uses = i.uses.items;
-        next_event = i.next_event;
-        next_use = i.next_use;
+      events = i.events.items;
+      uses = i.uses.items;
+      next_event = i.next_event;
+      next_use = i.next_use;
     } };
 }
 

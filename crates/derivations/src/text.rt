@@ -26,7 +26,7 @@ pub fn read_steps(
     requires events { AreLineNames (event_names system.now) }
     ensures read { IfOk result (λ read. MatchResult read
         (λ derivation. IsTextOf (fact_names system.now) (event_names system.now) (member events.now)
-            bytes.now derivation.steps)
+        bytes.now derivation.steps)
         (λ at. IsBadAt (fact_names system.now) (event_names system.now) (member events.now) bytes.now at)) }
     ensures only { (steps : Items Firing) → length steps < 2 ^ 32
         → IsTextOf (fact_names system.now) (event_names system.now) (member events.now) bytes.now steps

@@ -24,7 +24,7 @@ loop-at-preserved c =
     let before = c.loop-at.invariant in
     let line = slice_range c.args.bytes.now c.loop-at.at c.line_end-end.result in
     let kept = next-line c.args.facts.now c.args.names.now (member c.args.events.now) c.requires.differ.0 c.requires.differ.1 c.requires.line_names.0 c.requires.line_names.1 c.args.bytes.now c.loop-at.at c.loop-at.steps c.items.ensures.few c.loop-at-test.true before.lines before.text c.line_end-end.result line c.in-Some.step c.line_end-end.ensures.value c.if-end-bytes.false refl
-        (ap (λ (steps : List Firing). step_of c.args.facts.now c.args.names.now (member c.args.events.now) (length steps) line) (sym c.items.ensures.items) ∙ c.in_ok-step.ensures ∙ c.in-Some.is) in
+    (ap (λ (steps : List Firing). step_of c.args.facts.now c.args.names.now (member c.args.events.now) (length steps) line) (sym c.items.ensures.items) ∙ c.in_ok-step.ensures ∙ c.in-Some.is) in
     record {
       within = kept.fits;
       lines = subst (λ (more : List Firing). HaveLines c.args.facts.now c.args.names.now (member c.args.events.now) 0 more) (sym c.in_ok-push.ensures.ok) kept.have;

@@ -1,4 +1,4 @@
-use Rattle.std.proofs.Common.{◌≡◌, ◌≤◌, ◌-◌, ◌++◌, ℕ, length, drop}
+use Rattle.std.proofs.Common.{◌≡◌, ◌≤◌, ◌-◌, ◌++◌, length, drop}
 use Rattle.fault_system.specs.Truth.{member}
 use Rattle.derivations.specs.Text.{HaveLines, lines_of}
 use Rattle.derivations.proofs.text.read_lines.Given as goal
