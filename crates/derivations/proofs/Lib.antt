@@ -6,3 +6,4 @@ pub mod Lines
 pub mod Turns
 pub mod Outer
 pub mod Unique
+pub mod Places

@@ -9,7 +9,7 @@ use Rattle.derivations.specs.Reading.{step_of}
 use Rattle.derivations.proofs.Numbers.{some-same}
 use Rattle.derivations.proofs.Lines.{unfed, line-unfed, line-again, fed-at, take-front}
 
-after-feed : (u rest : List ℕ) → drop (suc (length u)) (u ++ (10 ∷ rest)) ≡ rest
+pub after-feed : (u rest : List ℕ) → drop (suc (length u)) (u ++ (10 ∷ rest)) ≡ rest
 after-feed [] rest = refl
 after-feed (byte ∷ bytes) rest = after-feed bytes rest
 

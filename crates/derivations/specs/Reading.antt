@@ -1,5 +1,6 @@
 -- How a line is read: word by word.
-use Rattle.std.specs.Prelude.{ℕ, zero, suc, ◌+◌, ◌==◌, ◌&&◌, Bool, false, cond, if◌then◌else◌, nat_le, List, [], ◌∷◌, ◌++◌, drop, decimal, Option, Some, None, position}
+use Rattle.std.specs.Prelude.{ℕ, zero, suc, ◌+◌, ◌==◌, ◌&&◌, Bool, false, cond, if◌then◌else◌, nat_le, List, [], ◌∷◌, ◌++◌, drop, decimal, Option, Some, None, position, not, nat_lt, length}
+use Rattle.std.specs.List.{prefix_len}
 use Rattle.std.specs.Option.{option_and_then}
 use Rattle.plain_values.specs.Name.{is_same_text}
 use Rattle.fault_system.specs.Truth.{NumberSet}
@@ -79,3 +80,10 @@ step_of_words facts names events number (name ∷ words) = step_of_fact names ev
 -- the step of a line that has a number, where facts and events have these names
 abbrev pub step_of : List (List ℕ) → List (List ℕ) → NumberSet → ℕ → List ℕ → Option Firing
 step_of facts names events number line = if is_same_text (cut line).first (decimal (number + 1)) then step_of_words facts names events number (cut line).later else None
+
+-- how many bytes stand before the line of a number, from 0; all bytes where there is no such line
+abbrev pub line_place : ℕ → List ℕ → ℕ
+line_place zero bytes = 0
+line_place (suc number) bytes =
+    let end = prefix_len (λ byte. not (byte == 10)) bytes in
+    cond (nat_lt end (length bytes)) (suc end + line_place number (drop (suc end) bytes)) (length bytes)

@@ -11,5 +11,5 @@ mod writing;
 
 pub use checking::check_derivation;
 pub use derivation::{Derivation, Finding, Firing};
-pub use text::read_steps;
+pub use text::{read_steps, step_place};
 pub use writing::write_step;

@@ -1,9 +1,10 @@
 //! The text of a derivation, read line after line.
-ghost use Rattle.std.specs.Prelude.{◌≡◌, ◌+◌, ◌<◌, ◌≤◌, ◌^◌, ◌==◌, not, IfOk, MatchResult, List as Items, drop, length};
+ghost use Rattle.std.specs.Prelude.{◌≡◌, ◌+◌, ◌<◌, ◌≤◌, ◌^◌, ◌==◌, ℕ, not, IfOk, MatchResult, List as Items, drop, length, take};
 ghost use Rattle.std.specs.List.{prefix_len};
-ghost use Rattle.fault_system.specs.Truth.{member};
+ghost use Rattle.fault_system.specs.Truth.{NumberSet, member};
 ghost use Rattle.fault_system.specs.Systems.{NamesDiffer};
-ghost use Rattle.derivations.specs.Text.{AreLineNames, IsBadAt, IsTextOf, event_names, fact_names};
+ghost use Rattle.derivations.specs.Reading.{line_place};
+ghost use Rattle.derivations.specs.Text.{AreLineNames, IsBadAt, IsTextOf, event_names, fact_names, lines_of};
 
 use crate::derivation::{Derivation, Firing};
 use crate::reading::read_line;
@@ -93,6 +94,33 @@ fn read_lines(
         at = end + 1;
     }
     Ok(Ok(Derivation { steps }))
+}
+
+/// The byte, from 0, at which the line of a step begins in the text of a derivation.
+pub fn step_place(bytes: &[u8], number: u32) -> usize
+    ensures { (facts names : Items (Items ℕ)) (events : NumberSet) (steps : Items Firing)
+        → AreLineNames facts → AreLineNames names → length steps < 2 ^ 32
+        → IsTextOf facts names events bytes.now steps → number < length steps
+        → result ≡ length (lines_of facts names 0 (take number steps)) }
+{
+    line_place(bytes, number)
+}
+
+// How many bytes stand before the line of a number.
+fn line_place(bytes: &[u8], number: u32) -> usize
+    ensures { result ≡ line_place number bytes.now }
+{
+    let mut at = 0;
+    let mut more = number;
+    while more > 0 {
+        let end = line_end(bytes, at);
+        if end >= bytes.len() {
+            return bytes.len();
+        }
+        at = end + 1;
+        more -= 1;
+    }
+    at
 }
 
 // Where the line ends that begins at a place: at its line feed, or where the text ends.
