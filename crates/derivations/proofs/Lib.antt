@@ -7,3 +7,4 @@ pub mod Turns
 pub mod Outer
 pub mod Unique
 pub mod Places
+pub mod Examples
