@@ -1,0 +1,10 @@
+pub mod Sound
+pub mod Written
+pub mod Numbers
+pub mod Words
+pub mod Lines
+pub mod Turns
+pub mod Outer
+pub mod Unique
+pub mod Places
+pub mod Examples

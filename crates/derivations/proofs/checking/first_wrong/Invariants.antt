@@ -1,0 +1,11 @@
+use Rattle.fault_system.specs.Truth.{member}
+use Rattle.derivations.specs.Steps.{AreRight}
+use Rattle.derivations.specs.Marked.{IsBlank}
+use Rattle.derivations.proofs.checking.first_wrong.Given as goal
+
+abbrev pub invariant-loop-number : goal.invariant-loop-number
+invariant-loop-number l = record {
+  right : AreRight l.system (member l.events) l.steps l.number;
+  fact_marks : IsBlank l.fact_marks;
+  event_marks : IsBlank l.event_marks;
+}

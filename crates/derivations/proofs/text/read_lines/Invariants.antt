@@ -1,0 +1,14 @@
+use Rattle.std.proofs.Common.{◌≡◌, ◌≤◌, ◌-◌, ◌++◌, length, drop}
+use Rattle.fault_system.specs.Truth.{member}
+use Rattle.derivations.specs.Text.{HaveLines, lines_of}
+use Rattle.derivations.proofs.text.read_lines.Given as goal
+
+abbrev pub invariant-loop-at : goal.invariant-loop-at
+invariant-loop-at l = record {
+  within : l.at ≤ length l.bytes;
+  lines : HaveLines l.facts l.names (member l.events) 0 l.steps;
+  text : l.bytes ≡ lines_of l.facts l.names 0 l.steps ++ drop l.at l.bytes;
+}
+
+abbrev pub decreases-loop-at : goal.decreases-loop-at
+decreases-loop-at l = length l.bytes - l.at

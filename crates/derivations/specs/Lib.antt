@@ -1,0 +1,4 @@
+pub mod Steps
+pub mod Marked
+pub mod Text
+pub mod Reading
