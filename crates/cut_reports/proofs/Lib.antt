@@ -1,3 +1,5 @@
 pub mod Places
 pub mod Taken
 pub mod Listings
+pub mod Numbered
+pub mod Marks

@@ -1,2 +1,4 @@
 pub mod Places
 pub mod Feeding
+pub mod Numbered
+pub mod Singles

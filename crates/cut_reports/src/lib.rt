@@ -3,6 +3,8 @@
 
 mod feeding;
 mod giving;
+mod singles;
 
 pub use feeding::feed;
 pub use giving::FeedFault;
+pub use singles::SinglePoints;
