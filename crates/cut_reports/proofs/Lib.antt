@@ -3,3 +3,5 @@ pub mod Taken
 pub mod Listings
 pub mod Numbered
 pub mod Marks
+pub mod Counts
+pub mod Sizes

@@ -1,5 +1,5 @@
 -- Texts that have a line for some of the events.
-use Rattle.std.proofs.Common.{◌≡◌, ℕ, suc, ◌+◌, ◌<◌, List, [], ◌∷◌, ◌++◌, length, take, get_or, Some, None, Bool, true, false, refl, sym, ap, ◌∙◌, append_assoc, append-nil, add-zero, arith, cond}
+use Rattle.std.proofs.Common.{◌≡◌, ℕ, zero, suc, ◌+◌, ◌<◌, List, [], ◌∷◌, ◌++◌, length, take, get_or, Some, None, Bool, true, false, refl, sym, ap, ◌∙◌, append_assoc, append-nil, add-zero, arith, cond}
 use Rattle.std.proofs.lemmas.List.{length-take-le, take_more}
 use Rattle.cut_reports.specs.Numbered.{numbered_text}
 
@@ -37,3 +37,18 @@ numbered_same a b number (name ∷ names) same =
 pub begun_width : (begun : Bool) (n m : ℕ) → cond begun (Some n) None ≡ Some m → n ≡ m
 begun_width true n m e = cc
 begun_width false n m e = absurd (cc)
+
+-- what stands at a place of a list does not hang on what would be read past its end
+pub get_or_any : (names : List (List ℕ)) (k : ℕ) → k < length names → get_or names k [] ≡ get_or names k (get_or names k [])
+get_or_any [] k h = absurd (omega arith)
+get_or_any (name ∷ names) zero h = refl
+get_or_any (name ∷ names) (suc k) h = other names k (get_or names k []) (omega arith) where
+  other : (names : List (List ℕ)) (k : ℕ) (d : List ℕ) → k < length names → get_or names k [] ≡ get_or names k d
+  other [] k d h = absurd (omega arith)
+  other (name ∷ names) zero d h = refl
+  other (name ∷ names) (suc k) d h = other names k d (omega arith)
+
+-- the numbers may be one higher, where the lines are
+pub numbered_from : (line : ℕ → List ℕ → List ℕ) (number : ℕ) (names : List (List ℕ)) → numbered_text (λ n name. line (n + 1) name) number names ≡ numbered_text line (number + 1) names
+numbered_from line number [] = refl
+numbered_from line number (name ∷ names) = ap (λ t. line (number + 1) name ++ t) (numbered_from line (number + 1) names)

@@ -2,3 +2,5 @@ pub mod Places
 pub mod Feeding
 pub mod Numbered
 pub mod Singles
+pub mod Counts
+pub mod Orders

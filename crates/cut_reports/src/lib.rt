@@ -1,10 +1,13 @@
 //! Reports on a listing of minimal cut sets: the feeding of the reports that a caller hands in, and the tool's own ones.
 #![tactic(auto)]
 
+mod counting;
 mod feeding;
 mod giving;
+mod orders;
 mod singles;
 
 pub use feeding::feed;
 pub use giving::FeedFault;
+pub use orders::OrderProfile;
 pub use singles::SinglePoints;
