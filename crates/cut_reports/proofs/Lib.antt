@@ -5,3 +5,4 @@ pub mod Numbered
 pub mod Marks
 pub mod Counts
 pub mod Sizes
+pub mod UseLaws

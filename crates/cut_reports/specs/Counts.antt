@@ -1,6 +1,7 @@
 -- Counts of sets, which stay at the last value of a counter.
 use Rattle.std.specs.Prelude.{ℕ, ◌≡◌, ◌+◌, ◌<◌, ◌==◌, Bool, List, [], ◌∷◌, ◌++◌, length, codes, decimal, min, slice_index_or, if◌then◌else◌}
 use Rattle.std.specs.List.{count_by}
+use Rattle.cut_reports.specs.Places.{is_among}
 
 -- a count as it is kept: the number itself, but no more than 18446744073709551615
 abbrev pub capped : ℕ → ℕ
@@ -21,3 +22,7 @@ AreCounts tests counts sets = (i : ℕ) → i < length counts → slice_index_or
 -- the count at this place is one more, and each other is as before
 abbrev pub CountedAt : ℕ → List ℕ → List ℕ → Type 0
 CountedAt place before after = (i : ℕ) → slice_index_or after i 0 ≡ (if i == place then capped (slice_index_or before i 0 + 1) else slice_index_or before i 0)
+
+-- the count at each of these places is one more, and each other is as before
+abbrev pub CountedEach : List ℕ → List ℕ → List ℕ → Type 0
+CountedEach places before after = (i : ℕ) → slice_index_or after i 0 ≡ (if is_among places i then capped (slice_index_or before i 0 + 1) else slice_index_or before i 0)

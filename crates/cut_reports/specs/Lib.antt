@@ -4,3 +4,4 @@ pub mod Numbered
 pub mod Singles
 pub mod Counts
 pub mod Orders
+pub mod Uses

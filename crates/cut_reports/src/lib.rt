@@ -6,8 +6,10 @@ mod feeding;
 mod giving;
 mod orders;
 mod singles;
+mod uses;
 
 pub use feeding::feed;
 pub use giving::FeedFault;
 pub use orders::OrderProfile;
 pub use singles::SinglePoints;
+pub use uses::EventUse;
