@@ -5,3 +5,4 @@ pub mod Singles
 pub mod Counts
 pub mod Orders
 pub mod Uses
+pub mod Failing

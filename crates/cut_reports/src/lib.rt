@@ -2,12 +2,14 @@
 #![tactic(auto)]
 
 mod counting;
+mod failing;
 mod feeding;
 mod giving;
 mod orders;
 mod singles;
 mod uses;
 
+pub use failing::FailingReport;
 pub use feeding::feed;
 pub use giving::FeedFault;
 pub use orders::OrderProfile;

@@ -1,4 +1,4 @@
-ghost use Rattle.std.specs.Prelude.{◌≡◌, ◌∷◌, [], ◌++◌, Some, None, IfOk, OnOk, codes, cond, length, vec_len};
+ghost use Rattle.std.specs.Prelude.{◌≡◌, ◌++◌, Some, None, IfOk, OnOk, codes, cond, length, vec_len};
 ghost use Rattle.plain_values.specs.Rising.{RisesWithin};
 ghost use Rattle.cut_reports.specs.Counts.{CountedEach};
 ghost use Rattle.cut_reports.specs.Numbered.{numbered_text};
