@@ -1,0 +1,11 @@
+use Rattle.std.proofs.Common.{◌≡◌, [], ◌∷◌, take, vec_len}
+use Rattle.cut_reports.specs.Places.{AtChosen}
+use Rattle.cut_reports.specs.Feeding.{IsKept, TookSets}
+use Rattle.cut_reports.proofs.giving.give_set.Given as goal
+
+abbrev pub invariant-loop-place : goal.invariant-loop-place
+invariant-loop-place g l = record {
+  took : AtChosen (take l.place-index l.chosen) (TookSets (λ b. (goal.Report-dyn g (b.vtable, b.value)).stands_for b.value) (λ b. (goal.Report-dyn g (b.vtable, b.value)).width b.value) (l.set ∷ [])) l.fn.reports.items l.reports.items;
+  kept : AtChosen (take l.place-index l.chosen) (IsKept (λ b. (goal.Report-dyn g (b.vtable, b.value)).text b.value) (λ b. (goal.Report-dyn g (b.vtable, b.value)).label b.value) (λ b. (goal.Report-dyn g (b.vtable, b.value)).report_faults b.value)) l.fn.reports.items l.reports.items;
+  count : vec_len l.reports ≡ vec_len l.fn.reports;
+}

@@ -1,0 +1,7 @@
+use Rattle.std.proofs.Common.{◌≡◌, take}
+use Rattle.cut_reports.specs.Numbered.{numbered_text}
+use Rattle.cut_reports.specs.Singles.{marked_line}
+use Rattle.cut_reports.proofs.singles.text_of.Given as goal
+
+abbrev pub invariant-loop-i : goal.invariant-loop-i
+invariant-loop-i l = l.text.items ≡ numbered_text (marked_line l.marks) 0 (take l.i l.names)
