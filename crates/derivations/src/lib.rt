@@ -3,6 +3,7 @@
 
 mod checking;
 mod derivation;
+mod gathering;
 mod given;
 mod marks;
 mod reading;
