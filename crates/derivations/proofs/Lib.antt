@@ -8,3 +8,4 @@ pub mod Outer
 pub mod Unique
 pub mod Places
 pub mod Examples
+pub mod KeptOnce

@@ -6,6 +6,7 @@ mod derivation;
 mod gathering;
 mod given;
 mod marks;
+mod once;
 mod reading;
 mod text;
 mod writing;
