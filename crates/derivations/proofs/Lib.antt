@@ -9,3 +9,4 @@ pub mod Unique
 pub mod Places
 pub mod Examples
 pub mod KeptOnce
+pub mod HasRound
