@@ -1,7 +1,7 @@
 -- A fact holds exactly where it has a round.
-use Rattle.std.proofs.Common.{ℕ, zero, suc, ◌≡◌, ◌↔◌, ◌<◌, ◌∙◌, List, sym, subst, arith}
-use Rattle.fault_system.specs.Truth.{NumberSet, Has, member}
-use Rattle.fault_system.specs.Systems.{System, IsClosed, Holds}
+use Rattle.std.proofs.Common.{ℕ, zero, suc, ◌≡◌, ◌<◌, List, subst, arith}
+use Rattle.fault_system.specs.Truth.{NumberSet}
+use Rattle.fault_system.specs.Systems.{System, Holds}
 use Rattle.fault_system.specs.Rounds.{AreRounds, IsRoundOf, time_of}
 use Rattle.fault_system.proofs.HoldsLaws.{round-least}
 

@@ -1,5 +1,5 @@
 -- Numbers that were sorted, and of which each was kept once.
-use Rattle.std.proofs.Common.{ℕ, ◌≡◌, eqb, List, Contains, IsPermutation, sym, subst, ◌∙◌}
+use Rattle.std.proofs.Common.{ℕ, ◌≡◌, eqb, List, Contains, IsPermutation, sym, subst}
 use Rattle.std.specs.List.{dedup}
 use Rattle.std.proofs.lemmas.List.Sorted.{Contains-permutation}
 use Rattle.std.proofs.lemmas.List.Kept.{Contains-dedup_nat, Contains-from_dedup}

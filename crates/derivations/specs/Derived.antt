@@ -1,5 +1,5 @@
 -- The derivation of a target under a set of events, by rounds.
-use Rattle.std.specs.Prelude.{ℕ, ◌≡◌, ◌↔◌, ◌==◌, ◌&&◌, ◌||◌, not, Bool, true, false, nat_lt, List, length, map, filter, slice_get, Option, Some, None, All, AllPairs}
+use Rattle.std.specs.Prelude.{ℕ, ◌≡◌, ◌↔◌, ◌==◌, ◌&&◌, ◌||◌, Bool, true, false, nat_lt, List, length, map, filter, slice_get, Option, Some, None, All, AllPairs}
 use Rattle.std.specs.List.{range_with_len}
 use Rattle.fault_system.specs.Truth.{NumberSet, Has, set_of, occurs, occurs_event}
 use Rattle.fault_system.specs.Systems.{System}

@@ -65,7 +65,12 @@ fn gather_all_events(parts: &[Formula], events: &Bits, found: &mut Vec<u32>) -> 
 
 /// Adds the facts of a formula that have an earlier round.
 #[cycle(facts)]
-pub(crate) fn gather_facts(formula: &Formula, rounds: &[u32], round: u32, used: &mut Vec<u32>) -> Mem<()>
+pub(crate) fn gather_facts(
+    formula: &Formula,
+    rounds: &[u32],
+    round: u32,
+    used: &mut Vec<u32>,
+) -> Mem<()>
     ensures { OnOk result (HasMore (λ n. occurs n formula.now && is_before_round rounds.now round n)
         used.old.items used.new.items) }
 {
