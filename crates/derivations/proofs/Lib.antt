@@ -8,3 +8,5 @@ pub mod Outer
 pub mod Unique
 pub mod Places
 pub mod Examples
+pub mod KeptOnce
+pub mod HasRound

@@ -2,3 +2,5 @@ pub mod Steps
 pub mod Marked
 pub mod Text
 pub mod Reading
+pub mod Derived
+pub mod Gathered

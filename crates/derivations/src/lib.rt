@@ -3,8 +3,10 @@
 
 mod checking;
 mod derivation;
+mod gathering;
 mod given;
 mod marks;
+mod once;
 mod reading;
 mod text;
 mod writing;
