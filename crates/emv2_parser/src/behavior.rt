@@ -4,7 +4,14 @@ ghost use Rattle.grammar_rules.specs.Rules.{chooses};
 ghost use Rattle.grammar_rules.specs.Tokens.{is_one_of};
 ghost use Rattle.emv2_parser.specs.Words.{is_name, point_words, begins_source, begins_composite, component_words};
 ghost use Rattle.emv2_parser.specs.Names.{point_word};
-ghost use Rattle.emv2_parser.specs.Behavior.{some_condition, optional_condition, outgoing_condition, outgoing_effect, outgoing, component_transforms, component_events, component_transitions, further_outgoing, outgoing_after, component_outgoing, detections, mode_mappings, component_other, component_block, component_blocks, component_head, clause_component, others_or_condition, composite_condition, composite_rule, composite, states_word, composite_head, clause_composites, connection_errors, clause_connection, last_word, end_names, path_end, user_point, path_ends, user_path, clause_user_point, clause_user_path, user_item, user_items, paths_head, clause_paths};
+ghost use Rattle.emv2_parser.specs.Behavior.{some_condition, optional_condition, outgoing_condition, outgoing_effect, outgoing};
+ghost use Rattle.emv2_parser.specs.Behavior.{component_transforms, component_events, component_transitions, further_outgoing};
+ghost use Rattle.emv2_parser.specs.Behavior.{outgoing_after, component_outgoing, detections, mode_mappings, component_other};
+ghost use Rattle.emv2_parser.specs.Behavior.{component_block, component_blocks, component_head, clause_component, others_or_condition};
+ghost use Rattle.emv2_parser.specs.Behavior.{composite_condition, composite_rule, composite, states_word, composite_head};
+ghost use Rattle.emv2_parser.specs.Behavior.{clause_composites, connection_errors, clause_connection, last_word, end_names, path_end};
+ghost use Rattle.emv2_parser.specs.Behavior.{user_point, path_ends, user_path, clause_user_point, clause_user_path, user_item, user_items};
+ghost use Rattle.emv2_parser.specs.Behavior.{paths_head, clause_paths};
 ghost use Rattle.emv2_parser.specs.Takes.{outgoing-takes, composite-takes, component_block-takes, user_item-takes};
 
 use crate::conditions::whole_condition;

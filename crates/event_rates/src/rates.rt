@@ -7,7 +7,7 @@ use crate::kinds::Tables;
 use aadl_syntax::{Association, Identifier};
 use fault_system::EventInfo;
 use instantiator::Instance;
-use plain_values::{List, Mem, Name};
+use plain_values::{List, Mem, Name, copied};
 use property_reader::{Rate, rate_of};
 use std::alloc::Global;
 
@@ -110,10 +110,4 @@ fn add_path(alloc: Global, names: &mut List<Name>, path: &[&Identifier]) -> Mem<
         names.push(name)?;
     }
     Ok(())
-}
-
-fn copied(alloc: Global, text: &[u8]) -> Mem<Name>
-    ensures { IfOk result (λ name. name ≡ text.now) }
-{
-    List::of(Vec::from_slice(alloc, text)?)
 }

@@ -16,11 +16,11 @@ use Rattle.fault_system.specs.Systems.{System, event_name, fact_name}
 use Rattle.fault_system.specs.declared.formula.EventInfo.{EventInfo}
 use Rattle.fault_system.specs.declared.formula.FactInfo.{FactInfo}
 use Rattle.fault_system.proofs.Elements.{In, In-append, contains_In}
-use Rattle.property_reader.specs.Rates.{conservative_rate}
+use Rattle.property_reader.specs.Rates.{conservative_rate, rate_word}
 use Rattle.property_reader.specs.declared.rate.Rate.{Rate}
 use Rattle.property_reader.specs.declared.rate.RateKind.{RateKind}
 use Rattle.property_reader.specs.declared.rate.RateKind.TheVariants.{Prob, Lambda}
-use Rattle.fmea_rows.specs.Text.{HasFieldNames, IsPlainField, component_of, header, line_text, rate_of, rate_text, rate_word, row_fields, table_text}
+use Rattle.fmea_rows.specs.Text.{HasFieldNames, IsPlainField, component_of, header, line_text, rate_of, rate_text, row_fields, table_text}
 use Rattle.fmea_rows.specs.Written.{record_text, row_record}
 use Rattle.fmea_rows.specs.declared.row.Row.{Row}
 

@@ -2,16 +2,9 @@
 use Rattle.std.specs.Prelude.{ℕ, ◌==◌, List, [], ◌∷◌, ◌++◌, map, codes, decimal, slice_index_or, All, Contains}
 use Rattle.std.specs.List.{before_first, flat_map, join_with_byte}
 use Rattle.fault_system.specs.Systems.{System, event_name, fact_name}
-use Rattle.property_reader.specs.Rates.{conservative_rate}
+use Rattle.property_reader.specs.Rates.{conservative_rate, rate_word}
 use Rattle.property_reader.specs.declared.rate.Rate.{Rate}
-use Rattle.property_reader.specs.declared.rate.RateKind.{RateKind}
-use Rattle.property_reader.specs.declared.rate.RateKind.TheVariants.{Prob, Lambda}
 use Rattle.fmea_rows.specs.declared.row.Row.{Row}
-
--- the word of a rate's kind
-abbrev pub rate_word : RateKind → List ℕ
-rate_word Prob = codes "prob="
-rate_word Lambda = codes "lambda="
 
 -- a rate: the word of its kind, and its number
 abbrev pub rate_text : Rate → List ℕ

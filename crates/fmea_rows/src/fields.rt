@@ -3,14 +3,15 @@
 ghost use Rattle.std.specs.Prelude.{◌≡◌, ◌++◌, ◌∷◌, [], OnOk, decimal};
 ghost use Rattle.csv.specs.Records.{fields_of, partial_of};
 ghost use Rattle.fault_system.specs.Systems.{event_name};
-ghost use Rattle.fmea_rows.specs.Text.{component_of, header, rate_of, rate_text, rate_word, row_fields};
+ghost use Rattle.fmea_rows.specs.Text.{component_of, header, rate_of, rate_text, row_fields};
+ghost use Rattle.property_reader.specs.Rates.{rate_word};
 
 use crate::row::Row;
 use csv::ByteRecord;
 use fault_system::FaultSystem;
 use itoa::Buffer;
 use plain_values::Mem;
-use property_reader::{Rate, RateKind};
+use property_reader::{Rate, rate_word};
 
 /// Puts the names of the columns into a record.
 pub(crate) fn put_header(line: &mut ByteRecord) -> Mem<()>
@@ -72,15 +73,6 @@ fn component_of(name: &[u8]) -> &[u8]
         }
     }
     name
-}
-
-fn rate_word(kind: RateKind) -> &'static [u8]
-    ensures { result.now ≡ rate_word kind }
-{
-    match kind {
-        RateKind::Prob => b"prob=",
-        RateKind::Lambda => b"lambda=",
-    }
 }
 
 // Puts the rate of an event into a text; one that has none has the conservative one.

@@ -8,7 +8,8 @@ use Rattle.std.specs.Option.{option_map}
 use Rattle.aadl_syntax.specs.Form.{IsNumber, is_blank}
 use Rattle.fault_system.proofs.Elements.{In, contains_In, each-made}
 use Rattle.galileo_writer.proofs.Bytes.{IsDigit, decimal-digits}
-use Rattle.galileo_writer.specs.Galileo.{EventLine, GateLine, IsPlainName, Line, inputs_text, kind_text, line_text, rate_word, top_text}
+use Rattle.galileo_writer.specs.Galileo.{EventLine, GateLine, IsPlainName, Line, inputs_text, kind_text, line_text, top_text}
+use Rattle.property_reader.specs.Rates.{rate_word}
 use Rattle.property_reader.specs.declared.rate.Rate.{Rate}
 use Rattle.property_reader.specs.declared.rate.RateKind.{RateKind}
 use Rattle.property_reader.specs.declared.rate.RateKind.TheVariants.{Lambda, Prob}

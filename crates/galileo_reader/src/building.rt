@@ -6,17 +6,10 @@ ghost use Rattle.galileo_reader.specs.Nodes.{event_in, events_of, gate_in, gate_
 use crate::nodes::Nodes;
 use crate::statement::{PlacedName, Statement};
 use crate::tree::{NamedEvent, NamedGate, NamedTree};
-use plain_values::{List, Mem, Name};
+use plain_values::{List, Mem, Name, copied};
 use property_reader::Rate;
 use round_gates::Input;
 use std::alloc::Global;
-
-/// A name of its own.
-pub(crate) fn copied(alloc: Global, name: &Name) -> Mem<Name>
-    ensures { IfOk result (λ made. made ≡ name.now) }
-{
-    List::of(Vec::from_slice(alloc, name.items())?)
-}
 
 /// The nodes that names name.
 fn inputs_of(alloc: Global, nodes: &Nodes<'_>, names: &[PlacedName]) -> Mem<List<Input>>
@@ -36,7 +29,7 @@ fn gate_in(alloc: Global, nodes: &Nodes<'_>, line: &Statement) -> Mem<Option<Nam
     match line {
         Statement::Gate(name, kind, _, inputs) => {
             let inputs = inputs_of(alloc, nodes, inputs.items())?;
-            let name = copied(alloc, &name.name)?;
+            let name = copied(alloc, name.name.items())?;
             Ok(Some(NamedGate {
                 name,
                 kind: *kind,
@@ -64,8 +57,8 @@ fn event_in(alloc: Global, line: &Statement) -> Mem<Option<NamedEvent>>
 {
     match line {
         Statement::Event(name, rate) => {
-            let text = copied(alloc, &rate.text)?;
-            let name = copied(alloc, &name.name)?;
+            let text = copied(alloc, rate.text.items())?;
+            let name = copied(alloc, name.name.items())?;
             Ok(Some(NamedEvent {
                 name,
                 rate: Rate {

@@ -10,10 +10,9 @@ ghost use Rattle.galileo_reader.specs.Trees.{IsNamedTree};
 ghost use Rattle.galileo_reader.specs.TreeSystems.{event_info, gate_fact, system_of, target_of, top_facts};
 ghost use Rattle.galileo_reader.specs.Truth.{event_name, tree_galileo};
 
-use crate::building::copied;
 use crate::tree::{NamedEvent, NamedGate, NamedTree};
 use fault_system::{EventInfo, FactInfo, FaultSystem, Formula};
-use plain_values::{List, Mem, Name};
+use plain_values::{List, Mem, Name, copied};
 use round_gates::{GateKind, Input, input_formula, kind_formula};
 use std::alloc::Global;
 
@@ -32,7 +31,7 @@ fn input_formulas(alloc: Global, inputs: &[Input]) -> Mem<List<Formula>>
 fn gate_fact(alloc: Global, gate: &NamedGate) -> Mem<FactInfo>
     ensures { IfOk result (λ fact. fact ≡ gate_fact gate.now) }
 {
-    let name = copied(alloc, &gate.name)?;
+    let name = copied(alloc, gate.name.items())?;
     let parts = input_formulas(alloc, gate.inputs.items())?;
     Ok(FactInfo {
         name,
@@ -46,7 +45,7 @@ fn event_name(alloc: Global, tree: &NamedTree, number: u32) -> Mem<Name>
     ensures { IfOk result (λ name. name ≡ event_name tree.now number) }
 {
     match tree.events.items().get(number as usize) {
-        Some(event) => copied(alloc, &event.name),
+        Some(event) => copied(alloc, event.name.items()),
         None => Ok(List::new(alloc)),
     }
 }
@@ -92,7 +91,7 @@ fn event_info(alloc: Global, event: &NamedEvent) -> Mem<EventInfo>
     ensures { IfOk result (λ info. info ≡ event_info event.now) }
 {
     Ok(EventInfo {
-        name: copied(alloc, &event.name)?,
+        name: copied(alloc, event.name.items())?,
         owner: 0,
         key: List::new(alloc),
     })

@@ -10,7 +10,8 @@ use Rattle.property_reader.specs.declared.rate.RateKind.{RateKind}
 use Rattle.property_reader.specs.declared.rate.RateKind.TheVariants.{Prob, Lambda}
 use Rattle.round_gates.specs.declared.node.GateKind.{GateKind}
 use Rattle.round_gates.specs.declared.node.GateKind.TheVariants.{And, Or, AtLeast}
-use Rattle.galileo_writer.specs.Galileo.{Line, GateLine, EventLine, Galileo, IsKind, IsPlainLine, IsPlainName, IsTextOf, inputs_text, kind_text, line_text, quoted, rate_word, top_text}
+use Rattle.galileo_writer.specs.Galileo.{Line, GateLine, EventLine, Galileo, IsKind, IsPlainLine, IsPlainName, IsTextOf, inputs_text, kind_text, line_text, quoted, top_text}
+use Rattle.property_reader.specs.Rates.{rate_word}
 use Rattle.galileo_writer.proofs.Bytes.{IsDigit, cut-digits, cut-first, decimal-digits, decimal-lacks}
 
 -- ---- a number holds no semicolon

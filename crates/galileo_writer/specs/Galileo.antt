@@ -3,8 +3,7 @@ use Rattle.std.specs.Prelude.{ℕ, ◌≡◌, ◌≢◌, ◌<◌, ◌^◌, List,
 use Rattle.std.specs.List.{AllByRecursion, flat_map}
 use Rattle.aadl_syntax.specs.Form.{IsNumber}
 use Rattle.property_reader.specs.declared.rate.Rate.{Rate}
-use Rattle.property_reader.specs.declared.rate.RateKind.{RateKind}
-use Rattle.property_reader.specs.declared.rate.RateKind.TheVariants.{Prob, Lambda}
+use Rattle.property_reader.specs.Rates.{rate_word}
 use Rattle.round_gates.specs.declared.node.GateKind.{GateKind}
 use Rattle.round_gates.specs.declared.node.GateKind.TheVariants.{And, Or, AtLeast}
 
@@ -33,11 +32,6 @@ kind_text (AtLeast k) count = decimal k ++ (codes "of" ++ decimal count)
 -- the names of inputs, a blank before each
 abbrev pub inputs_text : List (List ℕ) → List ℕ
 inputs_text inputs = flat_map (λ input. codes " " ++ quoted input) inputs
-
--- the word of a rate's kind
-abbrev pub rate_word : RateKind → List ℕ
-rate_word Prob = codes "prob="
-rate_word Lambda = codes "lambda="
 
 -- a line: a name, what is said of it, a semicolon and a line feed
 abbrev pub line_text : Line → List ℕ

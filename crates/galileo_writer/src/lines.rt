@@ -1,14 +1,15 @@
 //! The lines of gates and of events, one at a time.
 
 ghost use Rattle.std.specs.Prelude.{◌≡◌, ◌++◌, IfOk, OnOk, decimal, map, option_copied, slice_get};
-ghost use Rattle.galileo_writer.specs.Galileo.{inputs_text, kind_text, line_text, rate_word, top_text};
+ghost use Rattle.galileo_writer.specs.Galileo.{inputs_text, kind_text, line_text, top_text};
+ghost use Rattle.property_reader.specs.Rates.{rate_word};
 ghost use Rattle.fault_system.specs.Systems.{event_name};
 ghost use Rattle.galileo_writer.specs.TreeText.{event_line, gate_line, gate_name, input_name, name_at, rate_of};
 
 use fault_system::FaultSystem;
 use itoa::Buffer;
 use plain_values::{List, Mem, Name};
-use property_reader::{Rate, RateKind};
+use property_reader::{Rate, rate_word};
 use round_gates::{Gate, GateKind, Input, Tree};
 use std::alloc::Global;
 
@@ -140,15 +141,6 @@ pub(crate) fn push_gate(
     push_inputs(line, system, gates, inputs)?;
     line.extend_from_slice(b";\n")?;
     Ok(())
-}
-
-fn rate_word(kind: RateKind) -> &'static [u8]
-    ensures { result.now ≡ rate_word kind }
-{
-    match kind {
-        RateKind::Prob => b"prob=",
-        RateKind::Lambda => b"lambda=",
-    }
 }
 
 /// Adds the rate of an event; one that has none has the conservative one.

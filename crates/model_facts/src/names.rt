@@ -8,7 +8,7 @@ use crate::keys::{EventKey, EventKind, FactKey, FactKind};
 use aadl_syntax::Identifier;
 use error_flows::FlowMeaning;
 use error_types::TypeTable;
-use plain_values::{List, Mem, Name};
+use plain_values::{List, Mem, Name, copied};
 use propagation_points::Point;
 use std::alloc::Global;
 
@@ -239,10 +239,4 @@ fn two_names(alloc: Global, first: &[u8], second: &[u8]) -> Mem<List<Name>>
     let mut names = one_name(alloc, first)?;
     names.push(copied(alloc, second)?)?;
     Ok(names)
-}
-
-fn copied(alloc: Global, text: &[u8]) -> Mem<Name>
-    ensures { IfOk result (λ name. name ≡ text.now) }
-{
-    List::of(Vec::from_slice(alloc, text)?)
 }

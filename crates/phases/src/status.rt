@@ -19,6 +19,8 @@ pub enum Status {
     ReadFault(u32),
     /// A write to the output failed.
     WriteFault,
+    /// The chosen report of this place in the handed-in list, counted from 0, failed.
+    ReportFault(u32),
     /// Memory was wanting.
     Memory,
 }
@@ -37,6 +39,7 @@ impl Status {
             Status::Constant(_) => 3,
             Status::ReadFault(_) => 4,
             Status::WriteFault => 5,
+            Status::ReportFault(_) => 6,
             Status::Memory => 7,
         }
     }

@@ -12,7 +12,16 @@ use Rattle.std.proofs.lemmas.Cmp.{on_total, nat_list_cmp_total, tied_itself, upt
 use Rattle.std.proofs.lemmas.Map.Lookups.{exact_bytes}
 use Rattle.std.proofs.lemmas.List.Elements.{Contains-append_cases, Contains-append_right}
 use Rattle.plain_values.specs.declared.refusal.Code.{Code}
-use Rattle.plain_values.specs.declared.refusal.Code.TheVariants.{BadByte, OpenString, OpenAnnex, Syntax, DuplicateUnit, UnknownPackage, UnknownClassifier, CyclicExtends, UnknownMember, DuplicateName, UnknownType, CyclicType, UnknownPoint, NotContained, UnknownState, UnknownTrigger, UnknownSubcomponent, UnknownEnd, UnknownMachine, Prototype, Array, FeatureGroup, TypeProduct, OrLess, NoErrorCondition, Others, Recovery, ConnectionError, Typed, Mapping, MachineExtends, FileTooLong, TooManyFiles, TooMuchText, TooNested, TooManyComponents, TooDeep, TooManyFacts, TooManyEvents, TooManyTypes, TooManyPlaces, SliceTooLarge, TooManySliceEvents, TooManyGates, TooManyLinks, UnknownTarget, BadToken}
+use Rattle.plain_values.specs.declared.refusal.Code.TheVariants.{BadByte, OpenString, OpenAnnex, Syntax, DuplicateUnit, UnknownPackage}
+use Rattle.plain_values.specs.declared.refusal.Code.TheVariants.{UnknownClassifier, CyclicExtends, UnknownMember, DuplicateName, UnknownType}
+use Rattle.plain_values.specs.declared.refusal.Code.TheVariants.{CyclicType, UnknownPoint, NotContained, UnknownState, UnknownTrigger}
+use Rattle.plain_values.specs.declared.refusal.Code.TheVariants.{UnknownSubcomponent, UnknownEnd, UnknownMachine, Prototype, Array, FeatureGroup}
+use Rattle.plain_values.specs.declared.refusal.Code.TheVariants.{TypeProduct, OrLess, NoErrorCondition, Others, Recovery, ConnectionError, Typed}
+use Rattle.plain_values.specs.declared.refusal.Code.TheVariants.{Mapping, MachineExtends, FileTooLong, TooManyFiles, TooMuchText, TooNested}
+use Rattle.plain_values.specs.declared.refusal.Code.TheVariants.{TooManyComponents, TooDeep, TooManyFacts, TooManyEvents, TooManyTypes, TooManyPlaces}
+use Rattle.plain_values.specs.declared.refusal.Code.TheVariants.{SliceTooLarge, TooManySliceEvents, TooManyGates, TooManyLinks, UnknownTarget}
+use Rattle.plain_values.specs.declared.refusal.Code.TheVariants.{BadToken, NotCutSet, BadStepLine, WrongStep, WrongEnd, BadLine, BadCount}
+use Rattle.plain_values.specs.declared.refusal.Code.TheVariants.{DuplicateNode, NoTop, UnknownNode, Cyclic}
 use Rattle.plain_values.specs.declared.refusal.Place.{Place}
 use Rattle.plain_values.specs.declared.refusal.Place.TheVariants.{Words, Whole, At}
 use Rattle.plain_values.specs.declared.refusal.Refusal.{Refusal}
@@ -20,7 +29,14 @@ use Rattle.plain_values.specs.Order.{code_row, place_key, refusal_key, refusal_c
 
 -- the codes in the order of their rows
 abbrev codes_in_order : List Code
-codes_in_order = BadByte ∷ OpenString ∷ OpenAnnex ∷ Syntax ∷ DuplicateUnit ∷ UnknownPackage ∷ UnknownClassifier ∷ CyclicExtends ∷ UnknownMember ∷ DuplicateName ∷ UnknownType ∷ CyclicType ∷ UnknownPoint ∷ NotContained ∷ UnknownState ∷ UnknownTrigger ∷ UnknownSubcomponent ∷ UnknownEnd ∷ UnknownMachine ∷ Prototype ∷ Array ∷ FeatureGroup ∷ TypeProduct ∷ OrLess ∷ NoErrorCondition ∷ Others ∷ Recovery ∷ ConnectionError ∷ Typed ∷ Mapping ∷ MachineExtends ∷ FileTooLong ∷ TooManyFiles ∷ TooMuchText ∷ TooNested ∷ TooManyComponents ∷ TooDeep ∷ TooManyFacts ∷ TooManyEvents ∷ TooManyTypes ∷ TooManyPlaces ∷ SliceTooLarge ∷ TooManySliceEvents ∷ TooManyGates ∷ TooManyLinks ∷ UnknownTarget ∷ BadToken ∷ []
+codes_in_order =
+    BadByte ∷ OpenString ∷ OpenAnnex ∷ Syntax ∷ DuplicateUnit ∷ UnknownPackage ∷ UnknownClassifier ∷ CyclicExtends ∷ UnknownMember ∷
+    DuplicateName ∷ UnknownType ∷ CyclicType ∷ UnknownPoint ∷ NotContained ∷ UnknownState ∷ UnknownTrigger ∷ UnknownSubcomponent ∷
+    UnknownEnd ∷ UnknownMachine ∷ Prototype ∷ Array ∷ FeatureGroup ∷ TypeProduct ∷ OrLess ∷ NoErrorCondition ∷ Others ∷ Recovery ∷
+    ConnectionError ∷ Typed ∷ Mapping ∷ MachineExtends ∷ FileTooLong ∷ TooManyFiles ∷ TooMuchText ∷ TooNested ∷ TooManyComponents ∷
+    TooDeep ∷ TooManyFacts ∷ TooManyEvents ∷ TooManyTypes ∷ TooManyPlaces ∷ SliceTooLarge ∷ TooManySliceEvents ∷ TooManyGates ∷
+    TooManyLinks ∷ UnknownTarget ∷ BadToken ∷ NotCutSet ∷ BadStepLine ∷ WrongStep ∷ WrongEnd ∷ BadLine ∷ BadCount ∷ DuplicateNode ∷
+    NoTop ∷ UnknownNode ∷ Cyclic ∷ []
 
 abbrev code_at : ℕ → Code
 code_at row = get_or codes_in_order row BadByte
@@ -73,6 +89,16 @@ code_at-code_row TooManyGates = refl
 code_at-code_row TooManyLinks = refl
 code_at-code_row UnknownTarget = refl
 code_at-code_row BadToken = refl
+code_at-code_row NotCutSet = refl
+code_at-code_row BadStepLine = refl
+code_at-code_row WrongStep = refl
+code_at-code_row WrongEnd = refl
+code_at-code_row BadLine = refl
+code_at-code_row BadCount = refl
+code_at-code_row DuplicateNode = refl
+code_at-code_row NoTop = refl
+code_at-code_row UnknownNode = refl
+code_at-code_row Cyclic = refl
 
 code_row-same : (a b : Code) → code_row a ≡ code_row b → a ≡ b
 code_row-same a b same = sym (code_at-code_row a) ∙ ap code_at same ∙ code_at-code_row b

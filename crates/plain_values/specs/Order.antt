@@ -4,7 +4,16 @@ use Rattle.std.specs.Cmp.Lexicographic.{slice_cmp}
 use Rattle.std.specs.Ordering.{nat_cmp, is_gt}
 use Rattle.std.specs.declared.cmp.Ordering.{Ordering}
 use Rattle.plain_values.specs.declared.refusal.Code.{Code}
-use Rattle.plain_values.specs.declared.refusal.Code.TheVariants.{BadByte, OpenString, OpenAnnex, Syntax, DuplicateUnit, UnknownPackage, UnknownClassifier, CyclicExtends, UnknownMember, DuplicateName, UnknownType, CyclicType, UnknownPoint, NotContained, UnknownState, UnknownTrigger, UnknownSubcomponent, UnknownEnd, UnknownMachine, Prototype, Array, FeatureGroup, TypeProduct, OrLess, NoErrorCondition, Others, Recovery, ConnectionError, Typed, Mapping, MachineExtends, FileTooLong, TooManyFiles, TooMuchText, TooNested, TooManyComponents, TooDeep, TooManyFacts, TooManyEvents, TooManyTypes, TooManyPlaces, SliceTooLarge, TooManySliceEvents, TooManyGates, TooManyLinks, UnknownTarget, BadToken}
+use Rattle.plain_values.specs.declared.refusal.Code.TheVariants.{BadByte, OpenString, OpenAnnex, Syntax, DuplicateUnit, UnknownPackage}
+use Rattle.plain_values.specs.declared.refusal.Code.TheVariants.{UnknownClassifier, CyclicExtends, UnknownMember, DuplicateName, UnknownType}
+use Rattle.plain_values.specs.declared.refusal.Code.TheVariants.{CyclicType, UnknownPoint, NotContained, UnknownState, UnknownTrigger}
+use Rattle.plain_values.specs.declared.refusal.Code.TheVariants.{UnknownSubcomponent, UnknownEnd, UnknownMachine, Prototype, Array, FeatureGroup}
+use Rattle.plain_values.specs.declared.refusal.Code.TheVariants.{TypeProduct, OrLess, NoErrorCondition, Others, Recovery, ConnectionError, Typed}
+use Rattle.plain_values.specs.declared.refusal.Code.TheVariants.{Mapping, MachineExtends, FileTooLong, TooManyFiles, TooMuchText, TooNested}
+use Rattle.plain_values.specs.declared.refusal.Code.TheVariants.{TooManyComponents, TooDeep, TooManyFacts, TooManyEvents, TooManyTypes, TooManyPlaces}
+use Rattle.plain_values.specs.declared.refusal.Code.TheVariants.{SliceTooLarge, TooManySliceEvents, TooManyGates, TooManyLinks, UnknownTarget}
+use Rattle.plain_values.specs.declared.refusal.Code.TheVariants.{BadToken, NotCutSet, BadStepLine, WrongStep, WrongEnd, BadLine, BadCount}
+use Rattle.plain_values.specs.declared.refusal.Code.TheVariants.{DuplicateNode, NoTop, UnknownNode, Cyclic}
 use Rattle.plain_values.specs.declared.refusal.Place.{Place}
 use Rattle.plain_values.specs.declared.refusal.Place.TheVariants.{Words, Whole, At}
 use Rattle.plain_values.specs.declared.refusal.Refusal.{Refusal}
@@ -58,6 +67,16 @@ code_row TooManyGates = 43
 code_row TooManyLinks = 44
 code_row UnknownTarget = 45
 code_row BadToken = 46
+code_row NotCutSet = 47
+code_row BadStepLine = 48
+code_row WrongStep = 49
+code_row WrongEnd = 50
+code_row BadLine = 51
+code_row BadCount = 52
+code_row DuplicateNode = 53
+code_row NoTop = 54
+code_row UnknownNode = 55
+code_row Cyclic = 56
 
 -- the numbers of a place, by which places are compared: the words come before the files, files go by number, and a whole
 -- file comes before its bytes, which go by number

@@ -5,7 +5,16 @@ use Rattle.plain_values.specs.declared.refusal.Place.{Place}
 use Rattle.plain_values.specs.declared.refusal.Place.TheVariants.{At, Words}
 use Rattle.plain_values.specs.declared.refusal.Refusal.{Refusal}
 use Rattle.plain_values.specs.declared.spot.Spot.{Spot}
-use Rattle.plain_values.specs.declared.refusal.Code.TheVariants.{BadByte, OpenString, OpenAnnex, Syntax, DuplicateUnit, UnknownPackage, UnknownClassifier, CyclicExtends, UnknownMember, DuplicateName, UnknownType, CyclicType, UnknownPoint, NotContained, UnknownState, UnknownTrigger, UnknownSubcomponent, UnknownEnd, UnknownMachine, Prototype, Array, FeatureGroup, TypeProduct, OrLess, NoErrorCondition, Others, Recovery, ConnectionError, Typed, Mapping, MachineExtends, FileTooLong, TooManyFiles, TooMuchText, TooNested, TooManyComponents, TooDeep, TooManyFacts, TooManyEvents, TooManyTypes, TooManyPlaces, SliceTooLarge, TooManySliceEvents, TooManyGates, TooManyLinks, UnknownTarget, BadToken}
+use Rattle.plain_values.specs.declared.refusal.Code.TheVariants.{BadByte, OpenString, OpenAnnex, Syntax, DuplicateUnit, UnknownPackage}
+use Rattle.plain_values.specs.declared.refusal.Code.TheVariants.{UnknownClassifier, CyclicExtends, UnknownMember, DuplicateName, UnknownType}
+use Rattle.plain_values.specs.declared.refusal.Code.TheVariants.{CyclicType, UnknownPoint, NotContained, UnknownState, UnknownTrigger}
+use Rattle.plain_values.specs.declared.refusal.Code.TheVariants.{UnknownSubcomponent, UnknownEnd, UnknownMachine, Prototype, Array, FeatureGroup}
+use Rattle.plain_values.specs.declared.refusal.Code.TheVariants.{TypeProduct, OrLess, NoErrorCondition, Others, Recovery, ConnectionError, Typed}
+use Rattle.plain_values.specs.declared.refusal.Code.TheVariants.{Mapping, MachineExtends, FileTooLong, TooManyFiles, TooMuchText, TooNested}
+use Rattle.plain_values.specs.declared.refusal.Code.TheVariants.{TooManyComponents, TooDeep, TooManyFacts, TooManyEvents, TooManyTypes, TooManyPlaces}
+use Rattle.plain_values.specs.declared.refusal.Code.TheVariants.{SliceTooLarge, TooManySliceEvents, TooManyGates, TooManyLinks, UnknownTarget}
+use Rattle.plain_values.specs.declared.refusal.Code.TheVariants.{BadToken, NotCutSet, BadStepLine, WrongStep, WrongEnd, BadLine, BadCount}
+use Rattle.plain_values.specs.declared.refusal.Code.TheVariants.{DuplicateNode, NoTop, UnknownNode, Cyclic}
 
 -- the code and the name of what a refused text breaks
 abbrev pub code_text : Code → List ℕ
@@ -56,6 +65,16 @@ code_text TooManyGates = codes "M12 TooManyGates"
 code_text TooManyLinks = codes "M14 TooManyLinks"
 code_text UnknownTarget = codes "T1 UnknownTarget"
 code_text BadToken = codes "K1 BadToken"
+code_text NotCutSet = codes "K3 NotCutSet"
+code_text BadStepLine = codes "V1 BadStepLine"
+code_text WrongStep = codes "V2 WrongStep"
+code_text WrongEnd = codes "V3 WrongEnd"
+code_text BadLine = codes "G1 BadLine"
+code_text BadCount = codes "G6 BadCount"
+code_text DuplicateNode = codes "G4 DuplicateNode"
+code_text NoTop = codes "G5 NoTop"
+code_text UnknownNode = codes "G2 UnknownNode"
+code_text Cyclic = codes "G3 Cyclic"
 
 -- The limit of a code, or 0 where it has none: bytes of a file, files, bytes of all files, open brackets, components, names
 -- below the root, facts, events, types, places in formulas, facts and events of a slice, places of all stages, and links.

@@ -101,8 +101,28 @@ pub enum Code {
     TooManyLinks,
     /// A target that is the name of no fact.
     UnknownTarget,
-    /// A page token that names no set of events.
+    /// A text that should name a set of events, and names none.
     BadToken,
+    /// A set of events under which the target does not hold.
+    NotCutSet,
+    /// A line that is no step of a derivation.
+    BadStepLine,
+    /// A step of a derivation that does not follow from what it names.
+    WrongStep,
+    /// A derivation that does not end with the target.
+    WrongEnd,
+    /// A line of Galileo text that has no reading.
+    BadLine,
+    /// A gate `KofN` whose number of inputs is another than N.
+    BadCount,
+    /// A second line of a name, or a second top.
+    DuplicateNode,
+    /// A tree without a top.
+    NoTop,
+    /// An input or a top that no line names.
+    UnknownNode,
+    /// A gate that reaches itself.
+    Cyclic,
 }
 
 impl Code {
@@ -160,6 +180,16 @@ impl Code {
             Code::TooManyLinks => "M14 TooManyLinks",
             Code::UnknownTarget => "T1 UnknownTarget",
             Code::BadToken => "K1 BadToken",
+            Code::NotCutSet => "K3 NotCutSet",
+            Code::BadStepLine => "V1 BadStepLine",
+            Code::WrongStep => "V2 WrongStep",
+            Code::WrongEnd => "V3 WrongEnd",
+            Code::BadLine => "G1 BadLine",
+            Code::BadCount => "G6 BadCount",
+            Code::DuplicateNode => "G4 DuplicateNode",
+            Code::NoTop => "G5 NoTop",
+            Code::UnknownNode => "G2 UnknownNode",
+            Code::Cyclic => "G3 Cyclic",
         }
     }
 

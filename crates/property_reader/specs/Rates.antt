@@ -16,6 +16,11 @@ use Rattle.property_reader.specs.Fields.{value_fields}
 abbrev pub conservative_rate : Rate
 conservative_rate = record { kind = Prob; text = codes "1" }
 
+-- the word that is written before the number of a rate of this kind
+abbrev pub rate_word : RateKind → List ℕ
+rate_word Prob = codes "prob="
+rate_word Lambda = codes "lambda="
+
 -- the tokens of the first field of a name
 abbrev pub field_named : List ℕ → List Field → Option (List Token)
 field_named name fields = option_map (λ field. field.value) (find (λ field. is_same_text field.name name) fields)

@@ -3,7 +3,7 @@ ghost use Rattle.aadl_syntax.specs.Form.{IsNumber};
 ghost use Rattle.aadl_syntax.specs.Token.{IsTokenText};
 ghost use Rattle.aadl_syntax.specs.declared.token.TokenKind.TheVariants.{Number, Word};
 ghost use Rattle.plain_values.specs.Name.{is_same_text};
-ghost use Rattle.property_reader.specs.Rates.{association_rate, conservative_rate, distribution_kind, field_named, fields_kind, fields_number, fields_rate, only_text, rate_with, value_rate};
+ghost use Rattle.property_reader.specs.Rates.{association_rate, conservative_rate, distribution_kind, field_named, fields_kind, fields_number, fields_rate, only_text, rate_with, rate_word, value_rate};
 
 use crate::field::{Field, fields_of};
 use aadl_syntax::{Association, TokenKind, TokenList};
@@ -176,4 +176,14 @@ fn field_named<'f>(fields: &'f [Field], name: &[u8]) -> Option<&'f TokenList>
         .iter()
         .find(|field| is_same(field.name.text(), name))?;
     Some(&field.value)
+}
+
+/// The word that is written before the number of a rate of this kind.
+pub fn rate_word(kind: RateKind) -> &'static [u8]
+    ensures { result.now ≡ rate_word kind }
+{
+    match kind {
+        RateKind::Prob => b"prob=",
+        RateKind::Lambda => b"lambda=",
+    }
 }
