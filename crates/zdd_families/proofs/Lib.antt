@@ -8,6 +8,7 @@ pub mod Ways
 pub mod Pairs
 pub mod Shorter
 pub mod Products
+pub mod HalfLaws
 pub mod Telling
 pub mod Tables
 pub mod Sizing

@@ -1,10 +1,11 @@
 -- What an operation answers, and how a family is split at a variable.
-use Rattle.std.specs.Prelude.{ℕ, ◌<◌, ◌≤◌, ◌≡◌, min, Bool, ◌&&◌, ◌||◌, List, Result, IfOk}
+use Rattle.std.specs.Prelude.{ℕ, ◌<◌, ◌≤◌, ◌≡◌, min, Bool, true, ◌&&◌, ◌||◌, List, Result, IfOk}
 use Rattle.std.specs.declared.alloc.AllocError.{AllocError}
 use Rattle.zdd_store.specs.Family.{Family, branch, least_number, covers, has, IsAntichain}
 use Rattle.zdd_store.specs.Store.{Families, IsIn, family_of, Keeps}
 use Rattle.zdd_store.specs.declared.id.Id.{Id}
 use Rattle.zdd_families.specs.declared.split.Parts.{Parts}
+use Rattle.zdd_families.specs.declared.halving.Halves.{Halves}
 
 -- a number of the store whose family is right, and has no number below `low`
 pub record IsFound (store : Families) (low : ℕ) (IsRight : Family → Type 0) (id : Id) : Type 0 where
@@ -61,6 +62,33 @@ pub record IsOperand (store : Families) (a b id : Id) : Type 0 where
   pub apart : IsAntichain (family_of store id)
   pub least : min (least_number (family_of store a)) (least_number (family_of store b)) ≤ least_number (family_of store id)
   pub same : (set : List ℕ) → covers (family_of store id) set ≡ both (family_of store a) (family_of store b) set
+
+-- the sets of a family that contain a set of another one, and its other sets
+pub record IsHalved (store : Families) (a b : Family) (halves : Halves) : Type 0 where
+  pub inner_in : IsIn store halves.inner
+  pub outer_in : IsIn store halves.outer
+  pub inner_least : least_number a ≤ least_number (family_of store halves.inner)
+  pub outer_least : least_number a ≤ least_number (family_of store halves.outer)
+  pub inner_apart : IsAntichain (family_of store halves.inner)
+  pub outer_apart : IsAntichain (family_of store halves.outer)
+  pub inner : (set : List ℕ) → covers (family_of store halves.inner) set ≡ true → covers b set ≡ true
+  pub whole : (set : List ℕ) → covers a set ≡ either (family_of store halves.inner) (family_of store halves.outer) set
+
+-- two families of minimal sets, as halves of a third
+pub record AreHalves (store : Families) (halves : Halves) : Type 0 where
+  pub inner_in : IsIn store halves.inner
+  pub outer_in : IsIn store halves.outer
+  pub inner_apart : IsAntichain (family_of store halves.inner)
+  pub outer_apart : IsAntichain (family_of store halves.outer)
+
+-- the least number of two halves
+abbrev pub least_of_halves : Families → Halves → ℕ
+least_of_halves store halves = min (least_number (family_of store halves.inner)) (least_number (family_of store halves.outer))
+
+-- the sets that an inner half covers, and those that both outer halves cover
+abbrev pub of_halves : Families → Halves → Halves → List ℕ → Bool
+of_halves store first second set =
+    either (family_of store first.inner) (family_of store second.inner) set || both (family_of store first.outer) (family_of store second.outer) set
 
 -- any family is right
 abbrev pub AnyFamily : Family → Type 0

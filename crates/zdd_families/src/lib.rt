@@ -8,6 +8,7 @@
 mod choice;
 mod copies;
 mod families;
+mod halving;
 mod memory;
 mod minimal;
 mod product;

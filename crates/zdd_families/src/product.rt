@@ -4,6 +4,7 @@ ghost use Rattle.zdd_store.specs.Store.{IsIn, family_of};
 ghost use Rattle.zdd_store.specs.Answers.{IsAsked, IsLeastUpTo, IsProductUpTo};
 ghost use Rattle.zdd_families.specs.Steps.{Answered, both, across, CanCross, IsOperand};
 
+use crate::halving::whole_product;
 use crate::memory::{keep, kept, known, note};
 use crate::minimal::join;
 use crate::sizes::sets_within;
@@ -41,7 +42,7 @@ fn one_operand(store: &Store, a: Id, b: Id) -> Option<Id>
 }
 
 /// The sets of a family of minimal sets that are asked for.
-fn asked_sets(store: &mut Store, a: Id, most: u32) -> Mem<Id>
+pub(crate) fn asked_sets(store: &mut Store, a: Id, most: u32) -> Mem<Id>
     requires a_in { IsIn store.old a }
     requires a_apart { IsAntichain (family_of store.old a) }
     ensures { Answered store.old store.new (least_number (family_of store.old a)) (IsLeastUpTo most (covers (family_of store.old a))) result }
@@ -184,6 +185,6 @@ pub(crate) fn kept_product(store: &mut Store, a: Id, b: Id, most: u32) -> Mem<Id
     if let Some(answer) = kept(store, question) {
         return Ok(answer);
     }
-    let answer = product_sets(store, a, b, most)?;
+    let answer = whole_product(store, a, b, most)?;
     keep(store, question, answer)
 }

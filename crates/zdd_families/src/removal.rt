@@ -8,6 +8,10 @@ use crate::split::{first_var, split};
 use plain_values::Mem;
 use zdd_store::{Id, Operation, Question, Store};
 
+/// Where the second family alone has the first variable, what is asked is remembered at each variable that this divides: at
+/// all it would fill the memory, and at none a long way would be gone again and again.
+const REMEMBERED: u32 = 8;
+
 /// Whether each set of the one family is too small to contain a set of the other, by the sizes of their sets.
 fn are_too_small(store: &Store, a: Id, b: Id) -> bool
     requires a_in { IsIn store.now a }
@@ -46,7 +50,7 @@ pub(crate) fn without_sets(store: &mut Store, a: Id, b: Id) -> Mem<Id>
     let var = first_var(store, a, b);
     let first = split(store, a, var);
     let second = split(store, b, var);
-    if first.hi.position == 0 {
+    if first.hi.position == 0 && var % REMEMBERED != 0 {
         return without_sets(store, first.lo, second.lo);
     }
     let question = Question {

@@ -12,11 +12,11 @@ returns-in-Some c =
 
 pub keep-requires : goal.keep-requires
 keep-requires c =
-    answers_two c.args.store.now c.product_sets.new.store (IsProductUpTo c.args.most) c.args.a c.args.b c.in_ok-answer.answer c.product_sets.ensures.kept
+    answers_two c.args.store.now c.whole_product.new.store (IsProductUpTo c.args.most) c.args.a c.args.b c.in_ok-answer.answer c.whole_product.ensures.kept
     c.requires.a_in c.requires.b_in c.in_ok-answer.ensures.answer.found c.in_ok-answer.ensures.answer.right
 
 pub returns : goal.returns
 returns c =
     finish_two c.args.store.now c.keep.new.store (IsProductUpTo c.args.most) (min (least_number (family_of c.args.store.now c.args.a)) (least_number (family_of c.args.store.now c.args.b)))
-    c.args.a c.args.b c.keep.result (subst (Keeps c.args.store.now) (sym c.keep.ensures.same) c.product_sets.ensures.kept)
+    c.args.a c.args.b c.keep.result (subst (Keeps c.args.store.now) (sym c.keep.ensures.same) c.whole_product.ensures.kept)
     c.requires.a_in c.requires.b_in (λ family p. p.least) c.keep.ensures.right

@@ -20,8 +20,8 @@ returns-then-eq-3 t c = elim c.then-eq-3.branch [
 pub returns-then-small : goal.returns-then-small
 returns-then-small t c = answered_without c.args.store.now c.args.a c.args.b c.args.a c.requires.a_in (sym (c.are_too_small-small.ensures c.if-small.true))
 
-pub returns-then-first-eq0 : goal.returns-then-first-eq0
-returns-then-first-eq0 t c =
+pub returns-then-var-ne0 : goal.returns-then-var-ne0
+returns-then-var-ne0 t c =
     without_skip c.args.store.now c.without_sets.new.store c.args.a c.args.b c.split-first.result c.split-second.result c.first_var-var.result c.without_sets.result c.laws.ensures c.if-first-eq0.true
     c.split-first.ensures c.split-second.ensures c.without_sets.ensures
 
