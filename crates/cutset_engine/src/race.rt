@@ -8,7 +8,7 @@ use crate::inner_order::{WAYS, Way, way_of};
 const FIRST_ANSWERS: u64 = 32_768;
 
 /// How often as many it may in the next round.
-const MORE_ANSWERS: u64 = 4;
+const MORE_ANSWERS: u64 = 8;
 
 /// A try: an order of the variables, and how many answers may be remembered.
 #[derive(Clone, Copy)]
