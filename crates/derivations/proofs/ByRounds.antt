@@ -1,13 +1,13 @@
 -- The derivation by rounds is good, and each of its steps has a line.
-use Rattle.std.proofs.Common.{ℕ, zero, suc, ◌+◌, ◌-◌, ◌≡◌, ◌<◌, ◌≤◌, ◌⊎◌, ◌==◌, ◌&&◌, ◌||◌, Bool, true, false, nat_lt, nat_le, List, [], ◌∷◌, length, slice_get, slice_index_or, map, Option, Some, None, All, AllPairs, ap, ◌∙◌, sym, refl, subst, arith, ⊎_elim, inl, inr, le-leb, leb-true, eq-eqb, eqb-true}
-use Rattle.std.specs.List.{list_all, list_any}
-use Rattle.std.proofs.lemmas.Bool.{false≢true, and_from, and_parts, or_cases, or_left, or_right, cases_order, cases_lt}
+use Rattle.std.proofs.Common.{ℕ, zero, suc, ◌+◌, ◌-◌, ◌≡◌, ◌<◌, ◌≤◌, ◌⊎◌, ◌==◌, ◌||◌, true, nat_lt, List, [], ◌∷◌, length, slice_get, slice_index_or, map, Option, Some, None, ap, ◌∙◌, sym, refl, subst, arith, ⊎_elim, inl, inr, le-leb, leb-true, eq-eqb, eqb-true}
+use Rattle.std.specs.List.{list_all}
+use Rattle.std.proofs.lemmas.Bool.{false≢true, and_from, and_parts, or_cases, or_left, or_right, cases_order}
 use Rattle.std.proofs.lemmas.List.{get_or-map, length-map}
 use Rattle.std.proofs.lemmas.List.Folds.{list_any_at}
 use Rattle.std.proofs.lemmas.Option.{slice_get-get_or, slice_get_cases, slice_get_within, get_or_from_slice_get}
 use Rattle.plain_values.specs.Rising.{RisesWithin}
-use Rattle.fault_system.specs.Truth.{NumberSet, Has, member, set_of, truth, occurs, occurs_event}
-use Rattle.fault_system.specs.Systems.{System, IsSystem, Holds}
+use Rattle.fault_system.specs.Truth.{NumberSet, Has, set_of, truth, occurs, occurs_event}
+use Rattle.fault_system.specs.Systems.{System, IsSystem}
 use Rattle.fault_system.specs.Rounds.{AreRounds, FitsTime, time_of, within}
 use Rattle.fault_system.specs.declared.formula.FactInfo.{FactInfo}
 use Rattle.fault_system.specs.declared.formula.Formula.{Formula}
@@ -15,9 +15,9 @@ use Rattle.fault_system.proofs.NumberSets.{list_all-made}
 use Rattle.fault_system.proofs.Occurring.{truth-grows-on}
 use Rattle.fault_system.proofs.RoundLaws.{rounds-fit, time_parts}
 use Rattle.derivations.specs.declared.derivation.Firing.{Firing}
-use Rattle.derivations.specs.Steps.{AreRight, IsGood, ends_with, facts_of, is_made_true, is_of, is_right, is_right_at}
+use Rattle.derivations.specs.Steps.{IsGood, facts_of, is_made_true, is_of, is_right}
 use Rattle.derivations.specs.Text.{HasLine, HaveLines, event_names, fact_names}
-use Rattle.derivations.specs.Derived.{IsDerivation, IsReached, comes_before, is_before_round, is_used_by, numbers_in, of_formula, uses_event, uses_fact}
+use Rattle.derivations.specs.Derived.{IsDerivation, IsReached, comes_before, is_used_by, numbers_in, of_formula, uses_event, uses_fact}
 use Rattle.derivations.specs.Ordered.{place_at}
 use Rattle.fault_system.specs.declared.formula.EventInfo.{EventInfo}
 use Rattle.derivations.proofs.Numbers.{none-some}

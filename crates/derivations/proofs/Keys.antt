@@ -1,17 +1,17 @@
 -- Keys that rise give the order of the steps.
-use Rattle.std.proofs.Common.{ℕ, zero, suc, ◌+◌, ◌*◌, ◌^◌, ◌%◌, ◌≡◌, ◌<◌, ◌≤◌, ◌⊎◌, ◌==◌, ◌&&◌, ◌||◌, Bool, true, false, cond, nat_lt, List, [], ◌∷◌, ◌++◌, length, map, set, slice_index_or, AllPairs, ap, ◌∙◌, sym, refl, subst, arith, ⊎_elim, inl, inr, append-nil, le-leb, leb-true, eq-eqb, eqb-true, length-set}
+use Rattle.std.proofs.Common.{ℕ, suc, ◌+◌, ◌*◌, ◌^◌, ◌%◌, ◌≡◌, ◌<◌, ◌⊎◌, ◌==◌, ◌&&◌, ◌||◌, Bool, true, false, cond, nat_lt, List, [], ◌∷◌, ◌++◌, length, map, set, slice_index_or, AllPairs, ap, ◌∙◌, sym, subst, arith, ⊎_elim, inl, inr, append-nil, le-leb, leb-true, eq-eqb, eqb-true}
 use Rattle.std.specs.List.Sorted.{IsStrictlyIncreasing}
-use Rattle.std.proofs.lemmas.Bool.{false≢true, and_from, and_parts, or_cases, or_left, or_right, cases_order, cases_eq, cases_lt}
+use Rattle.std.proofs.lemmas.Bool.{false≢true, and_from, and_parts, or_cases, or_left, or_right, cases_order}
 use Rattle.std.proofs.lemmas.Nat.{mod-mul-add}
 use Rattle.std.proofs.lemmas.List.{get_or-map, length-map, get_or-set_same, get_or-set_other}
 use Rattle.std.proofs.lemmas.List.Folds.{list_any-append}
 use Rattle.std.proofs.lemmas.List.Kept.{AllPairs-from_increasing}
-use Rattle.fault_system.specs.Truth.{NumberSet, Has, member, set_of}
+use Rattle.fault_system.specs.Truth.{Has, member, set_of}
 use Rattle.fault_system.specs.Rounds.{time_of}
 use Rattle.fault_system.proofs.NumberSets.{member-in}
 use Rattle.derivations.specs.Derived.{comes_before}
-use Rattle.derivations.specs.Ordered.{AreKeys, ArePlaces, IsOrder, key_of, place_at}
-use Rattle.derivations.proofs.NumbersIn.{at-found, found-at, set_of-map_from, set_of-mapped}
+use Rattle.derivations.specs.Ordered.{AreKeys, IsOrder, key_of, place_at}
+use Rattle.derivations.proofs.NumbersIn.{at-found, set_of-map_from, set_of-mapped}
 
 pub keys-none : (rounds : List ℕ) (marks : List Bool) → AreKeys rounds marks 0 []
 keys-none rounds marks = record { each = λ key h. absurd (false≢true h); all = λ fact h has. absurd (omega arith) }

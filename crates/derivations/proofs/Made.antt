@@ -1,6 +1,6 @@
 -- The steps that are made are the derivation.
-use Rattle.std.proofs.Common.{ℕ, zero, suc, ◌+◌, ◌≡◌, ◌<◌, ◌&&◌, Bool, true, false, List, [], ◌∷◌, length, slice_get, slice_index_or, map, Option, Some, None, All, AllPairs, ap, ◌∙◌, sym, refl, subst, arith, ⊎_elim}
-use Rattle.std.proofs.lemmas.Bool.{false≢true, and_from, and_parts}
+use Rattle.std.proofs.Common.{ℕ, ◌≡◌, ◌<◌, Bool, true, List, length, slice_get, slice_index_or, Option, Some, None, AllPairs, ap, ◌∙◌, sym, refl, subst, arith}
+use Rattle.std.proofs.lemmas.Bool.{false≢true, and_parts}
 use Rattle.std.proofs.lemmas.List.{get_or-map, length-map}
 use Rattle.std.proofs.lemmas.Option.{slice_get-get_or}
 use Rattle.fault_system.specs.Truth.{NumberSet, Has, set_of, occurs_event}
@@ -10,7 +10,7 @@ use Rattle.fault_system.proofs.Occurrences.{occurs_event-in_range, fact-in_range
 use Rattle.derivations.specs.declared.derivation.Firing.{Firing}
 use Rattle.derivations.specs.Derived.{IsDerivation, IsReached, comes_before, is_used_by, of_formula, uses_event, uses_fact}
 use Rattle.derivations.specs.Reaching.{AreReached}
-use Rattle.derivations.specs.Ordered.{AreMade, ArePlaces, HasSteps, IsMade, IsOrder, place_at}
+use Rattle.derivations.specs.Ordered.{HasSteps, IsMade, IsOrder, place_at}
 use Rattle.derivations.proofs.NumbersIn.{are-numbers, at-found, found-at}
 
 -- an event that occurs in the formula of a fact is one of the system

@@ -1,13 +1,12 @@
 -- The marking of what is reached, from the target alone to the end.
-use Rattle.std.proofs.Common.{ℕ, zero, suc, ◌≡◌, ◌≢◌, ◌<◌, ◌⊎◌, Bool, true, false, ◌&&◌, ◌||◌, not, List, [], ◌∷◌, ◌++◌, length, ⊎_elim, inl, inr, ap, ◌∙◌, sym, subst, refl, arith, append-nil, ◌==◌, nat_lt, leb-true, slice_get, Option, Some, None}
-use Rattle.std.proofs.lemmas.Bool.{false≢true, ne_eqb, or_cases, and_parts, and_from, cases_eq, cases_lt, or_left, or_right, eqb-true, cases_Bool}
+use Rattle.std.proofs.Common.{ℕ, zero, suc, ◌≡◌, ◌<◌, ◌⊎◌, Bool, true, false, ◌&&◌, ◌||◌, not, List, [], ◌∷◌, ◌++◌, length, ⊎_elim, ap, ◌∙◌, sym, subst, refl, arith, ◌==◌, nat_lt, leb-true}
+use Rattle.std.proofs.lemmas.Bool.{false≢true, ne_eqb, or_cases, and_parts, cases_eq, or_left, or_right, eqb-true}
 use Rattle.std.proofs.lemmas.List.Folds.{list_any-append}
-use Rattle.std.proofs.lemmas.List.{get_or_past}
 use Rattle.fault_system.specs.Truth.{NumberSet, Has, member, set_of}
 use Rattle.fault_system.specs.Systems.{System}
 use Rattle.fault_system.specs.Rounds.{time_of}
 use Rattle.fault_system.proofs.NumberSets.{member-in}
-use Rattle.derivations.specs.Derived.{IsReached, uses_fact, is_before_round}
+use Rattle.derivations.specs.Derived.{uses_fact}
 use Rattle.derivations.specs.Reaching.{Adds, AreReached, IsReaching}
 use Rattle.derivations.specs.declared.marking.Marking.{Marking}
 

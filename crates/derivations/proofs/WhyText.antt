@@ -1,11 +1,11 @@
 -- The text of the derivation by rounds is confirmed, and there is one such derivation.
-use Rattle.std.proofs.Common.{ℕ, zero, suc, ◌+◌, ◌≡◌, ◌<◌, ◌≤◌, ◌↔◌, ◌⊎◌, ◌==◌, ◌&&◌, ◌||◌, Bool, true, false, nat_lt, List, [], ◌∷◌, ◌++◌, length, length-append, slice_get, slice_index_or, map, Option, Some, None, All, AllPairs, ap, ◌∙◌, sym, refl, subst, arith, ⊎_elim, inl, inr, leb-true}
-use Rattle.fault_system.specs.Truth.{NumberSet, Has, set_of}
+use Rattle.std.proofs.Common.{ℕ, ◌+◌, ◌≡◌, ◌<◌, ◌≤◌, List, [], ◌∷◌, ◌++◌, length, length-append, refl, arith, leb-true}
+use Rattle.fault_system.specs.Truth.{NumberSet}
 use Rattle.fault_system.specs.Systems.{System, IsSystem, Holds}
-use Rattle.fault_system.specs.Rounds.{AreRounds, time_of}
+use Rattle.fault_system.specs.Rounds.{time_of}
 use Rattle.fault_system.proofs.RoundLaws.{ever-holds}
 use Rattle.derivations.specs.declared.derivation.Firing.{Firing}
-use Rattle.derivations.specs.Text.{HaveLines, IsConfirmed, event_names, fact_names, line_of, lines_of}
+use Rattle.derivations.specs.Text.{IsConfirmed, event_names, fact_names, line_of, lines_of}
 use Rattle.derivations.specs.Derived.{IsByRounds}
 use Rattle.derivations.proofs.ByRounds.{derivation-good, derivation-lines}
 

@@ -1,4 +1,4 @@
-use Rattle.std.proofs.Common.{List, ℕ, ◌≡◌, ◌+◌, ◌-◌, length, take, ap, ◌∙◌, sym, subst, arith, length-append, ◌∷◌, [], ◌++◌}
+use Rattle.std.proofs.Common.{List, ℕ, ◌≡◌, ◌+◌, ◌-◌, length, take, ap, ◌∙◌, subst, arith, length-append, ◌∷◌, [], ◌++◌}
 use Rattle.fault_system.proofs.TruthLaws.{count_true-le}
 use Rattle.derivations.specs.Reaching.{IsReaching}
 use Rattle.derivations.proofs.Reaching.{reaching-end}

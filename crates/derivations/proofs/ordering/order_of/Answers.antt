@@ -1,4 +1,4 @@
-use Rattle.std.proofs.Common.{List, ℕ, length, map, ap, ◌∙◌, sym, subst}
+use Rattle.std.proofs.Common.{length, map, ap, ◌∙◌, sym, subst}
 use Rattle.derivations.specs.Ordered.{IsOrder}
 use Rattle.derivations.proofs.Keys.{fact_in, keys-order, keys-same}
 use Rattle.derivations.proofs.ordering.order_of.Goals as goal

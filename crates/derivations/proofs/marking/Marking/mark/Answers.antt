@@ -1,4 +1,4 @@
-use Rattle.std.proofs.Common.{refl, rules}
+use Rattle.std.proofs.Common.{rules}
 use Rattle.derivations.proofs.Adding.{marked-fact}
 use Rattle.derivations.proofs.marking.Marking.mark.Goals as goal
 
