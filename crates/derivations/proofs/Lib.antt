@@ -10,3 +10,11 @@ pub mod Places
 pub mod Examples
 pub mod KeptOnce
 pub mod HasRound
+pub mod Adding
+pub mod Reaching
+pub mod NumbersIn
+pub mod Keys
+pub mod Made
+pub mod ByRounds
+pub mod Used
+pub mod WhyText

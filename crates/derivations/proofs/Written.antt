@@ -1,9 +1,10 @@
 -- What was written is the line of a step.
-use Rattle.std.proofs.Common.{ℕ, zero, suc, ◌+◌, ◌≡◌, List, [], ◌∷◌, ◌++◌, map, decimal, unwrap_or, slice_get, slice_index_or, append_assoc, ap, ◌∙◌, sym, refl}
+use Rattle.std.proofs.Common.{ℕ, zero, suc, ◌+◌, ◌≡◌, ◌<◌, List, length, drop, [], ◌∷◌, ◌++◌, map, decimal, unwrap_or, slice_get, slice_index_or, append_assoc, ap, ◌∙◌, sym, refl}
 use Rattle.std.specs.Option.{option_map}
 use Rattle.std.proofs.lemmas.Grind.{flat_map-append}
+use Rattle.std.proofs.lemmas.List.{drop_more}
 use Rattle.derivations.specs.declared.derivation.Firing.{Firing}
-use Rattle.derivations.specs.Text.{behind_blanks, line_of, name_at, use_text}
+use Rattle.derivations.specs.Text.{behind_blanks, line_of, lines_of, name_at, use_text}
 
 -- the name of a number, from the items and from the list of all names
 pub named-at : {X : Type 0} (named : X → List ℕ) (items : List X) (n : ℕ) → unwrap_or (option_map named (slice_get items n)) [] ≡ slice_index_or (map named items) n []
@@ -33,3 +34,12 @@ line-written facts names number step old a b c d e is_a is_b is_c is_d is_e =
     let d_old : d ≡ old ++ line_of facts names number step =
     d_more ∙ ap (λ w. w ++ more) (is_b ∙ ap (λ w. w ++ name) is_a) ∙ append_assoc (old ++ digits) name more ∙ append_assoc old digits (name ++ more) ∙ ap (λ w. old ++ (digits ++ w)) tail in
     is_e ∙ ap (λ w. w ++ 10 ∷ []) d_old ∙ append_assoc old (line_of facts names number step) (10 ∷ [])
+
+-- one line more: what was written and what is left are the whole
+pub lines-next : (facts names : List (List ℕ)) (steps : List Firing) (i : ℕ) (step : Firing) (old new whole : List ℕ) → i < length steps → step ≡ slice_index_or steps i step → new ≡ old ++ (line_of facts names i step ++ 10 ∷ []) → old ++ lines_of facts names i (drop i steps) ≡ whole → new ++ lines_of facts names (i + 1) (drop (i + 1) steps) ≡ whole
+lines-next facts names steps i step old new whole fits item is so_far =
+    let line = line_of facts names i step in
+    let rest = lines_of facts names (i + 1) (drop (i + 1) steps) in
+    let left : drop i steps ≡ step ∷ drop (i + 1) steps = drop_more steps i step fits ∙ ap (λ (s : Firing). s ∷ drop (i + 1) steps) (sym item) in
+    ap (λ (text : List ℕ). text ++ rest) is ∙ append_assoc old (line ++ 10 ∷ []) rest ∙ ap (λ (text : List ℕ). old ++ text) (append_assoc line (10 ∷ []) rest)
+    ∙ ap (λ (more : List Firing). old ++ lines_of facts names i more) (sym left) ∙ so_far

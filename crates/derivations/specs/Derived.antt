@@ -3,7 +3,7 @@ use Rattle.std.specs.Prelude.{ℕ, ◌≡◌, ◌↔◌, ◌==◌, ◌&&◌, ◌
 use Rattle.std.specs.List.{range_with_len}
 use Rattle.fault_system.specs.Truth.{NumberSet, Has, set_of, occurs, occurs_event}
 use Rattle.fault_system.specs.Systems.{System}
-use Rattle.fault_system.specs.Rounds.{time_of}
+use Rattle.fault_system.specs.Rounds.{AreRounds, time_of}
 use Rattle.fault_system.specs.declared.formula.FactInfo.{FactInfo}
 use Rattle.fault_system.specs.declared.formula.Formula.{Formula}
 use Rattle.derivations.specs.declared.derivation.Firing.{Firing}
@@ -53,3 +53,9 @@ pub record IsDerivation (system : System) (events : NumberSet) (rounds : List �
   pub ordered : AllPairs (λ f g. comes_before rounds f g ≡ true) (map (λ step. step.fact) steps)
   pub events_are : All (λ step. step.events ≡ numbers_in (length system.events) (uses_event system events step.fact)) steps
   pub uses_are : All (λ step. step.uses ≡ numbers_in (length steps) (λ number. is_used_by system rounds step.fact (slice_get steps number))) steps
+
+-- the derivation of a target by the rounds in which the facts come to hold under a set of events
+pub record IsByRounds (system : System) (events : NumberSet) (target : ℕ) (steps : List Firing) : Type 0 where
+  pub rounds : List ℕ
+  pub are_rounds : AreRounds system events rounds
+  pub derivation : IsDerivation system events rounds target steps

@@ -4,3 +4,5 @@ pub mod Text
 pub mod Reading
 pub mod Derived
 pub mod Gathered
+pub mod Reaching
+pub mod Ordered

@@ -1,10 +1,11 @@
 -- The text of a derivation: a line for each step.
-use Rattle.std.specs.Prelude.{ℕ, ◌+◌, ◌<◌, ◌≡◌, ◌==◌, ◌&&◌, not, Bool, true, false, List, [], ◌∷◌, ◌++◌, length, map, decimal, slice_index_or}
+use Rattle.std.specs.Prelude.{ℕ, ◌+◌, ◌<◌, ◌≤◌, ◌≡◌, ◌==◌, ◌&&◌, not, Bool, true, false, List, [], ◌∷◌, ◌++◌, length, map, decimal, slice_index_or}
 use Rattle.std.specs.List.{flat_map, list_all}
 use Rattle.plain_values.specs.Rising.{RisesWithin}
 use Rattle.fault_system.specs.Truth.{NumberSet}
 use Rattle.fault_system.specs.Systems.{System}
 use Rattle.derivations.specs.declared.derivation.Firing.{Firing}
+use Rattle.derivations.specs.Steps.{IsGood}
 
 -- the names of the facts of a system, in their order
 abbrev pub fact_names : System → List (List ℕ)
@@ -84,3 +85,9 @@ pub record IsBadAt (facts names : List (List ℕ)) (events : NumberSet) (bytes :
   pub some : 0 < length rest
   pub bad : (step : Firing) (more : List ℕ) → HasLine facts names events (length steps) step
       → rest ≡ line_of facts names (length steps) step ++ (10 ∷ more) → ⊥
+
+-- a text is that of a good derivation of a target, whose steps are no more than its bytes
+pub record IsConfirmed (system : System) (target : ℕ) (events : NumberSet) (bytes : List ℕ) (steps : List Firing) : Type 0 where
+  pub text : IsTextOf (fact_names system) (event_names system) events bytes steps
+  pub good : IsGood system target events steps
+  pub few : length steps ≤ length bytes

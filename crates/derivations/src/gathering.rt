@@ -10,8 +10,8 @@ ghost use Rattle.derivations.specs.Gathered.{HasMore};
 use fault_system::{Bits, Formula};
 use plain_values::Mem;
 
-// The round of a fact; 0 where it has none.
-fn round_of(rounds: &[u32], fact: u32) -> u32
+/// The round of a fact; 0 where it has none.
+pub(crate) fn round_of(rounds: &[u32], fact: u32) -> u32
     ensures { result ≡ time_of rounds.now fact }
 {
     rounds.get(fact as usize).copied().unwrap_or(0)

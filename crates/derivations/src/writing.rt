@@ -1,8 +1,9 @@
 //! Writing the lines of a derivation.
-ghost use Rattle.std.specs.Prelude.{◌≡◌, ◌+◌, ◌++◌, ◌∷◌, [], OnOk, decimal, map};
-ghost use Rattle.derivations.specs.Text.{behind_blanks, event_names, fact_names, line_of, name_at, use_text};
+ghost use Rattle.std.specs.Prelude.{◌≡◌, ◌+◌, ◌++◌, ◌∷◌, ◌<◌, ◌^◌, [], OnOk, decimal, length, map};
+ghost use Rattle.fault_system.specs.Truth.{NumberSet};
+ghost use Rattle.derivations.specs.Text.{HaveLines, IsTextOf, behind_blanks, event_names, fact_names, line_of, lines_of, name_at, use_text};
 
-use crate::derivation::Firing;
+use crate::derivation::{Derivation, Firing};
 use fault_system::FaultSystem;
 use itoa::Buffer;
 use plain_values::Mem;
@@ -19,6 +20,32 @@ pub fn write_step(system: &FaultSystem, number: u32, step: &Firing, to: &mut Vec
     write_events(system, step.events.items(), to)?;
     write_uses(step.uses.items(), to)?;
     to.push(b'\n')?;
+    Ok(())
+}
+
+/// Adds the lines of the steps of a derivation, in their order.
+///
+/// Where each step has a line, this is a text that `read_steps` reads as the same steps.
+pub fn write_derivation(system: &FaultSystem, derivation: &Derivation, to: &mut Vec<u8>) -> Mem<()>
+    ensures written { OnOk result (to.new.items ≡ to.old.items
+        ++ lines_of (fact_names system.now) (event_names system.now) 0 derivation.now.steps) }
+    ensures text { (events : NumberSet) → to.old.items ≡ []
+        → HaveLines (fact_names system.now) (event_names system.now) events 0 derivation.now.steps
+        → OnOk result (IsTextOf (fact_names system.now) (event_names system.now) events
+        to.new.items derivation.now.steps) }
+{
+    Ok(write_steps(system, derivation.steps.items(), to)?)
+}
+
+// Adds the lines of steps, numbered by their places.
+fn write_steps(system: &FaultSystem, steps: &[Firing], to: &mut Vec<u8>) -> Mem<()>
+    requires { length steps.now < 2 ^ 32 }
+    ensures { OnOk result (to.new.items ≡ to.old.items
+        ++ lines_of (fact_names system.now) (event_names system.now) 0 steps.now) }
+{
+    for (number, step) in steps.iter().enumerate() {
+        write_step(system, number as u32, step, to)?;
+    }
     Ok(())
 }
 
