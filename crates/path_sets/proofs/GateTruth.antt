@@ -20,7 +20,7 @@ use Rattle.round_gates.proofs.GateFormulas.{kind-occurs, kind-range, kind-truth}
 use Rattle.galileo_writer.specs.TreeText.{gate_name}
 use Rattle.path_sets.specs.Duals.{IsWithoutFeedback}
 use Rattle.path_sets.specs.PathSets.{IsPathSet, IsMinimalPathSet}
-use Rattle.path_sets.specs.GateSystems.{gate_fact, gate_system_of}
+use Rattle.path_sets.specs.GateSystems.{GateHolds, gate_fact, gate_system_of}
 use Rattle.path_sets.proofs.PathLaws.{paths-carry}
 
 -- the gate of which the fact of a number was made
@@ -72,8 +72,8 @@ module _ (system : System) (tree : Tree) (es set : NumberSet) where
       (λ past. absurd (false≢true (sym (member-past says (gate_system_of system tree).facts n (slice_get-map (gate_fact system) tree.gates n ∙ ap (option_map (gate_fact system)) past.1)) ∙ e)))
       (slice_get_cases tree.gates n).1
 
-pub gates-hold : (system : System) (tree : Tree) (es : NumberSet) → Holds (gate_system_of system tree) es tree.top ↔ TreeHolds tree es
-gates-hold system tree es = (
+pub gates-hold : (system : System) (tree : Tree) (es : NumberSet) (n : ℕ) → Holds (gate_system_of system tree) es n ↔ GateHolds tree es n
+gates-hold system tree es n = (
   (λ holds set closed. holds set (to-system system tree es set closed)),
   (λ holds set closed. holds set (to-tree system tree es set closed)),
 )
@@ -99,10 +99,10 @@ module _ (system : System) (tree : Tree) where
 
 module _ (system : System) (tree : Tree) (target : ℕ) (tells : (es : NumberSet) → TreeHolds tree es ↔ Holds system es target) where
   cut-to : (cut : List ℕ) → IsCutSet system target cut → IsCutSet (gate_system_of system tree) tree.top cut
-  cut-to cut (rises, holds) = (rises, (gates-hold system tree _).1 ((tells _).1 holds))
+  cut-to cut (rises, holds) = (rises, (gates-hold system tree _ tree.top).1 ((tells _).1 holds))
 
   cut-from : (cut : List ℕ) → IsCutSet (gate_system_of system tree) tree.top cut → IsCutSet system target cut
-  cut-from cut (rises, holds) = (rises, (tells _).0 ((gates-hold system tree _).0 holds))
+  cut-from cut (rises, holds) = (rises, (tells _).0 ((gates-hold system tree _ tree.top).0 holds))
 
   path-to : (set : List ℕ) → IsPathSet (gate_system_of system tree) tree.top set → IsPathSet system target set
   path-to = paths-carry (gate_system_of system tree) system tree.top target (λ set e. e) cut-to

@@ -5,3 +5,4 @@ pub mod PathLaws
 pub mod GateTruth
 pub mod Listings
 mod Made
+pub mod Examples
