@@ -6,3 +6,4 @@ pub mod Marks
 pub mod Counts
 pub mod Sizes
 pub mod UseLaws
+pub mod Sequence

@@ -6,3 +6,4 @@ pub mod Counts
 pub mod Orders
 pub mod Uses
 pub mod Failing
+pub mod Texts

@@ -1,17 +1,25 @@
-//! Reports on a listing of minimal cut sets: the feeding of the reports that a caller hands in, and the tool's own ones.
+//! Reports on a listing of minimal cut sets: the feeding and the texts of the reports that a caller hands in, and the tool's own
+//! ones.
 #![tactic(auto)]
 
+mod beginning;
 mod counting;
 mod failing;
 mod feeding;
+mod finishing;
 mod giving;
 mod orders;
 mod singles;
+mod stop;
 mod uses;
+mod whole;
 
 pub use failing::FailingReport;
 pub use feeding::feed;
+pub use finishing::name_of;
 pub use giving::FeedFault;
 pub use orders::OrderProfile;
 pub use singles::SinglePoints;
+pub use stop::ReportStop;
 pub use uses::EventUse;
+pub use whole::report_text;

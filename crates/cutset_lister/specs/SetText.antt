@@ -1,6 +1,6 @@
 -- The texts of sets of events, which are page tokens.
-use Rattle.std.specs.Prelude.{ℕ, ◌≡◌, ◌≢◌, List, [], ◌∷◌, map, codes, All, Contains}
-use Rattle.std.specs.List.{join_with_byte}
+use Rattle.std.specs.Prelude.{ℕ, ◌≡◌, ◌≢◌, List, [], ◌∷◌, ◌++◌, map, codes, All, Contains}
+use Rattle.std.specs.List.{flat_map, join_with_byte}
 use Rattle.plain_values.specs.declared.refusal.Stop.{Stop}
 use Rattle.plain_values.specs.declared.refusal.Stop.TheVariants.{Refused, Memory}
 use Rattle.plain_values.specs.declared.refusal.Code.TheVariants.{BadToken}
@@ -12,6 +12,15 @@ use Rattle.fault_system.specs.CutSets.{IsEventSet}
 abbrev pub set_text : System → List ℕ → List ℕ
 set_text system [] = codes "none"
 set_text system (event ∷ events) = join_with_byte 43 (map (event_name system) (event ∷ events))
+
+-- the name of an event between quotes, behind a blank
+abbrev pub quoted_name : System → ℕ → List ℕ
+quoted_name system event = 32 ∷ 34 ∷ event_name system event ++ (34 ∷ [])
+
+-- a set's text in quotes: the names of its events in order, each between quotes and behind a blank, or ` none` for the empty set
+abbrev pub quoted_text : System → List ℕ → List ℕ
+quoted_text system [] = codes " none"
+quoted_text system (event ∷ events) = flat_map (quoted_name system) (event ∷ events)
 
 -- a name that no text of a set can mean in another way: it is not `none`, and it holds no `+`
 abbrev pub IsTokenName : List ℕ → Type 0

@@ -9,5 +9,5 @@ mod tokens;
 mod walk;
 
 pub use laws::{one_set, stays_started};
-pub use tokens::{read_token, write_token};
+pub use tokens::{read_token, write_quoted, write_token};
 pub use walk::Listing;

@@ -1,9 +1,10 @@
 //! Page tokens: the texts of sets of events.
 
-ghost use Rattle.std.specs.Prelude.{◌≡◌, ◌+◌, ◌<◌, ◌≤◌, ◌∷◌, ◌++◌, ℕ, List as Items, length, IfOk, IfErr, IsOk, OnOk, OnErr, MatchBool, MatchResult, vec_len, vec_capacity};
+ghost use Rattle.std.specs.List.{flat_map};
+ghost use Rattle.std.specs.Prelude.{◌≡◌, ◌+◌, ◌<◌, ◌≤◌, ◌∷◌, ◌++◌, [], ℕ, List as Items, length, IfOk, IfErr, IsOk, OnOk, OnErr, MatchBool, MatchResult, vec_len, vec_capacity};
 ghost use Rattle.plain_values.specs.declared.refusal.Stop.TheVariants.{Memory};
 ghost use Rattle.fault_system.specs.Systems.{event_name};
-ghost use Rattle.cutset_lister.specs.SetText.{HasTokenNames, IsBadToken, IsSetOfText, set_text};
+ghost use Rattle.cutset_lister.specs.SetText.{HasTokenNames, IsBadToken, IsSetOfText, quoted_name, quoted_text, set_text};
 ghost use Rattle.cutset_lister.specs.Scanning.{AddsText, IsNext, LacksRoom, Scanned, names_text};
 
 use fault_system::FaultSystem;
@@ -132,6 +133,62 @@ fn push_name(system: &FaultSystem, event: u32, to: &mut Vec<u8>) -> Mem<()>
         (λ _. LacksRoom (43 ∷ event_name system.now event) to.old.items to.new.items (vec_capacity to.old) (vec_capacity to.new)) }
 {
     push_bytes(b"+", to)?;
+    push_bytes(system.event_name(event), to)
+}
+
+/// Adds the text of a set in quotes: the names of its events in order, each between quotes and behind a blank, or ` none` for the
+/// empty set.
+///
+/// It takes no memory where there is room, and where memory is refused the bytes stay as they were.
+pub fn write_quoted(system: &FaultSystem, set: &[u32], to: &mut Vec<u8>) -> Mem<()>
+    ensures text { OnOk result (to.new.items ≡ to.old.items ++ quoted_text system.now set.now) }
+    ensures unchanged { OnErr result (to.new.items ≡ to.old.items) }
+    ensures room { vec_len to.old + length (quoted_text system.now set.now) ≤ vec_capacity to.old → IsOk result }
+    ensures capacity { vec_capacity to.old ≤ vec_capacity to.new }
+{
+    let before = to.len();
+    match push_quoted_text(system, set, to) {
+        Ok(()) => Ok(()),
+        Err(error) => {
+            to.truncate(before);
+            Err(error)
+        }
+    }
+}
+
+fn push_quoted_text(system: &FaultSystem, set: &[u32], to: &mut Vec<u8>) -> Mem<()>
+    ensures { MatchResult result (λ _. AddsText (quoted_text system.now set.now) to.old.items to.new.items (vec_capacity to.old) (vec_capacity to.new))
+        (λ _. LacksRoom (quoted_text system.now set.now) to.old.items to.new.items (vec_capacity to.old) (vec_capacity to.new)) }
+{
+    match set {
+        [] => push_bytes(b" none", to),
+        [_, ..] => push_quoted_names(system, set, to),
+    }
+}
+
+fn push_quoted_names(system: &FaultSystem, events: &[u32], to: &mut Vec<u8>) -> Mem<()>
+    ensures { MatchResult result (λ _. AddsText (flat_map (quoted_name system.now) events.now) to.old.items to.new.items (vec_capacity to.old) (vec_capacity to.new))
+        (λ _. LacksRoom (flat_map (quoted_name system.now) events.now) to.old.items to.new.items (vec_capacity to.old) (vec_capacity to.new)) }
+{
+    for event in events {
+        push_quoted_name(system, *event, to)?;
+    }
+    Ok(())
+}
+
+fn push_quoted_name(system: &FaultSystem, event: u32, to: &mut Vec<u8>) -> Mem<()>
+    ensures { MatchResult result (λ _. AddsText (quoted_name system.now event) to.old.items to.new.items (vec_capacity to.old) (vec_capacity to.new))
+        (λ _. LacksRoom (quoted_name system.now event) to.old.items to.new.items (vec_capacity to.old) (vec_capacity to.new)) }
+{
+    push_opened_name(system, event, to)?;
+    push_bytes(b"\"", to)
+}
+
+fn push_opened_name(system: &FaultSystem, event: u32, to: &mut Vec<u8>) -> Mem<()>
+    ensures { MatchResult result (λ _. AddsText (32 ∷ 34 ∷ event_name system.now event) to.old.items to.new.items (vec_capacity to.old) (vec_capacity to.new))
+        (λ _. LacksRoom (32 ∷ 34 ∷ event_name system.now event) to.old.items to.new.items (vec_capacity to.old) (vec_capacity to.new)) }
+{
+    push_bytes(b" \"", to)?;
     push_bytes(system.event_name(event), to)
 }
 

@@ -6,6 +6,7 @@ use Rattle.fault_system.specs.Listings.{IsInListingOrder}
 use Rattle.zdd_store.specs.Store.{Families}
 use Rattle.cutset_lister.specs.Walks.{IsStarted, all_sets, sets_left}
 use Rattle.cutset_writer.specs.Text.{set_line}
+use Rattle.cutset_writer.specs.declared.form.SetForm.{SetForm}
 use Rattle.cutset_writer.specs.declared.page.PageWriter.{PageWriter}
 
 -- whether a limit lets a further set stand on a page
@@ -24,18 +25,18 @@ goes_on limit [] = false
 goes_on limit (set ∷ sets) = has_room limit
 
 -- what is written next: the line of a set, or the last line
-abbrev pub next_line : System → Option ℕ → List (List ℕ) → List ℕ
-next_line system limit [] = codes "end\n"
-next_line system limit (set ∷ sets) = if has_room limit then set_line system set else codes "more\n"
+abbrev pub next_line : SetForm → System → Option ℕ → List (List ℕ) → List ℕ
+next_line form system limit [] = codes "end\n"
+next_line form system limit (set ∷ sets) = if has_room limit then set_line form system set else codes "more\n"
 
 -- the sets behind the first
 abbrev pub later : List (List ℕ) → List (List ℕ)
 later [] = []
 later (set ∷ sets) = sets
 
--- a buffer has room for the line of each set
+-- a buffer has room for the line of each set, in any form
 abbrev pub HasRoom : System → ℕ → List (List ℕ) → Type 0
-HasRoom system room sets = AllByRecursion (λ set. length (set_line system set) ≤ room) sets
+HasRoom system room sets = AllByRecursion (λ set. (form : SetForm) → length (set_line form system set) ≤ room) sets
 
 -- A page can be written without memory: its listing is at its beginning, and each line has room.
 pub record IsReady (system : System) (store : Families) (writer : PageWriter) : Type 0 where

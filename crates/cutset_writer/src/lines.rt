@@ -1,9 +1,11 @@
 ghost use Rattle.std.specs.Prelude.{◌≡◌, ◌+◌, ◌≤◌, ◌++◌, ◌∷◌, [], IfSome, length, decimal, map, sum, vec_capacity, vec_len};
 ghost use Rattle.fault_system.specs.Systems.{event_name};
-ghost use Rattle.cutset_writer.specs.Text.{set_line};
+ghost use Rattle.cutset_lister.specs.SetText.{set_text};
+ghost use Rattle.cutset_writer.specs.Text.{form_text, set_line};
 ghost use Rattle.cutset_writer.specs.Lengths.{most_line};
 
-use cutset_lister::write_token;
+use crate::form::SetForm;
+use cutset_lister::{write_quoted, write_token};
 use fault_system::FaultSystem;
 use itoa::Buffer;
 
@@ -14,7 +16,7 @@ pub(crate) fn longest_line(system: &FaultSystem) -> Option<usize>
     let mut most: usize = 64;
     for number in 0..system.events() {
         most = most.checked_add(name_length(system, number))?;
-        most = most.checked_add(1)?;
+        most = most.checked_add(3)?;
     }
     Some(most)
 }
@@ -29,25 +31,46 @@ fn name_length(system: &FaultSystem, number: u32) -> usize
 }
 
 /// Puts the line of a set into a buffer that has room for it.
-pub(crate) fn put_line(system: &FaultSystem, set: &[u32], line: &mut Vec<u8>)
-    requires { length (set_line system.now set.now) ≤ vec_capacity line.old }
-    ensures text { line.new.items ≡ set_line system.now set.now }
+pub(crate) fn put_line(form: SetForm, system: &FaultSystem, set: &[u32], line: &mut Vec<u8>)
+    requires { length (set_line form system.now set.now) ≤ vec_capacity line.old }
+    ensures text { line.new.items ≡ set_line form system.now set.now }
     ensures room { vec_capacity line.old ≤ vec_capacity line.new }
 {
     line.clear();
     put_size(set.len(), line);
-    write_token(system, set, line).unwrap();
+    put_set(form, system, set, line);
     line.push(b'\n').unwrap();
 }
 
-/// Adds a number and a blank to a buffer that has room for them.
+/// Adds a number to a buffer that has room for it.
 fn put_size(size: usize, line: &mut Vec<u8>)
-    requires { vec_len line.old + (length (decimal size) + 1) ≤ vec_capacity line.old }
-    ensures text { line.new.items ≡ line.old.items ++ (decimal size ++ 32 ∷ []) }
+    requires { vec_len line.old + length (decimal size) ≤ vec_capacity line.old }
+    ensures text { line.new.items ≡ line.old.items ++ decimal size }
     ensures room { vec_capacity line.old ≤ vec_capacity line.new }
 {
     let mut digits = Buffer::new();
     line.extend_from_slice(digits.format(size).as_bytes())
         .unwrap();
+}
+
+/// Adds a set to a buffer that has room for it.
+fn put_set(form: SetForm, system: &FaultSystem, set: &[u32], line: &mut Vec<u8>)
+    requires { vec_len line.old + length (form_text form system.now set.now) ≤ vec_capacity line.old }
+    ensures text { line.new.items ≡ line.old.items ++ form_text form system.now set.now }
+    ensures room { vec_capacity line.old ≤ vec_capacity line.new }
+{
+    match form {
+        SetForm::Token => put_token(system, set, line),
+        SetForm::Quoted => write_quoted(system, set, line).unwrap(),
+    }
+}
+
+/// Adds a blank and the text of a set to a buffer that has room for them.
+fn put_token(system: &FaultSystem, set: &[u32], line: &mut Vec<u8>)
+    requires { vec_len line.old + (1 + length (set_text system.now set.now)) ≤ vec_capacity line.old }
+    ensures text { line.new.items ≡ line.old.items ++ (32 ∷ set_text system.now set.now) }
+    ensures room { vec_capacity line.old ≤ vec_capacity line.new }
+{
     line.push(b' ').unwrap();
+    write_token(system, set, line).unwrap();
 }

@@ -7,6 +7,7 @@ ghost use Rattle.cutset_writer.specs.Pages.{HasRoom, IsReady, Lists, goes_on, ha
 ghost use Rattle.cutset_writer.specs.Text.{listing_page, page_text};
 ghost use Rattle.cutset_writer.specs.Written.{Writes};
 
+use crate::form::SetForm;
 use crate::lines::{longest_line, put_line};
 use cutset_lister::Listing;
 use fault_system::FaultSystem;
@@ -55,17 +56,19 @@ impl PageWriter {
         mut self,
         system: &FaultSystem,
         store: &Store,
+        form: SetForm,
         after: Option<&[u32]>,
         limit: Option<u32>,
         sink: &mut S,
     ) -> Result<(), SinkFailed>
         requires { IsReady system.now store.now self }
-        ensures { Writes result (listing_page system.now (option_map (λ set. set.now) after.entry) limit (all_sets store.now self.listing)) (S.taken sink.old) (S.taken sink.new) (S.faults sink.old) (S.faults sink.new) }
+        ensures { Writes result (listing_page form system.now (option_map (λ set. set.now) after.entry) limit (all_sets store.now self.listing)) (S.taken sink.old) (S.taken sink.new) (S.faults sink.old) (S.faults sink.new) }
     {
         write_on_ledger::<S, Brand>(
             &mut self.listing,
             system,
             store,
+            form,
             after,
             limit,
             &mut self.line,
@@ -80,6 +83,7 @@ fn write_on_ledger<S: Sink, L: Ledger>(
     listing: &mut Listing,
     system: &FaultSystem,
     store: &Store,
+    form: SetForm,
     after: Option<&[u32]>,
     limit: Option<u32>,
     line: &mut Vec<u8>,
@@ -92,13 +96,13 @@ fn write_on_ledger<S: Sink, L: Ledger>(
     requires started { IsStarted store.now listing.old }
     requires left { sets_left store.now listing.old ≡ all_sets store.now listing.old }
     requires room { HasRoom system.now (vec_capacity line.old) (all_sets store.now listing.old) }
-    ensures { Writes result (listing_page system.now (option_map (λ set. set.now) after.entry) limit (all_sets store.now listing.old)) (S.taken sink.old) (S.taken sink.new) (S.faults sink.old) (S.faults sink.new) }
+    ensures { Writes result (listing_page form system.now (option_map (λ set. set.now) after.entry) limit (all_sets store.now listing.old)) (S.taken sink.old) (S.taken sink.new) (S.faults sink.old) (S.faults sink.new) }
 {
     let mut steps = Steps::<L>::new(blank);
     if let Some(set) = after {
         listing.seek(store, set, &mut steps);
     }
-    write_sets(listing, system, store, limit, line, sink, &mut steps)
+    write_sets(listing, system, store, form, limit, line, sink, &mut steps)
 }
 
 /// Writes the sets that are left, as many as the limit lets, and the last line.
@@ -106,6 +110,7 @@ fn write_sets<S: Sink, L: Ledger>(
     listing: &mut Listing,
     system: &FaultSystem,
     store: &Store,
+    form: SetForm,
     limit: Option<u32>,
     line: &mut Vec<u8>,
     sink: &mut S,
@@ -113,10 +118,10 @@ fn write_sets<S: Sink, L: Ledger>(
 ) -> Result<(), SinkFailed>
     requires started { IsStarted store.now listing.old }
     requires room { HasRoom system.now (vec_capacity line.old) (sets_left store.now listing.old) }
-    ensures { Writes result (page_text system.now limit (sets_left store.now listing.old)) (S.taken sink.old) (S.taken sink.new) (S.faults sink.old) (S.faults sink.new) }
+    ensures { Writes result (page_text form system.now limit (sets_left store.now listing.old)) (S.taken sink.old) (S.taken sink.new) (S.faults sink.old) (S.faults sink.new) }
 {
     let mut room = limit;
-    while write_next(listing, system, store, room, line, sink, steps)? {
+    while write_next(listing, system, store, form, room, line, sink, steps)? {
         room = one_less(room);
     }
     Ok(())
@@ -145,6 +150,7 @@ fn write_next<S: Sink, L: Ledger>(
     listing: &mut Listing,
     system: &FaultSystem,
     store: &Store,
+    form: SetForm,
     limit: Option<u32>,
     line: &mut Vec<u8>,
     sink: &mut S,
@@ -152,7 +158,7 @@ fn write_next<S: Sink, L: Ledger>(
 ) -> Result<bool, SinkFailed>
     requires started { IsStarted store.now listing.old }
     requires room { HasRoom system.now (vec_capacity line.old) (sets_left store.now listing.old) }
-    ensures wrote { Writes result (next_line system.now limit (sets_left store.now listing.old)) (S.taken sink.old) (S.taken sink.new) (S.faults sink.old) (S.faults sink.new) }
+    ensures wrote { Writes result (next_line form system.now limit (sets_left store.now listing.old)) (S.taken sink.old) (S.taken sink.new) (S.faults sink.old) (S.faults sink.new) }
     ensures goes { IfOk result (λ on. on ≡ goes_on limit (sets_left store.now listing.old)) }
     ensures same { IsSameListing store.now listing.old listing.new }
     ensures left { sets_left store.now listing.new ≡ later (sets_left store.now listing.old) }
@@ -166,7 +172,7 @@ fn write_next<S: Sink, L: Ledger>(
         write_all(sink, b"more\n")?;
         return Ok(false);
     }
-    put_line(system, set, line);
+    put_line(form, system, set, line);
     write_all(sink, line.as_slice())?;
     Ok(true)
 }

@@ -1,8 +1,10 @@
 -- The options of one command are among those of all, and their words are text.
-use Rattle.std.proofs.Common.{◌≡◌, ◌<◌, ℕ, zero, suc, true, nat_lt, slice_index, arith, List, [], ◌∷◌, ◌++◌, codes, refl, sym, ap, subst, ◌∙◌}
+use Rattle.std.proofs.Common.{◌≡◌, ◌<◌, ℕ, zero, suc, true, nat_lt, slice_index, arith, List, [], ◌∷◌, ◌++◌, codes, refl, sym, ap, subst, ◌∙◌, false, inl, inr}
 use Rattle.std.specs.Prelude.{Contains, IsUtf8}
 use Rattle.std.specs.List.{AllByRecursion, list_all}
+use Rattle.std.proofs.lemmas.Bool.{false≢true, or_cases}
 use Rattle.std.proofs.lemmas.Bool.Decides.{nat_tests}
+use Rattle.plain_values.specs.Name.{is_same_text}
 use Rattle.std.proofs.lemmas.Str.{IsUtf8-append, IsUtf8-from_ascii}
 use Rattle.clap.proofs.WalkLemmas.{both}
 use Rattle.fta_words.specs.declared.kind.Kind.{Kind}
@@ -11,47 +13,52 @@ use Rattle.fta_words.specs.Words.{Alone, Apart, Attached, Given, IsAllowed, IsPl
 use Rattle.fta_words.specs.Parsed.{all_flags, all_valued}
 use Rattle.fta_words.specs.Reading.{HaveOptions, Say, Values, flags_of, valued_of, values_of}
 use Rattle.fta_words.proofs.Places.{each_of, first_of, later_of}
-use Rattle.fta_words.proofs.Spelled.{Allowed, all_apart, one_given}
+use Rattle.fta_words.proofs.Spelled.{Allowed, all_apart, among, one_given, text-is}
 
 -- ---- the names of all options
 
-pub flag_all : Contains all_flags (codes "all")
-flag_all = first_of (codes "all") (codes "text" ∷ [])
+-- a name that a test finds is among others
+has_name : (names : List (List ℕ)) (name : List ℕ) → among names name ≡ true → Contains names name
+has_name [] name is = absurd (false≢true is)
+has_name (first ∷ names) name is = elim (or_cases (is_same_text first name) (among names name) is) [
+  | inl same ↦ subst (Contains (first ∷ names)) (text-is first name same) (first_of first names)
+  | inr there ↦ later_of first name names (has_name names name there)
+]
 
-pub flag_text : Contains all_flags (codes "text")
-flag_text = later_of (codes "all") (codes "text") (codes "text" ∷ []) (first_of (codes "text") [])
+-- a name of an option of all commands
+pub a_flag : (name : List ℕ) → among all_flags name ≡ true → Contains all_flags name
+a_flag name is = has_name all_flags name is
 
-pub valued_limit : Contains all_valued (codes "limit")
-valued_limit = first_of (codes "limit") (codes "after" ∷ codes "max-order" ∷ codes "reports" ∷ [])
+pub a_valued : (name : List ℕ) → among all_valued name ≡ true → Contains all_valued name
+a_valued name is = has_name all_valued name is
 
-pub valued_after : Contains all_valued (codes "after")
-valued_after = later_of (codes "limit") (codes "after") (codes "after" ∷ codes "max-order" ∷ codes "reports" ∷ []) (first_of (codes "after") (codes "max-order" ∷ codes "reports" ∷ []))
-
-pub valued_max_order : Contains all_valued (codes "max-order")
-valued_max_order =
-    later_of (codes "limit") (codes "max-order") (codes "after" ∷ codes "max-order" ∷ codes "reports" ∷ [])
-    (later_of (codes "after") (codes "max-order") (codes "max-order" ∷ codes "reports" ∷ []) (first_of (codes "max-order") (codes "reports" ∷ [])))
-
-pub valued_reports : Contains all_valued (codes "reports")
-valued_reports =
-    later_of (codes "limit") (codes "reports") (codes "after" ∷ codes "max-order" ∷ codes "reports" ∷ [])
-    (later_of (codes "after") (codes "reports") (codes "max-order" ∷ codes "reports" ∷ []) (later_of (codes "max-order") (codes "reports") (codes "reports" ∷ []) (first_of (codes "reports") [])))
+all_of : (names wanted : List (List ℕ)) → AllByRecursion (λ name. among names name ≡ true) wanted → AllByRecursion (Contains names) wanted
+all_of names [] all = tt
+all_of names (name ∷ wanted) all = (has_name names name all.0, all_of names wanted all.1)
 
 flag_of_all : (k : Kind) → AllByRecursion (Contains all_flags) (flags_of k)
 flag_of_all kind.Check = tt
 flag_of_all kind.Cuts = tt
 flag_of_all kind.Tree = tt
-flag_of_all kind.Fmea = (flag_all, tt)
+flag_of_all kind.Fmea = all_of all_flags (flags_of kind.Fmea) (refl, tt)
 flag_of_all kind.Report = tt
-flag_of_all kind.Make = (flag_text, tt)
+flag_of_all kind.Make = all_of all_flags (flags_of kind.Make) (refl, tt)
+flag_of_all kind.Galileo = all_of all_flags (flags_of kind.Galileo) (refl, tt)
+flag_of_all kind.Paths = tt
+flag_of_all kind.Why = tt
+flag_of_all kind.Confirm = tt
 
 valued_of_all : (k : Kind) → AllByRecursion (Contains all_valued) (valued_of k)
 valued_of_all kind.Check = tt
-valued_of_all kind.Cuts = (valued_limit, (valued_after, (valued_max_order, tt)))
+valued_of_all kind.Cuts = all_of all_valued (valued_of kind.Cuts) (refl, (refl, (refl, tt)))
 valued_of_all kind.Tree = tt
 valued_of_all kind.Fmea = tt
-valued_of_all kind.Report = (valued_reports, (valued_max_order, tt))
+valued_of_all kind.Report = all_of all_valued (valued_of kind.Report) (refl, (refl, tt))
 valued_of_all kind.Make = tt
+valued_of_all kind.Galileo = all_of all_valued (valued_of kind.Galileo) (refl, (refl, tt))
+valued_of_all kind.Paths = all_of all_valued (valued_of kind.Paths) (refl, (refl, (refl, tt)))
+valued_of_all kind.Why = all_of all_valued (valued_of kind.Why) (refl, tt)
+valued_of_all kind.Confirm = all_of all_valued (valued_of kind.Confirm) (refl, tt)
 
 allowed_one : (k : Kind) (name : List ℕ) (spelling : Spelling) → IsAllowed (flags_of k) (valued_of k) name spelling → IsAllowed all_flags all_valued name spelling
 allowed_one k name Alone is = each_of (Contains all_flags) (flags_of k) name (flag_of_all k) is
@@ -99,11 +106,11 @@ name_text names all name has = each_of IsName names name all has
 
 flags_text : AllByRecursion IsName all_flags
 unfolding IsName
-flags_text = (ascii_text (codes "--all") refl, (ascii_text (codes "--text") refl, tt))
+flags_text = (ascii_text (codes "--all") refl, (ascii_text (codes "--text") refl, (ascii_text (codes "--paths") refl, tt)))
 
 valued_text : AllByRecursion IsName all_valued
 unfolding IsName
-valued_text = (ascii_text (codes "--limit") refl, (ascii_text (codes "--after") refl, (ascii_text (codes "--max-order") refl, (ascii_text (codes "--reports") refl, tt))))
+valued_text = (ascii_text (codes "--limit") refl, (ascii_text (codes "--after") refl, (ascii_text (codes "--max-order") refl, (ascii_text (codes "--reports") refl, (ascii_text (codes "--set") refl, tt)))))
 
 words_text : (name : List ℕ) (spelling : Spelling) → IsAllowed all_flags all_valued name spelling → (rest : List (List ℕ)) → AllByRecursion IsUtf8 rest → AllByRecursion IsUtf8 (spelled name spelling ++ rest)
 unfolding IsName

@@ -1,7 +1,6 @@
 -- Commands: the reading of their words, and that words are one command at most.
 use Rattle.std.proofs.Common.{◌≡◌, ℕ, Bool, true, false, if◌then◌else◌, List, [], ◌∷◌, ◌++◌, length, drop, ◌==◌, Option, Some, None, codes, refl, sym, ap, subst, ◌∙◌}
 use Rattle.std.specs.List.{AllByRecursion}
-use Rattle.std.proofs.lemmas.Bool.{false≢true, eq-eqb}
 use Rattle.plain_values.specs.Name.{folded, is_same_text}
 use Rattle.plain_values.specs.declared.name.Root.{Root}
 use Rattle.fta_words.specs.declared.command.Command.{Command as CommandInCode}
@@ -9,7 +8,7 @@ use Rattle.fta_words.specs.declared.command.Paging.{Paging}
 use Rattle.fta_words.specs.declared.kind.Kind.{Kind}
 use Rattle.fta_words.specs.declared.kind.Kind.TheVariants as kind
 use Rattle.fta_words.specs.Shown.{command_shown}
-use Rattle.fta_words.specs.Words.{Alone, Apart, AreOptions, AreWords, Attached, Check, Command, Cuts, Fmea, Given, IsCommand, IsFolded, IsNumberText, IsPlainWord, IsRoot, Make, NamesModel, Report, Says, Spelling, Tree, before_options, file_words, files_of, is_option, option_words, spelled}
+use Rattle.fta_words.specs.Words.{Alone, Apart, AreOptions, AreWords, Attached, Check, Command, Confirm, Cuts, Fmea, Galileo, Given, IsCommand, IsFolded, IsNumberText, IsPlainWord, IsRoot, Make, NamesModel, Paths, Report, Says, Spelling, Tree, Why, before_options, file_words, files_of, is_option, option_words, spelled}
 use Rattle.fta_words.specs.Reading.{Answers, HaveOptions, IsRead, ReadsAs, Say, Values, flags_of, kind_of, name_of, valued_of, values_of}
 use Rattle.fta_words.proofs.PlainFront.{no_end, no_option}
 use Rattle.fta_words.proofs.Places.{one_chosen}
@@ -81,6 +80,18 @@ to_read reports words (Report root target files chosen max_order) x =
 to_read reports words (Make number text) x =
     let s = split_words words (codes "make" ∷ x.0 ∷ []) (flags_of kind.Make) (valued_of kind.Make) x.1 x.2 in
     record { given = x.1; plain = subst (AllByRecursion IsPlainWord) (sym s.0) x.2.plain_words; options_are = s.1; options = x.2.options; read = (x.0, s.0, x.3, x.4, x.5, x.6) }
+to_read reports words (Galileo files limit max_order paths) x =
+    let s = split_words words (codes "galileo" ∷ files) (flags_of kind.Galileo) (valued_of kind.Galileo) x.0 x.1 in
+    record { given = x.0; plain = subst (AllByRecursion IsPlainWord) (sym s.0) x.1.plain_words; options_are = s.1; options = x.1.options; read = (s.0, x.2, x.3, x.4, x.5) }
+to_read reports words (Paths root target files paging) x =
+    let s = split_words words (codes "paths" ∷ x.0 ∷ x.1 ∷ files) (flags_of kind.Paths) (valued_of kind.Paths) x.2 x.3 in
+    record { given = x.2; plain = subst (AllByRecursion IsPlainWord) (sym s.0) x.3.plain_words; options_are = s.1; options = x.3.options; read = (x.0, x.1, s.0, x.4, x.5, x.6, x.7, x.8) }
+to_read reports words (Why root target files set) x =
+    let s = split_words words (codes "why" ∷ x.0 ∷ x.1 ∷ files) (flags_of kind.Why) (valued_of kind.Why) x.2 x.3 in
+    record { given = x.2; plain = subst (AllByRecursion IsPlainWord) (sym s.0) x.3.plain_words; options_are = s.1; options = x.3.options; read = (x.0, x.1, s.0, x.4, x.5, x.6) }
+to_read reports words (Confirm root target files set) x =
+    let s = split_words words (codes "confirm" ∷ x.0 ∷ x.1 ∷ files) (flags_of kind.Confirm) (valued_of kind.Confirm) x.2 x.3 in
+    record { given = x.2; plain = subst (AllByRecursion IsPlainWord) (sym s.0) x.3.plain_words; options_are = s.1; options = x.3.options; read = (x.0, x.1, s.0, x.4, x.5, x.6, x.7) }
 
 -- the parts of words that are read
 words_from : (words plain : List (List ℕ)) (flags valued : List (List ℕ)) (given : List Given) → AllByRecursion IsPlainWord (before_options words) → before_options words ≡ plain
@@ -117,6 +128,22 @@ from_read reports words (Make number text) x =
     let r = x.read in
     let are = words_from words (codes "make" ∷ r.0 ∷ []) (flags_of kind.Make) (valued_of kind.Make) x.given x.plain r.1 x.options_are x.options in
     (r.0, x.given, are, r.2, r.3, r.4, r.5)
+from_read reports words (Galileo files limit max_order paths) x =
+    let r = x.read in
+    let are = words_from words (codes "galileo" ∷ files) (flags_of kind.Galileo) (valued_of kind.Galileo) x.given x.plain r.0 x.options_are x.options in
+    (x.given, are, r.1, r.2, r.3, r.4)
+from_read reports words (Paths root target files paging) x =
+    let r = x.read in
+    let are = words_from words (codes "paths" ∷ r.0 ∷ r.1 ∷ files) (flags_of kind.Paths) (valued_of kind.Paths) x.given x.plain r.2 x.options_are x.options in
+    (r.0, r.1, x.given, are, r.3, r.4, r.5, r.6, r.7)
+from_read reports words (Why root target files set) x =
+    let r = x.read in
+    let are = words_from words (codes "why" ∷ r.0 ∷ r.1 ∷ files) (flags_of kind.Why) (valued_of kind.Why) x.given x.plain r.2 x.options_are x.options in
+    (r.0, r.1, x.given, are, r.3, r.4, r.5)
+from_read reports words (Confirm root target files set) x =
+    let r = x.read in
+    let are = words_from words (codes "confirm" ∷ r.0 ∷ r.1 ∷ files) (flags_of kind.Confirm) (valued_of kind.Confirm) x.given x.plain r.2 x.options_are x.options in
+    (r.0, r.1, x.given, are, r.3, r.4, r.5, r.6)
 
 -- ---- names of commands
 
@@ -124,7 +151,9 @@ abbrev kind_by_name : List ℕ → Option Kind
 kind_by_name name =
     if is_same_text name (codes "check") then Some kind.Check else if is_same_text name (codes "cuts") then Some kind.Cuts
     else if is_same_text name (codes "tree") then Some kind.Tree else if is_same_text name (codes "fmea") then Some kind.Fmea
-    else if is_same_text name (codes "report") then Some kind.Report else Some kind.Make
+    else if is_same_text name (codes "report") then Some kind.Report else if is_same_text name (codes "make") then Some kind.Make
+    else if is_same_text name (codes "galileo") then Some kind.Galileo else if is_same_text name (codes "paths") then Some kind.Paths
+    else if is_same_text name (codes "why") then Some kind.Why else Some kind.Confirm
 
 named_again : (k : Kind) → kind_by_name (name_of k) ≡ Some k
 named_again kind.Check = refl
@@ -133,6 +162,10 @@ named_again kind.Tree = refl
 named_again kind.Fmea = refl
 named_again kind.Report = refl
 named_again kind.Make = refl
+named_again kind.Galileo = refl
+named_again kind.Paths = refl
+named_again kind.Why = refl
+named_again kind.Confirm = refl
 
 -- commands of one name are one
 pub same_kind : (a b : Kind) → name_of a ≡ name_of b → a ≡ b
@@ -146,6 +179,10 @@ read_name reports plain values (Tree root target files) r = (r.0 ∷ r.1 ∷ fil
 read_name reports plain values (Fmea root files all) r = (r.0 ∷ files, r.1)
 read_name reports plain values (Report root target files chosen max_order) r = (r.0 ∷ r.1 ∷ files, r.2)
 read_name reports plain values (Make number text) r = (r.0 ∷ [], r.1)
+read_name reports plain values (Galileo files limit max_order paths) r = (files, r.0)
+read_name reports plain values (Paths root target files paging) r = (r.0 ∷ r.1 ∷ files, r.2)
+read_name reports plain values (Why root target files set) r = (r.0 ∷ r.1 ∷ files, r.2)
+read_name reports plain values (Confirm root target files set) r = (r.0 ∷ r.1 ∷ files, r.2)
 
 pub kind_read : (reports plain : List (List ℕ)) (values : Values) (command : Command) → IsRead reports plain values command → (k : Kind) (others : List (List ℕ)) → plain ≡ name_of k ∷ others → kind_of command ≡ k
 kind_read reports plain values command r k others is =
@@ -180,126 +217,135 @@ same_paging a b l f m =
 same_model : (w v : List ℕ) (root root₂ : Root) (files files₂ : List (List ℕ)) → w ≡ v → NamesModel w root files → NamesModel v root₂ files₂ → root ≡ root₂
 same_model w v root root₂ files files₂ word x y = one_root (folded v) root root₂ (subst (λ l. IsRoot (folded l) root) word x.root_is) y.root_is
 
-abbrev number_of_kind : Kind → ℕ
-number_of_kind kind.Check = 0
-number_of_kind kind.Cuts = 1
-number_of_kind kind.Tree = 2
-number_of_kind kind.Fmea = 3
-number_of_kind kind.Report = 4
-number_of_kind kind.Make = 5
+-- ---- commands by kind
 
--- kinds with other numbers are not the same
-other_kind : (a b : Kind) → a ≡ b → (number_of_kind a == number_of_kind b) ≡ false → ⊥
-other_kind a b same differ = false≢true (sym differ ∙ ap (λ k. number_of_kind a == number_of_kind k) (sym same) ∙ eq-eqb (number_of_kind a) (number_of_kind a) refl)
+-- what a command of a kind says
+abbrev Parts : Kind → Type 0
+Parts kind.Check = Root × List (List ℕ)
+Parts kind.Cuts = Root × List ℕ × List (List ℕ) × Paging
+Parts kind.Tree = Root × List ℕ × List (List ℕ)
+Parts kind.Fmea = Root × List (List ℕ) × Bool
+Parts kind.Report = Root × List ℕ × List (List ℕ) × List ℕ × Option ℕ
+Parts kind.Make = ℕ × Bool
+Parts kind.Galileo = List (List ℕ) × Option ℕ × Option ℕ × Bool
+Parts kind.Paths = Root × List ℕ × List (List ℕ) × Paging
+Parts kind.Why = Root × List ℕ × List (List ℕ) × List ℕ
+Parts kind.Confirm = Root × List ℕ × List (List ℕ) × List ℕ
+
+abbrev made : (k : Kind) → Parts k → Command
+made kind.Check p = Check p.0 p.1
+made kind.Cuts p = Cuts p.0 p.1 p.2 p.3
+made kind.Tree p = Tree p.0 p.1 p.2
+made kind.Fmea p = Fmea p.0 p.1 p.2
+made kind.Report p = Report p.0 p.1 p.2 p.3 p.4
+made kind.Make p = Make p.0 p.1
+made kind.Galileo p = Galileo p.0 p.1 p.2 p.3
+made kind.Paths p = Paths p.0 p.1 p.2 p.3
+made kind.Why p = Why p.0 p.1 p.2 p.3
+made kind.Confirm p = Confirm p.0 p.1 p.2 p.3
+
+abbrev parts_of : (command : Command) → Parts (kind_of command)
+parts_of (Check root files) = (root, files)
+parts_of (Cuts root target files paging) = (root, target, files, paging)
+parts_of (Tree root target files) = (root, target, files)
+parts_of (Fmea root files all) = (root, files, all)
+parts_of (Report root target files chosen max_order) = (root, target, files, chosen, max_order)
+parts_of (Make number text) = (number, text)
+parts_of (Galileo files limit max_order paths) = (files, limit, max_order, paths)
+parts_of (Paths root target files paging) = (root, target, files, paging)
+parts_of (Why root target files set) = (root, target, files, set)
+parts_of (Confirm root target files set) = (root, target, files, set)
+
+made_again : (command : Command) → made (kind_of command) (parts_of command) ≡ command
+made_again (Check root files) = refl
+made_again (Cuts root target files paging) = refl
+made_again (Tree root target files) = refl
+made_again (Fmea root files all) = refl
+made_again (Report root target files chosen max_order) = refl
+made_again (Make number text) = refl
+made_again (Galileo files limit max_order paths) = refl
+made_again (Paths root target files paging) = refl
+made_again (Why root target files set) = refl
+made_again (Confirm root target files set) = refl
+
+-- equal words name one model
+one_model : (name w v : List ℕ) (root root₂ : Root) (files files₂ : List (List ℕ)) → name ∷ w ∷ files ≡ name ∷ v ∷ files₂ → NamesModel w root files → NamesModel v root₂ files₂
+    → ◌≡◌ {A = Root × List (List ℕ)} (root, files) (root₂, files₂)
+one_model name w v root root₂ files files₂ both x y =
+    let word : w ≡ v = cc (both) in
+    let rest : files ≡ files₂ = cc (both) in
+    ap (λ r. (r, files)) (same_model w v root root₂ files files₂ word x y) ∙ ap (λ f. (root₂, f)) rest
+
+-- equal words ask of one fact of one model
+one_asked : (name w v u t : List ℕ) (root root₂ : Root) (target target₂ : List ℕ) (files files₂ : List (List ℕ)) → name ∷ w ∷ u ∷ files ≡ name ∷ v ∷ t ∷ files₂
+    → NamesModel w root files → NamesModel v root₂ files₂ → IsFolded u target → IsFolded t target₂
+    → ◌≡◌ {A = Root × List ℕ × List (List ℕ)} (root, target, files) (root₂, target₂, files₂)
+one_asked name w v u t root root₂ target target₂ files files₂ both x y a b =
+    let word : w ≡ v = cc (both) in
+    let named : u ≡ t = cc (both) in
+    let rest : files ≡ files₂ = cc (both) in
+    ap (λ r. (r, target, files)) (same_model w v root root₂ files files₂ word x y) ∙ ap (λ n. (root₂, n, files)) (a ∙ ap folded named ∙ sym b) ∙ ap (λ f. (root₂, target₂, f)) rest
+
+one_of_kind : (reports plain : List (List ℕ)) (values : Values) (k : Kind) (p q : Parts k) → IsRead reports plain values (made k p) → IsRead reports plain values (made k q) → made k p ≡ made k q
+one_of_kind reports plain values kind.Check p q x y =
+    let both : codes "check" ∷ x.0 ∷ p.1 ≡ codes "check" ∷ y.0 ∷ q.1 = sym x.1 ∙ y.1 in
+    ap (λ (a : Root × List (List ℕ)). Check a.0 a.1) (one_model (codes "check") x.0 y.0 p.0 q.0 p.1 q.1 both x.2 y.2)
+one_of_kind reports plain values kind.Cuts p q x y =
+    let both : codes "cuts" ∷ x.0 ∷ x.1 ∷ p.2 ≡ codes "cuts" ∷ y.0 ∷ y.1 ∷ q.2 = sym x.2 ∙ y.2 in
+    let asked = one_asked (codes "cuts") x.0 y.0 x.1 y.1 p.0 q.0 p.1 q.1 p.2 q.2 both x.3 y.3 x.4 y.4 in
+    let pages : p.3 ≡ q.3 = same_paging p.3 q.3 (one_said IsNumberText one_number values.limit p.3.limit q.3.limit x.5 y.5) (one_said IsFolded one_fold values.after p.3.after q.3.after x.6 y.6) (one_said IsNumberText one_number values.max_order p.3.max_order q.3.max_order x.7 y.7) in
+    ap (λ (a : Root × List ℕ × List (List ℕ)). Cuts a.0 a.1 a.2 p.3) asked ∙ ap (λ g. Cuts q.0 q.1 q.2 g) pages
+one_of_kind reports plain values kind.Tree p q x y =
+    let both : codes "tree" ∷ x.0 ∷ x.1 ∷ p.2 ≡ codes "tree" ∷ y.0 ∷ y.1 ∷ q.2 = sym x.2 ∙ y.2 in
+    ap (λ (a : Root × List ℕ × List (List ℕ)). Tree a.0 a.1 a.2) (one_asked (codes "tree") x.0 y.0 x.1 y.1 p.0 q.0 p.1 q.1 p.2 q.2 both x.3 y.3 x.4 y.4)
+one_of_kind reports plain values kind.Fmea p q x y =
+    let both : codes "fmea" ∷ x.0 ∷ p.1 ≡ codes "fmea" ∷ y.0 ∷ q.1 = sym x.1 ∙ y.1 in
+    let flags : p.2 ≡ q.2 = x.3 ∙ sym y.3 in
+    ap (λ (a : Root × List (List ℕ)). Fmea a.0 a.1 p.2) (one_model (codes "fmea") x.0 y.0 p.0 q.0 p.1 q.1 both x.2 y.2) ∙ ap (λ b. Fmea q.0 q.1 b) flags
+one_of_kind reports plain values kind.Report p q x y =
+    let both : codes "report" ∷ x.0 ∷ x.1 ∷ p.2 ≡ codes "report" ∷ y.0 ∷ y.1 ∷ q.2 = sym x.2 ∙ y.2 in
+    let asked = one_asked (codes "report") x.0 y.0 x.1 y.1 p.0 q.0 p.1 q.1 p.2 q.2 both x.3 y.3 x.4 y.4 in
+    let places : p.3 ≡ q.3 = one_chosen reports values.reports p.3 q.3 x.5 y.5 in
+    let orders : p.4 ≡ q.4 = one_said IsNumberText one_number values.max_order p.4 q.4 x.6 y.6 in
+    ap (λ (a : Root × List ℕ × List (List ℕ)). Report a.0 a.1 a.2 p.3 p.4) asked ∙ ap (λ l. Report q.0 q.1 q.2 l p.4) places ∙ ap (λ m. Report q.0 q.1 q.2 q.3 m) orders
+one_of_kind reports plain values kind.Make p q x y =
+    let both : codes "make" ∷ x.0 ∷ [] ≡ codes "make" ∷ y.0 ∷ [] = sym x.1 ∙ y.1 in
+    let word : x.0 ≡ y.0 = cc (both) in
+    let numbers : p.0 ≡ q.0 = one_number y.0 p.0 q.0 (subst (λ w. IsNumberText w p.0) word x.2) y.2 in
+    let texts : p.1 ≡ q.1 = x.5 ∙ sym y.5 in
+    ap (λ n. Make n p.1) numbers ∙ ap (λ t. Make q.0 t) texts
+one_of_kind reports plain values kind.Galileo p q x y =
+    let both : codes "galileo" ∷ p.0 ≡ codes "galileo" ∷ q.0 = sym x.0 ∙ y.0 in
+    let files : p.0 ≡ q.0 = cc (both) in
+    let limits : p.1 ≡ q.1 = one_said IsNumberText one_number values.limit p.1 q.1 x.2 y.2 in
+    let orders : p.2 ≡ q.2 = one_said IsNumberText one_number values.max_order p.2 q.2 x.3 y.3 in
+    let flags : p.3 ≡ q.3 = x.4 ∙ sym y.4 in
+    ap (λ f. Galileo f p.1 p.2 p.3) files ∙ ap (λ l. Galileo q.0 l p.2 p.3) limits ∙ ap (λ m. Galileo q.0 q.1 m p.3) orders ∙ ap (λ b. Galileo q.0 q.1 q.2 b) flags
+one_of_kind reports plain values kind.Paths p q x y =
+    let both : codes "paths" ∷ x.0 ∷ x.1 ∷ p.2 ≡ codes "paths" ∷ y.0 ∷ y.1 ∷ q.2 = sym x.2 ∙ y.2 in
+    let asked = one_asked (codes "paths") x.0 y.0 x.1 y.1 p.0 q.0 p.1 q.1 p.2 q.2 both x.3 y.3 x.4 y.4 in
+    let pages : p.3 ≡ q.3 = same_paging p.3 q.3 (one_said IsNumberText one_number values.limit p.3.limit q.3.limit x.5 y.5) (one_said IsFolded one_fold values.after p.3.after q.3.after x.6 y.6) (one_said IsNumberText one_number values.max_order p.3.max_order q.3.max_order x.7 y.7) in
+    ap (λ (a : Root × List ℕ × List (List ℕ)). Paths a.0 a.1 a.2 p.3) asked ∙ ap (λ g. Paths q.0 q.1 q.2 g) pages
+one_of_kind reports plain values kind.Why p q x y =
+    let both : codes "why" ∷ x.0 ∷ x.1 ∷ p.2 ≡ codes "why" ∷ y.0 ∷ y.1 ∷ q.2 = sym x.2 ∙ y.2 in
+    let asked = one_asked (codes "why") x.0 y.0 x.1 y.1 p.0 q.0 p.1 q.1 p.2 q.2 both x.3 y.3 x.4 y.4 in
+    let sets : Some p.3 ≡ Some q.3 = one_said IsFolded one_fold values.set (Some p.3) (Some q.3) x.5 y.5 in
+    let set : p.3 ≡ q.3 = cc (sets) in
+    ap (λ (a : Root × List ℕ × List (List ℕ)). Why a.0 a.1 a.2 p.3) asked ∙ ap (λ g. Why q.0 q.1 q.2 g) set
+one_of_kind reports plain values kind.Confirm p q x y =
+    let both : codes "confirm" ∷ x.0 ∷ x.1 ∷ p.2 ≡ codes "confirm" ∷ y.0 ∷ y.1 ∷ q.2 = sym x.2 ∙ y.2 in
+    let asked = one_asked (codes "confirm") x.0 y.0 x.1 y.1 p.0 q.0 p.1 q.1 p.2 q.2 both x.3 y.3 x.4 y.4 in
+    let sets : Some p.3 ≡ Some q.3 = one_said IsFolded one_fold values.set (Some p.3) (Some q.3) x.6 y.6 in
+    let set : p.3 ≡ q.3 = cc (sets) in
+    ap (λ (a : Root × List ℕ × List (List ℕ)). Confirm a.0 a.1 a.2 p.3) asked ∙ ap (λ g. Confirm q.0 q.1 q.2 g) set
 
 -- plain words and values are one command at most
 pub one_read : (reports plain : List (List ℕ)) (values : Values) (a b : Command) → kind_of a ≡ kind_of b → IsRead reports plain values a → IsRead reports plain values b → a ≡ b
-one_read reports plain values (Check root files) (Check root₂ files₂) same x y =
-    let both : codes "check" ∷ x.0 ∷ files ≡ codes "check" ∷ y.0 ∷ files₂ = sym x.1 ∙ y.1 in
-    let word : x.0 ≡ y.0 = cc (both) in
-    let rest : files ≡ files₂ = cc (both) in
-    let roots : root ≡ root₂ = same_model x.0 y.0 root root₂ files files₂ word x.2 y.2 in
-    ap (λ r. Check r files) roots ∙ ap (λ f. Check root₂ f) rest
-one_read reports plain values (Check root files) (Cuts root₂ target₂ files₂ paging₂) same x y =
-    absurd (other_kind kind.Check kind.Cuts same refl)
-one_read reports plain values (Check root files) (Tree root₂ target₂ files₂) same x y =
-    absurd (other_kind kind.Check kind.Tree same refl)
-one_read reports plain values (Check root files) (Fmea root₂ files₂ all₂) same x y =
-    absurd (other_kind kind.Check kind.Fmea same refl)
-one_read reports plain values (Check root files) (Report root₂ target₂ files₂ chosen₂ max_order₂) same x y =
-    absurd (other_kind kind.Check kind.Report same refl)
-one_read reports plain values (Check root files) (Make number₂ text₂) same x y =
-    absurd (other_kind kind.Check kind.Make same refl)
-one_read reports plain values (Cuts root target files paging) (Check root₂ files₂) same x y =
-    absurd (other_kind kind.Cuts kind.Check same refl)
-one_read reports plain values (Cuts root target files paging) (Cuts root₂ target₂ files₂ paging₂) same x y =
-    let both : codes "cuts" ∷ x.0 ∷ x.1 ∷ files ≡ codes "cuts" ∷ y.0 ∷ y.1 ∷ files₂ = sym x.2 ∙ y.2 in
-    let word : x.0 ≡ y.0 = cc (both) in
-    let named : x.1 ≡ y.1 = cc (both) in
-    let rest : files ≡ files₂ = cc (both) in
-    let roots : root ≡ root₂ = same_model x.0 y.0 root root₂ files files₂ word x.3 y.3 in
-    let targets : target ≡ target₂ = x.4 ∙ ap folded named ∙ sym y.4 in
-    let pages : paging ≡ paging₂ = same_paging paging paging₂ (one_said IsNumberText one_number values.limit paging.limit paging₂.limit x.5 y.5) (one_said IsFolded one_fold values.after paging.after paging₂.after x.6 y.6) (one_said IsNumberText one_number values.max_order paging.max_order paging₂.max_order x.7 y.7) in
-    ap (λ r. Cuts r target files paging) roots ∙ ap (λ t. Cuts root₂ t files paging) targets ∙ ap (λ f. Cuts root₂ target₂ f paging) rest ∙ ap (λ p. Cuts root₂ target₂ files₂ p) pages
-one_read reports plain values (Cuts root target files paging) (Tree root₂ target₂ files₂) same x y =
-    absurd (other_kind kind.Cuts kind.Tree same refl)
-one_read reports plain values (Cuts root target files paging) (Fmea root₂ files₂ all₂) same x y =
-    absurd (other_kind kind.Cuts kind.Fmea same refl)
-one_read reports plain values (Cuts root target files paging) (Report root₂ target₂ files₂ chosen₂ max_order₂) same x y =
-    absurd (other_kind kind.Cuts kind.Report same refl)
-one_read reports plain values (Cuts root target files paging) (Make number₂ text₂) same x y =
-    absurd (other_kind kind.Cuts kind.Make same refl)
-one_read reports plain values (Tree root target files) (Check root₂ files₂) same x y =
-    absurd (other_kind kind.Tree kind.Check same refl)
-one_read reports plain values (Tree root target files) (Cuts root₂ target₂ files₂ paging₂) same x y =
-    absurd (other_kind kind.Tree kind.Cuts same refl)
-one_read reports plain values (Tree root target files) (Tree root₂ target₂ files₂) same x y =
-    let both : codes "tree" ∷ x.0 ∷ x.1 ∷ files ≡ codes "tree" ∷ y.0 ∷ y.1 ∷ files₂ = sym x.2 ∙ y.2 in
-    let word : x.0 ≡ y.0 = cc (both) in
-    let named : x.1 ≡ y.1 = cc (both) in
-    let rest : files ≡ files₂ = cc (both) in
-    let roots : root ≡ root₂ = same_model x.0 y.0 root root₂ files files₂ word x.3 y.3 in
-    let targets : target ≡ target₂ = x.4 ∙ ap folded named ∙ sym y.4 in
-    ap (λ r. Tree r target files) roots ∙ ap (λ t. Tree root₂ t files) targets ∙ ap (λ f. Tree root₂ target₂ f) rest
-one_read reports plain values (Tree root target files) (Fmea root₂ files₂ all₂) same x y =
-    absurd (other_kind kind.Tree kind.Fmea same refl)
-one_read reports plain values (Tree root target files) (Report root₂ target₂ files₂ chosen₂ max_order₂) same x y =
-    absurd (other_kind kind.Tree kind.Report same refl)
-one_read reports plain values (Tree root target files) (Make number₂ text₂) same x y =
-    absurd (other_kind kind.Tree kind.Make same refl)
-one_read reports plain values (Fmea root files all) (Check root₂ files₂) same x y =
-    absurd (other_kind kind.Fmea kind.Check same refl)
-one_read reports plain values (Fmea root files all) (Cuts root₂ target₂ files₂ paging₂) same x y =
-    absurd (other_kind kind.Fmea kind.Cuts same refl)
-one_read reports plain values (Fmea root files all) (Tree root₂ target₂ files₂) same x y =
-    absurd (other_kind kind.Fmea kind.Tree same refl)
-one_read reports plain values (Fmea root files all) (Fmea root₂ files₂ all₂) same x y =
-    let both : codes "fmea" ∷ x.0 ∷ files ≡ codes "fmea" ∷ y.0 ∷ files₂ = sym x.1 ∙ y.1 in
-    let word : x.0 ≡ y.0 = cc (both) in
-    let rest : files ≡ files₂ = cc (both) in
-    let roots : root ≡ root₂ = same_model x.0 y.0 root root₂ files files₂ word x.2 y.2 in
-    let flags : all ≡ all₂ = x.3 ∙ sym y.3 in
-    ap (λ r. Fmea r files all) roots ∙ ap (λ f. Fmea root₂ f all) rest ∙ ap (λ b. Fmea root₂ files₂ b) flags
-one_read reports plain values (Fmea root files all) (Report root₂ target₂ files₂ chosen₂ max_order₂) same x y =
-    absurd (other_kind kind.Fmea kind.Report same refl)
-one_read reports plain values (Fmea root files all) (Make number₂ text₂) same x y =
-    absurd (other_kind kind.Fmea kind.Make same refl)
-one_read reports plain values (Report root target files chosen max_order) (Check root₂ files₂) same x y =
-    absurd (other_kind kind.Report kind.Check same refl)
-one_read reports plain values (Report root target files chosen max_order) (Cuts root₂ target₂ files₂ paging₂) same x y =
-    absurd (other_kind kind.Report kind.Cuts same refl)
-one_read reports plain values (Report root target files chosen max_order) (Tree root₂ target₂ files₂) same x y =
-    absurd (other_kind kind.Report kind.Tree same refl)
-one_read reports plain values (Report root target files chosen max_order) (Fmea root₂ files₂ all₂) same x y =
-    absurd (other_kind kind.Report kind.Fmea same refl)
-one_read reports plain values (Report root target files chosen max_order) (Report root₂ target₂ files₂ chosen₂ max_order₂) same x y =
-    let both : codes "report" ∷ x.0 ∷ x.1 ∷ files ≡ codes "report" ∷ y.0 ∷ y.1 ∷ files₂ = sym x.2 ∙ y.2 in
-    let word : x.0 ≡ y.0 = cc (both) in
-    let named : x.1 ≡ y.1 = cc (both) in
-    let rest : files ≡ files₂ = cc (both) in
-    let roots : root ≡ root₂ = same_model x.0 y.0 root root₂ files files₂ word x.3 y.3 in
-    let targets : target ≡ target₂ = x.4 ∙ ap folded named ∙ sym y.4 in
-    let places : chosen ≡ chosen₂ = one_chosen reports values.reports chosen chosen₂ x.5 y.5 in
-    let orders : max_order ≡ max_order₂ = one_said IsNumberText one_number values.max_order max_order max_order₂ x.6 y.6 in
-    ap (λ r. Report r target files chosen max_order) roots ∙ ap (λ t. Report root₂ t files chosen max_order) targets ∙ ap (λ f. Report root₂ target₂ f chosen max_order) rest ∙ ap (λ l. Report root₂ target₂ files₂ l max_order) places ∙ ap (λ m. Report root₂ target₂ files₂ chosen₂ m) orders
-one_read reports plain values (Report root target files chosen max_order) (Make number₂ text₂) same x y =
-    absurd (other_kind kind.Report kind.Make same refl)
-one_read reports plain values (Make number text) (Check root₂ files₂) same x y =
-    absurd (other_kind kind.Make kind.Check same refl)
-one_read reports plain values (Make number text) (Cuts root₂ target₂ files₂ paging₂) same x y =
-    absurd (other_kind kind.Make kind.Cuts same refl)
-one_read reports plain values (Make number text) (Tree root₂ target₂ files₂) same x y =
-    absurd (other_kind kind.Make kind.Tree same refl)
-one_read reports plain values (Make number text) (Fmea root₂ files₂ all₂) same x y =
-    absurd (other_kind kind.Make kind.Fmea same refl)
-one_read reports plain values (Make number text) (Report root₂ target₂ files₂ chosen₂ max_order₂) same x y =
-    absurd (other_kind kind.Make kind.Report same refl)
-one_read reports plain values (Make number text) (Make number₂ text₂) same x y =
-    let both : codes "make" ∷ x.0 ∷ [] ≡ codes "make" ∷ y.0 ∷ [] = sym x.1 ∙ y.1 in
-    let word : x.0 ≡ y.0 = cc (both) in
-    let numbers : number ≡ number₂ = one_number y.0 number number₂ (subst (λ w. IsNumberText w number) word x.2) y.2 in
-    let texts : text ≡ text₂ = x.5 ∙ sym y.5 in
-    ap (λ n. Make n text) numbers ∙ ap (λ t. Make number₂ t) texts
+one_read reports plain values a b same x y =
+    let other : (q : Parts (kind_of b)) → IsRead reports plain values (made (kind_of b) q) → a ≡ made (kind_of b) q
+    = subst (λ k. (q : Parts k) → IsRead reports plain values (made k q) → a ≡ made k q) same
+    (λ q r. sym (made_again a) ∙ one_of_kind reports plain values (kind_of a) (parts_of a) q (subst (IsRead reports plain values) (sym (made_again a)) x) r) in
+    other (parts_of b) (subst (IsRead reports plain values) (sym (made_again b)) y) ∙ made_again b
 
 -- words are one command at most
 pub one_command : (reports words : List (List ℕ)) (a b : Command) → IsCommand reports words a → IsCommand reports words b → a ≡ b
@@ -327,6 +373,14 @@ file_words_are reports words (Report root target files chosen max_order) x =
     ap file_words x.3.words_are ∙ ap (drop 3) (front_of (codes "report" ∷ x.0 ∷ x.1 ∷ files) (option_words x.2) x.3.plain_words (begin_with_option x.2))
 file_words_are reports words (Make number text) x =
     ap file_words x.2.words_are ∙ ap (drop 2) (front_of (codes "make" ∷ x.0 ∷ []) (option_words x.1) x.2.plain_words (begin_with_option x.1))
+file_words_are reports words (Galileo files limit max_order paths) x =
+    ap file_words x.1.words_are ∙ ap (drop 1) (front_of (codes "galileo" ∷ files) (option_words x.0) x.1.plain_words (begin_with_option x.0))
+file_words_are reports words (Paths root target files paging) x =
+    ap file_words x.3.words_are ∙ ap (drop 3) (front_of (codes "paths" ∷ x.0 ∷ x.1 ∷ files) (option_words x.2) x.3.plain_words (begin_with_option x.2))
+file_words_are reports words (Why root target files set) x =
+    ap file_words x.3.words_are ∙ ap (drop 3) (front_of (codes "why" ∷ x.0 ∷ x.1 ∷ files) (option_words x.2) x.3.plain_words (begin_with_option x.2))
+file_words_are reports words (Confirm root target files set) x =
+    ap file_words x.3.words_are ∙ ap (drop 3) (front_of (codes "confirm" ∷ x.0 ∷ x.1 ∷ files) (option_words x.2) x.3.plain_words (begin_with_option x.2))
 
 -- ---- the answer
 

@@ -17,7 +17,7 @@ use Rattle.clap.proofs.OnLiterals.{clap_on_literals}
 use Rattle.fta_words.specs.Words.{Alone, Apart, AreOptions, Attached, Given, IsAllowed, Spelling, has_flag, option_words, value_in, value_of}
 use Rattle.fta_words.specs.Parsed.{ReadsFlag, StandIn, all_flags, all_valued, options_app}
 use Rattle.fta_words.specs.Reading.{Values, values_of}
-use Rattle.fta_words.proofs.AllKinds.{flag_all as all_name, flag_text as text_name, valued_after, valued_limit, valued_max_order, valued_reports}
+use Rattle.fta_words.proofs.AllKinds.{a_flag, a_valued}
 use Rattle.fta_words.proofs.Parses.{F, Serves, StandsAt, V, at, at_end, other_bytes, row_for, row_name, rows_for, walks}
 use Rattle.fta_words.proofs.Places.{each_of}
 use Rattle.fta_words.proofs.Spelled.{Allowed, all_apart, text-is, text-same}
@@ -36,11 +36,11 @@ unfolding clap_on_literals
 serves =
     record {
       once = refl;
-      flag_long = is_one_of (λ name. arg_by_long line.rules name ≡ Some (F name)) all_flags (refl, (refl, tt));
-      valued_long = is_one_of (λ name. arg_by_long line.rules name ≡ Some (V name)) all_valued (refl, (refl, (refl, (refl, tt))));
-      valued_id = is_one_of (λ name. arg_by_id line.rules name ≡ Some (V name)) all_valued (refl, (refl, (refl, (refl, tt))));
-      flag_some = λ name has. (is_one_of (λ n. 0 < length n) all_flags (omega arith, (omega arith, tt)) name has, all_apart.flag_names name has);
-      valued_some = λ name has. (is_one_of (λ n. 0 < length n) all_valued (omega arith, (omega arith, (omega arith, (omega arith, tt)))) name has, all_apart.valued_names name has);
+      flag_long = is_one_of (λ name. arg_by_long line.rules name ≡ Some (F name)) all_flags (refl, (refl, (refl, tt)));
+      valued_long = is_one_of (λ name. arg_by_long line.rules name ≡ Some (V name)) all_valued (refl, (refl, (refl, (refl, (refl, tt)))));
+      valued_id = is_one_of (λ name. arg_by_id line.rules name ≡ Some (V name)) all_valued (refl, (refl, (refl, (refl, (refl, tt)))));
+      flag_some = λ name has. (is_one_of (λ n. 0 < length n) all_flags (omega arith, (omega arith, (omega arith, tt))) name has, all_apart.flag_names name has);
+      valued_some = λ name has. (is_one_of (λ n. 0 < length n) all_valued (omega arith, (omega arith, (omega arith, (omega arith, (omega arith, tt))))) name has, all_apart.valued_names name has);
     }
 
 start : StandsAt line [] (walk_from nothing_held)
@@ -81,7 +81,7 @@ matched : (words : List Text) → matches_of options_app words ≡ finished line
 unfolding clap_on_literals
 matched words = refl
 
-rules_are : line.rules ≡ V (codes "limit") ∷ V (codes "after") ∷ V (codes "max-order") ∷ V (codes "reports") ∷ F (codes "all") ∷ F (codes "text") ∷ []
+rules_are : line.rules ≡ V (codes "limit") ∷ V (codes "after") ∷ V (codes "max-order") ∷ V (codes "reports") ∷ V (codes "set") ∷ F (codes "all") ∷ F (codes "text") ∷ F (codes "paths") ∷ []
 unfolding clap_on_literals
 rules_are = refl
 
@@ -94,20 +94,21 @@ valued_default rows name = same_both (has_row name rows) rows
 
 -- the rows of options, and then the defaults of the flags
 pub with_flags : List Row → List Row
-with_flags rows = with_default (with_default rows (F (codes "all"))) (F (codes "text"))
+with_flags rows = with_default (with_default (with_default rows (F (codes "all"))) (F (codes "text"))) (F (codes "paths"))
 
 pub rows_are : (given : List Given) → AreOptions all_flags all_valued given → matches_of options_app (option_words given) ≡ with_flags (rows_for given)
 unfolding with_flags
 rows_are given options =
     let end = walks line all_flags all_valued serves given options.allowed options.once [] (walk_from nothing_held) start (none_yet given) in
-    let flags = F (codes "all") ∷ F (codes "text") ∷ [] in
+    let flags = F (codes "all") ∷ F (codes "text") ∷ F (codes "paths") ∷ [] in
     matched (option_words given) ∙ ap (λ (w : Walk). finished line.rules w.held) end.0.is
     ∙ ap (λ (rows : List Row). fold with_default rows line.rules) end.0.settles
     ∙ ap (fold with_default (rows_for given)) rules_are
-    ∙ ap (λ (r : List Row). fold with_default r (V (codes "after") ∷ V (codes "max-order") ∷ V (codes "reports") ∷ flags)) (valued_default (rows_for given) (codes "limit"))
-    ∙ ap (λ (r : List Row). fold with_default r (V (codes "max-order") ∷ V (codes "reports") ∷ flags)) (valued_default (rows_for given) (codes "after"))
-    ∙ ap (λ (r : List Row). fold with_default r (V (codes "reports") ∷ flags)) (valued_default (rows_for given) (codes "max-order"))
-    ∙ ap (λ (r : List Row). fold with_default r flags) (valued_default (rows_for given) (codes "reports"))
+    ∙ ap (λ (r : List Row). fold with_default r (V (codes "after") ∷ V (codes "max-order") ∷ V (codes "reports") ∷ V (codes "set") ∷ flags)) (valued_default (rows_for given) (codes "limit"))
+    ∙ ap (λ (r : List Row). fold with_default r (V (codes "max-order") ∷ V (codes "reports") ∷ V (codes "set") ∷ flags)) (valued_default (rows_for given) (codes "after"))
+    ∙ ap (λ (r : List Row). fold with_default r (V (codes "reports") ∷ V (codes "set") ∷ flags)) (valued_default (rows_for given) (codes "max-order"))
+    ∙ ap (λ (r : List Row). fold with_default r (V (codes "set") ∷ flags)) (valued_default (rows_for given) (codes "reports"))
+    ∙ ap (λ (r : List Row). fold with_default r flags) (valued_default (rows_for given) (codes "set"))
 
 -- ---- what is found
 
@@ -240,43 +241,74 @@ reads_flag : (text : Option Text) (said flag : Bool) → text ≡ Some (if said 
 reads_flag text true flag is reads = reads.0 is
 reads_flag text false flag is reads = reads.1 is
 
-same_values : (a b : Values) → a.limit ≡ b.limit → a.after ≡ b.after → a.max_order ≡ b.max_order → a.reports ≡ b.reports → a.all ≡ b.all → a.text ≡ b.text → a ≡ b
-same_values a b l f m r x t =
-    let one : ◌≡◌ {A = Values} a (record { limit = b.limit; after = a.after; max_order = a.max_order; reports = a.reports; all = a.all; text = a.text }) = ap (λ (o : Option Text). record { limit = o; after = a.after; max_order = a.max_order; reports = a.reports; all = a.all; text = a.text }) l in
-    let two : ◌≡◌ {A = Values} (record { limit = b.limit; after = a.after; max_order = a.max_order; reports = a.reports; all = a.all; text = a.text }) (record { limit = b.limit; after = b.after; max_order = a.max_order; reports = a.reports; all = a.all; text = a.text }) = ap (λ (o : Option Text). record { limit = b.limit; after = o; max_order = a.max_order; reports = a.reports; all = a.all; text = a.text }) f in
-    let three : ◌≡◌ {A = Values} (record { limit = b.limit; after = b.after; max_order = a.max_order; reports = a.reports; all = a.all; text = a.text }) (record { limit = b.limit; after = b.after; max_order = b.max_order; reports = a.reports; all = a.all; text = a.text }) = ap (λ (o : Option Text). record { limit = b.limit; after = b.after; max_order = o; reports = a.reports; all = a.all; text = a.text }) m in
-    let four : ◌≡◌ {A = Values} (record { limit = b.limit; after = b.after; max_order = b.max_order; reports = a.reports; all = a.all; text = a.text }) (record { limit = b.limit; after = b.after; max_order = b.max_order; reports = b.reports; all = a.all; text = a.text }) = ap (λ (o : Option Text). record { limit = b.limit; after = b.after; max_order = b.max_order; reports = o; all = a.all; text = a.text }) r in
-    let five : ◌≡◌ {A = Values} (record { limit = b.limit; after = b.after; max_order = b.max_order; reports = b.reports; all = a.all; text = a.text }) (record { limit = b.limit; after = b.after; max_order = b.max_order; reports = b.reports; all = b.all; text = a.text }) = ap (λ (o : Bool). record { limit = b.limit; after = b.after; max_order = b.max_order; reports = b.reports; all = o; text = a.text }) x in
-    let six : ◌≡◌ {A = Values} (record { limit = b.limit; after = b.after; max_order = b.max_order; reports = b.reports; all = b.all; text = a.text }) b = ap (λ (o : Bool). record { limit = b.limit; after = b.after; max_order = b.max_order; reports = b.reports; all = b.all; text = o }) t in
-    one ∙ two ∙ three ∙ four ∙ five ∙ six
+-- values of these parts
+abbrev values : Option Text → Option Text → Option Text → Option Text → Option Text → Bool → Bool → Bool → Values
+values l f m r s x t p = record { limit = l; after = f; max_order = m; reports = r; set = s; all = x; text = t; paths = p }
+
+same_values : (a b : Values) → a.limit ≡ b.limit → a.after ≡ b.after → a.max_order ≡ b.max_order → a.reports ≡ b.reports → a.set ≡ b.set → a.all ≡ b.all → a.text ≡ b.text → a.paths ≡ b.paths → a ≡ b
+same_values a b l f m r s x t p =
+    ap (λ (o : Option Text). values o a.after a.max_order a.reports a.set a.all a.text a.paths) l
+    ∙ ap (λ (o : Option Text). values b.limit o a.max_order a.reports a.set a.all a.text a.paths) f
+    ∙ ap (λ (o : Option Text). values b.limit b.after o a.reports a.set a.all a.text a.paths) m
+    ∙ ap (λ (o : Option Text). values b.limit b.after b.max_order o a.set a.all a.text a.paths) r
+    ∙ ap (λ (o : Option Text). values b.limit b.after b.max_order b.reports o a.all a.text a.paths) s
+    ∙ ap (λ (o : Bool). values b.limit b.after b.max_order b.reports b.set o a.text a.paths) x
+    ∙ ap (λ (o : Bool). values b.limit b.after b.max_order b.reports b.set b.all o a.paths) t
+    ∙ ap (λ (o : Bool). values b.limit b.after b.max_order b.reports b.set b.all b.text o) p
 
 -- a value is found beside the defaults
-value_there : (name : Text) → Contains all_valued name → bytes_eq (codes "all") name ≡ false → bytes_eq (codes "text") name ≡ false → (given : List Given) → Allowed all_flags all_valued given → first_of name (with_flags (rows_for given)) ≡ value_of name given
+value_there : (name : Text) → Contains all_valued name → bytes_eq (codes "all") name ≡ false → bytes_eq (codes "text") name ≡ false → bytes_eq (codes "paths") name ≡ false → (given : List Given) → Allowed all_flags all_valued given → first_of name (with_flags (rows_for given)) ≡ value_of name given
 unfolding with_flags
-value_there name valued all text given allowed =
-    ap (option_and_then (λ (r : Row). slice_get r.values 0)) (default_other name (codes "text") (with_default (rows_for given) (F (codes "all"))) text ∙ default_other name (codes "all") (rows_for given) all)
+value_there name valued all text paths given allowed =
+    ap (option_and_then (λ (r : Row). slice_get r.values 0))
+    (default_other name (codes "paths") (with_default (with_default (rows_for given) (F (codes "all"))) (F (codes "text"))) paths
+    ∙ default_other name (codes "text") (with_default (rows_for given) (F (codes "all"))) text
+    ∙ default_other name (codes "all") (rows_for given) all)
     ∙ found_value name valued given allowed
+
+-- what a flag says of itself, where its row is sought among those of the options
+flag_there : (name : Text) → Contains all_flags name → (rows : List Row) (given : List Given) → Allowed all_flags all_valued given
+    → seek name rows ≡ option_or (seek name (rows_for given)) (Some (default_row name)) → one_of name rows ≡ Some (if has_flag name given then codes "true" else codes "false")
+flag_there name flag rows given allowed sought =
+    ap (option_and_then row_text) sought
+    ∙ flag_text name (rows_for given) (has_flag name given) (found_flag name flag given allowed) (filled_rows name given) (seek name (rows_for given)) refl
 
 all_there : (given : List Given) → Allowed all_flags all_valued given → one_of (codes "all") (with_flags (rows_for given)) ≡ Some (if has_flag (codes "all") given then codes "true" else codes "false")
 unfolding with_flags
 all_there given allowed =
-    ap (option_and_then row_text) (default_other (codes "all") (codes "text") (with_default (rows_for given) (F (codes "all"))) refl ∙ default_same (codes "all") (rows_for given))
-    ∙ flag_text (codes "all") (rows_for given) (has_flag (codes "all") given) (found_flag (codes "all") all_name given allowed) (filled_rows (codes "all") given) (seek (codes "all") (rows_for given)) refl
+    let name : Text = codes "all" in
+    let first = with_default (rows_for given) (F (codes "all")) in
+    flag_there name (a_flag name refl) (with_flags (rows_for given)) given allowed
+    (default_other name (codes "paths") (with_default first (F (codes "text"))) refl ∙ default_other name (codes "text") first refl ∙ default_same name (rows_for given))
 
 text_there : (given : List Given) → Allowed all_flags all_valued given → one_of (codes "text") (with_flags (rows_for given)) ≡ Some (if has_flag (codes "text") given then codes "true" else codes "false")
 unfolding with_flags
 text_there given allowed =
-    ap (option_and_then row_text) (default_same (codes "text") (with_default (rows_for given) (F (codes "all"))) ∙ ap (λ (o : Option Row). option_or o (Some (default_row (codes "text")))) (default_other (codes "text") (codes "all") (rows_for given) refl))
-    ∙ flag_text (codes "text") (rows_for given) (has_flag (codes "text") given) (found_flag (codes "text") text_name given allowed) (filled_rows (codes "text") given) (seek (codes "text") (rows_for given)) refl
+    let name : Text = codes "text" in
+    let first = with_default (rows_for given) (F (codes "all")) in
+    flag_there name (a_flag name refl) (with_flags (rows_for given)) given allowed
+    (default_other name (codes "paths") (with_default first (F (codes "text"))) refl ∙ default_same name first
+    ∙ ap (λ (o : Option Row). option_or o (Some (default_row name))) (default_other name (codes "all") (rows_for given) refl))
+
+paths_there : (given : List Given) → Allowed all_flags all_valued given → one_of (codes "paths") (with_flags (rows_for given)) ≡ Some (if has_flag (codes "paths") given then codes "true" else codes "false")
+unfolding with_flags
+paths_there given allowed =
+    let name : Text = codes "paths" in
+    let first = with_default (rows_for given) (F (codes "all")) in
+    flag_there name (a_flag name refl) (with_flags (rows_for given)) given allowed
+    (default_same name (with_default first (F (codes "text")))
+    ∙ ap (λ (o : Option Row). option_or o (Some (default_row name))) (default_other name (codes "text") first refl ∙ default_other name (codes "all") (rows_for given) refl))
 
 -- the values that stand in the matches are those of the options
-pub values_are : (given : List Given) → AreOptions all_flags all_valued given → (values : Values) → StandIn (with_flags (rows_for given)) values → values ≡ values_of given
-values_are given options values stand =
+pub values_are : (given : List Given) → AreOptions all_flags all_valued given → (found : Values) → StandIn (with_flags (rows_for given)) found → found ≡ values_of given
+values_are given options found stand =
     let allowed = options.allowed in
-    same_values values (values_of given)
-    (stand.limit ∙ value_there (codes "limit") valued_limit refl refl given allowed)
-    (stand.after ∙ value_there (codes "after") valued_after refl refl given allowed)
-    (stand.max_order ∙ value_there (codes "max-order") valued_max_order refl refl given allowed)
-    (stand.reports ∙ value_there (codes "reports") valued_reports refl refl given allowed)
-    (reads_flag (one_of (codes "all") (with_flags (rows_for given))) (has_flag (codes "all") given) values.all (all_there given allowed) stand.all)
-    (reads_flag (one_of (codes "text") (with_flags (rows_for given))) (has_flag (codes "text") given) values.text (text_there given allowed) stand.text)
+    same_values found (values_of given)
+    (stand.limit ∙ value_there (codes "limit") (a_valued (codes "limit") refl) refl refl refl given allowed)
+    (stand.after ∙ value_there (codes "after") (a_valued (codes "after") refl) refl refl refl given allowed)
+    (stand.max_order ∙ value_there (codes "max-order") (a_valued (codes "max-order") refl) refl refl refl given allowed)
+    (stand.reports ∙ value_there (codes "reports") (a_valued (codes "reports") refl) refl refl refl given allowed)
+    (stand.set ∙ value_there (codes "set") (a_valued (codes "set") refl) refl refl refl given allowed)
+    (reads_flag (one_of (codes "all") (with_flags (rows_for given))) (has_flag (codes "all") given) found.all (all_there given allowed) stand.all)
+    (reads_flag (one_of (codes "text") (with_flags (rows_for given))) (has_flag (codes "text") given) found.text (text_there given allowed) stand.text)
+    (reads_flag (one_of (codes "paths") (with_flags (rows_for given))) (has_flag (codes "paths") given) found.paths (paths_there given allowed) stand.paths)

@@ -50,6 +50,14 @@ no_equals (first ∷ names) all name has = elim (one_of first name names has) [
   | inr there ↦ no_equals names all.1 name there
 ]
 
+-- whether a name is among others
+abbrev pub among : List (List ℕ) → List ℕ → Bool
+among names name = list_any (λ n. is_same_text n name) names
+
+no_name_in_both : (flags valued : List (List ℕ)) → AllByRecursion (λ n. among valued n ≡ false) flags → AllByRecursion (λ n. among valued n ≡ true) valued → (name : List ℕ) → Contains flags name → Contains valued name → ⊥
+no_name_in_both flags valued others all name has other =
+    false≢true (sym (each_of (λ n. among valued n ≡ false) flags name others has) ∙ each_of (λ n. among valued n ≡ true) valued name all other)
+
 pub kinds_apart : (k : Kind) → AreApart (flags_of k) (valued_of k)
 kinds_apart kind.Check = record { flag_names = no_equals [] tt; valued_names = no_equals [] tt; apart = λ name has other. none_of name has }
 kinds_apart kind.Cuts = record { flag_names = no_equals [] tt; valued_names = no_equals (codes "limit" ∷ codes "after" ∷ codes "max-order" ∷ []) (refl, (refl, (refl, tt))); apart = λ name has other. none_of name has }
@@ -57,19 +65,22 @@ kinds_apart kind.Tree = record { flag_names = no_equals [] tt; valued_names = no
 kinds_apart kind.Fmea = record { flag_names = no_equals (codes "all" ∷ []) (refl, tt); valued_names = no_equals [] tt; apart = λ name has other. none_of name other }
 kinds_apart kind.Report = record { flag_names = no_equals [] tt; valued_names = no_equals (codes "reports" ∷ codes "max-order" ∷ []) (refl, (refl, tt)); apart = λ name has other. none_of name has }
 kinds_apart kind.Make = record { flag_names = no_equals (codes "text" ∷ []) (refl, tt); valued_names = no_equals [] tt; apart = λ name has other. none_of name other }
-
--- whether a name is one of an option with a value
-abbrev among : List ℕ → Bool
-among name = list_any (λ v. is_same_text v name) all_valued
+kinds_apart kind.Galileo =
+    record {
+      flag_names = no_equals (codes "paths" ∷ []) (refl, tt);
+      valued_names = no_equals (codes "limit" ∷ codes "max-order" ∷ []) (refl, (refl, tt));
+      apart = no_name_in_both (codes "paths" ∷ []) (codes "limit" ∷ codes "max-order" ∷ []) (refl, tt) (refl, (refl, tt));
+    }
+kinds_apart kind.Paths = record { flag_names = no_equals [] tt; valued_names = no_equals (codes "limit" ∷ codes "after" ∷ codes "max-order" ∷ []) (refl, (refl, (refl, tt))); apart = λ name has other. none_of name has }
+kinds_apart kind.Why = record { flag_names = no_equals [] tt; valued_names = no_equals (codes "set" ∷ []) (refl, tt); apart = λ name has other. none_of name has }
+kinds_apart kind.Confirm = record { flag_names = no_equals [] tt; valued_names = no_equals (codes "set" ∷ []) (refl, tt); apart = λ name has other. none_of name has }
 
 pub all_apart : AreApart all_flags all_valued
 all_apart =
     record {
-      flag_names = no_equals all_flags (refl, (refl, tt));
-      valued_names = no_equals all_valued (refl, (refl, (refl, (refl, tt))));
-      apart =
-          λ name has other.
-          false≢true (sym (each_of (λ n. among n ≡ false) all_flags name (refl, (refl, tt)) has) ∙ each_of (λ n. among n ≡ true) all_valued name (refl, (refl, (refl, (refl, tt)))) other);
+      flag_names = no_equals all_flags (refl, (refl, (refl, tt)));
+      valued_names = no_equals all_valued (refl, (refl, (refl, (refl, (refl, tt)))));
+      apart = no_name_in_both all_flags all_valued (refl, (refl, (refl, tt))) (refl, (refl, (refl, (refl, (refl, tt)))));
     }
 
 -- ---- one reading

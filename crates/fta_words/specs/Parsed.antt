@@ -1,5 +1,5 @@
 -- The command line of options, as `clap` sees it.
-use Rattle.std.specs.Prelude.{◌≡◌, Bool, true, false, List, [], ◌∷◌, Option, Some, codes}
+use Rattle.std.specs.Prelude.{◌≡◌, Bool, true, false, List, [], ◌∷◌, Option, Some, codes, fold}
 use Rattle.clap.specs.Words.{App, Row, Rule, Text, first_of, new_app, new_rule, one_of, with_rule}
 use Rattle.clap.specs.Simple.{on_top}
 use Rattle.fta_words.specs.Reading.{Values}
@@ -20,15 +20,17 @@ bare_app = on_top (λ s. record s { disable_help_flag = true }) (on_top (λ s. r
 -- all options of all commands
 abbrev pub options_app : App
 options_app =
-    with_rule (with_rule (with_rule (with_rule (with_rule (with_rule bare_app (valued_rule (codes "limit"))) (valued_rule (codes "after"))) (valued_rule (codes "max-order"))) (valued_rule (codes "reports"))) (flag_rule (codes "all"))) (flag_rule (codes "text"))
+    fold with_rule bare_app
+    (valued_rule (codes "limit") ∷ valued_rule (codes "after") ∷ valued_rule (codes "max-order") ∷ valued_rule (codes "reports")
+    ∷ valued_rule (codes "set") ∷ flag_rule (codes "all") ∷ flag_rule (codes "text") ∷ flag_rule (codes "paths") ∷ [])
 
 -- the flags of all commands
 abbrev pub all_flags : List Text
-all_flags = codes "all" ∷ codes "text" ∷ []
+all_flags = codes "all" ∷ codes "text" ∷ codes "paths" ∷ []
 
 -- the options with a value of all commands
 abbrev pub all_valued : List Text
-all_valued = codes "limit" ∷ codes "after" ∷ codes "max-order" ∷ codes "reports" ∷ []
+all_valued = codes "limit" ∷ codes "after" ∷ codes "max-order" ∷ codes "reports" ∷ codes "set" ∷ []
 
 -- the value of a flag, read from its text
 abbrev pub ReadsFlag : Option Text → Bool → Type 0
@@ -40,5 +42,7 @@ pub record StandIn (rows : List Row) (values : Values) : Type 0 where
   pub after : values.after ≡ first_of (codes "after") rows
   pub max_order : values.max_order ≡ first_of (codes "max-order") rows
   pub reports : values.reports ≡ first_of (codes "reports") rows
+  pub set : values.set ≡ first_of (codes "set") rows
   pub all : ReadsFlag (one_of (codes "all") rows) values.all
   pub text : ReadsFlag (one_of (codes "text") rows) values.text
+  pub paths : ReadsFlag (one_of (codes "paths") rows) values.paths

@@ -1,5 +1,5 @@
 -- How words are read: what private functions say of them.
-use Rattle.std.specs.Prelude.{◌≡◌, ◌≤◌, ℕ, Bool, true, false, not, ◌==◌, ◌&&◌, if◌then◌else◌, List, [], ◌∷◌, ◌++◌, Option, MatchOption, codes, option_map}
+use Rattle.std.specs.Prelude.{◌≡◌, ◌≤◌, ℕ, length, Some, Bool, true, false, not, ◌==◌, ◌&&◌, if◌then◌else◌, List, [], ◌∷◌, ◌++◌, Option, MatchOption, codes, option_map}
 use Rattle.aadl_syntax.specs.Form.{is_letter_or_digit}
 use Rattle.fta_words.specs.declared.kind.Kind.{Kind}
 use Rattle.fta_words.specs.declared.kind.Kind.TheVariants as kind
@@ -7,7 +7,7 @@ use Rattle.fta_words.specs.declared.options.Options.{Options}
 use Rattle.fta_words.specs.declared.command.Command.{Command as CommandInCode}
 use Rattle.fta_words.specs.declared.command.Paging.{Paging}
 use Rattle.fta_words.specs.Shown.{command_shown}
-use Rattle.fta_words.specs.Words.{AreChosen, AreOptions, Check, Command, Cuts, Fmea, Given, GiveNoCommand, IsAllowed, IsCommand, IsFolded, IsNumberText, Make, NamesModel, Report, Says, Spelling, Tree, has_flag, option_words, spelled, value_of}
+use Rattle.fta_words.specs.Words.{AreChosen, AreOptions, Check, Command, Confirm, Cuts, Fmea, Galileo, Given, GiveNoCommand, IsAllowed, IsCommand, IsFolded, IsNumberText, Make, NamesModel, Paths, Report, Says, Spelling, Tree, Why, has_flag, option_words, spelled, value_of}
 
 -- whether letters and digits follow, each perhaps after one `_`: it goes along the bytes, and after a
 -- `_` (waiting) a letter or digit must stand
@@ -26,6 +26,10 @@ flags_of kind.Tree = []
 flags_of kind.Fmea = codes "all" ∷ []
 flags_of kind.Report = []
 flags_of kind.Make = codes "text" ∷ []
+flags_of kind.Galileo = codes "paths" ∷ []
+flags_of kind.Paths = []
+flags_of kind.Why = []
+flags_of kind.Confirm = []
 
 -- the options of a command that have a value
 abbrev pub valued_of : Kind → List (List ℕ)
@@ -35,6 +39,10 @@ valued_of kind.Tree = []
 valued_of kind.Fmea = []
 valued_of kind.Report = codes "reports" ∷ codes "max-order" ∷ []
 valued_of kind.Make = []
+valued_of kind.Galileo = codes "limit" ∷ codes "max-order" ∷ []
+valued_of kind.Paths = codes "limit" ∷ codes "after" ∷ codes "max-order" ∷ []
+valued_of kind.Why = codes "set" ∷ []
+valued_of kind.Confirm = codes "set" ∷ []
 
 -- An option of this name stands first in the words, and these words follow it.
 pub record StandsFirst (flags valued words : List (List ℕ)) (name : List ℕ) (rest : List (List ℕ)) : Type 0 where
@@ -57,8 +65,10 @@ pub record Values : Type 0 where
   pub after : Option (List ℕ)
   pub max_order : Option (List ℕ)
   pub reports : Option (List ℕ)
+  pub set : Option (List ℕ)
   pub all : Bool
   pub text : Bool
+  pub paths : Bool
 
 abbrev pub values_of : List Given → Values
 values_of given =
@@ -67,8 +77,10 @@ values_of given =
       after = value_of (codes "after") given;
       max_order = value_of (codes "max-order") given;
       reports = value_of (codes "reports") given;
+      set = value_of (codes "set") given;
       all = has_flag (codes "all") given;
       text = has_flag (codes "text") given;
+      paths = has_flag (codes "paths") given;
     }
 
 abbrev pub options_shown : Options → Values
@@ -78,8 +90,10 @@ options_shown options =
       after = option_map (λ text. text.now) options.after;
       max_order = option_map (λ text. text.now) options.max_order;
       reports = option_map (λ text. text.now) options.reports;
+      set = option_map (λ text. text.now) options.set;
       all = options.all;
       text = options.text;
+      paths = options.paths;
     }
 
 -- The words are options, which say these values.
@@ -100,6 +114,10 @@ name_of kind.Tree = codes "tree"
 name_of kind.Fmea = codes "fmea"
 name_of kind.Report = codes "report"
 name_of kind.Make = codes "make"
+name_of kind.Galileo = codes "galileo"
+name_of kind.Paths = codes "paths"
+name_of kind.Why = codes "why"
+name_of kind.Confirm = codes "confirm"
 
 abbrev pub kind_of : Command → Kind
 kind_of (Check root files) = kind.Check
@@ -108,6 +126,10 @@ kind_of (Tree root target files) = kind.Tree
 kind_of (Fmea root files all) = kind.Fmea
 kind_of (Report root target files chosen max_order) = kind.Report
 kind_of (Make number text) = kind.Make
+kind_of (Galileo files limit max_order paths) = kind.Galileo
+kind_of (Paths root target files paging) = kind.Paths
+kind_of (Why root target files set) = kind.Why
+kind_of (Confirm root target files set) = kind.Confirm
 
 -- The plain words and the values of the options are a command.
 abbrev pub IsRead : List (List ℕ) → List (List ℕ) → Values → Command → Type 0
@@ -131,6 +153,25 @@ IsRead reports plain values (Report root target files chosen max_order) =
 IsRead reports plain values (Make number text) =
     (number_word : List ℕ) × (plain ≡ codes "make" ∷ number_word ∷ [])
     × IsNumberText number_word number × (1 ≤ number) × (number ≤ 512) × (text ≡ values.text)
+IsRead reports plain values (Galileo files limit max_order paths) =
+    (plain ≡ codes "galileo" ∷ files) × (length files ≡ 1)
+    × Says IsNumberText values.limit limit
+    × Says IsNumberText values.max_order max_order
+    × (paths ≡ values.paths)
+IsRead reports plain values (Paths root target files paging) =
+    (root_word : List ℕ) × (target_word : List ℕ) × (plain ≡ codes "paths" ∷ root_word ∷ target_word ∷ files)
+    × NamesModel root_word root files × IsFolded target_word target
+    × Says IsNumberText values.limit paging.limit
+    × Says IsFolded values.after paging.after
+    × Says IsNumberText values.max_order paging.max_order
+IsRead reports plain values (Why root target files set) =
+    (root_word : List ℕ) × (target_word : List ℕ) × (plain ≡ codes "why" ∷ root_word ∷ target_word ∷ files)
+    × NamesModel root_word root files × IsFolded target_word target
+    × Says IsFolded values.set (Some set)
+IsRead reports plain values (Confirm root target files set) =
+    (root_word : List ℕ) × (target_word : List ℕ) × (plain ≡ codes "confirm" ∷ root_word ∷ target_word ∷ files)
+    × NamesModel root_word root files × IsFolded target_word target × (2 ≤ length files)
+    × Says IsFolded values.set (Some set)
 
 -- The answer is the command that the plain words and values are, or none where they are none.
 abbrev pub ReadsAs : List (List ℕ) → List (List ℕ) → Values → Option CommandInCode → Type 0

@@ -127,6 +127,14 @@ pub data Command : Type 0 where
   Report : Root → List ℕ → List (List ℕ) → List ℕ → Option ℕ → Command
   -- what is said of a model that is made, of this size; or its text
   Make : ℕ → Bool → Command
+  -- the minimal cut sets of the tree in a file of Galileo text, at most so many, of at most so many events; or its minimal path sets
+  Galileo : List (List ℕ) → Option ℕ → Option ℕ → Bool → Command
+  -- a page of the minimal path sets of such a fact
+  Paths : Root → List ℕ → List (List ℕ) → Paging → Command
+  -- why such a fact holds under a set of events, of which this is the text
+  Why : Root → List ℕ → List (List ℕ) → List ℕ → Command
+  -- whether a derivation, which stands in the first file, shows that; the model stands in the others
+  Confirm : Root → List ℕ → List (List ℕ) → List ℕ → Command
 
 -- the names of the files of a command
 abbrev pub files_of : Command → List (List ℕ)
@@ -136,6 +144,10 @@ files_of (Tree root target files) = files
 files_of (Fmea root files all) = files
 files_of (Report root target files chosen max_order) = files
 files_of (Make number text) = []
+files_of (Galileo files limit max_order paths) = files
+files_of (Paths root target files paging) = files
+files_of (Why root target files set) = files
+files_of (Confirm root target files set) = files
 
 -- what an option says where it is given, and nothing where it is not
 abbrev pub Says : {A : Type 0} → (List ℕ → A → Type 0) → Option (List ℕ) → Option A → Type 0
@@ -215,6 +227,29 @@ IsCommand reports words (Report root target files chosen max_order) =
 IsCommand reports words (Make number text) =
     (number_word : List ℕ) × (given : List Given) × AreWords words (codes "make" ∷ number_word ∷ []) (codes "text" ∷ []) [] given
     × IsNumberText number_word number × (1 ≤ number) × (number ≤ 512) × (text ≡ has_flag (codes "text") given)
+IsCommand reports words (Galileo files limit max_order paths) =
+    (given : List Given) × AreWords words (codes "galileo" ∷ files) (codes "paths" ∷ []) (codes "limit" ∷ codes "max-order" ∷ []) given
+    × (length files ≡ 1)
+    × Says IsNumberText (value_of (codes "limit") given) limit
+    × Says IsNumberText (value_of (codes "max-order") given) max_order
+    × (paths ≡ has_flag (codes "paths") given)
+IsCommand reports words (Paths root target files paging) =
+    (root_word : List ℕ) × (target_word : List ℕ) × (given : List Given)
+    × AreWords words (codes "paths" ∷ root_word ∷ target_word ∷ files) [] (codes "limit" ∷ codes "after" ∷ codes "max-order" ∷ []) given
+    × NamesModel root_word root files × IsFolded target_word target
+    × Says IsNumberText (value_of (codes "limit") given) paging.limit
+    × Says IsFolded (value_of (codes "after") given) paging.after
+    × Says IsNumberText (value_of (codes "max-order") given) paging.max_order
+IsCommand reports words (Why root target files set) =
+    (root_word : List ℕ) × (target_word : List ℕ) × (given : List Given)
+    × AreWords words (codes "why" ∷ root_word ∷ target_word ∷ files) [] (codes "set" ∷ []) given
+    × NamesModel root_word root files × IsFolded target_word target
+    × Says IsFolded (value_of (codes "set") given) (Some set)
+IsCommand reports words (Confirm root target files set) =
+    (root_word : List ℕ) × (target_word : List ℕ) × (given : List Given)
+    × AreWords words (codes "confirm" ∷ root_word ∷ target_word ∷ files) [] (codes "set" ∷ []) given
+    × NamesModel root_word root files × IsFolded target_word target × (2 ≤ length files)
+    × Says IsFolded (value_of (codes "set") given) (Some set)
 
 -- The words give a command.
 abbrev pub GiveCommand : List (List ℕ) → List (List ℕ) → Type 0
@@ -239,10 +274,11 @@ before_options (word ∷ words) = if is_option word then [] else word ∷ before
 -- how many plain words of a command of this name stand before its files
 abbrev pub words_before_files : List ℕ → ℕ
 words_before_files name =
-    if is_same_text name (codes "check") then 2 else if is_same_text name (codes "fmea") then 2 else if is_same_text name (codes "make") then 2 else 3
+    if is_same_text name (codes "check") then 2 else if is_same_text name (codes "fmea") then 2 else if is_same_text name (codes "make") then 2
+    else if is_same_text name (codes "galileo") then 1 else 3
 
--- the words that name files: those behind the first two of `check`, `fmea` and `make`, and behind the first three of any other,
--- up to the first that begins with `-`
+-- the words that name files: those behind the first two of `check`, `fmea` and `make`, behind the first of `galileo`, and behind
+-- the first three of any other, up to the first that begins with `-`
 abbrev pub file_words : List (List ℕ) → List (List ℕ)
 file_words [] = []
 file_words (name ∷ words) = drop (words_before_files name) (before_options (name ∷ words))

@@ -57,6 +57,35 @@ pub enum Command<'a> {
         number: u32,
         text: bool,
     },
+    /// The minimal cut sets of the tree in a file of Galileo text, which is the only file: at most so many, of at most so many
+    /// events; or its minimal path sets.
+    Galileo {
+        files: &'a [Word],
+        limit: Option<u32>,
+        max_order: Option<u32>,
+        paths: bool,
+    },
+    /// A page of the minimal path sets of such a fact.
+    Paths {
+        root: Root,
+        target: Name,
+        files: &'a [Word],
+        paging: Paging,
+    },
+    /// Why such a fact holds under a set of events, of which this is the text, folded.
+    Why {
+        root: Root,
+        target: Name,
+        files: &'a [Word],
+        set: Name,
+    },
+    /// Whether the derivation in the first file shows that; the model stands in the others, of which there is one at least.
+    Confirm {
+        root: Root,
+        target: Name,
+        files: &'a [Word],
+        set: Name,
+    },
 }
 
 /// Which page of a listing is asked for.
@@ -136,6 +165,10 @@ fn command_of<'a>(
         Kind::Fmea => fmea(alloc, words, options),
         Kind::Report => report(alloc, words, options, reports),
         Kind::Make => Ok(make(words, options)),
+        Kind::Galileo => Ok(galileo(words, options)),
+        Kind::Paths => paths(alloc, words, options),
+        Kind::Why => why(alloc, words, options),
+        Kind::Confirm => confirm(alloc, words, options),
     }
 }
 
@@ -279,4 +312,86 @@ fn make<'a>(words: &'a [Word], options: &Options<'_>) -> Option<Command<'a>>
         number,
         text: options.text,
     })
+}
+
+fn galileo<'a>(words: &'a [Word], options: &Options<'_>) -> Option<Command<'a>>
+    ensures { (reports : List (List ℕ)) → ReadsAs reports (codes "galileo" ∷ words.now) (options_shown options.now) result }
+{
+    if words.len() != 1 {
+        return None;
+    }
+    let limit = number_said(options.limit)?;
+    let max_order = number_said(options.max_order)?;
+    Some(Command::Galileo {
+        files: words,
+        limit,
+        max_order,
+        paths: options.paths,
+    })
+}
+
+fn paths<'a>(alloc: Global, words: &'a [Word], options: &Options<'_>) -> Mem<Option<Command<'a>>>
+    ensures { (reports : List (List ℕ)) → IfOk result (ReadsAs reports (codes "paths" ∷ words.now) (options_shown options.now)) }
+{
+    let [root, target, files @ ..] = words else {
+        return Ok(None);
+    };
+    let Some(root) = root_in(alloc, root.items(), files)? else {
+        return Ok(None);
+    };
+    let Some(paging) = paging_of(alloc, options)? else {
+        return Ok(None);
+    };
+    let target = fold(alloc, target.items())?;
+    Ok(Some(Command::Paths {
+        root,
+        target,
+        files,
+        paging,
+    }))
+}
+
+fn why<'a>(alloc: Global, words: &'a [Word], options: &Options<'_>) -> Mem<Option<Command<'a>>>
+    ensures { (reports : List (List ℕ)) → IfOk result (ReadsAs reports (codes "why" ∷ words.now) (options_shown options.now)) }
+{
+    let [root, target, files @ ..] = words else {
+        return Ok(None);
+    };
+    let Some(root) = root_in(alloc, root.items(), files)? else {
+        return Ok(None);
+    };
+    let Some(set) = folded_said(alloc, options.set)? else {
+        return Ok(None);
+    };
+    let target = fold(alloc, target.items())?;
+    Ok(Some(Command::Why {
+        root,
+        target,
+        files,
+        set,
+    }))
+}
+
+fn confirm<'a>(alloc: Global, words: &'a [Word], options: &Options<'_>) -> Mem<Option<Command<'a>>>
+    ensures { (reports : List (List ℕ)) → IfOk result (ReadsAs reports (codes "confirm" ∷ words.now) (options_shown options.now)) }
+{
+    let [root, target, files @ ..] = words else {
+        return Ok(None);
+    };
+    if files.len() < 2 {
+        return Ok(None);
+    }
+    let Some(root) = root_in(alloc, root.items(), files)? else {
+        return Ok(None);
+    };
+    let Some(set) = folded_said(alloc, options.set)? else {
+        return Ok(None);
+    };
+    let target = fold(alloc, target.items())?;
+    Ok(Some(Command::Confirm {
+        root,
+        target,
+        files,
+        set,
+    }))
 }

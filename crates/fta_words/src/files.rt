@@ -3,8 +3,8 @@ ghost use Rattle.fta_words.specs.Words.{before_options, file_words, is_option, w
 
 use plain_values::{Word, is_same};
 
-/// The words that name files: those behind the first two of `check`, `fmea` and `make`, and behind the first three of any other,
-/// up to the first that begins with `-`.
+/// The words that name files: those behind the first two of `check`, `fmea` and `make`, behind the first of `galileo`, and behind
+/// the first three of any other, up to the first that begins with `-`.
 pub fn file_words(words: &[Word]) -> &[Word]
     ensures { result.now ≡ file_words words.now }
 {
@@ -26,6 +26,8 @@ fn words_before_files(name: &[u8]) -> usize
 {
     if is_same(name, b"check") || is_same(name, b"fmea") || is_same(name, b"make") {
         2
+    } else if is_same(name, b"galileo") {
+        1
     } else {
         3
     }

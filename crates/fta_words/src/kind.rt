@@ -13,6 +13,10 @@ pub(crate) enum Kind {
     Fmea,
     Report,
     Make,
+    Galileo,
+    Paths,
+    Why,
+    Confirm,
 }
 
 /// The command of a name.
@@ -37,6 +41,18 @@ pub(crate) fn kind_named(name: &[u8]) -> Option<Kind>
     if is_same(name, b"make") {
         return Some(Kind::Make);
     }
+    if is_same(name, b"galileo") {
+        return Some(Kind::Galileo);
+    }
+    if is_same(name, b"paths") {
+        return Some(Kind::Paths);
+    }
+    if is_same(name, b"why") {
+        return Some(Kind::Why);
+    }
+    if is_same(name, b"confirm") {
+        return Some(Kind::Confirm);
+    }
     None
 }
 
@@ -47,7 +63,14 @@ pub(crate) fn has_flag(kind: Kind, name: &[u8]) -> bool
     match kind {
         Kind::Fmea => is_same(name, b"all"),
         Kind::Make => is_same(name, b"text"),
-        Kind::Check | Kind::Cuts | Kind::Tree | Kind::Report => false,
+        Kind::Galileo => is_same(name, b"paths"),
+        Kind::Check
+        | Kind::Cuts
+        | Kind::Tree
+        | Kind::Report
+        | Kind::Paths
+        | Kind::Why
+        | Kind::Confirm => false,
     }
 }
 
@@ -56,10 +79,12 @@ pub(crate) fn has_valued(kind: Kind, name: &[u8]) -> bool
     ensures { IsTrue result ↔ Contains (valued_of kind) name.now }
 {
     match kind {
-        Kind::Cuts => {
+        Kind::Cuts | Kind::Paths => {
             is_same(name, b"limit") || is_same(name, b"after") || is_same(name, b"max-order")
         }
         Kind::Report => is_same(name, b"reports") || is_same(name, b"max-order"),
+        Kind::Galileo => is_same(name, b"limit") || is_same(name, b"max-order"),
+        Kind::Why | Kind::Confirm => is_same(name, b"set"),
         Kind::Check | Kind::Tree | Kind::Fmea | Kind::Make => false,
     }
 }

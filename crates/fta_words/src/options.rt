@@ -15,8 +15,10 @@ pub(crate) struct Options<'a> {
     pub(crate) after: Option<&'a [u8]>,
     pub(crate) max_order: Option<&'a [u8]>,
     pub(crate) reports: Option<&'a [u8]>,
+    pub(crate) set: Option<&'a [u8]>,
     pub(crate) all: bool,
     pub(crate) text: bool,
+    pub(crate) paths: bool,
 }
 
 /// Whether the words are options of the command, none of which stands twice.

@@ -36,8 +36,10 @@ fn options_found<'t>(matches: &ArgMatches<'t>) -> Options<'t>
         after: bytes_of(matches.get_str("after")),
         max_order: bytes_of(matches.get_str("max-order")),
         reports: bytes_of(matches.get_str("reports")),
+        set: bytes_of(matches.get_str("set")),
         all: matches.get_flag("all"),
         text: matches.get_flag("text"),
+        paths: matches.get_flag("paths"),
     }
 }
 
@@ -61,8 +63,10 @@ fn options_line<'a>(alloc: Global) -> Result<Command<'a>, AllocError>
         .arg(valued(alloc, "after"))?
         .arg(valued(alloc, "max-order"))?
         .arg(valued(alloc, "reports"))?
+        .arg(valued(alloc, "set"))?
         .arg(flag(alloc, "all"))?
-        .arg(flag(alloc, "text"))
+        .arg(flag(alloc, "text"))?
+        .arg(flag(alloc, "paths"))
 }
 
 /// An option that has a value.

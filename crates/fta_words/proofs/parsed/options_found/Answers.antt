@@ -11,6 +11,8 @@ returns c =
       after = c.bytes_of-2.ensures ∙ c.get_str-2.ensures ∙ first_value-rows found (codes "after");
       max_order = c.bytes_of-3.ensures ∙ c.get_str-3.ensures ∙ first_value-rows found (codes "max-order");
       reports = c.bytes_of-4.ensures ∙ c.get_str-4.ensures ∙ first_value-rows found (codes "reports");
+      set = c.bytes_of-5.ensures ∙ c.get_str-5.ensures ∙ first_value-rows found (codes "set");
       all = (λ is. c.get_flag.ensures.value (one_text-rows found (codes "all") ∙ is), λ is. c.get_flag.ensures.other (one_text-rows found (codes "all") ∙ is));
       text = (λ is. c.get_flag-2.ensures.value (one_text-rows found (codes "text") ∙ is), λ is. c.get_flag-2.ensures.other (one_text-rows found (codes "text") ∙ is));
+      paths = (λ is. c.get_flag-3.ensures.value (one_text-rows found (codes "paths") ∙ is), λ is. c.get_flag-3.ensures.other (one_text-rows found (codes "paths") ∙ is));
     }

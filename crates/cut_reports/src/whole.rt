@@ -1,0 +1,46 @@
+ghost use Rattle.std.specs.Prelude.{◌≡◌, ◌++◌, IfErr, OnOk, Some, length, true, vec_len};
+ghost use Rattle.cutset_lister.specs.Walks.{IsStarted, sets_left};
+ghost use Rattle.cut_reports.specs.Feeding.{IsKept, RoseAt, TakesEach};
+ghost use Rattle.cut_reports.specs.Places.{AtChosen, is_among};
+ghost use Rattle.cut_reports.specs.Texts.{FaultAt, reports_text};
+ghost use Rattle.plain_values.specs.Rising.{RisesWithin};
+
+use crate::beginning::begin_all;
+use crate::feeding::feed;
+use crate::finishing::finish_all;
+use crate::stop::ReportStop;
+use cutset_lister::Listing;
+use fta_outside::{Report, Steps};
+use plain_values::Name;
+use std::sync::ledger::Ledger;
+use zdd_store::Store;
+
+/// Gives each chosen report all the sets, and then adds the heading lines and the texts of the chosen reports.
+pub fn report_text<L: Ledger>(
+    reports: &mut Vec<Box<dyn Report>>,
+    chosen: &[u32],
+    listing: &mut Listing,
+    store: &Store,
+    steps: &mut Steps<L>,
+    names: &[Name],
+    to: &mut Vec<u8>,
+) -> Result<(), ReportStop>
+    requires chosen { RisesWithin 0 (vec_len reports.old) chosen.now }
+    requires started { IsStarted store.now listing.old }
+    requires sets { TakesEach (Some (length names.now)) (sets_left store.now listing.old) }
+    ensures text { OnOk result (to.new.items ≡ to.old.items ++ reports_text label text chosen.now (sets_left store.now listing.old) names.now reports.old.items) }
+    ensures kept { AtChosen chosen.now (IsKept text label report_faults) reports.old.items reports.new.items }
+    ensures failed { IfErr result (FaultAt (λ at. (is_among chosen.now at ≡ true) × RoseAt report_faults at reports.old.items reports.new.items)) }
+    ensures count { vec_len reports.new ≡ vec_len reports.old }
+{
+    if let Err(stop) = begin_all(reports, chosen, names.len()) {
+        return Err(stop);
+    }
+    if let Err(fault) = feed(reports, chosen, listing, store, steps) {
+        return Err(ReportStop::Fault(fault.report));
+    }
+    match finish_all(reports, chosen, names, to) {
+        Ok(()) => Ok(()),
+        Err(end) => Err(end),
+    }
+}
