@@ -18,3 +18,4 @@ pub mod Made
 pub mod ByRounds
 pub mod Used
 pub mod WhyText
+pub mod OneDerivation

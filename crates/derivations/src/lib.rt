@@ -18,6 +18,6 @@ mod writing;
 pub use by_rounds::derive;
 pub use checking::check_derivation;
 pub use derivation::{Derivation, Finding, Firing};
-pub use laws::confirmed;
+pub use laws::{confirmed, one_derivation, one_reading};
 pub use text::{read_steps, step_place};
 pub use writing::{write_derivation, write_step};
