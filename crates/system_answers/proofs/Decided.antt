@@ -1,0 +1,142 @@
+-- One end at most passes of the texts of answers on a system, and where one does no other.
+use Rattle.std.proofs.Common.{◌≡◌, ℕ, Bool, List, Option, Some, None, refl, sym, ap, subst, ◌∙◌, inl, inr}
+use Rattle.plain_values.specs.declared.refusal.Refusal.{Refusal}
+use Rattle.fault_system.specs.Systems.{IsSystem, System}
+use Rattle.fault_system.specs.Listings.{IsListing}
+use Rattle.cutset_lister.specs.SetText.{HasTokenNames}
+use Rattle.cutset_lister.proofs.Scans.{one-set}
+use Rattle.property_reader.specs.declared.rate.Rate.{Rate}
+use Rattle.round_gates.specs.Targets.{IsConstantly}
+use Rattle.round_gates.specs.Staged.{IsConstant}
+use Rattle.round_gates.proofs.Growing.{constantly, one-constant}
+use Rattle.round_gates.proofs.OneTree.{one-tree, tree-or-large}
+use Rattle.galileo_writer.specs.TreeText.{tree_text as text_of_tree}
+use Rattle.fta_words.specs.declared.command.Paging.{Paging}
+use Rattle.fault_system.proofs.Elements.{In-contains, contains_In}
+use Rattle.fault_system.proofs.Orders.{one_order}
+use Rattle.backward_slice.specs.Slices.{HasLargeSlice, IsServed}
+use Rattle.backward_slice.proofs.OneSlice.{one_large, one_served, served_or_large}
+use Rattle.phases.specs.Phases.{IsDecided, IsDecidedStep}
+use Rattle.phases.specs.declared.status.Status.{Status}
+use Rattle.phases.specs.declared.status.Status.TheVariants.{Refused, Constant}
+use Rattle.path_sets.specs.PathSets.{HasLargePaths, IsPathListing}
+use Rattle.path_sets.proofs.Listings.{one-listing}
+use Rattle.phases.proofs.Leaves.{decided_accepts, decided_answers, decided_rejects, decided_tests}
+use Rattle.system_answers.specs.Targets.{IsFactNamed, IsStart, LacksStart, LacksTarget}
+use Rattle.galileo_reader.specs.declared.tree.NamedTree.{NamedTree}
+use Rattle.galileo_reader.specs.Trees.{IsRead}
+use Rattle.galileo_reader.specs.TreeSystems.{system_of, target_of as top_of_tree}
+use Rattle.galileo_reader.proofs.OneAnswer.{one-read, one-wrong, read-apart}
+use Rattle.system_answers.specs.Galileo.{LacksNamedTree, flaw_refusal}
+use Rattle.system_answers.specs.Texts.{cuts_text, galileo_of, galileo_text, named_tree, paths_text, report_text, slice_of, start_of, target_of, tree_sets, tree_text}
+use Rattle.system_answers.specs.Trees.{LacksTree}
+use Rattle.system_answers.specs.Voices.{Voice}
+
+one_listing : (system : System) (target : ℕ) (most : Option ℕ) (a b : List (List ℕ)) → IsListing system target most a → IsListing system target most b → a ≡ b
+one_listing system target most a b one other =
+    one_order a b one.ordered other.ordered (λ set i. In-contains set b ((other.exact set).1 ((one.exact set).0 (contains_In set a i))))
+    (λ set i. In-contains set a ((one.exact set).1 ((other.exact set).0 (contains_In set b i))))
+
+-- a text is that of one set at most, and a set has it, or none
+one_start : (text : Option (List ℕ)) (system : System) → IsSystem system → HasTokenNames system → (a b : Option (List ℕ)) → IsStart system text a → IsStart system text b → a ≡ b
+one_start None system is names None None h k = refl
+one_start None system is names None (Some b) h k = absurd k
+one_start None system is names (Some a) b h k = absurd h
+one_start (Some text) system is names None b h k = absurd h
+one_start (Some text) system is names (Some a) None h k = absurd k
+one_start (Some text) system is names (Some a) (Some b) h k = ap (λ (set : List ℕ). Some set) (one-set system text a b is names h k)
+
+start_or_lacks : (text : Option (List ℕ)) (system : System) (start : Option (List ℕ)) (refusal : Refusal) → IsStart system text start → LacksStart system text refusal → ⊥
+start_or_lacks None system start refusal is lacks = lacks
+start_or_lacks (Some text) system None refusal is lacks = is
+start_or_lacks (Some text) system (Some set) refusal is lacks = lacks.0 set is
+
+lacks_one : (text : Option (List ℕ)) (system : System) (a b : Refusal) → LacksStart system text a → LacksStart system text b → a ≡ b
+lacks_one None system a b h k = absurd h
+lacks_one (Some text) system a b h k = h.1 ∙ sym k.1
+
+-- a target has one tree at most, and is constant in one way at most
+module _ (system : System) (target : ℕ) where
+  varies : (always : Bool) → IsConstantly system target always → ((is : Bool) → IsConstant system target is → ⊥) → ⊥
+  varies always constant varying = varying always ((constantly system target always).1 constant)
+
+  one_lack : (a b : Status) → LacksTree system target a → LacksTree system target b → a ≡ b
+  one_lack a b h k =
+      elim h [
+        | inl x ↦ elim k [
+          | inl y ↦ x.2 ∙ ap Constant (one-constant system target x.0 y.0 ((constantly system target x.0).1 x.1) ((constantly system target y.0).1 y.1)) ∙ sym y.2
+          | inr y ↦ absurd (varies x.0 x.1 y.1.varying)
+        ]
+        | inr x ↦ elim k [
+          | inl y ↦ absurd (varies y.0 y.1 x.1.varying)
+          | inr y ↦ x.2 ∙ ap Refused (x.1.refusal_is ∙ sym y.1.refusal_is) ∙ sym y.2
+        ]
+      ]
+
+-- texts are decided up to what is the same of statuses
+module _ (Same : Status → Status → Type 0) (itself : (status : Status) → Same status status) where
+  same_refusal : (a b : Refusal) → a ≡ b → Same (Refused a) (Refused b)
+  same_refusal a b is = subst (λ r. Same (Refused a) (Refused r)) is (itself (Refused a))
+
+  pub target_decided : (target : List ℕ) (system : System) → IsDecided Same (target_of target system)
+  target_decided target system = decided_answers Same itself (IsFactNamed system target) (LacksTarget system target) (λ m n h k. k.alone m h.has) (λ number refusal named lacks. lacks.0 number named.has)
+
+  pub slice_decided : (number : ℕ) (system : System) → IsDecided Same (slice_of number system)
+  slice_decided number system =
+      decided_rejects Same (IsServed system number) (HasLargeSlice system number) (one_served system number) (λ slice refusal served large. served_or_large system number slice refusal served large) (λ a b x y. same_refusal a b (one_large system number a b x y))
+
+  start_decided : (text : Option (List ℕ)) (system : System) → IsSystem system → HasTokenNames system → IsDecided Same (start_of text system)
+  start_decided text system is names =
+      decided_rejects Same (IsStart system text) (LacksStart system text) (one_start text system is names) (start_or_lacks text system) (λ a b h k. same_refusal a b (lacks_one text system a b h k))
+
+  pub cuts_decided : (target : List ℕ) (paging : Paging) (system : System) → IsSystem system → HasTokenNames system → IsDecided Same (cuts_text target paging system)
+  cuts_decided target paging system is names = (
+    target_decided target system,
+    λ number named. (
+      start_decided paging.after system is names,
+      λ start begins. (slice_decided number system, λ slice served. (decided_accepts Same (IsListing system number paging.max_order) (one_listing system number paging.max_order), λ sets are. tt)),
+    ),
+  )
+
+  pub paths_decided : (target : List ℕ) (paging : Paging) (system : System) → IsSystem system → HasTokenNames system → IsDecided Same (paths_text target paging system)
+  paths_decided target paging system is names = (
+    target_decided target system,
+    λ number named. (
+      start_decided paging.after system is names,
+      λ start begins. (
+        slice_decided number system,
+        λ slice served. (decided_tests Same itself (HasLargePaths system number), λ _ clear. (decided_accepts Same (IsPathListing system number paging.max_order) (one-listing system number paging.max_order), λ sets are. tt)),
+      ),
+    ),
+  )
+
+  galileo_decided : (system : System) (target : ℕ) (rates : List Rate) → IsSystem system → IsDecided Same (galileo_of target system rates)
+  galileo_decided system target rates is = record {
+    one_value = λ a b h k. h.text_is ∙ ap (λ tree. text_of_tree system tree rates) (one-tree system is target h.tree k.tree h.is_tree k.is_tree) ∙ sym k.text_is;
+    apart = λ text status it lacks. elim lacks [ inl x ↦ varies system target x.0 x.1 it.is_tree.varying | inr x ↦ tree-or-large system is target it.tree x.0 it.is_tree x.1 ];
+    one_stop = λ a b h k. subst (Same a) (one_lack system target a b h k) (itself a);
+  }
+
+  pub tree_decided : (target : List ℕ) (system : System) (rates : List Rate) → IsSystem system → IsDecided Same (tree_text target system rates)
+  tree_decided target system rates is = (target_decided target system, λ number named. (slice_decided number system, λ slice served. galileo_decided system number rates is))
+
+  pub listing_decided : (number : ℕ) (most : Option ℕ) (system : System) → IsDecidedStep Same (IsListing system number most) (λ status. ⊥)
+  listing_decided number most system = decided_accepts Same (IsListing system number most) (one_listing system number most)
+
+  pub report_decided : (target chosen : List ℕ) (max_order : Option ℕ) (voices : List Voice) (system : System) → IsDecided Same (report_text target chosen max_order voices system)
+  report_decided target chosen max_order voices system =
+      (target_decided target system, λ number named. (slice_decided number system, λ slice served. (listing_decided number max_order system, λ sets are. tt)))
+
+  -- the tree of a text, and its listing
+  named_tree_decided : (text : List ℕ) → IsDecided Same (named_tree text)
+  named_tree_decided text =
+      decided_rejects Same (IsRead text) (LacksNamedTree text) (one-read text)
+      (λ tree refusal read lacks. read-apart text tree lacks.0 read lacks.1)
+      (λ a b x y. same_refusal a b (x.2 ∙ ap flaw_refusal (one-wrong text x.0 y.0 x.1 y.1) ∙ sym y.2))
+
+  pub tree_sets_decided : (limit max_order : Option ℕ) (tree : NamedTree) → IsDecided Same (tree_sets limit max_order tree)
+  tree_sets_decided limit max_order tree =
+      (slice_decided (top_of_tree tree tree.top) (system_of tree), λ slice served. (listing_decided (top_of_tree tree tree.top) max_order (system_of tree), λ sets are. tt))
+
+  pub galileo_text_decided : (limit max_order : Option ℕ) (text : List ℕ) → IsDecided Same (galileo_text limit max_order text)
+  galileo_text_decided limit max_order text = (named_tree_decided text, λ tree read. tree_sets_decided limit max_order tree)

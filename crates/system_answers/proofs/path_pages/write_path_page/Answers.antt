@@ -1,0 +1,13 @@
+use Rattle.std.proofs.Common.{inl, inr}
+use Rattle.cutset_lister.specs.Walks.{all_sets}
+use Rattle.cutset_writer.specs.Text.{listing_page}
+use Rattle.cutset_writer.specs.declared.form.SetForm.TheVariants.{Token}
+use Rattle.system_answers.specs.Prints.{NoFault}
+use Rattle.system_answers.specs.Texts.{path_page}
+use Rattle.system_answers.proofs.Prints.{prints_front, prints_stop}
+use Rattle.system_answers.proofs.path_pages.write_path_page.Goals as goal
+
+pub returns-in_err-writer : goal.returns-in_err-writer
+returns-in_err-writer g c =
+    prints_stop NoFault (path_page c.args.part.now.target c.args.start.now c.args.paging.now c.args.system.now) c.in_err-writer.field-0.0 c.from_residual.result _ _ c.from_residual.ensures.1
+    (elim c.in_err-writer.ensures.refused [ inl stops ↦ inl (record { stopped = inl stops.stopped }) | inr memory ↦ inr memory ])

@@ -1,0 +1,7 @@
+pub mod Prints
+pub mod Voices
+pub mod Targets
+pub mod Trees
+pub mod Galileo
+pub mod Texts
+pub mod Derivations

@@ -1,0 +1,105 @@
+-- The texts of answers on a system, as phases.
+use Rattle.std.specs.Prelude.{ℕ, List, Option, None}
+use Rattle.phases.specs.Phases.{Phase, yields, tells, tests, accepts, answers, rejects, ◌>>=◌}
+use Rattle.fault_system.specs.Systems.{System}
+use Rattle.fault_system.specs.Listings.{IsListing}
+use Rattle.backward_slice.specs.Slices.{HasLargeSlice, IsServed}
+use Rattle.backward_slice.specs.declared.parts.Slice.{Slice}
+use Rattle.property_reader.specs.declared.rate.Rate.{Rate}
+use Rattle.cutset_writer.specs.Text.{listing_page}
+use Rattle.cutset_writer.specs.declared.form.SetForm.{SetForm}
+use Rattle.cutset_writer.specs.declared.form.SetForm.TheVariants.{Quoted, Token}
+use Rattle.galileo_reader.specs.declared.tree.NamedTree.{NamedTree}
+use Rattle.galileo_reader.specs.Trees.{IsRead}
+use Rattle.galileo_reader.specs.TreeSystems.{system_of, target_of as top_of_tree}
+use Rattle.path_sets.specs.PathSets.{HasLargePaths, IsPathListing}
+use Rattle.system_answers.specs.Galileo.{LacksNamedTree}
+use Rattle.fta_words.specs.declared.command.Paging.{Paging}
+use Rattle.system_answers.specs.Targets.{IsFactNamed, IsStart, LacksStart, LacksTarget}
+use Rattle.system_answers.specs.Trees.{IsTreeText, LacksTree}
+use Rattle.system_answers.specs.Voices.{Voice, voices_text}
+
+-- the number of the fact that the target names
+abbrev pub target_of : List ℕ → System → Phase ℕ
+target_of target system = answers (IsFactNamed system target) (LacksTarget system target)
+
+-- the set after which a page begins, where a text of it is given
+abbrev pub start_of : Option (List ℕ) → System → Phase (Option (List ℕ))
+start_of after system = rejects (IsStart system after) (LacksStart system after)
+
+-- the slice of a target, which is not too large
+abbrev pub slice_of : ℕ → System → Phase Slice
+slice_of number system = rejects (IsServed system number) (HasLargeSlice system number)
+
+-- a page of a target's listing, whose sets stand in this form, behind a set, as many as a limit lets, of so many events at most
+abbrev pub page_in : SetForm → ℕ → Option (List ℕ) → Option ℕ → Option ℕ → System → Phase (List ℕ)
+page_in form number start limit max_order system = do
+  sets ← accepts (IsListing system number max_order)
+  yields (listing_page form system start limit sets)
+
+-- the page of a target's listing
+abbrev pub page_of : ℕ → Option (List ℕ) → Paging → System → Phase (List ℕ)
+page_of number start paging system = page_in Token number start paging.limit paging.max_order system
+
+-- the text of `cuts`
+abbrev pub cuts_text : List ℕ → Paging → System → Phase (List ℕ)
+cuts_text target paging system = do
+  number ← target_of target system
+  start ← start_of paging.after system
+  _ ← slice_of number system
+  page_of number start paging system
+
+-- the text of a target's tree
+abbrev pub galileo_of : ℕ → System → List Rate → Phase (List ℕ)
+galileo_of number system rates = tells (IsTreeText system rates number) (LacksTree system number)
+
+-- the text of `tree`
+abbrev pub tree_text : List ℕ → System → List Rate → Phase (List ℕ)
+tree_text target system rates = do
+  number ← target_of target system
+  _ ← slice_of number system
+  galileo_of number system rates
+
+-- the text of the chosen reports on a target's listing
+abbrev pub reports_of : ℕ → List ℕ → Option ℕ → List Voice → System → Phase (List ℕ)
+reports_of number chosen max_order voices system = do
+  sets ← accepts (IsListing system number max_order)
+  yields (voices_text chosen sets system voices)
+
+-- the text of `report`
+abbrev pub report_text : List ℕ → List ℕ → Option ℕ → List Voice → System → Phase (List ℕ)
+report_text target chosen max_order voices system = do
+  number ← target_of target system
+  _ ← slice_of number system
+  reports_of number chosen max_order voices system
+
+-- the page of the minimal path sets of a target
+abbrev pub path_page : ℕ → Option (List ℕ) → Paging → System → Phase (List ℕ)
+path_page number start paging system = do
+  _ ← tests (HasLargePaths system number)
+  sets ← accepts (IsPathListing system number paging.max_order)
+  yields (listing_page Token system start paging.limit sets)
+
+-- the text of `paths`
+abbrev pub paths_text : List ℕ → Paging → System → Phase (List ℕ)
+paths_text target paging system = do
+  number ← target_of target system
+  start ← start_of paging.after system
+  _ ← slice_of number system
+  path_page number start paging system
+
+-- the tree of a Galileo text, which is that of the file of the number 0
+abbrev pub named_tree : List ℕ → Phase NamedTree
+named_tree text = rejects (IsRead text) (LacksNamedTree text)
+
+-- the minimal cut sets of a tree, in quotes: as many as a limit lets, of so many events at most
+abbrev pub tree_sets : Option ℕ → Option ℕ → NamedTree → Phase (List ℕ)
+tree_sets limit max_order tree = do
+  _ ← slice_of (top_of_tree tree tree.top) (system_of tree)
+  page_in Quoted (top_of_tree tree tree.top) None limit max_order (system_of tree)
+
+-- the text of `galileo`
+abbrev pub galileo_text : Option ℕ → Option ℕ → List ℕ → Phase (List ℕ)
+galileo_text limit max_order text = do
+  tree ← named_tree text
+  tree_sets limit max_order tree

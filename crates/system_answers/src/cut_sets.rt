@@ -1,0 +1,163 @@
+//! A page of the minimal cut sets of a target.
+
+ghost use Rattle.std.specs.Prelude.{◌≡◌, ◌<◌, IfErr, IfOk, IsErrOf, OnErr, OnOk, length, option_map};
+ghost use Rattle.phases.specs.Meets.{Meets};
+ghost use Rattle.phases.specs.declared.status.Status.TheVariants as any_status;
+ghost use Rattle.fta_outside.specs.Outside.{Rose, TookPrefix, with_bytes};
+ghost use Rattle.fault_system.specs.Listings.{IsListing};
+ghost use Rattle.backward_slice.specs.Slices.{IsSlice};
+ghost use Rattle.cutset_lister.specs.Walks.{IsStarted, all_sets, sets_left};
+ghost use Rattle.cutset_writer.specs.Pages.{IsReady};
+ghost use Rattle.cutset_writer.specs.Text.{listing_page};
+ghost use Rattle.cutset_lister.specs.SetText.{HasTokenNames};
+ghost use Rattle.system_answers.specs.Texts.{page_in, page_of, slice_of, start_of};
+ghost use Rattle.system_answers.specs.Prints.{Prints};
+
+use backward_slice::{Slice, slice};
+use cutset_engine::{family, in_slice};
+use cutset_lister::{Listing, read_token};
+use cutset_writer::{PageWriter, SetForm};
+use dependency_blocks::blocks;
+use fault_system::FaultSystem;
+use fta_outside::{Sink, WriteError};
+use fta_words::Paging;
+use phases::Status;
+use plain_values::{List, Mem};
+use std::alloc::Global;
+use zdd_store::Store;
+
+/// The set after which a page begins, where a text of it is given.
+pub fn find_start(
+    alloc: Global,
+    system: &FaultSystem,
+    paging: &Paging,
+) -> Result<Option<List<u32>>, Status>
+    requires { HasTokenNames system.now }
+    ensures { Meets (start_of paging.now.after system.now) result }
+{
+    match &paging.after {
+        Some(text) => Ok(Some(read_token(alloc, system, text.items())?)),
+        None => Ok(None),
+    }
+}
+
+/// The slice of a target; it is refused where it has too many facts or events.
+pub fn find_slice(alloc: Global, system: &FaultSystem, target: u32) -> Result<Slice, Status>
+    requires { target < length system.now.facts }
+    ensures { Meets (slice_of target system.now) result }
+{
+    let part = slice(alloc, system, target)?;
+    Ok(part)
+}
+
+/// Writes the page of the listing of the target of a slice.
+pub fn write_page<S: Sink>(
+    alloc: Global,
+    system: &FaultSystem,
+    part: &Slice,
+    start: &Option<List<u32>>,
+    paging: &Paging,
+    out: &mut S,
+) -> Result<(), Status>
+    requires { IsSlice system.now part.now.target part.now }
+    ensures page { Prints (page_of part.now.target start.now paging.now system.now) result (S.taken out.old) (S.taken out.new) (S.faults out.old) (S.faults out.new) }
+    ensures begins { IsErrOf result any_status.Memory → S.taken out.new ≡ S.taken out.old }
+{
+    write_page_in(
+        alloc,
+        system,
+        part,
+        SetForm::Token,
+        start,
+        paging.limit,
+        paging.max_order,
+        out,
+    )
+}
+
+/// Writes a page of the listing of the target of a slice, whose sets stand in this form.
+pub fn write_page_in<S: Sink>(
+    alloc: Global,
+    system: &FaultSystem,
+    part: &Slice,
+    form: SetForm,
+    start: &Option<List<u32>>,
+    limit: Option<u32>,
+    max_order: Option<u32>,
+    out: &mut S,
+) -> Result<(), Status>
+    requires { IsSlice system.now part.now.target part.now }
+    ensures page { Prints (page_in form part.now.target start.now limit max_order system.now) result (S.taken out.old) (S.taken out.new) (S.faults out.old) (S.faults out.new) }
+    ensures begins { IsErrOf result any_status.Memory → S.taken out.new ≡ S.taken out.old }
+{
+    let mut store = Store::new(alloc);
+    let writer = page_writer(alloc, system, part, max_order, &mut store)?;
+    write_listing(writer, system, &store, form, start, limit, out)?;
+    Ok(())
+}
+
+/// The listing of the target of a slice, about to be written.
+pub fn page_writer(
+    alloc: Global,
+    system: &FaultSystem,
+    part: &Slice,
+    max_order: Option<u32>,
+    store: &mut Store,
+) -> Mem<PageWriter>
+    requires { IsSlice system.now part.now.target part.now }
+    ensures ready { IfOk result (IsReady system.now store.new) }
+    ensures listing { IfOk result (λ writer. IsListing system.now part.now.target max_order (all_sets store.new writer.listing)) }
+{
+    in_slice();
+    let found = blocks(alloc, system, part)?;
+    let sets = family(alloc, system, part, &found, max_order, store)?;
+    PageWriter::start(alloc, system, store, sets, part.events.items())
+}
+
+/// The listing of the target of a slice, at its beginning.
+pub fn listing_of(
+    alloc: Global,
+    system: &FaultSystem,
+    part: &Slice,
+    max_order: Option<u32>,
+    store: &mut Store,
+) -> Mem<Listing>
+    requires { IsSlice system.now part.now.target part.now }
+    ensures started { IfOk result (IsStarted store.new) }
+    ensures left { IfOk result (λ listing. sets_left store.new listing ≡ all_sets store.new listing) }
+    ensures listing { IfOk result (λ listing. IsListing system.now part.now.target max_order (all_sets store.new listing)) }
+{
+    in_slice();
+    let found = blocks(alloc, system, part)?;
+    let sets = family(alloc, system, part, &found, max_order, store)?;
+    Listing::start(alloc, store, sets, part.events.items())
+}
+
+/// Writes the page of a listing. It takes no memory.
+pub fn write_listing<S: Sink>(
+    writer: PageWriter,
+    system: &FaultSystem,
+    store: &Store,
+    form: SetForm,
+    start: &Option<List<u32>>,
+    limit: Option<u32>,
+    out: &mut S,
+) -> Result<(), WriteError>
+    requires { IsReady system.now store.now writer }
+    ensures whole { OnOk result (S.taken out.new ≡ with_bytes (S.taken out.old) (listing_page form system.now start.now limit (all_sets store.now writer.listing))) }
+    ensures prefix { OnErr result (TookPrefix (S.taken out.old) (S.taken out.new) (listing_page form system.now start.now limit (all_sets store.now writer.listing))) }
+    ensures failed { OnErr result (Rose (S.faults out.old) (S.faults out.new)) }
+    ensures only { IfErr result (λ stop. stop ≡ WriteError.Failed) }
+{
+    writer.write(system, store, form, numbers_of(start), limit, out)?;
+    Ok(())
+}
+
+fn numbers_of(start: &Option<List<u32>>) -> Option<&[u32]>
+    ensures { option_map (λ set. set.now) result ≡ start.now }
+{
+    match start {
+        Some(set) => Some(set.items()),
+        None => None,
+    }
+}

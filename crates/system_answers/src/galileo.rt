@@ -1,0 +1,84 @@
+//! The minimal cut sets of a tree in Galileo text.
+
+ghost use Rattle.std.specs.Prelude.{◌≡◌, ◌≤◌, IfOk, length};
+ghost use Rattle.phases.specs.Meets.{Meets};
+ghost use Rattle.galileo_reader.specs.Trees.{IsNamedTree};
+ghost use Rattle.system_answers.specs.Galileo.{flaw_refusal};
+ghost use Rattle.system_answers.specs.Prints.{Prints};
+ghost use Rattle.system_answers.specs.Texts.{galileo_text, named_tree, tree_sets};
+
+use crate::cut_sets::{find_slice, write_page_in};
+use cutset_writer::SetForm;
+use fta_outside::Sink;
+use galileo_reader::{Flaw, GalileoFault, NamedTree, read, to_system};
+use phases::Status;
+use plain_values::{Code, Place, Refusal};
+use std::alloc::Global;
+
+/// Writes the minimal cut sets of the tree in a Galileo text of at most 4,194,304 bytes: as many as the limit lets, of so many
+/// events at most. Places of refusals are those of the file of the number 0.
+pub fn write_tree_sets<S: Sink>(
+    alloc: Global,
+    text: &[u8],
+    limit: Option<u32>,
+    max_order: Option<u32>,
+    out: &mut S,
+) -> Result<(), Status>
+    requires { length text.now ≤ 4194304 }
+    ensures { Prints (galileo_text limit max_order text.now) result (S.taken out.old) (S.taken out.new) (S.faults out.old) (S.faults out.new) }
+{
+    let tree = tree_in(alloc, text)?;
+    write_sets_of(alloc, &tree, limit, max_order, out)
+}
+
+/// The tree of a text.
+fn tree_in(alloc: Global, text: &[u8]) -> Result<NamedTree, Status>
+    requires { length text.now ≤ 4194304 }
+    ensures tree { Meets (named_tree text.now) result }
+    ensures named { IfOk result IsNamedTree }
+{
+    match read(alloc, text) {
+        Ok(tree) => Ok(tree),
+        Err(GalileoFault::Refused(flaw)) => Err(Status::Refused(refusal_of(flaw))),
+        Err(GalileoFault::Memory) => Err(Status::Memory),
+    }
+}
+
+/// What is wrong with a text, as a refusal.
+fn refusal_of(flaw: Flaw) -> Refusal
+    ensures { result ≡ flaw_refusal flaw }
+{
+    match flaw {
+        Flaw::BadLine(at) => Refusal::new(Code::BadLine, Place::At { file: 0, at }),
+        Flaw::BadCount(at) => Refusal::new(Code::BadCount, Place::At { file: 0, at }),
+        Flaw::DuplicateNode(at) => Refusal::new(Code::DuplicateNode, Place::At { file: 0, at }),
+        Flaw::NoTop => Refusal::new(Code::NoTop, Place::Whole(0)),
+        Flaw::UnknownNode(at) => Refusal::new(Code::UnknownNode, Place::At { file: 0, at }),
+        Flaw::Cyclic(at) => Refusal::new(Code::Cyclic, Place::At { file: 0, at }),
+    }
+}
+
+/// Writes the minimal cut sets of a tree.
+fn write_sets_of<S: Sink>(
+    alloc: Global,
+    tree: &NamedTree,
+    limit: Option<u32>,
+    max_order: Option<u32>,
+    out: &mut S,
+) -> Result<(), Status>
+    requires { IsNamedTree tree.now }
+    ensures { Prints (tree_sets limit max_order tree.now) result (S.taken out.old) (S.taken out.new) (S.faults out.old) (S.faults out.new) }
+{
+    let (system, target) = to_system(alloc, tree)?;
+    let part = find_slice(alloc, &system, target)?;
+    write_page_in(
+        alloc,
+        &system,
+        &part,
+        SetForm::Quoted,
+        &None,
+        limit,
+        max_order,
+        out,
+    )
+}

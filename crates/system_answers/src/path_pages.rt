@@ -1,0 +1,73 @@
+//! A page of the minimal path sets of a target.
+
+ghost use Rattle.std.specs.Prelude.{◌≡◌, IfErr, IfOk, OnOk};
+ghost use Rattle.phases.specs.Meets.{IsMemory, StopsBut};
+ghost use Rattle.phases.specs.Phases.{tests};
+ghost use Rattle.plain_values.specs.Order.{IsClear};
+ghost use Rattle.backward_slice.specs.Slices.{IsSlice};
+ghost use Rattle.cutset_lister.specs.Walks.{all_sets};
+ghost use Rattle.cutset_writer.specs.Pages.{IsReady};
+ghost use Rattle.galileo_writer.specs.TreeText.{HasTextNames};
+ghost use Rattle.path_sets.specs.PathSets.{HasLargePaths, IsPathListing};
+ghost use Rattle.system_answers.specs.Prints.{Prints};
+ghost use Rattle.system_answers.specs.Texts.{path_page};
+
+use crate::cut_sets::write_listing;
+use backward_slice::Slice;
+use cutset_writer::{PageWriter, SetForm};
+use fault_system::FaultSystem;
+use fta_outside::Sink;
+use fta_words::Paging;
+use path_sets::target_paths;
+use phases::Status;
+use plain_values::List;
+use std::alloc::Global;
+use zdd_store::Store;
+
+/// Writes the page of the minimal path sets of the target of a slice.
+pub fn write_path_page<S: Sink>(
+    alloc: Global,
+    system: &FaultSystem,
+    part: &Slice,
+    start: &Option<List<u32>>,
+    paging: &Paging,
+    out: &mut S,
+) -> Result<(), Status>
+    requires slice { IsSlice system.now part.now.target part.now }
+    requires names { HasTextNames system.now }
+    ensures { Prints (path_page part.now.target start.now paging.now system.now) result (S.taken out.old) (S.taken out.new) (S.faults out.old) (S.faults out.new) }
+{
+    let mut store = Store::new(alloc);
+    let writer = path_writer(alloc, system, part, paging.max_order, &mut store)?;
+    write_listing(
+        writer,
+        system,
+        &store,
+        SetForm::Token,
+        start,
+        paging.limit,
+        out,
+    )?;
+    Ok(())
+}
+
+/// The listing of the minimal path sets of the target of a slice, about to be written.
+fn path_writer(
+    alloc: Global,
+    system: &FaultSystem,
+    part: &Slice,
+    max_order: Option<u32>,
+    store: &mut Store,
+) -> Result<PageWriter, Status>
+    requires slice { IsSlice system.now part.now.target part.now }
+    requires names { HasTextNames system.now }
+    ensures ready { IfOk result (IsReady system.now store.new) }
+    ensures listing { IfOk result (λ writer. IsPathListing system.now part.now.target max_order (all_sets store.new writer.listing)) }
+    ensures clear { OnOk result (IsClear (HasLargePaths system.now part.now.target)) }
+    ensures refused { IfErr result (StopsBut IsMemory (tests (HasLargePaths system.now part.now.target))) }
+{
+    let _facts = system.facts();
+    let found = target_paths(alloc, system, part, max_order, store)?;
+    let writer = PageWriter::start(alloc, system, store, found.family, found.events.items())?;
+    Ok(writer)
+}
