@@ -6,7 +6,6 @@ mod Lacking
 mod Grammars
 mod Models
 mod OneDue
-mod Prints
 mod Ran
-mod Listed
-mod TreeTexts
+mod Chosen
+mod Written

@@ -1,5 +1,5 @@
 -- How a run ended, and what is due.
-use Rattle.std.proofs.Common.{◌≡◌, ◌<◌, ◌⊎◌, ℕ, Bool, List, length, Option, Result, Ok, Err, refl, sym, ap, subst, inl, inr}
+use Rattle.std.proofs.Common.{◌≡◌, ◌<◌, ◌⊎◌, ℕ, Bool, true, false, List, [], ◌∷◌, length, Option, Result, Ok, Err, refl, sym, ap, subst, inl, inr}
 use Rattle.std.specs.Prelude.{IsErrAnd, IsOk}
 use Rattle.std.proofs.lemmas.Result.{err_from_is_err_and}
 use Rattle.plain_values.specs.declared.refusal.Code.TheVariants.{TooManyFiles}
@@ -8,29 +8,39 @@ use Rattle.plain_values.specs.Order.{IsFirst}
 use Rattle.plain_values.specs.declared.name.Root.{Root}
 use Rattle.phases.specs.Phases.{Phase, Passes, Stops, yields, tells, chains, finds, IsDue, IsRefusal, IsSameEnd}
 use Rattle.phases.specs.declared.status.Status.{Status}
-use Rattle.phases.specs.declared.status.Status.TheVariants.{Done, Usage, Refused, Constant, ReadFault, WriteFault, Memory}
+use Rattle.phases.specs.declared.status.Status.TheVariants.{Done, Usage, Refused, Constant, ReadFault, WriteFault, ReportFault, Memory}
 use Rattle.phases.proofs.Endings.{StopsOnly, stops_only}
 use Rattle.fault_system.specs.Systems.{System}
 use Rattle.package_index.specs.Lookup.{packages_of}
 use Rattle.model_phases.proofs.Decided.{IsARefusal, model_stops}
+use Rattle.model_phases.specs.declared.flat.FlatModel.{FlatModel}
 use Rattle.backward_slice.specs.Slices.{HasLargeSlice}
 use Rattle.property_reader.specs.declared.rate.Rate.{Rate}
-use Rattle.fta_run.specs.Words.{Check, Command, Cuts, Tree, Fmea, Report, Make, files_of, GiveCommand, GiveNoCommand, IsCommand, file_words}
+use Rattle.fta_run.specs.Words.{Check, Command, Cuts, Tree, Fmea, Report, Make, Galileo, Paths, Why, Confirm, files_of, GiveCommand, GiveNoCommand, IsCommand, chosen_of, file_words}
 use Rattle.fta_run.specs.Files.{HasTooLong, HasTooMuch, LacksTokens, LacksUnits, NamesTooMany, most_files}
 use Rattle.plain_values.specs.Refusal.{of_words}
 use Rattle.fta_words.specs.declared.command.Paging.{Paging}
-use Rattle.fta_run.specs.Model.{HasDuplicate, LacksStart, LacksTarget, root_named}
-use Rattle.fta_run.specs.Due.{command_text, cuts_text, due, model_of_files, model_of_texts, texts_of, tree_text}
-use Rattle.fta_run.specs.Answers.{AllTold, AnswersWords, BeginsWithMemory, IsJustified, IsManyAnswer, IsSameStatus, MayCome}
-use Rattle.fta_run.specs.Steps.{IsReadEnd, Prints, Runs, RunsBut, ended}
-use Rattle.fta_run.proofs.Prints.{prints_on}
+use Rattle.fta_run.specs.Model.{HasDuplicate, root_named}
+use Rattle.system_answers.specs.Targets.{LacksStart, LacksTarget}
+use Rattle.galileo_reader.specs.TreeSystems.{system_of, target_of as top_of_tree}
+use Rattle.system_answers.specs.Galileo.{LacksNamedTree}
+use Rattle.system_answers.specs.Texts.{cuts_text, galileo_text, paths_text, report_text, tree_text}
+use Rattle.path_sets.specs.PathSets.{HasLargePaths}
+use Rattle.system_answers.specs.Prints.{IsReportFault, NoFault, PrintsBut}
+use Rattle.fta_run.specs.Due.{command_text, due, first_text, made_root, made_target, make_text, model_of_files, model_of_texts, sized_text, texts_of, within_limits}
+use Rattle.system_answers.specs.Voices.{Voice, labels}
+use Rattle.model_maker.specs.Text.{text_of as made_text}
+use Rattle.cut_reports.specs.Places.{AtChosen}
+use Rattle.fta_run.specs.Answers.{AllTold, AnswersWords, BeginsWithMemory, IsCaused, IsJustified, IsManyAnswer, IsOutput, IsSameStatus, MayCome, Took}
+use Rattle.fta_run.specs.Steps.{IsChosenFault, IsReadEnd, Runs, RunsBut, ended}
+use Rattle.system_answers.proofs.Prints.{prints_but_on}
 use Rattle.fta_run.proofs.Commands.{file_words_are, one_command}
 use Rattle.fta_run.proofs.OneDue.{one_due}
 
 -- ---- how the phases stop
 
-refusal_is : (Why : Refusal → Type 0) (s : Status) → IsRefusal Why s → IsARefusal s
-refusal_is Why s is = (is.0, is.2)
+refusal_is : (Cause : Refusal → Type 0) (s : Status) → IsRefusal Cause s → IsARefusal s
+refusal_is Cause s is = (is.0, is.2)
 
 -- The status is a refusal, or that a target is constant.
 abbrev IsAnEnd : Status → Type 0
@@ -48,17 +58,44 @@ cuts_stop target paging system = (
   λ number named. (refusal_is (LacksStart system paging.after), λ start begins. (refusal_is (HasLargeSlice system number), λ slice served. ((λ s none. absurd none), λ sets are. tt))),
 )
 
+report_stop : (target chosen : List ℕ) (max_order : Option ℕ) (voices : List Voice) (system : System) → StopsOnly IsARefusal (report_text target chosen max_order voices system)
+report_stop target chosen max_order voices system = (
+  refusal_is (IsFirst (LacksTarget system target)),
+  λ number named. (refusal_is (HasLargeSlice system number), λ slice served. ((λ s none. absurd none), λ sets are. tt)),
+)
+
+galileo_stop : (limit max_order : Option ℕ) (text : List ℕ) → StopsOnly IsARefusal (galileo_text limit max_order text)
+galileo_stop limit max_order text = (
+  refusal_is (LacksNamedTree text),
+  λ tree read. (refusal_is (HasLargeSlice (system_of tree) (top_of_tree tree tree.top)), λ slice served. ((λ s none. absurd none), λ sets are. tt)),
+)
+
+sized_stop : (model : FlatModel) → StopsOnly IsARefusal (sized_text model)
+sized_stop model = (
+  refusal_is (IsFirst (LacksTarget model.system made_target)),
+  λ number named. (refusal_is (HasLargeSlice model.system number), λ slice served. ((λ s none. absurd none), λ sets are. tt)),
+)
+
+paths_stop : (target : List ℕ) (paging : Paging) (system : System) → StopsOnly IsARefusal (paths_text target paging system)
+paths_stop target paging system = (
+  refusal_is (IsFirst (LacksTarget system target)),
+  λ number named. (
+    refusal_is (LacksStart system paging.after),
+    λ start begins. (refusal_is (HasLargeSlice system number), λ slice served. (refusal_is (IsFirst (HasLargePaths system number)), λ _ clear. ((λ s none. absurd none), λ sets are. tt))),
+  ),
+)
+
 tree_stop : (target : List ℕ) (system : System) (rates : List Rate) → StopsOnly IsAnEnd (tree_text target system rates)
 tree_stop target system rates = (
   (λ s is. inl (refusal_is (IsFirst (LacksTarget system target)) s is)),
   λ number named. ((λ s is. inl (refusal_is (HasLargeSlice system number) s is)), λ slice served. (λ s lacks. elim lacks [ inl constant ↦ inr (constant.0, constant.2) | inr large ↦ inl (large.0, large.2) ])),
 )
 
+limits_stop : (texts : List (List ℕ)) → StopsOnly IsARefusal (within_limits texts)
+limits_stop texts = (refusal_is (IsFirst (HasTooLong texts)), λ _ short. (refusal_is (IsFirst (HasTooMuch texts)), λ _ little. tt))
+
 texts_stop : (contents : List ℕ → Option (List ℕ)) (files : List (List ℕ)) → StopsOnly IsARefusal (texts_of contents files)
-texts_stop contents files = (
-  refusal_is (IsFirst (NamesTooMany files)),
-  λ _ few. ((λ s none. absurd none), λ texts are. (refusal_is (IsFirst (HasTooLong texts)), λ _ short. (refusal_is (IsFirst (HasTooMuch texts)), λ _ little. tt))),
-)
+texts_stop contents files = (refusal_is (IsFirst (NamesTooMany files)), λ _ few. ((λ s none. absurd none), λ texts are. limits_stop texts))
 
 texts_model_stops : (root : Root) (texts : List (List ℕ)) → StopsOnly IsARefusal (model_of_texts root texts)
 texts_model_stops root texts = (
@@ -72,82 +109,199 @@ texts_model_stops root texts = (
 files_model_stops : (contents : List ℕ → Option (List ℕ)) (root : Root) (files : List (List ℕ)) → StopsOnly IsARefusal (model_of_files contents root files)
 files_model_stops contents root files = (texts_stop contents files, λ texts read. texts_model_stops root texts)
 
-command_stops : (contents : List ℕ → Option (List ℕ)) (command : Command) → StopsOnly IsAnEnd (command_text contents command)
-command_stops contents (Check root files) = (refusals (model_of_files contents root files) (files_model_stops contents root files), λ model at. tt)
-command_stops contents (Cuts root target files paging) = (refusals (model_of_files contents root files) (files_model_stops contents root files), λ model at. refusals (cuts_text target paging model.system) (cuts_stop target paging model.system))
-command_stops contents (Tree root target files) = (refusals (model_of_files contents root files) (files_model_stops contents root files), λ model at. tree_stop target model.system model.rates)
-command_stops contents (Fmea root files all) = (refusals (model_of_files contents root files) (files_model_stops contents root files), λ model at. tt)
-command_stops contents (Report root target files chosen max_order) = λ s none. absurd none
-command_stops contents (Make number text) = λ s none. absurd none
+make_stop : (number : ℕ) (text : Bool) → StopsOnly IsARefusal (make_text number text)
+make_stop number true = tt
+make_stop number false = (limits_stop (made_text number ∷ []), λ texts short. (texts_model_stops made_root texts, λ model at. sized_stop model))
+
+command_stops : (contents : List ℕ → Option (List ℕ)) (voices : List Voice) (command : Command) → StopsOnly IsAnEnd (command_text contents voices command)
+command_stops contents voices (Check root files) = (refusals (model_of_files contents root files) (files_model_stops contents root files), λ model at. tt)
+command_stops contents voices (Cuts root target files paging) = (refusals (model_of_files contents root files) (files_model_stops contents root files), λ model at. refusals (cuts_text target paging model.system) (cuts_stop target paging model.system))
+command_stops contents voices (Tree root target files) = (refusals (model_of_files contents root files) (files_model_stops contents root files), λ model at. tree_stop target model.system model.rates)
+command_stops contents voices (Fmea root files all) = (refusals (model_of_files contents root files) (files_model_stops contents root files), λ model at. tt)
+command_stops contents voices (Report root target files chosen max_order) =
+    (refusals (model_of_files contents root files) (files_model_stops contents root files), λ model at. refusals (report_text target chosen max_order voices model.system) (report_stop target chosen max_order voices model.system))
+command_stops contents voices (Make number text) = refusals (make_text number text) (make_stop number text)
+command_stops contents voices (Galileo files limit max_order paths) = (refusals (texts_of contents files) (texts_stop contents files), λ texts read. refusals (galileo_text limit max_order (first_text texts)) (galileo_stop limit max_order (first_text texts)))
+command_stops contents voices (Paths root target files paging) = (refusals (model_of_files contents root files) (files_model_stops contents root files), λ model at. refusals (paths_text target paging model.system) (paths_stop target paging model.system))
+command_stops contents voices (Why root target files set) = λ s none. absurd none
+command_stops contents voices (Confirm root target files set) = λ s none. absurd none
 
 -- Usage without a command; or there is one, and a refusal or a constant target
-abbrev Kind : List (List ℕ) → Status → Type 0
-Kind words status = ((status ≡ Usage) × GiveNoCommand words) ⊎ (GiveCommand words × IsAnEnd status)
+abbrev Kind : List (List ℕ) → List (List ℕ) → Status → Type 0
+Kind names words status = ((status ≡ Usage) × GiveNoCommand names words) ⊎ (GiveCommand names words × IsAnEnd status)
 
-kind_of : (words : List (List ℕ)) (contents : List ℕ → Option (List ℕ)) (s : Status) → Stops (due words contents) s → Kind words s
-kind_of words contents s stops =
+kind_of : (words : List (List ℕ)) (contents : List ℕ → Option (List ℕ)) (voices : List Voice) (s : Status) → Stops (due words contents voices) s → Kind (labels voices) words s
+kind_of words contents voices s stops =
     elim stops.stopped [
       | inl none ↦ inl none
-      | inr there ↦ inr ((there.0, there.1), stops_only IsAnEnd (command_text contents there.0) (command_stops contents there.0) s there.2)
+      | inr there ↦ inr ((there.0, there.1), stops_only IsAnEnd (command_text contents voices there.0) (command_stops contents voices there.0) s there.2)
     ]
 
 -- ---- the words
 
-words_of_kind : (words : List (List ℕ)) (s : Status) → Kind words s → AnswersWords s words
-words_of_kind words s kind =
+words_of_kind : (names words : List (List ℕ)) (s : Status) → Kind names words s → AnswersWords s names words
+words_of_kind names words s kind =
     elim kind [
-      | inl none ↦ subst (λ x. AnswersWords x words) (sym none.0) none.1
+      | inl none ↦ subst (λ x. AnswersWords x names words) (sym none.0) none.1
       | inr some ↦ elim some.1 [
-        | inl refusal ↦ subst (λ x. AnswersWords x words) (sym refusal.1) some.0
-        | inr constant ↦ subst (λ x. AnswersWords x words) (sym constant.1) some.0
+        | inl refusal ↦ subst (λ x. AnswersWords x names words) (sym refusal.1) some.0
+        | inr constant ↦ subst (λ x. AnswersWords x names words) (sym constant.1) some.0
       ]
     ]
 
-module _ (words : List (List ℕ)) (contents : List ℕ → Option (List ℕ)) (read_before read_after : List ℕ → ℕ) (t u : Option (List ℕ)) (f g : ℕ) where
-  pub ran_words : {T : Type 0} (result : Result T Status) → Runs words contents read_before read_after result t u f g → AnswersWords (ended result) words
-  ran_words (Ok _) took = (took.1.passed.0, took.1.passed.1)
-  ran_words (Err s) end =
+-- how a run ended that wrote no text
+abbrev Ended : List (List ℕ) → (List ℕ → Option (List ℕ)) → List Voice → Status → Type 0
+Ended words contents voices s =
+    Stops (due words contents voices) s
+    ⊎ ((s ≡ Memory)
+    ⊎ (((file : ℕ) × (s ≡ ReadFault file) × GiveCommand (labels voices) words)
+    ⊎ (((s ≡ WriteFault) ⊎ ((place : ℕ) × (s ≡ ReportFault place))) × ((text : List ℕ) × Passes (due words contents voices) text))))
+
+module _ (words : List (List ℕ)) (contents : List ℕ → Option (List ℕ)) (voices : List Voice) (read_before read_after : List ℕ → ℕ) (RoseThere : ℕ → Type 0) (t u : Option (List ℕ)) (f g : ℕ) where
+  how_ended : (s : Status) → Runs {T = Unit {0}} words contents voices read_before read_after RoseThere (Err s) t u f g → Ended words contents voices s
+  how_ended s end =
       elim end [
         | inl wrote ↦ elim wrote [
-          | inl stop ↦ words_of_kind words s (kind_of words contents s stop.0)
+          | inl stop ↦ inl stop.0
           | inr other ↦ elim other [
-            | inl memory ↦ subst (λ x. AnswersWords x words) (sym memory.0) tt
-            | inr failed ↦ subst (λ x. AnswersWords x words) (sym failed.0) (failed.1.1.passed.0, failed.1.1.passed.1)
+            | inl memory ↦ inr (inl memory.0)
+            | inr fault ↦ elim fault [
+              | inl failed ↦ inr (inr (inr (inl failed.0, (failed.1.0, failed.1.1))))
+              | inr report ↦ inr (inr (inr (inr (report.0.2.0, report.0.2.1), (report.1.0, report.1.1))))
+            ]
           ]
         ]
         | inr read ↦ elim read.0.0 [
-          | inl memory ↦ subst (λ x. AnswersWords x words) (sym memory) tt
-          | inr fault ↦ subst (λ x. AnswersWords x words) (sym fault.1) read.0.1
+          | inl memory ↦ inr (inl memory)
+          | inr fault ↦ inr (inr (inl (fault.0, fault.1, read.0.1)))
         ]
       ]
 
+  words_ended : (s : Status) → Ended words contents voices s → AnswersWords s (labels voices) words
+  words_ended s end =
+      elim end [
+        | inl stops ↦ words_of_kind (labels voices) words s (kind_of words contents voices s stops)
+        | inr other ↦ elim other [
+          | inl memory ↦ subst (λ x. AnswersWords x (labels voices) words) (sym memory) tt
+          | inr more ↦ elim more [
+            | inl read ↦ subst (λ x. AnswersWords x (labels voices) words) (sym read.1) read.2
+            | inr failed ↦ elim failed.0 [
+              | inl write ↦ subst (λ x. AnswersWords x (labels voices) words) (sym write) (failed.1.1.passed.0, failed.1.1.passed.1)
+              | inr report ↦ subst (λ x. AnswersWords x (labels voices) words) (sym report.1) (failed.1.1.passed.0, failed.1.1.passed.1)
+            ]
+          ]
+        ]
+      ]
+
+  pub ran_words : {T : Type 0} (result : Result T Status) → Runs words contents voices read_before read_after RoseThere result t u f g → AnswersWords (ended result) (labels voices) words
+  ran_words (Ok _) took = (took.1.passed.0, took.1.passed.1)
+  ran_words (Err s) end = words_ended s (how_ended s end)
+
   -- ---- the verdict
 
-  justified : (s : Status) → Stops (due words contents) s → IsJustified words contents s
+  justified : (s : Status) → Stops (due words contents voices) s → IsJustified words contents voices s
   justified Done stops = tt
   justified Usage stops = tt
   justified (Refused refusal) stops = stops
   justified (Constant always) stops = stops
   justified (ReadFault file) stops = tt
   justified WriteFault stops = tt
+  justified (ReportFault place) stops = tt
   justified Memory stops = tt
 
-  pub ran_verdict : {T : Type 0} (result : Result T Status) → Runs words contents read_before read_after result t u f g → IsJustified words contents (ended result)
+  verdict_ended : (s : Status) → Ended words contents voices s → IsJustified words contents voices s
+  verdict_ended s end =
+      elim end [
+        | inl stops ↦ justified s stops
+        | inr other ↦ elim other [
+          | inl memory ↦ subst (IsJustified words contents voices) (sym memory) tt
+          | inr more ↦ elim more [
+            | inl read ↦ subst (IsJustified words contents voices) (sym read.1) tt
+            | inr failed ↦ elim failed.0 [
+              | inl write ↦ subst (IsJustified words contents voices) (sym write) tt
+              | inr report ↦ subst (IsJustified words contents voices) (sym report.1) tt
+            ]
+          ]
+        ]
+      ]
+
+  pub ran_verdict : {T : Type 0} (result : Result T Status) → Runs words contents voices read_before read_after RoseThere result t u f g → IsJustified words contents voices (ended result)
   ran_verdict (Ok _) took = tt
-  ran_verdict (Err s) end =
+  ran_verdict (Err s) end = verdict_ended s (how_ended s end)
+
+  -- ---- what was taken, and what faults came of
+
+  took_stopped : (s : Status) → Kind (labels voices) words s → u ≡ t → Took (IsOutput words contents voices) s t u
+  took_stopped s kind same =
+      elim kind [
+        | inl none ↦ subst (λ x. Took (IsOutput words contents voices) x t u) (sym none.0) same
+        | inr some ↦ elim some.1 [
+          | inl refusal ↦ subst (λ x. Took (IsOutput words contents voices) x t u) (sym refusal.1) same
+          | inr constant ↦ subst (λ x. Took (IsOutput words contents voices) x t u) (sym constant.1) same
+        ]
+      ]
+
+  took_ended : (s : Status) → Runs {T = Unit {0}} words contents voices read_before read_after RoseThere (Err s) t u f g → Took (IsOutput words contents voices) s t u
+  took_ended s end =
       elim end [
         | inl wrote ↦ elim wrote [
-          | inl stop ↦ justified s stop.0
+          | inl stop ↦ took_stopped s (kind_of words contents voices s stop.0) stop.1
           | inr other ↦ elim other [
-            | inl memory ↦ subst (IsJustified words contents) (sym memory.0) tt
-            | inr failed ↦ subst (IsJustified words contents) (sym failed.0) tt
+            | inl memory ↦ subst (λ x. Took (IsOutput words contents voices) x t u) (sym memory.0) memory.1
+            | inr fault ↦ elim fault [
+              | inl failed ↦ subst (λ x. Took (IsOutput words contents voices) x t u) (sym failed.0) failed.1
+              | inr report ↦ subst (λ x. Took (IsOutput words contents voices) x t u) (sym report.0.2.1) report.2
+            ]
           ]
         ]
         | inr read ↦ elim read.0.0 [
-          | inl memory ↦ subst (IsJustified words contents) (sym memory) tt
-          | inr fault ↦ subst (IsJustified words contents) (sym fault.1) tt
+          | inl memory ↦ subst (λ x. Took (IsOutput words contents voices) x t u) (sym memory) (inl read.1)
+          | inr fault ↦ subst (λ x. Took (IsOutput words contents voices) x t u) (sym fault.1) read.1
         ]
       ]
+
+  took_as : {T : Type 0} (result : Result T Status) → Runs words contents voices read_before read_after RoseThere result t u f g → Took (IsOutput words contents voices) (ended result) t u
+  took_as (Ok _) took = took
+  took_as (Err s) end = took_ended s end
+
+  pub ran_output : {T : Type 0} (result : Result T Status) (status : Status) → status ≡ ended result → Runs words contents voices read_before read_after RoseThere result t u f g → Took (IsOutput words contents voices) status t u
+  ran_output result status is end = subst (λ x. Took (IsOutput words contents voices) x t u) (sym is) (took_as result end)
+
+  caused_by_kind : (s : Status) → Kind (labels voices) words s → IsCaused s (labels voices) words read_before read_after f g RoseThere
+  caused_by_kind s kind =
+      elim kind [
+        | inl none ↦ subst (λ x. IsCaused x (labels voices) words read_before read_after f g RoseThere) (sym none.0) tt
+        | inr some ↦ elim some.1 [
+          | inl refusal ↦ subst (λ x. IsCaused x (labels voices) words read_before read_after f g RoseThere) (sym refusal.1) tt
+          | inr constant ↦ subst (λ x. IsCaused x (labels voices) words read_before read_after f g RoseThere) (sym constant.1) tt
+        ]
+      ]
+
+  caused_ended : (s : Status) → Runs {T = Unit {0}} words contents voices read_before read_after RoseThere (Err s) t u f g → IsCaused s (labels voices) words read_before read_after f g RoseThere
+  caused_ended s end =
+      elim end [
+        | inl wrote ↦ elim wrote [
+          | inl stop ↦ caused_by_kind s (kind_of words contents voices s stop.0)
+          | inr other ↦ elim other [
+            | inl memory ↦ subst (λ x. IsCaused x (labels voices) words read_before read_after f g RoseThere) (sym memory.0) tt
+            | inr fault ↦ elim fault [
+              | inl failed ↦ subst (λ x. IsCaused x (labels voices) words read_before read_after f g RoseThere) (sym failed.0) failed.2
+              | inr report ↦ subst (λ x. IsCaused x (labels voices) words read_before read_after f g RoseThere) (sym report.0.2.1) (report.0.0, report.0.1, report.0.2.2, report.0.2.3)
+            ]
+          ]
+        ]
+        | inr read ↦ elim read.0.0 [
+          | inl memory ↦ subst (λ x. IsCaused x (labels voices) words read_before read_after f g RoseThere) (sym memory) tt
+          | inr fault ↦ subst (λ x. IsCaused x (labels voices) words read_before read_after f g RoseThere) (sym fault.1) (fault.2, fault.3, fault.4, fault.5)
+        ]
+      ]
+
+  caused_as : {T : Type 0} (result : Result T Status) → Runs words contents voices read_before read_after RoseThere result t u f g → IsCaused (ended result) (labels voices) words read_before read_after f g RoseThere
+  caused_as (Ok _) took = tt
+  caused_as (Err s) end = caused_ended s end
+
+  pub ran_caused : {T : Type 0} (result : Result T Status) (status : Status) → status ≡ ended result → Runs words contents voices read_before read_after RoseThere result t u f g → IsCaused status (labels voices) words read_before read_after f g RoseThere
+  ran_caused result status is end = subst (λ x. IsCaused x (labels voices) words read_before read_after f g RoseThere) (sym is) (caused_as result end)
 
 -- ---- what is due
 
@@ -170,8 +324,8 @@ refusal_is_due : (a : Result (List ℕ) Status) (refusal : Refusal) → IsSameEn
 refusal_is_due (Ok x) refusal same = absurd same
 refusal_is_due (Err a) refusal same = same
 
-came_of_kind : (words : List (List ℕ)) (a : Result (List ℕ) Status) (s : Status) → Kind words s → IsSameEnd IsSameStatus a (Err s) → MayCome a s
-came_of_kind words a s kind same =
+came_of_kind : (names words : List (List ℕ)) (a : Result (List ℕ) Status) (s : Status) → Kind names words s → IsSameEnd IsSameStatus a (Err s) → MayCome a s
+came_of_kind names words a s kind same =
     elim kind [
       | inl none ↦ subst (MayCome a) (sym none.0) (usage_is_due a (subst (λ x. IsSameEnd IsSameStatus a (Err x)) none.0 same))
       | inr some ↦ elim some.1 [
@@ -180,52 +334,102 @@ came_of_kind words a s kind same =
       ]
     ]
 
-pub ran_complete : {T : Type 0} (words : List (List ℕ)) (contents : List ℕ → Option (List ℕ)) (read_before read_after : List ℕ → ℕ) (t u : Option (List ℕ)) (f g : ℕ) (result : Result T Status) → Runs words contents read_before read_after result t u f g → AllTold words contents → (a : Result (List ℕ) Status) → IsDue (due words contents) a → MayCome a (ended result)
-ran_complete words contents read_before read_after t u f g (Ok _) took told a is_due = text_is_due a took.0 (one_due words contents told a (Ok took.0) is_due took.1)
-ran_complete words contents read_before read_after t u f g (Err s) end told a is_due =
+came_ended : (words : List (List ℕ)) (contents : List ℕ → Option (List ℕ)) (voices : List Voice) (s : Status) → Ended words contents voices s → AllTold words contents voices → (a : Result (List ℕ) Status) → IsDue (due words contents voices) a → MayCome a s
+came_ended words contents voices s end told a is_due =
     elim end [
-      | inl wrote ↦ elim wrote [
-        | inl stop ↦ came_of_kind words a s (kind_of words contents s stop.0) (one_due words contents told a (Err s) is_due stop.0)
-        | inr other ↦ elim other [
-          | inl memory ↦ subst (MayCome a) (sym memory.0) tt
-          | inr failed ↦ subst (MayCome a) (sym failed.0) (text_is_due a failed.1.0 (one_due words contents told a (Ok failed.1.0) is_due failed.1.1))
+      | inl stops ↦ came_of_kind (labels voices) words a s (kind_of words contents voices s stops) (one_due words contents voices told a (Err s) is_due stops)
+      | inr other ↦ elim other [
+        | inl memory ↦ subst (MayCome a) (sym memory) tt
+        | inr more ↦ elim more [
+          | inl read ↦ subst (MayCome a) (sym read.1) tt
+          | inr failed ↦
+              let text = text_is_due a failed.1.0 (one_due words contents voices told a (Ok failed.1.0) is_due failed.1.1) in
+              elim failed.0 [ inl write ↦ subst (MayCome a) (sym write) text | inr report ↦ subst (MayCome a) (sym report.1) text ]
         ]
       ]
-      | inr read ↦ elim read.0.0 [
-        | inl memory ↦ subst (MayCome a) (sym memory) tt
-        | inr fault ↦ subst (MayCome a) (sym fault.1) tt
-      ]
     ]
+
+pub ran_complete : {T : Type 0} (words : List (List ℕ)) (contents : List ℕ → Option (List ℕ)) (voices : List Voice) (read_before read_after : List ℕ → ℕ) (RoseThere : ℕ → Type 0) (t u : Option (List ℕ)) (f g : ℕ) (result : Result T Status)
+    → Runs words contents voices read_before read_after RoseThere result t u f g → AllTold words contents voices → (a : Result (List ℕ) Status) → IsDue (due words contents voices) a → MayCome a (ended result)
+ran_complete words contents voices read_before read_after RoseThere t u f g (Ok _) took told a is_due = text_is_due a took.0 (one_due words contents voices told a (Ok took.0) is_due took.1)
+ran_complete words contents voices read_before read_after RoseThere t u f g (Err s) end told a is_due =
+    came_ended words contents voices s (how_ended words contents voices read_before read_after RoseThere t u f g s end) told a is_due
 
 -- ---- the steps of a run
 
 -- the text of a later phase was written
-pub ran_on : {A T : Type 0} (Excuse : Status → Type 0) (first : Phase A) (later : A → Phase (List ℕ)) (x : A) (result : Result T Status) (t u : Option (List ℕ)) (f g : ℕ) → Passes first x → Prints (later x) result t u f g → RunsBut Excuse (chains first later) result t u f g
-ran_on {A} {T} Excuse first later x result t u f g given prints = whole result (prints_on first later x result t u f g given prints) where
-  whole : (r : Result T Status) → Prints (chains first later) r t u f g → RunsBut Excuse (chains first later) r t u f g
+pub ran_on : {A T : Type 0} (Faulted Excuse : Status → Type 0) (first : Phase A) (later : A → Phase (List ℕ)) (x : A) (result : Result T Status) (t u : Option (List ℕ)) (f g : ℕ) → Passes first x → PrintsBut Faulted (later x) result t u f g → RunsBut Faulted Excuse (chains first later) result t u f g
+ran_on {A} {T} Faulted Excuse first later x result t u f g given prints = whole result (prints_but_on Faulted first later x result t u f g given prints) where
+  whole : (r : Result T Status) → PrintsBut Faulted (chains first later) r t u f g → RunsBut Faulted Excuse (chains first later) r t u f g
   whole (Ok _) took = took
   whole (Err s) end = inl end
 
 -- a first phase stopped, or its status is excused, before anything was written
-pub ran_stopped : {A T : Type 0} (Excuse : Status → Type 0) (first : Phase A) (later : A → Phase (List ℕ)) (t : Option (List ℕ)) (f : ℕ) (result : Result T Status) (s : Status) → IsErrAnd result (λ its. its ≡ s) → Stops first s ⊎ Excuse s → RunsBut Excuse (chains first later) result t t f f
-ran_stopped Excuse first later t f result s is end =
+pub ran_stopped : {A T : Type 0} (Faulted Excuse : Status → Type 0) (first : Phase A) (later : A → Phase (List ℕ)) (t : Option (List ℕ)) (f : ℕ) (result : Result T Status) (s : Status) → IsErrAnd result (λ its. its ≡ s) → Stops first s ⊎ Excuse s → RunsBut Faulted Excuse (chains first later) result t t f f
+ran_stopped Faulted Excuse first later t f result s is end =
     let p = err_from_is_err_and result is in
     rw (p.1, p.2) (elim end [ inl stops ↦ inl (inl (record { stopped = inl stops.stopped }, refl)) | inr excused ↦ inr (excused, refl) ])
 
--- the words give a command, and its text was written, or not
-pub ran : {T : Type 0} (words : List (List ℕ)) (contents : List ℕ → Option (List ℕ)) (read_before read_after : List ℕ → ℕ) (t u : Option (List ℕ)) (f g : ℕ) (result : Result T Status) (command : Command) → Passes (finds (IsCommand words) Usage) command
-    → RunsBut (IsReadEnd (files_of command) read_before read_after) (command_text contents command) result t u f g → Runs words contents read_before read_after result t u f g
-ran words contents read_before read_after t u f g (Ok _) command given took =
-    prints_on (finds (IsCommand words) Usage) (command_text contents) command (Ok (tt {0})) t u f g given took
-ran words contents read_before read_after t u f g (Err s) command given end =
+-- no report was asked
+pub ran_alone : {T : Type 0} (Faulted Excuse : Status → Type 0) (phase : Phase (List ℕ)) (result : Result T Status) (t u : Option (List ℕ)) (f g : ℕ) → RunsBut NoFault Excuse phase result t u f g → RunsBut Faulted Excuse phase result t u f g
+ran_alone Faulted Excuse phase (Ok _) t u f g took = took
+ran_alone Faulted Excuse phase (Err s) t u f g end =
     elim end [
-      | inl wrote ↦ let stopped : Result (Unit {0}) Status = Err s in inl (prints_on (finds (IsCommand words) Usage) (command_text contents) command stopped t u f g given wrote)
-      | inr read ↦ inr ((subst (λ files. IsReadEnd files read_before read_after s) (sym (file_words_are words command given.passed)) read.0, (command, given.passed)), read.1)
+      | inl wrote ↦ inl (elim wrote [
+        | inl stop ↦ inl stop
+        | inr other ↦ inr (elim other [ inl memory ↦ inl memory | inr fault ↦ inr (elim fault [ inl failed ↦ inl failed | inr none ↦ absurd none.0 ]) ])
+      ])
+      | inr read ↦ inr read
+    ]
+
+-- the chosen reports are the same
+pub ran_chosen : {T : Type 0} (RoseThere : ℕ → Type 0) (Excuse : Status → Type 0) (contents : List ℕ → Option (List ℕ)) (voices : List Voice) (root : Root) (target : List ℕ) (files : List (List ℕ)) (max_order : Option ℕ) (result : Result T Status) (t u : Option (List ℕ)) (f g : ℕ) (a b : List ℕ)
+    → a ≡ b → RunsBut (IsReportFault a RoseThere) Excuse (command_text contents voices (Report root target files a max_order)) result t u f g
+    → RunsBut (IsReportFault b RoseThere) Excuse (command_text contents voices (Report root target files b max_order)) result t u f g
+ran_chosen RoseThere Excuse contents voices root target files max_order result t u f g a b same runs =
+    subst (λ (chosen : List ℕ). RunsBut (IsReportFault chosen RoseThere) Excuse (command_text contents voices (Report root target files chosen max_order)) result t u f g) same runs
+
+-- the words were not read as a command, before anything else was read
+pub ran_unnamed : {T : Type 0} (words : List (List ℕ)) (contents : List ℕ → Option (List ℕ)) (voices : List Voice) (read_before read_after : List ℕ → ℕ) (RoseThere : ℕ → Type 0) (t : Option (List ℕ)) (f : ℕ) (names : List (List ℕ)) (result : Result T Status) (s : Status)
+    → names ≡ labels voices → IsErrAnd result (λ its. its ≡ s) → Stops (finds (IsCommand names words) Usage) s ⊎ (s ≡ Memory) → Runs words contents voices read_before read_after RoseThere result t t f f
+ran_unnamed words contents voices read_before read_after RoseThere t f names result s same is end =
+    let p = err_from_is_err_and result is in
+    rw (p.1, p.2) (elim end [
+      | inl stops ↦ inl (inl (record { stopped = inl (subst (λ (its : List (List ℕ)). Stops (finds (IsCommand its words) Usage) s) same stops).stopped }, refl))
+      | inr memory ↦ inl (inr (inl (memory, inl refl)))
+    ])
+
+-- nothing was read
+pub ran_unread : {T : Type 0} (Faulted Excuse : Status → Type 0) (phase : Phase (List ℕ)) (result : Result T Status) (t u : Option (List ℕ)) (f g : ℕ) → PrintsBut Faulted phase result t u f g → RunsBut Faulted Excuse phase result t u f g
+ran_unread Faulted Excuse phase (Ok _) t u f g took = took
+ran_unread Faulted Excuse phase (Err s) t u f g end = inl end
+
+-- the words give a command, and its text was written, or not
+pub ran : {T : Type 0} (words : List (List ℕ)) (contents : List ℕ → Option (List ℕ)) (voices : List Voice) (read_before read_after : List ℕ → ℕ) (RoseThere : ℕ → Type 0) (t u : Option (List ℕ)) (f g : ℕ) (result : Result T Status) (command : Command)
+    → Passes (finds (IsCommand (labels voices) words) Usage) command → RunsBut (IsReportFault (chosen_of command) RoseThere) (IsReadEnd (files_of command) read_before read_after) (command_text contents voices command) result t u f g
+    → Runs words contents voices read_before read_after RoseThere result t u f g
+ran words contents voices read_before read_after RoseThere t u f g (Ok _) command given took =
+    prints_but_on (IsChosenFault words voices RoseThere) (finds (IsCommand (labels voices) words) Usage) (command_text contents voices) command (Ok (tt {0})) t u f g given took
+ran words contents voices read_before read_after RoseThere t u f g (Err s) command given end =
+    elim end [
+      | inl wrote ↦
+          let stopped : Result (Unit {0}) Status = Err s in
+          inl (prints_but_on (IsChosenFault words voices RoseThere) (finds (IsCommand (labels voices) words) Usage) (command_text contents voices) command stopped t u f g given (elim wrote [
+            | inl stop ↦ inl stop
+            | inr other ↦ inr (elim other [
+              | inl memory ↦ inl memory
+              | inr fault ↦ inr (elim fault [
+                | inl failed ↦ inl failed
+                | inr report ↦ inr ((command, given.passed, report.0), report.1, report.2)
+              ])
+            ])
+          ]))
+      | inr read ↦ inr ((subst (λ files. IsReadEnd files read_before read_after s) (sym (file_words_are (labels voices) words command given.passed)) read.0, (command, given.passed)), read.1)
     ]
 
 -- too many files of a command
-pub many_named : (words : List (List ℕ)) (command : Command) → Passes (finds (IsCommand words) Usage) command → most_files < length (file_words words) → most_files < length (files_of command)
-many_named words command given many = subst (λ files. most_files < length files) (file_words_are words command given.passed) many
+pub many_named : (names words : List (List ℕ)) (command : Command) → Passes (finds (IsCommand names words) Usage) command → most_files < length (file_words words) → most_files < length (files_of command)
+many_named names words command given many = subst (λ files. most_files < length files) (file_words_are names words command given.passed) many
 
 pub many_answer : {T : Type 0} (result : Result T Status) (s : Status) → IsErrAnd result (λ its. its ≡ s) → s ≡ Refused (of_words TooManyFiles) → IsManyAnswer (ended result)
 many_answer result s is many =
@@ -242,12 +446,20 @@ begins_same (Tree root target files) status t = tt
 begins_same (Fmea root files all) status t = tt
 begins_same (Report root target files chosen max_order) status t = tt
 begins_same (Make number text) status t = tt
+begins_same (Galileo files limit max_order paths) status t = tt
+begins_same (Paths root target files paging) status t = tt
+begins_same (Why root target files set) status t = tt
+begins_same (Confirm root target files set) status t = tt
 
 -- the words give this command
-pub begins_as : (words : List (List ℕ)) (given command : Command) (status : Status) (t u : Option (List ℕ)) → Passes (finds (IsCommand words) Usage) given → BeginsWithMemory given status t u → IsCommand words command → BeginsWithMemory command status t u
-begins_as words given command status t u passes begins is = subst (λ one. BeginsWithMemory one status t u) (one_command words given command passes.passed is) begins
+pub begins_as : (names words : List (List ℕ)) (given command : Command) (status : Status) (t u : Option (List ℕ)) → Passes (finds (IsCommand names words) Usage) given → BeginsWithMemory given status t u → IsCommand names words command → BeginsWithMemory command status t u
+begins_as names words given command status t u passes begins is = subst (λ one. BeginsWithMemory one status t u) (one_command names words given command passes.passed is) begins
 
 -- a run ended with want of memory
 pub memory_ended : {T : Type 0} (result : Result T Status) → ended result ≡ Memory → result ≡ Err Memory
 memory_ended (Ok x) is = absurd (cc (is))
 memory_ended (Err status) is = ap (λ (s : Status). Err s) is
+
+-- the words give this command, and of the reports that it chooses
+pub kept_as : {R : Type 0} (Kept : R → R → Type 0) (names words : List (List ℕ)) (given command : Command) (x y : List R) → Passes (finds (IsCommand names words) Usage) given → AtChosen (chosen_of given) Kept x y → IsCommand names words command → AtChosen (chosen_of command) Kept x y
+kept_as Kept names words given command x y passes kept is = subst (λ (one : Command). AtChosen (chosen_of one) Kept x y) (one_command names words given command passes.passed is) kept

@@ -1,36 +1,44 @@
 -- What is due: from the bytes of the words and of the files to the text of a command, or to the status with which it ends.
-use Rattle.std.specs.Prelude.{ℕ, Bool, List, length, Option}
+use Rattle.std.specs.Prelude.{ℕ, Bool, true, false, List, [], ◌∷◌, ◌++◌, length, codes, slice_index_or, Option, None, Some}
 use Rattle.plain_values.specs.declared.name.Root.{Root}
 use Rattle.aadl_syntax.specs.declared.core_model.Unit.{Unit as FileUnit}
 use Rattle.phases.specs.Phases.{Phase, yields, tells, accepts, tests, answers, rejects, computes, finds, ◌>>=◌}
 use Rattle.phases.specs.declared.status.Status.TheVariants.{Usage}
 use Rattle.package_index.specs.Lookup.{packages_of}
-use Rattle.fault_system.specs.Systems.{System}
-use Rattle.backward_slice.specs.Slices.{HasLargeSlice, IsServed}
-use Rattle.backward_slice.specs.declared.parts.Slice.{Slice}
 use Rattle.fault_system.specs.Listings.{IsListing}
 use Rattle.cutset_writer.specs.Text.{listing_page}
-use Rattle.property_reader.specs.declared.rate.Rate.{Rate}
+use Rattle.cutset_writer.specs.declared.form.SetForm.TheVariants.{Token}
+use Rattle.model_maker.specs.Text.{text_of as made_text}
 use Rattle.fmea_rows.specs.Rows.{rows_of}
 use Rattle.fmea_rows.specs.Text.{table_text}
 use Rattle.fta_words.specs.declared.command.Paging.{Paging}
 use Rattle.model_phases.specs.Phases.{flat_model}
 use Rattle.model_phases.specs.declared.flat.FlatModel.{FlatModel}
-use Rattle.fta_run.specs.Words.{Command, Check, Cuts, Tree, Fmea, Report, Make, IsCommand}
+use Rattle.fta_run.specs.Words.{Command, Check, Cuts, Tree, Fmea, Report, Make, Galileo, Paths, Why, Confirm, IsCommand}
 use Rattle.fta_run.specs.Effects.{asked_effects}
 use Rattle.fta_run.specs.Files.{MayContain, NamesTooMany, HasTooLong, HasTooMuch, AreTokens, LacksTokens, AreUnits, LacksUnits}
-use Rattle.fta_run.specs.Model.{HasDuplicate, IsFactNamed, IsStart, LacksStart, LacksTarget, root_named}
+use Rattle.fta_run.specs.Model.{HasDuplicate, root_named}
 use Rattle.fta_run.specs.Text.{numbers_text}
-use Rattle.fta_run.specs.Trees.{IsTreeText, LacksTree}
+use Rattle.system_answers.specs.Texts.{cuts_text, galileo_text, paths_text, report_text, slice_of, target_of, tree_text}
+use Rattle.system_answers.specs.Voices.{Voice, labels}
+
+-- these texts, where none is too long, and they are not too long together
+abbrev pub within_limits : List (List ℕ) → Phase (List (List ℕ))
+within_limits texts = do
+  _ ← tests (HasTooLong texts)
+  _ ← tests (HasTooMuch texts)
+  yields texts
 
 -- the texts of the files, which are not too many, none too long, and not too long together
 abbrev pub texts_of : (List ℕ → Option (List ℕ)) → List (List ℕ) → Phase (List (List ℕ))
 texts_of contents files = do
   _ ← tests (NamesTooMany files)
   texts ← accepts (MayContain contents files)
-  _ ← tests (HasTooLong texts)
-  _ ← tests (HasTooMuch texts)
-  yields texts
+  within_limits texts
+
+-- the text of the first file
+abbrev pub first_text : List (List ℕ) → List ℕ
+first_text texts = slice_index_or texts 0 []
 
 -- the units of the files of these texts: what the tokens of each read as
 abbrev pub units_of : List (List ℕ) → Phase (List (List FileUnit))
@@ -61,70 +69,78 @@ model_of_files contents root files = do
 abbrev pub check_text : FlatModel → Phase (List ℕ)
 check_text model = yields (numbers_text model.components (length model.system.facts) (length model.system.events))
 
--- the number of the fact that the target names
-abbrev pub target_of : List ℕ → System → Phase ℕ
-target_of target system = answers (IsFactNamed system target) (LacksTarget system target)
-
--- the set after which a page begins, where a text of it is given
-abbrev pub start_of : Option (List ℕ) → System → Phase (Option (List ℕ))
-start_of after system = rejects (IsStart system after) (LacksStart system after)
-
--- the slice of a target, which is not too large
-abbrev pub slice_of : ℕ → System → Phase Slice
-slice_of number system = rejects (IsServed system number) (HasLargeSlice system number)
-
--- the page of a target's listing
-abbrev pub page_of : ℕ → Option (List ℕ) → Paging → System → Phase (List ℕ)
-page_of number start paging system = do
-  sets ← accepts (IsListing system number paging.max_order)
-  yields (listing_page system start paging.limit sets)
-
--- the text of `cuts`
-abbrev pub cuts_text : List ℕ → Paging → System → Phase (List ℕ)
-cuts_text target paging system = do
-  number ← target_of target system
-  start ← start_of paging.after system
-  _ ← slice_of number system
-  page_of number start paging system
-
--- the text of a target's tree
-abbrev pub galileo_of : ℕ → System → List Rate → Phase (List ℕ)
-galileo_of number system rates = tells (IsTreeText system rates number) (LacksTree system number)
-
--- the text of `tree`
-abbrev pub tree_text : List ℕ → System → List Rate → Phase (List ℕ)
-tree_text target system rates = do
-  number ← target_of target system
-  _ ← slice_of number system
-  galileo_of number system rates
-
 -- the text of `fmea`: the rows of the effects of the root, or of all components
 abbrev pub fmea_text : Bool → FlatModel → Phase (List ℕ)
 fmea_text all model = yields (table_text model.system model.rates (rows_of model.system (asked_effects all model)))
+
+-- the root, the target and the page of a model that is made
+abbrev pub made_root : Root
+made_root = record { names = codes "gen" ∷ codes "s" ∷ []; item = Some (codes "i") }
+
+abbrev pub made_target : List ℕ
+made_target = codes "root/state:bad"
+
+abbrev pub made_paging : Paging
+made_paging = record { limit = Some 3; after = None; max_order = None }
+
+-- the numbers of a model, and the page of a target's listing
+abbrev pub sized_page : ℕ → FlatModel → Phase (List ℕ)
+sized_page number model = do
+  sets ← accepts (IsListing model.system number made_paging.max_order)
+  yields (numbers_text model.components (length model.system.facts) (length model.system.events) ++ listing_page Token model.system None made_paging.limit sets)
+
+-- what is said of a model that is made: what `check` writes of it, and then what `cuts` writes of its target
+abbrev pub sized_text : FlatModel → Phase (List ℕ)
+sized_text model = do
+  number ← target_of made_target model.system
+  _ ← slice_of number model.system
+  sized_page number model
+
+-- what is said of the model in a file with this text
+abbrev pub made_model_text : List ℕ → Phase (List ℕ)
+made_model_text text = do
+  texts ← within_limits (text ∷ [])
+  model ← model_of_texts made_root texts
+  sized_text model
+
+-- the text of `make`: what is said of the model that is made of a number, as of a file with its text; or its text
+abbrev pub make_text : ℕ → Bool → Phase (List ℕ)
+make_text number true = yields (made_text number)
+make_text number false = made_model_text (made_text number)
 
 -- nothing passes: the text of a command that is not built
 abbrev pub no_text : Phase (List ℕ)
 no_text = accepts (λ text. ⊥)
 
--- the text of a command, where this is what the files contain
-abbrev pub command_text : (List ℕ → Option (List ℕ)) → Command → Phase (List ℕ)
-command_text contents (Check root files) = do
+-- the text of a command, where this is what the files contain, and these are the reports
+abbrev pub command_text : (List ℕ → Option (List ℕ)) → List Voice → Command → Phase (List ℕ)
+command_text contents voices (Check root files) = do
   model ← model_of_files contents root files
   check_text model
-command_text contents (Cuts root target files paging) = do
+command_text contents voices (Cuts root target files paging) = do
   model ← model_of_files contents root files
   cuts_text target paging model.system
-command_text contents (Tree root target files) = do
+command_text contents voices (Tree root target files) = do
   model ← model_of_files contents root files
   tree_text target model.system model.rates
-command_text contents (Fmea root files all) = do
+command_text contents voices (Fmea root files all) = do
   model ← model_of_files contents root files
   fmea_text all model
-command_text contents (Report root target files chosen max_order) = no_text
-command_text contents (Make number text) = no_text
+command_text contents voices (Report root target files chosen max_order) = do
+  model ← model_of_files contents root files
+  report_text target chosen max_order voices model.system
+command_text contents voices (Make number text) = make_text number text
+command_text contents voices (Galileo files limit max_order paths) = do
+  texts ← texts_of contents files
+  galileo_text limit max_order (first_text texts)
+command_text contents voices (Paths root target files paging) = do
+  model ← model_of_files contents root files
+  paths_text target paging model.system
+command_text contents voices (Why root target files set) = no_text
+command_text contents voices (Confirm root target files set) = no_text
 
 -- the text of the command that the words give
-abbrev pub due : List (List ℕ) → (List ℕ → Option (List ℕ)) → Phase (List ℕ)
-due words contents = do
-  command ← finds (IsCommand words) Usage
-  command_text contents command
+abbrev pub due : List (List ℕ) → (List ℕ → Option (List ℕ)) → List Voice → Phase (List ℕ)
+due words contents voices = do
+  command ← finds (IsCommand (labels voices) words) Usage
+  command_text contents voices command

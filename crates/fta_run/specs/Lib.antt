@@ -6,5 +6,4 @@ pub mod Line
 pub mod Model
 pub mod Steps
 pub mod Text
-pub mod Trees
 pub mod Words

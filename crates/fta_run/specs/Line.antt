@@ -5,7 +5,7 @@ use Rattle.plain_values.specs.declared.refusal.Place.TheVariants.{Words, Whole, 
 use Rattle.plain_values.specs.declared.refusal.Refusal.{Refusal}
 use Rattle.plain_values.specs.Refusal.{code_text}
 use Rattle.phases.specs.declared.status.Status.{Status}
-use Rattle.phases.specs.declared.status.Status.TheVariants.{Done, Usage, Refused, Constant, ReadFault, WriteFault, Memory}
+use Rattle.phases.specs.declared.status.Status.TheVariants.{Done, Usage, Refused, Constant, ReadFault, WriteFault, ReportFault, Memory}
 
 -- the file word of a number, as it was written
 abbrev pub file_word : List (List ℕ) → ℕ → List ℕ
@@ -30,17 +30,22 @@ abbrev pub constant_text : Bool → List ℕ
 constant_text true = codes "constant true"
 constant_text false = codes "constant false"
 
--- what a status says
-abbrev pub status_text : List (List ℕ) → Status → List ℕ
-status_text files Done = []
-status_text files Usage = codes "usage"
-status_text files (Refused refusal) = refusal_text files refusal
-status_text files (Constant always) = constant_text always
-status_text files (ReadFault file) = codes "cannot read " ++ file_word files file
-status_text files WriteFault = codes "cannot write"
-status_text files Memory = codes "out of memory"
+-- the name of the report at a place
+abbrev pub report_name : List (List ℕ) → ℕ → List ℕ
+report_name reports place = unwrap_or (slice_get reports place) []
 
--- the line of a status, where these files are named; none where all went well
-abbrev pub status_line : List (List ℕ) → Status → List ℕ
-status_line files Done = []
-status_line files status = codes "aadl_fta: " ++ (status_text files status ++ codes "\n")
+-- what a status says, where the files and the reports have these names
+abbrev pub status_text : List (List ℕ) → List (List ℕ) → Status → List ℕ
+status_text files reports Done = []
+status_text files reports Usage = codes "usage"
+status_text files reports (Refused refusal) = refusal_text files refusal
+status_text files reports (Constant always) = constant_text always
+status_text files reports (ReadFault file) = codes "cannot read " ++ file_word files file
+status_text files reports WriteFault = codes "cannot write"
+status_text files reports (ReportFault place) = codes "report " ++ (report_name reports place ++ codes " failed")
+status_text files reports Memory = codes "out of memory"
+
+-- the line of a status, where the files and the reports have these names; none where all went well
+abbrev pub status_line : List (List ℕ) → List (List ℕ) → Status → List ℕ
+status_line files reports Done = []
+status_line files reports status = codes "aadl_fta: " ++ (status_text files reports status ++ codes "\n")

@@ -4,11 +4,12 @@ use Rattle.std.specs.List.{AllZip}
 use Rattle.fta_outside.specs.Outside.{Rose}
 use Rattle.phases.specs.Phases.{Phase, Passes, Stops}
 use Rattle.phases.specs.declared.status.Status.{Status}
-use Rattle.phases.specs.declared.status.Status.TheVariants.{Done, ReadFault, WriteFault, Memory}
-use Rattle.fta_run.specs.Words.{GiveCommand, file_words}
+use Rattle.phases.specs.declared.status.Status.TheVariants.{Done, ReadFault, Memory}
+use Rattle.fta_run.specs.Words.{Command, GiveCommand, IsCommand, chosen_of, file_words}
+use Rattle.system_answers.specs.Voices.{Voice, labels}
 use Rattle.fta_run.specs.Due.{due}
 use Rattle.fta_run.specs.Files.{most_bytes, most_files}
-use Rattle.fta_run.specs.Answers.{TookFront, TookText}
+use Rattle.system_answers.specs.Prints.{IsReportFault, IsWriteEnd, TookText}
 
 -- What was read of each file is the front of what it contains, where that is told: one byte more than a file may have, at most.
 abbrev pub AreFronts : (List ℕ → Option (List ℕ)) → List (List ℕ) → List (List ℕ) → Type 0
@@ -24,27 +25,21 @@ IsReadEnd files before after status =
     (status ≡ Memory)
     ⊎ ((file : ℕ) × (status ≡ ReadFault file) × (length files ≤ most_files) × (name : List ℕ) × (slice_get files file ≡ Some name) × Rose (before name) (after name))
 
--- Want of memory or a fault of the output, whose count rose; a sink took a front of a text that passes the phase.
-abbrev pub IsWriteEnd : Phase (List ℕ) → Option (List ℕ) → Option (List ℕ) → ℕ → ℕ → Status → Type 0
-IsWriteEnd phase before after faults_before faults_after status =
-    ((status ≡ Memory) × ((after ≡ before) ⊎ TookFront (Passes phase) before after))
-    ⊎ ((status ≡ WriteFault) × TookFront (Passes phase) before after × Rose faults_before faults_after)
-
--- A sink took a text that passes the phase; or the phase stops, and it took nothing; or memory was wanting, or a write failed.
-abbrev pub Prints : {T : Type 0} → Phase (List ℕ) → Result T Status → Option (List ℕ) → Option (List ℕ) → ℕ → ℕ → Type 0
-Prints phase result before after faults_before faults_after =
-    MatchResult result (λ _. TookText (Passes phase) before after) (λ status. (Stops phase status × (after ≡ before)) ⊎ IsWriteEnd phase before after faults_before faults_after status)
-
 -- The same, or the status is excused, and the sink took nothing.
-abbrev pub RunsBut : {T : Type 0} → (Status → Type 0) → Phase (List ℕ) → Result T Status → Option (List ℕ) → Option (List ℕ) → ℕ → ℕ → Type 0
-RunsBut Excuse phase result before after faults_before faults_after =
+abbrev pub RunsBut : {T : Type 0} → (Status → Type 0) → (Status → Type 0) → Phase (List ℕ) → Result T Status → Option (List ℕ) → Option (List ℕ) → ℕ → ℕ → Type 0
+RunsBut Faulted Excuse phase result before after faults_before faults_after =
     MatchResult result (λ _. TookText (Passes phase) before after)
-    (λ status. ((Stops phase status × (after ≡ before)) ⊎ IsWriteEnd phase before after faults_before faults_after status) ⊎ (Excuse status × (after ≡ before)))
+    (λ status. ((Stops phase status × (after ≡ before)) ⊎ IsWriteEnd Faulted phase before after faults_before faults_after status) ⊎ (Excuse status × (after ≡ before)))
 
--- A sink took the text that is due; or the phases stop, and it took nothing; or memory was wanting, or a write failed; or a read
--- of a file of the command failed.
-abbrev pub Runs : {T : Type 0} → List (List ℕ) → (List ℕ → Option (List ℕ)) → (List ℕ → ℕ) → (List ℕ → ℕ) → Result T Status → Option (List ℕ) → Option (List ℕ) → ℕ → ℕ → Type 0
-Runs words contents read_before read_after = RunsBut (λ status. IsReadEnd (file_words words) read_before read_after status × GiveCommand words) (due words contents)
+-- A report that the command of the words chooses failed.
+abbrev pub IsChosenFault : List (List ℕ) → List Voice → (ℕ → Type 0) → Status → Type 0
+IsChosenFault words voices RoseThere status = (command : Command) × IsCommand (labels voices) words command × IsReportFault (chosen_of command) RoseThere status
+
+-- A sink took the text that is due; or the phases stop, and it took nothing; or memory was wanting, or a write or a report failed;
+-- or a read of a file of the command failed.
+abbrev pub Runs : {T : Type 0} → List (List ℕ) → (List ℕ → Option (List ℕ)) → List Voice → (List ℕ → ℕ) → (List ℕ → ℕ) → (ℕ → Type 0) → Result T Status → Option (List ℕ) → Option (List ℕ) → ℕ → ℕ → Type 0
+Runs words contents voices read_before read_after RoseThere =
+    RunsBut (IsChosenFault words voices RoseThere) (λ status. IsReadEnd (file_words words) read_before read_after status × GiveCommand (labels voices) words) (due words contents voices)
 
 -- the status of an answer
 abbrev pub ended : {T : Type 0} → Result T Status → Status

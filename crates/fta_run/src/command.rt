@@ -1,4 +1,4 @@
-ghost use Rattle.std.specs.Prelude.{◌≡◌, ◌<◌, ◌≤◌, ℕ, List, IfOk, IsErrOf, Result, Err, length};
+ghost use Rattle.std.specs.Prelude.{◌≡◌, ◌<◌, ◌≤◌, ℕ, false, List, IfOk, IsErrOf, Result, Err, length, map, vec_len};
 ghost use Rattle.fta_outside.specs.Outside.{Rose, TookPrefix, with_bytes};
 ghost use Rattle.phases.specs.Phases.{IsDue};
 ghost use Rattle.phases.specs.Meets.{MeetsBut};
@@ -7,84 +7,103 @@ ghost use Rattle.phases.specs.declared.status.Status.TheVariants.{Refused, Memor
 ghost use Rattle.plain_values.specs.declared.refusal.Code.TheVariants.{TooManyFiles};
 ghost use Rattle.plain_values.specs.Refusal.{of_words};
 ghost use Rattle.fta_words.specs.Shown.{command_shown};
-ghost use Rattle.model_phases.specs.Named.{IsPlainModel, IsPlainSystem};
+ghost use Rattle.model_phases.specs.Named.{IsPlainModel};
 ghost use Rattle.fta_run.specs.Line.{status_line};
 ghost use Rattle.fta_run.specs.Answers.{AllTold, AnswersWords, BeginsWithMemory, IsCaused, IsJustified, IsManyAnswer, IsOutput, MayCome, Took};
-ghost use Rattle.fta_run.specs.Due.{check_text, command_text, cuts_text, due, fmea_text, model_of_files, tree_text};
+ghost use Rattle.fta_run.specs.Due.{check_text, command_text, due, fmea_text, model_of_files};
 ghost use Rattle.fta_run.specs.Files.{most_files};
-ghost use Rattle.fta_run.specs.Words.{Check, Command as AnyCommand, Cuts, Fmea, GiveNoCommand, IsBuilt, IsCommand, Tree, file_words, files_of};
-ghost use Rattle.fta_run.specs.Steps.{IsReadEnd, Prints, Runs, RunsBut, ended};
+ghost use Rattle.fta_run.specs.Words.{Check, Command as AnyCommand, Cuts, Fmea, Galileo, GiveNoCommand, IsBuilt, IsCommand, Paths, Report, Tree, chosen_of, file_words, files_of};
+ghost use Rattle.system_answers.specs.Prints.{IsReportFault, NoFault, Prints};
+ghost use Rattle.system_answers.specs.Voices.{Voice, labels, voices_of};
+ghost use Rattle.cut_reports.specs.Feeding.{IsKept, RoseAt};
+ghost use Rattle.cut_reports.specs.Places.{AtChosen};
+ghost use Rattle.plain_values.specs.Rising.{RisesWithin};
+ghost use Rattle.fta_run.specs.Steps.{IsReadEnd, Runs, RunsBut, ended};
 
-use crate::cut_sets::{find_slice, find_start, write_page};
 use crate::fmea::write_table;
 use crate::input::read_texts;
 use crate::line::write_line;
-use crate::model::{find_target, model_of_texts};
+use crate::made::write_make;
+use crate::model::model_of_texts;
 use crate::text::write_numbers;
-use crate::trees::write_galileo;
 use crate::words::command_of;
-use fault_system::FaultSystem;
-use fta_outside::{Files, Sink};
+use fta_outside::{Files, Report, Sink};
 use fta_words::{Command, Paging, file_words};
 use model_phases::FlatModel;
 use phases::Status;
 use plain_values::{List, Name, Root, Word};
 use std::alloc::Global;
+use system_answers::{
+    names_of, write_cuts, write_paths, write_report, write_tree, write_tree_sets,
+};
 
 /// Runs the command that the words give, and says how it ended.
 ///
 /// `check ROOT FILE..` writes the numbers of components, facts and events of the model of a root in the files,
 /// `cuts ROOT TARGET FILE..` a page of the minimal cut sets of a fact in it, `tree ROOT TARGET FILE..` its static fault tree as
-/// Galileo text, and `fmea ROOT FILE..` the table of the effects that each event reaches alone. Under every status but Done one
-/// line is written to `err`; a fault of `err` changes nothing.
+/// Galileo text, `fmea ROOT FILE..` the table of the effects that each event reaches alone, `report ROOT TARGET FILE..` what the
+/// handed-in reports say of all minimal cut sets of a fact, `make N` what is said of a model that is made of a number, and
+/// `galileo FILE` the minimal cut sets of a tree in Galileo text. `paths ROOT TARGET FILE..` writes a page of the minimal path sets of a
+/// fact. Under every status but Done one line is written to `err`; a fault
+/// of `err` changes nothing.
 pub fn run<F: Files, S: Sink, E: Sink>(
     alloc: Global,
     words: &[Word],
     files: &mut F,
     out: &mut S,
     err: &mut E,
+    reports: &mut Vec<Box<dyn Report>>,
 ) -> Status
     // Usage comes exactly where the words give no command.
-    ensures words { AnswersWords result words.now }
+    ensures words { AnswersWords result (labels (voices_of label text reports.old.items)) words.now }
 
     // A refusal is the verdict on texts that the files may contain, and so is that a target is constant.
-    ensures verdict { IsJustified words.now (F.contents files.old) result }
+    ensures verdict { IsJustified words.now (F.contents files.old) (voices_of label text reports.old.items) result }
 
     // Under Done `out` took the text of the command on texts that the files may contain, and else at most a front of it.
-    ensures output { Took (IsOutput words.now (F.contents files.old)) result (S.taken out.old) (S.taken out.new) }
+    ensures output { Took (IsOutput words.now (F.contents files.old) (voices_of label text reports.old.items)) result (S.taken out.old) (S.taken out.new) }
 
     // Once a page of `cuts` was begun, no memory is wanting.
-    ensures begins { (command : AnyCommand) → IsCommand words.now command → BeginsWithMemory command result (S.taken out.old) (S.taken out.new) }
+    ensures begins { (command : AnyCommand) → IsCommand (labels (voices_of label text reports.old.items)) words.now command → BeginsWithMemory command result (S.taken out.old) (S.taken out.new) }
 
     // A fault comes only where its count rose.
-    ensures faults { IsCaused result words.now (F.faults files.old) (F.faults files.new) (S.faults out.old) (S.faults out.new) }
+    ensures faults { IsCaused result (labels (voices_of label text reports.old.items)) words.now (F.faults files.old) (F.faults files.new) (S.faults out.old) (S.faults out.new) (λ place. RoseAt report_faults place reports.old.items reports.new.items) }
 
     // Where the files of the command tell their contents, what is due for the words and the contents comes, unless memory runs
     // out or a fault comes first.
-    ensures complete { AllTold words.now (F.contents files.old)
-        → (its_due : Result (List ℕ) AnyStatus) → IsDue (due words.now (F.contents files.old)) its_due → MayCome its_due result }
+    ensures complete { AllTold words.now (F.contents files.old) (voices_of label text reports.old.items)
+        → (its_due : Result (List ℕ) AnyStatus) → IsDue (due words.now (F.contents files.old) (voices_of label text reports.old.items)) its_due → MayCome its_due result }
+
+    // The list of reports keeps its length and order; a report that the command does not choose is as before, and of each the text
+    // and the name.
+    ensures reports { (command : AnyCommand) → IsCommand (labels (voices_of label text reports.old.items)) words.now command → AtChosen (chosen_of command) (IsKept text label report_faults) reports.old.items reports.new.items }
 
     // No file is read where there is no command, or where too many are named; too many are refused, whatever the files tell.
-    ensures no_command { GiveNoCommand words.now → files.new ≡ files.old }
+    ensures no_command { GiveNoCommand (labels (voices_of label text reports.old.items)) words.now → files.new ≡ files.old }
     ensures too_many { most_files < length (file_words words.now) → files.new ≡ files.old }
     ensures many { most_files < length (file_words words.now) → IsManyAnswer result }
 
     // `err` took exactly the line of the status where its count did not rise, and else at most a front of it.
-    ensures line { (Rose (E.faults err.old) (E.faults err.new) → ⊥) → E.taken err.new ≡ with_bytes (E.taken err.old) (status_line (file_words words.now) result) }
-    ensures at_most_the_line { TookPrefix (E.taken err.old) (E.taken err.new) (status_line (file_words words.now) result) }
+    ensures line { (Rose (E.faults err.old) (E.faults err.new) → ⊥) → E.taken err.new ≡ with_bytes (E.taken err.old) (status_line (file_words words.now) (labels (voices_of label text reports.old.items)) result) }
+    ensures at_most_the_line { TookPrefix (E.taken err.old) (E.taken err.new) (status_line (file_words words.now) (labels (voices_of label text reports.old.items)) result) }
 {
-    let status = ended(answer(alloc, words, files, out));
-    write_status(words, &status, err);
+    let status = ended(answer(alloc, words, files, out, reports));
+    write_status(words, reports, &status, err);
     status
 }
 
 /// Writes the line of a status, and forgets a fault.
-fn write_status<E: Sink>(words: &[Word], status: &Status, err: &mut E)
-    ensures line { (Rose (E.faults err.old) (E.faults err.new) → ⊥) → E.taken err.new ≡ with_bytes (E.taken err.old) (status_line (file_words words.now) status.now) }
-    ensures at_most_the_line { TookPrefix (E.taken err.old) (E.taken err.new) (status_line (file_words words.now) status.now) }
+fn write_status<E: Sink>(
+    words: &[Word],
+    reports: &Vec<Box<dyn Report>>,
+    status: &Status,
+    err: &mut E,
+)
+    ensures line { (Rose (E.faults err.old) (E.faults err.new) → ⊥) → E.taken err.new ≡ with_bytes (E.taken err.old) (status_line (file_words words.now) (map label reports.now.items) status.now) }
+    ensures at_most_the_line { TookPrefix (E.taken err.old) (E.taken err.new) (status_line (file_words words.now) (map label reports.now.items) status.now) }
 {
     let files = file_words(words);
-    let _written = write_line(err, files, status);
+    let _written = write_line(err, files, reports, status);
 }
 
 /// How a run ended that answered this.
@@ -103,15 +122,19 @@ fn answer<F: Files, S: Sink>(
     words: &[Word],
     files: &mut F,
     out: &mut S,
+    reports: &mut Vec<Box<dyn Report>>,
 ) -> Result<(), Status>
-    ensures end { Runs words.now (F.contents files.old) (F.faults files.old) (F.faults files.new) result (S.taken out.old) (S.taken out.new) (S.faults out.old) (S.faults out.new) }
-    ensures no_command { GiveNoCommand words.now → files.new ≡ files.old }
+    ensures end { Runs words.now (F.contents files.old) (voices_of label text reports.old.items) (F.faults files.old) (F.faults files.new) (λ place. RoseAt report_faults place reports.old.items reports.new.items) result (S.taken out.old) (S.taken out.new) (S.faults out.old) (S.faults out.new) }
+    ensures no_command { GiveNoCommand (labels (voices_of label text reports.old.items)) words.now → files.new ≡ files.old }
     ensures too_many { most_files < length (file_words words.now) → files.new ≡ files.old }
     ensures many { most_files < length (file_words words.now) → IsManyAnswer (ended result) }
-    ensures begins { (command : AnyCommand) → IsCommand words.now command → BeginsWithMemory command (ended result) (S.taken out.old) (S.taken out.new) }
+    ensures begins { (command : AnyCommand) → IsCommand (labels (voices_of label text reports.old.items)) words.now command → BeginsWithMemory command (ended result) (S.taken out.old) (S.taken out.new) }
+    ensures reports { (command : AnyCommand) → IsCommand (labels (voices_of label text reports.old.items)) words.now command → AtChosen (chosen_of command) (IsKept text label report_faults) reports.old.items reports.new.items }
+    ensures names { map label reports.new.items ≡ map label reports.old.items }
 {
-    let command = command_of(alloc, words)?;
-    write_command(alloc, &command, files, out)
+    let names = names_of(alloc, reports)?;
+    let command = command_of(alloc, words, names.items())?;
+    write_command(alloc, &command, files, out, reports)
 }
 
 /// Writes the text of a command.
@@ -120,12 +143,15 @@ fn write_command<F: Files, S: Sink>(
     command: &Command<'_>,
     files: &mut F,
     out: &mut S,
+    reports: &mut Vec<Box<dyn Report>>,
 ) -> Result<(), Status>
-    requires { IsBuilt (command_shown command.now) }
-    ensures end { RunsBut (IsReadEnd (files_of (command_shown command.now)) (F.faults files.old) (F.faults files.new)) (command_text (F.contents files.old) (command_shown command.now)) result (S.taken out.old) (S.taken out.new) (S.faults out.old) (S.faults out.new) }
+    requires built { IsBuilt (command_shown command.now) }
+    requires chosen { RisesWithin 0 (vec_len reports.old) (chosen_of (command_shown command.now)) }
+    ensures end { RunsBut (IsReportFault (chosen_of (command_shown command.now)) (λ place. RoseAt report_faults place reports.old.items reports.new.items)) (IsReadEnd (files_of (command_shown command.now)) (F.faults files.old) (F.faults files.new)) (command_text (F.contents files.old) (voices_of label text reports.old.items) (command_shown command.now)) result (S.taken out.old) (S.taken out.new) (S.faults out.old) (S.faults out.new) }
     ensures too_many { most_files < length (files_of (command_shown command.now)) → files.new ≡ files.old }
     ensures many { most_files < length (files_of (command_shown command.now)) → IsManyAnswer (ended result) }
     ensures begins { BeginsWithMemory (command_shown command.now) (ended result) (S.taken out.old) (S.taken out.new) }
+    ensures reports { AtChosen (chosen_of (command_shown command.now)) (IsKept text label report_faults) reports.old.items reports.new.items }
 {
     match command {
         Command::Check { root, files: names } => check(alloc, root, names, files, out),
@@ -145,7 +171,37 @@ fn write_command<F: Files, S: Sink>(
             files: names,
             all,
         } => fmea(alloc, root, names, *all, files, out),
-        Command::Report { .. } | Command::Make { .. } => Err(Status::Usage),
+        Command::Report {
+            root,
+            target,
+            files: names,
+            chosen,
+            max_order,
+        } => report(
+            alloc,
+            root,
+            target,
+            names,
+            chosen.items(),
+            *max_order,
+            files,
+            out,
+            reports,
+        ),
+        Command::Make { number, text } => write_make(alloc, *number, *text, out),
+        Command::Galileo {
+            files: names,
+            limit,
+            max_order,
+            ..
+        } => galileo(alloc, names, *limit, *max_order, files, out),
+        Command::Paths {
+            root,
+            target,
+            files: names,
+            paging,
+        } => paths(alloc, root, target, names, paging, files, out),
+        Command::Why { .. } | Command::Confirm { .. } => Err(Status::Usage),
     }
 }
 
@@ -157,7 +213,7 @@ fn check<F: Files, S: Sink>(
     files: &mut F,
     out: &mut S,
 ) -> Result<(), Status>
-    ensures end { RunsBut (IsReadEnd names.now (F.faults files.old) (F.faults files.new)) (command_text (F.contents files.old) (Check root.now names.now)) result (S.taken out.old) (S.taken out.new) (S.faults out.old) (S.faults out.new) }
+    ensures end { (voices : List Voice) → RunsBut NoFault (IsReadEnd names.now (F.faults files.old) (F.faults files.new)) (command_text (F.contents files.old) voices (Check root.now names.now)) result (S.taken out.old) (S.taken out.new) (S.faults out.old) (S.faults out.new) }
     ensures too_many { most_files < length names.now → files.new ≡ files.old }
     ensures many { most_files < length names.now → IsManyAnswer (ended result) }
 {
@@ -175,7 +231,7 @@ fn cuts<F: Files, S: Sink>(
     files: &mut F,
     out: &mut S,
 ) -> Result<(), Status>
-    ensures end { RunsBut (IsReadEnd names.now (F.faults files.old) (F.faults files.new)) (command_text (F.contents files.old) (Cuts root.now target.now names.now paging.now)) result (S.taken out.old) (S.taken out.new) (S.faults out.old) (S.faults out.new) }
+    ensures end { (voices : List Voice) → RunsBut NoFault (IsReadEnd names.now (F.faults files.old) (F.faults files.new)) (command_text (F.contents files.old) voices (Cuts root.now target.now names.now paging.now)) result (S.taken out.old) (S.taken out.new) (S.faults out.old) (S.faults out.new) }
     ensures too_many { most_files < length names.now → files.new ≡ files.old }
     ensures many { most_files < length names.now → IsManyAnswer (ended result) }
     ensures begins { IsErrOf result Memory → S.taken out.new ≡ S.taken out.old }
@@ -193,12 +249,12 @@ fn tree<F: Files, S: Sink>(
     files: &mut F,
     out: &mut S,
 ) -> Result<(), Status>
-    ensures end { RunsBut (IsReadEnd names.now (F.faults files.old) (F.faults files.new)) (command_text (F.contents files.old) (Tree root.now target.now names.now)) result (S.taken out.old) (S.taken out.new) (S.faults out.old) (S.faults out.new) }
+    ensures end { (voices : List Voice) → RunsBut NoFault (IsReadEnd names.now (F.faults files.old) (F.faults files.new)) (command_text (F.contents files.old) voices (Tree root.now target.now names.now)) result (S.taken out.old) (S.taken out.new) (S.faults out.old) (S.faults out.new) }
     ensures too_many { most_files < length names.now → files.new ≡ files.old }
     ensures many { most_files < length names.now → IsManyAnswer (ended result) }
 {
     let model = read_model(alloc, root, names, files)?;
-    write_tree(alloc, &model, target, out)
+    write_tree(alloc, &model.system, model.rates.items(), target, out)
 }
 
 /// Writes the FMEA table of the model of a root.
@@ -210,12 +266,77 @@ fn fmea<F: Files, S: Sink>(
     files: &mut F,
     out: &mut S,
 ) -> Result<(), Status>
-    ensures end { RunsBut (IsReadEnd names.now (F.faults files.old) (F.faults files.new)) (command_text (F.contents files.old) (Fmea root.now names.now all)) result (S.taken out.old) (S.taken out.new) (S.faults out.old) (S.faults out.new) }
+    ensures end { (voices : List Voice) → RunsBut NoFault (IsReadEnd names.now (F.faults files.old) (F.faults files.new)) (command_text (F.contents files.old) voices (Fmea root.now names.now all)) result (S.taken out.old) (S.taken out.new) (S.faults out.old) (S.faults out.new) }
     ensures too_many { most_files < length names.now → files.new ≡ files.old }
     ensures many { most_files < length names.now → IsManyAnswer (ended result) }
 {
     let model = read_model(alloc, root, names, files)?;
     write_fmea(alloc, &model, all, out)
+}
+
+/// Writes what the chosen reports say of the listing of a target in the model of a root.
+fn report<F: Files, S: Sink>(
+    alloc: Global,
+    root: &Root,
+    target: &Name,
+    names: &[Word],
+    chosen: &[u32],
+    max_order: Option<u32>,
+    files: &mut F,
+    out: &mut S,
+    reports: &mut Vec<Box<dyn Report>>,
+) -> Result<(), Status>
+    requires { RisesWithin 0 (vec_len reports.old) chosen.now }
+    ensures end { RunsBut (IsReportFault chosen.now (λ place. RoseAt report_faults place reports.old.items reports.new.items)) (IsReadEnd names.now (F.faults files.old) (F.faults files.new)) (command_text (F.contents files.old) (voices_of label text reports.old.items) (Report root.now target.now names.now chosen.now max_order)) result (S.taken out.old) (S.taken out.new) (S.faults out.old) (S.faults out.new) }
+    ensures too_many { most_files < length names.now → files.new ≡ files.old }
+    ensures many { most_files < length names.now → IsManyAnswer (ended result) }
+    ensures reports { AtChosen chosen.now (IsKept text label report_faults) reports.old.items reports.new.items }
+{
+    let model = read_model(alloc, root, names, files)?;
+    write_report(
+        alloc,
+        &model.system,
+        target,
+        chosen,
+        max_order,
+        out,
+        reports,
+    )
+}
+
+/// Writes a page of the minimal path sets of a target in the model of a root.
+fn paths<F: Files, S: Sink>(
+    alloc: Global,
+    root: &Root,
+    target: &Name,
+    names: &[Word],
+    paging: &Paging,
+    files: &mut F,
+    out: &mut S,
+) -> Result<(), Status>
+    ensures end { (voices : List Voice) → RunsBut NoFault (IsReadEnd names.now (F.faults files.old) (F.faults files.new)) (command_text (F.contents files.old) voices (Paths root.now target.now names.now paging.now)) result (S.taken out.old) (S.taken out.new) (S.faults out.old) (S.faults out.new) }
+    ensures too_many { most_files < length names.now → files.new ≡ files.old }
+    ensures many { most_files < length names.now → IsManyAnswer (ended result) }
+{
+    let model = read_model(alloc, root, names, files)?;
+    write_paths(alloc, &model.system, target, paging, out)
+}
+
+/// Writes the minimal cut sets of the tree in a file of Galileo text.
+fn galileo<F: Files, S: Sink>(
+    alloc: Global,
+    names: &[Word],
+    limit: Option<u32>,
+    max_order: Option<u32>,
+    files: &mut F,
+    out: &mut S,
+) -> Result<(), Status>
+    ensures end { (voices : List Voice) → RunsBut NoFault (IsReadEnd names.now (F.faults files.old) (F.faults files.new)) (command_text (F.contents files.old) voices (Galileo names.now limit max_order false)) result (S.taken out.old) (S.taken out.new) (S.faults out.old) (S.faults out.new) }
+    ensures too_many { most_files < length names.now → files.new ≡ files.old }
+    ensures many { most_files < length names.now → IsManyAnswer (ended result) }
+{
+    let texts = read_texts(alloc, files, names)?;
+    write_tree_sets(alloc, texts.first(), limit, max_order, out)
 }
 
 /// The model of a root in the files of these names.
@@ -240,39 +361,6 @@ fn write_check<S: Sink>(alloc: Global, model: &FlatModel, out: &mut S) -> Result
 {
     write_numbers(alloc, model.components, &model.system, out)?;
     Ok(())
-}
-
-/// Writes a page of the listing of a target in a system.
-fn write_cuts<S: Sink>(
-    alloc: Global,
-    system: &FaultSystem,
-    target: &Name,
-    paging: &Paging,
-    out: &mut S,
-) -> Result<(), Status>
-    requires { IsPlainSystem system.now }
-    ensures page { Prints (cuts_text target.now paging.now system.now) result (S.taken out.old) (S.taken out.new) (S.faults out.old) (S.faults out.new) }
-    ensures begins { IsErrOf result Memory → S.taken out.new ≡ S.taken out.old }
-{
-    let number = find_target(system, target)?;
-    let start = find_start(alloc, system, paging)?;
-    let part = find_slice(alloc, system, number)?;
-    write_page(alloc, system, &part, &start, paging, out)
-}
-
-/// Writes the tree of a target in a model.
-fn write_tree<S: Sink>(
-    alloc: Global,
-    model: &FlatModel,
-    target: &Name,
-    out: &mut S,
-) -> Result<(), Status>
-    requires { IsPlainModel model.now }
-    ensures { Prints (tree_text target.now model.now.system model.now.rates) result (S.taken out.old) (S.taken out.new) (S.faults out.old) (S.faults out.new) }
-{
-    let number = find_target(&model.system, target)?;
-    let part = find_slice(alloc, &model.system, number)?;
-    write_galileo(alloc, &model.system, model.rates.items(), &part, out)
 }
 
 /// Writes the FMEA table of a model.

@@ -1,4 +1,4 @@
-ghost use Rattle.std.specs.Prelude.{◌≡◌, ℕ, ◌^◌, ◌<◌, ◌≤◌, suc, List, [], MatchResult, IfOk, IfErr, IfSome, Err, ◌⊎◌, All, length, sum_by, take};
+ghost use Rattle.std.specs.Prelude.{◌≡◌, ℕ, ◌^◌, ◌<◌, ◌≤◌, suc, List, [], ◌∷◌, MatchResult, IfOk, IfErr, IfSome, Err, ◌⊎◌, All, length, sum_by, take};
 ghost use Rattle.plain_values.specs.declared.refusal.Refusal.{Refusal};
 ghost use Rattle.plain_values.specs.declared.refusal.Code.TheVariants.{TooManyFiles};
 ghost use Rattle.plain_values.specs.declared.refusal.Stop.TheVariants.{Refused};
@@ -8,7 +8,7 @@ ghost use Rattle.aadl_lexer.specs.Tokens.{IsFault, RefusedAs, Tokens};
 ghost use Rattle.aadl_parser.specs.Files.{IsUnread};
 ghost use Rattle.phases.specs.Meets.{Meets, MeetsBut};
 ghost use Rattle.phases.specs.Phases.{answers, rejects};
-ghost use Rattle.fta_run.specs.Due.{texts_of, units_of};
+ghost use Rattle.fta_run.specs.Due.{first_text, texts_of, units_of, within_limits};
 ghost use Rattle.fta_run.specs.Files.{AreTokens, AreUnits, AreUnitsOf, HasTooLong, HasTooMuch, LacksTokens, LacksUnits, most_bytes, most_files, most_text, too_long, too_long_from};
 ghost use Rattle.plain_values.specs.Refusal.{of_words};
 ghost use Rattle.fta_run.specs.Steps.{AreFronts, IsFileEnd, IsReadEnd};
@@ -57,6 +57,17 @@ impl Texts {
     {
         self.texts.items()
     }
+
+    /// The text of the first file.
+    pub fn first(&self) -> &[u8]
+        ensures text { result.now ≡ first_text self.now }
+        ensures short { length result.now ≤ most_bytes }
+    {
+        match self.texts.items().first() {
+            Some(text) => text.items(),
+            None => &[],
+        }
+    }
 }
 
 /// The texts of the files, where they are not too many and not too long.
@@ -70,6 +81,25 @@ pub fn read_texts<F: Files>(alloc: Global, files: &mut F, names: &[Word]) -> Res
         return Err(Status::Refused(Refusal::of_words(Code::TooManyFiles)));
     }
     let texts = read_files(alloc, files, names)?;
+    check_each(texts.items())?;
+    check_total(texts.items())?;
+    Ok(Texts { texts })
+}
+
+/// The texts of one file with this text, where it is not too long.
+pub fn texts_of_one(alloc: Global, text: Name) -> Result<Texts, Status>
+    ensures { Meets (within_limits (text ∷ [])) result }
+{
+    let mut texts = List::new(alloc);
+    texts.push(text)?;
+    texts_within(texts)
+}
+
+/// These texts, where none is too long, and they are not too long together.
+fn texts_within(texts: List<Name>) -> Result<Texts, Status>
+    requires { length texts ≤ most_files }
+    ensures { Meets (within_limits texts) result }
+{
     check_each(texts.items())?;
     check_total(texts.items())?;
     Ok(Texts { texts })

@@ -2,14 +2,13 @@
 #![tactic(auto)]
 
 mod command;
-mod cut_sets;
 mod fmea;
 mod input;
 mod laws;
 mod line;
+mod made;
 mod model;
 mod text;
-mod trees;
 mod words;
 
 pub use command::run;

@@ -1,16 +1,22 @@
-ghost use Rattle.std.specs.Prelude.{◌≡◌, ◌++◌, codes, decimal};
+ghost use Rattle.std.specs.Prelude.{◌≡◌, ◌++◌, codes, decimal, map};
 ghost use Rattle.cutset_writer.specs.Written.{Writes};
-ghost use Rattle.fta_run.specs.Line.{constant_text, file_word, limit_text, place_text, refusal_text, status_line};
+ghost use Rattle.fta_run.specs.Line.{constant_text, file_word, limit_text, place_text, refusal_text, report_name, status_line};
 
-use fta_outside::{Sink, SinkFailed, write_all};
+use cut_reports::name_of;
+use fta_outside::{Report, Sink, SinkFailed, write_all};
 use itoa::Buffer;
 use phases::Status;
 use plain_values::{Place, Refusal, Word};
 
-/// Writes the line of a status to the error stream, where these files are named; nothing where all went well. It takes no
-/// memory.
-pub fn write_line<E: Sink>(err: &mut E, files: &[Word], status: &Status) -> Result<(), SinkFailed>
-    ensures { Writes result (status_line files.now status.now) (E.taken err.old) (E.taken err.new) (E.faults err.old) (E.faults err.new) }
+/// Writes the line of a status to the error stream, where these files are named and these are the reports; nothing where all went
+/// well. It takes no memory.
+pub fn write_line<E: Sink>(
+    err: &mut E,
+    files: &[Word],
+    reports: &Vec<Box<dyn Report>>,
+    status: &Status,
+) -> Result<(), SinkFailed>
+    ensures { Writes result (status_line files.now (map label reports.now.items) status.now) (E.taken err.old) (E.taken err.new) (E.faults err.old) (E.faults err.new) }
 {
     match status {
         Status::Done => Ok(()),
@@ -19,6 +25,7 @@ pub fn write_line<E: Sink>(err: &mut E, files: &[Word], status: &Status) -> Resu
         Status::Constant(always) => write_constant(err, *always),
         Status::ReadFault(file) => write_unread(err, file_word(files, *file)),
         Status::WriteFault => write_piece(err, b"aadl_fta: cannot write\n"),
+        Status::ReportFault(place) => write_failed(err, report_name(reports, *place)),
         Status::Memory => write_piece(err, b"aadl_fta: out of memory\n"),
     }
 }
@@ -38,6 +45,23 @@ fn write_unread<E: Sink>(err: &mut E, file: &[u8]) -> Result<(), SinkFailed>
 {
     write_piece(err, b"aadl_fta: cannot read ")?;
     write_two(err, file, b"\n")
+}
+
+fn write_failed<E: Sink>(err: &mut E, name: &[u8]) -> Result<(), SinkFailed>
+    ensures { Writes result (codes "aadl_fta: report " ++ (name.now ++ codes " failed\n")) (E.taken err.old) (E.taken err.new) (E.faults err.old) (E.faults err.new) }
+{
+    write_piece(err, b"aadl_fta: report ")?;
+    write_two(err, name, b" failed\n")
+}
+
+/// The name of the report at a place.
+fn report_name(reports: &Vec<Box<dyn Report>>, place: u32) -> &[u8]
+    ensures { result.now ≡ report_name (map label reports.now.items) place }
+{
+    match reports.get(place as usize) {
+        Some(report) => name_of(report),
+        None => &[],
+    }
 }
 
 fn write_refusal<E: Sink>(err: &mut E, files: &[Word], refusal: &Refusal) -> Result<(), SinkFailed>

@@ -3,10 +3,11 @@ ghost use Rattle.fta_outside.specs.Outside.{Rose, with_bytes, TookPrefix};
 ghost use Rattle.fta_run.specs.Text.{number_line, numbers_text};
 
 use fault_system::FaultSystem;
-use fta_outside::{Sink, WriteError, write_all};
+use fta_outside::{Sink, WriteError};
 use itoa::Buffer;
 use plain_values::Mem;
 use std::alloc::Global;
+use system_answers::write_bytes;
 
 /// Writes the lines of the numbers of components, facts and events, all at once.
 pub fn write_numbers<S: Sink>(
@@ -20,11 +21,12 @@ pub fn write_numbers<S: Sink>(
     ensures failed { IsErrOf result WriteError.Failed → Rose (S.faults out.old) (S.faults out.new) }
 {
     let text = numbers_text(alloc, components, system.facts(), system.events())?;
-    write_all(out, text.as_slice())?;
+    write_bytes(text.as_slice(), out)?;
     Ok(())
 }
 
-fn numbers_text(alloc: Global, components: u32, facts: u32, events: u32) -> Mem<Vec<u8>>
+/// The lines of the numbers of components, facts and events.
+pub fn numbers_text(alloc: Global, components: u32, facts: u32, events: u32) -> Mem<Vec<u8>>
     ensures { IfOk result (λ text. text.items ≡ numbers_text components facts events) }
 {
     let mut text = Vec::new(alloc);

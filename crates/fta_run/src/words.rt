@@ -7,14 +7,18 @@ ghost use Rattle.fta_run.specs.Words.{IsBuilt, IsCommand};
 
 use fta_words::{Command, WordsFault};
 use phases::Status;
-use plain_values::Word;
+use plain_values::{Name, Word};
 use std::alloc::Global;
 
-/// The command that the words give; Usage where they give none that is built.
-pub fn command_of<'a>(alloc: Global, words: &'a [Word]) -> Result<Command<'a>, Status>
-    ensures { MeetsBut IsMemory command_shown (finds (IsCommand words.now) Usage) result }
+/// The command that the words give, where the reports have these names; Usage where they give none that is built.
+pub fn command_of<'a>(
+    alloc: Global,
+    words: &'a [Word],
+    names: &[Name],
+) -> Result<Command<'a>, Status>
+    ensures { MeetsBut IsMemory command_shown (finds (IsCommand names.now words.now) Usage) result }
 {
-    match Command::read(alloc, words, &[]) {
+    match Command::read(alloc, words, names) {
         Ok(command) => {
             if is_built(&command) {
                 Ok(command)
@@ -34,7 +38,11 @@ fn is_built(command: &Command<'_>) -> bool
         Command::Check { .. }
         | Command::Cuts { .. }
         | Command::Tree { .. }
-        | Command::Fmea { .. } => true,
-        Command::Report { .. } | Command::Make { .. } => false,
+        | Command::Fmea { .. }
+        | Command::Report { .. }
+        | Command::Make { .. }
+        | Command::Paths { .. } => true,
+        Command::Galileo { paths, .. } => !*paths,
+        Command::Why { .. } | Command::Confirm { .. } => false,
     }
 }

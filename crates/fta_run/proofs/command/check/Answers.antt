@@ -1,7 +1,14 @@
+use Rattle.fta_run.specs.Steps.{IsReadEnd}
 use Rattle.fta_run.specs.Due.{check_text, model_of_files}
-use Rattle.fta_run.proofs.Ran.{ran_stopped}
+use Rattle.system_answers.specs.Prints.{NoFault}
+use Rattle.fta_run.proofs.Ran.{ran_on, ran_stopped}
 use Rattle.fta_run.proofs.command.check.Goals as goal
 
 pub returns-in_err-model-clause-end : goal.returns-in_err-model-clause-end
-returns-in_err-model-clause-end g c =
-    ran_stopped _ (model_of_files (g.F.Files.contents c.args.files.now) c.args.root.now c.args.names.now) check_text _ _ c.from_residual.result c.in_err-model.field-0.0 c.from_residual.ensures.1 c.in_err-model.ensures.meets
+returns-in_err-model-clause-end g c = λ voices.
+    ran_stopped NoFault _ (model_of_files (g.F.Files.contents c.args.files.now) c.args.root.now c.args.names.now) check_text _ _ c.from_residual.result c.in_err-model.field-0.0 c.from_residual.ensures.1 c.in_err-model.ensures.meets
+
+pub returns-clause-end : goal.returns-clause-end
+returns-clause-end g c = λ voices.
+    ran_on NoFault (IsReadEnd c.args.names.now (g.F.Files.faults c.args.files.now) (g.F.Files.faults c.read_model.new.files)) (model_of_files (g.F.Files.contents c.args.files.now) c.args.root.now c.args.names.now)
+    check_text c.in_ok-model.model c.write_check.result _ _ _ _ c.in_ok-model.ensures.meets c.write_check.ensures
