@@ -3,7 +3,8 @@
 
 ghost use Rattle.std.specs.Prelude.{◌≡◌, IfOk, map, string_bytes};
 
-use fta_outside::{DiskFiles, StdSink};
+use cut_reports::{EventUse, OrderProfile, SinglePoints};
+use fta_outside::{DiskFiles, Report, Sink, StdSink};
 use fta_run::{Status, run, write_line};
 use plain_values::{List, Word};
 use std::alloc::{AllocError, Global};
@@ -15,18 +16,31 @@ use std::rt::Env;
 fn main(rt: HostRuntime) -> ExitCode {
     let mut err = StdSink::new(rt.stderr());
     let status = match command_words(&rt, rt.alloc()) {
-        Ok(words) => {
-            let mut files = DiskFiles::new(&rt);
-            let mut out = StdSink::new(rt.stdout());
-            run(rt.alloc(), words.as_slice(), &mut files, &mut out, &mut err)
-        }
-        Err(status) => {
-            // A fault of the error stream changes no status.
-            let _written = write_line(&mut err, &[], &status);
-            status
-        }
+        Ok(words) => match run_words(&rt, words.as_slice(), &mut err) {
+            Ok(status) => status,
+            Err(_) => stopped(rt.alloc(), Status::Memory, &mut err),
+        },
+        Err(status) => stopped(rt.alloc(), status, &mut err),
     };
     ExitCode::from(status.exit())
+}
+
+/// Writes the line of a status, where nothing was run; a fault of the error stream changes no status.
+fn stopped<E: Sink>(alloc: Global, status: Status, err: &mut E) -> Status {
+    let _written = write_line(err, &[], &Vec::new(alloc), &status);
+    status
+}
+
+/// Runs the words with the real files and streams, and the three reports of the tool's own.
+fn run_words<E: Sink>(rt: &HostRuntime, words: &[Word], err: &mut E) -> Result<Status, AllocError> {
+    let alloc = rt.alloc();
+    let mut reports: Vec<Box<dyn Report>> = Vec::new(alloc);
+    reports.push(Box::new(alloc, OrderProfile::new(alloc))?)?;
+    reports.push(Box::new(alloc, EventUse::new(alloc))?)?;
+    reports.push(Box::new(alloc, SinglePoints::new(alloc))?)?;
+    let mut files = DiskFiles::new(rt);
+    let mut out = StdSink::new(rt.stdout());
+    Ok(run(alloc, words, &mut files, &mut out, err, &mut reports))
 }
 
 /// The words after the program's name. A word that is not UTF-8 gives no command.

@@ -1,6 +1,7 @@
 //! Rows that run the tool, with files and sinks in memory.
 
-use fta_outside::{MemoryFiles, MemorySink};
+use cut_reports::{EventUse, FailingReport, OrderProfile, SinglePoints};
+use fta_outside::{MemoryFiles, MemorySink, Report};
 use fta_run::run;
 use plain_values::{List, Mem, Word};
 use row_reader::{Row, Text, cut, has_key, head_and_body, number_of};
@@ -56,13 +57,34 @@ fn put_run(
         5,
         4096,
     )?;
-    let status = run(alloc, words, files, &mut out, &mut err);
+    let mut reports: Vec<Box<dyn Report>> = Vec::new(alloc);
+    if has_own_reports(row, scratch) {
+        reports.push(Box::new(alloc, OrderProfile::new(alloc))?)?;
+        reports.push(Box::new(alloc, EventUse::new(alloc))?)?;
+        reports.push(Box::new(alloc, SinglePoints::new(alloc))?)?;
+    }
+    if has_key(row.lines(b"failing report"), b"failing report:") {
+        let failing = numbers_of(alloc, row, b"failing report:", scratch)?;
+        reports.push(Box::new(alloc, FailingReport::new(alloc, failing))?)?;
+    }
+    let status = run(alloc, words, files, &mut out, &mut err, &mut reports);
     found.put_number(u64::from(status.exit()));
     found.put(b"\nout:\n");
     found.put(out.bytes());
     found.put(b"err:\n");
     found.put(err.bytes());
     Ok(())
+}
+
+/// Whether the three reports of the tool's own are handed in.
+fn has_own_reports(row: &Row, scratch: &mut Text) -> bool {
+    if !row.put_first(b"reports:", scratch) {
+        return true;
+    }
+    if scratch.bytes() != b"none".as_slice() {
+        scratch.refuse("the handed-in reports are the own ones or `none`");
+    }
+    false
 }
 
 /// The sink of the output.

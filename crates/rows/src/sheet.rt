@@ -14,7 +14,7 @@ enum Trial {
 }
 
 /// What may stand before the `:` of a line that begins no item; besides these `file` and a name.
-const KEYS: [&[u8]; 15] = [
+const KEYS: [&[u8]; 17] = [
     b"words",
     b"word",
     b"exit",
@@ -26,6 +26,8 @@ const KEYS: [&[u8]; 15] = [
     b"failing reads",
     b"failing writes",
     b"failing lines",
+    b"reports",
+    b"failing report",
     b"piece",
     b"room",
     b"try",

@@ -29,6 +29,7 @@ fn exit_numbers(rt: HostRuntime) {
         (Status::Refused(refusal), 2),
         (Status::ReadFault(3), 4),
         (Status::WriteFault, 5),
+        (Status::ReportFault(2), 6),
         (Status::Memory, 7),
     ];
     for (status, number) in &rows {
