@@ -36,6 +36,12 @@ kept_each before after (id ∷ ids) set kept found =
 pub kept_in : (before after : Families) (ids : List Id) → Keeps before after → All (IsIn before) ids → All (IsIn after) ids
 kept_in before after ids kept found = All-weaker (IsIn before) (IsIn after) (λ id h. omega (arith, kept.more)) ids found
 
+-- a family that covers what it should, of any number of events
+pub made_wide : (before after : Families) (most : Option ℕ) (test : List ℕ → Bool) (result : Result Id AllocError) → Keeps before after → IfOk result (IsIn after)
+    → IfOk result (λ id. (set : List ℕ) → covers (family_of after id) set ≡ test set) → Made before after most test result
+made_wide before after most test (Ok id) kept found right = record { kept = kept; made = record { found = found; right = λ set h. right set } }
+made_wide before after most test (Err e) kept found right = record { kept = kept; made = tt }
+
 -- a step whose operands were made before
 pub made_then : (before middle after : Families) (most : Option ℕ) (test other : List ℕ → Bool) (result : Result Id AllocError) → Keeps before middle → Made middle after most test result → ((set : List ℕ) → IsWithinOrder most set → test set ≡ other set) → Made before after most other result
 made_then before middle after most test other (Ok id) kept made same =

@@ -79,7 +79,7 @@ cut_right all None set rising w = refl
 cut_right all (Some k) set rising w = covers_cut k all set rising w
 
 -- the minimal sets of a family within the order
-pub least-made : (before middle after : Families) (most : Option ℕ) (id minimal answer : Id) → IsSound before → IsSound middle → IsSound after → IsIn middle minimal → IsLeastFamily (either (family_of before id) (family_at before 0)) (family_of middle minimal)
+pub least-made : (before middle after : Families) (most : Option ℕ) (id minimal answer : Id) → IsSound before → IsSound middle → IsSound after → IsIn middle minimal → IsLeastFamily (covers (family_of before id)) (family_of middle minimal)
     → IsIn after answer → family_of after answer ≡ sets_to most (family_of middle minimal) → IsLeast before after most id answer
 least-made before middle after most id minimal answer sound sound1 sound2 found1 least found is =
     record {
@@ -87,7 +87,7 @@ least-made before middle after most id minimal answer sound sound1 sound2 found1
       rising = sound_rising after answer sound2 found;
       apart = subst IsAntichain (sym is) (cut_apart (family_of middle minimal) most least.apart);
       short = λ set h. cut_short (family_of middle minimal) most set (subst (λ f. Contains f set) is h);
-      right = λ set w. ap (λ f. covers f set) is ∙ cut_right (family_of middle minimal) most set (sound_rising middle minimal sound1 found1) w ∙ least.covering set ∙ or_false (covers (family_of before id) set) _ (covers-empty before (record { position = 0 }) set sound refl);
+      right = λ set w. ap (λ f. covers f set) is ∙ cut_right (family_of middle minimal) most set (sound_rising middle minimal sound1 found1) w ∙ least.covering set;
     }
 
 -- From the family of the target over variables to its minimal cut sets: the minimal sets within the order, and then their

@@ -6,7 +6,8 @@ ghost use Rattle.cutset_engine.specs.Families.{HasMinimalCutSets, IsLeast, sets_
 
 use crate::agenda::Agenda;
 use crate::filling::{fill, fill_fact};
-use crate::inner_order::{Way, inner_order};
+use crate::gates::Form;
+use crate::inner_order::inner_order;
 use crate::race::{Distance, Race, Try};
 use backward_slice::Slice;
 use dependency_blocks::Blocks;
@@ -14,7 +15,7 @@ use family_renaming::in_event_order;
 use fault_system::FaultSystem;
 use plain_values::Mem;
 use std::alloc::Global;
-use zdd_families::{copied, min_union, up_to_size};
+use zdd_families::{copied, minimal_family, up_to_size};
 use zdd_store::{Id, Store};
 
 /// How many tries there are before one may remember all.
@@ -39,7 +40,7 @@ pub fn family(
     ensures exact { IfOk result (λ id. HasMinimalCutSets system.now slice.now.target most (family_of store.new id)) }
     ensures kept { Keeps store.old store.new }
 {
-    let mut race = Race::new();
+    let mut race = Race::new(most.is_none());
     for round in 0..TRIES {
         let mut distance = Distance::NONE;
         if let Ok(id) = family_within(
@@ -57,10 +58,7 @@ pub fn family(
         race.tell(distance);
     }
     let mut distance = Distance::NONE;
-    let all = Try {
-        way: race.next().way,
-        answers: u64::MAX,
-    };
+    let all = race.last();
     family_within(
         alloc,
         system,
@@ -91,9 +89,7 @@ fn family_within(
     ensures kept { Keeps store.old store.new }
 {
     let mut own = Store::limited(alloc, turn.answers);
-    let made = family_by(
-        alloc, system, slice, blocks, most, turn.way, distance, &mut own,
-    )?;
+    let made = family_by(alloc, system, slice, blocks, most, turn, distance, &mut own)?;
     let answer = copied(alloc, &own, store, made)?;
     Ok(answer)
 }
@@ -105,7 +101,7 @@ fn family_by(
     slice: &Slice,
     blocks: &Blocks,
     most: Option<u32>,
-    way: Way,
+    turn: Try,
     distance: &mut Distance,
     store: &mut Store,
 ) -> Mem<Id>
@@ -116,19 +112,21 @@ fn family_by(
 {
     let _events = system.events();
     let mut agenda = Agenda::new(alloc, system, blocks, slice.target)?;
-    let order = inner_order(alloc, system, way, agenda.facts(), slice.target)?;
+    let order = inner_order(alloc, system, turn.way, agenda.facts(), slice.target)?;
     let now = families(
         alloc,
         store,
         system,
         order.variables(),
         most,
+        turn.form,
         slice,
         &mut agenda,
         distance,
     )?;
     let target = number_at(now.as_slice(), slice.target);
     let inner = least_family(store, most, target)?;
+    distance.find();
     let answer = in_event_order(alloc, store, &order, inner)?;
     store.laws();
     Ok(answer)
@@ -148,6 +146,7 @@ fn families(
     system: &FaultSystem,
     order: &[u32],
     most: Option<u32>,
+    form: Form,
     slice: &Slice,
     agenda: &mut Agenda,
     distance: &mut Distance,
@@ -164,6 +163,7 @@ fn families(
         system,
         order,
         most,
+        form,
         slice,
         agenda,
         distance,
@@ -191,6 +191,7 @@ fn fill_in_order(
     system: &FaultSystem,
     order: &[u32],
     most: Option<u32>,
+    form: Form,
     slice: &Slice,
     agenda: &mut Agenda,
     distance: &mut Distance,
@@ -204,8 +205,19 @@ fn fill_in_order(
         (IsFilled (record { system = system.now; order = order.now; most = most }) slice.now.facts store.new now.new) }
 {
     store.laws();
-    settle(alloc, store, system, order, most, agenda, distance, now)?;
-    fill(alloc, store, system, order, most, slice.facts.items(), now)
+    settle(
+        alloc, store, system, order, most, form, agenda, distance, now,
+    )?;
+    fill(
+        alloc,
+        store,
+        system,
+        order,
+        most,
+        form,
+        slice.facts.items(),
+        now,
+    )
 }
 
 /// Makes the families of the facts of an agenda, each again where that of a fact of its formula is another.
@@ -215,6 +227,7 @@ fn settle(
     system: &FaultSystem,
     order: &[u32],
     most: Option<u32>,
+    form: Form,
     agenda: &mut Agenda,
     distance: &mut Distance,
     now: &mut [Id],
@@ -227,7 +240,7 @@ fn settle(
         let Some(fact) = agenda.next() else {
             return Ok(());
         };
-        if fill_fact(alloc, store, system, order, most, now, fact)? {
+        if fill_fact(alloc, store, system, order, most, form, now, fact)? {
             agenda.tell(fact);
         }
         distance.facts = distance.facts.saturating_add(1);
@@ -243,7 +256,7 @@ fn least_family(store: &mut Store, most: Option<u32>, id: Id) -> Mem<Id>
     ensures least { IfOk result (IsLeast store.old store.new most id) }
 {
     store.laws();
-    let minimal = min_union(store, id, Id::EMPTY)?;
+    let minimal = minimal_family(store, id)?;
     store.laws();
     let answer = sets_within(store, most, minimal)?;
     store.laws();

@@ -3,6 +3,7 @@ ghost use Rattle.zdd_store.specs.Store.{Keeps};
 ghost use Rattle.cutset_engine.specs.Filling.{IsFilling, IsFilled, Steps, HaveTheirCauses};
 
 use crate::formulas::formula_family;
+use crate::gates::Form;
 use fault_system::FaultSystem;
 use plain_values::Mem;
 use std::alloc::Global;
@@ -15,6 +16,7 @@ pub(crate) fn fill_fact(
     system: &FaultSystem,
     order: &[u32],
     most: Option<u32>,
+    form: Form,
     now: &mut [Id],
     number: u32,
 ) -> Mem<bool>
@@ -26,7 +28,7 @@ pub(crate) fn fill_fact(
     let Some(fact) = system.fact(number) else {
         return Ok(false);
     };
-    let family = formula_family(alloc, store, order, most, now, &fact.formula)?;
+    let family = formula_family(alloc, store, order, most, form, now, &fact.formula)?;
     let changed = family != now[at];
     now[at] = family;
     Ok(changed)
@@ -39,6 +41,7 @@ fn sweep(
     system: &FaultSystem,
     order: &[u32],
     most: Option<u32>,
+    form: Form,
     numbers: &[u32],
     now: &mut [Id],
 ) -> Mem<bool>
@@ -48,7 +51,7 @@ fn sweep(
 {
     let mut changed = false;
     for number in numbers {
-        let here = fill_fact(alloc, store, system, order, most, now, *number)?;
+        let here = fill_fact(alloc, store, system, order, most, form, now, *number)?;
         changed = either(changed, here);
     }
     Ok(changed)
@@ -67,6 +70,7 @@ pub(crate) fn fill(
     system: &FaultSystem,
     order: &[u32],
     most: Option<u32>,
+    form: Form,
     numbers: &[u32],
     now: &mut [Id],
 ) -> Mem<()>
@@ -77,7 +81,7 @@ pub(crate) fn fill(
         (IsFilled (record { system = system.now; order = order.now; most = most }) numbers.now store.new now.new) }
 {
     for round in 0..system.facts() {
-        if !sweep(alloc, store, system, order, most, numbers, now)? {
+        if !sweep(alloc, store, system, order, most, form, numbers, now)? {
             return Ok(());
         }
     }

@@ -4,7 +4,7 @@ ghost use Rattle.zdd_store.specs.Store.{IsIn, Keeps};
 ghost use Rattle.family_renaming.specs.Renaming.{name_of};
 ghost use Rattle.cutset_engine.specs.Gates.{Made, StandEach, covers_each, events_of, is_true_under};
 
-use crate::gates::{Gate, of_gate, some_of};
+use crate::gates::{Form, Gate, of_gate, some_of};
 use fault_system::Formula;
 use plain_values::Mem;
 use std::alloc::Global;
@@ -28,6 +28,7 @@ pub(crate) fn formula_family(
     store: &mut Store,
     order: &[u32],
     most: Option<u32>,
+    form: Form,
     now: &[Id],
     formula: &Formula,
 ) -> Mem<Id>
@@ -39,15 +40,15 @@ pub(crate) fn formula_family(
         Formula::Event(number) => event_family(store, order, most, *number),
         Formula::Fact(number) => fact_family(store, most, now, *number),
         Formula::And(parts) => {
-            let families = part_families(alloc, store, order, most, now, parts.items())?;
-            of_gate(store, most, Gate::And, families)
+            let families = part_families(alloc, store, order, most, form, now, parts.items())?;
+            of_gate(store, most, form, Gate::And, families)
         }
         Formula::Or(parts) => {
-            let families = part_families(alloc, store, order, most, now, parts.items())?;
-            of_gate(store, most, Gate::Or, families)
+            let families = part_families(alloc, store, order, most, form, now, parts.items())?;
+            of_gate(store, most, form, Gate::Or, families)
         }
         Formula::AtLeast(least, parts) => {
-            let families = part_families(alloc, store, order, most, now, parts.items())?;
+            let families = part_families(alloc, store, order, most, form, now, parts.items())?;
             some_of(alloc, store, most, *least, families.as_slice())
         }
     }
@@ -60,6 +61,7 @@ fn part_families(
     store: &mut Store,
     order: &[u32],
     most: Option<u32>,
+    form: Form,
     now: &[Id],
     parts: &[Formula],
 ) -> Mem<Vec<Id>>
@@ -70,7 +72,7 @@ fn part_families(
 {
     let mut families = Vec::new(alloc);
     for part in parts {
-        let family = formula_family(alloc, store, order, most, now, part)?;
+        let family = formula_family(alloc, store, order, most, form, now, part)?;
         families.push(family)?;
     }
     Ok(families)

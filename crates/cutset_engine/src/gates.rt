@@ -10,8 +10,18 @@ ghost use Rattle.cutset_engine.specs.Gates.{Made, covers_each, of_all, of_both};
 
 use plain_values::Mem;
 use std::alloc::Global;
-use zdd_families::{at_least_up_to, look, min_product_up_to, min_union, up_to_size};
+use zdd_families::{
+    at_least_up_to, look, min_product_up_to, min_union, up_to_size, wide_product, wide_union,
+};
 use zdd_store::{Id, Store};
+
+/// Which families are made on the way: those of minimal sets alone, or wide ones, which are joined in few steps and have more
+/// sets.
+#[derive(Clone, Copy, Debug, PartialEq, Eq)]
+pub(crate) enum Form {
+    Minimal,
+    Wide,
+}
 
 /// The first variable of a family; 2 ^ 32 - 1 where it has none.
 fn first_variable(store: &Store, id: Id) -> u32 {
@@ -44,7 +54,7 @@ fn bound_of(most: Option<u32>) -> u32
 }
 
 /// The minimal sets of the one or the other family.
-pub(crate) fn one_of_two(store: &mut Store, most: Option<u32>, a: Id, b: Id) -> Mem<Id>
+fn least_one(store: &mut Store, most: Option<u32>, a: Id, b: Id) -> Mem<Id>
     requires a_in { IsIn store.old a }
     requires b_in { IsIn store.old b }
     ensures { Made store.old store.new most (either (family_of store.old a) (family_of store.old b)) result }
@@ -53,14 +63,56 @@ pub(crate) fn one_of_two(store: &mut Store, most: Option<u32>, a: Id, b: Id) -> 
     cut(store, most, union)
 }
 
+/// What one of two families covers, as a wide family.
+fn wide_one(store: &mut Store, most: Option<u32>, a: Id, b: Id) -> Mem<Id>
+    requires a_in { IsIn store.old a }
+    requires b_in { IsIn store.old b }
+    ensures { Made store.old store.new most (either (family_of store.old a) (family_of store.old b)) result }
+{
+    wide_union(store, a, b)
+}
+
+/// What one of two families covers, as far as sets are asked for.
+pub(crate) fn one_of_two(store: &mut Store, most: Option<u32>, form: Form, a: Id, b: Id) -> Mem<Id>
+    requires a_in { IsIn store.old a }
+    requires b_in { IsIn store.old b }
+    ensures { Made store.old store.new most (either (family_of store.old a) (family_of store.old b)) result }
+{
+    match form {
+        Form::Minimal => least_one(store, most, a, b),
+        Form::Wide => wide_one(store, most, a, b),
+    }
+}
+
 /// The minimal unions of a set of the one and a set of the other family.
-pub(crate) fn both_of_two(store: &mut Store, most: Option<u32>, a: Id, b: Id) -> Mem<Id>
+fn least_both(store: &mut Store, most: Option<u32>, a: Id, b: Id) -> Mem<Id>
     requires a_in { IsIn store.old a }
     requires b_in { IsIn store.old b }
     ensures { Made store.old store.new most (both (family_of store.old a) (family_of store.old b)) result }
 {
     let product = min_product_up_to(store, a, b, bound_of(most))?;
     cut(store, most, product)
+}
+
+/// What both of two families cover, as a wide family.
+fn wide_both(store: &mut Store, most: Option<u32>, a: Id, b: Id) -> Mem<Id>
+    requires a_in { IsIn store.old a }
+    requires b_in { IsIn store.old b }
+    ensures { Made store.old store.new most (both (family_of store.old a) (family_of store.old b)) result }
+{
+    wide_product(store, a, b)
+}
+
+/// What both of two families cover, as far as sets are asked for.
+pub(crate) fn both_of_two(store: &mut Store, most: Option<u32>, form: Form, a: Id, b: Id) -> Mem<Id>
+    requires a_in { IsIn store.old a }
+    requires b_in { IsIn store.old b }
+    ensures { Made store.old store.new most (both (family_of store.old a) (family_of store.old b)) result }
+{
+    match form {
+        Form::Minimal => least_both(store, most, a, b),
+        Form::Wide => wide_both(store, most, a, b),
+    }
 }
 
 /// How the parts of a gate make it true: all of them, or at least one.
@@ -71,14 +123,14 @@ pub(crate) enum Gate {
 }
 
 /// Of two families: what the gate of two parts covers.
-fn of_two(store: &mut Store, most: Option<u32>, gate: Gate, a: Id, b: Id) -> Mem<Id>
+fn of_two(store: &mut Store, most: Option<u32>, form: Form, gate: Gate, a: Id, b: Id) -> Mem<Id>
     requires a_in { IsIn store.old a }
     requires b_in { IsIn store.old b }
     ensures { Made store.old store.new most (λ set. of_both gate (covers (family_of store.old a) set) (covers (family_of store.old b) set)) result }
 {
     match gate {
-        Gate::And => both_of_two(store, most, a, b),
-        Gate::Or => one_of_two(store, most, a, b),
+        Gate::And => both_of_two(store, most, form, a, b),
+        Gate::Or => one_of_two(store, most, form, a, b),
     }
 }
 
@@ -94,7 +146,13 @@ fn of_none(store: &Store, most: Option<u32>, gate: Gate) -> Mem<Id>
 }
 
 /// Of some families: what the gate of these parts covers. Halves are joined, so that large families meet late.
-pub(crate) fn of_parts(store: &mut Store, most: Option<u32>, gate: Gate, parts: &[Id]) -> Mem<Id>
+pub(crate) fn of_parts(
+    store: &mut Store,
+    most: Option<u32>,
+    form: Form,
+    gate: Gate,
+    parts: &[Id],
+) -> Mem<Id>
     requires { All (IsIn store.old) parts.now }
     ensures { Made store.old store.new most (λ set. of_all gate (covers_each store.old parts.now set)) result }
 {
@@ -105,9 +163,9 @@ pub(crate) fn of_parts(store: &mut Store, most: Option<u32>, gate: Gate, parts: 
         return Ok(parts[0]);
     }
     let (front, back) = parts.split_at(parts.len() / 2);
-    let first = of_parts(store, most, gate, front)?;
-    let second = of_parts(store, most, gate, back)?;
-    of_two(store, most, gate, first, second)
+    let first = of_parts(store, most, form, gate, front)?;
+    let second = of_parts(store, most, form, gate, back)?;
+    of_two(store, most, form, gate, first, second)
 }
 
 /// Puts families in the order of their first variables, so that those are joined first that stand close to each other.
@@ -123,13 +181,19 @@ fn sort_by_variable(store: &Store, parts: &mut Vec<Id>) -> Mem<()>
 }
 
 /// Of some families: what the gate of these parts covers.
-pub(crate) fn of_gate(store: &mut Store, most: Option<u32>, gate: Gate, parts: Vec<Id>) -> Mem<Id>
+pub(crate) fn of_gate(
+    store: &mut Store,
+    most: Option<u32>,
+    form: Form,
+    gate: Gate,
+    parts: Vec<Id>,
+) -> Mem<Id>
     requires { All (IsIn store.old) parts.items }
     ensures { Made store.old store.new most (λ set. of_all gate (covers_each store.old parts.items set)) result }
 {
     let mut sorted = parts;
     sort_by_variable(store, &mut sorted)?;
-    of_parts(store, most, gate, sorted.as_slice())
+    of_parts(store, most, form, gate, sorted.as_slice())
 }
 
 /// Of some families: what at least so many cover, counted by place.

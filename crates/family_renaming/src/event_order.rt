@@ -46,7 +46,7 @@ fn renamed_family(alloc: Global, store: &mut Store, order: &VariableOrder, id: I
 /// Where the variable of each event is its own number, the family is its own answer. A family of at most 1,048,576 sets,
 /// with at most 16,777,216 numbers in all, is listed, sorted, and made anew; a larger one is split at one event after
 /// another. A call goes as deep as there are variables on a path of the diagram, or events in the family. Each number of
-/// the store keeps its family, also where memory is refused.
+/// the store keeps its family, also where memory is refused. What is remembered on the way counts as answers of the store.
 pub fn in_event_order(alloc: Global, store: &mut Store, order: &VariableOrder, id: Id) -> Mem<Id>
     requires { IsIn store.old id }
     ensures found { IfOk result (IsIn store.new) }

@@ -4,6 +4,7 @@ ghost use Rattle.zdd_store.specs.Store.{IsIn, family_of};
 ghost use Rattle.family_renaming.specs.Splitting.{IsParted, Parted, KnowsParts};
 
 use plain_values::Mem;
+use std::alloc::AllocError;
 use std::collections::HashMap;
 use zdd_families::look;
 use zdd_store::{Id, Store};
@@ -30,7 +31,8 @@ fn known_parts(store: &Store, known: &HashMap<Place, Parts>, place: Place) -> Op
     known.get(&place).copied()
 }
 
-/// Remembers parts, and gives them back.
+/// Remembers parts, and gives them back. They count as answers of the store: where it may remember no more, that is a refused
+/// growth of memory.
 fn note_parts(
     store: &Store,
     known: &mut HashMap<Place, Parts>,
@@ -43,6 +45,9 @@ fn note_parts(
     ensures known { KnowsParts store.now (get ⟦<Place as PartialEq>⟧.eq known.new) }
     ensures parts { IfOk result (IsParted store.now place.number (family_of store.now place.family)) }
 {
+    if known.len() as u64 >= store.answers_left() {
+        return Err(AllocError);
+    }
     known.insert(place, parts)?;
     Ok(parts)
 }

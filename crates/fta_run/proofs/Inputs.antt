@@ -11,9 +11,9 @@ use Rattle.plain_values.specs.declared.refusal.Refusal.{Refusal}
 use Rattle.plain_values.specs.Order.{IsClear, IsFirst, least, nearer}
 use Rattle.plain_values.proofs.OrderLaws.{nearer-none, noted-more, least-first, first_alone}
 use Rattle.plain_values.specs.Refusal.{refusal, of_words}
-use Rattle.phases.specs.Phases.{Passes, Stops}
+use Rattle.phases.specs.Phases.{Passed, Passes, Stops}
 use Rattle.phases.specs.declared.status.Status.TheVariants.{Refused}
-use Rattle.fta_run.specs.Due.{texts_of}
+use Rattle.fta_run.specs.Due.{first_text, texts_of}
 use Rattle.fta_run.specs.Files.{HasTooLong, HasTooMuch, MayContain, NamesTooMany, most_bytes, most_files, most_text, too_long, too_long_from}
 use Rattle.fta_run.specs.Steps.{AreFronts}
 
@@ -160,3 +160,20 @@ pub texts_pass : (contents : List ℕ → Option (List ℕ)) (files read : List 
 texts_pass contents files read few fronts none little = record {
   passed = (tt, clear_few files few, (read, contained contents files read (short_of 0 read none) fronts, (tt, clear_short read none, (tt, (λ refusal much. absurd (omega (arith, much.0, little))), refl))));
 }
+
+-- ---- texts that passed
+
+pub no_refusals : (refusals : List Refusal) → IsClear (Contains refusals) → refusals ≡ []
+no_refusals [] clear = refl
+no_refusals (refusal ∷ refusals) clear = absurd (clear refusal (0, omega arith, refl))
+
+first_of : (texts : List (List ℕ)) → AllByRecursion (λ text. length text ≤ most_bytes) texts → length (first_text texts) ≤ most_bytes
+first_of [] short = omega arith
+first_of (text ∷ texts) short = short.0
+
+-- the first of the texts is not too long
+pub first_short : (contents : List ℕ → Option (List ℕ)) (files texts : List (List ℕ)) → Passed (texts_of contents files) texts → length (first_text texts) ≤ most_bytes
+first_short contents files texts passed =
+    let read = passed.2.0 in
+    let none : too_long_from 0 read ≡ [] = no_refusals (too_long_from 0 read) passed.2.2.2.1 in
+    subst (λ its. length (first_text its) ≤ most_bytes) (sym passed.2.2.2.2.2.2) (first_of read (short_of 0 read none))

@@ -1,6 +1,9 @@
 -- What the plain names of a system are good for.
-use Rattle.std.proofs.Common.{◌≡◌, ◌≢◌, ℕ, List, [], ◌∷◌, ◌++◌, codes, Option, Result, Ok, Err, IfOk, Contains, sym, ◌∙◌, arith}
-use Rattle.std.proofs.lemmas.List.Elements.{All-weaker}
+use Rattle.std.proofs.Common.{◌≡◌, ◌≢◌, ◌<◌, ◌==◌, ℕ, zero, suc, true, List, [], ◌∷◌, ◌++◌, codes, length, map, Option, Result, Ok, Err, IfOk, Contains, refl, sym, subst, ◌∙◌, arith}
+use Rattle.std.specs.List.{AllByRecursion, list_all}
+use Rattle.std.proofs.lemmas.Bool.{eqb-true, false_from_ne_true}
+use Rattle.std.proofs.lemmas.List.Elements.{All-weaker, recursion_from_All}
+use Rattle.derivations.specs.Text.{AreLineNames, event_names, fact_names, is_line_name, is_plain, name_at}
 use Rattle.plain_values.specs.declared.name.Root.{Root}
 use Rattle.fault_system.specs.Systems.{System}
 use Rattle.fault_system.specs.declared.formula.EventInfo.{EventInfo}
@@ -73,6 +76,9 @@ field_names system plain = record {
 pub model_text_names : (model : FlatModel) → IsPlainModel model → HasTextNames model.system
 model_text_names model plain = text_names model.system plain.system
 
+pub model_token_names : (model : FlatModel) → IsPlainModel model → HasTokenNames model.system
+model_token_names model plain = token_names model.system plain.system
+
 pub model_field_names : (model : FlatModel) → IsPlainModel model → HasFieldNames model.system
 model_field_names model plain = field_names model.system plain.system
 
@@ -81,6 +87,36 @@ model_system model plain = plain.system
 
 pub model_rates : (model : FlatModel) → IsPlainModel model → AreRates model.system model.rates
 model_rates model plain = record { each = plain.each; numbers = plain.numbers }
+
+-- ---- names that may stand in a line of a derivation
+
+line_byte : (byte : ℕ) → byte ≢ 32 → byte ≢ 10 → is_plain byte ≡ true
+line_byte byte not_blank not_end =
+    rw (false_from_ne_true (byte == 32) (λ same. not_blank (eqb-true byte 32 same)), false_from_ne_true (byte == 10) (λ same. not_end (eqb-true byte 10 same))) refl
+
+line_bytes : (text : List ℕ) → Lacks 32 text → Lacks 10 text → list_all is_plain text ≡ true
+line_bytes [] no_blank no_end = refl
+line_bytes (byte ∷ bytes) no_blank no_end = rw (line_byte byte no_blank.0 no_end.0) (line_bytes bytes no_blank.1 no_end.1)
+
+-- a name that begins with `r`
+begins_so : (rest : List ℕ) → list_all is_plain (codes "root" ++ rest) ≡ true → is_line_name (codes "root" ++ rest) ≡ true
+begins_so rest plain = plain
+
+line_name : (name : List ℕ) → IsPlain name → is_line_name name ≡ true
+line_name name plain =
+    let bytes = line_bytes name plain.plain.1.1.1.0 plain.plain.1.0 in
+    subst (λ its. is_line_name its ≡ true) (sym plain.begins) (begins_so plain.rest (subst (λ its. list_all is_plain its ≡ true) plain.begins bytes))
+
+line_name_at : {X : Type 0} (name_of : X → List ℕ) (xs : List X) (n : ℕ) → AllByRecursion (λ x. IsPlain (name_of x)) xs → n < length (map name_of xs) → is_line_name (name_at (map name_of xs) n) ≡ true
+line_name_at name_of [] n plain within = absurd (omega (arith, within))
+line_name_at name_of (x ∷ xs) zero plain within = line_name (name_of x) plain.0
+line_name_at name_of (x ∷ xs) (suc n) plain within = line_name_at name_of xs n plain.1 (omega (arith, within))
+
+pub fact_line_names : (system : System) → IsPlainSystem system → AreLineNames (fact_names system)
+fact_line_names system plain = λ n within. line_name_at (λ (fact : FactInfo). fact.name) system.facts n (recursion_from_All (λ (fact : FactInfo). IsPlain fact.name) system.facts plain.fact_names) within
+
+pub event_line_names : (system : System) → IsPlainSystem system → AreLineNames (event_names system)
+event_line_names system plain = λ n within. line_name_at (λ (event : EventInfo). event.name) system.events n (recursion_from_All (λ (event : EventInfo). IsPlain event.name) system.events plain.event_names) within
 
 -- the model of a root is plain
 pub plain_model : (contents : List ℕ → Option (List ℕ)) (root : Root) (files : List (List ℕ)) (model : FlatModel) → Passed (model_of_files contents root files) model → IsPlainModel model

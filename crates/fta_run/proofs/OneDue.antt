@@ -1,5 +1,5 @@
 -- One end at most is due for the words and the contents, where these are told.
-use Rattle.std.proofs.Common.{◌≡◌, ℕ, Bool, true, false, List, [], ◌∷◌, Option, Some, None, IsSome, IfSome, Result, refl, sym, ap, ◌∙◌, inl, inr}
+use Rattle.std.proofs.Common.{◌≡◌, ◌≤◌, ℕ, Bool, true, false, List, [], ◌∷◌, length, Option, Some, None, IsSome, IfSome, Result, Ok, refl, sym, ap, ◌∙◌, inl, inr}
 use Rattle.std.specs.List.{AllByRecursion}
 use Rattle.std.proofs.lemmas.Bool.{false≢true}
 use Rattle.plain_values.specs.declared.name.Root.{Root}
@@ -10,7 +10,8 @@ use Rattle.aadl_syntax.specs.declared.core_model.Unit.{Unit as FileUnit}
 use Rattle.fta_words.specs.declared.command.Paging.{Paging}
 use Rattle.model_phases.specs.Named.{IsPlainSystem}
 use Rattle.model_phases.proofs.Decided.{model_decided}
-use Rattle.phases.specs.Phases.{IsDecided, IsDecidedStep, IsDue, IsSameEnd}
+use Rattle.grammar_rules.specs.Texts.{syntax_error}
+use Rattle.phases.specs.Phases.{IsDecided, IsDue, IsSameEnd, Passes, Phase}
 use Rattle.phases.specs.declared.status.Status.{Status}
 use Rattle.phases.specs.declared.status.Status.TheVariants.{Usage, Refused, Constant}
 use Rattle.phases.proofs.Leaves.{decided_answers, decided_computes, decided_finds, decided_rejects, decided_accepts, decided_tests}
@@ -21,12 +22,16 @@ use Rattle.model_maker.specs.Text.{text_of as made_text}
 use Rattle.model_phases.specs.declared.flat.FlatModel.{FlatModel}
 use Rattle.fta_run.specs.Files.{AreTokens, AreUnits, HasTooLong, HasTooMuch, LacksTokens, LacksUnits, MayContain, NamesTooMany}
 use Rattle.fta_run.specs.Model.{HasDuplicate, root_named}
+use Rattle.system_answers.specs.Derivations.{why_text}
 use Rattle.system_answers.specs.Texts.{cuts_text, paths_text}
-use Rattle.system_answers.proofs.Decided.{cuts_decided, galileo_text_decided, listing_decided, paths_decided, report_decided, slice_decided, target_decided, tree_decided}
-use Rattle.fta_run.specs.Due.{command_text, due, first_text, made_root, made_target, make_text, model_of_files, model_of_texts, model_of_units, sized_text, texts_of, units_of, within_limits}
+use Rattle.system_answers.proofs.Derived.{confirm_decided, why_decided}
+use Rattle.system_answers.proofs.Decided.{cuts_decided, galileo_paths_text_decided, galileo_text_decided, listing_decided, paths_decided, report_decided, slice_decided, target_decided, tree_decided}
+use Rattle.fta_run.specs.Due.{command_text, confirmed_in, due, first_text, made_root, made_target, make_text, model_of_files, model_of_texts, model_of_units, other_texts, sets_of_tree, sized_text, texts_of, units_of, within_limits}
+use Rattle.fta_run.specs.Later.{IsLater, in_later_files, later_refusal, next_file}
 use Rattle.fta_run.specs.Answers.{AllTold, IsOutput, IsSameStatus}
 use Rattle.fta_run.proofs.Commands.{one_command}
-use Rattle.fta_run.proofs.Names.{plain_model, token_names}
+use Rattle.fta_run.proofs.Inputs.{first_short}
+use Rattle.fta_run.proofs.Names.{event_line_names, fact_line_names, plain_model, plain_texts, token_names}
 use Rattle.fta_run.proofs.Lacking.{clear_tokens, one_tokens}
 use Rattle.fta_run.proofs.Grammars.{lacks_once, lacks_or_have, one_units}
 
@@ -80,8 +85,38 @@ plain_paths_decided target paging system plain = paths_decided IsSameStatus itse
 files_model_decided : (contents : List ℕ → Option (List ℕ)) (root : Root) (files : List (List ℕ)) → AllByRecursion (λ file. IsSome (contents file)) files → IsDecided IsSameStatus (model_of_files contents root files)
 files_model_decided contents root files told = (texts_decided contents files told, λ texts are. texts_model_decided root texts)
 
-nothing_decided : IsDecidedStep IsSameStatus (λ (text : List ℕ). ⊥) (λ status. ⊥)
-nothing_decided = decided_accepts IsSameStatus (λ (text : List ℕ). ⊥) (λ a b none. absurd none)
+tree_sets_decided : (paths : Bool) (limit max_order : Option ℕ) (text : List ℕ) → IsDecided IsSameStatus (sets_of_tree paths limit max_order text)
+tree_sets_decided true limit max_order text = galileo_paths_text_decided IsSameStatus itself limit max_order text
+tree_sets_decided false limit max_order text = galileo_text_decided IsSameStatus itself limit max_order text
+
+plain_why_decided : (target set : List ℕ) (system : System) → IsPlainSystem system → IsDecided IsSameStatus (why_text target set system)
+plain_why_decided target set system plain = why_decided IsSameStatus itself target set system plain.is_system (token_names system plain)
+
+-- the same refusals are the same in the next files
+same_later : (its other a b : Refusal) → IsSameStatus (Refused its) (Refused other) → a ≡ later_refusal its → b ≡ later_refusal other → IsSameStatus (Refused a) (Refused b)
+same_later its other a b same is also =
+    elim same [
+      | inl one ↦ let equal : its ≡ other = cc (one) in inl (ap Refused (is ∙ ap later_refusal equal ∙ sym also))
+      | inr both ↦
+          let here : its ≡ syntax_error both.0 both.1 = cc (both.3) in
+          let there : other ≡ syntax_error both.0 both.2 = cc (both.4) in
+          inr (next_file both.0, both.1, both.2, ap Refused (is ∙ ap later_refusal here), ap Refused (also ∙ ap later_refusal there))
+    ]
+
+later_decided : {A : Type 0} (phase : Phase A) → IsDecided IsSameStatus phase → IsDecided IsSameStatus (in_later_files phase)
+later_decided phase is =
+    decided_rejects IsSameStatus (Passes phase) (IsLater phase)
+    (λ a b h k. decided.one_value IsSameStatus phase is a b h k)
+    (λ a refusal passes later. decided.not_both IsSameStatus phase is a (Refused later.0) passes later.1)
+    (λ a b x y. same_later x.0 y.0 a b (decided.one_stop IsSameStatus phase is (Refused x.0) (Refused y.0) x.1 y.1) x.2 y.2)
+
+confirmed_decided : (root : Root) (target set : List ℕ) (texts : List (List ℕ)) → length (first_text texts) ≤ 4194304 → IsDecided IsSameStatus (confirmed_in root target set texts)
+confirmed_decided root target set texts short = (
+  later_decided (model_of_texts root (other_texts texts)) (texts_model_decided root (other_texts texts)),
+  λ model at.
+      let plain : IsPlainSystem model.system = (plain_texts root (other_texts texts) (Ok model) at).system in
+      confirm_decided IsSameStatus itself (first_text texts) model.system plain.is_system (fact_line_names model.system plain) (event_line_names model.system plain) short target set (token_names model.system plain),
+)
 
 sized_decided : (model : FlatModel) → IsDecided IsSameStatus (sized_text model)
 sized_decided model =
@@ -98,10 +133,10 @@ command_decided contents voices (Tree root target files) told = (files_model_dec
 command_decided contents voices (Fmea root files all) told = (files_model_decided contents root files told, λ model at. tt)
 command_decided contents voices (Report root target files chosen max_order) told = (files_model_decided contents root files told, λ model at. report_decided IsSameStatus itself target chosen max_order voices model.system)
 command_decided contents voices (Make number text) told = make_decided number text
-command_decided contents voices (Galileo files limit max_order paths) told = (texts_decided contents files told, λ texts are. galileo_text_decided IsSameStatus itself limit max_order (first_text texts))
+command_decided contents voices (Galileo files limit max_order paths) told = (texts_decided contents files told, λ texts are. tree_sets_decided paths limit max_order (first_text texts))
 command_decided contents voices (Paths root target files paging) told = (files_model_decided contents root files told, λ model at. plain_paths_decided target paging model.system (plain_model contents root files model at).system)
-command_decided contents voices (Why root target files set) told = nothing_decided
-command_decided contents voices (Confirm root target files set) told = nothing_decided
+command_decided contents voices (Why root target files set) told = (files_model_decided contents root files told, λ model at. plain_why_decided target set model.system (plain_model contents root files model at).system)
+command_decided contents voices (Confirm root target files set) told = (texts_decided contents files told, λ texts are. confirmed_decided root target set texts (first_short contents files texts are))
 
 due_decided : (words : List (List ℕ)) (contents : List ℕ → Option (List ℕ)) (voices : List Voice) → AllTold words contents voices → IsDecided IsSameStatus (due words contents voices)
 due_decided words contents voices told =

@@ -1,5 +1,5 @@
 -- How a run ended, and what is due.
-use Rattle.std.proofs.Common.{◌≡◌, ◌<◌, ◌⊎◌, ℕ, Bool, true, false, List, [], ◌∷◌, length, Option, Result, Ok, Err, refl, sym, ap, subst, inl, inr}
+use Rattle.std.proofs.Common.{◌≡◌, ◌<◌, ◌⊎◌, ℕ, Bool, true, false, List, [], ◌∷◌, length, Option, Some, Result, Ok, Err, refl, sym, ap, subst, inl, inr}
 use Rattle.std.specs.Prelude.{IsErrAnd, IsOk}
 use Rattle.std.proofs.lemmas.Result.{err_from_is_err_and}
 use Rattle.plain_values.specs.declared.refusal.Code.TheVariants.{TooManyFiles}
@@ -11,6 +11,7 @@ use Rattle.phases.specs.declared.status.Status.{Status}
 use Rattle.phases.specs.declared.status.Status.TheVariants.{Done, Usage, Refused, Constant, ReadFault, WriteFault, ReportFault, Memory}
 use Rattle.phases.proofs.Endings.{StopsOnly, stops_only}
 use Rattle.fault_system.specs.Systems.{System}
+use Rattle.fault_system.specs.Truth.{set_of}
 use Rattle.package_index.specs.Lookup.{packages_of}
 use Rattle.model_phases.proofs.Decided.{IsARefusal, model_stops}
 use Rattle.model_phases.specs.declared.flat.FlatModel.{FlatModel}
@@ -24,10 +25,12 @@ use Rattle.fta_run.specs.Model.{HasDuplicate, root_named}
 use Rattle.system_answers.specs.Targets.{LacksStart, LacksTarget}
 use Rattle.galileo_reader.specs.TreeSystems.{system_of, target_of as top_of_tree}
 use Rattle.system_answers.specs.Galileo.{LacksNamedTree}
-use Rattle.system_answers.specs.Texts.{cuts_text, galileo_text, paths_text, report_text, tree_text}
+use Rattle.system_answers.specs.Derivations.{IsNotGood, LacksSteps, LacksWhy, confirm_text, why_text}
+use Rattle.system_answers.specs.Texts.{cuts_text, galileo_paths_text, galileo_text, paths_text, report_text, tree_text}
 use Rattle.path_sets.specs.PathSets.{HasLargePaths}
 use Rattle.system_answers.specs.Prints.{IsReportFault, NoFault, PrintsBut}
-use Rattle.fta_run.specs.Due.{command_text, due, first_text, made_root, made_target, make_text, model_of_files, model_of_texts, sized_text, texts_of, within_limits}
+use Rattle.fta_run.specs.Due.{command_text, confirmed_in, due, first_text, made_root, made_target, make_text, model_of_files, model_of_texts, other_texts, sets_of_tree, sized_text, texts_of, within_limits}
+use Rattle.fta_run.specs.Later.{IsLater}
 use Rattle.system_answers.specs.Voices.{Voice, labels}
 use Rattle.model_maker.specs.Text.{text_of as made_text}
 use Rattle.cut_reports.specs.Places.{AtChosen}
@@ -91,6 +94,28 @@ tree_stop target system rates = (
   λ number named. ((λ s is. inl (refusal_is (HasLargeSlice system number) s is)), λ slice served. (λ s lacks. elim lacks [ inl constant ↦ inr (constant.0, constant.2) | inr large ↦ inl (large.0, large.2) ])),
 )
 
+tree_sets_stop : (paths : Bool) (limit max_order : Option ℕ) (text : List ℕ) → StopsOnly IsARefusal (sets_of_tree paths limit max_order text)
+tree_sets_stop true limit max_order text = galileo_paths_stop limit max_order text
+tree_sets_stop false limit max_order text = galileo_stop limit max_order text
+
+why_stop : (target set : List ℕ) (system : System) → StopsOnly IsARefusal (why_text target set system)
+why_stop target set system = (
+  refusal_is (IsFirst (LacksTarget system target)),
+  λ number named. (refusal_is (LacksStart system (Some set)), λ events has. (refusal_is (LacksWhy system (set_of events) number), λ steps why. tt)),
+)
+
+confirm_stop : (target set bytes : List ℕ) (system : System) → StopsOnly IsARefusal (confirm_text target set bytes system)
+confirm_stop target set bytes system = (
+  refusal_is (IsFirst (LacksTarget system target)),
+  λ number named. (
+    refusal_is (LacksStart system (Some set)),
+    λ events has. (refusal_is (LacksSteps system (set_of events) bytes), λ steps read. (refusal_is (IsNotGood system number (set_of events) steps), λ _ good. tt)),
+  ),
+)
+
+confirmed_stop : (root : Root) (target set : List ℕ) (texts : List (List ℕ)) → StopsOnly IsARefusal (confirmed_in root target set texts)
+confirmed_stop root target set texts = (refusal_is (IsLater (model_of_texts root (other_texts texts))), λ model at. confirm_stop target set (first_text texts) model.system)
+
 limits_stop : (texts : List (List ℕ)) → StopsOnly IsARefusal (within_limits texts)
 limits_stop texts = (refusal_is (IsFirst (HasTooLong texts)), λ _ short. (refusal_is (IsFirst (HasTooMuch texts)), λ _ little. tt))
 
@@ -121,10 +146,10 @@ command_stops contents voices (Fmea root files all) = (refusals (model_of_files 
 command_stops contents voices (Report root target files chosen max_order) =
     (refusals (model_of_files contents root files) (files_model_stops contents root files), λ model at. refusals (report_text target chosen max_order voices model.system) (report_stop target chosen max_order voices model.system))
 command_stops contents voices (Make number text) = refusals (make_text number text) (make_stop number text)
-command_stops contents voices (Galileo files limit max_order paths) = (refusals (texts_of contents files) (texts_stop contents files), λ texts read. refusals (galileo_text limit max_order (first_text texts)) (galileo_stop limit max_order (first_text texts)))
+command_stops contents voices (Galileo files limit max_order paths) = (refusals (texts_of contents files) (texts_stop contents files), λ texts read. refusals (sets_of_tree paths limit max_order (first_text texts)) (tree_sets_stop paths limit max_order (first_text texts)))
 command_stops contents voices (Paths root target files paging) = (refusals (model_of_files contents root files) (files_model_stops contents root files), λ model at. refusals (paths_text target paging model.system) (paths_stop target paging model.system))
-command_stops contents voices (Why root target files set) = λ s none. absurd none
-command_stops contents voices (Confirm root target files set) = λ s none. absurd none
+command_stops contents voices (Why root target files set) = (refusals (model_of_files contents root files) (files_model_stops contents root files), λ model at. refusals (why_text target set model.system) (why_stop target set model.system))
+command_stops contents voices (Confirm root target files set) = (refusals (texts_of contents files) (texts_stop contents files), λ texts read. refusals (confirmed_in root target set texts) (confirmed_stop root target set texts))
 
 -- Usage without a command; or there is one, and a refusal or a constant target
 abbrev Kind : List (List ℕ) → List (List ℕ) → Status → Type 0

@@ -1,5 +1,5 @@
 -- What is due: from the bytes of the words and of the files to the text of a command, or to the status with which it ends.
-use Rattle.std.specs.Prelude.{ℕ, Bool, true, false, List, [], ◌∷◌, ◌++◌, length, codes, slice_index_or, Option, None, Some}
+use Rattle.std.specs.Prelude.{ℕ, Bool, true, false, List, [], ◌∷◌, ◌++◌, length, codes, slice_index_or, drop, Option, None, Some}
 use Rattle.plain_values.specs.declared.name.Root.{Root}
 use Rattle.aadl_syntax.specs.declared.core_model.Unit.{Unit as FileUnit}
 use Rattle.phases.specs.Phases.{Phase, yields, tells, accepts, tests, answers, rejects, computes, finds, ◌>>=◌}
@@ -16,10 +16,12 @@ use Rattle.model_phases.specs.Phases.{flat_model}
 use Rattle.model_phases.specs.declared.flat.FlatModel.{FlatModel}
 use Rattle.fta_run.specs.Words.{Command, Check, Cuts, Tree, Fmea, Report, Make, Galileo, Paths, Why, Confirm, IsCommand}
 use Rattle.fta_run.specs.Effects.{asked_effects}
+use Rattle.fta_run.specs.Later.{in_later_files}
 use Rattle.fta_run.specs.Files.{MayContain, NamesTooMany, HasTooLong, HasTooMuch, AreTokens, LacksTokens, AreUnits, LacksUnits}
 use Rattle.fta_run.specs.Model.{HasDuplicate, root_named}
 use Rattle.fta_run.specs.Text.{numbers_text}
-use Rattle.system_answers.specs.Texts.{cuts_text, galileo_text, paths_text, report_text, slice_of, target_of, tree_text}
+use Rattle.system_answers.specs.Derivations.{confirm_text, why_text}
+use Rattle.system_answers.specs.Texts.{cuts_text, galileo_paths_text, galileo_text, paths_text, report_text, slice_of, target_of, tree_text}
 use Rattle.system_answers.specs.Voices.{Voice, labels}
 
 -- these texts, where none is too long, and they are not too long together
@@ -39,6 +41,10 @@ texts_of contents files = do
 -- the text of the first file
 abbrev pub first_text : List (List ℕ) → List ℕ
 first_text texts = slice_index_or texts 0 []
+
+-- the texts of the other files
+abbrev pub other_texts : List (List ℕ) → List (List ℕ)
+other_texts texts = drop 1 texts
 
 -- the units of the files of these texts: what the tokens of each read as
 abbrev pub units_of : List (List ℕ) → Phase (List (List FileUnit))
@@ -108,9 +114,16 @@ abbrev pub make_text : ℕ → Bool → Phase (List ℕ)
 make_text number true = yields (made_text number)
 make_text number false = made_model_text (made_text number)
 
--- nothing passes: the text of a command that is not built
-abbrev pub no_text : Phase (List ℕ)
-no_text = accepts (λ text. ⊥)
+-- the text of `galileo`: the minimal path sets of the tree in a text, or its minimal cut sets
+abbrev pub sets_of_tree : Bool → Option ℕ → Option ℕ → List ℕ → Phase (List ℕ)
+sets_of_tree true limit max_order text = galileo_paths_text limit max_order text
+sets_of_tree false limit max_order text = galileo_text limit max_order text
+
+-- the text of `confirm`: of the derivation in the first of these texts, for the model of the root in the files of the others
+abbrev pub confirmed_in : Root → List ℕ → List ℕ → List (List ℕ) → Phase (List ℕ)
+confirmed_in root target set texts = do
+  model ← in_later_files (model_of_texts root (other_texts texts))
+  confirm_text target set (first_text texts) model.system
 
 -- the text of a command, where this is what the files contain, and these are the reports
 abbrev pub command_text : (List ℕ → Option (List ℕ)) → List Voice → Command → Phase (List ℕ)
@@ -132,12 +145,16 @@ command_text contents voices (Report root target files chosen max_order) = do
 command_text contents voices (Make number text) = make_text number text
 command_text contents voices (Galileo files limit max_order paths) = do
   texts ← texts_of contents files
-  galileo_text limit max_order (first_text texts)
+  sets_of_tree paths limit max_order (first_text texts)
 command_text contents voices (Paths root target files paging) = do
   model ← model_of_files contents root files
   paths_text target paging model.system
-command_text contents voices (Why root target files set) = no_text
-command_text contents voices (Confirm root target files set) = no_text
+command_text contents voices (Why root target files set) = do
+  model ← model_of_files contents root files
+  why_text target set model.system
+command_text contents voices (Confirm root target files set) = do
+  texts ← texts_of contents files
+  confirmed_in root target set texts
 
 -- the text of the command that the words give
 abbrev pub due : List (List ℕ) → (List ℕ → Option (List ℕ)) → List Voice → Phase (List ℕ)

@@ -1,4 +1,5 @@
 pub mod Answers
+pub mod Later
 pub mod Due
 pub mod Effects
 pub mod Files

@@ -5,11 +5,11 @@ use Rattle.fta_outside.specs.Outside.{Rose}
 use Rattle.phases.specs.Phases.{Phase, Passes, Stops}
 use Rattle.phases.specs.declared.status.Status.{Status}
 use Rattle.phases.specs.declared.status.Status.TheVariants.{Done, ReadFault, Memory}
-use Rattle.fta_run.specs.Words.{Command, GiveCommand, IsCommand, chosen_of, file_words}
+use Rattle.fta_run.specs.Words.{Command, GiveCommand, IsCommand, chosen_of, file_words, files_of}
 use Rattle.system_answers.specs.Voices.{Voice, labels}
-use Rattle.fta_run.specs.Due.{due}
+use Rattle.fta_run.specs.Due.{command_text, due}
 use Rattle.fta_run.specs.Files.{most_bytes, most_files}
-use Rattle.system_answers.specs.Prints.{IsReportFault, IsWriteEnd, TookText}
+use Rattle.system_answers.specs.Prints.{IsReportFault, IsWriteEnd, NoFault, TookText}
 
 -- What was read of each file is the front of what it contains, where that is told: one byte more than a file may have, at most.
 abbrev pub AreFronts : (List ℕ → Option (List ℕ)) → List (List ℕ) → List (List ℕ) → Type 0
@@ -30,6 +30,17 @@ abbrev pub RunsBut : {T : Type 0} → (Status → Type 0) → (Status → Type 0
 RunsBut Faulted Excuse phase result before after faults_before faults_after =
     MatchResult result (λ _. TookText (Passes phase) before after)
     (λ status. ((Stops phase status × (after ≡ before)) ⊎ IsWriteEnd Faulted phase before after faults_before faults_after status) ⊎ (Excuse status × (after ≡ before)))
+
+-- A command ran, with reports of which those that it chooses may fail.
+abbrev pub RunsWith : {T : Type 0} → Command → (List ℕ → Option (List ℕ)) → List Voice → (ℕ → Type 0) → (List ℕ → ℕ) → (List ℕ → ℕ) → Result T Status → Option (List ℕ) → Option (List ℕ) → ℕ → ℕ → Type 0
+RunsWith command contents voices RoseThere read_before read_after =
+    RunsBut (IsReportFault (chosen_of command) RoseThere) (IsReadEnd (files_of command) read_before read_after) (command_text contents voices command)
+
+-- A command ran that asks no report, whichever there are.
+abbrev pub RunsAlone : {T : Type 0} → Command → (List ℕ → Option (List ℕ)) → (List ℕ → ℕ) → (List ℕ → ℕ) → Result T Status → Option (List ℕ) → Option (List ℕ) → ℕ → ℕ → Type 0
+RunsAlone command contents read_before read_after result before after faults_before faults_after =
+    (voices : List Voice)
+    → RunsBut NoFault (IsReadEnd (files_of command) read_before read_after) (command_text contents voices command) result before after faults_before faults_after
 
 -- A report that the command of the words chooses failed.
 abbrev pub IsChosenFault : List (List ℕ) → List Voice → (ℕ → Type 0) → Status → Type 0

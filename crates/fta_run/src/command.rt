@@ -10,16 +10,17 @@ ghost use Rattle.fta_words.specs.Shown.{command_shown};
 ghost use Rattle.model_phases.specs.Named.{IsPlainModel};
 ghost use Rattle.fta_run.specs.Line.{status_line};
 ghost use Rattle.fta_run.specs.Answers.{AllTold, AnswersWords, BeginsWithMemory, IsCaused, IsJustified, IsManyAnswer, IsOutput, MayCome, Took};
-ghost use Rattle.fta_run.specs.Due.{check_text, command_text, due, fmea_text, model_of_files};
+ghost use Rattle.fta_run.specs.Due.{check_text, due, fmea_text, model_of_files, sets_of_tree};
 ghost use Rattle.fta_run.specs.Files.{most_files};
-ghost use Rattle.fta_run.specs.Words.{Check, Command as AnyCommand, Cuts, Fmea, Galileo, GiveNoCommand, IsBuilt, IsCommand, Paths, Report, Tree, chosen_of, file_words, files_of};
-ghost use Rattle.system_answers.specs.Prints.{IsReportFault, NoFault, Prints};
-ghost use Rattle.system_answers.specs.Voices.{Voice, labels, voices_of};
+ghost use Rattle.fta_run.specs.Words.{Check, Command as AnyCommand, Confirm, Cuts, Fmea, Galileo, GiveNoCommand, IsCommand, Paths, Report, Tree, Why, chosen_of, file_words, files_of};
+ghost use Rattle.system_answers.specs.Prints.{Prints};
+ghost use Rattle.system_answers.specs.Voices.{labels, voices_of};
 ghost use Rattle.cut_reports.specs.Feeding.{IsKept, RoseAt};
 ghost use Rattle.cut_reports.specs.Places.{AtChosen};
 ghost use Rattle.plain_values.specs.Rising.{RisesWithin};
-ghost use Rattle.fta_run.specs.Steps.{IsReadEnd, Runs, RunsBut, ended};
+ghost use Rattle.fta_run.specs.Steps.{IsReadEnd, Runs, RunsAlone, RunsWith, ended};
 
+use crate::confirmed::write_confirmation;
 use crate::fmea::write_table;
 use crate::input::read_texts;
 use crate::line::write_line;
@@ -34,7 +35,8 @@ use phases::Status;
 use plain_values::{List, Name, Root, Word};
 use std::alloc::Global;
 use system_answers::{
-    names_of, write_cuts, write_paths, write_report, write_tree, write_tree_sets,
+    names_of, write_cuts, write_paths, write_report, write_tree, write_tree_paths,
+    write_tree_sets, write_why,
 };
 
 /// Runs the command that the words give, and says how it ended.
@@ -43,9 +45,9 @@ use system_answers::{
 /// `cuts ROOT TARGET FILE..` a page of the minimal cut sets of a fact in it, `tree ROOT TARGET FILE..` its static fault tree as
 /// Galileo text, `fmea ROOT FILE..` the table of the effects that each event reaches alone, `report ROOT TARGET FILE..` what the
 /// handed-in reports say of all minimal cut sets of a fact, `make N` what is said of a model that is made of a number, and
-/// `galileo FILE` the minimal cut sets of a tree in Galileo text. `paths ROOT TARGET FILE..` writes a page of the minimal path sets of a
-/// fact. Under every status but Done one line is written to `err`; a fault
-/// of `err` changes nothing.
+/// `galileo FILE` the minimal cut sets, or path sets, of a tree in Galileo text. `paths ROOT TARGET FILE..` writes a page of the minimal
+/// path sets of a fact, `why ROOT TARGET FILE..` a derivation of it under a set of events, and `confirm ROOT TARGET DERIVATION FILE..`
+/// that a text is one. Under every status but Done one line is written to `err`; a fault of `err` changes nothing.
 pub fn run<F: Files, S: Sink, E: Sink>(
     alloc: Global,
     words: &[Word],
@@ -145,9 +147,8 @@ fn write_command<F: Files, S: Sink>(
     out: &mut S,
     reports: &mut Vec<Box<dyn Report>>,
 ) -> Result<(), Status>
-    requires built { IsBuilt (command_shown command.now) }
     requires chosen { RisesWithin 0 (vec_len reports.old) (chosen_of (command_shown command.now)) }
-    ensures end { RunsBut (IsReportFault (chosen_of (command_shown command.now)) (λ place. RoseAt report_faults place reports.old.items reports.new.items)) (IsReadEnd (files_of (command_shown command.now)) (F.faults files.old) (F.faults files.new)) (command_text (F.contents files.old) (voices_of label text reports.old.items) (command_shown command.now)) result (S.taken out.old) (S.taken out.new) (S.faults out.old) (S.faults out.new) }
+    ensures end { RunsWith (command_shown command.now) (F.contents files.old) (voices_of label text reports.old.items) (λ place. RoseAt report_faults place reports.old.items reports.new.items) (F.faults files.old) (F.faults files.new) result (S.taken out.old) (S.taken out.new) (S.faults out.old) (S.faults out.new) }
     ensures too_many { most_files < length (files_of (command_shown command.now)) → files.new ≡ files.old }
     ensures many { most_files < length (files_of (command_shown command.now)) → IsManyAnswer (ended result) }
     ensures begins { BeginsWithMemory (command_shown command.now) (ended result) (S.taken out.old) (S.taken out.new) }
@@ -193,15 +194,26 @@ fn write_command<F: Files, S: Sink>(
             files: names,
             limit,
             max_order,
-            ..
-        } => galileo(alloc, names, *limit, *max_order, files, out),
+            paths,
+        } => galileo(alloc, names, *limit, *max_order, *paths, files, out),
         Command::Paths {
             root,
             target,
             files: names,
             paging,
         } => paths(alloc, root, target, names, paging, files, out),
-        Command::Why { .. } | Command::Confirm { .. } => Err(Status::Usage),
+        Command::Why {
+            root,
+            target,
+            files: names,
+            set,
+        } => why(alloc, root, target, names, set, files, out),
+        Command::Confirm {
+            root,
+            target,
+            files: names,
+            set,
+        } => confirm(alloc, root, target, names, set, files, out),
     }
 }
 
@@ -213,7 +225,7 @@ fn check<F: Files, S: Sink>(
     files: &mut F,
     out: &mut S,
 ) -> Result<(), Status>
-    ensures end { (voices : List Voice) → RunsBut NoFault (IsReadEnd names.now (F.faults files.old) (F.faults files.new)) (command_text (F.contents files.old) voices (Check root.now names.now)) result (S.taken out.old) (S.taken out.new) (S.faults out.old) (S.faults out.new) }
+    ensures end { RunsAlone (Check root.now names.now) (F.contents files.old) (F.faults files.old) (F.faults files.new) result (S.taken out.old) (S.taken out.new) (S.faults out.old) (S.faults out.new) }
     ensures too_many { most_files < length names.now → files.new ≡ files.old }
     ensures many { most_files < length names.now → IsManyAnswer (ended result) }
 {
@@ -231,7 +243,7 @@ fn cuts<F: Files, S: Sink>(
     files: &mut F,
     out: &mut S,
 ) -> Result<(), Status>
-    ensures end { (voices : List Voice) → RunsBut NoFault (IsReadEnd names.now (F.faults files.old) (F.faults files.new)) (command_text (F.contents files.old) voices (Cuts root.now target.now names.now paging.now)) result (S.taken out.old) (S.taken out.new) (S.faults out.old) (S.faults out.new) }
+    ensures end { RunsAlone (Cuts root.now target.now names.now paging.now) (F.contents files.old) (F.faults files.old) (F.faults files.new) result (S.taken out.old) (S.taken out.new) (S.faults out.old) (S.faults out.new) }
     ensures too_many { most_files < length names.now → files.new ≡ files.old }
     ensures many { most_files < length names.now → IsManyAnswer (ended result) }
     ensures begins { IsErrOf result Memory → S.taken out.new ≡ S.taken out.old }
@@ -249,7 +261,7 @@ fn tree<F: Files, S: Sink>(
     files: &mut F,
     out: &mut S,
 ) -> Result<(), Status>
-    ensures end { (voices : List Voice) → RunsBut NoFault (IsReadEnd names.now (F.faults files.old) (F.faults files.new)) (command_text (F.contents files.old) voices (Tree root.now target.now names.now)) result (S.taken out.old) (S.taken out.new) (S.faults out.old) (S.faults out.new) }
+    ensures end { RunsAlone (Tree root.now target.now names.now) (F.contents files.old) (F.faults files.old) (F.faults files.new) result (S.taken out.old) (S.taken out.new) (S.faults out.old) (S.faults out.new) }
     ensures too_many { most_files < length names.now → files.new ≡ files.old }
     ensures many { most_files < length names.now → IsManyAnswer (ended result) }
 {
@@ -266,7 +278,7 @@ fn fmea<F: Files, S: Sink>(
     files: &mut F,
     out: &mut S,
 ) -> Result<(), Status>
-    ensures end { (voices : List Voice) → RunsBut NoFault (IsReadEnd names.now (F.faults files.old) (F.faults files.new)) (command_text (F.contents files.old) voices (Fmea root.now names.now all)) result (S.taken out.old) (S.taken out.new) (S.faults out.old) (S.faults out.new) }
+    ensures end { RunsAlone (Fmea root.now names.now all) (F.contents files.old) (F.faults files.old) (F.faults files.new) result (S.taken out.old) (S.taken out.new) (S.faults out.old) (S.faults out.new) }
     ensures too_many { most_files < length names.now → files.new ≡ files.old }
     ensures many { most_files < length names.now → IsManyAnswer (ended result) }
 {
@@ -287,7 +299,7 @@ fn report<F: Files, S: Sink>(
     reports: &mut Vec<Box<dyn Report>>,
 ) -> Result<(), Status>
     requires { RisesWithin 0 (vec_len reports.old) chosen.now }
-    ensures end { RunsBut (IsReportFault chosen.now (λ place. RoseAt report_faults place reports.old.items reports.new.items)) (IsReadEnd names.now (F.faults files.old) (F.faults files.new)) (command_text (F.contents files.old) (voices_of label text reports.old.items) (Report root.now target.now names.now chosen.now max_order)) result (S.taken out.old) (S.taken out.new) (S.faults out.old) (S.faults out.new) }
+    ensures end { RunsWith (Report root.now target.now names.now chosen.now max_order) (F.contents files.old) (voices_of label text reports.old.items) (λ place. RoseAt report_faults place reports.old.items reports.new.items) (F.faults files.old) (F.faults files.new) result (S.taken out.old) (S.taken out.new) (S.faults out.old) (S.faults out.new) }
     ensures too_many { most_files < length names.now → files.new ≡ files.old }
     ensures many { most_files < length names.now → IsManyAnswer (ended result) }
     ensures reports { AtChosen chosen.now (IsKept text label report_faults) reports.old.items reports.new.items }
@@ -314,7 +326,7 @@ fn paths<F: Files, S: Sink>(
     files: &mut F,
     out: &mut S,
 ) -> Result<(), Status>
-    ensures end { (voices : List Voice) → RunsBut NoFault (IsReadEnd names.now (F.faults files.old) (F.faults files.new)) (command_text (F.contents files.old) voices (Paths root.now target.now names.now paging.now)) result (S.taken out.old) (S.taken out.new) (S.faults out.old) (S.faults out.new) }
+    ensures end { RunsAlone (Paths root.now target.now names.now paging.now) (F.contents files.old) (F.faults files.old) (F.faults files.new) result (S.taken out.old) (S.taken out.new) (S.faults out.old) (S.faults out.new) }
     ensures too_many { most_files < length names.now → files.new ≡ files.old }
     ensures many { most_files < length names.now → IsManyAnswer (ended result) }
 {
@@ -322,21 +334,76 @@ fn paths<F: Files, S: Sink>(
     write_paths(alloc, &model.system, target, paging, out)
 }
 
-/// Writes the minimal cut sets of the tree in a file of Galileo text.
+/// Writes the minimal path sets of the tree in a file of Galileo text, or its minimal cut sets.
 fn galileo<F: Files, S: Sink>(
     alloc: Global,
     names: &[Word],
     limit: Option<u32>,
     max_order: Option<u32>,
+    paths: bool,
     files: &mut F,
     out: &mut S,
 ) -> Result<(), Status>
-    ensures end { (voices : List Voice) → RunsBut NoFault (IsReadEnd names.now (F.faults files.old) (F.faults files.new)) (command_text (F.contents files.old) voices (Galileo names.now limit max_order false)) result (S.taken out.old) (S.taken out.new) (S.faults out.old) (S.faults out.new) }
+    ensures end { RunsAlone (Galileo names.now limit max_order paths) (F.contents files.old) (F.faults files.old) (F.faults files.new) result (S.taken out.old) (S.taken out.new) (S.faults out.old) (S.faults out.new) }
     ensures too_many { most_files < length names.now → files.new ≡ files.old }
     ensures many { most_files < length names.now → IsManyAnswer (ended result) }
 {
     let texts = read_texts(alloc, files, names)?;
-    write_tree_sets(alloc, texts.first(), limit, max_order, out)
+    write_sets_of_tree(alloc, texts.first(), limit, max_order, paths, out)
+}
+
+/// Writes the minimal path sets of the tree in a Galileo text, or its minimal cut sets.
+fn write_sets_of_tree<S: Sink>(
+    alloc: Global,
+    text: &[u8],
+    limit: Option<u32>,
+    max_order: Option<u32>,
+    paths: bool,
+    out: &mut S,
+) -> Result<(), Status>
+    requires { length text.now ≤ 4194304 }
+    ensures { Prints (sets_of_tree paths limit max_order text.now) result (S.taken out.old) (S.taken out.new) (S.faults out.old) (S.faults out.new) }
+{
+    if paths {
+        return write_tree_paths(alloc, text, limit, max_order, out);
+    }
+    write_tree_sets(alloc, text, limit, max_order, out)
+}
+
+/// Writes why a target holds under a set of events in the model of a root.
+fn why<F: Files, S: Sink>(
+    alloc: Global,
+    root: &Root,
+    target: &Name,
+    names: &[Word],
+    set: &Name,
+    files: &mut F,
+    out: &mut S,
+) -> Result<(), Status>
+    ensures end { RunsAlone (Why root.now target.now names.now set.now) (F.contents files.old) (F.faults files.old) (F.faults files.new) result (S.taken out.old) (S.taken out.new) (S.faults out.old) (S.faults out.new) }
+    ensures too_many { most_files < length names.now → files.new ≡ files.old }
+    ensures many { most_files < length names.now → IsManyAnswer (ended result) }
+{
+    let model = read_model(alloc, root, names, files)?;
+    write_why(alloc, &model.system, target, set, out)
+}
+
+/// Writes that the first file has a derivation of a target under a set of events, in the model of a root in the others.
+fn confirm<F: Files, S: Sink>(
+    alloc: Global,
+    root: &Root,
+    target: &Name,
+    names: &[Word],
+    set: &Name,
+    files: &mut F,
+    out: &mut S,
+) -> Result<(), Status>
+    ensures end { RunsAlone (Confirm root.now target.now names.now set.now) (F.contents files.old) (F.faults files.old) (F.faults files.new) result (S.taken out.old) (S.taken out.new) (S.faults out.old) (S.faults out.new) }
+    ensures too_many { most_files < length names.now → files.new ≡ files.old }
+    ensures many { most_files < length names.now → IsManyAnswer (ended result) }
+{
+    let texts = read_texts(alloc, files, names)?;
+    write_confirmation(alloc, root, target, set, &texts, out)
 }
 
 /// The model of a root in the files of these names.
@@ -352,7 +419,7 @@ fn read_model<F: Files>(
     ensures plain { IfOk result IsPlainModel }
 {
     let texts = read_texts(alloc, files, names)?;
-    model_of_texts(alloc, root, &texts)
+    model_of_texts(alloc, root, texts.items())
 }
 
 /// Writes the numbers of a model.

@@ -8,7 +8,7 @@ ghost use Rattle.aadl_lexer.specs.Tokens.{IsFault, RefusedAs, Tokens};
 ghost use Rattle.aadl_parser.specs.Files.{IsUnread};
 ghost use Rattle.phases.specs.Meets.{Meets, MeetsBut};
 ghost use Rattle.phases.specs.Phases.{answers, rejects};
-ghost use Rattle.fta_run.specs.Due.{first_text, texts_of, units_of, within_limits};
+ghost use Rattle.fta_run.specs.Due.{first_text, other_texts, texts_of, units_of, within_limits};
 ghost use Rattle.fta_run.specs.Files.{AreTokens, AreUnits, AreUnitsOf, HasTooLong, HasTooMuch, LacksTokens, LacksUnits, most_bytes, most_files, most_text, too_long, too_long_from};
 ghost use Rattle.plain_values.specs.Refusal.{of_words};
 ghost use Rattle.fta_run.specs.Steps.{AreFronts, IsFileEnd, IsReadEnd};
@@ -66,6 +66,18 @@ impl Texts {
         match self.texts.items().first() {
             Some(text) => text.items(),
             None => &[],
+        }
+    }
+
+    /// The texts of the other files.
+    pub fn others(&self) -> &[Name]
+        ensures texts { result.now ≡ other_texts self.now }
+        ensures few { length result.now ≤ most_files }
+        ensures short { All (λ text. length text ≤ most_bytes) result.now }
+    {
+        match self.texts.items() {
+            [_, others @ ..] => others,
+            [] => &[],
         }
     }
 }
@@ -181,7 +193,9 @@ fn check_total(texts: &[Name]) -> Result<(), Refusal>
 }
 
 /// The units of each text: it has tokens, is not nested too deep, and has a reading.
-pub fn units_of_texts(alloc: Global, texts: &Texts) -> Result<List<List<Unit>>, Status>
+pub fn units_of_texts(alloc: Global, texts: &[Name]) -> Result<List<List<Unit>>, Status>
+    requires few { length texts.now ≤ most_files }
+    requires short { All (λ text. length text ≤ most_bytes) texts.now }
     ensures { Meets (units_of texts.now) result }
 {
     let lists = tokens_of_texts(alloc, texts)?;
@@ -189,11 +203,12 @@ pub fn units_of_texts(alloc: Global, texts: &Texts) -> Result<List<List<Unit>>, 
 }
 
 /// The tokens of each text.
-fn tokens_of_texts(alloc: Global, texts: &Texts) -> Result<List<TokenList>, Status>
+fn tokens_of_texts(alloc: Global, texts: &[Name]) -> Result<List<TokenList>, Status>
+    requires few { length texts.now ≤ most_files }
+    requires short { All (λ text. length text ≤ most_bytes) texts.now }
     ensures { Meets (answers (AreTokens texts.now) (LacksTokens texts.now)) result }
 {
     let mut lists = List::new(alloc);
-    let texts = texts.items();
     for (file, text) in texts.iter().enumerate() {
         lists.push(tokens_of_text(alloc, file as u32, text)?)?;
     }
@@ -212,14 +227,15 @@ fn tokens_of_text(alloc: Global, file: u32, text: &Name) -> Answer<TokenList>
 /// The units of each text, whose tokens are given.
 fn units_of_tokens(
     alloc: Global,
-    texts: &Texts,
+    texts: &[Name],
     lists: &List<TokenList>,
 ) -> Result<List<List<Unit>>, Status>
-    requires { AreTokens texts.now lists.now }
+    requires few { length texts.now ≤ most_files }
+    requires short { All (λ text. length text ≤ most_bytes) texts.now }
+    requires tokens { AreTokens texts.now lists.now }
     ensures { Meets (rejects (AreUnits lists.now) (LacksUnits texts.now lists.now)) result }
 {
     let mut files = List::new(alloc);
-    let texts = texts.items();
     let lists = lists.items();
     for (file, text) in texts.iter().enumerate() {
         files.push(units_of_text(alloc, file as u32, text, &lists[file])?)?;

@@ -2,6 +2,7 @@
 #![tactic(auto)]
 
 mod command;
+mod confirmed;
 mod fmea;
 mod input;
 mod laws;
@@ -12,6 +13,6 @@ mod text;
 mod words;
 
 pub use command::run;
-pub use laws::{one_due, one_output};
+pub use laws::{confirms_why, holds_where_confirmed, one_due, one_output};
 pub use line::write_line;
 pub use phases::Status;

@@ -49,7 +49,7 @@ fn write_made<S: Sink>(alloc: Global, text: Name, out: &mut S) -> Result<(), Sta
 {
     let texts = texts_of_one(alloc, text)?;
     let root = made_root(alloc)?;
-    let model = model_of_texts(alloc, &root, &texts)?;
+    let model = model_of_texts(alloc, &root, texts.items())?;
     write_sized(alloc, &model, out)
 }
 

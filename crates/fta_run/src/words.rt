@@ -1,16 +1,15 @@
-ghost use Rattle.std.specs.Prelude.{◌↔◌, IsTrue};
 ghost use Rattle.phases.specs.Meets.{IsMemory, MeetsBut};
 ghost use Rattle.phases.specs.Phases.{finds};
 ghost use Rattle.phases.specs.declared.status.Status.TheVariants.{Usage};
 ghost use Rattle.fta_words.specs.Shown.{command_shown};
-ghost use Rattle.fta_run.specs.Words.{IsBuilt, IsCommand};
+ghost use Rattle.fta_run.specs.Words.{IsCommand};
 
 use fta_words::{Command, WordsFault};
 use phases::Status;
 use plain_values::{Name, Word};
 use std::alloc::Global;
 
-/// The command that the words give, where the reports have these names; Usage where they give none that is built.
+/// The command that the words give, where the reports have these names; Usage where they give none.
 pub fn command_of<'a>(
     alloc: Global,
     words: &'a [Word],
@@ -19,30 +18,8 @@ pub fn command_of<'a>(
     ensures { MeetsBut IsMemory command_shown (finds (IsCommand names.now words.now) Usage) result }
 {
     match Command::read(alloc, words, names) {
-        Ok(command) => {
-            if is_built(&command) {
-                Ok(command)
-            } else {
-                Err(Status::Usage)
-            }
-        }
+        Ok(command) => Ok(command),
         Err(WordsFault::Usage) => Err(Status::Usage),
         Err(WordsFault::Memory) => Err(Status::Memory),
-    }
-}
-
-fn is_built(command: &Command<'_>) -> bool
-    ensures { IsTrue result ↔ IsBuilt (command_shown command.now) }
-{
-    match command {
-        Command::Check { .. }
-        | Command::Cuts { .. }
-        | Command::Tree { .. }
-        | Command::Fmea { .. }
-        | Command::Report { .. }
-        | Command::Make { .. }
-        | Command::Paths { .. } => true,
-        Command::Galileo { paths, .. } => !*paths,
-        Command::Why { .. } | Command::Confirm { .. } => false,
     }
 }

@@ -4,7 +4,7 @@ use Rattle.std.specs.List.{AllByRecursion}
 use Rattle.std.proofs.lemmas.Bool.{eq-eqb, eqb-true, false≢true}
 use Rattle.std.proofs.lemmas.Option.{slice_get_within}
 use Rattle.plain_values.specs.Numbered.{numbers_below}
-use Rattle.fault_system.specs.Truth.{Has, occurs}
+use Rattle.fault_system.specs.Truth.{occurs}
 use Rattle.fault_system.specs.Systems.{IsFact}
 use Rattle.fault_system.specs.declared.formula.FactInfo.{FactInfo}
 use Rattle.backward_slice.specs.Slices.{DependsOn}
@@ -55,7 +55,7 @@ own-with numbers n events gates (inputs.Gate k ∷ ins) inside h =
     (λ later. let (m, fits, has, same) = own-with numbers n events gates ins inside.1 later in (m, fits, or-right (k == m) _ has, same))
     (or-cases (number_of numbers k == number_of numbers n) (has_own numbers n ins) h)
 
-module _ (tree : NamedTree) (named : IsNamedTree tree) (numbers : BlockNumbers) (blocks : AreAllBlocks (system_of tree) numbers) where
+module _ (tree : NamedTree) where
   gate-is : (n : ℕ) (gate : NamedGate) → slice_get tree.gates n ≡ Some gate → IsFact (system_of tree) n (gate_fact gate)
   gate-is n gate at = made-at gate_fact tree.gates (top_facts tree tree.top) n gate at
 
@@ -63,23 +63,36 @@ module _ (tree : NamedTree) (named : IsNamedTree tree) (numbers : BlockNumbers) 
   depends m n leads set causes own =
       leads set (λ a b gate in_set at has. causes a b (gate_fact gate) in_set (gate-is a gate at) (kind-occurs b gate.kind gate.inputs ∙ has)) own
 
-  leads : (m n : ℕ) → DependsOn (system_of tree) m n → LeadsTo tree.gates m n
-  leads m n on set has own = on set (λ a b fact in_set at o. by a b fact in_set o (made-from gate_fact tree.gates (top_facts tree tree.top) a fact at)) own
+  -- no gate occurs in the fact of a top that is an event
+  no-gate : (b : ℕ) (fact : FactInfo) (top : Input) (k : ℕ) → slice_get (top_facts tree top) k ≡ Some fact → occurs b fact.formula ≡ true → ⊥
+  no-gate b fact (inputs.Gate n) k at o = cc
+  no-gate b fact (inputs.Event n) zero at o =
+      let same : kind_formula kinds.Or (input_formula (inputs.Event n) ∷ []) ≡ fact.formula = ap (λ (f : FactInfo). f.formula) (inner _ fact at) in
+      false≢true (sym (kind-occurs b kinds.Or (inputs.Event n ∷ [])) ∙ ap (occurs b) same ∙ o)
     where
-      no-gate : (b : ℕ) (fact : FactInfo) (top : Input) (k : ℕ) → slice_get (top_facts tree top) k ≡ Some fact → occurs b fact.formula ≡ true → ⊥
-      no-gate b fact (inputs.Gate n) k at o = cc
-      no-gate b fact (inputs.Event n) zero at o =
-          let same : kind_formula kinds.Or (input_formula (inputs.Event n) ∷ []) ≡ fact.formula = ap (λ (f : FactInfo). f.formula) (inner _ fact at) in
-          false≢true (sym (kind-occurs b kinds.Or (inputs.Event n ∷ [])) ∙ ap (occurs b) same ∙ o)
-        where
-          inner : (x y : FactInfo) → Some x ≡ Some y → x ≡ y
-          inner x y e = cc
-      no-gate b fact (inputs.Event n) (suc k) at o = cc
+      inner : (x y : FactInfo) → Some x ≡ Some y → x ≡ y
+      inner x y e = cc
+  no-gate b fact (inputs.Event n) (suc k) at o = cc
 
-      by : (a b : ℕ) (fact : FactInfo) → Has set a → occurs b fact.formula ≡ true → Made gate_fact tree.gates (top_facts tree tree.top) a fact → Has set b
-      by a b fact in_set o (of_one gate here same) = has a b gate in_set here (sym (kind-occurs b gate.kind gate.inputs) ∙ ap (λ (f : FactInfo). occurs b f.formula) same ∙ o)
-      by a b fact in_set o (behind k number here) = absurd (no-gate b fact tree.top k here o)
+  -- a fact that occurs in the formula of another is an input of that one's gate
+  input-of : (n m : ℕ) (fact : FactInfo) → IsFact (system_of tree) n fact → occurs m fact.formula ≡ true → (gate : NamedGate) × (slice_get tree.gates n ≡ Some gate) × (has_gate gate.inputs m ≡ true)
+  input-of n m fact at o = by (made-from gate_fact tree.gates (top_facts tree tree.top) n fact at)
+    where
+      by : Made gate_fact tree.gates (top_facts tree tree.top) n fact → (gate : NamedGate) × (slice_get tree.gates n ≡ Some gate) × (has_gate gate.inputs m ≡ true)
+      by (of_one gate here same) = (gate, here, sym (kind-occurs m gate.kind gate.inputs) ∙ ap (λ (f : FactInfo). occurs m f.formula) same ∙ o)
+      by (behind k number here) = absurd (no-gate m fact tree.top k here o)
 
+  leads : (m n : ℕ) → DependsOn (system_of tree) m n → LeadsTo tree.gates m n
+  leads m n on set has own = on set (λ a b fact in_set at o.
+      let (gate, here, input) = input-of a b fact at o in has a b gate in_set here input) own
+
+  -- where no gate reaches itself, no fact of the tree's system does
+  pub no-feedback : IsAcyclic tree.gates → (n m : ℕ) (fact : FactInfo) → IsFact (system_of tree) n fact → occurs m fact.formula ≡ true → DependsOn (system_of tree) m n → ⊥
+  no-feedback acyclic n m fact at o on =
+      let (gate, here, input) = input-of n m fact at o in
+      acyclic n (record { gate = gate; at = here; input = m; is_input = input; back = leads m n on })
+
+module _ (tree : NamedTree) (named : IsNamedTree tree) (numbers : BlockNumbers) (blocks : AreAllBlocks (system_of tree) numbers) where
   all-at : {X : Type 0} (P : X → Type 0) (xs : List X) → AllByRecursion P xs → (n : ℕ) (x : X) → slice_get xs n ≡ Some x → P x
   all-at P [] all n x at = cc
   all-at P (y ∷ xs) all zero x at = let same : y ≡ x = cc in subst P same all.0
@@ -101,7 +114,7 @@ module _ (tree : NamedTree) (named : IsNamedTree tree) (numbers : BlockNumbers) 
       let (m, fits, has) = input-within is.input is.gate.inputs (all-at (HasInputs (length tree.events) (length tree.gates)) tree.gates named.inputs_in n is.gate is.at) is.is_input in
       let same : number_of numbers n ≡ number_of numbers is.input =
       (blocks.mutual_reach n is.input (in-blocks n inside) (in-blocks is.input (subst (λ k. k < length tree.gates) has fits))).1
-      (depends_step (system_of tree) n is.input (gate_fact is.gate) (gate-is n is.gate is.at) occurs_in, depends is.input n is.back) in
+      (depends_step (system_of tree) n is.input (gate_fact is.gate) (gate-is tree n is.gate is.at) occurs_in, depends tree is.input n is.back) in
       (is.gate, is.at, with-own numbers n is.input is.gate.inputs is.is_input (sym same))
     where
       input-within : (k : ℕ) (ins : List Input) → AllByRecursion (IsWithin (length tree.events) (length tree.gates)) ins → has_gate ins k ≡ true → (m : ℕ) × (m < length tree.gates) × (m ≡ k)
@@ -119,7 +132,7 @@ module _ (tree : NamedTree) (named : IsNamedTree tree) (numbers : BlockNumbers) 
         at = at;
         input = m;
         is_input = has;
-        back = leads m n ((blocks.mutual_reach m n (in-blocks m fits) (in-blocks n inside)).0 same).0;
+        back = leads tree m n ((blocks.mutual_reach m n (in-blocks m fits) (in-blocks n inside)).0 same).0;
       }
 
   apart : (n : ℕ) → HasOwn numbers tree.gates n → ((gate : NamedGate) → slice_get tree.gates n ≡ Some gate → has_own numbers n gate.inputs ≡ false) → ⊥

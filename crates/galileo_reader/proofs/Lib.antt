@@ -15,3 +15,5 @@ pub mod Again
 pub mod WrittenLines
 pub mod WrittenTrees
 pub mod RoundTrip
+pub mod WrittenTruth
+pub mod WrittenSets

@@ -1,5 +1,5 @@
 -- The text of a well-made tree reads as the tree.
-use Rattle.std.proofs.Common.{ℕ, ◌≤◌, List, length}
+use Rattle.std.proofs.Common.{◌≤◌, List, length}
 use Rattle.fault_system.specs.Systems.{IsSystem, System}
 use Rattle.galileo_writer.specs.TreeText.{AreRates, HasTextNames, tree_text}
 use Rattle.galileo_writer.proofs.Soundness.{text-sound}

@@ -61,7 +61,7 @@ member-at test [] n x at = cc
 member-at test (y ∷ xs) zero x at = let same : y ≡ x = cc in ap test same
 member-at test (y ∷ xs) (suc n) x at = member-at test xs n x at
 
-member-has : {X : Type 0} (test : X → Bool) (xs : List X) (n : ℕ) → member (map test xs) n ≡ true → (x : X) × (slice_get xs n ≡ Some x) × (test x ≡ true)
+pub member-has : {X : Type 0} (test : X → Bool) (xs : List X) (n : ℕ) → member (map test xs) n ≡ true → (x : X) × (slice_get xs n ≡ Some x) × (test x ≡ true)
 member-has test [] n e = cc
 member-has test (x ∷ xs) zero e = (x, refl, e)
 member-has test (x ∷ xs) (suc n) e = member-has test xs n e
@@ -200,7 +200,7 @@ module _ (tree : NamedTree) (named : IsNamedTree tree) where
     abbrev given : NameSet
     given = names_of (system_of tree) es
 
-    given-event : (n : ℕ) → n < length tree.events → given (event_name tree n) ≡ es n
+    pub given-event : (n : ℕ) → n < length tree.events → given (event_name tree n) ≡ es n
     given-event n fits =
         ap given (event-at n ∙ ap (λ names. get_or names n []) (sym infos-named))
         ∙ has-own (λ (event : EventInfo). event.name) (map event_info tree.events) tree-system.events_named es n (omega (arith, fits, events-long))

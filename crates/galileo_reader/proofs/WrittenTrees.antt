@@ -169,7 +169,7 @@ module _ (all : List Statement) (lines : List Line) (has : (name : List ℕ) →
 -- ---- the tree
 
 -- the place of an event
-event-placed : (events : List ℕ) (n : ℕ) → In n events → slice_get events (event_place events n) ≡ Some n
+pub event-placed : (events : List ℕ) (n : ℕ) → In n events → slice_get events (event_place events n) ≡ Some n
 event-placed [] n i = absurd i
 event-placed (x ∷ events) n i = by (x == n) refl i (event-placed events n)
   where

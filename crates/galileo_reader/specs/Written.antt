@@ -1,5 +1,5 @@
 -- The tree that is read of the text of a tree.
-use Rattle.std.specs.Prelude.{ℕ, ◌==◌, List, map}
+use Rattle.std.specs.Prelude.{ℕ, ◌==◌, List, map, slice_index_or}
 use Rattle.std.specs.List.{position_or_len}
 use Rattle.fault_system.specs.Systems.{System, event_name}
 use Rattle.property_reader.specs.declared.rate.Rate.{Rate}
@@ -15,6 +15,14 @@ use Rattle.galileo_reader.specs.declared.tree.NamedTree.{NamedTree}
 -- the place of an event of the system among the events of a tree
 abbrev pub event_place : List ℕ → ℕ → ℕ
 event_place events number = position_or_len (λ event. event == number) events
+
+-- the event of the system that stands at a place among the events of a tree
+abbrev pub event_at : List ℕ → ℕ → ℕ
+event_at events place = slice_index_or events place 0
+
+-- the events that stand at places
+abbrev pub events_at : List ℕ → List ℕ → List ℕ
+events_at events places = map (event_at events) places
 
 -- an input, where the events of the tree are numbered by their places
 abbrev pub named_input : Tree → Input → Input

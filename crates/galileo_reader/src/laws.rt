@@ -1,14 +1,20 @@
 //! Laws of the definitions alone: the contract of each function is the law, and its body is empty.
 
-ghost use Rattle.std.specs.Prelude.{◌≡◌, ◌≤◌, ℕ, List, length};
-ghost use Rattle.fault_system.specs.Systems.{IsSystem, System};
-ghost use Rattle.galileo_writer.specs.TreeText.{AreRates, HasTextNames, tree_text};
+ghost use Rattle.std.specs.Prelude.{◌≡◌, ◌↔◌, ◌<◌, ◌≤◌, ℕ, true, List, Option, length, map};
+ghost use Rattle.backward_slice.specs.Slices.{DependsOn};
+ghost use Rattle.fault_system.specs.Listings.{IsListing};
+ghost use Rattle.fault_system.specs.Systems.{Holds, IsFact, IsSystem, System, event_name};
+ghost use Rattle.fault_system.specs.Truth.{NumberSet, occurs};
+ghost use Rattle.fault_system.specs.declared.formula.FactInfo.{FactInfo};
+ghost use Rattle.galileo_writer.specs.TreeText.{AreRates, HasTextNames, names_of, tree_text};
 ghost use Rattle.property_reader.specs.declared.rate.Rate.{Rate};
-ghost use Rattle.round_gates.specs.Targets.{IsWellMade};
+ghost use Rattle.round_gates.specs.Targets.{IsTreeFor, IsWellMade};
 ghost use Rattle.round_gates.specs.declared.tree.Tree.{Tree};
 ghost use Rattle.galileo_reader.specs.Statements.{AreLines, IsBadAt, IsLine};
+ghost use Rattle.galileo_reader.specs.TreeSystems.{system_of};
 ghost use Rattle.galileo_reader.specs.Trees.{IsFlawed, IsRead};
-ghost use Rattle.galileo_reader.specs.Written.{named_tree};
+ghost use Rattle.galileo_reader.specs.Truth.{StaticTrue};
+ghost use Rattle.galileo_reader.specs.Written.{event_at, events_at, named_tree};
 ghost use Rattle.galileo_reader.specs.declared.statement.Statement.{Statement};
 ghost use Rattle.galileo_reader.specs.declared.tree.Flaw.{Flaw};
 ghost use Rattle.galileo_reader.specs.declared.tree.NamedTree.{NamedTree};
@@ -37,4 +43,25 @@ pub fn one_answer()
 pub fn round_trip()
     ensures { (system : System) (tree : Tree) (rates : List Rate) → IsSystem system → HasTextNames system → AreRates system rates → IsWellMade system tree
         → length (tree_text system tree rates) ≤ 4194304 → IsRead (tree_text system tree rates) (named_tree system tree rates) }
+{}
+
+/// A tree that is read has no feedback: no fact of its system depends on a fact in whose formula it occurs.
+pub fn no_feedback()
+    ensures { (text : List ℕ) (tree : NamedTree) → IsRead text tree → (n m : ℕ) (fact : FactInfo)
+        → IsFact (system_of tree) n fact → occurs m fact.formula ≡ true → DependsOn (system_of tree) m n → ⊥ }
+{}
+
+/// The text of a target's tree, which may have at most 4,194,304 bytes, is true for the names of a set of events exactly where the
+/// target holds under the set. The tree that is read of it has the target's listing: the same sets in the same order, each as the
+/// places of its events among those of the tree, where they have their names.
+pub fn written_tree()
+    ensures truth { (system : System) (target : ℕ) (tree : Tree) (rates : List Rate) (events : NumberSet)
+        → IsSystem system → HasTextNames system → AreRates system rates → IsTreeFor system target tree → length (tree_text system tree rates) ≤ 4194304
+        → StaticTrue (tree_text system tree rates) (names_of system events) ↔ Holds system events target }
+    ensures listing { (system : System) (target : ℕ) (tree : Tree) (rates : List Rate) (most : Option ℕ) (sets : List (List ℕ))
+        → IsSystem system → HasTextNames system → IsTreeFor system target tree
+        → IsListing (system_of (named_tree system tree rates)) tree.top most sets → IsListing system target most (map (events_at tree.events) sets) }
+    ensures names { (system : System) (target : ℕ) (tree : Tree) (rates : List Rate) (place : ℕ)
+        → IsSystem system → HasTextNames system → IsTreeFor system target tree → place < length tree.events
+        → event_name (system_of (named_tree system tree rates)) place ≡ event_name system (event_at tree.events place) }
 {}

@@ -20,6 +20,6 @@ mod token;
 mod tree;
 
 pub use answer::read;
-pub use laws::{one_answer, one_line, one_text, round_trip};
+pub use laws::{no_feedback, one_answer, one_line, one_text, round_trip, written_tree};
 pub use system::to_system;
 pub use tree::{Flaw, GalileoFault, NamedEvent, NamedGate, NamedTree};

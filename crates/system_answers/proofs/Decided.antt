@@ -19,6 +19,7 @@ use Rattle.backward_slice.proofs.OneSlice.{one_large, one_served, served_or_larg
 use Rattle.phases.specs.Phases.{IsDecided, IsDecidedStep}
 use Rattle.phases.specs.declared.status.Status.{Status}
 use Rattle.phases.specs.declared.status.Status.TheVariants.{Refused, Constant}
+use Rattle.path_sets.specs.Duals.{dual_of}
 use Rattle.path_sets.specs.PathSets.{HasLargePaths, IsPathListing}
 use Rattle.path_sets.proofs.Listings.{one-listing}
 use Rattle.phases.proofs.Leaves.{decided_accepts, decided_answers, decided_rejects, decided_tests}
@@ -28,11 +29,11 @@ use Rattle.galileo_reader.specs.Trees.{IsRead}
 use Rattle.galileo_reader.specs.TreeSystems.{system_of, target_of as top_of_tree}
 use Rattle.galileo_reader.proofs.OneAnswer.{one-read, one-wrong, read-apart}
 use Rattle.system_answers.specs.Galileo.{LacksNamedTree, flaw_refusal}
-use Rattle.system_answers.specs.Texts.{cuts_text, galileo_of, galileo_text, named_tree, paths_text, report_text, slice_of, start_of, target_of, tree_sets, tree_text}
+use Rattle.system_answers.specs.Texts.{cuts_text, galileo_of, galileo_paths_text, galileo_text, named_tree, paths_text, report_text, slice_of, start_of, target_of, tree_paths, tree_sets, tree_text}
 use Rattle.system_answers.specs.Trees.{LacksTree}
 use Rattle.system_answers.specs.Voices.{Voice}
 
-one_listing : (system : System) (target : ℕ) (most : Option ℕ) (a b : List (List ℕ)) → IsListing system target most a → IsListing system target most b → a ≡ b
+pub one_listing : (system : System) (target : ℕ) (most : Option ℕ) (a b : List (List ℕ)) → IsListing system target most a → IsListing system target most b → a ≡ b
 one_listing system target most a b one other =
     one_order a b one.ordered other.ordered (λ set i. In-contains set b ((other.exact set).1 ((one.exact set).0 (contains_In set a i))))
     (λ set i. In-contains set a ((one.exact set).1 ((other.exact set).0 (contains_In set b i))))
@@ -140,3 +141,16 @@ module _ (Same : Status → Status → Type 0) (itself : (status : Status) → S
 
   pub galileo_text_decided : (limit max_order : Option ℕ) (text : List ℕ) → IsDecided Same (galileo_text limit max_order text)
   galileo_text_decided limit max_order text = (named_tree_decided text, λ tree read. tree_sets_decided limit max_order tree)
+
+  -- and its path listing
+  pub tree_paths_decided : (limit max_order : Option ℕ) (tree : NamedTree) → IsDecided Same (tree_paths limit max_order tree)
+  tree_paths_decided limit max_order tree = (
+    slice_decided (top_of_tree tree tree.top) (system_of tree),
+    λ slice served. (
+      slice_decided (top_of_tree tree tree.top) (dual_of (system_of tree)),
+      λ part also. (decided_accepts Same (IsPathListing (system_of tree) (top_of_tree tree tree.top) max_order) (one-listing (system_of tree) (top_of_tree tree tree.top) max_order), λ sets are. tt),
+    ),
+  )
+
+  pub galileo_paths_text_decided : (limit max_order : Option ℕ) (text : List ℕ) → IsDecided Same (galileo_paths_text limit max_order text)
+  galileo_paths_text_decided limit max_order text = (named_tree_decided text, λ tree read. tree_paths_decided limit max_order tree)

@@ -1,5 +1,5 @@
 -- One end at most passes of the texts of derivations and of their check; what is written of a target is confirmed of it.
-use Rattle.std.proofs.Common.{◌≡◌, ◌⊎◌, ◌+◌, ◌<◌, ◌≤◌, ◌^◌, ℕ, zero, suc, true, false, List, [], ◌∷◌, length, length-append, take, Some, refl, sym, ap, subst, ◌∙◌, arith, ⊎_elim, inl, inr}
+use Rattle.std.proofs.Common.{◌≡◌, ◌+◌, ◌<◌, ◌≤◌, ◌^◌, ℕ, zero, suc, List, [], ◌∷◌, length, length-append, take, Some, refl, sym, ap, subst, ◌∙◌, arith, ⊎_elim, inl, inr}
 use Rattle.std.proofs.lemmas.Bool.{false≢true, cases_order}
 use Rattle.plain_values.specs.declared.refusal.Code.TheVariants.{BadStepLine, WrongStep}
 use Rattle.plain_values.specs.declared.refusal.Place.TheVariants.{At}

@@ -5,3 +5,4 @@ mod TreeTexts
 pub mod Reported
 pub mod Decided
 pub mod Derived
+pub mod WrittenPages

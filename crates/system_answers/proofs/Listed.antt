@@ -12,6 +12,8 @@ use Rattle.path_sets.specs.PathSets.{HasLargePaths, HasMinimalPathSets, IsPathLi
 use Rattle.path_sets.proofs.Listings.{one-refusal}
 use Rattle.phases.specs.Meets.{IsMemory, StopsBut}
 use Rattle.phases.specs.Phases.{tests}
+use Rattle.backward_slice.specs.Slices.{HasLargeSlice}
+use Rattle.system_answers.specs.Texts.{slice_of}
 use Rattle.phases.specs.Stopped.{status_of}
 use Rattle.plain_values.specs.Stops.{StopsFor}
 use Rattle.plain_values.specs.declared.refusal.Stop.{Stop}
@@ -56,3 +58,8 @@ pub paths_stop : (system : System) (target : ℕ) (stop : Stop) → IsSystem sys
 paths_stop system target (stops.Refused refusal) is large =
     inl (record { stopped = (refusal, first_alone (HasLargePaths system target) refusal large (λ other also. one-refusal system is target other refusal also large), refl) })
 paths_stop system target stops.Memory is large = inr refl
+
+-- why a slice was
+pub slice_stop : (system : System) (target : ℕ) (stop : Stop) → StopsFor (HasLargeSlice system target) stop → StopsBut IsMemory (slice_of target system) (status_of stop)
+slice_stop system target (stops.Refused refusal) large = inl (record { stopped = (refusal, large, refl) })
+slice_stop system target stops.Memory large = inr refl

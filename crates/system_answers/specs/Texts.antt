@@ -12,6 +12,7 @@ use Rattle.cutset_writer.specs.declared.form.SetForm.TheVariants.{Quoted, Token}
 use Rattle.galileo_reader.specs.declared.tree.NamedTree.{NamedTree}
 use Rattle.galileo_reader.specs.Trees.{IsRead}
 use Rattle.galileo_reader.specs.TreeSystems.{system_of, target_of as top_of_tree}
+use Rattle.path_sets.specs.Duals.{dual_of}
 use Rattle.path_sets.specs.PathSets.{HasLargePaths, IsPathListing}
 use Rattle.system_answers.specs.Galileo.{LacksNamedTree}
 use Rattle.fta_words.specs.declared.command.Paging.{Paging}
@@ -103,3 +104,23 @@ abbrev pub galileo_text : Option ℕ → Option ℕ → List ℕ → Phase (List
 galileo_text limit max_order text = do
   tree ← named_tree text
   tree_sets limit max_order tree
+
+-- the page of the minimal path sets of a target, in quotes, in a system in which no fact reaches itself; its slice in the dual is not
+-- too large
+abbrev pub dual_page : ℕ → Option ℕ → Option ℕ → System → Phase (List ℕ)
+dual_page number limit max_order system = do
+  _ ← slice_of number (dual_of system)
+  sets ← accepts (IsPathListing system number max_order)
+  yields (listing_page Quoted system None limit sets)
+
+-- the minimal path sets of a tree, in quotes: as many as a limit lets, of so many events at most
+abbrev pub tree_paths : Option ℕ → Option ℕ → NamedTree → Phase (List ℕ)
+tree_paths limit max_order tree = do
+  _ ← slice_of (top_of_tree tree tree.top) (system_of tree)
+  dual_page (top_of_tree tree tree.top) limit max_order (system_of tree)
+
+-- the text of `galileo` with `--paths`
+abbrev pub galileo_paths_text : Option ℕ → Option ℕ → List ℕ → Phase (List ℕ)
+galileo_paths_text limit max_order text = do
+  tree ← named_tree text
+  tree_paths limit max_order tree

@@ -1,16 +1,19 @@
-//! The minimal cut sets of a tree in Galileo text.
+//! The minimal cut sets and the minimal path sets of a tree in Galileo text.
 
 ghost use Rattle.std.specs.Prelude.{◌≡◌, ◌≤◌, IfOk, length};
 ghost use Rattle.phases.specs.Meets.{Meets};
+ghost use Rattle.galileo_reader.specs.TreeSystems.{system_of};
 ghost use Rattle.galileo_reader.specs.Trees.{IsNamedTree};
+ghost use Rattle.path_sets.specs.Duals.{IsWithoutFeedback};
 ghost use Rattle.system_answers.specs.Galileo.{flaw_refusal};
 ghost use Rattle.system_answers.specs.Prints.{Prints};
-ghost use Rattle.system_answers.specs.Texts.{galileo_text, named_tree, tree_sets};
+ghost use Rattle.system_answers.specs.Texts.{galileo_paths_text, galileo_text, named_tree, tree_paths, tree_sets};
 
 use crate::cut_sets::{find_slice, write_page_in};
+use crate::path_pages::write_dual_page;
 use cutset_writer::SetForm;
 use fta_outside::Sink;
-use galileo_reader::{Flaw, GalileoFault, NamedTree, read, to_system};
+use galileo_reader::{Flaw, GalileoFault, NamedTree, no_feedback, read, to_system};
 use phases::Status;
 use plain_values::{Code, Place, Refusal};
 use std::alloc::Global;
@@ -31,12 +34,33 @@ pub fn write_tree_sets<S: Sink>(
     write_sets_of(alloc, &tree, limit, max_order, out)
 }
 
-/// The tree of a text.
+/// Writes the minimal path sets of the tree in a Galileo text of at most 4,194,304 bytes: as many as the limit lets, of so many
+/// events at most. Places of refusals are those of the file of the number 0.
+///
+/// They are the smallest sets of basic events whose absence keeps the top from being true. A top that is true under no events has
+/// the empty set alone, and one that is true under all has none.
+pub fn write_tree_paths<S: Sink>(
+    alloc: Global,
+    text: &[u8],
+    limit: Option<u32>,
+    max_order: Option<u32>,
+    out: &mut S,
+) -> Result<(), Status>
+    requires { length text.now ≤ 4194304 }
+    ensures { Prints (galileo_paths_text limit max_order text.now) result (S.taken out.old) (S.taken out.new) (S.faults out.old) (S.faults out.new) }
+{
+    let tree = tree_in(alloc, text)?;
+    write_paths_of(alloc, &tree, limit, max_order, out)
+}
+
+/// The tree of a text, in whose system no fact reaches itself.
 fn tree_in(alloc: Global, text: &[u8]) -> Result<NamedTree, Status>
     requires { length text.now ≤ 4194304 }
     ensures tree { Meets (named_tree text.now) result }
     ensures named { IfOk result IsNamedTree }
+    ensures free { IfOk result (λ tree. IsWithoutFeedback (system_of tree)) }
 {
+    no_feedback();
     match read(alloc, text) {
         Ok(tree) => Ok(tree),
         Err(GalileoFault::Refused(flaw)) => Err(Status::Refused(refusal_of(flaw))),
@@ -81,4 +105,21 @@ fn write_sets_of<S: Sink>(
         max_order,
         out,
     )
+}
+
+/// Writes the minimal path sets of a tree in which no gate reaches itself.
+fn write_paths_of<S: Sink>(
+    alloc: Global,
+    tree: &NamedTree,
+    limit: Option<u32>,
+    max_order: Option<u32>,
+    out: &mut S,
+) -> Result<(), Status>
+    requires named { IsNamedTree tree.now }
+    requires free { IsWithoutFeedback (system_of tree.now) }
+    ensures { Prints (tree_paths limit max_order tree.now) result (S.taken out.old) (S.taken out.new) (S.faults out.old) (S.faults out.new) }
+{
+    let (system, target) = to_system(alloc, tree)?;
+    let _part = find_slice(alloc, &system, target)?;
+    write_dual_page(alloc, &system, target, limit, max_order, out)
 }

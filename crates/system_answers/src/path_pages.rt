@@ -1,16 +1,18 @@
 //! A page of the minimal path sets of a target.
 
-ghost use Rattle.std.specs.Prelude.{◌≡◌, IfErr, IfOk, OnOk};
+ghost use Rattle.std.specs.Prelude.{◌≡◌, ◌<◌, IfErr, IfOk, OnOk, length};
 ghost use Rattle.phases.specs.Meets.{IsMemory, StopsBut};
 ghost use Rattle.phases.specs.Phases.{tests};
 ghost use Rattle.plain_values.specs.Order.{IsClear};
-ghost use Rattle.backward_slice.specs.Slices.{IsSlice};
+ghost use Rattle.backward_slice.specs.Slices.{IsServed, IsSlice};
+ghost use Rattle.backward_slice.specs.declared.parts.Slice.{Slice as Part};
 ghost use Rattle.cutset_lister.specs.Walks.{all_sets};
 ghost use Rattle.cutset_writer.specs.Pages.{IsReady};
 ghost use Rattle.galileo_writer.specs.TreeText.{HasTextNames};
+ghost use Rattle.path_sets.specs.Duals.{IsWithoutFeedback, dual_of};
 ghost use Rattle.path_sets.specs.PathSets.{HasLargePaths, IsPathListing};
 ghost use Rattle.system_answers.specs.Prints.{Prints};
-ghost use Rattle.system_answers.specs.Texts.{path_page};
+ghost use Rattle.system_answers.specs.Texts.{dual_page, path_page, slice_of};
 
 use crate::cut_sets::write_listing;
 use backward_slice::Slice;
@@ -18,7 +20,7 @@ use cutset_writer::{PageWriter, SetForm};
 use fault_system::FaultSystem;
 use fta_outside::Sink;
 use fta_words::Paging;
-use path_sets::target_paths;
+use path_sets::{paths, target_paths};
 use phases::Status;
 use plain_values::List;
 use std::alloc::Global;
@@ -68,6 +70,45 @@ fn path_writer(
 {
     let _facts = system.facts();
     let found = target_paths(alloc, system, part, max_order, store)?;
+    let writer = PageWriter::start(alloc, system, store, found.family, found.events.items())?;
+    Ok(writer)
+}
+
+/// Writes the page of the minimal path sets of a target, in quotes, in a system in which no fact reaches itself.
+pub fn write_dual_page<S: Sink>(
+    alloc: Global,
+    system: &FaultSystem,
+    target: u32,
+    limit: Option<u32>,
+    max_order: Option<u32>,
+    out: &mut S,
+) -> Result<(), Status>
+    requires target { target < length system.now.facts }
+    requires free { IsWithoutFeedback system.now }
+    ensures { Prints (dual_page target limit max_order system.now) result (S.taken out.old) (S.taken out.new) (S.faults out.old) (S.faults out.new) }
+{
+    let mut store = Store::new(alloc);
+    let writer = dual_writer(alloc, system, target, max_order, &mut store)?;
+    write_listing(writer, system, &store, SetForm::Quoted, &None, limit, out)?;
+    Ok(())
+}
+
+/// The listing of the minimal path sets of a target in a system in which no fact reaches itself, about to be written.
+fn dual_writer(
+    alloc: Global,
+    system: &FaultSystem,
+    target: u32,
+    max_order: Option<u32>,
+    store: &mut Store,
+) -> Result<PageWriter, Status>
+    requires target { target < length system.now.facts }
+    requires free { IsWithoutFeedback system.now }
+    ensures ready { IfOk result (IsReady system.now store.new) }
+    ensures listing { IfOk result (λ writer. IsPathListing system.now target max_order (all_sets store.new writer.listing)) }
+    ensures served { OnOk result ((part : Part) × IsServed (dual_of system.now) target part) }
+    ensures refused { IfErr result (StopsBut IsMemory (slice_of target (dual_of system.now))) }
+{
+    let found = paths(alloc, system, target, max_order, store)?;
     let writer = PageWriter::start(alloc, system, store, found.family, found.events.items())?;
     Ok(writer)
 }

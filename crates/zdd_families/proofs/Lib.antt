@@ -13,3 +13,4 @@ pub mod Telling
 pub mod Tables
 pub mod Sizing
 pub mod Copying
+pub mod Branchwise

@@ -1,14 +1,16 @@
-ghost use Rattle.std.specs.Prelude.{◌≡◌, [], ◌∷◌, IfOk};
-ghost use Rattle.zdd_store.specs.Family.{IsAntichain, sets_without};
+ghost use Rattle.std.specs.Prelude.{◌≡◌, [], ◌∷◌, IfOk, ℕ, List};
+ghost use Rattle.zdd_store.specs.Family.{IsAntichain, covers, sets_without};
 ghost use Rattle.zdd_store.specs.Store.{IsIn, family_of, Keeps};
 ghost use Rattle.zdd_store.specs.Answers.{IsLeastFamily, IsLeastUpTo};
 ghost use Rattle.zdd_families.specs.Steps.{Answered, either, both};
 ghost use Rattle.zdd_families.specs.Unions.{HasMinimalSets, IsInEither, IsUnionOfBoth};
 
 use crate::minimal::minimal_sets;
+use crate::narrowing::minimal_of_wide;
 use crate::product::kept_product;
 use crate::removal::without_sets;
 use crate::union::kept_union;
+use crate::wide::{meet_wide, union_wide};
 use plain_values::Mem;
 use zdd_store::{Id, Store};
 
@@ -109,5 +111,56 @@ pub fn without(store: &mut Store, a: Id, b: Id) -> Mem<Id>
     ensures kept { Keeps store.old store.new }
 {
     let answer = without_sets(store, a, b)?;
+    Ok(answer)
+}
+
+/// A family that covers what one of two families covers. Not all its sets are minimal; but those that are made in this way and
+/// by `wide_product` are joined in few steps.
+pub fn wide_union(store: &mut Store, a: Id, b: Id) -> Mem<Id>
+    requires a_in { IsIn store.old a }
+    requires b_in { IsIn store.old b }
+    ensures found { IfOk result (IsIn store.new) }
+    ensures covers { IfOk result (λ id. (set : List ℕ) → covers (family_of store.new id) set ≡ either (family_of store.old a) (family_of store.old b) set) }
+    ensures kept { Keeps store.old store.new }
+{
+    let answer = union_wide(store, a, b)?;
+    Ok(answer)
+}
+
+/// A family that covers what both of two families cover. Not all its sets are minimal; but those that are made in this way and
+/// by `wide_union` are joined in few steps.
+pub fn wide_product(store: &mut Store, a: Id, b: Id) -> Mem<Id>
+    requires a_in { IsIn store.old a }
+    requires b_in { IsIn store.old b }
+    ensures found { IfOk result (IsIn store.new) }
+    ensures covers { IfOk result (λ id. (set : List ℕ) → covers (family_of store.new id) set ≡ both (family_of store.old a) (family_of store.old b) set) }
+    ensures kept { Keeps store.old store.new }
+{
+    let answer = meet_wide(store, a, b)?;
+    Ok(answer)
+}
+
+/// The minimal sets of any family, in the way that is quicker.
+fn minimal_of_any(store: &mut Store, a: Id) -> Mem<Id>
+    requires { IsIn store.old a }
+    ensures { Answered store.old store.new 0 (IsLeastFamily (covers (family_of store.old a))) result }
+{
+    let shape = store.shape(a);
+    if shape.wide {
+        let answer = minimal_of_wide(store, a)?;
+        return Ok(answer);
+    }
+    let answer = minimal_sets(store, a)?;
+    Ok(answer)
+}
+
+/// The minimal sets of a family, which may be one that `wide_union` or `wide_product` made.
+pub fn minimal_family(store: &mut Store, a: Id) -> Mem<Id>
+    requires { IsIn store.old a }
+    ensures found { IfOk result (IsIn store.new) }
+    ensures covers { IfOk result (λ id. IsLeastFamily (covers (family_of store.old a)) (family_of store.new id)) }
+    ensures kept { Keeps store.old store.new }
+{
+    let answer = minimal_of_any(store, a)?;
     Ok(answer)
 }

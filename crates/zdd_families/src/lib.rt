@@ -11,14 +11,19 @@ mod families;
 mod halving;
 mod memory;
 mod minimal;
+mod narrowing;
 mod product;
 mod removal;
 mod sizes;
 mod split;
 mod union;
+mod wide;
 
 pub use choice::{at_least, at_least_up_to};
 pub use copies::copied;
-pub use families::{min_product, min_product_up_to, min_union, single, without};
+pub use families::{
+    min_product, min_product_up_to, min_union, minimal_family, single, wide_product, wide_union,
+    without,
+};
 pub use sizes::{of_size, up_to_size};
 pub use split::look;

@@ -10,10 +10,10 @@ use zdd_store::{Id, Operation, Question, Store};
 
 /// Where the second family alone has the first variable, what is asked is remembered at each variable that this divides: at
 /// all it would fill the memory, and at none a long way would be gone again and again.
-const REMEMBERED: u32 = 8;
+pub(crate) const REMEMBERED: u32 = 8;
 
 /// Whether each set of the one family is too small to contain a set of the other, by the sizes of their sets.
-fn are_too_small(store: &Store, a: Id, b: Id) -> bool
+pub(crate) fn are_too_small(store: &Store, a: Id, b: Id) -> bool
     requires a_in { IsIn store.now a }
     requires b_in { IsIn store.now b }
     ensures { IsTrue result → sets_without (family_of store.now a) (family_of store.now b) ≡ family_of store.now a }

@@ -12,7 +12,7 @@ use Rattle.zdd_store.specs.Nodes.{with_node, families, IsNodeAt, IsStore}
 use Rattle.zdd_store.specs.Answers.{IsAnswer, IsAnswerOf, AreRight, KnowsRight, AnswersOne, AnswersTwo}
 use Rattle.zdd_store.specs.declared.id.Node.{Node}
 use Rattle.zdd_store.specs.declared.question.Operation.{Operation}
-use Rattle.zdd_store.specs.declared.question.Operation.TheVariants.{Minimal, MinUnion, MinProduct, Without, UpToSize, OfSize}
+use Rattle.zdd_store.specs.declared.question.Operation.TheVariants.{Minimal, MinUnion, MinProduct, Without, UpToSize, OfSize, Union, Meet}
 use Rattle.zdd_store.specs.declared.question.Question.{Question}
 use Rattle.zdd_store.specs.declared.question.Known.{Known}
 use Rattle.std.proofs.lemmas.List.Elements.{All-weaker}
@@ -94,6 +94,8 @@ answer_kept before after MinProduct first second most answer kept a = two_kept b
 answer_kept before after Without first second most answer kept a = two_kept before after _ first second answer kept a
 answer_kept before after UpToSize first second most answer kept a = one_kept before after _ first answer kept a
 answer_kept before after OfSize first second most answer kept a = one_kept before after _ first answer kept a
+answer_kept before after Union first second most answer kept a = two_kept before after _ first second answer kept a
+answer_kept before after Meet first second most answer kept a = two_kept before after _ first second answer kept a
 
 pub IsAnswer-kept : (before after : Families) (question : Question) (answer : ℕ) → Keeps before after → IsAnswer before question answer → IsAnswer after question answer
 IsAnswer-kept before after question answer kept a = answer_kept before after question.operation question.first.position question.second question.most answer kept a

@@ -37,21 +37,21 @@ greatest_size_branch size lo_size hi_size var lo hi h k l r fits =
     (all_weaker (λ set. length set ≤ hi_size) (λ set. length (var ∷ set) ≤ size) hi (λ set e. omega arith) (r (omega arith))))
 
 -- what is known of EMPTY, of UNIT, and of any family
-pub shape-empty : (store : Families) (position : ℕ) (shape : Shape) → IsSound store → position ≡ 0 → HasShape (family_at store position) shape
-shape-empty store position shape sound e =
-    subst (λ f. HasShape f shape) (sym (ap (family_at store) e ∙ sound.empty)) (record { least = tt; greatest = λ h. tt; apart = λ h part whole here there k. absurd (contains_none part here) })
+pub shape-empty : (store : Families) (position : ℕ) (shape : Shape) → IsSound store → position ≡ 0 → shape.wide ≡ false → HasShape (family_at store position) shape
+shape-empty store position shape sound e narrow =
+    subst (λ f. HasShape f shape) (sym (ap (family_at store) e ∙ sound.empty)) (record { least = tt; greatest = λ h. tt; apart = λ h part whole here there k. absurd (contains_none part here); wide = λ h. absurd (false≢true (sym narrow ∙ h)) })
 
-pub shape-unit : (store : Families) (position : ℕ) (shape : Shape) → IsSound store → position ≡ 1 → shape.least ≡ 0 → shape.apart ≡ false → HasShape (family_at store position) shape
-shape-unit store position shape sound e none apart =
-    subst (λ f. HasShape f shape) (sym (ap (family_at store) e ∙ sound.unit)) (record { least = (omega arith, tt); greatest = λ h. (omega arith, tt); apart = λ h. absurd (false≢true (sym apart ∙ h)) })
+pub shape-unit : (store : Families) (position : ℕ) (shape : Shape) → IsSound store → position ≡ 1 → shape.least ≡ 0 → shape.apart ≡ false → shape.wide ≡ false → HasShape (family_at store position) shape
+shape-unit store position shape sound e none apart narrow =
+    subst (λ f. HasShape f shape) (sym (ap (family_at store) e ∙ sound.unit)) (record { least = (omega arith, tt); greatest = λ h. (omega arith, tt); apart = λ h. absurd (false≢true (sym apart ∙ h)); wide = λ h. absurd (false≢true (sym narrow ∙ h)) })
 
 at_least_none : (family : Family) → HasAtLeast 0 family
 at_least_none [] = tt
 at_least_none (set ∷ sets) = (omega arith, at_least_none sets)
 
-pub shape-any : (family : Family) (shape : Shape) → shape.least ≡ 0 → shape.greatest ≡ 4294967295 → shape.apart ≡ false → HasShape family shape
-shape-any family shape none all apart =
-    record { least = subst (λ n. HasAtLeast n family) (sym none) (at_least_none family); greatest = λ h. absurd (omega arith); apart = λ h. absurd (false≢true (sym apart ∙ h)) }
+pub shape-any : (family : Family) (shape : Shape) → shape.least ≡ 0 → shape.greatest ≡ 4294967295 → shape.apart ≡ false → shape.wide ≡ false → HasShape family shape
+shape-any family shape none all apart narrow =
+    record { least = subst (λ n. HasAtLeast n family) (sym none) (at_least_none family); greatest = λ h. absurd (omega arith); apart = λ h. absurd (false≢true (sym apart ∙ h)); wide = λ h. absurd (false≢true (sym narrow ∙ h)) }
 
 -- what is known of a node, from the table
 pub shape-node : (store : Families) (table : List Shape) (position : ℕ) (shape : Shape) → AreShapes store table → ¬ (position ≡ 0) → ¬ (position ≡ 1) → slice_get table (position - 2) ≡ Some shape → HasShape (family_at store position) shape

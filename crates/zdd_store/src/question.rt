@@ -15,6 +15,10 @@ pub enum Operation {
     UpToSize,
     /// The sets of the first family that have exactly so many numbers.
     OfSize,
+    /// A family that covers what one of the two families covers.
+    Union,
+    /// A family that covers what both families cover.
+    Meet,
 }
 
 /// A question whose answer the store remembers: an operation, the family that it is asked of, the position of the

@@ -1,8 +1,9 @@
-//! What is known of the families of numbers: how many numbers their sets have, and whether each is minimal.
+//! What is known of the families of numbers: how many numbers their sets have, whether each is minimal, and whether those
+//! with the first variable cover what the others do.
 
 ghost use Rattle.std.specs.Prelude.{◌≡◌, ◌+◌, ◌<◌, ◌≤◌, ℕ, length, slice_get};
 ghost use Rattle.zdd_store.specs.Family.{Family, branch, IsAntichain};
-ghost use Rattle.zdd_store.specs.Answers.{HasShape};
+ghost use Rattle.zdd_store.specs.Answers.{HasShape, IsWide};
 ghost use Rattle.zdd_store.specs.Store.{Families, IsSound, family_at, family_of};
 ghost use Rattle.zdd_store.specs.Nodes.{AreShapes};
 
@@ -17,6 +18,8 @@ pub struct Shape {
     pub greatest: u32,
     /// No set is within another one; where this is false one may be.
     pub apart: bool,
+    /// The sets with the first variable cover what those without it do; where this is false they may not.
+    pub wide: bool,
 }
 
 /// The least size of the sets of two families, of which the second are to have one number more.
@@ -43,6 +46,7 @@ fn of_branch(lo: Shape, hi: Shape) -> Shape
         least: least_of_both(lo.least, hi.least),
         greatest: greatest_of_both(lo.greatest, hi.greatest),
         apart: false,
+        wide: false,
     }
 }
 
@@ -61,6 +65,7 @@ pub(crate) fn shape_of(table: &[Shape], id: Id) -> Shape
             least: 4_294_967_295,
             greatest: 0,
             apart: true,
+            wide: false,
         };
     }
     if id.position == 1 {
@@ -68,6 +73,7 @@ pub(crate) fn shape_of(table: &[Shape], id: Id) -> Shape
             least: 0,
             greatest: 0,
             apart: false,
+            wide: false,
         };
     }
     match shape_at(table, id.position as usize - 2) {
@@ -76,6 +82,7 @@ pub(crate) fn shape_of(table: &[Shape], id: Id) -> Shape
             least: 0,
             greatest: 4_294_967_295,
             apart: false,
+            wide: false,
         },
     }
 }
@@ -110,5 +117,25 @@ pub(crate) fn note_apart(table: &mut [Shape], id: Id)
         least: shape.least,
         greatest: shape.greatest,
         apart: true,
+        wide: shape.wide,
+    };
+}
+
+/// Notes of a number's family that its sets with the first variable cover what those without it do.
+pub(crate) fn note_wide(table: &mut [Shape], id: Id)
+    ensures { (store : Families) → IsWide (family_of store id) → AreShapes store table.old → AreShapes store table.new }
+{
+    if id.position < 2 {
+        return;
+    }
+    let place = id.position as usize - 2;
+    let Some(shape) = shape_at(table, place) else {
+        return;
+    };
+    table[place] = Shape {
+        least: shape.least,
+        greatest: shape.greatest,
+        apart: shape.apart,
+        wide: true,
     };
 }

@@ -1,12 +1,12 @@
 ghost use Rattle.std.specs.Prelude.{◌≡◌, ◌+◌, ◌<◌, ◌↔◌, IsSome, IfSome, IfOk, Ok};
 ghost use Rattle.zdd_store.specs.Family.{branch, least_number, IsAntichain};
-ghost use Rattle.zdd_store.specs.Answers.{HasShape, IsAnswer};
+ghost use Rattle.zdd_store.specs.Answers.{HasShape, IsAnswer, IsWide};
 ghost use Rattle.zdd_store.specs.Store.{IsIn, family_of, family_with, no_nodes, Keeps, Fits, IsSound};
 
 use crate::answers::{answer_in, make_room, put};
 use crate::id::{Id, Node};
 use crate::question::{Known, Question};
-use crate::shapes::{Shape, note_apart, note_shape, shape_of};
+use crate::shapes::{Shape, note_apart, note_shape, note_wide, shape_of};
 use fta_outside::Steps;
 use indexmap::IndexSet;
 use plain_values::Mem;
@@ -119,6 +119,15 @@ impl Store {
         ensures { self.new ≡ self.old }
     {
         note_apart(self.shapes.as_mut_slice(), id);
+    }
+
+    /// Notes of a number's family that its sets with the first variable cover what those without it do. No number's family
+    /// changes.
+    pub fn note_wide(&mut self, id: Id)
+        requires { IsWide (family_of self.old id) }
+        ensures { self.new ≡ self.old }
+    {
+        note_wide(self.shapes.as_mut_slice(), id);
     }
 
     /// An answer to the question, if it is still remembered; it is right.

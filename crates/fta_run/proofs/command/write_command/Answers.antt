@@ -50,3 +50,15 @@ returns-in-Report-clause-reports g c = rw c.in-Report.is (subst (λ (chosen : Li
 
 pub returns-in-Galileo-clause-end : goal.returns-in-Galileo-clause-end
 returns-in-Galileo-clause-end g c = rw c.in-Galileo.is (ran_alone _ _ _ c.galileo.result _ _ _ _ (c.galileo.ensures.end []))
+
+pub returns-in-Why-clause-end : goal.returns-in-Why-clause-end
+returns-in-Why-clause-end g c = rw c.in-Why.is (ran_alone _ _ _ c.why.result _ _ _ _ (c.why.ensures.end []))
+
+pub returns-in-Why-clause-reports : goal.returns-in-Why-clause-reports
+returns-in-Why-clause-reports g c = all_kept (λ b. (goal.Report-dyn g (b.vtable, b.value)).text b.value) (λ b. (goal.Report-dyn g (b.vtable, b.value)).label b.value) (λ b. (goal.Report-dyn g (b.vtable, b.value)).report_faults b.value) _ c.args.reports.now.items
+
+pub returns-in-Confirm-clause-end : goal.returns-in-Confirm-clause-end
+returns-in-Confirm-clause-end g c = rw c.in-Confirm.is (ran_alone _ _ _ c.confirm.result _ _ _ _ (c.confirm.ensures.end []))
+
+pub returns-in-Confirm-clause-reports : goal.returns-in-Confirm-clause-reports
+returns-in-Confirm-clause-reports g c = all_kept (λ b. (goal.Report-dyn g (b.vtable, b.value)).text b.value) (λ b. (goal.Report-dyn g (b.vtable, b.value)).label b.value) (λ b. (goal.Report-dyn g (b.vtable, b.value)).report_faults b.value) _ c.args.reports.now.items

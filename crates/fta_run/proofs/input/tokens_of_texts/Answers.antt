@@ -11,8 +11,8 @@ loop-file-preserved c =
     let texts = c.args.texts.now in
     let file = c.loop-file.file in
     let text = c.index-texts-file.result in
-    let within : file < length texts = omega (arith, c.loop-file-test.true, ap length c.items-texts.ensures.items) in
-    let is : text ≡ get_or texts file text = subst (λ ts. text ≡ get_or ts file text) c.items-texts.ensures.items c.index-texts-file.is in
+    let within : file < length texts = c.loop-file-test.true in
+    let is : text ≡ get_or texts file text = c.index-texts-file.is in
     let more = zip-more Tokens texts c.loop-file.lists file text c.in_ok-tokens_of_text.field-0 within is c.loop-file.invariant c.in_ok-tokens_of_text.ensures.found in
     subst (AreTokens (take (file + 1) texts)) (sym c.in_ok-push.ensures.ok) (rw add-one more)
 
@@ -21,7 +21,7 @@ returns-in_err-tokens_of_text c =
     let texts = c.args.texts.now in
     let file = c.loop-file.file in
     let text = c.index-texts-file.result in
-    let within : file < length texts = omega (arith, c.loop-file-test.true, ap length c.items-texts.ensures.items) in
-    let is : text ≡ get_or texts file text = subst (λ ts. text ≡ get_or ts file text) c.items-texts.ensures.items c.index-texts-file.is in
+    let within : file < length texts = c.loop-file-test.true in
+    let is : text ≡ get_or texts file text = c.index-texts-file.is in
     exits _ _ _ (status_of c.in_err-tokens_of_text.field-0.0) c.from_residual.result c.from_residual.ensures.1
     (tokens_stop texts file text c.loop-file.lists c.in_err-tokens_of_text.field-0.0 within is c.loop-file.invariant c.in_err-tokens_of_text.ensures.refused)

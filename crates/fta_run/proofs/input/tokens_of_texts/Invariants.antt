@@ -3,4 +3,4 @@ use Rattle.fta_run.specs.Files.{AreTokens}
 use Rattle.fta_run.proofs.input.tokens_of_texts.Given as goal
 
 abbrev pub invariant-loop-file : goal.invariant-loop-file
-invariant-loop-file l = AreTokens (take l.file l.texts-2) l.lists
+invariant-loop-file l = AreTokens (take l.file l.texts) l.lists

@@ -7,7 +7,7 @@ use Rattle.fta_run.proofs.Lacking.{length-zip}
 use Rattle.fta_run.proofs.input.units_of_tokens.Goals as goal
 
 pub bounds-lists-file : goal.bounds-lists-file
-bounds-lists-file c = omega (arith, length-zip c.args.texts.now c.args.lists.now c.requires, ap length c.items-texts.ensures.items, ap length c.items-lists.ensures.items, c.loop-file-test.true)
+bounds-lists-file c = omega (arith, length-zip c.args.texts.now c.args.lists.now c.requires.tokens, ap length c.items-lists.ensures.items, c.loop-file-test.true)
 
 pub returns-in_err-units_of_text : goal.returns-in_err-units_of_text
 returns-in_err-units_of_text c =
@@ -16,9 +16,9 @@ returns-in_err-units_of_text c =
     let file = c.loop-file.file in
     let text = c.index-texts-file.result in
     let list = c.index-lists-file.result in
-    let within : file < length texts = omega (arith, c.loop-file-test.true, ap length c.items-texts.ensures.items) in
-    let is : text ≡ get_or texts file text = subst (λ ts. text ≡ get_or ts file text) c.items-texts.ensures.items c.index-texts-file.is in
-    let inside : file < length lists = omega (arith, within, length-zip texts lists c.requires) in
+    let within : file < length texts = omega (arith, c.loop-file-test.true) in
+    let is : text ≡ get_or texts file text = c.index-texts-file.is in
+    let inside : file < length lists = omega (arith, within, length-zip texts lists c.requires.tokens) in
     let its : list ≡ get_or lists file list = subst (λ ts. list ≡ get_or ts file list) c.items-lists.ensures.items c.index-lists-file.is in
     exits _ _ _ (status_of c.in_err-units_of_text.field-0.0) c.from_residual.result c.from_residual.ensures.1
     (units_stop texts lists c.loop-file.files file text list c.in_err-units_of_text.field-0.0 within is inside its c.loop-file.invariant.each c.in_err-units_of_text.ensures.err)
@@ -30,7 +30,7 @@ loop-file-preserved c =
     let file = c.loop-file.file in
     let list = c.index-lists-file.result in
     let found = c.in_ok-units_of_text.field-0 in
-    let within : file < length lists = omega (arith, c.loop-file-test.true, ap length c.items-texts.ensures.items, length-zip texts lists c.requires) in
+    let within : file < length lists = omega (arith, c.loop-file-test.true, length-zip texts lists c.requires.tokens) in
     let its : list ≡ get_or lists file list = subst (λ ts. list ≡ get_or ts file list) c.items-lists.ensures.items c.index-lists-file.is in
     let pushed = c.in_ok-push.ensures.ok in
     record {
@@ -40,7 +40,7 @@ loop-file-preserved c =
 
 pub returns : goal.returns
 returns c =
-    let all : length c.loop-file.files ≡ length c.args.lists.now = omega (arith, c.loop-file.invariant.count, c.loop-file-test.false, c.loop-file.auto.file-end, ap length c.items-texts.ensures.items, length-zip c.args.texts.now c.args.lists.now c.requires) in
+    let all : length c.loop-file.files ≡ length c.args.lists.now = omega (arith, c.loop-file.invariant.count, c.loop-file-test.false, c.loop-file.auto.file-end, length-zip c.args.texts.now c.args.lists.now c.requires.tokens) in
     record {
       passed = record {
         as_many = all;

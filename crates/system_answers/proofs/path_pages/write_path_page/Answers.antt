@@ -1,10 +1,7 @@
 use Rattle.std.proofs.Common.{inl, inr}
-use Rattle.cutset_lister.specs.Walks.{all_sets}
-use Rattle.cutset_writer.specs.Text.{listing_page}
-use Rattle.cutset_writer.specs.declared.form.SetForm.TheVariants.{Token}
 use Rattle.system_answers.specs.Prints.{NoFault}
 use Rattle.system_answers.specs.Texts.{path_page}
-use Rattle.system_answers.proofs.Prints.{prints_front, prints_stop}
+use Rattle.system_answers.proofs.Prints.{prints_stop}
 use Rattle.system_answers.proofs.path_pages.write_path_page.Goals as goal
 
 pub returns-in_err-writer : goal.returns-in_err-writer

@@ -13,6 +13,6 @@ pub returns : goal.returns
 returns c = λ store apart right.
     let old : HasShapeAt store (c.args.id.position - 2) c.in-Some.shape = right (c.args.id.position - 2) c.in-Some.shape (sym c.in-Some.ensures) in
     let same : c.args.id.position ≡ c.args.id.position - 2 + 2 = omega arith in
-    shapes-set store c.args.table.now (c.args.id.position - 2) (record { least = c.in-Some.shape.least; greatest = c.in-Some.shape.greatest; apart = true })
+    shapes-set store c.args.table.now (c.args.id.position - 2) (record { least = c.in-Some.shape.least; greatest = c.in-Some.shape.greatest; apart = true; wide = c.in-Some.shape.wide })
     (slice_get_within c.args.table.now (c.args.id.position - 2) c.in-Some.shape (sym c.in-Some.ensures)) right
-    (record { inside = old.inside; of_node = record { least = old.of_node.least; greatest = old.of_node.greatest; apart = λ h. subst (λ p. IsAntichain (family_at store p)) same apart } })
+    (record { inside = old.inside; of_node = record { least = old.of_node.least; greatest = old.of_node.greatest; apart = λ h. subst (λ p. IsAntichain (family_at store p)) same apart; wide = old.of_node.wide } })

@@ -1,7 +1,7 @@
 use Rattle.zdd_families.specs.Steps.{both}
 use Rattle.zdd_store.specs.Store.{family_of}
 use Rattle.cutset_engine.proofs.Covering.{made_then}
-use Rattle.cutset_engine.proofs.gates.both_of_two.Goals as goal
+use Rattle.cutset_engine.proofs.gates.least_both.Goals as goal
 
 pub returns : goal.returns
 returns c =

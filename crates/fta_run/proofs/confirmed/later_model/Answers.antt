@@ -1,0 +1,1 @@
+use Rattle.fta_run.proofs.confirmed.later_model.Goals as goal

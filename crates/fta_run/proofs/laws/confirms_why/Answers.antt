@@ -1,0 +1,5 @@
+use Rattle.fta_run.proofs.Confirmed.{confirms-why}
+use Rattle.fta_run.proofs.laws.confirms_why.Goals as goal
+
+pub returns : goal.returns
+returns c = confirms-why

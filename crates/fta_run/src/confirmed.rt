@@ -1,0 +1,81 @@
+//! The answer on a derivation that stands in a file before those of the model.
+
+ghost use Rattle.std.specs.Prelude.{◌≡◌, ◌≤◌, All, IfOk, length};
+ghost use Rattle.phases.specs.Meets.{Meets};
+ghost use Rattle.model_phases.specs.Named.{IsPlainModel};
+ghost use Rattle.fta_run.specs.Due.{confirmed_in, model_of_texts};
+ghost use Rattle.fta_run.specs.Files.{most_bytes, most_files};
+ghost use Rattle.fta_run.specs.Later.{in_later_files, later_place, later_refusal, next_file};
+ghost use Rattle.system_answers.specs.Prints.{Prints};
+
+use crate::input::Texts;
+use crate::model::model_of_texts;
+use fta_outside::Sink;
+use model_phases::FlatModel;
+use phases::Status;
+use plain_values::{Name, Place, Refusal, Root};
+use std::alloc::Global;
+use system_answers::write_confirmed;
+
+/// Writes that the first text is a derivation of a target under the set of events that has this text, in the model of the root in
+/// files of the other texts.
+pub fn write_confirmation<S: Sink>(
+    alloc: Global,
+    root: &Root,
+    target: &Name,
+    set: &Name,
+    texts: &Texts,
+    out: &mut S,
+) -> Result<(), Status>
+    ensures { Prints (confirmed_in root.now target.now set.now texts.now) result (S.taken out.old) (S.taken out.new) (S.faults out.old) (S.faults out.new) }
+{
+    let model = later_model(alloc, root, texts.others())?;
+    write_confirmed(alloc, &model.system, target, set, texts.first(), out)
+}
+
+/// The model of the root in files of these texts, each of which has the next number.
+fn later_model(alloc: Global, root: &Root, texts: &[Name]) -> Result<FlatModel, Status>
+    requires few { length texts.now ≤ most_files }
+    requires short { All (λ text. length text ≤ most_bytes) texts.now }
+    ensures meets { Meets (in_later_files (model_of_texts root.now texts.now)) result }
+    ensures plain { IfOk result IsPlainModel }
+{
+    match model_of_texts(alloc, root, texts) {
+        Ok(model) => Ok(model),
+        Err(Status::Refused(refusal)) => Err(Status::Refused(later_refusal(refusal))),
+        // Beside refusals it ends for want of memory alone.
+        Err(_) => Err(Status::Memory),
+    }
+}
+
+/// The same refusal, in the next file.
+fn later_refusal(refusal: Refusal) -> Refusal
+    ensures { result ≡ later_refusal refusal }
+{
+    Refusal {
+        code: refusal.code,
+        place: later_place(refusal.place),
+        limit: refusal.limit,
+    }
+}
+
+/// The same place, in the next file.
+fn later_place(place: Place) -> Place
+    ensures { result ≡ later_place place }
+{
+    match place {
+        Place::Words => Place::Words,
+        Place::Whole(file) => Place::Whole(next_file(file)),
+        Place::At { file, at } => Place::At {
+            file: next_file(file),
+            at,
+        },
+    }
+}
+
+/// The next number.
+fn next_file(file: u32) -> u32
+    ensures { result ≡ next_file file }
+{
+    file.saturating_add(1)
+}
