@@ -9,4 +9,4 @@ mod OneDue
 mod Ran
 mod Chosen
 mod Written
-mod Confirmed
+mod DerivationLaws

@@ -1,4 +1,4 @@
-use Rattle.fta_run.proofs.Confirmed.{confirms-why}
+use Rattle.fta_run.proofs.DerivationLaws.{confirms-why}
 use Rattle.fta_run.proofs.laws.confirms_why.Goals as goal
 
 pub returns : goal.returns

@@ -1,4 +1,4 @@
-use Rattle.fta_run.proofs.Confirmed.{holds-where-confirmed}
+use Rattle.fta_run.proofs.DerivationLaws.{holds-where-confirmed}
 use Rattle.fta_run.proofs.laws.holds_where_confirmed.Goals as goal
 
 pub returns : goal.returns
