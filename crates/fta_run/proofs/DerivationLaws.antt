@@ -20,8 +20,8 @@ use Rattle.fta_run.proofs.Names.{plain_texts}
 more_texts : (contents : List ℕ → Option (List ℕ)) (files texts : List (List ℕ)) (file text : List ℕ) → Passed (texts_of contents files) texts → StandsBefore contents files file text → Passed (texts_of contents (file ∷ files)) (text ∷ texts)
 more_texts contents files texts file text passed before =
     let read = passed.2.0 in
-    let may = passed.2.2.0 in
-    let none : too_long_from 0 read ≡ [] = no_refusals (too_long_from 0 read) passed.2.2.2.1 in
+    let may = passed.2.1 in
+    let none : too_long_from 0 read ≡ [] = no_refusals (too_long_from 0 read) passed.2.2.1 in
     let short : too_long_from 0 (text ∷ read) ≡ [] = from_short 0 (text ∷ read) (before.short, short_of 0 read none) in (
       tt,
       clear_few (file ∷ files) (omega (arith, before.few)),
@@ -34,7 +34,7 @@ more_texts contents files texts file text passed before =
           (
             tt,
             (λ refusal much. absurd (omega (arith, much.0, before.little read may))),
-            ap (λ its. text ∷ its) passed.2.2.2.2.2.2,
+            ap (λ its. text ∷ its) passed.2.2.2.2,
           ),
         ),
       ),

@@ -175,5 +175,5 @@ first_of (text ∷ texts) short = short.0
 pub first_short : (contents : List ℕ → Option (List ℕ)) (files texts : List (List ℕ)) → Passed (texts_of contents files) texts → length (first_text texts) ≤ most_bytes
 first_short contents files texts passed =
     let read = passed.2.0 in
-    let none : too_long_from 0 read ≡ [] = no_refusals (too_long_from 0 read) passed.2.2.2.1 in
-    subst (λ its. length (first_text its) ≤ most_bytes) (sym passed.2.2.2.2.2.2) (first_of read (short_of 0 read none))
+    let none : too_long_from 0 read ≡ [] = no_refusals (too_long_from 0 read) passed.2.2.1 in
+    subst (λ its. length (first_text its) ≤ most_bytes) (sym passed.2.2.2.2) (first_of read (short_of 0 read none))

@@ -27,6 +27,7 @@ use Rattle.galileo_reader.specs.TreeSystems.{system_of, target_of as top_of_tree
 use Rattle.system_answers.specs.Galileo.{LacksNamedTree}
 use Rattle.system_answers.specs.Derivations.{IsNotGood, LacksSteps, LacksWhy, confirm_text, why_text}
 use Rattle.system_answers.specs.Texts.{cuts_text, galileo_paths_text, galileo_text, paths_text, report_text, tree_text}
+use Rattle.path_sets.specs.Duals.{dual_of}
 use Rattle.path_sets.specs.PathSets.{HasLargePaths}
 use Rattle.system_answers.specs.Prints.{IsReportFault, NoFault, PrintsBut}
 use Rattle.fta_run.specs.Due.{command_text, confirmed_in, due, first_text, made_root, made_target, make_text, model_of_files, model_of_texts, other_texts, sets_of_tree, sized_text, texts_of, within_limits}
@@ -71,6 +72,15 @@ galileo_stop : (limit max_order : Option ℕ) (text : List ℕ) → StopsOnly Is
 galileo_stop limit max_order text = (
   refusal_is (LacksNamedTree text),
   λ tree read. (refusal_is (HasLargeSlice (system_of tree) (top_of_tree tree tree.top)), λ slice served. ((λ s none. absurd none), λ sets are. tt)),
+)
+
+galileo_paths_stop : (limit max_order : Option ℕ) (text : List ℕ) → StopsOnly IsARefusal (galileo_paths_text limit max_order text)
+galileo_paths_stop limit max_order text = (
+  refusal_is (LacksNamedTree text),
+  λ tree read. (
+    refusal_is (HasLargeSlice (system_of tree) (top_of_tree tree tree.top)),
+    λ slice served. (refusal_is (HasLargeSlice (dual_of (system_of tree)) (top_of_tree tree tree.top)), λ dual clear. ((λ s none. absurd none), λ sets are. tt)),
+  ),
 )
 
 sized_stop : (model : FlatModel) → StopsOnly IsARefusal (sized_text model)

@@ -12,8 +12,8 @@ use Rattle.cut_reports.specs.Feeding.{IsKept}
 use Rattle.fta_run.proofs.Ran.{begins_as, kept_as, many_named, ran, ran_unnamed}
 use Rattle.fta_run.proofs.command.answer.Goals as goal
 
-pub write_command-requires-clause-chosen : goal.write_command-requires-clause-chosen
-write_command-requires-clause-chosen g c =
+pub write_command-requires : goal.write_command-requires
+write_command-requires g c =
     let reports = c.args.reports.now in
     let count : length c.items.result.now ≡ length reports.items = ap length (c.items.ensures.items ∙ c.in_ok-names.ensures) ∙ length-map reports.items (λ b. (goal.Report-dyn g (b.vtable, b.value)).label b.value) in
     subst (λ many. RisesWithin 0 many (chosen_of (command_shown c.in_ok-command.command))) (count ∙ sym reports.ok.0) (places_rise c.items.result.now c.args.words.now (command_shown c.in_ok-command.command) c.in_ok-command.ensures.passed)

@@ -1,4 +1,5 @@
-use Rattle.std.proofs.Common.{inl}
+use Rattle.std.proofs.Common.{inl, subst}
+use Rattle.phases.specs.Meets.{Meets}
 use Rattle.phases.proofs.Steps.{ends, exits, meets_later}
 use Rattle.fta_run.specs.Due.{model_of_texts, texts_of}
 use Rattle.fta_run.specs.Steps.{IsReadEnd}
@@ -10,4 +11,4 @@ returns-in_err-texts-clause-meets g c = exits _ _ _ _ _ c.from_residual.ensures.
 pub returns-clause-meets : goal.returns-clause-meets
 returns-clause-meets g c =
     meets_later (IsReadEnd c.args.names.now (g.F.Files.faults c.args.files.now) (g.F.Files.faults c.read_texts.new.files)) (λ model. model) (texts_of (g.F.Files.contents c.args.files.now) c.args.names.now) (model_of_texts c.args.root.now) c.in_ok-texts.texts c.model_of_texts.result
-    (λ s memory. inl memory) c.in_ok-texts.ensures.meets c.model_of_texts.ensures
+    (λ s memory. inl memory) c.in_ok-texts.ensures.meets (subst (λ texts. Meets (model_of_texts c.args.root.now texts) c.model_of_texts.result) c.items.ensures.items c.model_of_texts.ensures)
