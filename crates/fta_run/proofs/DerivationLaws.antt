@@ -1,5 +1,5 @@
 -- What is written of a derivation in the files of a model, and what is accepted.
-use Rattle.std.proofs.Common.{◌≡◌, ◌∷◌, ℕ, List, [], Option, Result, Ok, ap, arith}
+use Rattle.std.proofs.Common.{◌≡◌, ◌∷◌, ℕ, List, [], Option, Ok, ap, arith}
 use Rattle.plain_values.specs.declared.name.Root.{Root}
 use Rattle.fault_system.specs.Truth.{set_of}
 use Rattle.fault_system.specs.Systems.{Holds}

@@ -1,5 +1,5 @@
 -- The root in the files, and the target.
-use Rattle.std.proofs.Common.{◌≡◌, ◌<◌, ◌⊎◌, inl, inr, List, ℕ, [], length, get_or, map, None, Result, Ok, refl, sym, ap, subst, ◌∙◌, arith}
+use Rattle.std.proofs.Common.{◌≡◌, ◌⊎◌, inl, inr, List, None, Result, Ok, refl, sym, ap, subst, ◌∙◌}
 use Rattle.aadl_syntax.specs.declared.core_model.PackageUnit.{PackageUnit}
 use Rattle.aadl_syntax.specs.declared.core_model.Unit.{Unit as FileUnit}
 use Rattle.plain_values.specs.declared.name.Root.{Root}
@@ -13,7 +13,7 @@ use Rattle.plain_values.specs.Stops.{StopsAtFirst}
 use Rattle.package_index.specs.Lookup.{look_classifier, packages_of, refused_at}
 use Rattle.package_index.specs.declared.id.ClassifierId.{ClassifierId}
 use Rattle.phases.specs.Meets.{IsMemory, Meets}
-use Rattle.phases.specs.Phases.{Passes, Stops, answers, chains, computes, tests}
+use Rattle.phases.specs.Phases.{Passes, Stops, chains, computes, tests}
 use Rattle.phases.specs.Stopped.{status_of}
 use Rattle.phases.specs.declared.status.Status.{Status}
 use Rattle.phases.specs.declared.status.Status.TheVariants.{Refused}

@@ -13,7 +13,7 @@ use Rattle.model_phases.proofs.Decided.{model_decided}
 use Rattle.grammar_rules.specs.Texts.{syntax_error}
 use Rattle.phases.specs.Phases.{IsDecided, IsDue, IsSameEnd, Passes, Phase}
 use Rattle.phases.specs.declared.status.Status.{Status}
-use Rattle.phases.specs.declared.status.Status.TheVariants.{Usage, Refused, Constant}
+use Rattle.phases.specs.declared.status.Status.TheVariants.{Usage, Refused}
 use Rattle.phases.proofs.Leaves.{decided_answers, decided_computes, decided_finds, decided_rejects, decided_accepts, decided_tests}
 use Rattle.phases.proofs.Decided as decided
 use Rattle.fta_run.specs.Words.{Check, Command, Cuts, Tree, Fmea, Report, Make, Galileo, Paths, Why, Confirm, IsCommand, files_of}

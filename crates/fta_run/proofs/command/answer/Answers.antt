@@ -16,7 +16,7 @@ pub write_command-requires : goal.write_command-requires
 write_command-requires g c =
     let reports = c.args.reports.now in
     let count : length c.items.result.now ≡ length reports.items = ap length (c.items.ensures.items ∙ c.in_ok-names.ensures) ∙ length-map reports.items (λ b. (goal.Report-dyn g (b.vtable, b.value)).label b.value) in
-    subst (λ many. RisesWithin 0 many (chosen_of (command_shown c.in_ok-command.command))) (count ∙ sym reports.ok.0) (places_rise c.items.result.now c.args.words.now (command_shown c.in_ok-command.command) c.in_ok-command.ensures.passed)
+    record { chosen = subst (λ many. RisesWithin 0 many (chosen_of (command_shown c.in_ok-command.command))) (count ∙ sym reports.ok.0) (places_rise c.items.result.now c.args.words.now (command_shown c.in_ok-command.command) c.in_ok-command.ensures.passed) }
 
 pub returns-clause-end : goal.returns-clause-end
 returns-clause-end g c =

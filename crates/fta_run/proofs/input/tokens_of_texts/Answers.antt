@@ -1,4 +1,4 @@
-use Rattle.std.proofs.Common.{◌≡◌, ◌<◌, ◌+◌, length, get_or, ap, sym, subst, add-one, take, arith}
+use Rattle.std.proofs.Common.{◌≡◌, ◌<◌, ◌+◌, length, get_or, sym, subst, add-one, take}
 use Rattle.aadl_lexer.specs.Tokens.{Tokens}
 use Rattle.phases.specs.Stopped.{status_of}
 use Rattle.phases.proofs.Steps.{exits}

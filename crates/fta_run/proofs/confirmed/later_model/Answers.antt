@@ -1,1 +1,0 @@
-use Rattle.fta_run.proofs.confirmed.later_model.Goals as goal

@@ -1,1 +1,0 @@
-use Rattle.fta_run.proofs.words.command_of.Goals as goal
