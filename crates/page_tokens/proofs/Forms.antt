@@ -29,7 +29,7 @@ one_behind a b is = ap (drop 3) is
 pub one_form : (a b r s : List ℕ) → AreDigits a → AreDigits b → token_text a r ≡ token_text b s → (a ≡ b) × (r ≡ s)
 one_form a b r s first second is = one_cut a b r s (first.as_many ∙ sym second.as_many) (one_behind (a ++ (58 ∷ r)) (b ++ (58 ∷ s)) is)
 
-begins : (text digits rest : List ℕ) → text ≡ token_text digits rest → begins_new text ≡ true
+pub begins : (text digits rest : List ℕ) → text ≡ token_text digits rest → begins_new text ≡ true
 begins text digits rest is = ap begins_new is
 
 -- a text says one thing as a token

@@ -1,3 +1,4 @@
 pub mod Forms
 pub mod Once
 mod Backs
+mod Keys
