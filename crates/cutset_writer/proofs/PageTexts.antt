@@ -105,10 +105,10 @@ page_went_on form system key last limit sets t u v f g h more more_now limit_lef
           ∙ ap (λ l. (w.front ++ next_line form system more limit_left left) ++ marked_text form system key place l (later left)) (sym less) ∙ ap (λ s. (w.front ++ next_line form system more limit_left left) ++ marked_text form system key place now s) (sym rest);
       faults = omega (arith, faults, grows);
     }
-    where
-      names-it : (some : List (List ℕ)) → goes_on limit_left some ≡ true → next_more key system some ≡ more_line key system (place_next w.place some)
-      names-it [] on = absurd (false≢true on)
-      names-it (set ∷ others) on = refl
+  where
+    names-it : (some : List (List ℕ)) → goes_on limit_left some ≡ true → next_more key system some ≡ more_line key system (place_next w.place some)
+    names-it [] on = absurd (false≢true on)
+    names-it (set ∷ others) on = refl
 
 -- the lines of some of the sets have room
 pub room-filtered : (system : System) (room : ℕ) (test : List ℕ → Bool) (sets : List (List ℕ)) → HasRoom system room sets → HasRoom system room (filter test sets)

@@ -45,7 +45,7 @@ fn longest_more(system: &FaultSystem) -> Option<usize>
 /// Keeps the set behind which the next page begins, if the page has a bookmark.
 pub(crate) fn keep_place(mark: &mut Option<Bookmark>, system: &FaultSystem, set: Option<&[u32]>)
     requires open { IsOpenMark system.now mark.old }
-    requires fits { length (start_text system.now (option_map (λ s. s.now) set.entry)) ≤ most_line system.now }
+    requires fits { length (start_text system.now (option_map (λ s. s.now) set)) ≤ most_line system.now }
     ensures named { more_text mark.new ≡ more_line (key_of mark.old) system.now (option_map (λ s. s.now) set.entry) }
     ensures key { key_of mark.new ≡ key_of mark.old }
     ensures open { IsOpenMark system.now mark.new }
@@ -58,7 +58,7 @@ pub(crate) fn keep_place(mark: &mut Option<Bookmark>, system: &FaultSystem, set:
 
 fn put_place(bookmark: &mut Bookmark, system: &FaultSystem, set: Option<&[u32]>)
     requires open { IsOpen system.now bookmark.old }
-    requires fits { length (start_text system.now (option_map (λ s. s.now) set.entry)) ≤ most_line system.now }
+    requires fits { length (start_text system.now (option_map (λ s. s.now) set)) ≤ most_line system.now }
     ensures named { bookmark.new.line.items ≡ more_line (Some bookmark.old.key) system.now (option_map (λ s. s.now) set.entry) }
     ensures key { bookmark.new.key ≡ bookmark.old.key }
     ensures open { IsOpen system.now bookmark.new }

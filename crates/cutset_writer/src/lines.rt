@@ -52,7 +52,7 @@ pub(crate) fn put_more(
     set: Option<&[u32]>,
     line: &mut Vec<u8>,
 )
-    requires { length (start_text system.now (option_map (λ s. s.now) set.entry)) + 74 ≤ vec_capacity line.old }
+    requires { length (start_text system.now (option_map (λ s. s.now) set)) + 74 ≤ vec_capacity line.old }
     ensures text { line.new.items ≡ more_line (Some key.now) system.now (option_map (λ s. s.now) set.entry) }
     ensures room { vec_capacity line.old ≤ vec_capacity line.new }
 {

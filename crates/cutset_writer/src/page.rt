@@ -93,7 +93,7 @@ impl PageWriter {
     ) -> Result<(), SinkFailed>
         requires ready { IsReady system.now store.now self }
         requires open { IsOpen system.now bookmark }
-        requires after { IfSome (option_map (λ set. set.now) after.entry) (IsEventSet system.now) }
+        requires after { IfSome (option_map (λ set. set.now) after) (IsEventSet system.now) }
         ensures { Writes result (marked_page Token system.now (Some bookmark.key) (option_map (λ set. set.now) after.entry) limit (all_sets store.now self.listing)) (S.taken sink.old) (S.taken sink.new) (S.faults sink.old) (S.faults sink.new) }
     {
         let mut mark = Some(bookmark);
@@ -134,7 +134,7 @@ fn write_on_ledger<S: Sink, L: Ledger>(
     requires room { HasRoom system.now (most_line system.now) (all_sets store.now listing.old) }
     requires wide { most_line system.now ≤ vec_capacity line.old }
     requires open { IsOpenMark system.now mark.old }
-    requires named { more_text mark.old ≡ more_line (key_of mark.old) system.now (option_map (λ set. set.now) after.entry) }
+    requires named { more_text mark.old ≡ more_line (key_of mark.old) system.now (option_map (λ set. set.now) after) }
     ensures { Writes result (marked_page form system.now (key_of mark.old) (option_map (λ set. set.now) after.entry) limit (all_sets store.now listing.old)) (S.taken sink.old) (S.taken sink.new) (S.faults sink.old) (S.faults sink.new) }
 {
     let mut steps = Steps::<L>::new(blank);
@@ -166,9 +166,7 @@ fn write_sets<S: Sink, L: Ledger>(
         → Writes result (marked_text form system.now (key_of mark.old) last limit (sets_left store.now listing.old)) (S.taken sink.old) (S.taken sink.new) (S.faults sink.old) (S.faults sink.new) }
 {
     let mut room = limit;
-    while write_next(
-        listing, system, store, form, room, line, mark, sink, steps,
-    )? {
+    while write_next(listing, system, store, form, room, line, mark, sink, steps)? {
         room = one_less(room);
     }
     Ok(())

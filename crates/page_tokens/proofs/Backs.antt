@@ -4,7 +4,8 @@ use Rattle.std.specs.Prelude.{IfSome, unwrap_or, slice_index_or}
 use Rattle.std.specs.List.{list_any}
 use Rattle.std.specs.Option.{option_map}
 use Rattle.std.proofs.lemmas.Bool.{false≢true}
-use Rattle.std.proofs.lemmas.List.{get_or_from_slice_get}
+use Rattle.std.proofs.lemmas.Option.{get_or_from_slice_get}
+use Rattle.plain_values.specs.Name.{is_same_text}
 use Rattle.fault_system.specs.CutSets.{IsEventSet}
 use Rattle.fault_system.specs.Systems.{System, event_name}
 use Rattle.fault_system.specs.declared.formula.EventInfo.{EventInfo}
@@ -29,7 +30,7 @@ page_name system number names h =
     subst IsPageName (ap (λ e. e.name) is ∙ sym (ap (λ o. unwrap_or (option_map (λ (e : EventInfo). e.name) o) []) event.1)) good
 
 -- whether a text has a `+`
-has_plus : List ℕ → Bool
+abbrev has_plus : List ℕ → Bool
 has_plus text = list_any (λ byte. byte == 43) text
 
 or_true : (b : Bool) → b || true ≡ true
@@ -54,11 +55,11 @@ ends system (n ∷ ns) = refl
 
 -- no text of a set is `start`
 name_is : (name tail : List ℕ) → Ends tail → name ++ tail ≡ codes "start" → name ≡ codes "start"
-name_is name [] ends is = sym (append_none name) ∙ is
-name_is name (byte ∷ tail) ends is = absurd (false≢true (sym (ap has_plus is) ∙ ap (λ b. has_plus (name ++ (b ∷ tail))) ends ∙ plus_behind name tail))
+name_is name [] over is = sym (append_none name) ∙ is
+name_is name (byte ∷ tail) over is = absurd (false≢true (sym (ap has_plus is) ∙ ap (λ b. has_plus (name ++ (b ∷ tail))) over ∙ plus_behind name tail))
 
 not_start : (system : System) (set : List ℕ) → HasPageNames system → IsEventSet system set → set_text system set ≡ codes "start" → ⊥
-not_start system [] names rises is = let first : 110 ≡ 115 = cc (is) in omega (arith, first)
+not_start system [] names rises is = false≢true (sym (ap (λ text. is_same_text text (codes "none")) is))
 not_start system (n ∷ ns) names rises is =
     (page_name system n names rises.1).0 (name_is (event_name system n) (names_text system ns) (ends system ns) (sym (set_text-first system (n ∷ ns) n ns refl) ∙ is))
 
@@ -70,13 +71,13 @@ short_two : (first second : ℕ) (tail : List ℕ) → begins_new (first ∷ sec
 short_two first second tail = ap (λ b. (first == 118) && b) (and_false (second == 50)) ∙ and_false (first == 118)
 
 begins_as : (name tail : List ℕ) → Ends tail → begins_new name ≡ false → begins_new (name ++ tail) ≡ false
-begins_as [] [] ends not = not
-begins_as [] (byte ∷ tail) ends not = ap (λ b. begins_new (b ∷ tail)) ends
-begins_as (a ∷ []) [] ends not = not
-begins_as (a ∷ []) (byte ∷ tail) ends not = ap (λ b. begins_new (a ∷ b ∷ tail)) ends ∙ short_one a tail
-begins_as (a ∷ b ∷ []) [] ends not = not
-begins_as (a ∷ b ∷ []) (byte ∷ tail) ends not = ap (λ c. begins_new (a ∷ b ∷ c ∷ tail)) ends ∙ short_two a b tail
-begins_as (a ∷ b ∷ c ∷ name) tail ends not = not
+begins_as [] [] over not = not
+begins_as [] (byte ∷ tail) over not = ap (λ b. begins_new (b ∷ tail)) over
+begins_as (a ∷ []) [] over not = not
+begins_as (a ∷ []) (byte ∷ tail) over not = ap (λ b. begins_new (a ∷ b ∷ tail)) over ∙ short_one a tail
+begins_as (a ∷ b ∷ []) [] over not = not
+begins_as (a ∷ b ∷ []) (byte ∷ tail) over not = ap (λ c. begins_new (a ∷ b ∷ c ∷ tail)) over ∙ short_two a b tail
+begins_as (a ∷ b ∷ c ∷ name) tail over not = not
 
 not_new : (system : System) (set : List ℕ) → HasPageNames system → IsEventSet system set → begins_new (set_text system set) ≡ false
 not_new system [] names rises = refl

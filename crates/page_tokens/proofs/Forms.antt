@@ -1,7 +1,8 @@
 -- How a text is read as a token.
-use Rattle.std.proofs.Common.{◌≡◌, ◌≤◌, ◌<◌, ℕ, zero, suc, Bool, true, false, List, [], ◌∷◌, ◌++◌, length, take, drop, codes, refl, sym, ap, ◌∙◌, arith}
+use Rattle.std.proofs.Common.{◌≡◌, ◌≤◌, ◌<◌, ℕ, zero, suc, Bool, true, false, List, [], ◌∷◌, ◌++◌, length, take, drop, slice_index_or, codes, refl, sym, ap, ◌∙◌, arith}
 use Rattle.std.proofs.lemmas.Bool.{false≢true}
 use Rattle.std.proofs.lemmas.Slice.Eq.{bytes_eq-Decides}
+use Rattle.std.proofs.Math.Seq.{drop-cons, take-append_seam}
 use Rattle.std.proofs.lemmas.List.{take-append-drop}
 use Rattle.plain_values.specs.declared.refusal.Refusal.{Refusal}
 use Rattle.page_tokens.specs.Forms.{AreDigits, IsMalformed, IsToken, Said, Says, begins_new, token_text}
@@ -52,3 +53,11 @@ not-both text (Some digits) r refusal x lacks = lacks.lacks digits r x.0 x.1
 
 pub said_or_malformed : (text : List ℕ) (a : Said) (refusal : Refusal) → IsToken text a → IsMalformed text refusal → ⊥
 said_or_malformed text a refusal x lacks = not-both text a.digits a.rest refusal x lacks
+
+-- where a text has the digits of a key, they are its front
+pub front_is : (text digits rest : List ℕ) → text ≡ digits ++ (58 ∷ rest) → AreDigits digits → take 64 text ≡ digits
+front_is text digits rest is are = ap (take 64) is ∙ ap (λ n. take n (digits ++ (58 ∷ rest))) (sym are.as_many) ∙ take-append_seam digits (58 ∷ rest)
+
+-- a text with a `:` behind so many bytes
+pub cut_there : (text : List ℕ) → 65 ≤ length text → slice_index_or text 64 0 ≡ 58 → text ≡ take 64 text ++ (58 ∷ drop 65 text)
+cut_there text long colon = sym (take-append-drop 64 text) ∙ ap (λ rest. take 64 text ++ rest) (drop-cons text 64 0 (omega (arith, long)) ∙ ap (λ byte. byte ∷ drop 65 text) colon)

@@ -43,13 +43,15 @@ starts_so key other text system start old passes =
 
 pub stops_so : (key other text : List ℕ) (system : System) (status : Status) → begins_new text ≡ false → Stops (page_start key text system) status → Stops (page_start other text system) status
 stops_so key other text system status old stops =
-    record { stopped = elim stops.stopped [
-      | inl malformed ↦ inl malformed
-      | inr later ↦ elim later.2 [
-        | inl stale ↦ absurd (not_stale key text later.0.digits later.0.rest status old later.1 stale)
-        | inr lacks ↦ inr (later.0, later.1, inr (tt, fresh_so other text later.0.digits later.0.rest old later.1, lacks.2))
-      ]
-    ] }
+    record {
+      stopped = elim stops.stopped [
+        | inl malformed ↦ inl malformed
+        | inr later ↦ elim later.2 [
+          | inl stale ↦ absurd (not_stale key text later.0.digits later.0.rest status old later.1 stale)
+          | inr lacks ↦ inr (later.0, later.1, inr (tt, fresh_so other text later.0.digits later.0.rest old later.1, lacks.2))
+        ]
+      ];
+    }
 
 -- texts are decided up to what is the same of statuses
 module _ (Same : Status → Status → Type 0) (itself : (status : Status) → Same status status) where

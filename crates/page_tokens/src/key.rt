@@ -96,15 +96,15 @@ fn feed_others<D: Digest>(hasher: &mut D, names: &[Name])
     ensures { (m : List ℕ) → D.holds hasher.old m → D.holds hasher.new (m ++ flat_map (λ other. 58 ∷ 58 ∷ other) names.now) }
 {
     for name in names {
-        feed_other(hasher, name);
+        feed_other(hasher, name.items());
     }
 }
 
-fn feed_other<D: Digest>(hasher: &mut D, name: &Name)
+fn feed_other<D: Digest>(hasher: &mut D, name: &[u8])
     ensures { (m : List ℕ) → D.holds hasher.old m → D.holds hasher.new (m ++ (58 ∷ 58 ∷ name.now)) }
 {
     feed(hasher, b"::");
-    feed(hasher, name.items());
+    feed(hasher, name);
 }
 
 fn feed_item<D: Digest>(hasher: &mut D, item: &Option<Name>)
@@ -146,13 +146,13 @@ fn feed_each<D: Digest>(hasher: &mut D, files: &[Name])
     ensures { (m : List ℕ) → D.holds hasher.old m → D.holds hasher.new (m ++ flat_map file_text files.now) }
 {
     for file in files {
-        feed_file(hasher, file);
+        feed_file(hasher, file.items());
     }
 }
 
-fn feed_file<D: Digest>(hasher: &mut D, file: &Name)
+fn feed_file<D: Digest>(hasher: &mut D, file: &[u8])
     ensures { (m : List ℕ) → D.holds hasher.old m → D.holds hasher.new (m ++ file_text file.now) }
 {
-    feed_number(hasher, file.items().len());
-    feed(hasher, file.items());
+    feed_number(hasher, file.len());
+    feed(hasher, file);
 }

@@ -1,6 +1,6 @@
 //! Where a page begins, by the text of a token.
 
-ghost use Rattle.std.specs.Prelude.{◌≡◌, ◌++◌, ◌∷◌, List as Items, Some, ℕ, IfNone, IfSome, IsTrue, ◌↔◌, take};
+ghost use Rattle.std.specs.Prelude.{◌≡◌, ◌++◌, ◌∷◌, List as Items, Some, ℕ, IfNone, IfSome, IsTrue, ◌↔◌, ◌≤◌, drop, length, take};
 ghost use Rattle.std.specs.List.{AllByRecursion};
 ghost use Rattle.phases.specs.Meets.{IsMemory, Meets, MeetsBut};
 ghost use Rattle.cutset_lister.specs.SetText.{HasTokenNames};
@@ -50,12 +50,13 @@ fn token_of(text: &[u8]) -> Result<Token<'_>, Status>
             rest: text,
         });
     }
-    let Some((digits, rest)) = parts_of(&text[3..]) else {
+    let behind = &text[3..];
+    let Some(digits) = digits_before(behind) else {
         return Err(Status::Refused(Refusal::of_words(Code::BadToken)));
     };
     Ok(Token {
         digits: Some(digits),
-        rest,
+        rest: &behind[65..],
     })
 }
 
@@ -75,9 +76,10 @@ fn first_three(text: &[u8]) -> &[u8]
     &text[..3]
 }
 
-/// The digits of a key that a text begins with, and what stands behind the `:` that comes next.
-fn parts_of(text: &[u8]) -> Option<([u8; 64], &[u8])>
-    ensures found { IfSome result (λ parts. (text.now ≡ parts.0 ++ (58 ∷ parts.1.now)) × AreDigits parts.0) }
+/// The digits of a key that a text begins with, where `:` comes next.
+fn digits_before(text: &[u8]) -> Option<[u8; 64]>
+    ensures long { IfSome result (λ _. 65 ≤ length text.now) }
+    ensures found { IfSome result (λ digits. (text.now ≡ digits ++ (58 ∷ drop 65 text.now)) × AreDigits digits) }
     ensures none { IfNone result ((digits rest : Items ℕ) → text.now ≡ digits ++ (58 ∷ rest) → AreDigits digits → ⊥) }
 {
     if text.len() < 65 {
@@ -86,12 +88,28 @@ fn parts_of(text: &[u8]) -> Option<([u8; 64], &[u8])>
     if text[64] != b':' {
         return None;
     }
-    if !are_digits(&text[..64]) {
+    let front = front_of(text);
+    if !are_digits(front) {
         return None;
     }
-    let mut digits = [0u8; 64];
-    digits.copy_from_slice(&text[..64]);
-    Some((digits, &text[65..]))
+    Some(copied(front))
+}
+
+fn front_of(text: &[u8]) -> &[u8]
+    requires { 64 ≤ length text.now }
+    ensures front { result.now ≡ take 64 text.now }
+    ensures size { length result.now ≡ 64 }
+{
+    &text[..64]
+}
+
+fn copied(digits: &[u8]) -> [u8; 64]
+    requires { length digits.now ≡ 64 }
+    ensures { result ≡ digits.now }
+{
+    let mut copy = [0u8; 64];
+    copy.copy_from_slice(digits);
+    copy
 }
 
 /// Whether each byte is a lower-case hexadecimal digit.

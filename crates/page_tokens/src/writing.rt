@@ -9,13 +9,8 @@ use fault_system::FaultSystem;
 
 /// Adds the token that names the set after which a page begins, or that it begins before all sets, to a buffer that has room for it:
 /// `v2:`, the digits of the key of what the page is asked of, `:`, and the text of the set, or `start`.
-pub fn put_page_token(
-    system: &FaultSystem,
-    key: &[u8; 64],
-    after: Option<&[u32]>,
-    to: &mut Vec<u8>,
-)
-    requires { vec_len to.old + length (token_text key.now (start_text system.now (option_map (λ set. set.now) after.entry))) ≤ vec_capacity to.old }
+pub fn put_page_token(system: &FaultSystem, key: &[u8; 64], after: Option<&[u32]>, to: &mut Vec<u8>)
+    requires { vec_len to.old + length (token_text key.now (start_text system.now (option_map (λ set. set.now) after))) ≤ vec_capacity to.old }
     ensures text { to.new.items ≡ to.old.items ++ token_text key.now (start_text system.now (option_map (λ set. set.now) after.entry)) }
     ensures room { vec_capacity to.old ≤ vec_capacity to.new }
 {
@@ -35,7 +30,7 @@ fn put_bytes(bytes: &[u8], to: &mut Vec<u8>)
 
 /// Adds the text of a set, or `start`, to a buffer that has room for it.
 fn put_start(system: &FaultSystem, after: Option<&[u32]>, to: &mut Vec<u8>)
-    requires { vec_len to.old + length (start_text system.now (option_map (λ set. set.now) after.entry)) ≤ vec_capacity to.old }
+    requires { vec_len to.old + length (start_text system.now (option_map (λ set. set.now) after)) ≤ vec_capacity to.old }
     ensures text { to.new.items ≡ to.old.items ++ start_text system.now (option_map (λ set. set.now) after.entry) }
     ensures room { vec_capacity to.old ≤ vec_capacity to.new }
 {
