@@ -1,5 +1,5 @@
 -- A page, line by line.
-use Rattle.std.proofs.Common.{ne_eqb, ◌≡◌, ℕ, zero, suc, nat_lt, take, inl, inr, codes, ◌-◌, ◌≤◌, Bool, true, false, not, List, [], ◌∷◌, ◌++◌, length, Option, Some, None, filter, subst, Result, Ok, Err, if◌then◌else◌, refl, sym, ap, ◌∙◌, append-nil, append_assoc, arith}
+use Rattle.std.proofs.Common.{ne_eqb, ◌≡◌, ℕ, zero, suc, nat_lt, take, inl, inr, codes, ◌-◌, ◌≤◌, Bool, true, false, not, List, [], ◌∷◌, ◌++◌, length, Option, Some, None, filter, subst, Result, Err, if◌then◌else◌, refl, sym, ap, ◌∙◌, append-nil, append_assoc, arith}
 use Rattle.std.proofs.lemmas.Bool.{cases_lt, false≢true, le-ltb, lt-ltb}
 use Rattle.std.specs.List.{flat_map}
 use Rattle.fta_outside.specs.Outside.{Rose, TookPrefix, with_bytes}
@@ -33,7 +33,7 @@ take-nothing zero = refl
 take-nothing (suc n) = refl
 
 -- the set that is named next: the first of those that are left
-place_next : Option (List ℕ) → List (List ℕ) → Option (List ℕ)
+abbrev pub place_next : Option (List ℕ) → List (List ℕ) → Option (List ℕ)
 place_next last [] = last
 place_next last (set ∷ sets) = Some set
 
@@ -78,12 +78,12 @@ page_stopped form system key last limit sets t u v f g h more limit_left left r 
     (wrote_not r e is u v g h (next_line form system more limit_left left) begins.0 (marked_text form system key w.place limit_left left) begins.1 stopped)
 
 -- the last line was written
-pub page_ended : {T E : Type 0} (form : SetForm) (system : System) (key last : Option (List ℕ)) (limit : Option ℕ) (sets : List (List ℕ)) (t u v : Option (List ℕ)) (f g h : ℕ) (more : List ℕ) (limit_left : Option ℕ) (left : List (List ℕ)) (r : Result T E) (x : T) (on : Bool) → r ≡ Ok x
-    → IsWritten form system key last limit sets t u f g more limit_left left → on ≡ goes_on limit_left left → on ≡ false → v ≡ with_bytes u (next_line form system more limit_left left) → g ≤ h → Writes r (marked_text form system key last limit sets) t v f h
-page_ended form system key last limit sets t u v f g h more limit_left left r x on is w goes off wrote grows =
+pub page_ended : (form : SetForm) (system : System) (key last : Option (List ℕ)) (limit : Option ℕ) (sets : List (List ℕ)) (t u v : Option (List ℕ)) (f g h : ℕ) (more : List ℕ) (limit_left : Option ℕ) (left : List (List ℕ)) (on : Bool)
+    → IsWritten form system key last limit sets t u f g more limit_left left → on ≡ goes_on limit_left left → on ≡ false → v ≡ with_bytes u (next_line form system more limit_left left) → g ≤ h → (v ≡ with_bytes t (marked_text form system key last limit sets)) × (f ≤ h)
+page_ended form system key last limit sets t u v f g h more limit_left left on w goes off wrote grows =
     let faults = w.faults in
     let whole = w.rest ∙ ap (λ p. w.front ++ p) (page-end form system key w.place more limit_left left w.named (sym goes ∙ off) ∙ append-nil (next_line form system more limit_left left)) in
-    (rw is (wrote_both t u v w.front (next_line form system more limit_left left) w.taken wrote ∙ ap (with_bytes t) (sym whole)), omega (arith, faults, grows))
+    (wrote_both t u v w.front (next_line form system more limit_left left) w.taken wrote ∙ ap (with_bytes t) (sym whole), omega (arith, faults, grows))
 
 pub room_later : (system : System) (room : ℕ) (sets : List (List ℕ)) → HasRoom system room sets → HasRoom system room (later sets)
 room_later system room [] has = tt
@@ -93,7 +93,7 @@ room_later system room (set ∷ sets) has = has.1
 pub page_went_on : (form : SetForm) (system : System) (key last : Option (List ℕ)) (limit : Option ℕ) (sets : List (List ℕ)) (t u v : Option (List ℕ)) (f g h : ℕ) (more more_now : List ℕ) (limit_left now : Option ℕ) (left behind : List (List ℕ)) (on : Bool)
     → IsWritten form system key last limit sets t u f g more limit_left left → on ≡ goes_on limit_left left → on ≡ true → v ≡ with_bytes u (next_line form system more limit_left left) → g ≤ h → behind ≡ later left → now ≡ one_less limit_left → more_now ≡ next_more key system left
     → IsWritten form system key last limit sets t v f h more_now now behind
-page_went_on form system key last limit sets t u v f g h more more_now limit_left now left behind on w goes is wrote grows rest less names =
+page_went_on form system key last limit sets t u v f g h more more_now limit_left now left behind on w goes is wrote grows rest fewer names =
     let faults = w.faults in
     let place = place_next w.place left in
     record {
@@ -102,7 +102,7 @@ page_went_on form system key last limit sets t u v f g h more more_now limit_lef
       place = place;
       named = names ∙ names-it left (sym goes ∙ is);
       rest = w.rest ∙ ap (λ p. w.front ++ p) (page-on form system key w.place more limit_left left (sym goes ∙ is)) ∙ sym (append_assoc w.front (next_line form system more limit_left left) (marked_text form system key place (one_less limit_left) (later left)))
-          ∙ ap (λ l. (w.front ++ next_line form system more limit_left left) ++ marked_text form system key place l (later left)) (sym less) ∙ ap (λ s. (w.front ++ next_line form system more limit_left left) ++ marked_text form system key place now s) (sym rest);
+          ∙ ap (λ l. (w.front ++ next_line form system more limit_left left) ++ marked_text form system key place l (later left)) (sym fewer) ∙ ap (λ s. (w.front ++ next_line form system more limit_left left) ++ marked_text form system key place now s) (sym rest);
       faults = omega (arith, faults, grows);
     }
   where

@@ -1,6 +1,6 @@
 //! What the last line of a page names, for the next page to begin there.
 
-ghost use Rattle.std.specs.Prelude.{◌≡◌, ◌≤◌, IfOk, List, Option as Maybe, length, option_map};
+ghost use Rattle.std.specs.Prelude.{◌≡◌, ◌+◌, ◌≤◌, IfOk, IfSome, Some, length, option_map};
 ghost use Rattle.cutset_writer.specs.Lengths.{most_line};
 ghost use Rattle.cutset_writer.specs.Pages.{IsOpen, IsOpenMark, key_of, more_text};
 ghost use Rattle.cutset_writer.specs.Text.{more_line};

@@ -7,6 +7,7 @@ ghost use Rattle.cutset_writer.specs.Lengths.{most_line};
 ghost use Rattle.cutset_writer.specs.Pages.{HasRoom, IsOpen, IsOpenMark, IsReady, Lists, goes_on, has_room, key_of, later, more_text, next_line, next_more, one_less};
 ghost use Rattle.cutset_writer.specs.Text.{listing_page, marked_page, marked_text, more_line};
 ghost use Rattle.cutset_writer.specs.Written.{Writes};
+ghost use Rattle.cutset_writer.specs.declared.form.SetForm.TheVariants.{Token};
 
 use crate::bookmark::{Bookmark, keep_place, write_more};
 use crate::form::SetForm;
