@@ -22,8 +22,7 @@ more_texts contents files texts file text passed before =
     let read = passed.2.0 in
     let may = passed.2.2.0 in
     let none : too_long_from 0 read ≡ [] = no_refusals (too_long_from 0 read) passed.2.2.2.1 in
-    let short : too_long_from 0 (text ∷ read) ≡ [] = from_short 0 (text ∷ read) (before.short, short_of 0 read none) in
-    (
+    let short : too_long_from 0 (text ∷ read) ≡ [] = from_short 0 (text ∷ read) (before.short, short_of 0 read none) in (
       tt,
       clear_few (file ∷ files) (omega (arith, before.few)),
       (

@@ -36,8 +36,8 @@ use phases::Status;
 use plain_values::{List, Name, Root, Word};
 use std::alloc::Global;
 use system_answers::{
-    names_of, write_cuts, write_paths, write_report, write_tree, write_tree_paths,
-    write_tree_sets, write_why,
+    names_of, write_cuts, write_paths, write_report, write_tree, write_tree_paths, write_tree_sets,
+    write_why,
 };
 
 /// Runs the command that the words give, and says how it ended.

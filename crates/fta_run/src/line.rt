@@ -41,11 +41,7 @@ fn write_constant<E: Sink>(err: &mut E, always: bool) -> Result<(), SinkFailed>
     }
 }
 
-fn write_stale<E: Sink>(
-    err: &mut E,
-    token: &[u8; 64],
-    input: &[u8; 64],
-) -> Result<(), SinkFailed>
+fn write_stale<E: Sink>(err: &mut E, token: &[u8; 64], input: &[u8; 64]) -> Result<(), SinkFailed>
     ensures { Writes result (codes "aadl_fta: " ++ (stale_text token.now input.now ++ codes "\n")) (E.taken err.old) (E.taken err.new) (E.faults err.old) (E.faults err.new) }
 {
     write_two(err, b"aadl_fta: K2 StaleToken ", token)?;

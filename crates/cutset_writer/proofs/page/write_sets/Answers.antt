@@ -19,8 +19,7 @@ pub loop-room-preserved : goal.loop-room-preserved
 loop-room-preserved g c =
     let system = c.args.system.now in
     let next = c.in_ok-write_next.ensures in
-    let left = sets_left c.args.store.now c.loop-room.listing in
-    (
+    let left = sets_left c.args.store.now c.loop-room.listing in (
       next.same.started,
       subst (HasRoom system (most_line system)) (sym next.left) (room_later system (most_line system) left c.loop-room.invariant.1),
       omega (arith, c.loop-room.invariant.2, next.room),
