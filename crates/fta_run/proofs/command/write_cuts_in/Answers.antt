@@ -6,6 +6,7 @@ use Rattle.fta_run.specs.Due.{cuts_in, model_of_texts}
 use Rattle.system_answers.specs.Prints.{NoFault, Prints}
 use Rattle.system_answers.specs.Texts.{cuts_text}
 use Rattle.system_answers.proofs.Prints.{prints_on, prints_stop}
+use Rattle.fta_run.proofs.Names.{model_token_names}
 use Rattle.fta_run.proofs.command.write_cuts_in.Goals as goal
 
 pub returns-in_err-model-clause-page : goal.returns-in_err-model-clause-page
@@ -20,3 +21,6 @@ returns-clause-page g c =
     let key = c.asked_digest.ensures ∙ ap asked c.items.ensures.items in
     prints_on (model_of_texts c.args.root.now c.args.texts) (page (asked c.args.texts)) c.in_ok-model.model c.write_cuts.result _ _ _ _ c.in_ok-model.ensures.meets
     (subst (λ digits. Prints (page digits c.in_ok-model.model) c.write_cuts.result (g.S.Sink.taken c.args.out.now) (g.S.Sink.taken c.write_cuts.new.out) (g.S.Sink.faults c.args.out.now) (g.S.Sink.faults c.write_cuts.new.out)) key c.write_cuts.ensures.page)
+
+pub write_cuts-requires : goal.write_cuts-requires
+write_cuts-requires g c = model_token_names c.in_ok-model.model c.in_ok-model.ensures.plain
