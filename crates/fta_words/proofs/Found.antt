@@ -36,10 +36,10 @@ unfolding clap_on_literals
 serves =
     record {
       once = refl;
-      flag_long = is_one_of (λ name. arg_by_long line.rules name ≡ Some (F name)) all_flags (refl, (refl, (refl, tt)));
+      flag_long = is_one_of (λ name. arg_by_long line.rules name ≡ Some (F name)) all_flags (refl, (refl, (refl, (refl, tt))));
       valued_long = is_one_of (λ name. arg_by_long line.rules name ≡ Some (V name)) all_valued (refl, (refl, (refl, (refl, (refl, tt)))));
       valued_id = is_one_of (λ name. arg_by_id line.rules name ≡ Some (V name)) all_valued (refl, (refl, (refl, (refl, (refl, tt)))));
-      flag_some = λ name has. (is_one_of (λ n. 0 < length n) all_flags (omega arith, (omega arith, (omega arith, tt))) name has, all_apart.flag_names name has);
+      flag_some = λ name has. (is_one_of (λ n. 0 < length n) all_flags (omega arith, (omega arith, (omega arith, (omega arith, tt)))) name has, all_apart.flag_names name has);
       valued_some = λ name has. (is_one_of (λ n. 0 < length n) all_valued (omega arith, (omega arith, (omega arith, (omega arith, (omega arith, tt))))) name has, all_apart.valued_names name has);
     }
 
