@@ -1,5 +1,5 @@
 -- What is listed of the text of a target's tree is the target's listing, under the same names.
-use Rattle.std.proofs.Common.{ℕ, zero, suc, ◌+◌, ◌≡◌, ◌≤◌, List, [], ◌∷◌, ◌++◌, decimal, length, map, take, nat_lt, Option, None, Some, inl, inr, ap, ◌∙◌, sym, subst, refl}
+use Rattle.std.proofs.Common.{ℕ, zero, suc, ◌+◌, ◌≡◌, ◌≤◌, List, [], ◌∷◌, ◌++◌, decimal, length, map, take, nat_lt, Option, None, Some, inl, inr, ap, ◌∙◌, sym, subst, refl, codes}
 use Rattle.std.specs.List.{AllByRecursion, flat_map}
 use lib.ListN.{length-map}
 use Rattle.std.proofs.lemmas.List.{take-map}
