@@ -18,7 +18,7 @@ returns-clause-page g c =
     let paging = c.args.paging.now in
     let page = λ (key : List ℕ) (model : FlatModel). cuts_text c.args.target.now paging c.args.tokens key model.system in
     let asked = asked_digits c.args.tokens paging.after c.args.root.now c.args.target.now paging.max_order in
-    let key = c.asked_digest.ensures ∙ ap asked c.items.ensures.items in
+    let key = c.asked_digest-key.ensures ∙ ap asked c.items.ensures.items in
     prints_on (model_of_texts c.args.root.now c.args.texts) (page (asked c.args.texts)) c.in_ok-model.model c.write_cuts.result _ _ _ _ c.in_ok-model.ensures.meets
     (subst (λ digits. Prints (page digits c.in_ok-model.model) c.write_cuts.result (g.S.Sink.taken c.args.out.now) (g.S.Sink.taken c.write_cuts.new.out) (g.S.Sink.faults c.args.out.now) (g.S.Sink.faults c.write_cuts.new.out)) key c.write_cuts.ensures.page)
 

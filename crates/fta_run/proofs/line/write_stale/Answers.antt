@@ -11,6 +11,7 @@ second : List ℕ → List ℕ
 second input = codes " " ++ (input ++ codes "\n")
 
 whole : (token input : List ℕ) → codes "aadl_fta: " ++ (stale_text token input ++ codes "\n") ≡ first token ++ second input
+unfolding second first
 whole token input =
     ap (λ rest. codes "aadl_fta: K2 StaleToken " ++ rest) (append_assoc token (32 ∷ input) (codes "\n")) ∙ sym (append_assoc (codes "aadl_fta: K2 StaleToken ") token (second input))
 
