@@ -4,14 +4,13 @@ use Rattle.cutset_writer.proofs.Writing.{wrote_not, wrote_then}
 use Rattle.fta_run.specs.Line.{stale_text}
 use Rattle.fta_run.proofs.line.write_stale.Goals as goal
 
-first : List ℕ → List ℕ
+abbrev first : List ℕ → List ℕ
 first token = codes "aadl_fta: K2 StaleToken " ++ token
 
-second : List ℕ → List ℕ
+abbrev second : List ℕ → List ℕ
 second input = codes " " ++ (input ++ codes "\n")
 
 whole : (token input : List ℕ) → codes "aadl_fta: " ++ (stale_text token input ++ codes "\n") ≡ first token ++ second input
-unfolding second first
 whole token input =
     ap (λ rest. codes "aadl_fta: K2 StaleToken " ++ rest) (append_assoc token (32 ∷ input) (codes "\n")) ∙ sym (append_assoc (codes "aadl_fta: K2 StaleToken ") token (second input))
 
