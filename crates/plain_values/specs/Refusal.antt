@@ -9,7 +9,7 @@ use Rattle.plain_values.specs.declared.refusal.Code.TheVariants.{BadByte, OpenSt
 use Rattle.plain_values.specs.declared.refusal.Code.TheVariants.{UnknownClassifier, CyclicExtends, UnknownMember, DuplicateName, UnknownType}
 use Rattle.plain_values.specs.declared.refusal.Code.TheVariants.{CyclicType, UnknownPoint, NotContained, UnknownState, UnknownTrigger}
 use Rattle.plain_values.specs.declared.refusal.Code.TheVariants.{UnknownSubcomponent, UnknownEnd, UnknownMachine, Prototype, Array, FeatureGroup}
-use Rattle.plain_values.specs.declared.refusal.Code.TheVariants.{TypeProduct, OrLess, NoErrorCondition, Others, Recovery, ConnectionError, Typed}
+use Rattle.plain_values.specs.declared.refusal.Code.TheVariants.{TypeProduct, OrLess, NoErrorCondition, Others, Recovery, ConnectionError}
 use Rattle.plain_values.specs.declared.refusal.Code.TheVariants.{Mapping, MachineExtends, FileTooLong, TooManyFiles, TooMuchText, TooNested}
 use Rattle.plain_values.specs.declared.refusal.Code.TheVariants.{TooManyComponents, TooDeep, TooManyFacts, TooManyEvents, TooManyTypes, TooManyPlaces}
 use Rattle.plain_values.specs.declared.refusal.Code.TheVariants.{SliceTooLarge, TooManySliceEvents, TooManyGates, TooManyLinks, UnknownTarget}
@@ -46,7 +46,6 @@ code_text NoErrorCondition = codes "P6 NoErrorCondition"
 code_text Others = codes "P7 Others"
 code_text Recovery = codes "P8 Recovery"
 code_text ConnectionError = codes "P9 ConnectionError"
-code_text Typed = codes "P10 Typed"
 code_text Mapping = codes "P11 Mapping"
 code_text MachineExtends = codes "P12 MachineExtends"
 code_text FileTooLong = codes "M1 FileTooLong"

@@ -65,8 +65,6 @@ pub enum Code {
     Recovery,
     /// Error behavior of a connection.
     ConnectionError,
-    /// A set of types at a state or an event.
-    Typed,
     /// A use of mappings, equivalences or transformations.
     Mapping,
     /// A machine that extends another.
@@ -161,7 +159,6 @@ impl Code {
             Code::Others => "P7 Others",
             Code::Recovery => "P8 Recovery",
             Code::ConnectionError => "P9 ConnectionError",
-            Code::Typed => "P10 Typed",
             Code::Mapping => "P11 Mapping",
             Code::MachineExtends => "P12 MachineExtends",
             Code::FileTooLong => "M1 FileTooLong",
