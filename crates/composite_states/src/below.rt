@@ -19,7 +19,6 @@ use std::marker::Model;
 /// The states of the components below a component.
 pub trait StatesBelow<'a> {
     ghost use Rattle.std.specs.Prelude.{◌≡◌, List, Option, ℕ, option_copied};
-
     ghost use Rattle.propagation_points.specs.States.{Sort as Seen};
 
     ghost states_at: { Self → List (List ℕ) → Option (List Seen) };
@@ -116,10 +115,7 @@ fn known_state<'b, 'a, B: StatesBelow<'a>>(
 }
 
 /// The states of the component below to which these names lead; without a name they lead to none.
-fn below_at<'b, 'a, B: StatesBelow<'a>>(
-    below: &'b B,
-    path: &[Identifier],
-) -> Option<&'b Sorts<'a>>
+fn below_at<'b, 'a, B: StatesBelow<'a>>(below: &'b B, path: &[Identifier]) -> Option<&'b Sorts<'a>>
     ensures { option_copied result ≡ below_at (B.states_at below.now) path.now }
 {
     if path.len() == 0 {

@@ -25,7 +25,13 @@ pub(crate) fn events_of<'a>(
     ensures events { IfOk result (λ events. events ≡ events_of types.old machine.now effective.now) }
 {
     let events = machine_events(alloc, types, machine, machine_scope(texts))?;
-    with_clauses(alloc, types, events, effective.behavior.events.items(), texts)
+    with_clauses(
+        alloc,
+        types,
+        events,
+        effective.behavior.events.items(),
+        texts,
+    )
 }
 
 fn machine_events<'a>(

@@ -106,9 +106,21 @@ fn step_of<'a>(
     ensures step { IfOk result (λ step. option_to_list step ≡ step_of place.now types.old transition.now) }
     ensures first { OnOk result (first.new ≡ nearer first.old (least (transition_refusals place.now types.old transition.now))) }
 {
-    let origin = origin_of(alloc, types, &place.setting, &transition.source.state, first)?;
+    let origin = origin_of(
+        alloc,
+        types,
+        &place.setting,
+        &transition.source.state,
+        first,
+    )?;
     let trigger = cause_of(alloc, place, types, &transition.condition, first)?;
-    let targets = targets_of(alloc, types, &place.setting, transition.targets.items(), first)?;
+    let targets = targets_of(
+        alloc,
+        types,
+        &place.setting,
+        transition.targets.items(),
+        first,
+    )?;
     Ok(step_from(origin, trigger, targets))
 }
 

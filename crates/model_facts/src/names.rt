@@ -39,7 +39,10 @@ pub fn event_key(alloc: Global, assembly: &Assembly, event: EventKey) -> Mem<Lis
 {
     let owner = event.owner;
     match event.kind {
-        EventKind::Declared(number) => one_name(alloc, bare_name(event_variant(assembly, owner, number))),
+        EventKind::Declared(number) => one_name(
+            alloc,
+            bare_name(event_variant(assembly, owner, number)),
+        ),
         EventKind::Source(number) => one_name(alloc, source_name(assembly, owner, number)),
         EventKind::Arrival(point, number) => two_names(
             alloc,
@@ -190,11 +193,7 @@ fn bare_name<'m>(variant: Option<&Variant<'m>>) -> &'m [u8]
 }
 
 /// The variant of a state of a component.
-fn state_variant<'m>(
-    assembly: &Assembly<'m>,
-    owner: u32,
-    number: u32,
-) -> Option<&'m Variant<'m>>
+fn state_variant<'m>(assembly: &Assembly<'m>, owner: u32, number: u32) -> Option<&'m Variant<'m>>
     ensures { option_copied result ≡ slice_get (all_variants (model_at assembly.now owner).states.sorts) number }
 {
     match assembly.model(owner) {
@@ -204,11 +203,7 @@ fn state_variant<'m>(
 }
 
 /// The variant of an error event of a component.
-fn event_variant<'m>(
-    assembly: &Assembly<'m>,
-    owner: u32,
-    number: u32,
-) -> Option<&'m Variant<'m>>
+fn event_variant<'m>(assembly: &Assembly<'m>, owner: u32, number: u32) -> Option<&'m Variant<'m>>
     ensures { option_copied result ≡ slice_get (all_variants (model_at assembly.now owner).behavior.events) number }
 {
     match assembly.model(owner) {

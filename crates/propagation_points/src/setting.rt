@@ -96,14 +96,7 @@ impl<'s, 'a> Setting<'s, 'a> {
         ensures held { IfOk result (λ held. held ≡ held_by types.old self.now.scope sort.now set.now) }
         ensures first { OnOk result (first.new ≡ nearer first.old (least (sort_refusals types.old self.now.scope (Some sort.now) set.now))) }
     {
-        let reach = reach_within(
-            alloc,
-            types,
-            self.scope,
-            Some(types_of(sort)),
-            set,
-            first,
-        )?;
+        let reach = reach_within(alloc, types, self.scope, Some(types_of(sort)), set, first)?;
         selected(alloc, sort.first(), sort.types(), &reach)
     }
 

@@ -187,11 +187,7 @@ fn add_variants<'a>(
     }
 }
 
-fn add_typed<'a>(
-    variants: &mut List<Variant<'a>>,
-    name: &'a Identifier,
-    types: &[u32],
-) -> Mem<()>
+fn add_typed<'a>(variants: &mut List<Variant<'a>>, name: &'a Identifier, types: &[u32]) -> Mem<()>
     ensures { OnOk result (variants.new ≡ variants.old ++ map (λ type. record { name = name.now; type = type }) (map Some types.now)) }
 {
     for number in types {

@@ -7,8 +7,7 @@ use Rattle.error_models.proofs.tree.Tree.of.Goals as goal
 
 pub invariant_of-result : goal.invariant_of-result
 invariant_of-result c =
-    let packages = c.args.instance.now.packages in
-    (
+    let packages = c.args.instance.now.packages in (
       record {
         parts = c.in_ok-parts.ensures;
         states = c.in_ok-states.ensures.states ∙ (λ i. map (states_of (c.requires.table i)) (c.requires.machines i)) ∙ maps (kind_machine packages) (states_of (table_of packages)) c.args.instance.now.kinds;
