@@ -40,7 +40,7 @@ fn machine_events<'a>(
     machine: &Option<UsedMachine<'a>>,
     scope: Option<&Scope>,
 ) -> Mem<Sorts<'a>>
-    requires { option_copied scope.entry ≡ option_map (machine_scope types.old) machine.now }
+    requires { option_copied scope ≡ option_map (machine_scope types.old) machine.now }
     ensures kept { types.new ≡ types.old }
     ensures events { IfOk result (λ events. events ≡ fold (keep_event types.old) [] (machine_events types.old machine.now)) }
 {
