@@ -1,14 +1,13 @@
 -- Bindings of components to processors and to memories (AADL: the properties Actual_Processor_Binding and
 -- Actual_Memory_Binding).
-use Rattle.std.specs.Prelude.{ℕ, Bool, true, false, suc, List, [], ◌∷◌, codes, flat_map, length, Option, option_to_list}
+use Rattle.std.specs.Prelude.{ℕ, Bool, true, false, suc, List, [], ◌∷◌, codes, flat_map, length, Option, None, Some, option_to_list}
 use Rattle.aadl_syntax.specs.declared.core_model.Binding.{Binding}
 use Rattle.aadl_syntax.specs.declared.token.Token.{Token}
 use Rattle.grammar_rules.specs.Parts.{parts_after}
 use Rattle.grammar_rules.specs.Rules.{Rule, chooses, ends, gives, ◌>>=◌}
-use Rattle.grammar_rules.specs.Running.{run}
-use Rattle.grammar_rules.specs.Spans.{ends_balanced, until}
+use Rattle.grammar_rules.specs.Running.{Outcome, read, dead, run}
+use Rattle.grammar_rules.specs.Spans.{tail_end}
 use Rattle.grammar_rules.specs.Tokens.{identifier, is_sign, is_word, sign, word}
-use Rattle.property_reader.specs.Fields.{value_read}
 use Rattle.bindings.specs.Pieces.{section_pieces}
 
 -- ---- paths of components
@@ -91,16 +90,15 @@ binding_name = chooses (is_word (codes "deployment_properties") ∷ [])
       binding_word)
     binding_word
 
--- [ "in" balanced ]
-unfoldable pub in_part : Rule (Unit {0})
-in_part = chooses (is_word (codes "in") ∷ [])
+-- [ "in" tail ] ";"
+unfoldable pub binding_end : Rule (Unit {0})
+binding_end = chooses (is_word (codes "in") ∷ [])
     (do
       _ ← word (codes "in")
-      _ ← until ends_balanced
-      gives tt)
-    (gives tt)
+      tail_end)
+    (sign (codes ";"))
 
--- binding-name "=>" references "applies" "to" targets [ "in" balanced ], and nothing behind it
+-- binding-name "=>" references "applies" "to" targets [ "in" tail ] ";", and nothing behind it
 unfoldable pub binding : Rule Binding
 binding = do
   memory ← binding_name
@@ -109,13 +107,18 @@ binding = do
   _ ← word (codes "applies")
   _ ← word (codes "to")
   its_targets ← targets
-  _ ← in_part
+  _ ← binding_end
   _ ← ends
   gives (record { memory = memory; references = its_references; targets = its_targets })
 
+-- the binding of a reading, if there is one
+abbrev pub binding_read : Outcome Binding → Option Binding
+binding_read (read its rest unseen) = Some its
+binding_read (dead unseen) = None
+
 -- The binding as which a piece reads, if it reads so.
 abbrev pub piece_binding : List Token → Option Binding
-piece_binding tokens = value_read (run 0 binding tokens (suc (length tokens)))
+piece_binding tokens = binding_read (run 0 binding tokens (suc (length tokens)))
 
 -- The bindings that a `properties` section of a classifier states, in their order; its other pieces say nothing.
 abbrev pub bindings_in : List Token → List Binding

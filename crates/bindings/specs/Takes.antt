@@ -1,12 +1,7 @@
--- The parts of pieces and of bindings take at least one token.
+-- The further parts of a binding take at least one token.
 use Rattle.grammar_rules.specs.Parts.{TakesTokens}
-use Rattle.grammar_rules.proofs.Takes.{takes_after, takes_first, sign_takes}
+use Rattle.grammar_rules.proofs.Takes.{takes_first, sign_takes}
 use Rattle.bindings.specs.Bindings.{dotted_name, further_path, further_reference}
-use Rattle.bindings.specs.Pieces.{piece}
-
-pub piece-takes : TakesTokens piece
-unfolding piece
-piece-takes = takes_after (λ tokens. takes_first (sign_takes _))
 
 pub dotted_name-takes : TakesTokens dotted_name
 unfolding dotted_name

@@ -1,11 +1,10 @@
 ghost use Rattle.std.specs.Prelude.{◌≡◌, ◌++◌, [], ◌∷◌, IfOk, OnOk};
 ghost use Rattle.grammar_rules.specs.Reader.{Gives};
-ghost use Rattle.grammar_rules.specs.Spans.{ends_balanced};
-ghost use Rattle.bindings.specs.Bindings.{binding, binding_name, binding_word, bindings_in, dotted_name, further_path, further_reference, in_part, path, piece_binding, reference, reference_list, references, targets};
+ghost use Rattle.bindings.specs.Bindings.{binding, binding_name, binding_word, binding_end, bindings_in, dotted_name, further_path, further_reference, path, piece_binding, reference, reference_list, references, targets};
 
 use crate::piece::section_pieces;
 use aadl_syntax::{Binding, Identifier, TokenList};
-use grammar_rules::{Balanced, Parts, ReadError, Reader};
+use grammar_rules::{Parts, ReadError, Reader, tail_end};
 use plain_values::{List, Mem};
 use std::alloc::{AllocError, Global};
 
@@ -41,7 +40,7 @@ fn binding(reader: &mut Reader) -> Result<Binding, ReadError>
     reader.word(b"applies")?;
     reader.word(b"to")?;
     let targets = targets(reader)?;
-    in_part(reader)?;
+    binding_end(reader)?;
     reader.end()?;
     Ok(Binding {
         memory,
@@ -75,16 +74,15 @@ fn binding_word(reader: &mut Reader) -> Result<bool, ReadError>
     Ok(false)
 }
 
-#[tactic(auto, unfolding(crate::specs::Bindings::in_part))]
-fn in_part(reader: &mut Reader) -> Result<(), ReadError>
-    ensures { Gives result in_part reader.old reader.new }
+#[tactic(auto, unfolding(crate::specs::Bindings::binding_end))]
+fn binding_end(reader: &mut Reader) -> Result<(), ReadError>
+    ensures { Gives result binding_end reader.old reader.new }
 {
     if reader.word_at(0, b"in") {
         reader.word(b"in")?;
-        reader.until::<Balanced>()?;
-        return Ok(());
+        return tail_end(reader);
     }
-    Ok(())
+    reader.sign(b";")
 }
 
 #[tactic(auto, unfolding(crate::specs::Bindings::references))]

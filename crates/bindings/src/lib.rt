@@ -6,4 +6,4 @@ mod laws;
 mod piece;
 
 pub use binding::add_bindings;
-pub use laws::{binding_reads, pieces_read};
+pub use laws::{binding_reads, pieces_are_all};

@@ -1,84 +1,65 @@
-ghost use Rattle.std.specs.Prelude.{◌≡◌, [], ◌∷◌, IfOk};
-ghost use Rattle.grammar_rules.specs.Reader.{Begins, Gives};
-ghost use Rattle.bindings.specs.Pieces.{is_any, piece, pieces, section_pieces};
+ghost use Rattle.std.specs.Prelude.{◌≡◌, ◌<◌, ◌≤◌, ◌&&◌, [], ◌∷◌, codes, take, drop, length, IfOk, IfSome, MatchOption};
+ghost use Rattle.aadl_syntax.specs.Token.{shown};
+ghost use Rattle.grammar_rules.specs.Spans.{opens};
+ghost use Rattle.grammar_rules.specs.Tokens.{is_sign};
+ghost use Rattle.bindings.specs.Pieces.{section_pieces};
 
-use aadl_syntax::{TokenList, TokenRef};
-use grammar_rules::{Parts, ReadError, Reader, Span, is_sign};
+use aadl_syntax::{TokenKind, TokenList, TokenRef, TokenSlice};
+use grammar_rules::{closes, is_sign};
 use plain_values::{List, Mem};
-use std::alloc::{AllocError, Global};
+use std::alloc::Global;
 
-/// The pieces of a section: the tokens before each semicolon that is in no brackets.
+/// The pieces of a section, each with the semicolon that ends it.
 pub(crate) fn section_pieces(alloc: Global, tokens: &TokenList) -> Mem<List<TokenList>>
     ensures { IfOk result (λ pieces. pieces ≡ section_pieces tokens.now) }
 {
-    let mut reader = Reader::new(alloc, 0, tokens);
-    match pieces(&mut reader) {
-        Ok(pieces) => Ok(pieces),
-        Err(ReadError::Refused) => Ok(List::new(alloc)),
-        Err(ReadError::Memory) => Err(AllocError),
+    let mut left = TokenSlice::of(tokens);
+    let mut pieces = List::new(alloc);
+    while let Some(count) = first_piece(&left) {
+        pieces.push(left.front(count).copied(alloc)?)?;
+        left = left.rest(count);
     }
-}
-
-#[tactic(auto, unfolding(crate::specs::Pieces::pieces))]
-fn pieces(reader: &mut Reader) -> Result<List<TokenList>, ReadError>
-    ensures { Gives result pieces reader.old reader.new }
-{
-    let pieces = reader.parts::<AllPieces>()?;
-    reader.end()?;
     Ok(pieces)
 }
 
-#[tactic(auto, unfolding(crate::specs::Pieces::piece))]
-fn piece(reader: &mut Reader) -> Result<TokenList, ReadError>
-    ensures { Gives result piece reader.old reader.new }
+/// How many tokens the first piece has, if there is one.
+fn first_piece(tokens: &TokenSlice) -> Option<usize>
+    ensures within { IfSome result (λ count. (0 < count) × (count ≤ length tokens.now)) }
+    ensures piece { MatchOption result (section_pieces tokens.now ≡ []) (λ count. section_pieces tokens.now ≡ take count tokens.now ∷ section_pieces (drop count tokens.now)) }
 {
-    let tokens = reader.until::<UpToSemicolon>()?.copied(reader.alloc())?;
-    reader.sign(b";")?;
-    Ok(tokens)
+    let mut opened: usize = 0;
+    let mut closed: usize = 0;
+    for k in 0..tokens.len() {
+        let Some(token) = tokens.get(k) else {
+            return None;
+        };
+        if ends(opened == closed, &token) {
+            return Some(k + 1);
+        }
+        if opens(&token) {
+            opened += 1;
+        }
+        if closes(&token) {
+            closed += 1;
+        }
+    }
+    None
 }
 
-#[tactic(auto, unfolding(crate::specs::Pieces::is_any))]
-fn any_at(reader: &mut Reader) -> bool
-    ensures { Begins result 0 (is_any ∷ []) reader.old reader.new }
+/// Whether a token ends a piece, where as many brackets were opened as closed or not.
+fn ends(even: bool, token: &TokenRef) -> bool
+    ensures { result ≡ (even && is_sign (codes ";") (shown token.now)) }
 {
-    reader.look(0).is_some()
+    even && is_sign(token, b";")
 }
 
-// The pieces of a section.
-struct AllPieces;
-
-impl Parts for AllPieces {
-    ghost use Rattle.std.specs.Prelude.{[], ◌∷◌};
-    ghost use Rattle.bindings.specs.Pieces.{is_any, piece};
-    ghost use Rattle.bindings.specs.Takes.{piece-takes};
-
-    type Part = TokenList;
-
-    ghost tests = { is_any ∷ [] };
-
-    ghost rule = { piece };
-
-    fn begins(reader: &mut Reader) -> bool {
-        any_at(reader)
-    }
-
-    fn part(reader: &mut Reader) -> Result<TokenList, ReadError> {
-        piece(reader)
-    }
-
-    ghost takes_tokens = { piece-takes };
-}
-
-// Tokens up to a semicolon at depth 0; the depth may fall below 0, and a semicolon does not count there.
-struct UpToSemicolon;
-
-impl Span for UpToSemicolon {
-    ghost use Rattle.bindings.specs.Pieces.{ends_piece};
-
-    ghost stops = { ends_piece };
-
-    #[tactic(auto, unfolding(crate::specs::Pieces::ends_piece))]
-    fn stops_at(_before: Option<TokenRef>, token: &TokenRef) -> bool {
-        is_sign(token, b";")
-    }
+/// Whether a token is an opening bracket.
+#[tactic(auto, unfolding(grammar_rules::specs::Spans::opens, grammar_rules::specs::Tokens::is_kind))]
+fn opens(token: &TokenRef) -> bool
+    ensures { result ≡ opens (shown token.now) }
+{
+    is_sign(token, b"(")
+        || is_sign(token, b"[")
+        || is_sign(token, b"{")
+        || token.kind == TokenKind::AnnexBegin
 }
