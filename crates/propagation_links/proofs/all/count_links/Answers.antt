@@ -1,4 +1,6 @@
-use Rattle.std.proofs.Common.{◌<◌, ◌∷◌, [], ap, ◌∙◌, length, arith, sym}
+use Rattle.std.proofs.Common.{◌<◌, ◌≤◌, ◌∷◌, [], ap, ◌∙◌, length, arith, sum, sym}
+use Rattle.std.proofs.lemmas.List.{take_all}
+use Rattle.plain_values.specs.Numbered.{numbered_from}
 use Rattle.instantiator.specs.Whole.{Instance, effective_in}
 use Rattle.propagation_links.specs.Refused.{count_in}
 use Rattle.propagation_links.proofs.LinkLaws.{count-more}
