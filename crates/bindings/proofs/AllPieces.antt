@@ -33,10 +33,11 @@ closes-not t is = let (kind, text) = semicolon-is t.kind t.text is in λ i. clos
 -- ---- what stands behind a piece is even
 
 counts-behind : (test : Token → Bool) (passed : List Token) (t : Token) (ts : List Token) → test t ≡ false → count_by test (passed ++ t ∷ ts) ≡ count_by test passed + count_by test ts
-counts-behind test passed t ts no =
-    let both = sum_by-append (λ x. cond (test x) 1 0) passed (t ∷ ts) in
-    let one = sum_by-cons (λ x. cond (test x) 1 0) t ts in
-    let none : cond (test t) 1 0 ≡ 0 = ap (λ b. cond b 1 0) no in
+counts-behind test passed t ts fails =
+    let count : Bool → ℕ = λ b. cond b 1 0 in
+    let both = sum_by-append (λ x. count (test x)) passed (t ∷ ts) in
+    let one = sum_by-cons (λ x. count (test x)) t ts in
+    let none : count (test t) ≡ count false = ap count fails in
     omega (arith, both, one, none)
 
 even-behind : (passed : List Token) (t : Token) (ts : List Token) → is_sign (codes ";") t ≡ true → is_even passed ≡ true → is_even (passed ++ t ∷ ts) ≡ true → is_even ts ≡ true

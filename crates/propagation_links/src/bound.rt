@@ -92,7 +92,8 @@ pub(crate) fn bounds_of<'r>(
     let tables = BindingTables::of(alloc, instance)?;
     let mut bounds = List::new(alloc);
     for number in 0..instance.components().len() {
-        bounds.push(tables.bound_in(alloc, number as u32)?)?;
+        let bound = tables.bound_in(alloc, number as u32)?;
+        bounds.push(bound)?;
     }
     Ok(bounds)
 }

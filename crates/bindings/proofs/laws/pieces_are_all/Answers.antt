@@ -1,3 +1,4 @@
+use Rattle.std.proofs.Common.{[]}
 use Rattle.bindings.proofs.AllPieces.{all-pieces}
 use Rattle.bindings.proofs.laws.pieces_are_all.Goals as goal
 
