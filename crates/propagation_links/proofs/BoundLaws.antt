@@ -1,6 +1,7 @@
 -- Laws of what components are bound to.
-use Rattle.std.proofs.Common.{ℕ, suc, ◌+◌, ◌≡◌, ◌<◌, ◌≤◌, List, [], ◌∷◌, ◌++◌, length, get_or, map, take, None, refl, sym, ap, ◌∙◌}
-use Rattle.std.proofs.lemmas.List.{get_or_default, take_all}
+use Rattle.std.proofs.Common.{ℕ, suc, ◌+◌, ◌≡◌, ◌<◌, ◌≤◌, List, [], ◌∷◌, ◌++◌, length, get_or, map, sum, take, None, refl, sym, ap, ◌∙◌}
+use Rattle.std.proofs.lemmas.List.{get_or_default, map-append, take_all}
+use Rattle.std.proofs.lemmas.List.Sums.{sum_by_push}
 use Rattle.aadl_syntax.specs.declared.core_model.PackageUnit.{PackageUnit}
 use Rattle.package_index.specs.declared.id.ClassifierId.{ClassifierId}
 use Rattle.package_index.proofs.Loops.{numbered-more}
@@ -11,6 +12,8 @@ use Rattle.instantiator.specs.Tables.{kind_of}
 use Rattle.instantiator.specs.Whole.{Instance}
 use Rattle.propagation_links.specs.declared.bound.BoundTo.{BoundTo}
 use Rattle.propagation_links.specs.Bound.{all_bounds, bound_in}
+use Rattle.propagation_links.specs.Refused.{count_bound}
+use Rattle.propagation_links.proofs.FittingLaws.{front-more}
 
 -- what is made of kinds is made of their classifiers
 pub kinds-mapped : {B : Type 0} (packages : List PackageUnit) (f : Kind → B) (h : ClassifierId → B) → ((id : ClassifierId) → f (kind_of packages id) ≡ h id) → (ids : List ClassifierId) → map f (map (kind_of packages) ids) ≡ map h ids
@@ -40,3 +43,10 @@ module _ (instance : Instance) where
   -- there is one for each component
   pub all-long : length (all_bounds instance) ≡ length instance.components
   all-long = long-from instance.components 0
+
+-- the references of what one component more is bound to
+pub counted-more : (bounds : List BoundTo) (i : ℕ) (bound : BoundTo) → i < length bounds → bound ≡ get_or bounds i bound → (before count : ℕ) → before ≡ sum (map count_bound (take i bounds)) → count ≡ count_bound bound
+    → before + count ≡ sum (map count_bound (take (i + 1) bounds))
+counted-more bounds i bound within is before count had one =
+    let more = ap (λ xs. sum (map count_bound xs)) (front-more bounds i bound within is) ∙ ap sum (map-append count_bound (take i bounds) (bound ∷ [])) ∙ sum_by_push (λ n. n) (map count_bound (take i bounds)) (count_bound bound) in
+    (λ j. had j + one j) ∙ sym more

@@ -1,12 +1,26 @@
+use Rattle.std.proofs.Common.{ap, sym, ◌∙◌}
 use Rattle.std.proofs.lemmas.Result.{err_from_is_err_and}
-use Rattle.propagation_links.specs.Steps.{AllLinked}
-use Rattle.propagation_links.proofs.LinkLaws.{components-stop, limit-stops}
+use Rattle.propagation_links.specs.Bound.{all_bounds}
+use Rattle.propagation_links.specs.Ends.{Pointed}
+use Rattle.propagation_links.proofs.LinkLaws.{all-accepted, all-linked, component-stops, limit-stops}
 use Rattle.propagation_links.proofs.all.links_of.Goals as goal
+
+pub within_limit-requires-bounds : goal.within_limit-requires-bounds
+within_limit-requires-bounds c = c.items.ensures.items ∙ c.in_ok-bounds.ensures.bounds ∙ sym (ap (λ (p : Pointed). all_bounds p.instance) c.new-pointed.ensures)
 
 pub returns-in_err-within_limit-clause-refused : goal.returns-in_err-within_limit-clause-refused
 returns-in_err-within_limit-clause-refused c =
-    let p = err_from_is_err_and c.from_residual.result c.from_residual.ensures.1 in
+    let p = err_from_is_err_and c.from_residual-in_err-within_limit.result c.from_residual-in_err-within_limit.ensures.1 in
     rw (p.1, p.2) (limit-stops _ c.new-pointed.result c.new-pointed.ensures c.in_err-within_limit.field-0.0 c.in_err-within_limit.ensures)
 
-pub returns-clause-refused : goal.returns-clause-refused
-returns-clause-refused c = components-stop _ c.new-pointed.result c.new-pointed.ensures (AllLinked c.new-pointed.result) c.all_links.result c.in_ok-within_limit.ensures c.all_links.ensures
+pub returns-in_err-connected-clause-refused : goal.returns-in_err-connected-clause-refused
+returns-in_err-connected-clause-refused c =
+    let p = err_from_is_err_and c.from_residual-in_err-connected.result c.from_residual-in_err-connected.ensures.1 in
+    rw (p.1, p.2) (component-stops _ c.new-pointed.result c.new-pointed.ensures c.in_err-connected.field-0.0 c.in_ok-within_limit.ensures c.in_err-connected.ensures)
+
+pub returns-clause-links : goal.returns-clause-links
+returns-clause-links c =
+    all-linked _ c.new-pointed.result c.new-pointed.ensures c.in_ok-connected.links c.add_all_bound.new.links _ c.in_ok-connected.ensures.are (c.items-2.ensures.items ∙ c.in_ok-bounds.ensures.bounds) c.in_ok-add_all_bound.ensures
+
+pub returns-clause-accepted : goal.returns-clause-accepted
+returns-clause-accepted c = all-accepted _ c.new-pointed.result c.new-pointed.ensures c.in_ok-within_limit.ensures c.in_ok-connected.ensures.accepted
