@@ -82,10 +82,7 @@ impl<'r> Model for BindingTables<'r> {
 
 /// What each component of an instance is bound to, in order: for each the binding of the outermost component on the way to it that
 /// has one with it as a target, and there the last.
-pub(crate) fn bounds_of<'r>(
-    alloc: Global,
-    instance: &'r Instance<'r, 'r>,
-) -> Mem<List<BoundTo<'r>>>
+pub(crate) fn bounds_of<'r>(alloc: Global, instance: &'r Instance<'r, 'r>) -> Mem<List<BoundTo<'r>>>
     ensures bounds { IfOk result (λ bounds. bounds ≡ all_bounds instance.now) }
     ensures few { IfOk result (λ bounds. length bounds ≤ 4096) }
 {
