@@ -1,4 +1,4 @@
-ghost use Rattle.std.specs.Prelude.{◌≡◌, ◌≤◌, ◌++◌, ◌∷◌, [], length, IfOk, OnOk, map, option_copied, option_map};
+ghost use Rattle.std.specs.Prelude.{◌≡◌, ◌≤◌, ◌<◌, ◌^◌, ◌++◌, ◌∷◌, [], length, IfOk, OnOk, map, option_copied, option_map};
 ghost use Rattle.instantiator.specs.Components.{component_below};
 ghost use Rattle.instantiator.specs.Whole.{classifier_at, effective_in};
 ghost use Rattle.propagation_links.specs.Bound.{all_bounds, bound_in, counting_along, last_binding, path_in};
@@ -42,7 +42,8 @@ impl<'r> StatedBinding<'r> {
 
     /// The references of the binding.
     pub(crate) fn references(&self) -> &'r [List<Identifier>]
-        ensures { result.now ≡ self.now.binding.references }
+        ensures references { result.now ≡ self.now.binding.references }
+        ensures few { length self.now.binding.references < 2 ^ 32 }
     {
         self.binding.references.items()
     }

@@ -1,12 +1,7 @@
-use Rattle.std.proofs.Common.{ap, sym, ◌∙◌}
+use Rattle.std.proofs.Common.{◌∙◌}
 use Rattle.std.proofs.lemmas.Result.{err_from_is_err_and}
-use Rattle.propagation_links.specs.Bound.{all_bounds}
-use Rattle.propagation_links.specs.Ends.{Pointed}
 use Rattle.propagation_links.proofs.LinkLaws.{all-accepted, all-linked, component-stops, limit-stops}
 use Rattle.propagation_links.proofs.all.links_of.Goals as goal
-
-pub within_limit-requires-bounds : goal.within_limit-requires-bounds
-within_limit-requires-bounds c = c.items.ensures.items ∙ c.in_ok-bounds.ensures.bounds ∙ sym (ap (λ (p : Pointed). all_bounds p.instance) c.new-pointed.ensures)
 
 pub returns-in_err-within_limit-clause-refused : goal.returns-in_err-within_limit-clause-refused
 returns-in_err-within_limit-clause-refused c =

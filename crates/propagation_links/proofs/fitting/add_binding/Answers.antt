@@ -14,7 +14,7 @@ loop-target-preserved c =
     let one = c.target-item.result in
     put-more (get same_words c.args.fitting.now) (get same_words c.loop-target.fitting) (get same_words c.put.new.fitting) _ _ one c.args.binding.now
     (λ p. any-more targets k one c.loop-target-test.true c.target-item.is p) c.loop-target.invariant
-    (subst (λ target. PutsAt (get same_words c.loop-target.fitting) (get same_words c.put.new.fitting) target c.args.binding.now) c.items-in-loop-target.ensures.items c.in_ok-put.ensures)
+    (subst (λ target. PutsAt (get same_words c.loop-target.fitting) (get same_words c.put.new.fitting) target c.args.binding.now) c.items.ensures.items c.in_ok-put.ensures)
 
 pub returns : goal.returns
 returns c =
