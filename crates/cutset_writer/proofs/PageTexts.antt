@@ -1,14 +1,14 @@
 -- A page, line by line.
-use Rattle.std.proofs.Common.{ne_eqb, ◌≡◌, ℕ, zero, suc, nat_lt, take, inl, inr, codes, ◌-◌, ◌≤◌, Bool, true, false, not, List, [], ◌∷◌, ◌++◌, length, Option, Some, None, filter, subst, Result, Err, if◌then◌else◌, refl, sym, ap, ◌∙◌, append_assoc, arith}
+use Rattle.std.proofs.Common.{ne_eqb, ◌≡◌, ℕ, zero, suc, nat_lt, take, inl, inr, codes, ◌-◌, ◌≤◌, Bool, true, false, not, List, [], ◌∷◌, ◌++◌, length, Option, Some, None, filter, subst, Result, Err, if◌then◌else◌, refl, sym, ap, ◌∙◌, append-nil, append_assoc, arith}
 use Rattle.std.proofs.lemmas.Bool.{cases_lt, false≢true, le-ltb, lt-ltb}
 use Rattle.std.specs.List.{flat_map}
 use Rattle.fta_outside.specs.Outside.{Rose, TookPrefix, with_bytes}
 use Rattle.fta_outside.proofs.Writing.{wrote_both}
 use Rattle.fault_system.specs.Systems.{System}
 use Rattle.fault_system.proofs.Elements.{each-at, each-made, In-filter}
-use Rattle.cutset_writer.specs.Pages.{HasRoom, goes_on, has_room, later, next_line, one_less}
+use Rattle.cutset_writer.specs.Pages.{HasRoom, goes_on, has_room, later, next_line, next_more, one_less}
 use Rattle.cutset_writer.specs.Steps.{IsWritten}
-use Rattle.cutset_writer.specs.Text.{last_line, page_text, set_line}
+use Rattle.cutset_writer.specs.Text.{last_line, last_of, marked_text, more_line, set_line}
 use Rattle.cutset_writer.specs.Written.{Writes}
 use Rattle.cutset_writer.specs.declared.form.SetForm.{SetForm}
 use Rattle.cutset_writer.proofs.Writing.{wrote_not, wrote_then}
@@ -32,57 +32,83 @@ take-nothing : (n : ℕ) → take {A = List ℕ} n [] ≡ []
 take-nothing zero = refl
 take-nothing (suc n) = refl
 
+-- the set that is named next: the first of those that are left
+abbrev pub place_next : Option (List ℕ) → List (List ℕ) → Option (List ℕ)
+place_next last [] = last
+place_next last (set ∷ sets) = Some set
+
 -- where a page goes on it is the next line and the page of the sets behind it
-pub page-on : (form : SetForm) (system : System) (limit : Option ℕ) (sets : List (List ℕ)) → goes_on limit sets ≡ true → page_text form system limit sets ≡ next_line form system limit sets ++ page_text form system (one_less limit) (later sets)
-page-on form system limit [] on = absurd (false≢true on)
-page-on form system None (set ∷ sets) on = append_assoc (set_line form system set) (flat_map (set_line form system) sets) (codes "end\n")
-page-on form system (Some zero) (set ∷ sets) on = absurd (false≢true on)
-page-on form system (Some (suc n)) (set ∷ sets) on =
-    append_assoc (set_line form system set) (flat_map (set_line form system) (take n sets)) (last_line (nat_lt (suc n) (suc (length sets))))
-    ∙ ap (λ more. set_line form system set ++ (flat_map (set_line form system) (take n sets) ++ last_line more)) (lt-suc n (length sets))
-    ∙ ap (λ m. set_line form system set ++ page_text form system (Some m) sets) (less n)
-    ∙ ap (λ b. (if b then set_line form system set else codes "more\n") ++ page_text form system (Some (suc n - 1)) sets) (sym on)
+pub page-on : (form : SetForm) (system : System) (key last : Option (List ℕ)) (more : List ℕ) (limit : Option ℕ) (sets : List (List ℕ)) → goes_on limit sets ≡ true
+    → marked_text form system key last limit sets ≡ next_line form system more limit sets ++ marked_text form system key (place_next last sets) (one_less limit) (later sets)
+page-on form system key last more limit [] on = absurd (false≢true on)
+page-on form system key last more None (set ∷ sets) on = append_assoc (set_line form system set) (flat_map (set_line form system) sets) (codes "end\n")
+page-on form system key last more (Some zero) (set ∷ sets) on = absurd (false≢true on)
+page-on form system key last more (Some (suc n)) (set ∷ sets) on =
+    let line = more_line key system (last_of (Some set) (take n sets)) in
+    append_assoc (set_line form system set) (flat_map (set_line form system) (take n sets)) (last_line line (nat_lt (suc n) (suc (length sets))))
+    ∙ ap (λ further. set_line form system set ++ (flat_map (set_line form system) (take n sets) ++ last_line line further)) (lt-suc n (length sets))
+    ∙ ap (λ m. set_line form system set ++ marked_text form system key (Some set) (Some m) sets) (less n)
+    ∙ ap (λ b. (if b then set_line form system set else more) ++ marked_text form system key (Some set) (Some (suc n - 1)) sets) (sym on)
 
 -- where it does not, it is the next line
-pub page-end : (form : SetForm) (system : System) (limit : Option ℕ) (sets : List (List ℕ)) → goes_on limit sets ≡ false → page_text form system limit sets ≡ next_line form system limit sets ++ []
-page-end form system None [] off = refl
-page-end form system (Some limit) [] off = ap (λ l. flat_map (set_line form system) l ++ last_line (nat_lt limit 0)) (take-nothing limit) ∙ ap last_line (none-below limit)
-page-end form system None (set ∷ sets) off = absurd (false≢true (sym off))
-page-end form system (Some zero) (set ∷ sets) off = ap last_line (lt-ltb 0 (suc (length sets)) (omega arith))
-page-end form system (Some (suc n)) (set ∷ sets) off = absurd (false≢true (sym off ∙ some-room n))
+pub page-end : (form : SetForm) (system : System) (key last : Option (List ℕ)) (more : List ℕ) (limit : Option ℕ) (sets : List (List ℕ)) → more ≡ more_line key system last → goes_on limit sets ≡ false
+    → marked_text form system key last limit sets ≡ next_line form system more limit sets ++ []
+page-end form system key last more None [] is off = refl
+page-end form system key last more (Some limit) [] is off =
+    ap (λ l. flat_map (set_line form system) l ++ last_line (more_line key system (last_of last l)) (nat_lt limit 0)) (take-nothing limit) ∙ ap (last_line (more_line key system last)) (none-below limit)
+page-end form system key last more None (set ∷ sets) is off = absurd (false≢true (sym off))
+page-end form system key last more (Some zero) (set ∷ sets) is off =
+    ap (last_line (more_line key system last)) (lt-ltb 0 (suc (length sets)) (omega arith)) ∙ sym is ∙ sym (append-nil more)
+page-end form system key last more (Some (suc n)) (set ∷ sets) is off = absurd (false≢true (sym off ∙ some-room n))
 
 -- each page begins with the next line
-page-begins : (form : SetForm) (system : System) (limit : Option ℕ) (sets : List (List ℕ)) → (rest : List ℕ) × (page_text form system limit sets ≡ next_line form system limit sets ++ rest)
-page-begins form system limit sets = by (goes_on limit sets) refl where
-  by : (on : Bool) → goes_on limit sets ≡ on → (rest : List ℕ) × (page_text form system limit sets ≡ next_line form system limit sets ++ rest)
-  by true on = (page_text form system (one_less limit) (later sets), page-on form system limit sets on)
-  by false off = ([], page-end form system limit sets off)
+page-begins : (form : SetForm) (system : System) (key last : Option (List ℕ)) (more : List ℕ) (limit : Option ℕ) (sets : List (List ℕ)) → more ≡ more_line key system last
+    → (rest : List ℕ) × (marked_text form system key last limit sets ≡ next_line form system more limit sets ++ rest)
+page-begins form system key last more limit sets is = by (goes_on limit sets) refl where
+  by : (on : Bool) → goes_on limit sets ≡ on → (rest : List ℕ) × (marked_text form system key last limit sets ≡ next_line form system more limit sets ++ rest)
+  by true on = (marked_text form system key (place_next last sets) (one_less limit) (later sets), page-on form system key last more limit sets on)
+  by false off = ([], page-end form system key last more limit sets is off)
 
 -- a line was not written whole
-pub page_stopped : {T E : Type 0} (form : SetForm) (system : System) (limit : Option ℕ) (sets : List (List ℕ)) (t u v : Option (List ℕ)) (f g h room : ℕ) (limit_left : Option ℕ) (left : List (List ℕ)) (r : Result T E) (e : E) → r ≡ Err e → IsWritten form system limit sets t u f g room limit_left left
-    → (TookPrefix u v (next_line form system limit_left left) × Rose g h) × (g ≤ h) → Writes r (page_text form system limit sets) t v f h
-page_stopped form system limit sets t u v f g h room limit_left left r e is w stopped =
-    let begins = page-begins form system limit_left left in
-    wrote_then r t u v f g h w.front (page_text form system limit_left left) (page_text form system limit sets) w.rest w.taken w.faults
-    (wrote_not r e is u v g h (next_line form system limit_left left) begins.0 (page_text form system limit_left left) begins.1 stopped)
+pub page_stopped : {T E : Type 0} (form : SetForm) (system : System) (key last : Option (List ℕ)) (limit : Option ℕ) (sets : List (List ℕ)) (t u v : Option (List ℕ)) (f g h : ℕ) (more : List ℕ) (limit_left : Option ℕ) (left : List (List ℕ)) (r : Result T E) (e : E) → r ≡ Err e
+    → IsWritten form system key last limit sets t u f g more limit_left left → (TookPrefix u v (next_line form system more limit_left left) × Rose g h) × (g ≤ h) → Writes r (marked_text form system key last limit sets) t v f h
+page_stopped form system key last limit sets t u v f g h more limit_left left r e is w stopped =
+    let begins = page-begins form system key w.place more limit_left left w.named in
+    wrote_then r t u v f g h w.front (marked_text form system key w.place limit_left left) (marked_text form system key last limit sets) w.rest w.taken w.faults
+    (wrote_not r e is u v g h (next_line form system more limit_left left) begins.0 (marked_text form system key w.place limit_left left) begins.1 stopped)
 
-room-later : (system : System) (room wider : ℕ) (sets : List (List ℕ)) → room ≤ wider → HasRoom system room sets → HasRoom system wider (later sets)
-room-later system room wider [] grows has = tt
-room-later system room wider (set ∷ sets) grows has = each-made _ sets (λ other here form. omega (arith, each-at (λ s. (form : SetForm) → length (set_line form system s) ≤ room) other sets has.1 here form, grows))
+-- the last line was written
+pub page_ended : (form : SetForm) (system : System) (key last : Option (List ℕ)) (limit : Option ℕ) (sets : List (List ℕ)) (t u v : Option (List ℕ)) (f g h : ℕ) (more : List ℕ) (limit_left : Option ℕ) (left : List (List ℕ)) (on : Bool)
+    → IsWritten form system key last limit sets t u f g more limit_left left → on ≡ goes_on limit_left left → on ≡ false → v ≡ with_bytes u (next_line form system more limit_left left) → g ≤ h → (v ≡ with_bytes t (marked_text form system key last limit sets)) × (f ≤ h)
+page_ended form system key last limit sets t u v f g h more limit_left left on w goes off wrote grows =
+    let faults = w.faults in
+    let whole = w.rest ∙ ap (λ p. w.front ++ p) (page-end form system key w.place more limit_left left w.named (sym goes ∙ off) ∙ append-nil (next_line form system more limit_left left)) in
+    (wrote_both t u v w.front (next_line form system more limit_left left) w.taken wrote ∙ ap (with_bytes t) (sym whole), omega (arith, faults, grows))
+
+pub room_later : (system : System) (room : ℕ) (sets : List (List ℕ)) → HasRoom system room sets → HasRoom system room (later sets)
+room_later system room [] has = tt
+room_later system room (set ∷ sets) has = has.1
 
 -- a line was written, and the page goes on
-pub page_went_on : (form : SetForm) (system : System) (limit : Option ℕ) (sets : List (List ℕ)) (t u v : Option (List ℕ)) (f g h room wider : ℕ) (limit_left now : Option ℕ) (left behind : List (List ℕ)) (on : Bool) → IsWritten form system limit sets t u f g room limit_left left
-    → on ≡ goes_on limit_left left → on ≡ true → v ≡ with_bytes u (next_line form system limit_left left) → g ≤ h → behind ≡ later left → now ≡ one_less limit_left → room ≤ wider → IsWritten form system limit sets t v f h wider now behind
-page_went_on form system limit sets t u v f g h room wider limit_left now left behind on w goes is wrote grows rest less wide =
+pub page_went_on : (form : SetForm) (system : System) (key last : Option (List ℕ)) (limit : Option ℕ) (sets : List (List ℕ)) (t u v : Option (List ℕ)) (f g h : ℕ) (more more_now : List ℕ) (limit_left now : Option ℕ) (left behind : List (List ℕ)) (on : Bool)
+    → IsWritten form system key last limit sets t u f g more limit_left left → on ≡ goes_on limit_left left → on ≡ true → v ≡ with_bytes u (next_line form system more limit_left left) → g ≤ h → behind ≡ later left → now ≡ one_less limit_left → more_now ≡ next_more key system left
+    → IsWritten form system key last limit sets t v f h more_now now behind
+page_went_on form system key last limit sets t u v f g h more more_now limit_left now left behind on w goes is wrote grows rest fewer names =
     let faults = w.faults in
+    let place = place_next w.place left in
     record {
-      front = w.front ++ next_line form system limit_left left;
-      taken = wrote_both t u v w.front (next_line form system limit_left left) w.taken wrote;
-      rest = w.rest ∙ ap (λ p. w.front ++ p) (page-on form system limit_left left (sym goes ∙ is)) ∙ sym (append_assoc w.front (next_line form system limit_left left) (page_text form system (one_less limit_left) (later left)))
-          ∙ ap (λ l. (w.front ++ next_line form system limit_left left) ++ page_text form system l (later left)) (sym less) ∙ ap (λ s. (w.front ++ next_line form system limit_left left) ++ page_text form system now s) (sym rest);
+      front = w.front ++ next_line form system more limit_left left;
+      taken = wrote_both t u v w.front (next_line form system more limit_left left) w.taken wrote;
+      place = place;
+      named = names ∙ names-it left (sym goes ∙ is);
+      rest = w.rest ∙ ap (λ p. w.front ++ p) (page-on form system key w.place more limit_left left (sym goes ∙ is)) ∙ sym (append_assoc w.front (next_line form system more limit_left left) (marked_text form system key place (one_less limit_left) (later left)))
+          ∙ ap (λ l. (w.front ++ next_line form system more limit_left left) ++ marked_text form system key place l (later left)) (sym fewer) ∙ ap (λ s. (w.front ++ next_line form system more limit_left left) ++ marked_text form system key place now s) (sym rest);
       faults = omega (arith, faults, grows);
-      has_room = subst (HasRoom system wider) (sym rest) (room-later system room wider left wide w.has_room);
     }
+  where
+    names-it : (some : List (List ℕ)) → goes_on limit_left some ≡ true → next_more key system some ≡ more_line key system (place_next w.place some)
+    names-it [] on = absurd (false≢true on)
+    names-it (set ∷ others) on = refl
 
 -- the lines of some of the sets have room
 pub room-filtered : (system : System) (room : ℕ) (test : List ℕ → Bool) (sets : List (List ℕ)) → HasRoom system room sets → HasRoom system room (filter test sets)

@@ -1,6 +1,6 @@
 -- The line of each set of events has room where all names have.
 use Rattle.std.proofs.Common.{◌≡◌, ℕ, zero, suc, ◌+◌, ◌<◌, ◌≤◌, ◌^◌, List, [], ◌∷◌, ◌++◌, length, take, drop, decimal, slice_get, refl, ap, length-append, add-one, subst, arith}
-use Rattle.std.specs.Prelude.{unwrap_or}
+use Rattle.std.specs.Prelude.{unwrap_or, IfSome, Option, None, Some}
 use Rattle.std.specs.Option.{option_map}
 use Rattle.std.proofs.lemmas.Fmt.{length-decimal-le}
 use Rattle.fault_system.specs.Systems.{System, event_name}
@@ -12,7 +12,9 @@ use Rattle.std.specs.List.{flat_map}
 use Rattle.cutset_lister.specs.SetText.{quoted_name, set_text}
 use Rattle.cutset_lister.specs.Scanning.{names_text}
 use Rattle.cutset_lister.proofs.Scans.{set_text-first}
+use Rattle.page_tokens.specs.Starts.{start_text}
 use Rattle.cutset_writer.specs.Lengths.{most_line, names_room}
+use Rattle.cutset_writer.specs.Pages.{HasRoom}
 use Rattle.cutset_writer.specs.Text.{form_text, set_line}
 use Rattle.cutset_writer.specs.declared.form.SetForm.{SetForm}
 use Rattle.cutset_writer.specs.declared.form.SetForm.TheVariants.{Token, Quoted}
@@ -74,3 +76,16 @@ line_fits form system set small rises =
       length-append (decimal (length set)) (form_text form system set ++ (10 ∷ [])),
       length-append (form_text form system set) (10 ∷ []),
     )
+
+-- the text of a set has room where its line has
+text_in_line : (system : System) (set : List ℕ) (room : ℕ) → length (set_line Token system set) ≤ room → length (set_text system set) ≤ room
+text_in_line system set room fits = omega (arith, fits, length-append (decimal (length set)) (form_text Token system set ++ (10 ∷ [])), length-append (form_text Token system set) (10 ∷ []))
+
+-- so has the text of where a page begins
+pub start_fits : (system : System) (start : Option (List ℕ)) → IfSome start (IsEventSet system) → length (start_text system start) ≤ most_line system
+start_fits system None is = omega arith
+start_fits system (Some set) is = omega (arith, text-fits system set is)
+
+-- so has the text of the first of some sets, whose lines have room
+pub first_fits : (system : System) (room : ℕ) (sets : List (List ℕ)) (set : List ℕ) (others : List (List ℕ)) → sets ≡ set ∷ others → HasRoom system room sets → length (set_text system set) ≤ room
+first_fits system room sets set others is has = text_in_line system set room ((subst (HasRoom system room) is has).0 Token)

@@ -1,9 +1,11 @@
 //! Pages of listings of minimal cut sets as text, straight from the diagram.
 #![tactic(auto)]
 
+mod bookmark;
 mod form;
 mod lines;
 mod page;
 
+pub use bookmark::Bookmark;
 pub use form::SetForm;
 pub use page::PageWriter;

@@ -1,13 +1,15 @@
-ghost use Rattle.std.specs.Prelude.{◌≡◌, ◌+◌, ◌≤◌, ◌++◌, ◌∷◌, [], IfSome, length, decimal, map, sum, vec_capacity, vec_len};
+ghost use Rattle.std.specs.Prelude.{◌≡◌, ◌+◌, ◌≤◌, ◌++◌, ◌∷◌, [], IfSome, Some, length, decimal, map, option_map, sum, vec_capacity, vec_len};
 ghost use Rattle.fault_system.specs.Systems.{event_name};
 ghost use Rattle.cutset_lister.specs.SetText.{set_text};
-ghost use Rattle.cutset_writer.specs.Text.{form_text, set_line};
+ghost use Rattle.cutset_writer.specs.Text.{form_text, more_line, set_line};
+ghost use Rattle.page_tokens.specs.Starts.{start_text};
 ghost use Rattle.cutset_writer.specs.Lengths.{most_line};
 
 use crate::form::SetForm;
 use cutset_lister::{write_quoted, write_token};
 use fault_system::FaultSystem;
 use itoa::Buffer;
+use page_tokens::put_page_token;
 
 /// How many bytes the line of a set of events has at most; none where that is too large a number.
 pub(crate) fn longest_line(system: &FaultSystem) -> Option<usize>
@@ -39,6 +41,24 @@ pub(crate) fn put_line(form: SetForm, system: &FaultSystem, set: &[u32], line: &
     line.clear();
     put_size(set.len(), line);
     put_set(form, system, set, line);
+    line.push(b'\n').unwrap();
+}
+
+/// Puts the line that says that a further set follows, with the token that names the set behind which the next page begins, into a
+/// buffer that has room for it.
+pub(crate) fn put_more(
+    system: &FaultSystem,
+    key: &[u8; 64],
+    set: Option<&[u32]>,
+    line: &mut Vec<u8>,
+)
+    requires { length (start_text system.now (option_map (λ s. s.now) set)) + 74 ≤ vec_capacity line.old }
+    ensures text { line.new.items ≡ more_line (Some key.now) system.now (option_map (λ s. s.now) set.entry) }
+    ensures room { vec_capacity line.old ≤ vec_capacity line.new }
+{
+    line.clear();
+    line.extend_from_slice(b"more ").unwrap();
+    put_page_token(system, key, set, line);
     line.push(b'\n').unwrap();
 }
 

@@ -1,12 +1,15 @@
-ghost use Rattle.std.specs.Prelude.{◌≡◌, ◌<◌, ◌≤◌, ℕ, List as Items, Contains, IfOk, IsTrue, Option, option_map, vec_capacity};
+ghost use Rattle.std.specs.Prelude.{◌≡◌, ◌<◌, ◌≤◌, ℕ, List as Items, Contains, IfOk, IfSome, IsTrue, Option as Maybe, Some, option_map, vec_capacity};
 ghost use Rattle.fault_system.specs.CutSets.{IsEventSet};
 ghost use Rattle.zdd_store.specs.Family.{is_within};
 ghost use Rattle.zdd_store.specs.Store.{IsIn, Keeps, family_of};
 ghost use Rattle.cutset_lister.specs.Walks.{IsSameListing, IsStarted, all_sets, sets_left};
-ghost use Rattle.cutset_writer.specs.Pages.{HasRoom, IsReady, Lists, goes_on, has_room, later, next_line, one_less};
-ghost use Rattle.cutset_writer.specs.Text.{listing_page, page_text};
+ghost use Rattle.cutset_writer.specs.Lengths.{most_line};
+ghost use Rattle.cutset_writer.specs.Pages.{HasRoom, IsOpen, IsOpenMark, IsReady, Lists, goes_on, has_room, key_of, later, more_text, next_line, next_more, one_less};
+ghost use Rattle.cutset_writer.specs.Text.{listing_page, marked_page, marked_text, more_line};
 ghost use Rattle.cutset_writer.specs.Written.{Writes};
+ghost use Rattle.cutset_writer.specs.declared.form.SetForm.TheVariants.{Token};
 
+use crate::bookmark::{Bookmark, keep_place, write_more};
 use crate::form::SetForm;
 use crate::lines::{longest_line, put_line};
 use cutset_lister::Listing;
@@ -72,6 +75,39 @@ impl PageWriter {
             after,
             limit,
             &mut self.line,
+            &mut None,
+            sink,
+            Blank::new(1),
+        )
+    }
+
+    /// Writes a page in the same way, but a last line `more` has the token of the last set that was written, or else of `after`, or
+    /// else of the beginning. It takes no memory.
+    pub fn write_marked<S: Sink>(
+        mut self,
+        system: &FaultSystem,
+        store: &Store,
+        bookmark: Bookmark,
+        after: Option<&[u32]>,
+        limit: Option<u32>,
+        sink: &mut S,
+    ) -> Result<(), SinkFailed>
+        requires ready { IsReady system.now store.now self }
+        requires open { IsOpen system.now bookmark }
+        requires after { IfSome (option_map (λ set. set.now) after) (IsEventSet system.now) }
+        ensures { Writes result (marked_page Token system.now (Some bookmark.key) (option_map (λ set. set.now) after.entry) limit (all_sets store.now self.listing)) (S.taken sink.old) (S.taken sink.new) (S.faults sink.old) (S.faults sink.new) }
+    {
+        let mut mark = Some(bookmark);
+        keep_place(&mut mark, system, after);
+        write_on_ledger::<S, Brand>(
+            &mut self.listing,
+            system,
+            store,
+            SetForm::Token,
+            after,
+            limit,
+            &mut self.line,
+            &mut mark,
             sink,
             Blank::new(1),
         )
@@ -87,6 +123,7 @@ fn write_on_ledger<S: Sink, L: Ledger>(
     after: Option<&[u32]>,
     limit: Option<u32>,
     line: &mut Vec<u8>,
+    mark: &mut Option<Bookmark>,
     sink: &mut S,
     blank: Blank,
 ) -> Result<(), SinkFailed>
@@ -95,14 +132,19 @@ fn write_on_ledger<S: Sink, L: Ledger>(
     requires some { 0 < L.parts }
     requires started { IsStarted store.now listing.old }
     requires left { sets_left store.now listing.old ≡ all_sets store.now listing.old }
-    requires room { HasRoom system.now (vec_capacity line.old) (all_sets store.now listing.old) }
-    ensures { Writes result (listing_page form system.now (option_map (λ set. set.now) after.entry) limit (all_sets store.now listing.old)) (S.taken sink.old) (S.taken sink.new) (S.faults sink.old) (S.faults sink.new) }
+    requires room { HasRoom system.now (most_line system.now) (all_sets store.now listing.old) }
+    requires wide { most_line system.now ≤ vec_capacity line.old }
+    requires open { IsOpenMark system.now mark.old }
+    requires named { more_text mark.old ≡ more_line (key_of mark.old) system.now (option_map (λ set. set.now) after) }
+    ensures { Writes result (marked_page form system.now (key_of mark.old) (option_map (λ set. set.now) after.entry) limit (all_sets store.now listing.old)) (S.taken sink.old) (S.taken sink.new) (S.faults sink.old) (S.faults sink.new) }
 {
     let mut steps = Steps::<L>::new(blank);
     if let Some(set) = after {
         listing.seek(store, set, &mut steps);
     }
-    write_sets(listing, system, store, form, limit, line, sink, &mut steps)
+    write_sets(
+        listing, system, store, form, limit, line, mark, sink, &mut steps,
+    )
 }
 
 /// Writes the sets that are left, as many as the limit lets, and the last line.
@@ -113,15 +155,19 @@ fn write_sets<S: Sink, L: Ledger>(
     form: SetForm,
     limit: Option<u32>,
     line: &mut Vec<u8>,
+    mark: &mut Option<Bookmark>,
     sink: &mut S,
     steps: &mut Steps<L>,
 ) -> Result<(), SinkFailed>
     requires started { IsStarted store.now listing.old }
-    requires room { HasRoom system.now (vec_capacity line.old) (sets_left store.now listing.old) }
-    ensures { Writes result (page_text form system.now limit (sets_left store.now listing.old)) (S.taken sink.old) (S.taken sink.new) (S.faults sink.old) (S.faults sink.new) }
+    requires room { HasRoom system.now (most_line system.now) (sets_left store.now listing.old) }
+    requires wide { most_line system.now ≤ vec_capacity line.old }
+    requires open { IsOpenMark system.now mark.old }
+    ensures { (last : Maybe (Items ℕ)) → more_text mark.old ≡ more_line (key_of mark.old) system.now last
+        → Writes result (marked_text form system.now (key_of mark.old) last limit (sets_left store.now listing.old)) (S.taken sink.old) (S.taken sink.new) (S.faults sink.old) (S.faults sink.new) }
 {
     let mut room = limit;
-    while write_next(listing, system, store, form, room, line, sink, steps)? {
+    while write_next(listing, system, store, form, room, line, mark, sink, steps)? {
         room = one_less(room);
     }
     Ok(())
@@ -153,26 +199,33 @@ fn write_next<S: Sink, L: Ledger>(
     form: SetForm,
     limit: Option<u32>,
     line: &mut Vec<u8>,
+    mark: &mut Option<Bookmark>,
     sink: &mut S,
     steps: &mut Steps<L>,
 ) -> Result<bool, SinkFailed>
     requires started { IsStarted store.now listing.old }
-    requires room { HasRoom system.now (vec_capacity line.old) (sets_left store.now listing.old) }
-    ensures wrote { Writes result (next_line form system.now limit (sets_left store.now listing.old)) (S.taken sink.old) (S.taken sink.new) (S.faults sink.old) (S.faults sink.new) }
+    requires room { HasRoom system.now (most_line system.now) (sets_left store.now listing.old) }
+    requires wide { most_line system.now ≤ vec_capacity line.old }
+    requires open { IsOpenMark system.now mark.old }
+    ensures wrote { Writes result (next_line form system.now (more_text mark.old) limit (sets_left store.now listing.old)) (S.taken sink.old) (S.taken sink.new) (S.faults sink.old) (S.faults sink.new) }
     ensures goes { IfOk result (λ on. on ≡ goes_on limit (sets_left store.now listing.old)) }
     ensures same { IsSameListing store.now listing.old listing.new }
     ensures left { sets_left store.now listing.new ≡ later (sets_left store.now listing.old) }
     ensures room { vec_capacity line.old ≤ vec_capacity line.new }
+    ensures named { IfOk result (λ on. IsTrue on → more_text mark.new ≡ next_more (key_of mark.old) system.now (sets_left store.now listing.old)) }
+    ensures key { key_of mark.new ≡ key_of mark.old }
+    ensures open { IsOpenMark system.now mark.new }
 {
     let Some(set) = listing.next(store, steps) else {
         write_all(sink, b"end\n")?;
         return Ok(false);
     };
     if !has_room(limit) {
-        write_all(sink, b"more\n")?;
+        write_more(mark, sink)?;
         return Ok(false);
     }
     put_line(form, system, set, line);
+    keep_place(mark, system, Some(set));
     write_all(sink, line.as_slice())?;
     Ok(true)
 }

@@ -26,7 +26,7 @@ chosen_rise names (Some text) chosen are =
 -- the chosen places rise below the number of reports
 pub places_rise : (names words : List (List ℕ)) (command : Command) → IsCommand names words command → RisesWithin 0 (length names) (chosen_of command)
 places_rise names words (Check root files) is = tt
-places_rise names words (Cuts root target files paging) is = tt
+places_rise names words (Cuts root target files paging tokens) is = tt
 places_rise names words (Tree root target files) is = tt
 places_rise names words (Fmea root files all) is = tt
 places_rise names words (Report root target files chosen max_order) is = chosen_rise names _ chosen is.6

@@ -26,7 +26,8 @@ use Rattle.system_answers.specs.Derivations.{why_text}
 use Rattle.system_answers.specs.Texts.{cuts_text, paths_text}
 use Rattle.system_answers.proofs.Derived.{confirm_decided, why_decided}
 use Rattle.system_answers.proofs.Decided.{cuts_decided, galileo_paths_text_decided, galileo_text_decided, listing_decided, paths_decided, report_decided, slice_decided, target_decided, tree_decided}
-use Rattle.fta_run.specs.Due.{command_text, confirmed_in, due, first_text, made_root, made_target, make_text, model_of_files, model_of_texts, model_of_units, other_texts, sets_of_tree, sized_text, texts_of, units_of, within_limits}
+use Rattle.page_tokens.specs.Keys.{asked_digits}
+use Rattle.fta_run.specs.Due.{command_text, confirmed_in, cuts_in, due, first_text, made_root, made_target, make_text, model_of_files, model_of_texts, model_of_units, other_texts, sets_of_tree, sized_text, texts_of, units_of, within_limits}
 use Rattle.fta_run.specs.Later.{IsLater, in_later_files, later_refusal, next_file}
 use Rattle.fta_run.specs.Answers.{AllTold, IsOutput, IsSameStatus}
 use Rattle.fta_run.proofs.Commands.{one_command}
@@ -76,8 +77,16 @@ units_model_decided root files = (
 texts_model_decided : (root : Root) (texts : List (List ℕ)) → IsDecided IsSameStatus (model_of_texts root texts)
 texts_model_decided root texts = (units_decided texts, λ files have. units_model_decided root files)
 
-plain_cuts_decided : (target : List ℕ) (paging : Paging) (system : System) → IsPlainSystem system → IsDecided IsSameStatus (cuts_text target paging system)
-plain_cuts_decided target paging system plain = cuts_decided IsSameStatus itself target paging system plain.is_system (token_names system plain)
+plain_cuts_decided : (target : List ℕ) (paging : Paging) (tokens : Bool) (key : List ℕ) (system : System) → IsPlainSystem system → IsDecided IsSameStatus (cuts_text target paging tokens key system)
+plain_cuts_decided target paging tokens key system plain = cuts_decided IsSameStatus itself target paging tokens key system plain.is_system (token_names system plain)
+
+cuts_in_decided : (root : Root) (target : List ℕ) (paging : Paging) (tokens : Bool) (texts : List (List ℕ)) → IsDecided IsSameStatus (cuts_in root target paging tokens texts)
+cuts_in_decided root target paging tokens texts = (
+  texts_model_decided root texts,
+  λ model at.
+      let plain : IsPlainSystem model.system = (plain_texts root texts (Ok model) (record { passed = at })).system in
+      plain_cuts_decided target paging tokens (asked_digits tokens paging.after root target paging.max_order texts) model.system plain,
+)
 
 plain_paths_decided : (target : List ℕ) (paging : Paging) (system : System) → IsPlainSystem system → IsDecided IsSameStatus (paths_text target paging system)
 plain_paths_decided target paging system plain = paths_decided IsSameStatus itself target paging system plain.is_system (token_names system plain)
@@ -128,7 +137,7 @@ make_decided number false = (limits_decided (made_text number ∷ []), λ texts 
 
 command_decided : (contents : List ℕ → Option (List ℕ)) (voices : List Voice) (command : Command) → AllByRecursion (λ file. IsSome (contents file)) (files_of command) → IsDecided IsSameStatus (command_text contents voices command)
 command_decided contents voices (Check root files) told = (files_model_decided contents root files told, λ model at. tt)
-command_decided contents voices (Cuts root target files paging) told = (files_model_decided contents root files told, λ model at. plain_cuts_decided target paging model.system (plain_model contents root files model at).system)
+command_decided contents voices (Cuts root target files paging tokens) told = (texts_decided contents files told, λ texts are. cuts_in_decided root target paging tokens texts)
 command_decided contents voices (Tree root target files) told = (files_model_decided contents root files told, λ model at. tree_decided IsSameStatus itself target model.system model.rates (plain_model contents root files model at).system.is_system)
 command_decided contents voices (Fmea root files all) told = (files_model_decided contents root files told, λ model at. tt)
 command_decided contents voices (Report root target files chosen max_order) told = (files_model_decided contents root files told, λ model at. report_decided IsSameStatus itself target chosen max_order voices model.system)

@@ -1,5 +1,5 @@
 -- How a run ended, and what is due.
-use Rattle.std.proofs.Common.{◌≡◌, ◌<◌, ◌⊎◌, ℕ, Bool, true, false, List, [], ◌∷◌, length, Option, Some, Result, Ok, Err, refl, sym, ap, subst, inl, inr}
+use Rattle.std.proofs.Common.{◌≡◌, ◌<◌, ◌⊎◌, ℕ, Bool, true, false, List, [], ◌∷◌, length, Option, None, Some, Result, Ok, Err, refl, sym, ap, subst, inl, inr}
 use Rattle.std.specs.Prelude.{IsErrAnd, IsOk}
 use Rattle.std.proofs.lemmas.Result.{err_from_is_err_and}
 use Rattle.plain_values.specs.declared.refusal.Code.TheVariants.{TooManyFiles}
@@ -8,7 +8,7 @@ use Rattle.plain_values.specs.Order.{IsFirst}
 use Rattle.plain_values.specs.declared.name.Root.{Root}
 use Rattle.phases.specs.Phases.{Phase, Passes, Stops, yields, tells, chains, finds, IsDue, IsRefusal, IsSameEnd}
 use Rattle.phases.specs.declared.status.Status.{Status}
-use Rattle.phases.specs.declared.status.Status.TheVariants.{Done, Usage, Refused, Constant, ReadFault, WriteFault, ReportFault, Memory}
+use Rattle.phases.specs.declared.status.Status.TheVariants.{Done, Usage, Refused, Constant, StaleToken, ReadFault, WriteFault, ReportFault, Memory}
 use Rattle.phases.proofs.Endings.{StopsOnly, stops_only}
 use Rattle.fault_system.specs.Systems.{System}
 use Rattle.fault_system.specs.Truth.{set_of}
@@ -26,11 +26,14 @@ use Rattle.system_answers.specs.Targets.{LacksStart, LacksTarget}
 use Rattle.galileo_reader.specs.TreeSystems.{system_of, target_of as top_of_tree}
 use Rattle.system_answers.specs.Galileo.{LacksNamedTree}
 use Rattle.system_answers.specs.Derivations.{IsNotGood, LacksSteps, LacksWhy, confirm_text, why_text}
-use Rattle.system_answers.specs.Texts.{cuts_text, galileo_paths_text, galileo_text, paths_text, report_text, tree_text}
+use Rattle.system_answers.specs.Texts.{begin_of, cuts_text, galileo_paths_text, galileo_text, paths_text, report_text, tree_text}
 use Rattle.path_sets.specs.Duals.{dual_of}
+use Rattle.page_tokens.specs.Forms.{IsMalformed}
+use Rattle.page_tokens.specs.Keys.{asked_digits}
+use Rattle.page_tokens.specs.Starts.{IsStale, LacksStart as LacksBegin}
 use Rattle.path_sets.specs.PathSets.{HasLargePaths}
 use Rattle.system_answers.specs.Prints.{IsReportFault, NoFault, PrintsBut}
-use Rattle.fta_run.specs.Due.{command_text, confirmed_in, due, first_text, made_root, made_target, make_text, model_of_files, model_of_texts, other_texts, sets_of_tree, sized_text, texts_of, within_limits}
+use Rattle.fta_run.specs.Due.{command_text, confirmed_in, cuts_in, due, first_text, made_root, made_target, make_text, model_of_files, model_of_texts, other_texts, sets_of_tree, sized_text, texts_of, within_limits}
 use Rattle.fta_run.specs.Later.{IsLater}
 use Rattle.system_answers.specs.Voices.{Voice, labels}
 use Rattle.model_maker.specs.Text.{text_of as made_text}
@@ -46,9 +49,9 @@ use Rattle.fta_run.proofs.OneDue.{one_due}
 refusal_is : (Cause : Refusal → Type 0) (s : Status) → IsRefusal Cause s → IsARefusal s
 refusal_is Cause s is = (is.0, is.2)
 
--- The status is a refusal, or that a target is constant.
+-- The status is a refusal, or that a target is constant, or a token stale.
 abbrev IsAnEnd : Status → Type 0
-IsAnEnd status = IsARefusal status ⊎ ((always : Bool) × (status ≡ Constant always))
+IsAnEnd status = IsARefusal status ⊎ (((always : Bool) × (status ≡ Constant always)) ⊎ ((token : List ℕ) × (input : List ℕ) × (status ≡ StaleToken token input)))
 
 -- what stops with refusals alone does so with these
 refusals : {A : Type 0} (phase : Phase A) → StopsOnly IsARefusal phase → StopsOnly IsAnEnd phase
@@ -56,10 +59,21 @@ refusals (yields x) only = tt
 refusals (tells Is Ends) only = λ status ends. inl (only status ends)
 refusals (chains {A = A} first later) only = (refusals first only.0, λ x passed. refusals (later x) (only.1 x passed))
 
-cuts_stop : (target : List ℕ) (paging : Paging) (system : System) → StopsOnly IsARefusal (cuts_text target paging system)
-cuts_stop target paging system = (
-  refusal_is (IsFirst (LacksTarget system target)),
-  λ number named. (refusal_is (LacksStart system paging.after), λ start begins. (refusal_is (HasLargeSlice system number), λ slice served. ((λ s none. absurd none), λ sets are. tt))),
+stale_is : (key : List ℕ) (digits : Option (List ℕ)) (s : Status) → IsStale key digits s → (token : List ℕ) × (input : List ℕ) × (s ≡ StaleToken token input)
+stale_is key None s stale = absurd stale
+stale_is key (Some digits) s stale = (digits, key, stale.1)
+
+begin_stop : (key : List ℕ) (after : Option (List ℕ)) (system : System) → StopsOnly IsAnEnd (begin_of key after system)
+begin_stop key None system = tt
+begin_stop key (Some text) system = (
+  (λ s is. inl (refusal_is (IsMalformed text) s is)),
+  λ said says. ((λ s stale. inr (inr (stale_is key said.digits s stale))), λ _ fresh. (λ s is. inl (refusal_is (LacksBegin system said) s is))),
+)
+
+cuts_stop : (target : List ℕ) (paging : Paging) (tokens : Bool) (key : List ℕ) (system : System) → StopsOnly IsAnEnd (cuts_text target paging tokens key system)
+cuts_stop target paging tokens key system = (
+  (λ s is. inl (refusal_is (IsFirst (LacksTarget system target)) s is)),
+  λ number named. (begin_stop key paging.after system, λ start begins. ((λ s is. inl (refusal_is (HasLargeSlice system number) s is)), λ slice served. ((λ s none. absurd none), λ sets are. tt))),
 )
 
 report_stop : (target chosen : List ℕ) (max_order : Option ℕ) (voices : List Voice) (system : System) → StopsOnly IsARefusal (report_text target chosen max_order voices system)
@@ -101,7 +115,7 @@ paths_stop target paging system = (
 tree_stop : (target : List ℕ) (system : System) (rates : List Rate) → StopsOnly IsAnEnd (tree_text target system rates)
 tree_stop target system rates = (
   (λ s is. inl (refusal_is (IsFirst (LacksTarget system target)) s is)),
-  λ number named. ((λ s is. inl (refusal_is (HasLargeSlice system number) s is)), λ slice served. (λ s lacks. elim lacks [ inl constant ↦ inr (constant.0, constant.2) | inr large ↦ inl (large.0, large.2) ])),
+  λ number named. ((λ s is. inl (refusal_is (HasLargeSlice system number) s is)), λ slice served. (λ s lacks. elim lacks [ inl constant ↦ inr (inl (constant.0, constant.2)) | inr large ↦ inl (large.0, large.2) ])),
 )
 
 tree_sets_stop : (paths : Bool) (limit max_order : Option ℕ) (text : List ℕ) → StopsOnly IsARefusal (sets_of_tree paths limit max_order text)
@@ -148,9 +162,13 @@ make_stop : (number : ℕ) (text : Bool) → StopsOnly IsARefusal (make_text num
 make_stop number true = tt
 make_stop number false = (limits_stop (made_text number ∷ []), λ texts short. (texts_model_stops made_root texts, λ model at. sized_stop model))
 
+cuts_in_stop : (root : Root) (target : List ℕ) (paging : Paging) (tokens : Bool) (texts : List (List ℕ)) → StopsOnly IsAnEnd (cuts_in root target paging tokens texts)
+cuts_in_stop root target paging tokens texts =
+    (refusals (model_of_texts root texts) (texts_model_stops root texts), λ model at. cuts_stop target paging tokens (asked_digits tokens paging.after root target paging.max_order texts) model.system)
+
 command_stops : (contents : List ℕ → Option (List ℕ)) (voices : List Voice) (command : Command) → StopsOnly IsAnEnd (command_text contents voices command)
 command_stops contents voices (Check root files) = (refusals (model_of_files contents root files) (files_model_stops contents root files), λ model at. tt)
-command_stops contents voices (Cuts root target files paging) = (refusals (model_of_files contents root files) (files_model_stops contents root files), λ model at. refusals (cuts_text target paging model.system) (cuts_stop target paging model.system))
+command_stops contents voices (Cuts root target files paging tokens) = (refusals (texts_of contents files) (texts_stop contents files), λ texts read. cuts_in_stop root target paging tokens texts)
 command_stops contents voices (Tree root target files) = (refusals (model_of_files contents root files) (files_model_stops contents root files), λ model at. tree_stop target model.system model.rates)
 command_stops contents voices (Fmea root files all) = (refusals (model_of_files contents root files) (files_model_stops contents root files), λ model at. tt)
 command_stops contents voices (Report root target files chosen max_order) =
@@ -161,7 +179,7 @@ command_stops contents voices (Paths root target files paging) = (refusals (mode
 command_stops contents voices (Why root target files set) = (refusals (model_of_files contents root files) (files_model_stops contents root files), λ model at. refusals (why_text target set model.system) (why_stop target set model.system))
 command_stops contents voices (Confirm root target files set) = (refusals (texts_of contents files) (texts_stop contents files), λ texts read. refusals (confirmed_in root target set texts) (confirmed_stop root target set texts))
 
--- Usage without a command; or there is one, and a refusal or a constant target
+-- Usage without a command; or there is one, and a refusal, a constant target or a stale token
 abbrev Kind : List (List ℕ) → List (List ℕ) → Status → Type 0
 Kind names words status = ((status ≡ Usage) × GiveNoCommand names words) ⊎ (GiveCommand names words × IsAnEnd status)
 
@@ -180,7 +198,10 @@ words_of_kind names words s kind =
       | inl none ↦ subst (λ x. AnswersWords x names words) (sym none.0) none.1
       | inr some ↦ elim some.1 [
         | inl refusal ↦ subst (λ x. AnswersWords x names words) (sym refusal.1) some.0
-        | inr constant ↦ subst (λ x. AnswersWords x names words) (sym constant.1) some.0
+        | inr other ↦ elim other [
+          | inl constant ↦ subst (λ x. AnswersWords x names words) (sym constant.1) some.0
+          | inr stale ↦ subst (λ x. AnswersWords x names words) (sym stale.2) some.0
+        ]
       ]
     ]
 
@@ -239,6 +260,7 @@ module _ (words : List (List ℕ)) (contents : List ℕ → Option (List ℕ)) (
   justified Usage stops = tt
   justified (Refused refusal) stops = stops
   justified (Constant always) stops = stops
+  justified (StaleToken token input) stops = stops
   justified (ReadFault file) stops = tt
   justified WriteFault stops = tt
   justified (ReportFault place) stops = tt
@@ -272,7 +294,10 @@ module _ (words : List (List ℕ)) (contents : List ℕ → Option (List ℕ)) (
         | inl none ↦ subst (λ x. Took (IsOutput words contents voices) x t u) (sym none.0) same
         | inr some ↦ elim some.1 [
           | inl refusal ↦ subst (λ x. Took (IsOutput words contents voices) x t u) (sym refusal.1) same
-          | inr constant ↦ subst (λ x. Took (IsOutput words contents voices) x t u) (sym constant.1) same
+          | inr other ↦ elim other [
+            | inl constant ↦ subst (λ x. Took (IsOutput words contents voices) x t u) (sym constant.1) same
+            | inr stale ↦ subst (λ x. Took (IsOutput words contents voices) x t u) (sym stale.2) same
+          ]
         ]
       ]
 
@@ -308,7 +333,10 @@ module _ (words : List (List ℕ)) (contents : List ℕ → Option (List ℕ)) (
         | inl none ↦ subst (λ x. IsCaused x (labels voices) words read_before read_after f g RoseThere) (sym none.0) tt
         | inr some ↦ elim some.1 [
           | inl refusal ↦ subst (λ x. IsCaused x (labels voices) words read_before read_after f g RoseThere) (sym refusal.1) tt
-          | inr constant ↦ subst (λ x. IsCaused x (labels voices) words read_before read_after f g RoseThere) (sym constant.1) tt
+          | inr other ↦ elim other [
+            | inl constant ↦ subst (λ x. IsCaused x (labels voices) words read_before read_after f g RoseThere) (sym constant.1) tt
+            | inr stale ↦ subst (λ x. IsCaused x (labels voices) words read_before read_after f g RoseThere) (sym stale.2) tt
+          ]
         ]
       ]
 
@@ -355,6 +383,10 @@ constant_is_due : (a : Result (List ℕ) Status) (always : Bool) → IsSameEnd I
 constant_is_due (Ok x) always same = absurd same
 constant_is_due (Err a) always same = ap (λ (s : Status). Err s) (same_as a (Constant always) (λ refusal is. cc (is)) same)
 
+stale_is_due : (a : Result (List ℕ) Status) (token input : List ℕ) → IsSameEnd IsSameStatus a (Err (StaleToken token input)) → a ≡ Err (StaleToken token input)
+stale_is_due (Ok x) token input same = absurd same
+stale_is_due (Err a) token input same = ap (λ (s : Status). Err s) (same_as a (StaleToken token input) (λ refusal is. cc (is)) same)
+
 refusal_is_due : (a : Result (List ℕ) Status) (refusal : Refusal) → IsSameEnd IsSameStatus a (Err (Refused refusal)) → IsErrAnd a (λ status. IsSameStatus status (Refused refusal))
 refusal_is_due (Ok x) refusal same = absurd same
 refusal_is_due (Err a) refusal same = same
@@ -365,7 +397,10 @@ came_of_kind names words a s kind same =
       | inl none ↦ subst (MayCome a) (sym none.0) (usage_is_due a (subst (λ x. IsSameEnd IsSameStatus a (Err x)) none.0 same))
       | inr some ↦ elim some.1 [
         | inl refusal ↦ subst (MayCome a) (sym refusal.1) (refusal_is_due a refusal.0 (subst (λ x. IsSameEnd IsSameStatus a (Err x)) refusal.1 same))
-        | inr constant ↦ subst (MayCome a) (sym constant.1) (constant_is_due a constant.0 (subst (λ x. IsSameEnd IsSameStatus a (Err x)) constant.1 same))
+        | inr other ↦ elim other [
+          | inl constant ↦ subst (MayCome a) (sym constant.1) (constant_is_due a constant.0 (subst (λ x. IsSameEnd IsSameStatus a (Err x)) constant.1 same))
+          | inr stale ↦ subst (MayCome a) (sym stale.2) (stale_is_due a stale.0 stale.1 (subst (λ x. IsSameEnd IsSameStatus a (Err x)) stale.2 same))
+        ]
       ]
     ]
 
@@ -476,7 +511,7 @@ many_answer result s is many =
 -- nothing was taken
 pub begins_same : (command : Command) (status : Status) (t : Option (List ℕ)) → BeginsWithMemory command status t t
 begins_same (Check root files) status t = tt
-begins_same (Cuts root target files paging) status t = λ memory. refl
+begins_same (Cuts root target files paging tokens) status t = λ memory. refl
 begins_same (Tree root target files) status t = tt
 begins_same (Fmea root files all) status t = tt
 begins_same (Report root target files chosen max_order) status t = tt

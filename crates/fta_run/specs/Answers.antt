@@ -6,7 +6,7 @@ use Rattle.plain_values.specs.declared.refusal.Refusal.{Refusal}
 use Rattle.plain_values.specs.Refusal.{of_words}
 use Rattle.phases.specs.Phases.{Passes, Stops}
 use Rattle.phases.specs.declared.status.Status.{Status}
-use Rattle.phases.specs.declared.status.Status.TheVariants.{Done, Usage, Refused, Constant, ReadFault, WriteFault, ReportFault, Memory}
+use Rattle.phases.specs.declared.status.Status.TheVariants.{Done, Usage, Refused, Constant, StaleToken, ReadFault, WriteFault, ReportFault, Memory}
 use Rattle.grammar_rules.specs.Texts.{syntax_error}
 use Rattle.fta_outside.specs.Outside.{Rose}
 use Rattle.fta_run.specs.Words.{Command, Cuts, chosen_of, files_of, GiveCommand, GiveNoCommand, IsCommand, file_words}
@@ -41,6 +41,7 @@ MayCome its_due Done = IsOk its_due
 MayCome its_due Usage = its_due ≡ Err Usage
 MayCome its_due (Refused refusal) = IsErrAnd its_due (λ status. IsSameStatus status (Refused refusal))
 MayCome its_due (Constant always) = its_due ≡ Err (Constant always)
+MayCome its_due (StaleToken token input) = its_due ≡ Err (StaleToken token input)
 MayCome its_due (ReadFault file) = Unit {0}
 MayCome its_due WriteFault = IsOk its_due
 MayCome its_due (ReportFault place) = IsOk its_due
@@ -54,17 +55,19 @@ AnswersWords Done names words = GiveCommand names words
 AnswersWords Usage names words = GiveNoCommand names words
 AnswersWords (Refused refusal) names words = GiveCommand names words
 AnswersWords (Constant always) names words = GiveCommand names words
+AnswersWords (StaleToken token input) names words = GiveCommand names words
 AnswersWords (ReadFault file) names words = GiveCommand names words
 AnswersWords WriteFault names words = GiveCommand names words
 AnswersWords (ReportFault place) names words = GiveCommand names words
 AnswersWords Memory names words = Unit {0}
 
--- A refusal is the verdict, and so is that a target is constant.
+-- A refusal is the verdict, and so is that a target is constant, or a token stale.
 abbrev pub IsJustified : List (List ℕ) → (List ℕ → Option (List ℕ)) → List Voice → Status → Type 0
 IsJustified words contents voices Done = Unit {0}
 IsJustified words contents voices Usage = Unit {0}
 IsJustified words contents voices (Refused refusal) = IsVerdict words contents voices refusal
 IsJustified words contents voices (Constant always) = Stops (due words contents voices) (Constant always)
+IsJustified words contents voices (StaleToken token input) = Stops (due words contents voices) (StaleToken token input)
 IsJustified words contents voices (ReadFault file) = Unit {0}
 IsJustified words contents voices WriteFault = Unit {0}
 IsJustified words contents voices (ReportFault place) = Unit {0}
@@ -77,6 +80,7 @@ Took IsText Done before after = TookText IsText before after
 Took IsText Usage before after = after ≡ before
 Took IsText (Refused refusal) before after = after ≡ before
 Took IsText (Constant always) before after = after ≡ before
+Took IsText (StaleToken token input) before after = after ≡ before
 Took IsText (ReadFault file) before after = after ≡ before
 Took IsText WriteFault before after = TookFront IsText before after
 Took IsText (ReportFault place) before after = after ≡ before
@@ -89,6 +93,7 @@ IsCaused Done names words before after out_before out_after RoseThere = Unit {0}
 IsCaused Usage names words before after out_before out_after RoseThere = Unit {0}
 IsCaused (Refused refusal) names words before after out_before out_after RoseThere = Unit {0}
 IsCaused (Constant always) names words before after out_before out_after RoseThere = Unit {0}
+IsCaused (StaleToken token input) names words before after out_before out_after RoseThere = Unit {0}
 IsCaused (ReadFault file) names words before after out_before out_after RoseThere =
     (length (file_words words) ≤ most_files) × (name : List ℕ) × (slice_get (file_words words) file ≡ Some name) × Rose (before name) (after name)
 IsCaused WriteFault names words before after out_before out_after RoseThere = Rose out_before out_after
@@ -102,6 +107,7 @@ IsManyAnswer Done = ⊥
 IsManyAnswer Usage = Unit {0}
 IsManyAnswer (Refused refusal) = refusal ≡ of_words TooManyFiles
 IsManyAnswer (Constant always) = ⊥
+IsManyAnswer (StaleToken token input) = ⊥
 IsManyAnswer (ReadFault file) = ⊥
 IsManyAnswer WriteFault = ⊥
 IsManyAnswer (ReportFault place) = ⊥
@@ -109,5 +115,5 @@ IsManyAnswer Memory = Unit {0}
 
 -- Once a page of `cuts` was begun, no memory is wanting: where it is, the sink took nothing.
 abbrev pub BeginsWithMemory : Command → Status → Option (List ℕ) → Option (List ℕ) → Type 0
-BeginsWithMemory (Cuts root target files paging) status before after = status ≡ Memory → after ≡ before
+BeginsWithMemory (Cuts root target files paging tokens) status before after = status ≡ Memory → after ≡ before
 BeginsWithMemory command status before after = Unit {0}

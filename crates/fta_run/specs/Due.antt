@@ -8,6 +8,7 @@ use Rattle.package_index.specs.Lookup.{packages_of}
 use Rattle.fault_system.specs.Listings.{IsListing}
 use Rattle.cutset_writer.specs.Text.{listing_page}
 use Rattle.cutset_writer.specs.declared.form.SetForm.TheVariants.{Token}
+use Rattle.page_tokens.specs.Keys.{asked_digits}
 use Rattle.model_maker.specs.Text.{text_of as made_text}
 use Rattle.fmea_rows.specs.Rows.{rows_of}
 use Rattle.fmea_rows.specs.Text.{table_text}
@@ -119,6 +120,13 @@ abbrev pub sets_of_tree : Bool → Option ℕ → Option ℕ → List ℕ → Ph
 sets_of_tree true limit max_order text = galileo_paths_text limit max_order text
 sets_of_tree false limit max_order text = galileo_text limit max_order text
 
+-- the text of `cuts` for the model of the root in files of these texts, with the digits of the key of what it is asked of, where they
+-- are asked for
+abbrev pub cuts_in : Root → List ℕ → Paging → Bool → List (List ℕ) → Phase (List ℕ)
+cuts_in root target paging tokens texts = do
+  model ← model_of_texts root texts
+  cuts_text target paging tokens (asked_digits tokens paging.after root target paging.max_order texts) model.system
+
 -- the text of `confirm`: of the derivation in the first of these texts, for the model of the root in the files of the others
 abbrev pub confirmed_in : Root → List ℕ → List ℕ → List (List ℕ) → Phase (List ℕ)
 confirmed_in root target set texts = do
@@ -130,9 +138,9 @@ abbrev pub command_text : (List ℕ → Option (List ℕ)) → List Voice → Co
 command_text contents voices (Check root files) = do
   model ← model_of_files contents root files
   check_text model
-command_text contents voices (Cuts root target files paging) = do
-  model ← model_of_files contents root files
-  cuts_text target paging model.system
+command_text contents voices (Cuts root target files paging tokens) = do
+  texts ← texts_of contents files
+  cuts_in root target paging tokens texts
 command_text contents voices (Tree root target files) = do
   model ← model_of_files contents root files
   tree_text target model.system model.rates

@@ -5,7 +5,7 @@ use Rattle.plain_values.specs.declared.refusal.Place.TheVariants.{Words, Whole, 
 use Rattle.plain_values.specs.declared.refusal.Refusal.{Refusal}
 use Rattle.plain_values.specs.Refusal.{code_text}
 use Rattle.phases.specs.declared.status.Status.{Status}
-use Rattle.phases.specs.declared.status.Status.TheVariants.{Done, Usage, Refused, Constant, ReadFault, WriteFault, ReportFault, Memory}
+use Rattle.phases.specs.declared.status.Status.TheVariants.{Done, Usage, Refused, Constant, StaleToken, ReadFault, WriteFault, ReportFault, Memory}
 
 -- the file word of a number, as it was written
 abbrev pub file_word : List (List ℕ) → ℕ → List ℕ
@@ -30,6 +30,10 @@ abbrev pub constant_text : Bool → List ℕ
 constant_text true = codes "constant true"
 constant_text false = codes "constant false"
 
+-- that a token is stale: the digits that it names, and those of the key of what is asked
+abbrev pub stale_text : List ℕ → List ℕ → List ℕ
+stale_text token input = codes "K2 StaleToken " ++ (token ++ (codes " " ++ input))
+
 -- the name of the report at a place
 abbrev pub report_name : List (List ℕ) → ℕ → List ℕ
 report_name reports place = unwrap_or (slice_get reports place) []
@@ -40,6 +44,7 @@ status_text files reports Done = []
 status_text files reports Usage = codes "usage"
 status_text files reports (Refused refusal) = refusal_text files refusal
 status_text files reports (Constant always) = constant_text always
+status_text files reports (StaleToken token input) = stale_text token input
 status_text files reports (ReadFault file) = codes "cannot read " ++ file_word files file
 status_text files reports WriteFault = codes "cannot write"
 status_text files reports (ReportFault place) = codes "report " ++ (report_name reports place ++ codes " failed")

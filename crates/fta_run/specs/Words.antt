@@ -5,7 +5,7 @@ pub use Rattle.fta_words.specs.Words.{Command, Check, Cuts, Tree, Fmea, Report, 
 -- the places of the reports that a command chooses
 abbrev pub chosen_of : Command → List ℕ
 chosen_of (Check root files) = []
-chosen_of (Cuts root target files paging) = []
+chosen_of (Cuts root target files paging tokens) = []
 chosen_of (Tree root target files) = []
 chosen_of (Fmea root files all) = []
 chosen_of (Report root target files chosen max_order) = chosen

@@ -1,7 +1,7 @@
 ghost use Rattle.std.specs.Prelude.{◌≡◌, ◌<◌, ◌≤◌, ℕ, false, List, IfOk, IsErrOf, Result, Err, length, map, vec_len};
 ghost use Rattle.fta_outside.specs.Outside.{Rose, TookPrefix, with_bytes};
 ghost use Rattle.phases.specs.Phases.{IsDue};
-ghost use Rattle.phases.specs.Meets.{MeetsBut};
+ghost use Rattle.phases.specs.Meets.{Meets, MeetsBut};
 ghost use Rattle.phases.specs.declared.status.Status.{Status as AnyStatus};
 ghost use Rattle.phases.specs.declared.status.Status.TheVariants.{Refused, Memory};
 ghost use Rattle.plain_values.specs.declared.refusal.Code.TheVariants.{TooManyFiles};
@@ -10,7 +10,7 @@ ghost use Rattle.fta_words.specs.Shown.{command_shown};
 ghost use Rattle.model_phases.specs.Named.{IsPlainModel};
 ghost use Rattle.fta_run.specs.Line.{status_line};
 ghost use Rattle.fta_run.specs.Answers.{AllTold, AnswersWords, BeginsWithMemory, IsCaused, IsJustified, IsManyAnswer, IsOutput, MayCome, Took};
-ghost use Rattle.fta_run.specs.Due.{check_text, due, fmea_text, model_of_files, sets_of_tree};
+ghost use Rattle.fta_run.specs.Due.{check_text, cuts_in, due, fmea_text, model_of_files, model_of_texts, sets_of_tree};
 ghost use Rattle.fta_run.specs.Files.{most_files};
 ghost use Rattle.fta_run.specs.Words.{Check, Command as AnyCommand, Confirm, Cuts, Fmea, Galileo, GiveNoCommand, IsCommand, Paths, Report, Tree, Why, chosen_of, file_words, files_of};
 ghost use Rattle.system_answers.specs.Prints.{Prints};
@@ -22,7 +22,7 @@ ghost use Rattle.fta_run.specs.Steps.{IsReadEnd, Runs, RunsAlone, RunsWith, ende
 
 use crate::confirmed::write_confirmation;
 use crate::fmea::write_table;
-use crate::input::read_texts;
+use crate::input::{Texts, read_texts};
 use crate::line::write_line;
 use crate::made::write_make;
 use crate::model::model_of_texts;
@@ -31,6 +31,7 @@ use crate::words::command_of;
 use fta_outside::{Files, Report, Sink};
 use fta_words::{Command, Paging, file_words};
 use model_phases::FlatModel;
+use page_tokens::asked_digest;
 use phases::Status;
 use plain_values::{List, Name, Root, Word};
 use std::alloc::Global;
@@ -59,7 +60,7 @@ pub fn run<F: Files, S: Sink, E: Sink>(
     // Usage comes exactly where the words give no command.
     ensures words { AnswersWords result (labels (voices_of label text reports.old.items)) words.now }
 
-    // A refusal is the verdict on texts that the files may contain, and so is that a target is constant.
+    // A refusal is the verdict on texts that the files may contain, and so is that a target is constant or a token stale.
     ensures verdict { IsJustified words.now (F.contents files.old) (voices_of label text reports.old.items) result }
 
     // Under Done `out` took the text of the command on texts that the files may contain, and else at most a front of it.
@@ -161,7 +162,8 @@ fn write_command<F: Files, S: Sink>(
             target,
             files: names,
             paging,
-        } => cuts(alloc, root, target, names, paging, files, out),
+            tokens,
+        } => cuts(alloc, root, target, names, paging, *tokens, files, out),
         Command::Tree {
             root,
             target,
@@ -233,23 +235,57 @@ fn check<F: Files, S: Sink>(
     write_check(alloc, &model, out)
 }
 
-/// Writes a page of the listing of a target in the model of a root.
+/// Writes a page of the listing of a target in the model of a root, perhaps with a token in the last line.
 fn cuts<F: Files, S: Sink>(
     alloc: Global,
     root: &Root,
     target: &Name,
     names: &[Word],
     paging: &Paging,
+    tokens: bool,
     files: &mut F,
     out: &mut S,
 ) -> Result<(), Status>
-    ensures end { RunsAlone (Cuts root.now target.now names.now paging.now) (F.contents files.old) (F.faults files.old) (F.faults files.new) result (S.taken out.old) (S.taken out.new) (S.faults out.old) (S.faults out.new) }
+    ensures end { RunsAlone (Cuts root.now target.now names.now paging.now tokens) (F.contents files.old) (F.faults files.old) (F.faults files.new) result (S.taken out.old) (S.taken out.new) (S.faults out.old) (S.faults out.new) }
     ensures too_many { most_files < length names.now → files.new ≡ files.old }
     ensures many { most_files < length names.now → IsManyAnswer (ended result) }
     ensures begins { IsErrOf result Memory → S.taken out.new ≡ S.taken out.old }
 {
-    let model = read_model(alloc, root, names, files)?;
-    write_cuts(alloc, &model.system, target, paging, out)
+    let texts = read_texts(alloc, files, names)?;
+    write_cuts_in(alloc, root, target, paging, tokens, texts, out)
+}
+
+/// Writes a page of the listing of a target in the model of a root in files of these texts, perhaps with a token in the last line.
+fn write_cuts_in<S: Sink>(
+    alloc: Global,
+    root: &Root,
+    target: &Name,
+    paging: &Paging,
+    tokens: bool,
+    texts: Texts,
+    out: &mut S,
+) -> Result<(), Status>
+    ensures page { Prints (cuts_in root.now target.now paging.now tokens texts) result (S.taken out.old) (S.taken out.new) (S.faults out.old) (S.faults out.new) }
+    ensures begins { IsErrOf result Memory → S.taken out.new ≡ S.taken out.old }
+{
+    let key = asked_digest(
+        tokens,
+        &paging.after,
+        root,
+        target,
+        paging.max_order,
+        texts.items(),
+    );
+    let model = model_of_read(alloc, root, texts)?;
+    write_cuts(alloc, &model.system, target, paging, tokens, &key, out)
+}
+
+/// The model of a root in files of these texts, which are held no longer.
+fn model_of_read(alloc: Global, root: &Root, texts: Texts) -> Result<FlatModel, Status>
+    ensures meets { Meets (model_of_texts root.now texts) result }
+    ensures plain { IfOk result IsPlainModel }
+{
+    model_of_texts(alloc, root, texts.items())
 }
 
 /// Writes the tree of a target in the model of a root.

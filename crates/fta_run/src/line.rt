@@ -1,6 +1,6 @@
 ghost use Rattle.std.specs.Prelude.{◌≡◌, ◌++◌, codes, decimal, map};
 ghost use Rattle.cutset_writer.specs.Written.{Writes};
-ghost use Rattle.fta_run.specs.Line.{constant_text, file_word, limit_text, place_text, refusal_text, report_name, status_line};
+ghost use Rattle.fta_run.specs.Line.{constant_text, file_word, limit_text, place_text, refusal_text, report_name, stale_text, status_line};
 
 use cut_reports::name_of;
 use fta_outside::{Report, Sink, SinkFailed, write_all};
@@ -23,6 +23,7 @@ pub fn write_line<E: Sink>(
         Status::Usage => write_piece(err, b"aadl_fta: usage\n"),
         Status::Refused(refusal) => write_refusal(err, files, refusal),
         Status::Constant(always) => write_constant(err, *always),
+        Status::StaleToken { token, input } => write_stale(err, token, input),
         Status::ReadFault(file) => write_unread(err, file_word(files, *file)),
         Status::WriteFault => write_piece(err, b"aadl_fta: cannot write\n"),
         Status::ReportFault(place) => write_failed(err, report_name(reports, *place)),
@@ -38,6 +39,20 @@ fn write_constant<E: Sink>(err: &mut E, always: bool) -> Result<(), SinkFailed>
     } else {
         write_piece(err, b"aadl_fta: constant false\n")
     }
+}
+
+fn write_stale<E: Sink>(err: &mut E, token: &[u8; 64], input: &[u8; 64]) -> Result<(), SinkFailed>
+    ensures { Writes result (codes "aadl_fta: " ++ (stale_text token.now input.now ++ codes "\n")) (E.taken err.old) (E.taken err.new) (E.faults err.old) (E.faults err.new) }
+{
+    write_two(err, b"aadl_fta: K2 StaleToken ", token)?;
+    write_input(err, input)
+}
+
+fn write_input<E: Sink>(err: &mut E, input: &[u8; 64]) -> Result<(), SinkFailed>
+    ensures { Writes result (codes " " ++ (input.now ++ codes "\n")) (E.taken err.old) (E.taken err.new) (E.faults err.old) (E.faults err.new) }
+{
+    write_two(err, b" ", input)?;
+    write_piece(err, b"\n")
 }
 
 fn write_unread<E: Sink>(err: &mut E, file: &[u8]) -> Result<(), SinkFailed>

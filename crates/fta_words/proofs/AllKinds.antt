@@ -38,7 +38,7 @@ all_of names (name ∷ wanted) all = (has_name names name all.0, all_of names wa
 
 flag_of_all : (k : Kind) → AllByRecursion (Contains all_flags) (flags_of k)
 flag_of_all kind.Check = tt
-flag_of_all kind.Cuts = tt
+flag_of_all kind.Cuts = all_of all_flags (flags_of kind.Cuts) (refl, tt)
 flag_of_all kind.Tree = tt
 flag_of_all kind.Fmea = all_of all_flags (flags_of kind.Fmea) (refl, tt)
 flag_of_all kind.Report = tt
@@ -106,7 +106,7 @@ name_text names all name has = each_of IsName names name all has
 
 flags_text : AllByRecursion IsName all_flags
 unfolding IsName
-flags_text = (ascii_text (codes "--all") refl, (ascii_text (codes "--text") refl, (ascii_text (codes "--paths") refl, tt)))
+flags_text = (ascii_text (codes "--all") refl, (ascii_text (codes "--text") refl, (ascii_text (codes "--paths") refl, (ascii_text (codes "--tokens") refl, tt))))
 
 valued_text : AllByRecursion IsName all_valued
 unfolding IsName

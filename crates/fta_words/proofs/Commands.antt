@@ -65,9 +65,9 @@ pub to_read : (reports words : List (List ℕ)) (command : Command) → IsComman
 to_read reports words (Check root files) x =
     let s = split_words words (codes "check" ∷ x.0 ∷ files) (flags_of kind.Check) (valued_of kind.Check) x.1 x.2 in
     record { given = x.1; plain = subst (AllByRecursion IsPlainWord) (sym s.0) x.2.plain_words; options_are = s.1; options = x.2.options; read = (x.0, s.0, x.3) }
-to_read reports words (Cuts root target files paging) x =
+to_read reports words (Cuts root target files paging tokens) x =
     let s = split_words words (codes "cuts" ∷ x.0 ∷ x.1 ∷ files) (flags_of kind.Cuts) (valued_of kind.Cuts) x.2 x.3 in
-    record { given = x.2; plain = subst (AllByRecursion IsPlainWord) (sym s.0) x.3.plain_words; options_are = s.1; options = x.3.options; read = (x.0, x.1, s.0, x.4, x.5, x.6, x.7, x.8) }
+    record { given = x.2; plain = subst (AllByRecursion IsPlainWord) (sym s.0) x.3.plain_words; options_are = s.1; options = x.3.options; read = (x.0, x.1, s.0, x.4, x.5, x.6, x.7, x.8, x.9) }
 to_read reports words (Tree root target files) x =
     let s = split_words words (codes "tree" ∷ x.0 ∷ x.1 ∷ files) (flags_of kind.Tree) (valued_of kind.Tree) x.2 x.3 in
     record { given = x.2; plain = subst (AllByRecursion IsPlainWord) (sym s.0) x.3.plain_words; options_are = s.1; options = x.3.options; read = (x.0, x.1, s.0, x.4, x.5) }
@@ -108,10 +108,10 @@ from_read reports words (Check root files) x =
     let r = x.read in
     let are = words_from words (codes "check" ∷ r.0 ∷ files) (flags_of kind.Check) (valued_of kind.Check) x.given x.plain r.1 x.options_are x.options in
     (r.0, x.given, are, r.2)
-from_read reports words (Cuts root target files paging) x =
+from_read reports words (Cuts root target files paging tokens) x =
     let r = x.read in
     let are = words_from words (codes "cuts" ∷ r.0 ∷ r.1 ∷ files) (flags_of kind.Cuts) (valued_of kind.Cuts) x.given x.plain r.2 x.options_are x.options in
-    (r.0, r.1, x.given, are, r.3, r.4, r.5, r.6, r.7)
+    (r.0, r.1, x.given, are, r.3, r.4, r.5, r.6, r.7, r.8)
 from_read reports words (Tree root target files) x =
     let r = x.read in
     let are = words_from words (codes "tree" ∷ r.0 ∷ r.1 ∷ files) (flags_of kind.Tree) (valued_of kind.Tree) x.given x.plain r.2 x.options_are x.options in
@@ -174,7 +174,7 @@ same_kind a b same = let found : Some a ≡ Some b = sym (named_again a) ∙ ap 
 -- the name stands first
 pub read_name : (reports plain : List (List ℕ)) (values : Values) (command : Command) → IsRead reports plain values command → (others : List (List ℕ)) × (plain ≡ name_of (kind_of command) ∷ others)
 read_name reports plain values (Check root files) r = (r.0 ∷ files, r.1)
-read_name reports plain values (Cuts root target files paging) r = (r.0 ∷ r.1 ∷ files, r.2)
+read_name reports plain values (Cuts root target files paging tokens) r = (r.0 ∷ r.1 ∷ files, r.2)
 read_name reports plain values (Tree root target files) r = (r.0 ∷ r.1 ∷ files, r.2)
 read_name reports plain values (Fmea root files all) r = (r.0 ∷ files, r.1)
 read_name reports plain values (Report root target files chosen max_order) r = (r.0 ∷ r.1 ∷ files, r.2)
@@ -222,7 +222,7 @@ same_model w v root root₂ files files₂ word x y = one_root (folded v) root r
 -- what a command of a kind says
 abbrev Parts : Kind → Type 0
 Parts kind.Check = Root × List (List ℕ)
-Parts kind.Cuts = Root × List ℕ × List (List ℕ) × Paging
+Parts kind.Cuts = Root × List ℕ × List (List ℕ) × Paging × Bool
 Parts kind.Tree = Root × List ℕ × List (List ℕ)
 Parts kind.Fmea = Root × List (List ℕ) × Bool
 Parts kind.Report = Root × List ℕ × List (List ℕ) × List ℕ × Option ℕ
@@ -234,7 +234,7 @@ Parts kind.Confirm = Root × List ℕ × List (List ℕ) × List ℕ
 
 abbrev made : (k : Kind) → Parts k → Command
 made kind.Check p = Check p.0 p.1
-made kind.Cuts p = Cuts p.0 p.1 p.2 p.3
+made kind.Cuts p = Cuts p.0 p.1 p.2 p.3 p.4
 made kind.Tree p = Tree p.0 p.1 p.2
 made kind.Fmea p = Fmea p.0 p.1 p.2
 made kind.Report p = Report p.0 p.1 p.2 p.3 p.4
@@ -246,7 +246,7 @@ made kind.Confirm p = Confirm p.0 p.1 p.2 p.3
 
 abbrev parts_of : (command : Command) → Parts (kind_of command)
 parts_of (Check root files) = (root, files)
-parts_of (Cuts root target files paging) = (root, target, files, paging)
+parts_of (Cuts root target files paging tokens) = (root, target, files, paging, tokens)
 parts_of (Tree root target files) = (root, target, files)
 parts_of (Fmea root files all) = (root, files, all)
 parts_of (Report root target files chosen max_order) = (root, target, files, chosen, max_order)
@@ -258,7 +258,7 @@ parts_of (Confirm root target files set) = (root, target, files, set)
 
 made_again : (command : Command) → made (kind_of command) (parts_of command) ≡ command
 made_again (Check root files) = refl
-made_again (Cuts root target files paging) = refl
+made_again (Cuts root target files paging tokens) = refl
 made_again (Tree root target files) = refl
 made_again (Fmea root files all) = refl
 made_again (Report root target files chosen max_order) = refl
@@ -294,7 +294,8 @@ one_of_kind reports plain values kind.Cuts p q x y =
     let both : codes "cuts" ∷ x.0 ∷ x.1 ∷ p.2 ≡ codes "cuts" ∷ y.0 ∷ y.1 ∷ q.2 = sym x.2 ∙ y.2 in
     let asked = one_asked (codes "cuts") x.0 y.0 x.1 y.1 p.0 q.0 p.1 q.1 p.2 q.2 both x.3 y.3 x.4 y.4 in
     let pages : p.3 ≡ q.3 = same_paging p.3 q.3 (one_said IsNumberText one_number values.limit p.3.limit q.3.limit x.5 y.5) (one_said IsFolded one_fold values.after p.3.after q.3.after x.6 y.6) (one_said IsNumberText one_number values.max_order p.3.max_order q.3.max_order x.7 y.7) in
-    ap (λ (a : Root × List ℕ × List (List ℕ)). Cuts a.0 a.1 a.2 p.3) asked ∙ ap (λ g. Cuts q.0 q.1 q.2 g) pages
+    let flags : p.4 ≡ q.4 = x.8 ∙ sym y.8 in
+    ap (λ (a : Root × List ℕ × List (List ℕ)). Cuts a.0 a.1 a.2 p.3 p.4) asked ∙ ap (λ g. Cuts q.0 q.1 q.2 g p.4) pages ∙ ap (λ b. Cuts q.0 q.1 q.2 q.3 b) flags
 one_of_kind reports plain values kind.Tree p q x y =
     let both : codes "tree" ∷ x.0 ∷ x.1 ∷ p.2 ≡ codes "tree" ∷ y.0 ∷ y.1 ∷ q.2 = sym x.2 ∙ y.2 in
     ap (λ (a : Root × List ℕ × List (List ℕ)). Tree a.0 a.1 a.2) (one_asked (codes "tree") x.0 y.0 x.1 y.1 p.0 q.0 p.1 q.1 p.2 q.2 both x.3 y.3 x.4 y.4)
@@ -363,7 +364,7 @@ one_command reports words a b x y =
 pub file_words_are : (reports words : List (List ℕ)) (command : Command) → IsCommand reports words command → file_words words ≡ files_of command
 file_words_are reports words (Check root files) x =
     ap file_words x.2.words_are ∙ ap (drop 2) (front_of (codes "check" ∷ x.0 ∷ files) (option_words x.1) x.2.plain_words (begin_with_option x.1))
-file_words_are reports words (Cuts root target files paging) x =
+file_words_are reports words (Cuts root target files paging tokens) x =
     ap file_words x.3.words_are ∙ ap (drop 3) (front_of (codes "cuts" ∷ x.0 ∷ x.1 ∷ files) (option_words x.2) x.3.plain_words (begin_with_option x.2))
 file_words_are reports words (Tree root target files) x =
     ap file_words x.3.words_are ∙ ap (drop 3) (front_of (codes "tree" ∷ x.0 ∷ x.1 ∷ files) (option_words x.2) x.3.plain_words (begin_with_option x.2))

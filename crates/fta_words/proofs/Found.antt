@@ -36,10 +36,10 @@ unfolding clap_on_literals
 serves =
     record {
       once = refl;
-      flag_long = is_one_of (λ name. arg_by_long line.rules name ≡ Some (F name)) all_flags (refl, (refl, (refl, tt)));
+      flag_long = is_one_of (λ name. arg_by_long line.rules name ≡ Some (F name)) all_flags (refl, (refl, (refl, (refl, tt))));
       valued_long = is_one_of (λ name. arg_by_long line.rules name ≡ Some (V name)) all_valued (refl, (refl, (refl, (refl, (refl, tt)))));
       valued_id = is_one_of (λ name. arg_by_id line.rules name ≡ Some (V name)) all_valued (refl, (refl, (refl, (refl, (refl, tt)))));
-      flag_some = λ name has. (is_one_of (λ n. 0 < length n) all_flags (omega arith, (omega arith, (omega arith, tt))) name has, all_apart.flag_names name has);
+      flag_some = λ name has. (is_one_of (λ n. 0 < length n) all_flags (omega arith, (omega arith, (omega arith, (omega arith, tt)))) name has, all_apart.flag_names name has);
       valued_some = λ name has. (is_one_of (λ n. 0 < length n) all_valued (omega arith, (omega arith, (omega arith, (omega arith, (omega arith, tt))))) name has, all_apart.valued_names name has);
     }
 
@@ -81,7 +81,7 @@ matched : (words : List Text) → matches_of options_app words ≡ finished line
 unfolding clap_on_literals
 matched words = refl
 
-rules_are : line.rules ≡ V (codes "limit") ∷ V (codes "after") ∷ V (codes "max-order") ∷ V (codes "reports") ∷ V (codes "set") ∷ F (codes "all") ∷ F (codes "text") ∷ F (codes "paths") ∷ []
+rules_are : line.rules ≡ V (codes "limit") ∷ V (codes "after") ∷ V (codes "max-order") ∷ V (codes "reports") ∷ V (codes "set") ∷ F (codes "all") ∷ F (codes "text") ∷ F (codes "paths") ∷ F (codes "tokens") ∷ []
 unfolding clap_on_literals
 rules_are = refl
 
@@ -94,13 +94,13 @@ valued_default rows name = same_both (has_row name rows) rows
 
 -- the rows of options, and then the defaults of the flags
 pub with_flags : List Row → List Row
-with_flags rows = with_default (with_default (with_default rows (F (codes "all"))) (F (codes "text"))) (F (codes "paths"))
+with_flags rows = with_default (with_default (with_default (with_default rows (F (codes "all"))) (F (codes "text"))) (F (codes "paths"))) (F (codes "tokens"))
 
 pub rows_are : (given : List Given) → AreOptions all_flags all_valued given → matches_of options_app (option_words given) ≡ with_flags (rows_for given)
 unfolding with_flags
 rows_are given options =
     let end = walks line all_flags all_valued serves given options.allowed options.once [] (walk_from nothing_held) start (none_yet given) in
-    let flags = F (codes "all") ∷ F (codes "text") ∷ F (codes "paths") ∷ [] in
+    let flags = F (codes "all") ∷ F (codes "text") ∷ F (codes "paths") ∷ F (codes "tokens") ∷ [] in
     matched (option_words given) ∙ ap (λ (w : Walk). finished line.rules w.held) end.0.is
     ∙ ap (λ (rows : List Row). fold with_default rows line.rules) end.0.settles
     ∙ ap (fold with_default (rows_for given)) rules_are
@@ -242,27 +242,31 @@ reads_flag text true flag is reads = reads.0 is
 reads_flag text false flag is reads = reads.1 is
 
 -- values of these parts
-abbrev values : Option Text → Option Text → Option Text → Option Text → Option Text → Bool → Bool → Bool → Values
-values l f m r s x t p = record { limit = l; after = f; max_order = m; reports = r; set = s; all = x; text = t; paths = p }
+abbrev values : Option Text → Option Text → Option Text → Option Text → Option Text → Bool → Bool → Bool → Bool → Values
+values l f m r s x t p k = record { limit = l; after = f; max_order = m; reports = r; set = s; all = x; text = t; paths = p; tokens = k }
 
-same_values : (a b : Values) → a.limit ≡ b.limit → a.after ≡ b.after → a.max_order ≡ b.max_order → a.reports ≡ b.reports → a.set ≡ b.set → a.all ≡ b.all → a.text ≡ b.text → a.paths ≡ b.paths → a ≡ b
-same_values a b l f m r s x t p =
-    ap (λ (o : Option Text). values o a.after a.max_order a.reports a.set a.all a.text a.paths) l
-    ∙ ap (λ (o : Option Text). values b.limit o a.max_order a.reports a.set a.all a.text a.paths) f
-    ∙ ap (λ (o : Option Text). values b.limit b.after o a.reports a.set a.all a.text a.paths) m
-    ∙ ap (λ (o : Option Text). values b.limit b.after b.max_order o a.set a.all a.text a.paths) r
-    ∙ ap (λ (o : Option Text). values b.limit b.after b.max_order b.reports o a.all a.text a.paths) s
-    ∙ ap (λ (o : Bool). values b.limit b.after b.max_order b.reports b.set o a.text a.paths) x
-    ∙ ap (λ (o : Bool). values b.limit b.after b.max_order b.reports b.set b.all o a.paths) t
-    ∙ ap (λ (o : Bool). values b.limit b.after b.max_order b.reports b.set b.all b.text o) p
+same_values : (a b : Values) → a.limit ≡ b.limit → a.after ≡ b.after → a.max_order ≡ b.max_order → a.reports ≡ b.reports → a.set ≡ b.set → a.all ≡ b.all → a.text ≡ b.text → a.paths ≡ b.paths → a.tokens ≡ b.tokens → a ≡ b
+same_values a b l f m r s x t p k =
+    ap (λ (o : Option Text). values o a.after a.max_order a.reports a.set a.all a.text a.paths a.tokens) l
+    ∙ ap (λ (o : Option Text). values b.limit o a.max_order a.reports a.set a.all a.text a.paths a.tokens) f
+    ∙ ap (λ (o : Option Text). values b.limit b.after o a.reports a.set a.all a.text a.paths a.tokens) m
+    ∙ ap (λ (o : Option Text). values b.limit b.after b.max_order o a.set a.all a.text a.paths a.tokens) r
+    ∙ ap (λ (o : Option Text). values b.limit b.after b.max_order b.reports o a.all a.text a.paths a.tokens) s
+    ∙ ap (λ (o : Bool). values b.limit b.after b.max_order b.reports b.set o a.text a.paths a.tokens) x
+    ∙ ap (λ (o : Bool). values b.limit b.after b.max_order b.reports b.set b.all o a.paths a.tokens) t
+    ∙ ap (λ (o : Bool). values b.limit b.after b.max_order b.reports b.set b.all b.text o a.tokens) p
+    ∙ ap (λ (o : Bool). values b.limit b.after b.max_order b.reports b.set b.all b.text b.paths o) k
 
 -- a value is found beside the defaults
-value_there : (name : Text) → Contains all_valued name → bytes_eq (codes "all") name ≡ false → bytes_eq (codes "text") name ≡ false → bytes_eq (codes "paths") name ≡ false → (given : List Given) → Allowed all_flags all_valued given → first_of name (with_flags (rows_for given)) ≡ value_of name given
+value_there : (name : Text) → Contains all_valued name → bytes_eq (codes "all") name ≡ false → bytes_eq (codes "text") name ≡ false → bytes_eq (codes "paths") name ≡ false → bytes_eq (codes "tokens") name ≡ false → (given : List Given) → Allowed all_flags all_valued given → first_of name (with_flags (rows_for given)) ≡ value_of name given
 unfolding with_flags
-value_there name valued all text paths given allowed =
+value_there name valued all text paths tokens given allowed =
+    let first = with_default (rows_for given) (F (codes "all")) in
+    let second = with_default first (F (codes "text")) in
     ap (option_and_then (λ (r : Row). slice_get r.values 0))
-    (default_other name (codes "paths") (with_default (with_default (rows_for given) (F (codes "all"))) (F (codes "text"))) paths
-    ∙ default_other name (codes "text") (with_default (rows_for given) (F (codes "all"))) text
+    (default_other name (codes "tokens") (with_default second (F (codes "paths"))) tokens
+    ∙ default_other name (codes "paths") second paths
+    ∙ default_other name (codes "text") first text
     ∙ default_other name (codes "all") (rows_for given) all)
     ∙ found_value name valued given allowed
 
@@ -278,16 +282,20 @@ unfolding with_flags
 all_there given allowed =
     let name : Text = codes "all" in
     let first = with_default (rows_for given) (F (codes "all")) in
+    let second = with_default first (F (codes "text")) in
+    let third = with_default second (F (codes "paths")) in
     flag_there name (a_flag name refl) (with_flags (rows_for given)) given allowed
-    (default_other name (codes "paths") (with_default first (F (codes "text"))) refl ∙ default_other name (codes "text") first refl ∙ default_same name (rows_for given))
+    (default_other name (codes "tokens") third refl ∙ default_other name (codes "paths") second refl ∙ default_other name (codes "text") first refl ∙ default_same name (rows_for given))
 
 text_there : (given : List Given) → Allowed all_flags all_valued given → one_of (codes "text") (with_flags (rows_for given)) ≡ Some (if has_flag (codes "text") given then codes "true" else codes "false")
 unfolding with_flags
 text_there given allowed =
     let name : Text = codes "text" in
     let first = with_default (rows_for given) (F (codes "all")) in
+    let second = with_default first (F (codes "text")) in
+    let third = with_default second (F (codes "paths")) in
     flag_there name (a_flag name refl) (with_flags (rows_for given)) given allowed
-    (default_other name (codes "paths") (with_default first (F (codes "text"))) refl ∙ default_same name first
+    (default_other name (codes "tokens") third refl ∙ default_other name (codes "paths") second refl ∙ default_same name first
     ∙ ap (λ (o : Option Row). option_or o (Some (default_row name))) (default_other name (codes "all") (rows_for given) refl))
 
 paths_there : (given : List Given) → Allowed all_flags all_valued given → one_of (codes "paths") (with_flags (rows_for given)) ≡ Some (if has_flag (codes "paths") given then codes "true" else codes "false")
@@ -295,20 +303,34 @@ unfolding with_flags
 paths_there given allowed =
     let name : Text = codes "paths" in
     let first = with_default (rows_for given) (F (codes "all")) in
+    let second = with_default first (F (codes "text")) in
+    let third = with_default second (F (codes "paths")) in
     flag_there name (a_flag name refl) (with_flags (rows_for given)) given allowed
-    (default_same name (with_default first (F (codes "text")))
+    (default_other name (codes "tokens") third refl ∙ default_same name second
     ∙ ap (λ (o : Option Row). option_or o (Some (default_row name))) (default_other name (codes "text") first refl ∙ default_other name (codes "all") (rows_for given) refl))
+
+tokens_there : (given : List Given) → Allowed all_flags all_valued given → one_of (codes "tokens") (with_flags (rows_for given)) ≡ Some (if has_flag (codes "tokens") given then codes "true" else codes "false")
+unfolding with_flags
+tokens_there given allowed =
+    let name : Text = codes "tokens" in
+    let first = with_default (rows_for given) (F (codes "all")) in
+    let second = with_default first (F (codes "text")) in
+    let third = with_default second (F (codes "paths")) in
+    flag_there name (a_flag name refl) (with_flags (rows_for given)) given allowed
+    (default_same name third
+    ∙ ap (λ (o : Option Row). option_or o (Some (default_row name))) (default_other name (codes "paths") second refl ∙ default_other name (codes "text") first refl ∙ default_other name (codes "all") (rows_for given) refl))
 
 -- the values that stand in the matches are those of the options
 pub values_are : (given : List Given) → AreOptions all_flags all_valued given → (found : Values) → StandIn (with_flags (rows_for given)) found → found ≡ values_of given
 values_are given options found stand =
     let allowed = options.allowed in
     same_values found (values_of given)
-    (stand.limit ∙ value_there (codes "limit") (a_valued (codes "limit") refl) refl refl refl given allowed)
-    (stand.after ∙ value_there (codes "after") (a_valued (codes "after") refl) refl refl refl given allowed)
-    (stand.max_order ∙ value_there (codes "max-order") (a_valued (codes "max-order") refl) refl refl refl given allowed)
-    (stand.reports ∙ value_there (codes "reports") (a_valued (codes "reports") refl) refl refl refl given allowed)
-    (stand.set ∙ value_there (codes "set") (a_valued (codes "set") refl) refl refl refl given allowed)
+    (stand.limit ∙ value_there (codes "limit") (a_valued (codes "limit") refl) refl refl refl refl given allowed)
+    (stand.after ∙ value_there (codes "after") (a_valued (codes "after") refl) refl refl refl refl given allowed)
+    (stand.max_order ∙ value_there (codes "max-order") (a_valued (codes "max-order") refl) refl refl refl refl given allowed)
+    (stand.reports ∙ value_there (codes "reports") (a_valued (codes "reports") refl) refl refl refl refl given allowed)
+    (stand.set ∙ value_there (codes "set") (a_valued (codes "set") refl) refl refl refl refl given allowed)
     (reads_flag (one_of (codes "all") (with_flags (rows_for given))) (has_flag (codes "all") given) found.all (all_there given allowed) stand.all)
     (reads_flag (one_of (codes "text") (with_flags (rows_for given))) (has_flag (codes "text") given) found.text (text_there given allowed) stand.text)
     (reads_flag (one_of (codes "paths") (with_flags (rows_for given))) (has_flag (codes "paths") given) found.paths (paths_there given allowed) stand.paths)
+    (reads_flag (one_of (codes "tokens") (with_flags (rows_for given))) (has_flag (codes "tokens") given) found.tokens (tokens_there given allowed) stand.tokens)

@@ -60,7 +60,12 @@ no_name_in_both flags valued others all name has other =
 
 pub kinds_apart : (k : Kind) → AreApart (flags_of k) (valued_of k)
 kinds_apart kind.Check = record { flag_names = no_equals [] tt; valued_names = no_equals [] tt; apart = λ name has other. none_of name has }
-kinds_apart kind.Cuts = record { flag_names = no_equals [] tt; valued_names = no_equals (codes "limit" ∷ codes "after" ∷ codes "max-order" ∷ []) (refl, (refl, (refl, tt))); apart = λ name has other. none_of name has }
+kinds_apart kind.Cuts =
+    record {
+      flag_names = no_equals (codes "tokens" ∷ []) (refl, tt);
+      valued_names = no_equals (codes "limit" ∷ codes "after" ∷ codes "max-order" ∷ []) (refl, (refl, (refl, tt)));
+      apart = no_name_in_both (codes "tokens" ∷ []) (codes "limit" ∷ codes "after" ∷ codes "max-order" ∷ []) (refl, tt) (refl, (refl, (refl, tt)));
+    }
 kinds_apart kind.Tree = record { flag_names = no_equals [] tt; valued_names = no_equals [] tt; apart = λ name has other. none_of name has }
 kinds_apart kind.Fmea = record { flag_names = no_equals (codes "all" ∷ []) (refl, tt); valued_names = no_equals [] tt; apart = λ name has other. none_of name other }
 kinds_apart kind.Report = record { flag_names = no_equals [] tt; valued_names = no_equals (codes "reports" ∷ codes "max-order" ∷ []) (refl, (refl, tt)); apart = λ name has other. none_of name has }
@@ -78,9 +83,9 @@ kinds_apart kind.Confirm = record { flag_names = no_equals [] tt; valued_names =
 pub all_apart : AreApart all_flags all_valued
 all_apart =
     record {
-      flag_names = no_equals all_flags (refl, (refl, (refl, tt)));
+      flag_names = no_equals all_flags (refl, (refl, (refl, (refl, tt))));
       valued_names = no_equals all_valued (refl, (refl, (refl, (refl, (refl, tt)))));
-      apart = no_name_in_both all_flags all_valued (refl, (refl, (refl, tt))) (refl, (refl, (refl, (refl, (refl, tt)))));
+      apart = no_name_in_both all_flags all_valued (refl, (refl, (refl, (refl, tt)))) (refl, (refl, (refl, (refl, (refl, tt)))));
     }
 
 -- ---- one reading

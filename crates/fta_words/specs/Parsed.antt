@@ -22,11 +22,11 @@ abbrev pub options_app : App
 options_app =
     fold with_rule bare_app
     (valued_rule (codes "limit") ∷ valued_rule (codes "after") ∷ valued_rule (codes "max-order") ∷ valued_rule (codes "reports")
-    ∷ valued_rule (codes "set") ∷ flag_rule (codes "all") ∷ flag_rule (codes "text") ∷ flag_rule (codes "paths") ∷ [])
+    ∷ valued_rule (codes "set") ∷ flag_rule (codes "all") ∷ flag_rule (codes "text") ∷ flag_rule (codes "paths") ∷ flag_rule (codes "tokens") ∷ [])
 
 -- the flags of all commands
 abbrev pub all_flags : List Text
-all_flags = codes "all" ∷ codes "text" ∷ codes "paths" ∷ []
+all_flags = codes "all" ∷ codes "text" ∷ codes "paths" ∷ codes "tokens" ∷ []
 
 -- the options with a value of all commands
 abbrev pub all_valued : List Text
@@ -46,3 +46,4 @@ pub record StandIn (rows : List Row) (values : Values) : Type 0 where
   pub all : ReadsFlag (one_of (codes "all") rows) values.all
   pub text : ReadsFlag (one_of (codes "text") rows) values.text
   pub paths : ReadsFlag (one_of (codes "paths") rows) values.paths
+  pub tokens : ReadsFlag (one_of (codes "tokens") rows) values.tokens

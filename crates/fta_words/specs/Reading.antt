@@ -21,7 +21,7 @@ follows_well waiting (byte ∷ bytes) =
 -- the flags of a command
 abbrev pub flags_of : Kind → List (List ℕ)
 flags_of kind.Check = []
-flags_of kind.Cuts = []
+flags_of kind.Cuts = codes "tokens" ∷ []
 flags_of kind.Tree = []
 flags_of kind.Fmea = codes "all" ∷ []
 flags_of kind.Report = []
@@ -69,6 +69,7 @@ pub record Values : Type 0 where
   pub all : Bool
   pub text : Bool
   pub paths : Bool
+  pub tokens : Bool
 
 abbrev pub values_of : List Given → Values
 values_of given =
@@ -81,6 +82,7 @@ values_of given =
       all = has_flag (codes "all") given;
       text = has_flag (codes "text") given;
       paths = has_flag (codes "paths") given;
+      tokens = has_flag (codes "tokens") given;
     }
 
 abbrev pub options_shown : Options → Values
@@ -94,6 +96,7 @@ options_shown options =
       all = options.all;
       text = options.text;
       paths = options.paths;
+      tokens = options.tokens;
     }
 
 -- The words are options, which say these values.
@@ -121,7 +124,7 @@ name_of kind.Confirm = codes "confirm"
 
 abbrev pub kind_of : Command → Kind
 kind_of (Check root files) = kind.Check
-kind_of (Cuts root target files paging) = kind.Cuts
+kind_of (Cuts root target files paging tokens) = kind.Cuts
 kind_of (Tree root target files) = kind.Tree
 kind_of (Fmea root files all) = kind.Fmea
 kind_of (Report root target files chosen max_order) = kind.Report
@@ -134,12 +137,13 @@ kind_of (Confirm root target files set) = kind.Confirm
 -- The plain words and the values of the options are a command.
 abbrev pub IsRead : List (List ℕ) → List (List ℕ) → Values → Command → Type 0
 IsRead reports plain values (Check root files) = (root_word : List ℕ) × (plain ≡ codes "check" ∷ root_word ∷ files) × NamesModel root_word root files
-IsRead reports plain values (Cuts root target files paging) =
+IsRead reports plain values (Cuts root target files paging tokens) =
     (root_word : List ℕ) × (target_word : List ℕ) × (plain ≡ codes "cuts" ∷ root_word ∷ target_word ∷ files)
     × NamesModel root_word root files × IsFolded target_word target
     × Says IsNumberText values.limit paging.limit
     × Says IsFolded values.after paging.after
     × Says IsNumberText values.max_order paging.max_order
+    × (tokens ≡ values.tokens)
 IsRead reports plain values (Tree root target files) =
     (root_word : List ℕ) × (target_word : List ℕ) × (plain ≡ codes "tree" ∷ root_word ∷ target_word ∷ files)
     × NamesModel root_word root files × IsFolded target_word target

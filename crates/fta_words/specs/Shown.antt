@@ -6,7 +6,7 @@ use Rattle.fta_words.specs.Words.{Command, Check, Cuts, Tree, Fmea, Report, Make
 -- a command
 abbrev pub command_shown : CommandInCode → Command
 command_shown (in_code.Check root files) = Check root files.now
-command_shown (in_code.Cuts root target files paging) = Cuts root target files.now paging
+command_shown (in_code.Cuts root target files paging tokens) = Cuts root target files.now paging tokens
 command_shown (in_code.Tree root target files) = Tree root target files.now
 command_shown (in_code.Fmea root files all) = Fmea root files.now all
 command_shown (in_code.Report root target files chosen max_order) = Report root target files.now chosen max_order

@@ -117,8 +117,8 @@ has_flag name given = list_any (λ option. is_same_text name option.name) given
 pub data Command : Type 0 where
   -- the numbers of the model of a root, which stands in files of these names
   Check : Root → List (List ℕ) → Command
-  -- a page of the minimal cut sets of the fact of a name in such a model
-  Cuts : Root → List ℕ → List (List ℕ) → Paging → Command
+  -- a page of the minimal cut sets of the fact of a name in such a model; perhaps with a token in the last line
+  Cuts : Root → List ℕ → List (List ℕ) → Paging → Bool → Command
   -- the static fault tree of such a fact
   Tree : Root → List ℕ → List (List ℕ) → Command
   -- the FMEA table of such a model, of all effects or of those of the root
@@ -139,7 +139,7 @@ pub data Command : Type 0 where
 -- the names of the files of a command
 abbrev pub files_of : Command → List (List ℕ)
 files_of (Check root files) = files
-files_of (Cuts root target files paging) = files
+files_of (Cuts root target files paging tokens) = files
 files_of (Tree root target files) = files
 files_of (Fmea root files all) = files
 files_of (Report root target files chosen max_order) = files
@@ -205,13 +205,14 @@ AreChosen reports (Some text) chosen = AreNames reports text chosen
 abbrev pub IsCommand : List (List ℕ) → List (List ℕ) → Command → Type 0
 IsCommand reports words (Check root files) =
     (root_word : List ℕ) × (given : List Given) × AreWords words (codes "check" ∷ root_word ∷ files) [] [] given × NamesModel root_word root files
-IsCommand reports words (Cuts root target files paging) =
+IsCommand reports words (Cuts root target files paging tokens) =
     (root_word : List ℕ) × (target_word : List ℕ) × (given : List Given)
-    × AreWords words (codes "cuts" ∷ root_word ∷ target_word ∷ files) [] (codes "limit" ∷ codes "after" ∷ codes "max-order" ∷ []) given
+    × AreWords words (codes "cuts" ∷ root_word ∷ target_word ∷ files) (codes "tokens" ∷ []) (codes "limit" ∷ codes "after" ∷ codes "max-order" ∷ []) given
     × NamesModel root_word root files × IsFolded target_word target
     × Says IsNumberText (value_of (codes "limit") given) paging.limit
     × Says IsFolded (value_of (codes "after") given) paging.after
     × Says IsNumberText (value_of (codes "max-order") given) paging.max_order
+    × (tokens ≡ has_flag (codes "tokens") given)
 IsCommand reports words (Tree root target files) =
     (root_word : List ℕ) × (target_word : List ℕ) × (given : List Given) × AreWords words (codes "tree" ∷ root_word ∷ target_word ∷ files) [] [] given
     × NamesModel root_word root files × IsFolded target_word target

@@ -25,12 +25,13 @@ pub enum Command<'a> {
         root: Root,
         files: &'a [Word],
     },
-    /// A page of the minimal cut sets of the fact of a name, which is folded, in such a model.
+    /// A page of the minimal cut sets of the fact of a name, which is folded, in such a model; perhaps with a token in the last line.
     Cuts {
         root: Root,
         target: Name,
         files: &'a [Word],
         paging: Paging,
+        tokens: bool,
     },
     /// The static fault tree of such a fact.
     Tree {
@@ -202,6 +203,7 @@ fn cuts<'a>(alloc: Global, words: &'a [Word], options: &Options<'_>) -> Mem<Opti
         target,
         files,
         paging,
+        tokens: options.tokens,
     }))
 }
 

@@ -61,16 +61,11 @@ pub(crate) fn has_flag(kind: Kind, name: &[u8]) -> bool
     ensures { IsTrue result ↔ Contains (flags_of kind) name.now }
 {
     match kind {
+        Kind::Cuts => is_same(name, b"tokens"),
         Kind::Fmea => is_same(name, b"all"),
         Kind::Make => is_same(name, b"text"),
         Kind::Galileo => is_same(name, b"paths"),
-        Kind::Check
-        | Kind::Cuts
-        | Kind::Tree
-        | Kind::Report
-        | Kind::Paths
-        | Kind::Why
-        | Kind::Confirm => false,
+        Kind::Check | Kind::Tree | Kind::Report | Kind::Paths | Kind::Why | Kind::Confirm => false,
     }
 }
 

@@ -19,6 +19,7 @@ pub(crate) struct Options<'a> {
     pub(crate) all: bool,
     pub(crate) text: bool,
     pub(crate) paths: bool,
+    pub(crate) tokens: bool,
 }
 
 /// Whether the words are options of the command, none of which stands twice.

@@ -40,6 +40,7 @@ fn options_found<'t>(matches: &ArgMatches<'t>) -> Options<'t>
         all: matches.get_flag("all"),
         text: matches.get_flag("text"),
         paths: matches.get_flag("paths"),
+        tokens: matches.get_flag("tokens"),
     }
 }
 
@@ -66,7 +67,8 @@ fn options_line<'a>(alloc: Global) -> Result<Command<'a>, AllocError>
         .arg(valued(alloc, "set"))?
         .arg(flag(alloc, "all"))?
         .arg(flag(alloc, "text"))?
-        .arg(flag(alloc, "paths"))
+        .arg(flag(alloc, "paths"))?
+        .arg(flag(alloc, "tokens"))
 }
 
 /// An option that has a value.

@@ -15,6 +15,8 @@ pub enum Status {
     Refused(Refusal),
     /// The target of a tree holds under no event at all (true), or fails under all of them (false), so it has no tree.
     Constant(bool),
+    /// A page token names another input: the digits of its key, and those of the key of what the words ask for.
+    StaleToken { token: [u8; 64], input: [u8; 64] },
     /// The file word of this number, counted from 0, could not be read.
     ReadFault(u32),
     /// A write to the output failed.
@@ -36,6 +38,7 @@ impl Status {
             Status::Done => 0,
             Status::Usage => 1,
             Status::Refused(_) => 2,
+            Status::StaleToken { .. } => 2,
             Status::Constant(_) => 3,
             Status::ReadFault(_) => 4,
             Status::WriteFault => 5,

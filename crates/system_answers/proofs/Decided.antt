@@ -19,6 +19,7 @@ use Rattle.backward_slice.proofs.OneSlice.{one_large, one_served, served_or_larg
 use Rattle.phases.specs.Phases.{IsDecided, IsDecidedStep}
 use Rattle.phases.specs.declared.status.Status.{Status}
 use Rattle.phases.specs.declared.status.Status.TheVariants.{Refused, Constant}
+use Rattle.page_tokens.proofs.Once.{page_start_decided}
 use Rattle.path_sets.specs.Duals.{dual_of}
 use Rattle.path_sets.specs.PathSets.{HasLargePaths, IsPathListing}
 use Rattle.path_sets.proofs.Listings.{one-listing}
@@ -29,7 +30,7 @@ use Rattle.galileo_reader.specs.Trees.{IsRead}
 use Rattle.galileo_reader.specs.TreeSystems.{system_of, target_of as top_of_tree}
 use Rattle.galileo_reader.proofs.OneAnswer.{one-read, one-wrong, read-apart}
 use Rattle.system_answers.specs.Galileo.{LacksNamedTree, flaw_refusal}
-use Rattle.system_answers.specs.Texts.{cuts_text, galileo_of, galileo_paths_text, galileo_text, named_tree, paths_text, report_text, slice_of, start_of, target_of, tree_paths, tree_sets, tree_text}
+use Rattle.system_answers.specs.Texts.{begin_of, cuts_text, galileo_of, galileo_paths_text, galileo_text, named_tree, paths_text, report_text, slice_of, start_of, target_of, tree_paths, tree_sets, tree_text}
 use Rattle.system_answers.specs.Trees.{LacksTree}
 use Rattle.system_answers.specs.Voices.{Voice}
 
@@ -90,11 +91,15 @@ module _ (Same : Status → Status → Type 0) (itself : (status : Status) → S
   start_decided text system is names =
       decided_rejects Same (IsStart system text) (LacksStart system text) (one_start text system is names) (start_or_lacks text system) (λ a b h k. same_refusal a b (lacks_one text system a b h k))
 
-  pub cuts_decided : (target : List ℕ) (paging : Paging) (system : System) → IsSystem system → HasTokenNames system → IsDecided Same (cuts_text target paging system)
-  cuts_decided target paging system is names = (
+  begin_decided : (key : List ℕ) (after : Option (List ℕ)) (system : System) → IsSystem system → HasTokenNames system → IsDecided Same (begin_of key after system)
+  begin_decided key None system is names = tt
+  begin_decided key (Some text) system is names = page_start_decided Same itself key text system is names
+
+  pub cuts_decided : (target : List ℕ) (paging : Paging) (tokens : Bool) (key : List ℕ) (system : System) → IsSystem system → HasTokenNames system → IsDecided Same (cuts_text target paging tokens key system)
+  cuts_decided target paging tokens key system is names = (
     target_decided target system,
     λ number named. (
-      start_decided paging.after system is names,
+      begin_decided key paging.after system is names,
       λ start begins. (slice_decided number system, λ slice served. (decided_accepts Same (IsListing system number paging.max_order) (one_listing system number paging.max_order), λ sets are. tt)),
     ),
   )

@@ -1,3 +1,4 @@
+mod Begins
 pub mod Targets
 pub mod Prints
 pub mod Listed

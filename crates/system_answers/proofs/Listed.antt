@@ -1,5 +1,5 @@
 -- The sets of a family of minimal cut sets in listing order are a listing.
-use Rattle.std.proofs.Common.{ℕ, List, Contains, Option, Result, Ok, Err, IfOk, inl, inr, refl}
+use Rattle.std.proofs.Common.{ℕ, List, Contains, Option, Result, Ok, Err, IfOk, OnErr, inl, inr, refl}
 use Rattle.std.specs.Prelude.{IsTrue}
 use Rattle.fault_system.specs.Systems.{System}
 use Rattle.fault_system.specs.CutSets.{IsEventSet, IsMinimalCutSet}
@@ -39,6 +39,10 @@ listed system target most family sets exact lists = record {
 pub ok_both : {T E : Type 0} (r : Result T E) (P Q R : T → Type 0) → ((x : T) → P x → Q x → R x) → IfOk r P → IfOk r Q → IfOk r R
 ok_both (Ok x) P Q R both p q = both x p q
 ok_both (Err e) P Q R both p q = tt
+
+pub on_err : {T E P : Type 0} (r : Result T E) → P → OnErr r P
+on_err (Ok x) p = tt
+on_err (Err e) p = p
 
 -- ---- path sets
 

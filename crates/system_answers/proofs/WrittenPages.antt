@@ -1,5 +1,5 @@
 -- What is listed of the text of a target's tree is the target's listing, under the same names.
-use Rattle.std.proofs.Common.{ℕ, zero, suc, ◌+◌, ◌≡◌, ◌≤◌, List, [], ◌∷◌, ◌++◌, decimal, length, map, take, nat_lt, Option, None, Some, inl, inr, ap, ◌∙◌, sym, subst, refl}
+use Rattle.std.proofs.Common.{ℕ, zero, suc, ◌+◌, ◌≡◌, ◌≤◌, List, [], ◌∷◌, ◌++◌, decimal, length, map, take, nat_lt, Option, None, Some, inl, inr, ap, ◌∙◌, sym, subst, refl, codes}
 use Rattle.std.specs.List.{AllByRecursion, flat_map}
 use lib.ListN.{length-map}
 use Rattle.std.proofs.lemmas.List.{take-map}
@@ -79,7 +79,7 @@ module _ (system : System) (is_system : IsSystem system) (names : HasTextNames s
   page-again limit sets all =
       let lines = lines-again (first_of limit sets) (all-first Places limit sets all) ∙ ap (flat_map (set_line Quoted system)) (sym (first-mapped (events_at tree.events) limit sets)) in
       let more = sym (more-mapped (events_at tree.events) limit sets) in
-      λ i. lines i ++ last_line (more i)
+      λ i. lines i ++ last_line (codes "more\n") (more i)
 
   -- a page of the tree that is read is that of the target's listing
   page-same : (limit max_order : Option ℕ) (page : List ℕ) (sets : List (List ℕ)) → IsListing system target max_order sets → Passed (tree_sets limit max_order (named_tree system tree rates)) page → page ≡ listing_page Quoted system None limit sets

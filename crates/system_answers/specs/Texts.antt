@@ -1,14 +1,15 @@
 -- The texts of answers on a system, as phases.
-use Rattle.std.specs.Prelude.{ℕ, List, Option, None}
+use Rattle.std.specs.Prelude.{ℕ, Bool, true, false, List, Option, None, Some}
 use Rattle.phases.specs.Phases.{Phase, yields, tells, tests, accepts, answers, rejects, ◌>>=◌}
 use Rattle.fault_system.specs.Systems.{System}
 use Rattle.fault_system.specs.Listings.{IsListing}
 use Rattle.backward_slice.specs.Slices.{HasLargeSlice, IsServed}
 use Rattle.backward_slice.specs.declared.parts.Slice.{Slice}
 use Rattle.property_reader.specs.declared.rate.Rate.{Rate}
-use Rattle.cutset_writer.specs.Text.{listing_page}
+use Rattle.cutset_writer.specs.Text.{listing_page, marked_page}
 use Rattle.cutset_writer.specs.declared.form.SetForm.{SetForm}
 use Rattle.cutset_writer.specs.declared.form.SetForm.TheVariants.{Quoted, Token}
+use Rattle.page_tokens.specs.Starts.{page_start}
 use Rattle.galileo_reader.specs.declared.tree.NamedTree.{NamedTree}
 use Rattle.galileo_reader.specs.Trees.{IsRead}
 use Rattle.galileo_reader.specs.TreeSystems.{system_of, target_of as top_of_tree}
@@ -38,17 +39,29 @@ page_in form number start limit max_order system = do
   sets ← accepts (IsListing system number max_order)
   yields (listing_page form system start limit sets)
 
--- the page of a target's listing
-abbrev pub page_of : ℕ → Option (List ℕ) → Paging → System → Phase (List ℕ)
-page_of number start paging system = page_in Token number start paging.limit paging.max_order system
+-- where a page begins by the text of a token, where one is given, and else before all sets; these are the digits of the key
+abbrev pub begin_of : List ℕ → Option (List ℕ) → System → Phase (Option (List ℕ))
+begin_of key None system = yields None
+begin_of key (Some text) system = page_start key text system
 
--- the text of `cuts`
-abbrev pub cuts_text : List ℕ → Paging → System → Phase (List ℕ)
-cuts_text target paging system = do
+-- the digits that the last line of a page names, where it is to have a token
+abbrev pub named_key : Bool → List ℕ → Option (List ℕ)
+named_key false key = None
+named_key true key = Some key
+
+-- the page of a target's listing; where the digits of a key are given, with a token in the last line
+abbrev pub page_of : ℕ → Option (List ℕ) → Paging → Option (List ℕ) → System → Phase (List ℕ)
+page_of number start paging key system = do
+  sets ← accepts (IsListing system number paging.max_order)
+  yields (marked_page Token system key start paging.limit sets)
+
+-- the text of `cuts`, perhaps with a token in the last line, where these are the digits of the key of what it is asked of
+abbrev pub cuts_text : List ℕ → Paging → Bool → List ℕ → System → Phase (List ℕ)
+cuts_text target paging tokens key system = do
   number ← target_of target system
-  start ← start_of paging.after system
+  start ← begin_of key paging.after system
   _ ← slice_of number system
-  page_of number start paging system
+  page_of number start paging (named_key tokens key) system
 
 -- the text of a target's tree
 abbrev pub galileo_of : ℕ → System → List Rate → Phase (List ℕ)

@@ -11,7 +11,7 @@ ghost use Rattle.system_answers.specs.Prints.{IsReportFault, Prints, PrintsBut};
 ghost use Rattle.system_answers.specs.Texts.{cuts_text, paths_text, report_text, tree_text};
 ghost use Rattle.system_answers.specs.Voices.{voices_of};
 
-use crate::cut_sets::{find_slice, find_start, write_page};
+use crate::cut_sets::{find_begin, find_slice, find_start, write_page};
 use crate::path_pages::write_path_page;
 use crate::reports::text_of_reports;
 use crate::target::find_target;
@@ -25,22 +25,25 @@ use plain_values::Name;
 use property_reader::Rate;
 use std::alloc::Global;
 
-/// Writes a page of the listing of a target in a system.
+/// Writes a page of the listing of a target in a system, perhaps with a token in the last line, where these are the digits of the key
+/// of what it is asked of.
 pub fn write_cuts<S: Sink>(
     alloc: Global,
     system: &FaultSystem,
     target: &Name,
     paging: &Paging,
+    tokens: bool,
+    key: &[u8; 64],
     out: &mut S,
 ) -> Result<(), Status>
     requires { HasTokenNames system.now }
-    ensures page { Prints (cuts_text target.now paging.now system.now) result (S.taken out.old) (S.taken out.new) (S.faults out.old) (S.faults out.new) }
+    ensures page { Prints (cuts_text target.now paging.now tokens key.now system.now) result (S.taken out.old) (S.taken out.new) (S.faults out.old) (S.faults out.new) }
     ensures begins { IsErrOf result Memory → S.taken out.new ≡ S.taken out.old }
 {
     let number = find_target(system, target)?;
-    let start = find_start(alloc, system, paging)?;
+    let start = find_begin(alloc, system, paging, key)?;
     let part = find_slice(alloc, system, number)?;
-    write_page(alloc, system, &part, &start, paging, out)
+    write_page(alloc, system, &part, &start, paging, tokens, key, out)
 }
 
 /// Writes a page of the minimal path sets of a target in a system.

@@ -1,26 +1,29 @@
 //! A page of the minimal cut sets of a target.
 
-ghost use Rattle.std.specs.Prelude.{◌≡◌, ◌<◌, IfErr, IfOk, IsErrOf, OnErr, OnOk, length, option_map};
+ghost use Rattle.std.specs.Prelude.{◌≡◌, ◌<◌, IfErr, IfOk, IfSome, IsErrOf, Some, OnErr, OnOk, length, option_map};
 ghost use Rattle.phases.specs.Meets.{Meets};
 ghost use Rattle.phases.specs.declared.status.Status.TheVariants as any_status;
 ghost use Rattle.fta_outside.specs.Outside.{Rose, TookPrefix, with_bytes};
+ghost use Rattle.fault_system.specs.CutSets.{IsEventSet};
 ghost use Rattle.fault_system.specs.Listings.{IsListing};
 ghost use Rattle.backward_slice.specs.Slices.{IsSlice};
 ghost use Rattle.cutset_lister.specs.Walks.{IsStarted, all_sets, sets_left};
-ghost use Rattle.cutset_writer.specs.Pages.{IsReady};
-ghost use Rattle.cutset_writer.specs.Text.{listing_page};
+ghost use Rattle.cutset_writer.specs.Pages.{IsOpen, IsReady};
+ghost use Rattle.cutset_writer.specs.Text.{listing_page, marked_page};
+ghost use Rattle.cutset_writer.specs.declared.form.SetForm.TheVariants.{Token};
 ghost use Rattle.cutset_lister.specs.SetText.{HasTokenNames};
-ghost use Rattle.system_answers.specs.Texts.{page_in, page_of, slice_of, start_of};
+ghost use Rattle.system_answers.specs.Texts.{begin_of, named_key, page_in, page_of, slice_of, start_of};
 ghost use Rattle.system_answers.specs.Prints.{Prints};
 
 use backward_slice::{Slice, slice};
 use cutset_engine::{family, in_slice};
 use cutset_lister::{Listing, read_token};
-use cutset_writer::{PageWriter, SetForm};
+use cutset_writer::{Bookmark, PageWriter, SetForm};
 use dependency_blocks::blocks;
 use fault_system::FaultSystem;
 use fta_outside::{Sink, WriteError};
 use fta_words::Paging;
+use page_tokens::read_page_token;
 use phases::Status;
 use plain_values::{List, Mem};
 use std::alloc::Global;
@@ -41,6 +44,23 @@ pub fn find_start(
     }
 }
 
+/// The set behind which a page begins by a token, where one is given; none where it begins before all sets. These are the digits of
+/// the key of what it is asked of.
+pub fn find_begin(
+    alloc: Global,
+    system: &FaultSystem,
+    paging: &Paging,
+    key: &[u8; 64],
+) -> Result<Option<List<u32>>, Status>
+    requires { HasTokenNames system.now }
+    ensures { Meets (begin_of key.now paging.now.after system.now) result }
+{
+    match &paging.after {
+        Some(text) => read_page_token(alloc, system, key, text.items()),
+        None => Ok(None),
+    }
+}
+
 /// The slice of a target; it is refused where it has too many facts or events.
 pub fn find_slice(alloc: Global, system: &FaultSystem, target: u32) -> Result<Slice, Status>
     requires { target < length system.now.facts }
@@ -50,19 +70,25 @@ pub fn find_slice(alloc: Global, system: &FaultSystem, target: u32) -> Result<Sl
     Ok(part)
 }
 
-/// Writes the page of the listing of the target of a slice.
+/// Writes the page of the listing of the target of a slice, perhaps with a token in the last line.
 pub fn write_page<S: Sink>(
     alloc: Global,
     system: &FaultSystem,
     part: &Slice,
     start: &Option<List<u32>>,
     paging: &Paging,
+    tokens: bool,
+    key: &[u8; 64],
     out: &mut S,
 ) -> Result<(), Status>
-    requires { IsSlice system.now part.now.target part.now }
-    ensures page { Prints (page_of part.now.target start.now paging.now system.now) result (S.taken out.old) (S.taken out.new) (S.faults out.old) (S.faults out.new) }
+    requires slice { IsSlice system.now part.now.target part.now }
+    requires start { IfSome start.now (IsEventSet system.now) }
+    ensures page { Prints (page_of part.now.target start.now paging.now (named_key tokens key.now) system.now) result (S.taken out.old) (S.taken out.new) (S.faults out.old) (S.faults out.new) }
     ensures begins { IsErrOf result any_status.Memory → S.taken out.new ≡ S.taken out.old }
 {
+    if tokens {
+        return write_marked_page(alloc, system, part, start, paging, key, out);
+    }
     write_page_in(
         alloc,
         system,
@@ -73,6 +99,50 @@ pub fn write_page<S: Sink>(
         paging.max_order,
         out,
     )
+}
+
+/// Writes the page of the listing of the target of a slice, with a token in the last line.
+fn write_marked_page<S: Sink>(
+    alloc: Global,
+    system: &FaultSystem,
+    part: &Slice,
+    start: &Option<List<u32>>,
+    paging: &Paging,
+    key: &[u8; 64],
+    out: &mut S,
+) -> Result<(), Status>
+    requires slice { IsSlice system.now part.now.target part.now }
+    requires start { IfSome start.now (IsEventSet system.now) }
+    ensures page { Prints (page_of part.now.target start.now paging.now (Some key.now) system.now) result (S.taken out.old) (S.taken out.new) (S.faults out.old) (S.faults out.new) }
+    ensures begins { IsErrOf result any_status.Memory → S.taken out.new ≡ S.taken out.old }
+{
+    let mut store = Store::new(alloc);
+    let writer = page_writer(alloc, system, part, paging.max_order, &mut store)?;
+    let bookmark = Bookmark::new(alloc, system, key)?;
+    write_marked_listing(writer, system, &store, bookmark, start, paging.limit, out)?;
+    Ok(())
+}
+
+/// Writes the page of a listing, with a token in the last line. It takes no memory.
+fn write_marked_listing<S: Sink>(
+    writer: PageWriter,
+    system: &FaultSystem,
+    store: &Store,
+    bookmark: Bookmark,
+    start: &Option<List<u32>>,
+    limit: Option<u32>,
+    out: &mut S,
+) -> Result<(), WriteError>
+    requires ready { IsReady system.now store.now writer }
+    requires open { IsOpen system.now bookmark }
+    requires start { IfSome start.now (IsEventSet system.now) }
+    ensures whole { OnOk result (S.taken out.new ≡ with_bytes (S.taken out.old) (marked_page Token system.now (Some bookmark.key) start.now limit (all_sets store.now writer.listing))) }
+    ensures prefix { OnErr result (TookPrefix (S.taken out.old) (S.taken out.new) (marked_page Token system.now (Some bookmark.key) start.now limit (all_sets store.now writer.listing))) }
+    ensures failed { OnErr result (Rose (S.faults out.old) (S.faults out.new)) }
+    ensures only { IfErr result (λ stop. stop ≡ WriteError.Failed) }
+{
+    writer.write_marked(system, store, bookmark, numbers_of(start), limit, out)?;
+    Ok(())
 }
 
 /// Writes a page of the listing of the target of a slice, whose sets stand in this form.

@@ -2,7 +2,7 @@ use Rattle.std.proofs.Common.{sym, subst}
 use Rattle.cutset_lister.specs.Walks.{sets_left}
 use Rattle.cutset_writer.specs.Pages.{HasRoom}
 use Rattle.cutset_writer.proofs.PageTexts.{room-filtered}
-use Rattle.std.specs.Prelude.{vec_capacity}
+use Rattle.cutset_writer.specs.Lengths.{most_line}
 use Rattle.fault_system.specs.Listings.{is_before}
 use Rattle.cutset_writer.proofs.page.write_on_ledger.Goals.{in-Some, in_default}
 use Rattle.cutset_writer.proofs.page.write_on_ledger.Goals as goal
@@ -11,8 +11,8 @@ pub write_sets-requires-clause-room : goal.write_sets-requires-clause-room
 write_sets-requires-clause-room g c =
     let system = c.args.system.now in
     let store = c.args.store.now in
-    let Room = HasRoom system (vec_capacity c.args.line.now) in
+    let Room = HasRoom system (most_line system) in
     elim c.match-after.branch [
-      | in-Some w ↦ subst (λ listing. Room (sets_left store listing)) (sym w.listing-is) (subst Room (sym w.seek.ensures.left) (room-filtered system (vec_capacity c.args.line.now) (is_before w.in-Some.set.now) _ c.requires.room))
+      | in-Some w ↦ subst (λ listing. Room (sets_left store listing)) (sym w.listing-is) (subst Room (sym w.seek.ensures.left) (room-filtered system (most_line system) (is_before w.in-Some.set.now) _ c.requires.room))
       | in_default w ↦ subst (λ listing. Room (sets_left store listing)) (sym w.listing-is) (subst Room (sym c.requires.left) c.requires.room)
     ]

@@ -1,15 +1,31 @@
-use Rattle.std.proofs.Common.{Err, ◌∙◌, ap}
+use Rattle.std.proofs.Common.{Err, ◌∙◌, ap, arith, sym, subst}
 use Rattle.std.proofs.lemmas.Result.{err_from_is_err_and}
-use Rattle.cutset_writer.proofs.PageTexts.{page_stopped, page_went_on}
+use Rattle.cutset_lister.specs.Walks.{sets_left}
+use Rattle.cutset_writer.specs.Lengths.{most_line}
+use Rattle.cutset_writer.specs.Pages.{HasRoom, next_more}
+use Rattle.cutset_writer.proofs.PageTexts.{page_ended, page_stopped, page_went_on, room_later}
 use Rattle.cutset_writer.proofs.page.write_sets.Goals as goal
 
 pub returns-in_err-write_next : goal.returns-in_err-write_next
-returns-in_err-write_next g c =
+returns-in_err-write_next g c = λ last named.
     let p = err_from_is_err_and c.from_residual.result c.from_residual.ensures.1 in
-    page_stopped c.args.form c.args.system.now c.args.limit _ _ _ _ _ _ _ _ _ _ c.from_residual.result c.in_err-write_next.field-0.0 (p.1 ∙ ap Err p.2) c.loop-room.invariant.1 c.in_err-write_next.ensures.wrote
+    page_stopped c.args.form c.args.system.now _ last c.args.limit _ _ _ _ _ _ _ _ _ _ c.from_residual.result c.in_err-write_next.field-0.0 (p.1 ∙ ap Err p.2) (c.loop-room.invariant.5 last named) c.in_err-write_next.ensures.wrote
+
+pub returns : goal.returns
+returns g c = λ last named.
+    page_ended c.args.form c.args.system.now _ last c.args.limit _ _ _ _ _ _ _ _ _ _ _ (c.loop-room.invariant.5 last named) c.in_ok-write_next.ensures.goes c.if-branch.false c.in_ok-write_next.ensures.wrote.0 c.in_ok-write_next.ensures.wrote.1
 
 pub loop-room-preserved : goal.loop-room-preserved
-loop-room-preserved g c = (
-  c.in_ok-write_next.ensures.same.started,
-  page_went_on c.args.form c.args.system.now c.args.limit _ _ _ _ _ _ _ _ _ _ _ _ _ _ c.loop-room.invariant.1 c.in_ok-write_next.ensures.goes c.if-branch.true c.in_ok-write_next.ensures.wrote.0 c.in_ok-write_next.ensures.wrote.1 c.in_ok-write_next.ensures.left c.one_less-room.ensures c.in_ok-write_next.ensures.room,
-)
+loop-room-preserved g c =
+    let system = c.args.system.now in
+    let next = c.in_ok-write_next.ensures in
+    let left = sets_left c.args.store.now c.loop-room.listing in (
+      next.same.started,
+      subst (HasRoom system (most_line system)) (sym next.left) (room_later system (most_line system) left c.loop-room.invariant.1),
+      omega (arith, c.loop-room.invariant.2, next.room),
+      next.open,
+      next.key ∙ c.loop-room.invariant.4,
+      λ last named.
+          let names = next.named c.if-branch.true ∙ ap (λ key. next_more key system left) c.loop-room.invariant.4 in
+          page_went_on c.args.form system _ last c.args.limit _ _ _ _ _ _ _ _ _ _ _ _ _ _ (c.loop-room.invariant.5 last named) next.goes c.if-branch.true next.wrote.0 next.wrote.1 next.left c.one_less-room.ensures names,
+    )

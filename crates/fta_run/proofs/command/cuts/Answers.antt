@@ -1,16 +1,15 @@
-use Rattle.fta_run.specs.Due.{model_of_files}
-use Rattle.system_answers.specs.Texts.{cuts_text}
-use Rattle.model_phases.specs.declared.flat.FlatModel.{FlatModel}
+use Rattle.std.proofs.Common.{List, ℕ}
+use Rattle.fta_run.specs.Due.{cuts_in, texts_of}
 use Rattle.fta_run.specs.Steps.{IsReadEnd}
 use Rattle.system_answers.specs.Prints.{NoFault}
 use Rattle.fta_run.proofs.Ran.{ran_on, ran_stopped}
 use Rattle.fta_run.proofs.command.cuts.Goals as goal
 
-pub returns-in_err-model-clause-end : goal.returns-in_err-model-clause-end
-returns-in_err-model-clause-end g c = λ voices.
-    ran_stopped NoFault _ (model_of_files (g.F.Files.contents c.args.files.now) c.args.root.now c.args.names.now) (λ (model : FlatModel). cuts_text c.args.target.now c.args.paging.now model.system) _ _ c.from_residual.result c.in_err-model.field-0.0 c.from_residual.ensures.1 c.in_err-model.ensures.meets
+pub returns-in_err-texts-clause-end : goal.returns-in_err-texts-clause-end
+returns-in_err-texts-clause-end g c = λ voices.
+    ran_stopped NoFault _ (texts_of (g.F.Files.contents c.args.files.now) c.args.names.now) (λ (texts : List (List ℕ)). cuts_in c.args.root.now c.args.target.now c.args.paging.now c.args.tokens texts) _ _ c.from_residual.result c.in_err-texts.field-0.0 c.from_residual.ensures.1 c.in_err-texts.ensures.meets
 
 pub returns-clause-end : goal.returns-clause-end
 returns-clause-end g c = λ voices.
-    ran_on NoFault (IsReadEnd c.args.names.now (g.F.Files.faults c.args.files.now) (g.F.Files.faults c.read_model.new.files)) (model_of_files (g.F.Files.contents c.args.files.now) c.args.root.now c.args.names.now)
-    (λ (model : FlatModel). cuts_text c.args.target.now c.args.paging.now model.system) c.in_ok-model.model c.write_cuts.result _ _ _ _ c.in_ok-model.ensures.meets c.write_cuts.ensures.page
+    ran_on NoFault (IsReadEnd c.args.names.now (g.F.Files.faults c.args.files.now) (g.F.Files.faults c.read_texts.new.files)) (texts_of (g.F.Files.contents c.args.files.now) c.args.names.now)
+    (λ (texts : List (List ℕ)). cuts_in c.args.root.now c.args.target.now c.args.paging.now c.args.tokens texts) c.in_ok-texts.texts c.write_cuts_in.result _ _ _ _ c.in_ok-texts.ensures.meets c.write_cuts_in.ensures.page

@@ -15,4 +15,5 @@ returns c =
       all = (λ is. c.get_flag.ensures.value (one_text-rows found (codes "all") ∙ is), λ is. c.get_flag.ensures.other (one_text-rows found (codes "all") ∙ is));
       text = (λ is. c.get_flag-2.ensures.value (one_text-rows found (codes "text") ∙ is), λ is. c.get_flag-2.ensures.other (one_text-rows found (codes "text") ∙ is));
       paths = (λ is. c.get_flag-3.ensures.value (one_text-rows found (codes "paths") ∙ is), λ is. c.get_flag-3.ensures.other (one_text-rows found (codes "paths") ∙ is));
+      tokens = (λ is. c.get_flag-4.ensures.value (one_text-rows found (codes "tokens") ∙ is), λ is. c.get_flag-4.ensures.other (one_text-rows found (codes "tokens") ∙ is));
     }

@@ -17,4 +17,5 @@ returns c =
     let five = c.in_ok-arg-5.ensures.shape c.valued-5.ensures.local ∙ ap₂ with_rule four c.valued-5.ensures.rule in
     let six = c.in_ok-arg-6.ensures.shape c.flag.ensures.local ∙ ap₂ with_rule five c.flag.ensures.rule in
     let seven = c.in_ok-arg-7.ensures.shape c.flag-2.ensures.local ∙ ap₂ with_rule six c.flag-2.ensures.rule in
-    IfOk-weaker c.arg-8.result _ _ (λ line added. added.shape c.flag-3.ensures.local ∙ ap₂ with_rule seven c.flag-3.ensures.rule) c.arg-8.ensures
+    let eight = c.in_ok-arg-8.ensures.shape c.flag-3.ensures.local ∙ ap₂ with_rule seven c.flag-3.ensures.rule in
+    IfOk-weaker c.arg-9.result _ _ (λ line added. added.shape c.flag-4.ensures.local ∙ ap₂ with_rule eight c.flag-4.ensures.rule) c.arg-9.ensures

@@ -1,12 +1,9 @@
-use Rattle.std.proofs.Common.{ℕ, List, Option, Result, Ok, Err, OnErr, subst}
+use Rattle.std.proofs.Common.{ℕ, List, Option, subst}
 use Rattle.fta_outside.specs.Outside.{TookPrefix}
 use Rattle.cutset_lister.specs.Walks.{all_sets}
 use Rattle.cutset_writer.specs.Text.{listing_page}
+use Rattle.system_answers.proofs.Listed.{on_err}
 use Rattle.system_answers.proofs.cut_sets.write_listing.Goals as goal
-
-on_err : {T E P : Type 0} (r : Result T E) → P → OnErr r P
-on_err (Ok x) p = tt
-on_err (Err e) p = p
 
 pub returns-in_err-write-clause-prefix : goal.returns-in_err-write-clause-prefix
 returns-in_err-write-clause-prefix g c =

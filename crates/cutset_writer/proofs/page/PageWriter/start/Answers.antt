@@ -11,10 +11,6 @@ returns-clause-ready c =
     record {
       started = c.in_ok-listing.ensures.started;
       left = c.in_ok-listing.ensures.left;
-      room = each-made _ all (λ set here form. omega (
-        arith,
-        c.in-Some.ensures,
-        c.in_ok-line.ensures.capacity,
-        line_fits form system set (omega (arith, c.events-events.ensures.count)) (c.requires.sets set ((c.in_ok-listing.ensures.sets set).0 (contains_In set all here))),
-      ));
+      room = each-made _ all (λ set here form. line_fits form system set (omega (arith, c.events-events.ensures.count)) (c.requires.sets set ((c.in_ok-listing.ensures.sets set).0 (contains_In set all here))));
+      wide = omega (arith, c.in-Some.ensures, c.in_ok-line.ensures.capacity);
     }

@@ -1,0 +1,4 @@
+pub mod Forms
+pub mod Once
+mod Backs
+mod Keys

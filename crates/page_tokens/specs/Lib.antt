@@ -1,0 +1,4 @@
+pub mod Forms
+pub mod Keys
+pub mod Shown
+pub mod Starts
