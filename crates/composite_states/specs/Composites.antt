@@ -10,8 +10,8 @@ use Rattle.component_extension.specs.Items.{Scoped}
 use Rattle.error_types.specs.declared.scope.Scope.{Scope}
 use Rattle.error_types.specs.Libraries.{Table}
 use Rattle.propagation_points.specs.Points.{Point, scopes_of}
-use Rattle.propagation_points.specs.Settings.{Setting, clause_setting}
-use Rattle.propagation_points.specs.States.{number_named, state_refusals}
+use Rattle.propagation_points.specs.Settings.{Setting, clause_setting, held_in, state_refusals_in}
+use Rattle.propagation_points.specs.States.{Sort, held_numbers, place_of_sort}
 use Rattle.error_conditions.specs.declared.cause.Cause.{Cause}
 use Rattle.error_conditions.specs.Conditions.{cause_of, condition_refusals}
 use Rattle.error_behavior.specs.declared.states.States.{States}
@@ -27,16 +27,16 @@ condition_of states_at setting table condition = option_map (cause_of (composite
 -- The meaning of a clause: the component is in its target where its condition is true.
 abbrev pub clause_of : StatesAt → Setting → Table → Composite → List ClauseMeaning
 clause_of states_at setting table composite =
-    option_to_list (option_map (λ target. record { target = target; condition = condition_of states_at setting table composite.condition }) (number_named setting.states composite.target.name))
+    option_to_list (option_map (λ held. record { targets = held_numbers held; condition = condition_of states_at setting table composite.condition }) (held_in table setting composite.target))
 
 -- the meanings of clauses, in order
-abbrev pub clauses_in : StatesAt → Table → List Point → List (List ℕ) → List Scope → List (Scoped Composite) → List ClauseMeaning
+abbrev pub clauses_in : StatesAt → Table → List Point → List Sort → List Scope → List (Scoped Composite) → List ClauseMeaning
 clauses_in states_at table points states scopes composites = flat_map (λ scoped. clause_of states_at (clause_setting points states scopes scoped.scope) table scoped.item) composites
 
 -- The composite clauses of a component with these points and states, over the states of the components below.
 abbrev pub clauses_of : StatesAt → Table → List Point → States → Effective → List ClauseMeaning
 clauses_of states_at table points states effective =
-    clauses_in states_at table points states.names (scopes_of table.packages effective.clauses) effective.behavior.composites
+    clauses_in states_at table points states.sorts (scopes_of table.packages effective.clauses) effective.behavior.composites
 
 -- ---- refusals
 
@@ -51,20 +51,20 @@ is_not_initial initial None = false
 is_not_initial initial (Some number) = not (slice_index_or initial number true)
 
 -- P7 at a clause of `others` to a state that is not initial
-abbrev pub others_refusals : States → Composite → List Refusal
-others_refusals states composite =
-    refused_so (is_none composite.condition && is_not_initial states.initial (number_named states.names composite.target.name)) Others composite.spot
+abbrev pub others_refusals : List Sort → List Bool → Composite → List Refusal
+others_refusals states initial composite =
+    refused_so (is_none composite.condition && is_not_initial initial (place_of_sort states composite.target.name)) Others composite.spot
 
--- The refusals of a clause: those of its condition, N11 and P10 of its target, and P7.
+-- The refusals of a clause: those of its condition, N11 and N10 of its target, and P7.
 abbrev pub clause_refusals : StatesAt → Setting → Table → List Bool → Composite → List Refusal
 clause_refusals states_at setting table initial composite =
     perhaps_refusals states_at setting table composite.condition
-    ++ (state_refusals setting.states composite.target ++ others_refusals (record { names = setting.states; initial = initial }) composite)
+    ++ (state_refusals_in table setting composite.target ++ others_refusals setting.states initial composite)
 
 -- the refusals of clauses
 abbrev pub refusals_in : StatesAt → Table → List Point → States → List Scope → List (Scoped Composite) → List Refusal
 refusals_in states_at table points states scopes composites =
-    flat_map (λ scoped. clause_refusals states_at (clause_setting points states.names scopes scoped.scope) table states.initial scoped.item) composites
+    flat_map (λ scoped. clause_refusals states_at (clause_setting points states.sorts scopes scoped.scope) table states.initial scoped.item) composites
 
 -- The refusals of the composite clauses of a component, one group.
 abbrev pub composite_clause_refusals : StatesAt → Table → List Point → States → Effective → List Refusal

@@ -1,27 +1,30 @@
-ghost use Rattle.std.specs.Prelude.{◌≡◌, IfOk, OnOk, Some, is_none, option_copied};
+ghost use Rattle.std.specs.Prelude.{◌≡◌, IfOk, OnOk, Some, is_none, map, option_copied};
 ghost use Rattle.plain_values.specs.Order.{least, nearer};
 ghost use Rattle.package_index.specs.Names.{front};
 ghost use Rattle.plain_values.specs.declared.refusal.Code.TheVariants.{UnknownState};
 ghost use Rattle.plain_values.specs.Refusal.{refused_so};
-ghost use Rattle.composite_states.specs.Below.{below_at, state_at, state_cause, state_in, state_named, state_named_refusals, unknown_refusals};
+ghost use Rattle.composite_states.specs.Below.{below_at, state_at, state_in, state_named, state_named_refusals, unknown_refusals, variant_cause};
+ghost use Rattle.error_conditions.specs.Conditions.{held_cause};
+ghost use Rattle.error_conditions.specs.declared.cause.Cause.TheVariants.{Any};
 
 use aadl_syntax::{Atom, Identifier};
-use error_conditions::{Atoms, Cause, StateBelow, note_no_errors, note_typed, point_meaning};
+use error_conditions::{Atoms, Cause, StateBelow, note_no_errors, point_meaning};
 use error_types::TypeTable;
 use package_index::Words;
 use plain_values::{Code, FirstRefusal, List, Mem, Spot};
-use propagation_points::{NameTable, Setting};
+use propagation_points::{Held, Setting, Sort, Sorts};
 use std::alloc::Global;
 use std::marker::Model;
 
 /// The states of the components below a component.
 pub trait StatesBelow<'a> {
     ghost use Rattle.std.specs.Prelude.{◌≡◌, List, Option, ℕ, option_copied};
+    ghost use Rattle.propagation_points.specs.States.{Sort as Seen};
 
-    ghost states_at: { Self → List (List ℕ) → Option (List (List ℕ)) };
+    ghost states_at: { Self → List (List ℕ) → Option (List Seen) };
 
-    /// The names of the states of the component to which these names of subcomponents lead; `None` where they lead to none.
-    fn states_at(&self, path: &[Identifier]) -> Option<&NameTable<'a>>
+    /// The states of the component to which these names of subcomponents lead; `None` where they lead to none.
+    fn states_at(&self, path: &[Identifier]) -> Option<&Sorts<'a>>
         ensures { option_copied result ≡ states_at self.now path.now };
 }
 
@@ -64,35 +67,42 @@ impl<'s, 'a, B: StatesBelow<'a>> Atoms for CompositePlace<'s, 'a, B> {
         if atom.inward {
             return point_meaning(alloc, &self.setting, types, atom, first);
         }
-        state_named(alloc, self.below, atom, first)
+        state_named(alloc, types, &self.setting, self.below, atom, first)
     }
 }
 
 /// The meaning of a named part that names a state of a component below. Its refusals are noted.
 #[tactic(auto, using(plain_values::proofs::Noting::noted_more))]
-fn state_named<'a, B: StatesBelow<'a>>(
+fn state_named<'a, 't, B: StatesBelow<'a>>(
     alloc: Global,
+    types: &mut TypeTable<'_, 't>,
+    setting: &Setting,
     below: &B,
-    atom: &Atom,
+    atom: &'t Atom,
     first: &mut FirstRefusal,
 ) -> Mem<Cause>
-    ensures meaning { IfOk result (λ cause. cause ≡ state_named (B.states_at below.now) atom.now) }
-    ensures first { OnOk result (first.new ≡ nearer first.old (least (state_named_refusals (B.states_at below.now) atom.now))) }
+    ensures kept { types.new ≡ types.old }
+    ensures meaning { IfOk result (λ cause. cause ≡ state_named (B.states_at below.now) types.old setting.now atom.now) }
+    ensures first { OnOk result (first.new ≡ nearer first.old (least (state_named_refusals (B.states_at below.now) types.old setting.now atom.now))) }
 {
     let names = atom.names.items();
-    let state = known_state(below, names, atom.spot, first);
-    note_typed(first, atom);
-    state_cause(alloc, path_of(names), state)
+    match known_state(below, names, atom.spot, first) {
+        Some(state) => {
+            let held = setting.held(alloc, types, state, &atom.set, first)?;
+            held_cause(alloc, path_of(names), held)
+        }
+        None => Ok(Cause::Any(List::new(alloc))),
+    }
 }
 
-/// The number of the state that names mean. N13 or N11 is noted where they mean none.
-fn known_state<'a, B: StatesBelow<'a>>(
-    below: &B,
+/// The state that names mean. N13 or N11 is noted where they mean none.
+fn known_state<'b, 'a, B: StatesBelow<'a>>(
+    below: &'b B,
     names: &[Identifier],
     spot: Spot,
     first: &mut FirstRefusal,
-) -> Option<u32>
-    ensures state { result ≡ state_at (B.states_at below.now) names.now }
+) -> Option<&'b Sort<'a>>
+    ensures state { option_copied result ≡ state_at (B.states_at below.now) names.now }
     ensures first { first.new ≡ nearer first.old (least (unknown_refusals names.now spot (below_at (B.states_at below.now) (front names.now)))) }
 {
     match below_at(below, path_of(names)) {
@@ -105,10 +115,7 @@ fn known_state<'a, B: StatesBelow<'a>>(
 }
 
 /// The states of the component below to which these names lead; without a name they lead to none.
-fn below_at<'b, 'a, B: StatesBelow<'a>>(
-    below: &'b B,
-    path: &[Identifier],
-) -> Option<&'b NameTable<'a>>
+fn below_at<'b, 'a, B: StatesBelow<'a>>(below: &'b B, path: &[Identifier]) -> Option<&'b Sorts<'a>>
     ensures { option_copied result ≡ below_at (B.states_at below.now) path.now }
 {
     if path.len() == 0 {
@@ -117,25 +124,25 @@ fn below_at<'b, 'a, B: StatesBelow<'a>>(
     below.states_at(path)
 }
 
-/// The number of the state that the last of the names names. N11 is noted where there is none.
-fn state_in(
-    states: &NameTable<'_>,
+/// The state that the last of the names names. N11 is noted where there is none.
+fn state_in<'b, 'a>(
+    states: &'b Sorts<'a>,
     names: &[Identifier],
     spot: Spot,
     first: &mut FirstRefusal,
-) -> Option<u32>
-    ensures state { result ≡ state_in names.now (Some states.now) }
+) -> Option<&'b Sort<'a>>
+    ensures state { option_copied result ≡ state_in names.now (Some states.now) }
     ensures first { first.new ≡ nearer first.old (least (refused_so (is_none (state_in names.now (Some states.now))) UnknownState spot)) }
 {
-    let number = number_of_last(states, names);
-    first.note_if(number.is_none(), Code::UnknownState, spot);
-    number
+    let state = last_of(states, names);
+    first.note_if(state.is_none(), Code::UnknownState, spot);
+    state
 }
 
-fn number_of_last(states: &NameTable<'_>, names: &[Identifier]) -> Option<u32>
-    ensures { result ≡ state_in names.now (Some states.now) }
+fn last_of<'b, 'a>(states: &'b Sorts<'a>, names: &[Identifier]) -> Option<&'b Sort<'a>>
+    ensures { option_copied result ≡ state_in names.now (Some states.now) }
 {
-    states.number(Words::Identifiers(names).last()?)
+    states.find(Words::Identifiers(names).last()?)
 }
 
 /// The names before the last.
@@ -148,17 +155,33 @@ fn path_of(names: &[Identifier]) -> &[Identifier]
     }
 }
 
-/// It is in the state of this number; without such a state it is never true.
-fn state_cause(alloc: Global, path: &[Identifier], state: Option<u32>) -> Mem<Cause>
-    ensures { IfOk result (λ cause. cause ≡ state_cause path.now state) }
+/// That the component below to which names lead is in what is selected of a state.
+fn held_cause(alloc: Global, path: &[Identifier], held: Held) -> Mem<Cause>
+    ensures { IfOk result (λ cause. cause ≡ held_cause (variant_cause path.now) held) }
 {
-    match state {
-        Some(state) => Ok(Cause::State(StateBelow {
-            path: copied(alloc, path)?,
-            state,
-        })),
-        None => Ok(Cause::Any(List::new(alloc))),
+    match held {
+        Held::One(number) => variant_cause(alloc, path, number),
+        Held::Any(numbers) => any_variant(alloc, path, numbers.items()),
     }
+}
+
+fn any_variant(alloc: Global, path: &[Identifier], numbers: &[u32]) -> Mem<Cause>
+    ensures { IfOk result (λ cause. cause ≡ Any (map (variant_cause path.now) numbers.now)) }
+{
+    let mut parts = List::new(alloc);
+    for number in numbers {
+        parts.push(variant_cause(alloc, path, *number)?)?;
+    }
+    Ok(Cause::Any(parts))
+}
+
+fn variant_cause(alloc: Global, path: &[Identifier], number: u32) -> Mem<Cause>
+    ensures { IfOk result (λ cause. cause ≡ variant_cause path.now number) }
+{
+    Ok(Cause::State(StateBelow {
+        path: copied(alloc, path)?,
+        state: number,
+    }))
 }
 
 fn copied(alloc: Global, names: &[Identifier]) -> Mem<List<Identifier>>

@@ -1,5 +1,6 @@
 ghost use Rattle.std.specs.Prelude.{◌≡◌, ◌&&◌, ◌++◌, IfOk, OnOk, is_none, option_map, option_to_list};
 ghost use Rattle.plain_values.specs.Order.{least, nearer};
+ghost use Rattle.propagation_points.specs.States.{held_numbers};
 ghost use Rattle.composite_states.specs.Composites.{clause_refusals, clause_of, clauses_in, clauses_of, composite_clause_refusals, condition_of, refusals_in, is_not_initial, perhaps_refusals};
 
 use crate::below::{CompositePlace, StatesBelow};
@@ -10,7 +11,7 @@ use error_behavior::States;
 use error_conditions::{Cause, cause_of};
 use error_types::{Scope, TypeTable};
 use plain_values::{Code, FirstRefusal, List, Mem};
-use propagation_points::{Points, Setting, scopes_of};
+use propagation_points::{Held, Points, Setting, scopes_of};
 use std::alloc::Global;
 
 /// The composite clauses of a component with these points and states, in order, over the states of the components below.
@@ -56,12 +57,12 @@ fn clauses_in<'s, 'a, B: StatesBelow<'a>>(
     first: &mut FirstRefusal,
 ) -> Mem<List<ClauseMeaning>>
     ensures kept { types.new ≡ types.old }
-    ensures clauses { IfOk result (λ clauses. clauses ≡ clauses_in (B.states_at below.now) types.old points.now states.now.names scopes.now composites.now) }
+    ensures clauses { IfOk result (λ clauses. clauses ≡ clauses_in (B.states_at below.now) types.old points.now states.now.sorts scopes.now composites.now) }
     ensures first { OnOk result (first.new ≡ nearer first.old (least (refusals_in (B.states_at below.now) types.old points.now states.now scopes.now composites.now))) }
 {
     let mut clauses = List::new(alloc);
     for composite in composites {
-        let setting = Setting::of_clause(points, &states.names, scopes, composite.scope());
+        let setting = Setting::of_clause(points, &states.sorts, scopes, composite.scope());
         let place = CompositePlace { setting, below };
         let initial = states.initial.items();
         add_clause(
@@ -93,21 +94,24 @@ fn add_clause<'a, B: StatesBelow<'a>>(
     ensures first { OnOk result (first.new ≡ nearer first.old (least (clause_refusals (B.states_at place.now.below) place.now.setting types.old initial.now composite.now))) }
 {
     let condition = condition_of(alloc, types, place, &composite.condition, first)?;
-    let target = place.setting.refer(&composite.target, first);
+    let held = place.setting.refer(alloc, types, &composite.target, first)?;
+    let target = place.setting.place(&composite.target);
     let is_wrong = composite.condition.is_none() && is_not_initial(initial, target);
     first.note_if(is_wrong, Code::Others, composite.spot);
-    add_meaning(clauses, target, condition)
+    add_meaning(alloc, clauses, held, condition)
 }
 
 fn add_meaning(
+    alloc: Global,
     clauses: &mut List<ClauseMeaning>,
-    target: Option<u32>,
+    held: Option<Held>,
     condition: Option<Cause>,
 ) -> Mem<()>
-    ensures { OnOk result (clauses.new ≡ clauses.old ++ option_to_list (option_map (λ target. record { target = target; condition = condition }) target)) }
+    ensures { OnOk result (clauses.new ≡ clauses.old ++ option_to_list (option_map (λ held. record { targets = held_numbers held; condition = condition }) held)) }
 {
-    if let Some(target) = target {
-        clauses.push(ClauseMeaning { target, condition })?;
+    if let Some(held) = held {
+        let targets = held.numbers(alloc)?;
+        clauses.push(ClauseMeaning { targets, condition })?;
     }
     Ok(())
 }

@@ -10,14 +10,13 @@ use Rattle.component_extension.specs.declared.effective.Effective.{Effective}
 use Rattle.component_extension.specs.Items.{Scoped}
 use Rattle.plain_values.specs.Refusal.{refused_there}
 use Rattle.error_types.specs.Libraries.{Table}
-use Rattle.error_types.specs.Types.{text_scope}
 use Rattle.propagation_points.specs.Points.{Point, scopes_of}
 use Rattle.error_behavior.specs.declared.behavior.ErrorBehavior.{ErrorBehavior}
 use Rattle.error_behavior.specs.declared.behavior.Texts.{Texts}
 use Rattle.error_behavior.specs.declared.steps.Emission.{Emission}
 use Rattle.error_behavior.specs.declared.steps.Step.{Step}
 use Rattle.error_behavior.specs.Machines.{Machine}
-use Rattle.error_behavior.specs.States.{event_refusals, events_of, state_decl_refusals, states_of}
+use Rattle.error_behavior.specs.States.{event_refusals, events_of, machine_scope, states_of}
 use Rattle.error_behavior.specs.Steps.{emission_of, outgoing_refusals, step_of, transition_refusals}
 use Rattle.error_behavior.specs.Triggers.{TriggerPlace, Vocabulary, place_in}
 
@@ -26,13 +25,13 @@ use Rattle.error_behavior.specs.Triggers.{TriggerPlace, Vocabulary, place_in}
 -- The texts of a component: that of its machine, if it uses one, and those of its clauses.
 abbrev pub texts_of : Table → Option Machine → Effective → Texts
 texts_of table machine effective = record {
-  machine = option_map (λ machine. text_scope table.packages machine.«package» machine.item.uses) machine;
+  machine = option_map (machine_scope table) machine;
   clauses = scopes_of table.packages effective.clauses;
 }
 
 -- what the triggers of a component with these points may name
-abbrev pub vocabulary_of : List Point → Option Machine → Effective → Vocabulary
-vocabulary_of points machine effective = record { points = points; states = (states_of machine).names; events = events_of machine effective }
+abbrev pub vocabulary_of : Table → List Point → Option Machine → Effective → Vocabulary
+vocabulary_of table points machine effective = record { points = points; states = (states_of table machine).sorts; events = events_of table machine effective }
 
 -- the place of the triggers of a machine
 abbrev pub machine_place : Vocabulary → Texts → TriggerPlace
@@ -68,15 +67,15 @@ behavior_with table words texts machine effective = record {
 -- The error behavior of a component that uses this machine, if it uses one: its events, its steps, those of the machine first,
 -- and its emissions.
 abbrev pub behavior_of : Table → List Point → Option Machine → Effective → ErrorBehavior
-behavior_of table points machine effective = behavior_with table (vocabulary_of points machine effective) (texts_of table machine effective) machine effective
+behavior_of table points machine effective = behavior_with table (vocabulary_of table points machine effective) (texts_of table machine effective) machine effective
 
 -- ---- refusals
 
 -- the refusals of a declared machine but for its transitions: P12 where it extends another, P11 where it uses transformations,
--- and those of its events and states
+-- and those of its events
 abbrev pub decl_refusals : MachineDecl → List Refusal
 decl_refusals decl =
-    refused_there MachineExtends decl.extends ++ (refused_there Mapping decl.transforms ++ (flat_map event_refusals decl.events ++ flat_map state_decl_refusals decl.states))
+    refused_there MachineExtends decl.extends ++ (refused_there Mapping decl.transforms ++ flat_map event_refusals decl.events)
 
 -- the refusals of a machine, if there is one: those of its declaration and of its transitions
 abbrev pub machine_refusals : Table → Vocabulary → Texts → Option Machine → List Refusal
@@ -108,4 +107,4 @@ refusals_with table words texts machine effective =
 -- The refusals of the error behavior of a component, one group: those of its machine, and of the events, transitions and
 -- outgoing conditions of its clauses.
 abbrev pub behavior_refusals : Table → List Point → Option Machine → Effective → List Refusal
-behavior_refusals table points machine effective = refusals_with table (vocabulary_of points machine effective) (texts_of table machine effective) machine effective
+behavior_refusals table points machine effective = refusals_with table (vocabulary_of table points machine effective) (texts_of table machine effective) machine effective

@@ -1,13 +1,14 @@
 -- The steps and the emissions of a component (EMV2: error behavior transitions, outgoing propagation conditions).
 use Rattle.std.specs.Prelude.{ℕ, true, List, [], ◌++◌, flat_map, Option, Some, None, option_map, option_and_then, option_to_list}
+use Rattle.std.specs.Option.{option_map_or}
 use Rattle.aadl_syntax.specs.declared.error_model.Condition.{Condition}
 use Rattle.aadl_syntax.specs.declared.error_model.Outgoing.{Outgoing}
 use Rattle.aadl_syntax.specs.declared.error_model.StateRef.{StateRef}
 use Rattle.aadl_syntax.specs.declared.error_model.Transition.{Transition}
 use Rattle.plain_values.specs.declared.refusal.Refusal.{Refusal}
 use Rattle.error_types.specs.Libraries.{Table}
-use Rattle.propagation_points.specs.Settings.{refusals_in, reached_in}
-use Rattle.propagation_points.specs.States.{number_named, state_refusals}
+use Rattle.propagation_points.specs.Settings.{Setting, refusals_in, held_in, reached_in, state_refusals_in}
+use Rattle.propagation_points.specs.States.{held_numbers}
 use Rattle.propagation_points.specs.Uses.{point_use}
 use Rattle.error_conditions.specs.declared.cause.Cause.{Cause}
 use Rattle.error_conditions.specs.Conditions.{cause_of, condition_refusals}
@@ -19,19 +20,23 @@ use Rattle.error_behavior.specs.Triggers.{TriggerPlace, trigger_refusals, trigge
 
 -- ---- where they go from, and where to
 
--- From where a transition or an outgoing condition goes: from the state of a number, or from `all`.
-abbrev pub origin_of : List (List ℕ) → Option StateRef → Option Origin
-origin_of states None = Some Always
-origin_of states (Some state) = option_map (λ number. From number) (number_named states state.name)
+-- From where a transition or an outgoing condition goes: from what its state selects, or from `all`.
+abbrev pub origin_of : Table → Setting → Option StateRef → Option Origin
+origin_of table setting None = Some Always
+origin_of table setting (Some state) = option_map (λ held. From held) (held_in table setting state)
 
--- N11 and P10 of the state from which it goes, if it names one
-abbrev pub origin_refusals : List (List ℕ) → Option StateRef → List Refusal
-origin_refusals states None = []
-origin_refusals states (Some state) = state_refusals states state
+-- N11 and N10 of the state from which it goes, if it names one
+abbrev pub origin_refusals : Table → Setting → Option StateRef → List Refusal
+origin_refusals table setting None = []
+origin_refusals table setting (Some state) = state_refusals_in table setting state
 
--- the numbers of the states to which a transition leads, a branch each; `same state` is none
-abbrev pub targets_of : List (List ℕ) → List StateRef → List ℕ
-targets_of states targets = flat_map (λ target. option_to_list (number_named states target.name)) targets
+-- the variants that a target selects
+abbrev pub target_numbers : Table → Setting → StateRef → List ℕ
+target_numbers table setting target = option_map_or held_numbers (held_in table setting target) []
+
+-- the variants of states to which a transition leads, those of a branch after those of the branch before; `same state` is none
+abbrev pub targets_of : Table → Setting → List StateRef → List ℕ
+targets_of table setting targets = flat_map (target_numbers table setting) targets
 
 -- ---- transitions
 
@@ -40,18 +45,18 @@ abbrev pub step_from : TriggerPlace → Table → Transition → Origin → Step
 step_from place table transition origin = record {
   origin = origin;
   trigger = cause_of (trigger_meaning place table) transition.condition;
-  targets = targets_of place.setting.states transition.targets;
+  targets = targets_of table place.setting transition.targets;
 }
 
 -- The step of a transition: on its trigger, from its source to each of its targets.
 abbrev pub step_of : TriggerPlace → Table → Transition → List Step
-step_of place table transition = option_to_list (option_map (step_from place table transition) (origin_of place.setting.states transition.source.state))
+step_of place table transition = option_to_list (option_map (step_from place table transition) (origin_of table place.setting transition.source.state))
 
 -- The refusals of a transition: of its source, its trigger and its targets.
 abbrev pub transition_refusals : TriggerPlace → Table → Transition → List Refusal
 transition_refusals place table transition =
-    origin_refusals place.setting.states transition.source.state
-    ++ (condition_refusals (trigger_refusals place table) transition.condition ++ flat_map (state_refusals place.setting.states) transition.targets)
+    origin_refusals table place.setting transition.source.state
+    ++ (condition_refusals (trigger_refusals place table) transition.condition ++ flat_map (state_refusals_in table place.setting) transition.targets)
 
 -- ---- outgoing conditions
 
@@ -68,10 +73,10 @@ perhaps_refusals place table (Some condition) = condition_refusals (trigger_refu
 -- point.
 abbrev pub emission_of : TriggerPlace → Table → Outgoing → List Emission
 emission_of place table outgoing =
-    option_to_list (option_and_then (λ origin. option_map (λ reached. record { origin = origin; trigger = trigger_of place table outgoing.condition; reached = reached }) (reached_in table place.setting (point_use outgoing.point true outgoing.set))) (origin_of place.setting.states outgoing.source.state))
+    option_to_list (option_and_then (λ origin. option_map (λ reached. record { origin = origin; trigger = trigger_of place table outgoing.condition; reached = reached }) (reached_in table place.setting (point_use outgoing.point true outgoing.set))) (origin_of table place.setting outgoing.source.state))
 
 -- The refusals of an outgoing condition: of its source, its trigger, its point and its set.
 abbrev pub outgoing_refusals : TriggerPlace → Table → Outgoing → List Refusal
 outgoing_refusals place table outgoing =
-    origin_refusals place.setting.states outgoing.source.state
+    origin_refusals table place.setting outgoing.source.state
     ++ (perhaps_refusals place table outgoing.condition ++ refusals_in table place.setting (point_use outgoing.point true outgoing.set))

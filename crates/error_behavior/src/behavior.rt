@@ -7,7 +7,6 @@ ghost use Rattle.error_behavior.specs.Steps.{step_of, transition_refusals};
 
 use crate::events::{events_of, note_clause_events, note_events};
 use crate::machines::UsedMachine;
-use crate::states::note_states;
 use crate::steps::{Emission, Step};
 use crate::transitions::{add_emission, add_step};
 use crate::triggers::{TriggerPlace, Vocabulary};
@@ -15,14 +14,14 @@ use aadl_syntax::{MachineDecl, Outgoing, Transition};
 use component_extension::{Effective, InClause};
 use error_types::{Scope, TypeTable};
 use plain_values::{Code, FirstRefusal, List, Mem};
-use propagation_points::{NameTable, Points, scopes_of};
+use propagation_points::{Points, Sorts, scopes_of};
 use std::alloc::Global;
 
 /// The error behavior of a component: the names of its events, which are numbered by their places, from 0; its steps, those of
 /// its machine first; and its emissions.
 #[derive(Drop)]
 pub struct ErrorBehavior<'a> {
-    pub events: NameTable<'a>,
+    pub events: Sorts<'a>,
     pub steps: List<Step>,
     pub emissions: List<Emission>,
 }
@@ -37,25 +36,25 @@ pub struct Texts {
 /// The error behavior of a component that uses this machine, if it uses one. The names are those of its states.
 ///
 /// The refusals are noted: P12 where the machine extends another, P11 where it uses transformations, P8 at each recover or
-/// repair event, P10 at each set behind an event or a state, N11 at a state that is none, N12 at a name of a trigger that is
+/// repair event, N11 at a state that is none, N12 at a name of a trigger that is
 /// neither an event nor a point with an inward side, N9 at a point that is none, N10 at a set with a type that is not declared
-/// for its side, P5 at each `orless`, and P6 at each `noerror` in a condition.
+/// for its side, its state or its event, P5 at each `orless`, and P6 at each `noerror` in a condition.
 pub fn behavior_of<'a>(
     alloc: Global,
     effective: &Effective<'a>,
     machine: &Option<UsedMachine<'a>>,
-    states: &NameTable<'a>,
+    states: &Sorts<'a>,
     types: &mut TypeTable<'_, 'a>,
     points: &Points<'a>,
     first: &mut FirstRefusal,
 ) -> Mem<ErrorBehavior<'a>>
-    requires { states.now ≡ (states_of machine.now).names }
+    requires { states.now ≡ (states_of types.old machine.now).sorts }
     ensures kept { types.new ≡ types.old }
     ensures behavior { IfOk result (λ behavior. behavior ≡ behavior_of types.old points.now machine.now effective.now) }
     ensures first { OnOk result (first.new ≡ nearer first.old (least (behavior_refusals types.old points.now machine.now effective.now))) }
 {
-    let events = events_of(alloc, machine, effective)?;
     let texts = texts_of(alloc, types, machine, effective)?;
+    let events = events_of(alloc, types, machine, effective, &texts)?;
     let (steps, emissions) = meanings(
         alloc, types, points, states, &events, &texts, machine, effective, first,
     )?;
@@ -103,8 +102,8 @@ fn meanings<'s, 'a>(
     alloc: Global,
     types: &mut TypeTable<'_, 'a>,
     points: &'s Points<'a>,
-    states: &'s NameTable<'a>,
-    events: &'s NameTable<'a>,
+    states: &'s Sorts<'a>,
+    events: &'s Sorts<'a>,
     texts: &'s Texts,
     machine: &Option<UsedMachine<'a>>,
     effective: &Effective<'a>,
@@ -174,7 +173,7 @@ fn machine_steps<'s, 'a>(
     }
 }
 
-fn machine_scope(texts: &Texts) -> Option<&Scope>
+pub(crate) fn machine_scope(texts: &Texts) -> Option<&Scope>
     ensures { option_copied result ≡ texts.now.machine }
 {
     match &texts.machine {
@@ -183,7 +182,7 @@ fn machine_scope(texts: &Texts) -> Option<&Scope>
     }
 }
 
-fn clause_scope(texts: &Texts, number: usize) -> Option<&Scope>
+pub(crate) fn clause_scope(texts: &Texts, number: usize) -> Option<&Scope>
     ensures { option_copied result ≡ slice_get texts.now.clauses number }
 {
     texts.clauses.items().get(number)
@@ -197,7 +196,6 @@ fn note_machine(first: &mut FirstRefusal, decl: &MachineDecl)
     first.note_at(Code::MachineExtends, decl.extends);
     first.note_at(Code::Mapping, decl.transforms);
     note_events(first, decl.events.items());
-    note_states(first, decl.states.items());
 }
 
 /// The steps of transitions that stand in one place. Their refusals are noted.

@@ -1,58 +1,104 @@
-ghost use Rattle.std.specs.Prelude.{◌≡◌, [], IfOk, flat_map, fold, map};
+ghost use Rattle.std.specs.Prelude.{◌≡◌, [], IfOk, flat_map, fold, map, option_copied, option_map};
 ghost use Rattle.plain_values.specs.Order.{least, nearer};
-ghost use Rattle.propagation_points.specs.States.{keep_name};
-ghost use Rattle.error_behavior.specs.Behavior.{clause_event_refusals};
-ghost use Rattle.error_behavior.specs.States.{event_refusals, events_of, is_recovery, machine_events};
+ghost use Rattle.error_behavior.specs.Behavior.{clause_event_refusals, texts_of};
+ghost use Rattle.error_behavior.specs.States.{clause_event, event_at, event_refusals, events_of, is_recovery, keep_event, machine_events, machine_scope};
 
+use crate::behavior::{Texts, clause_scope, machine_scope};
 use crate::machines::UsedMachine;
 use aadl_syntax::{EventDecl, EventKind};
 use component_extension::{Effective, InClause};
+use error_types::{Scope, TypeTable};
 use plain_values::{Code, FirstRefusal, Mem};
-use propagation_points::{NameTable, spot_of};
+use propagation_points::{Sorts, declared_by};
 use std::alloc::Global;
 
-/// The names of the events of a component: those of its machine, if it uses one, and then those of its clauses.
+/// The events of a component, which has these texts: those of its machine, if it uses one, and then those of its clauses.
 pub(crate) fn events_of<'a>(
     alloc: Global,
+    types: &mut TypeTable<'_, 'a>,
     machine: &Option<UsedMachine<'a>>,
     effective: &Effective<'a>,
-) -> Mem<NameTable<'a>>
-    ensures { IfOk result (λ names. names ≡ events_of machine.now effective.now) }
+    texts: &Texts,
+) -> Mem<Sorts<'a>>
+    requires { texts.now ≡ texts_of types.old machine.now effective.now }
+    ensures kept { types.new ≡ types.old }
+    ensures events { IfOk result (λ events. events ≡ events_of types.old machine.now effective.now) }
 {
-    let names = machine_events(alloc, machine)?;
-    with_clauses(names, effective.behavior.events.items())
+    let events = machine_events(alloc, types, machine, machine_scope(texts))?;
+    with_clauses(
+        alloc,
+        types,
+        events,
+        effective.behavior.events.items(),
+        texts,
+    )
 }
 
-fn machine_events<'a>(alloc: Global, machine: &Option<UsedMachine<'a>>) -> Mem<NameTable<'a>>
-    ensures { IfOk result (λ names. names ≡ fold keep_name [] (map (λ event. event.name) (machine_events machine.now))) }
+fn machine_events<'a>(
+    alloc: Global,
+    types: &mut TypeTable<'_, 'a>,
+    machine: &Option<UsedMachine<'a>>,
+    scope: Option<&Scope>,
+) -> Mem<Sorts<'a>>
+    requires { option_copied scope ≡ option_map (machine_scope types.old) machine.now }
+    ensures kept { types.new ≡ types.old }
+    ensures events { IfOk result (λ events. events ≡ fold (keep_event types.old) [] (machine_events types.old machine.now)) }
 {
     match machine {
-        Some(machine) => events_in(alloc, machine.decl().events.items()),
-        None => Ok(NameTable::new(alloc)),
+        Some(machine) => events_in(alloc, types, machine.decl().events.items(), scope),
+        None => Ok(Sorts::new(alloc)),
     }
 }
 
-fn events_in<'a>(alloc: Global, decls: &'a [EventDecl]) -> Mem<NameTable<'a>>
-    ensures { IfOk result (λ names. names ≡ fold keep_name [] (map (λ event. event.name) decls.now)) }
+fn events_in<'a>(
+    alloc: Global,
+    types: &mut TypeTable<'_, 'a>,
+    decls: &'a [EventDecl],
+    scope: Option<&Scope>,
+) -> Mem<Sorts<'a>>
+    ensures kept { types.new ≡ types.old }
+    ensures events { IfOk result (λ events. events ≡ fold (keep_event types.old) [] (map (event_at (option_copied scope.entry)) decls.now)) }
 {
-    let mut names = NameTable::new(alloc);
+    let mut events = Sorts::new(alloc);
     for decl in decls {
-        names = names.with(&decl.name)?;
+        events = with_event(alloc, types, events, decl, scope)?;
     }
-    Ok(names)
+    Ok(events)
 }
 
-fn with_clauses<'a>(before: NameTable<'a>, events: &[InClause<'a, EventDecl>]) -> Mem<NameTable<'a>>
-    ensures { IfOk result (λ names. names ≡ fold keep_name before.entry (map (λ scoped. scoped.item.name) events.now)) }
+fn with_clauses<'a>(
+    alloc: Global,
+    types: &mut TypeTable<'_, 'a>,
+    before: Sorts<'a>,
+    decls: &[InClause<'a, EventDecl>],
+    texts: &Texts,
+) -> Mem<Sorts<'a>>
+    ensures kept { types.new ≡ types.old }
+    ensures events { IfOk result (λ events. events ≡ fold (keep_event types.old) before.entry (map (clause_event texts.now.clauses) decls.now)) }
 {
-    let mut names = before;
-    for event in events {
-        names = names.with(&event.item().name)?;
+    let mut events = before;
+    for decl in decls {
+        let scope = clause_scope(texts, decl.scope());
+        events = with_event(alloc, types, events, decl.item(), scope)?;
     }
-    Ok(names)
+    Ok(events)
 }
 
-/// Notes the refusals of events that a machine declares: P8 and P10.
+fn with_event<'a>(
+    alloc: Global,
+    types: &mut TypeTable<'_, 'a>,
+    events: Sorts<'a>,
+    decl: &'a EventDecl,
+    scope: Option<&Scope>,
+) -> Mem<Sorts<'a>>
+    ensures kept { types.new ≡ types.old }
+    ensures events { IfOk result (λ more. more ≡ keep_event types.old events.entry (event_at (option_copied scope.entry) decl.now)) }
+{
+    let own = declared_by(alloc, types, scope, &decl.set)?;
+    events.with(&decl.name, own)
+}
+
+/// Notes the refusals of events that a machine declares: P8.
 pub(crate) fn note_events(first: &mut FirstRefusal, decls: &[EventDecl])
     ensures { first.new ≡ nearer first.old (least (flat_map event_refusals decls.now)) }
 {
@@ -75,7 +121,6 @@ fn note_event(first: &mut FirstRefusal, decl: &EventDecl)
     ensures { first.new ≡ nearer first.old (least (event_refusals decl.now)) }
 {
     first.note_if(is_recovery(decl.kind), Code::Recovery, decl.spot);
-    first.note_at(Code::Typed, spot_of(&decl.set));
 }
 
 fn is_recovery(kind: EventKind) -> bool

@@ -1,17 +1,18 @@
 use error_conditions::Cause;
 use plain_values::List;
-use propagation_points::ReachedPoint;
+use propagation_points::{Held, ReachedPoint};
 
 /// From where a transition or an outgoing condition goes.
-#[derive(Clone, Copy, PartialEq, Eq)]
+#[derive(Drop)]
 pub enum Origin {
     /// From `all` states.
     Always,
-    /// From the state of this number, from 0.
-    From(u32),
+    /// From the state that is selected, or from one of its variants that are.
+    From(Held),
 }
 
-/// What a transition does: on its trigger, from its origin, it leads to states, a branch each. They are named by their numbers.
+/// What a transition does: on its trigger, from its origin, it leads to variants of states, which are
+/// named by their numbers, those of each branch behind those of the branch before.
 #[derive(Drop)]
 pub struct Step {
     pub origin: Origin,

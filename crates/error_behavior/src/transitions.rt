@@ -1,7 +1,9 @@
-ghost use Rattle.std.specs.Prelude.{◌≡◌, ◌++◌, IfOk, OnOk, flat_map, option_and_then, option_map, option_to_list};
+ghost use Rattle.std.specs.Prelude.{◌≡◌, ◌++◌, [], IfOk, OnOk, flat_map, option_and_then, option_map, option_to_list};
 ghost use Rattle.plain_values.specs.Order.{least, nearer};
-ghost use Rattle.propagation_points.specs.States.{state_refusals};
-ghost use Rattle.error_conditions.specs.Conditions.{cause_of};
+ghost use Rattle.std.specs.Option.{option_map_or};
+ghost use Rattle.propagation_points.specs.Settings.{state_refusals_in};
+ghost use Rattle.propagation_points.specs.States.{held_numbers};
+ghost use Rattle.error_conditions.specs.Conditions.{cause_of, condition_refusals};
 ghost use Rattle.error_behavior.specs.Steps.{emission_of, origin_refusals, origin_of, outgoing_refusals, perhaps_refusals, step_of, targets_of, transition_refusals, trigger_of};
 
 use crate::steps::{Emission, Origin, Step};
@@ -10,49 +12,65 @@ use aadl_syntax::{Condition, Outgoing, StateRef, Transition};
 use error_conditions::{Cause, cause_of};
 use error_types::TypeTable;
 use plain_values::{FirstRefusal, List, Mem};
-use propagation_points::{PointUse, ReachedPoint, Setting};
+use propagation_points::{Held, PointUse, ReachedPoint, Setting};
 use std::alloc::Global;
 
 /// From where a transition or an outgoing condition goes. The refusals of its state are noted.
-fn origin_of(
-    setting: &Setting,
-    state: &Option<StateRef>,
+fn origin_of<'a>(
+    alloc: Global,
+    types: &mut TypeTable<'_, 'a>,
+    setting: &Setting<'_, 'a>,
+    state: &'a Option<StateRef>,
     first: &mut FirstRefusal,
-) -> Option<Origin>
-    ensures origin { result ≡ origin_of setting.now.states state.now }
-    ensures first { first.new ≡ nearer first.old (least (origin_refusals setting.now.states state.now)) }
+) -> Mem<Option<Origin>>
+    ensures kept { types.new ≡ types.old }
+    ensures origin { IfOk result (λ origin. origin ≡ origin_of types.old setting.now state.now) }
+    ensures first { OnOk result (first.new ≡ nearer first.old (least (origin_refusals types.old setting.now state.now))) }
 {
     match state {
         Some(state) => {
-            let number = setting.refer(state, first);
-            Some(Origin::From(number?))
+            let held = setting.refer(alloc, types, state, first)?;
+            Ok(held.map(|held| Origin::From(held)))
         }
-        None => Some(Origin::Always),
+        None => Ok(Some(Origin::Always)),
     }
 }
 
 /// The states to which a transition leads. The refusals of their names are noted.
-fn targets_of(
+fn targets_of<'a>(
     alloc: Global,
-    setting: &Setting,
-    targets: &[StateRef],
+    types: &mut TypeTable<'_, 'a>,
+    setting: &Setting<'_, 'a>,
+    targets: &'a [StateRef],
     first: &mut FirstRefusal,
 ) -> Mem<List<u32>>
-    ensures targets { IfOk result (λ numbers. numbers ≡ targets_of setting.now.states targets.now) }
-    ensures first { OnOk result (first.new ≡ nearer first.old (least (flat_map (state_refusals setting.now.states) targets.now))) }
+    ensures kept { types.new ≡ types.old }
+    ensures targets { IfOk result (λ numbers. numbers ≡ targets_of types.old setting.now targets.now) }
+    ensures first { OnOk result (first.new ≡ nearer first.old (least (flat_map (state_refusals_in types.old setting.now) targets.now))) }
 {
     let mut numbers = List::new(alloc);
     for target in targets {
-        add_target(&mut numbers, setting.refer(target, first))?;
+        let held = setting.refer(alloc, types, target, first)?;
+        add_held(&mut numbers, &held)?;
     }
     Ok(numbers)
 }
 
-fn add_target(numbers: &mut List<u32>, target: Option<u32>) -> Mem<()>
-    ensures { OnOk result (numbers.new ≡ numbers.old ++ option_to_list target) }
+fn add_held(numbers: &mut List<u32>, held: &Option<Held>) -> Mem<()>
+    ensures { OnOk result (numbers.new ≡ numbers.old ++ option_map_or held_numbers held.now []) }
 {
-    if let Some(number) = target {
-        numbers.push(number)?;
+    match held {
+        Some(Held::One(number)) => numbers.push(*number),
+        Some(Held::Any(more)) => add_numbers(numbers, more.items()),
+        None => Ok(()),
+    }
+}
+
+fn add_numbers(numbers: &mut List<u32>, more: &[u32]) -> Mem<()>
+    ensures { OnOk result (numbers.new ≡ numbers.old ++ more.now) }
+{
+    for number in more {
+        numbers.push(*number)?;
     }
     Ok(())
 }
@@ -88,9 +106,21 @@ fn step_of<'a>(
     ensures step { IfOk result (λ step. option_to_list step ≡ step_of place.now types.old transition.now) }
     ensures first { OnOk result (first.new ≡ nearer first.old (least (transition_refusals place.now types.old transition.now))) }
 {
-    let origin = origin_of(&place.setting, &transition.source.state, first);
+    let origin = origin_of(
+        alloc,
+        types,
+        &place.setting,
+        &transition.source.state,
+        first,
+    )?;
     let trigger = cause_of(alloc, place, types, &transition.condition, first)?;
-    let targets = targets_of(alloc, &place.setting, transition.targets.items(), first)?;
+    let targets = targets_of(
+        alloc,
+        types,
+        &place.setting,
+        transition.targets.items(),
+        first,
+    )?;
     Ok(step_from(origin, trigger, targets))
 }
 
@@ -156,7 +186,7 @@ fn emission_of<'a>(
     ensures emission { IfOk result (λ emission. option_to_list emission ≡ emission_of place.now types.old outgoing.now) }
     ensures first { OnOk result (first.new ≡ nearer first.old (least (outgoing_refusals place.now types.old outgoing.now))) }
 {
-    let origin = origin_of(&place.setting, &outgoing.source.state, first);
+    let origin = origin_of(alloc, types, &place.setting, &outgoing.source.state, first)?;
     let trigger = trigger_of(alloc, types, place, &outgoing.condition, first)?;
     let used = PointUse::new(&outgoing.point, true, &outgoing.set);
     let reached = place.setting.reached(alloc, types, &used, first)?;

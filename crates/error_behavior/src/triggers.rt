@@ -3,10 +3,10 @@ ghost use Rattle.plain_values.specs.Order.{least, nearer};
 ghost use Rattle.error_behavior.specs.Triggers.{event_named, event_or_point, event_or_point_refusals, trigger_refusals, trigger_meaning};
 
 use aadl_syntax::Atom;
-use error_conditions::{Atoms, Cause, note_no_errors, note_typed, point_meaning};
+use error_conditions::{Atoms, Cause, event_cause, note_no_errors, point_meaning};
 use error_types::{Scope, TypeTable};
 use plain_values::{FirstRefusal, Mem};
-use propagation_points::{NameTable, Points, Setting, only_name};
+use propagation_points::{Points, Setting, Sort, Sorts, only_name};
 use std::alloc::Global;
 use std::marker::Model;
 
@@ -15,15 +15,15 @@ use std::marker::Model;
 #[derive(Drop)]
 pub(crate) struct TriggerPlace<'s, 'a> {
     pub(crate) setting: Setting<'s, 'a>,
-    pub(crate) events: &'s NameTable<'a>,
+    pub(crate) events: &'s Sorts<'a>,
 }
 
 /// What the triggers of a component may name: its points, its states and its events.
 #[derive(Drop)]
 pub(crate) struct Vocabulary<'s, 'a> {
     points: &'s Points<'a>,
-    states: &'s NameTable<'a>,
-    events: &'s NameTable<'a>,
+    states: &'s Sorts<'a>,
+    events: &'s Sorts<'a>,
 }
 
 impl<'s, 'a> Model for Vocabulary<'s, 'a> {
@@ -44,8 +44,8 @@ impl<'s, 'a> Vocabulary<'s, 'a> {
     /// These points, states and events.
     pub(crate) fn new(
         points: &'s Points<'a>,
-        states: &'s NameTable<'a>,
-        events: &'s NameTable<'a>,
+        states: &'s Sorts<'a>,
+        events: &'s Sorts<'a>,
     ) -> Vocabulary<'s, 'a>
         ensures { result ≡ record { points = points.now; states = states.now; events = events.now } }
     {
@@ -81,13 +81,13 @@ impl<'s, 'a> Model for TriggerPlace<'s, 'a> {
 
 impl<'s, 'a> TriggerPlace<'s, 'a> {
     /// The event that a named part names, if it names one.
-    fn event(&self, atom: &Atom) -> Option<u32>
-        ensures { result ≡ event_named self.now.events atom.now }
+    fn event(&self, atom: &Atom) -> Option<&'s Sort<'a>>
+        ensures { option_copied result ≡ event_named self.now.events atom.now }
     {
         if atom.inward {
             return None;
         }
-        self.events.number(only_name(atom.names.items())?.text())
+        self.events.find(only_name(atom.names.items())?.text())
     }
 }
 
@@ -115,17 +115,17 @@ fn event_or_point<'a>(
     setting: &Setting,
     types: &mut TypeTable<'_, 'a>,
     atom: &'a Atom,
-    event: Option<u32>,
+    event: Option<&Sort>,
     first: &mut FirstRefusal,
 ) -> Mem<Cause>
     ensures kept { types.new ≡ types.old }
-    ensures meaning { IfOk result (λ cause. cause ≡ event_or_point types.old setting.now atom.now event) }
-    ensures first { OnOk result (first.new ≡ nearer first.old (least (event_or_point_refusals types.old setting.now atom.now event))) }
+    ensures meaning { IfOk result (λ cause. cause ≡ event_or_point types.old setting.now atom.now (option_copied event.entry)) }
+    ensures first { OnOk result (first.new ≡ nearer first.old (least (event_or_point_refusals types.old setting.now atom.now (option_copied event.entry)))) }
 {
     match event {
         Some(event) => {
-            note_typed(first, atom);
-            Ok(Cause::Event(event))
+            let held = setting.held(alloc, types, event, &atom.set, first)?;
+            event_cause(alloc, held)
         }
         None => point_meaning(alloc, setting, types, atom, first),
     }

@@ -1,5 +1,5 @@
 -- What a condition means, from what its named parts mean (EMV2: error conditions).
-use Rattle.std.specs.Prelude.{List, [], ◌∷◌, flat_map, Option, Some, None, option_map}
+use Rattle.std.specs.Prelude.{List, [], ◌∷◌, ℕ, flat_map, map, Option, Some, None}
 use Rattle.aadl_syntax.specs.declared.error_model.Atom.{Atom}
 use Rattle.aadl_syntax.specs.declared.error_model.Condition.{Condition, fold-Condition}
 use Rattle.aadl_syntax.specs.declared.error_model.Condition.TheOpen.{Condition-F}
@@ -7,10 +7,12 @@ use Rattle.aadl_syntax.specs.declared.error_model.Condition.TheOpen as condition
 use Rattle.aadl_syntax.specs.declared.error_model.Term.{Term}
 use Rattle.aadl_syntax.specs.declared.error_model.Term.TheVariants.{NoError, One, Product}
 use Rattle.aadl_syntax.specs.declared.error_model.TypeSet.{TypeSet}
-use Rattle.plain_values.specs.declared.refusal.Code.TheVariants.{NoErrorCondition, OrLess, Typed}
+use Rattle.plain_values.specs.declared.refusal.Code.TheVariants.{NoErrorCondition, OrLess}
 use Rattle.plain_values.specs.declared.refusal.Refusal.{Refusal}
-use Rattle.plain_values.specs.Refusal.{place_of, refusal, refused_there}
+use Rattle.plain_values.specs.Refusal.{place_of, refusal}
 use Rattle.error_types.specs.Libraries.{Table}
+use Rattle.propagation_points.specs.declared.held.Held.{Held}
+use Rattle.propagation_points.specs.declared.held.Held.TheVariants as held
 use Rattle.propagation_points.specs.declared.uses.ReachedPoint.{ReachedPoint}
 use Rattle.propagation_points.specs.Settings.{Setting, reached_in}
 use Rattle.propagation_points.specs.Uses.{atom_use}
@@ -66,6 +68,7 @@ abbrev pub no_error_refusals : Option TypeSet → List Refusal
 no_error_refusals None = []
 no_error_refusals (Some set) = flat_map no_error_at set.terms
 
--- P10 at the set of a named part that names an event or a state
-abbrev pub typed_refusals : Atom → List Refusal
-typed_refusals atom = refused_there Typed (option_map (λ set. set.spot) atom.set)
+-- What a name means that selects this of a state or an event, where one variant means this: it is that one, or one of these.
+abbrev pub held_cause : (ℕ → Cause) → Held → Cause
+held_cause meaning (held.One number) = meaning number
+held_cause meaning (held.Any numbers) = Any (map meaning numbers)

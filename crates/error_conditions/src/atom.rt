@@ -1,14 +1,15 @@
-ghost use Rattle.std.specs.Prelude.{◌≡◌, IfOk, OnOk, flat_map};
+ghost use Rattle.std.specs.Prelude.{◌≡◌, IfOk, OnOk, flat_map, map};
 ghost use Rattle.plain_values.specs.Order.{least, nearer};
 ghost use Rattle.propagation_points.specs.Settings.{refusals_in};
 ghost use Rattle.propagation_points.specs.Uses.{atom_use};
-ghost use Rattle.error_conditions.specs.Conditions.{no_error_at, no_error_refusals, point_cause, point_meaning, typed_refusals};
+ghost use Rattle.error_conditions.specs.Conditions.{held_cause, no_error_at, no_error_refusals, point_cause, point_meaning};
+ghost use Rattle.error_conditions.specs.declared.cause.Cause.TheVariants.{Any, Event};
 
 use crate::cause::Cause;
 use aadl_syntax::{Atom, Term, TypeSet};
 use error_types::TypeTable;
 use plain_values::{Code, FirstRefusal, List, Mem};
-use propagation_points::{PointUse, ReachedPoint, Setting, spot_of};
+use propagation_points::{Held, PointUse, ReachedPoint, Setting};
 use std::alloc::Global;
 
 /// The meaning of a named part that names a point: one of the types that are reached there comes in. Its refusals are noted.
@@ -62,9 +63,22 @@ fn note_term(first: &mut FirstRefusal, term: &Term)
     }
 }
 
-/// Notes P10 at the set of a named part that names an event or a state.
-pub fn note_typed(first: &mut FirstRefusal, atom: &Atom)
-    ensures { first.new ≡ nearer first.old (least (typed_refusals atom.now)) }
+/// What a name means that selects this of the events of a component.
+pub fn event_cause(alloc: Global, held: Held) -> Mem<Cause>
+    ensures { IfOk result (λ cause. cause ≡ held_cause Event held) }
 {
-    first.note_at(Code::Typed, spot_of(&atom.set));
+    match held {
+        Held::One(number) => Ok(Cause::Event(number)),
+        Held::Any(numbers) => any_event(alloc, numbers.items()),
+    }
+}
+
+fn any_event(alloc: Global, numbers: &[u32]) -> Mem<Cause>
+    ensures { IfOk result (λ cause. cause ≡ Any (map Event numbers.now)) }
+{
+    let mut parts = List::new(alloc);
+    for number in numbers {
+        parts.push(Cause::Event(*number))?;
+    }
+    Ok(Cause::Any(parts))
 }

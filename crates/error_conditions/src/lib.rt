@@ -6,6 +6,6 @@ mod atom;
 mod cause;
 mod walk;
 
-pub use atom::{note_no_errors, note_typed, point_meaning};
+pub use atom::{event_cause, note_no_errors, point_meaning};
 pub use cause::{Cause, StateBelow};
 pub use walk::{Atoms, cause_of};

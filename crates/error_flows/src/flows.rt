@@ -2,8 +2,7 @@ ghost use Rattle.std.specs.Prelude.{◌≡◌, ◌++◌, IfOk, OnOk, true, flat_
 ghost use Rattle.plain_values.specs.Order.{least, nearer};
 ghost use Rattle.plain_values.specs.declared.refusal.Code.TheVariants.{Mapping};
 ghost use Rattle.plain_values.specs.Refusal.{refused_so, refused_there};
-ghost use Rattle.propagation_points.specs.Settings.{refusals_in, reached_in};
-ghost use Rattle.propagation_points.specs.States.{state_refusals, number_named};
+ghost use Rattle.propagation_points.specs.Settings.{refusals_in, held_in, reached_in, state_refusals_in};
 ghost use Rattle.error_flows.specs.declared.meaning.FlowMeaning.TheVariants.{Event, State};
 ghost use Rattle.error_flows.specs.Flows.{all_flow_refusals, refusals_of_flows, flow_refusals, flow_meaning, flows_of, meanings, path_meaning, source_meaning, when_refusals};
 
@@ -12,7 +11,7 @@ use aadl_syntax::{Flow, FlowKind, Identifier, StateRef};
 use component_extension::{Effective, InClause};
 use error_types::{Scope, TypeTable};
 use plain_values::{Code, FirstRefusal, List, Mem, Spot};
-use propagation_points::{NameTable, PointUse, Points, Reach, ReachedPoint, Setting, scopes_of};
+use propagation_points::{Held, PointUse, Points, Reach, ReachedPoint, Setting, Sorts, scopes_of};
 use std::alloc::Global;
 
 /// The meanings of the flows of a component, in order, sinks left out.
@@ -25,7 +24,7 @@ pub fn flows_of<'a>(
     effective: &Effective<'a>,
     types: &mut TypeTable<'_, 'a>,
     points: &Points<'a>,
-    states: &NameTable<'a>,
+    states: &Sorts<'a>,
     first: &mut FirstRefusal,
 ) -> Mem<List<FlowMeaning>>
     ensures kept { types.new ≡ types.old }
@@ -52,7 +51,7 @@ fn meanings<'s, 'a>(
     alloc: Global,
     types: &mut TypeTable<'_, 'a>,
     points: &'s Points<'a>,
-    states: &'s NameTable<'a>,
+    states: &'s Sorts<'a>,
     scopes: &'s [Scope],
     flows: &[InClause<'a, Flow>],
     first: &mut FirstRefusal,
@@ -125,16 +124,16 @@ fn source<'a>(
     setting: &Setting<'_, 'a>,
     name: &Identifier,
     used: &PointUse<'a>,
-    state: &Option<StateRef>,
+    state: &'a Option<StateRef>,
     first: &mut FirstRefusal,
 ) -> Mem<Option<FlowMeaning>>
     ensures kept { types.new ≡ types.old }
-    ensures meaning { IfOk result (λ meaning. meaning ≡ option_and_then (source_meaning setting.now name.now state.now) (reached_in types.old setting.now used.now)) }
-    ensures first { OnOk result (first.new ≡ nearer first.old (least (refusals_in types.old setting.now used.now ++ when_refusals setting.now state.now))) }
+    ensures meaning { IfOk result (λ meaning. meaning ≡ option_and_then (source_meaning types.old setting.now name.now state.now) (reached_in types.old setting.now used.now)) }
+    ensures first { OnOk result (first.new ≡ nearer first.old (least (refusals_in types.old setting.now used.now ++ when_refusals types.old setting.now state.now))) }
 {
     let reached = setting.reached(alloc, types, used, first)?;
     match state {
-        Some(state) => Ok(state_source(setting, state, reached, first)),
+        Some(state) => state_source(alloc, types, setting, state, reached, first),
         None => event_source(alloc, name, reached),
     }
 }
@@ -153,17 +152,26 @@ fn event_source(
 }
 
 /// The meaning of a source in a state. The refusals of the state are noted.
-fn state_source(
-    setting: &Setting,
-    state: &StateRef,
+fn state_source<'a>(
+    alloc: Global,
+    types: &mut TypeTable<'_, 'a>,
+    setting: &Setting<'_, 'a>,
+    state: &'a StateRef,
     reached: Option<ReachedPoint>,
     first: &mut FirstRefusal,
-) -> Option<FlowMeaning>
-    ensures meaning { result ≡ option_and_then (λ reached. option_map (λ number. State number reached) (number_named setting.now.states state.now.name)) reached }
-    ensures first { first.new ≡ nearer first.old (least (state_refusals setting.now.states state.now)) }
+) -> Mem<Option<FlowMeaning>>
+    ensures kept { types.new ≡ types.old }
+    ensures meaning { IfOk result (λ meaning. meaning ≡ option_and_then (λ reached. option_map (λ held. State held reached) (held_in types.old setting.now state.now)) reached) }
+    ensures first { OnOk result (first.new ≡ nearer first.old (least (state_refusals_in types.old setting.now state.now))) }
 {
-    let number = setting.refer(state, first);
-    Some(FlowMeaning::State(number?, reached?))
+    let held = setting.refer(alloc, types, state, first)?;
+    Ok(state_meaning(held, reached))
+}
+
+fn state_meaning(held: Option<Held>, reached: Option<ReachedPoint>) -> Option<FlowMeaning>
+    ensures { result ≡ option_and_then (λ reached. option_map (λ held. State held reached) held) reached }
+{
+    Some(FlowMeaning::State(held?, reached?))
 }
 
 /// The meaning of a path from a start to an end.

@@ -8,6 +8,8 @@ use Rattle.component_extension.specs.declared.effective.Effective.{Effective}
 use Rattle.component_extension.specs.Chain.{same_id}
 use Rattle.instantiator.specs.Components.{Part, found, parts_of}
 use Rattle.instantiator.specs.Effectives.{effective_of}
+use Rattle.error_types.specs.Libraries.{table_of}
+use Rattle.propagation_points.specs.States.{Sort}
 use Rattle.error_behavior.specs.declared.machines.MachineId.{MachineId}
 use Rattle.error_behavior.specs.Machines.{Machine, find_machine, machine_at}
 use Rattle.error_behavior.specs.declared.states.States.{States}
@@ -31,7 +33,7 @@ kind_machine packages id = machine_of packages (effective_of packages id)
 
 -- The states of a component of this classifier.
 abbrev pub kind_states : List PackageUnit → ClassifierId → States
-kind_states packages id = states_of (kind_machine packages id)
+kind_states packages id = states_of (table_of packages) (kind_machine packages id)
 
 -- ---- components below
 
@@ -66,10 +68,10 @@ abbrev pub classifier_below : List PackageUnit → List ClassifierId → Option 
 classifier_below packages kinds classifier [] = Some classifier
 classifier_below packages kinds classifier (name ∷ names) = option_and_then (λ below. classifier_below packages kinds below names) (step_below packages kinds classifier name)
 
--- the names of the states of a component of this classifier: without one it has none
-abbrev pub states_named : List PackageUnit → List ClassifierId → Option ClassifierId → Option (List (List ℕ))
+-- the states of a component of this classifier: without one it has none
+abbrev pub states_named : List PackageUnit → List ClassifierId → Option ClassifierId → Option (List Sort)
 states_named packages kinds None = Some []
-states_named packages kinds (Some id) = option_map (λ kind. (kind_states packages kind).names) (kind_among kinds id)
+states_named packages kinds (Some id) = option_map (λ kind. (kind_states packages kind).sorts) (kind_among kinds id)
 
 -- The states of the components below a component of this classifier.
 abbrev pub states_below : List PackageUnit → List ClassifierId → Option ClassifierId → StatesAt

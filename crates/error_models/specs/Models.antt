@@ -26,10 +26,10 @@ is_composite (composite ∷ composites) = true
 abbrev pub model_with : Table → Effective → Option Machine → StatesAt → ErrorModel
 model_with table effective machine below = record {
   points = points_of table effective;
-  states = states_of machine;
+  states = states_of table machine;
   behavior = behavior_of table (points_of table effective) machine effective;
-  flows = flows_of table (points_of table effective) (states_of machine).names effective;
-  composites = clauses_of below table (points_of table effective) (states_of machine) effective;
+  flows = flows_of table (points_of table effective) (states_of table machine).sorts effective;
+  composites = clauses_of below table (points_of table effective) (states_of table machine) effective;
   is_composite = is_composite effective.behavior.composites;
 }
 

@@ -59,8 +59,8 @@ abbrev pub refusal_with : Table → Effective → Option Machine → StatesAt �
 refusal_with table effective machine below =
     option_or (least (point_refusals table effective))
     (option_or (least (behavior_refusals table (points_of table effective) machine effective))
-    (option_or (least (all_flow_refusals table (points_of table effective) (states_of machine).names effective))
-    (least (composite_clause_refusals below table (points_of table effective) (states_of machine) effective))))
+    (option_or (least (all_flow_refusals table (points_of table effective) (states_of table machine).sorts effective))
+    (least (composite_clause_refusals below table (points_of table effective) (states_of table machine) effective))))
 
 -- the same for a component of this classifier
 unfoldable pub model_refusal : Table → List ClassifierId → ClassifierId → Option Refusal

@@ -1,5 +1,6 @@
 ghost use Rattle.std.specs.Prelude.{◌≡◌, [], None, Some, IfErr, IfOk, OnOk, map};
 ghost use Rattle.plain_values.specs.Order.{least};
+ghost use Rattle.error_types.specs.Libraries.{table_of};
 ghost use Rattle.propagation_points.specs.Points.{point_refusals, points_of};
 ghost use Rattle.error_flows.specs.Flows.{all_flow_refusals, flows_of};
 ghost use Rattle.error_behavior.specs.Behavior.{behavior_refusals, behavior_of};
@@ -20,7 +21,7 @@ use error_flows::{FlowMeaning, flows_of};
 use error_types::TypeTable;
 use instantiator::Instance;
 use plain_values::{Answer, FirstRefusal, List};
-use propagation_points::{NameTable, Points, points_of};
+use propagation_points::{Points, Sorts, points_of};
 use std::alloc::Global;
 
 /// The error models of the kinds of an instance, which have these machines, in order.
@@ -35,13 +36,13 @@ pub fn models_of<'a>(
     types: &mut TypeTable<'_, 'a>,
 ) -> Answer<List<ErrorModel<'a>>>
     requires machines { machines.now ≡ map (kind_machine instance.now.packages) instance.now.kinds }
-    requires packages { types.old.packages ≡ instance.now.packages }
+    requires table { types.old ≡ table_of instance.now.packages }
     ensures kept { types.new ≡ types.old }
     ensures models { IfOk result (λ models. models ≡ map (model_of types.old instance.now.kinds) instance.now.kinds) }
     ensures accepted { OnOk result (models_refusal types.old instance.now.kinds ≡ None) }
     ensures refused { IfErr result (StopsAt (models_refusal types.old instance.now.kinds)) }
 {
-    let tree = Tree::of(alloc, instance, machines)?;
+    let tree = Tree::of(alloc, instance, machines, types)?;
     let mut models = List::new(alloc);
     for (number, kind) in instance.kinds().iter().enumerate() {
         let below = BelowKind {
@@ -67,10 +68,10 @@ fn model_of<'a>(
     ensures accepted { OnOk result (refusal_with types.old effective.now machine.now (states_below below.now.tree.packages below.now.tree.kinds (Some below.now.classifier)) ≡ None) }
     ensures refused { IfErr result (StopsAt (refusal_with types.old effective.now machine.now (states_below below.now.tree.packages below.now.tree.kinds (Some below.now.classifier)))) }
 {
-    let states = states_of(alloc, machine)?;
     let points = points(alloc, effective, types)?;
-    let behavior = behavior(alloc, effective, machine, &states.names, types, &points)?;
-    let flows = flows(alloc, effective, types, &points, &states.names)?;
+    let states = states_of(alloc, types, machine)?;
+    let behavior = behavior(alloc, effective, machine, &states.sorts, types, &points)?;
+    let flows = flows(alloc, effective, types, &points, &states.sorts)?;
     let composites = composites(alloc, effective, types, &points, &states, below)?;
     Ok(ErrorModel {
         points,
@@ -108,11 +109,11 @@ fn behavior<'a>(
     alloc: Global,
     effective: &Effective<'a>,
     machine: &Option<UsedMachine<'a>>,
-    states: &NameTable<'a>,
+    states: &Sorts<'a>,
     types: &mut TypeTable<'_, 'a>,
     points: &Points<'a>,
 ) -> Answer<ErrorBehavior<'a>>
-    requires { states.now ≡ (states_of machine.now).names }
+    requires { states.now ≡ (states_of types.old machine.now).sorts }
     ensures kept { types.new ≡ types.old }
     ensures behavior { IfOk result (λ behavior. behavior ≡ behavior_of types.old points.now machine.now effective.now) }
     ensures accepted { OnOk result (least (behavior_refusals types.old points.now machine.now effective.now) ≡ None) }
@@ -129,7 +130,7 @@ fn flows<'a>(
     effective: &Effective<'a>,
     types: &mut TypeTable<'_, 'a>,
     points: &Points<'a>,
-    states: &NameTable<'a>,
+    states: &Sorts<'a>,
 ) -> Answer<List<FlowMeaning>>
     ensures kept { types.new ≡ types.old }
     ensures flows { IfOk result (λ flows. flows ≡ flows_of types.old points.now states.now effective.now) }

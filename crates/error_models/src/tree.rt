@@ -1,16 +1,18 @@
 ghost use Rattle.std.specs.Prelude.{◌≡◌, IfOk, Some, map, option_and_then, option_copied, option_map, position, slice_get};
 ghost use Rattle.instantiator.specs.Components.{found};
 ghost use Rattle.component_extension.specs.Chain.{same_id};
+ghost use Rattle.error_types.specs.Libraries.{table_of};
 ghost use Rattle.error_behavior.specs.States.{states_of};
 ghost use Rattle.error_models.specs.Below.{classifier_below, kind_among, kind_machine, kind_parts, kind_states, part_named, parts_at, states_named, step_below};
 
 use aadl_syntax::Identifier;
 use composite_states::StatesBelow;
 use error_behavior::{States, UsedMachine, states_of};
+use error_types::TypeTable;
 use instantiator::{Instance, Kind, Part, parts_of};
 use package_index::ClassifierId;
 use plain_values::{List, Mem};
-use propagation_points::NameTable;
+use propagation_points::Sorts;
 use std::alloc::Global;
 use std::marker::Model;
 
@@ -20,7 +22,7 @@ pub(crate) struct Tree<'t, 'i, 'a> {
     instance: &'t Instance<'i, 'a>,
     parts: List<List<Part<'a>>>,
     states: List<States<'a>>,
-    nothing: NameTable<'a>,
+    nothing: Sorts<'a>,
 }
 
 impl<'t, 'i, 'a> Model for Tree<'t, 'i, 'a> {
@@ -46,17 +48,20 @@ impl<'t, 'i, 'a> Tree<'t, 'i, 'a> {
         alloc: Global,
         instance: &'t Instance<'i, 'a>,
         machines: &[Option<UsedMachine<'a>>],
+        types: &mut TypeTable<'_, 'a>,
     ) -> Mem<Tree<'t, 'i, 'a>>
-        requires { machines.now ≡ map (kind_machine instance.now.packages) instance.now.kinds }
-        ensures { IfOk result (λ tree. tree ≡ record { packages = instance.now.packages; kinds = instance.now.kinds }) }
+        requires machines { machines.now ≡ map (kind_machine instance.now.packages) instance.now.kinds }
+        requires table { types.old ≡ table_of instance.now.packages }
+        ensures kept { types.new ≡ types.old }
+        ensures tree { IfOk result (λ tree. tree ≡ record { packages = instance.now.packages; kinds = instance.now.kinds }) }
     {
         let parts = all_parts(alloc, instance)?;
-        let states = all_states(alloc, machines)?;
+        let states = all_states(alloc, machines, types)?;
         Ok(Tree {
             instance,
             parts,
             states,
-            nothing: NameTable::new(alloc),
+            nothing: Sorts::new(alloc),
         })
     }
 
@@ -113,8 +118,8 @@ impl<'t, 'i, 'a> Tree<'t, 'i, 'a> {
         Some(current)
     }
 
-    /// The names of the states of a component of a classifier.
-    fn states_named(&self, classifier: Option<ClassifierId>) -> Option<&NameTable<'a>>
+    /// The states of a component of a classifier.
+    fn states_named(&self, classifier: Option<ClassifierId>) -> Option<&Sorts<'a>>
         ensures { option_copied result ≡ states_named self.now.packages self.now.kinds classifier }
     {
         match classifier {
@@ -123,11 +128,11 @@ impl<'t, 'i, 'a> Tree<'t, 'i, 'a> {
         }
     }
 
-    fn kind_states(&self, id: ClassifierId) -> Option<&NameTable<'a>>
-        ensures { option_copied result ≡ option_map (λ kind. (kind_states self.now.packages kind).names) (kind_among self.now.kinds id) }
+    fn kind_states(&self, id: ClassifierId) -> Option<&Sorts<'a>>
+        ensures { option_copied result ≡ option_map (λ kind. (kind_states self.now.packages kind).sorts) (kind_among self.now.kinds id) }
     {
         let states = self.states.items().get(self.number(id)?)?;
-        Some(&states.names)
+        Some(&states.sorts)
     }
 }
 
@@ -180,12 +185,17 @@ fn all_parts<'a>(alloc: Global, instance: &Instance<'_, 'a>) -> Mem<List<List<Pa
 }
 
 /// The states of kinds that have these machines.
-fn all_states<'a>(alloc: Global, machines: &[Option<UsedMachine<'a>>]) -> Mem<List<States<'a>>>
-    ensures { IfOk result (λ states. states ≡ map states_of machines.now) }
+fn all_states<'a>(
+    alloc: Global,
+    machines: &[Option<UsedMachine<'a>>],
+    types: &mut TypeTable<'_, 'a>,
+) -> Mem<List<States<'a>>>
+    ensures kept { types.new ≡ types.old }
+    ensures states { IfOk result (λ states. states ≡ map (states_of types.old) machines.now) }
 {
     let mut states = List::new(alloc);
     for machine in machines {
-        states.push(states_of(alloc, machine)?)?;
+        states.push(states_of(alloc, types, machine)?)?;
     }
     Ok(states)
 }
@@ -215,7 +225,7 @@ impl<'b, 't, 'i, 'a> StatesBelow<'a> for BelowKind<'b, 't, 'i, 'a> {
 
     ghost states_at = { λ below. states_below below.tree.packages below.tree.kinds (Some below.classifier) };
 
-    fn states_at(&self, path: &[Identifier]) -> Option<&NameTable<'a>> {
+    fn states_at(&self, path: &[Identifier]) -> Option<&Sorts<'a>> {
         let below = self.tree.classifier_below(self.classifier, path)?;
         self.tree.states_named(below)
     }

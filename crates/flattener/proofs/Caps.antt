@@ -43,10 +43,3 @@ plus_within a b m n e f within =
 -- one place
 pub one-of : (n : ℕ) → n ≡ 1 → 1 ≡ capped n
 one-of n is = ap capped (sym is)
-
--- two places
-pub two-of : (n : ℕ) → n ≡ 2 → 2 ≡ capped n
-two-of n is = ap capped (sym is)
-
-pub two : 2 ≡ capped 2
-two = refl

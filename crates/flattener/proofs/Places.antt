@@ -4,6 +4,7 @@ use Rattle.std.specs.Option.{option_map_or}
 use Rattle.std.proofs.lemmas.Grind.{flat_map-append}
 use Rattle.std.proofs.lemmas.List.{append-nil, map-append, take_more}
 use Rattle.std.proofs.lemmas.List.Sums.{sum_by-append, sum_by-cons}
+use Rattle.propagation_points.specs.declared.held.Held.TheVariants as held
 use Rattle.propagation_points.specs.declared.uses.ReachedPoint.{ReachedPoint}
 use Rattle.error_flows.specs.declared.meaning.FlowMeaning.TheVariants as flow
 use Rattle.error_conditions.specs.declared.cause.Cause.{Cause, fold-roll-Cause}
@@ -11,8 +12,6 @@ use Rattle.error_conditions.specs.declared.cause.Cause.TheOpen as cause
 use Rattle.error_conditions.specs.declared.cause.Cause.TheVariants as causes
 use Rattle.error_conditions.specs.declared.cause.StateBelow.{StateBelow}
 use Rattle.error_behavior.specs.declared.steps.Emission.{Emission}
-use Rattle.error_behavior.specs.declared.steps.Origin.{Origin}
-use Rattle.error_behavior.specs.declared.steps.Origin.TheVariants.{Always, From}
 use Rattle.error_behavior.specs.declared.steps.Step.{Step}
 use Rattle.instantiator.specs.Components.{component_below}
 use Rattle.model_facts.specs.Facts.{event_in, event_number, fact_in, fact_number, inward_of}
@@ -26,8 +25,8 @@ use Rattle.fault_system.specs.declared.formula.Formula.TheOpen.{Formula-F}
 use Rattle.fault_system.specs.declared.formula.Formula.TheOpen as open_formula
 use Rattle.flattener.specs.Facts.{enter_formula, is_empty, linked_formula, some_of, state_formula}
 use Rattle.flattener.specs.Flat.{places, places_step}
-use Rattle.flattener.specs.Formulas.{cause_formula, cause_step, conditions_to, emission_formula, flow_formula, in_state, origin_formula, step_formula, steps_to}
-use Rattle.flattener.specs.Numbered.{Numbered, Site, entering, event_formula, fact_formula, reached_inward, some_entering}
+use Rattle.flattener.specs.Formulas.{cause_formula, cause_step, conditions_to, emission_formula, flow_formula, held_formula, in_state, origin_formula, step_formula, steps_to}
+use Rattle.flattener.specs.Numbered.{Numbered, Site, entering, event_formula, fact_formula, own_fact, reached_inward, some_entering}
 use Rattle.flattener.specs.Tables.{capped, places_of}
 use Rattle.flattener.proofs.Caps.{capped_cases}
 
@@ -72,15 +71,19 @@ pub state-place : (numbered : Numbered) (component : Option ℕ) (state : ℕ) �
 state-place numbered None state = places-Or []
 state-place numbered (Some component) state = fact-place numbered (fact_in component (State state))
 
-pub origin-place : (site : Site) (origin : Origin) → places (origin_formula site origin) ≡ 1
-origin-place site Always = places-True
-origin-place site (From state) = fact-place site.numbered (fact_in site.owner (State state))
-
 -- ---- lists
 
 ones : {A : Type 0} (f : A → Formula) → ((x : A) → places (f x) ≡ 1) → (xs : List A) → places_of (map f xs) ≡ length xs
 ones f each [] = refl
 ones f each (x ∷ xs) = omega (arith, places-cons (f x) (map f xs), each x, ones f each xs)
+
+pub held-one : (site : Site) (state : ℕ) → places (held_formula site (held.One state)) ≡ 1
+held-one site state = fact-place site.numbered (fact_in site.owner (State state))
+
+pub held-any : (site : Site) (states : List ℕ) → places (held_formula site (held.Any states)) ≡ 1 + length states
+held-any site states =
+    places-Or (map (λ state. own_fact site (State state)) states)
+    ∙ ap (λ n. 1 + n) (ones (λ state. own_fact site (State state)) (λ state. fact-place site.numbered (fact_in site.owner (State state))) states)
 
 pub entering-places : (site : Site) (reached : ReachedPoint) → places (some_entering site reached) ≡ 1 + length (reached_inward site reached)
 entering-places site reached =
@@ -116,22 +119,22 @@ module _ (site : Site) where
 
   -- ---- transitions and outgoing conditions
 
-  pub step-places : (step : Step) → places (step_formula site step) ≡ 2 + places (cause_formula site step.trigger)
+  pub step-places : (step : Step) → places (step_formula site step) ≡ 1 + (places (origin_formula site step.origin) + places (cause_formula site step.trigger))
   step-places step =
       let both = places-And (origin_formula site step.origin ∷ cause_formula site step.trigger ∷ []) in
-      omega (arith, both, places-cons (origin_formula site step.origin) (cause_formula site step.trigger ∷ []), places-cons (cause_formula site step.trigger) [], origin-place site step.origin)
+      omega (arith, both, places-cons (origin_formula site step.origin) (cause_formula site step.trigger ∷ []), places-cons (cause_formula site step.trigger) [])
 
-  pub emission-none : (emission : Emission) → emission.trigger ≡ None → places (emission_formula site emission) ≡ 2
+  pub emission-none : (emission : Emission) → emission.trigger ≡ None → places (emission_formula site emission) ≡ 1 + places (origin_formula site emission.origin)
   emission-none emission is =
       let parts : Option Cause → List Formula = λ trigger. origin_formula site emission.origin ∷ option_to_list (option_map (cause_formula site) trigger) in
       let one = places-And (origin_formula site emission.origin ∷ []) in
-      ap (λ trigger. places (And (parts trigger))) is ∙ omega (arith, one, places-cons (origin_formula site emission.origin) [], origin-place site emission.origin)
+      ap (λ trigger. places (And (parts trigger))) is ∙ omega (arith, one, places-cons (origin_formula site emission.origin) [])
 
-  pub emission-some : (emission : Emission) (trigger : Cause) → emission.trigger ≡ Some trigger → places (emission_formula site emission) ≡ 2 + places (cause_formula site trigger)
+  pub emission-some : (emission : Emission) (trigger : Cause) → emission.trigger ≡ Some trigger → places (emission_formula site emission) ≡ 1 + (places (origin_formula site emission.origin) + places (cause_formula site trigger))
   emission-some emission trigger is =
       let parts : Option Cause → List Formula = λ trigger. origin_formula site emission.origin ∷ option_to_list (option_map (cause_formula site) trigger) in
       let both = places-And (origin_formula site emission.origin ∷ cause_formula site trigger ∷ []) in
-      ap (λ trigger. places (And (parts trigger))) is ∙ omega (arith, both, places-cons (origin_formula site emission.origin) (cause_formula site trigger ∷ []), places-cons (cause_formula site trigger) [], origin-place site emission.origin)
+      ap (λ trigger. places (And (parts trigger))) is ∙ omega (arith, both, places-cons (origin_formula site emission.origin) (cause_formula site trigger ∷ []), places-cons (cause_formula site trigger) [])
 
 -- ---- what has places
 
@@ -181,17 +184,17 @@ pub some-full : (formulas : List Formula) (otherwise : Formula) (count : ℕ) �
 some-full formulas otherwise count is some = ap (λ b. places (cond b otherwise (Or formulas))) (some-formulas formulas count is some) ∙ places-Or formulas
 
 -- in an initial state, a composite one, and another
-pub state-initial : (site : Site) (state : ℕ) → slice_index_or site.model.states.initial state false ≡ true → places (state_formula site state) ≡ 1
+pub state-initial : (site : Site) (state : ℕ) → slice_index_or site.model.states.always state false ≡ true → places (state_formula site state) ≡ 1
 state-initial site state is =
     ap (λ b. places (cond b True (cond site.model.is_composite (Or (map (cause_formula site) (conditions_to state site.model.composites))) (Or (map (step_formula site) (steps_to state site.model.behavior.steps)))))) is ∙ places-True
 
-pub state-composite : (site : Site) (state : ℕ) → slice_index_or site.model.states.initial state false ≡ false → site.model.is_composite ≡ true → places (state_formula site state) ≡ 1 + places_of (map (cause_formula site) (conditions_to state site.model.composites))
+pub state-composite : (site : Site) (state : ℕ) → slice_index_or site.model.states.always state false ≡ false → site.model.is_composite ≡ true → places (state_formula site state) ≡ 1 + places_of (map (cause_formula site) (conditions_to state site.model.composites))
 state-composite site state is composite =
     ap (λ b. places (cond b True (cond site.model.is_composite (Or (map (cause_formula site) (conditions_to state site.model.composites))) (Or (map (step_formula site) (steps_to state site.model.behavior.steps)))))) is
     ∙ ap (λ b. places (cond b (Or (map (cause_formula site) (conditions_to state site.model.composites))) (Or (map (step_formula site) (steps_to state site.model.behavior.steps))))) composite
     ∙ places-Or (map (cause_formula site) (conditions_to state site.model.composites))
 
-pub state-stepped : (site : Site) (state : ℕ) → slice_index_or site.model.states.initial state false ≡ false → site.model.is_composite ≡ false → places (state_formula site state) ≡ 1 + places_of (map (step_formula site) (steps_to state site.model.behavior.steps))
+pub state-stepped : (site : Site) (state : ℕ) → slice_index_or site.model.states.always state false ≡ false → site.model.is_composite ≡ false → places (state_formula site state) ≡ 1 + places_of (map (step_formula site) (steps_to state site.model.behavior.steps))
 state-stepped site state is composite =
     ap (λ b. places (cond b True (cond site.model.is_composite (Or (map (cause_formula site) (conditions_to state site.model.composites))) (Or (map (step_formula site) (steps_to state site.model.behavior.steps)))))) is
     ∙ ap (λ b. places (cond b (Or (map (cause_formula site) (conditions_to state site.model.composites))) (Or (map (step_formula site) (steps_to state site.model.behavior.steps))))) composite

@@ -4,6 +4,8 @@ use Rattle.std.specs.Option.{option_map_or}
 use Rattle.std.specs.List.{list_all}
 use Rattle.std.proofs.lemmas.Bool.{lt-ltb}
 use Rattle.std.proofs.lemmas.List.Quantifiers.{position-Some}
+use Rattle.propagation_points.specs.declared.held.Held.{Held}
+use Rattle.propagation_points.specs.declared.held.Held.TheVariants as held
 use Rattle.propagation_points.specs.declared.uses.ReachedPoint.{ReachedPoint}
 use Rattle.error_flows.specs.declared.meaning.FlowMeaning.{FlowMeaning}
 use Rattle.error_flows.specs.declared.meaning.FlowMeaning.TheVariants as flow
@@ -26,8 +28,8 @@ use Rattle.fault_system.specs.Truth.{in_range, in_range_step}
 use Rattle.fault_system.specs.declared.formula.Formula.{Formula, fold-roll-Formula}
 use Rattle.fault_system.specs.declared.formula.Formula.TheVariants.{True, Event, Fact, And, Or, AtLeast, rolls-True, rolls-Event, rolls-Fact, rolls-And, rolls-Or, rolls-AtLeast}
 use Rattle.fault_system.specs.declared.formula.Formula.TheOpen as open_formula
-use Rattle.flattener.specs.Numbered.{Numbered, Site, entering, event_formula, fact_formula, reached_inward, site_of, some_entering}
-use Rattle.flattener.specs.Formulas.{FlowAt, all_flow_formulas, cause_formula, cause_step, conditions_to, covers_type, emission_formula, flow_formula, flow_formulas, flows_at, in_state, origin_formula, step_formula, steps_to}
+use Rattle.flattener.specs.Numbered.{Numbered, Site, entering, event_formula, fact_formula, own_fact, reached_inward, site_of, some_entering}
+use Rattle.flattener.specs.Formulas.{FlowAt, all_flow_formulas, cause_formula, cause_step, conditions_to, covers_type, emission_formula, flow_formula, flow_formulas, flows_at, held_formula, in_state, origin_formula, step_formula, steps_to}
 use Rattle.flattener.specs.Facts.{fact_at, kind_formula, linked_formula, linked_from, meaning_of, perhaps_at}
 
 both_true : (a b : Bool) → a ≡ true → b ≡ true → (a && b) ≡ true
@@ -164,9 +166,13 @@ module _ (site : Site) where
 
   -- ---- transitions, outgoing conditions and flows
 
+  held-there : (one : Held) → There (held_formula site one)
+  held-there (held.One state) = within-fact site.numbered (fact_in site.owner (State state))
+  held-there (held.Any states) = in_range-Or _ _ _ (all-map _ _ (λ state. own_fact site (State state)) (λ state. within-fact site.numbered (fact_in site.owner (State state))) states)
+
   origin-there : (origin : Origin) → There (origin_formula site origin)
   origin-there Always = in_range-True _ _
-  origin-there (From state) = within-fact site.numbered (fact_in site.owner (State state))
+  origin-there (From state) = held-there state
 
   step-there : (step : Step) → There (step_formula site step)
   step-there step = in_range-And _ _ _ (all-two _ _ _ _ (origin-there step.origin) (cause-there step.trigger))
@@ -180,7 +186,7 @@ module _ (site : Site) where
 
   flow-there : (type number : ℕ) (meaning : FlowMeaning) → There (flow_formula site type number meaning)
   flow-there type number (flow.Event name reached) = within-event site.numbered (event_in site.owner (Source number))
-  flow-there type number (flow.State state reached) = within-fact site.numbered (fact_in site.owner (State state))
+  flow-there type number (flow.State state reached) = held-there state
   flow-there type number (flow.Carry start end) = within-fact site.numbered (fact_in site.owner (Enters start.point type))
   flow-there type number (flow.Change start end types) = there-entering start
 

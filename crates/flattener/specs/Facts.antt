@@ -37,7 +37,7 @@ linked_formula numbered type side = Or (flat_map (perhaps_at numbered type) (lin
 -- so; and else where a transition leads there.
 abbrev pub state_formula : Site → ℕ → Formula
 state_formula site state =
-    cond (slice_index_or site.model.states.initial state false) True
+    cond (slice_index_or site.model.states.always state false) True
     (cond site.model.is_composite (Or (map (cause_formula site) (conditions_to state site.model.composites)))
     (Or (map (step_formula site) (steps_to state site.model.behavior.steps))))
 

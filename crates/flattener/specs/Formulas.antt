@@ -2,6 +2,8 @@
 use Rattle.std.specs.Prelude.{ℕ, ◌∷◌, Bool, cond, ◌&&◌, nat_eq, List, [], map, filter, flat_map, Option, Some, None, option_map, option_to_list}
 use Rattle.plain_values.specs.Numbered.{numbered_from}
 use Rattle.error_types.specs.Search.{is_number_in}
+use Rattle.propagation_points.specs.declared.held.Held.{Held}
+use Rattle.propagation_points.specs.declared.held.Held.TheVariants as held
 use Rattle.propagation_points.specs.declared.uses.ReachedPoint.{ReachedPoint}
 use Rattle.propagation_points.specs.Uses.{covers}
 use Rattle.error_flows.specs.declared.meaning.FlowMeaning.{FlowMeaning}
@@ -46,10 +48,15 @@ cause_step site (cause.AtLeast least parts) = AtLeast least parts
 abbrev pub cause_formula : Site → Cause → Formula
 cause_formula site = fold-Cause Formula (cause_step site)
 
+-- that a component is in a state: in the one that is selected, or in one of the variants that are
+abbrev pub held_formula : Site → Held → Formula
+held_formula site (held.One state) = own_fact site (State state)
+held_formula site (held.Any states) = Or (map (λ state. own_fact site (State state)) states)
+
 -- that a component is where a transition starts: in a state, or anywhere
 abbrev pub origin_formula : Site → Origin → Formula
 origin_formula site Always = True
-origin_formula site (From state) = own_fact site (State state)
+origin_formula site (From state) = held_formula site state
 
 -- ---- transitions and clauses of composite states
 
@@ -65,9 +72,14 @@ branches_to state step = map (λ target. step) (filter (λ target. nat_eq target
 abbrev pub steps_to : ℕ → List Step → List Step
 steps_to state steps = flat_map (branches_to state) steps
 
--- the condition of a clause to a state: `others` adds none
+-- a condition for each of these targets that is a state; `others` has none
+abbrev pub condition_for : ℕ → List ℕ → Option Cause → List Cause
+condition_for state targets None = []
+condition_for state targets (Some condition) = map (λ target. condition) (filter (λ target. nat_eq target state) targets)
+
+-- the condition of a clause to a state, if that is one of its targets
 abbrev pub condition_to : ℕ → ClauseMeaning → List Cause
-condition_to state clause = cond (nat_eq clause.target state) (option_to_list clause.condition) []
+condition_to state clause = condition_for state clause.targets clause.condition
 
 -- The conditions of the clauses to a state.
 abbrev pub conditions_to : ℕ → List ClauseMeaning → List Cause
@@ -125,7 +137,7 @@ covers_type site type (flow.Change start end types) = is_number_in types type
 -- it enters where the path begins; and one that makes types, that one of those that it takes enters there.
 abbrev pub flow_formula : Site → ℕ → ℕ → FlowMeaning → Formula
 flow_formula site type number (flow.Event name reached) = own_event site (Source number)
-flow_formula site type number (flow.State state reached) = own_fact site (State state)
+flow_formula site type number (flow.State state reached) = held_formula site state
 flow_formula site type number (flow.Carry start end) = entering site start.point type
 flow_formula site type number (flow.Change start end types) = some_entering site start
 

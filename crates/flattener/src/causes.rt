@@ -65,7 +65,7 @@ fn step_formula(alloc: Global, site: &Site, step: &Step) -> Mem<Formula>
     ensures { IfOk result (λ formula. formula ≡ step_formula site.now step.now) }
 {
     let mut parts = List::new(alloc);
-    parts.push(site.origin(alloc, &step.origin))?;
+    parts.push(site.origin(alloc, &step.origin)?)?;
     parts.push(cause_formula(alloc, site, &step.trigger)?)?;
     Ok(Formula::And(parts))
 }

@@ -5,7 +5,7 @@ ghost use Rattle.propagation_points.specs.Uses.{covers};
 ghost use Rattle.model_facts.specs.Facts.{outward_of};
 ghost use Rattle.flattener.specs.Facts.{enter_formula, exit_formula, flow_or_link, kind_formula, linked_formula, linked_from, meaning_of, perhaps_at, state_formula};
 ghost use Rattle.flattener.specs.Flat.{all_places, places};
-ghost use Rattle.flattener.specs.Formulas.{all_flow_formulas, cause_formula, emission_formula, emission_formulas, flow_formula, flow_formulas, step_formula};
+ghost use Rattle.flattener.specs.Formulas.{all_flow_formulas, cause_formula, emission_formula, emission_formulas, flow_formula, flow_formulas, held_formula, origin_formula, step_formula};
 ghost use Rattle.flattener.specs.Numbered.{reached_inward, some_entering};
 ghost use Rattle.flattener.specs.Tables.{capped, flow_seen, places_of};
 
@@ -13,12 +13,12 @@ use crate::exits::covers;
 use crate::facts::{arrival, inward_of, outward_of};
 use crate::numbers::Numbers;
 use crate::site::Site;
-use error_behavior::{Emission, Step};
+use error_behavior::{Emission, Origin, Step};
 use error_conditions::Cause;
 use error_flows::FlowMeaning;
 use model_facts::{FactKey, FactKind};
 use propagation_links::PointAt;
-use propagation_points::ReachedPoint;
+use propagation_points::{Held, ReachedPoint};
 
 /// How many places all formulas of a model have.
 pub(crate) fn all_places(numbers: &Numbers) -> u32
@@ -104,7 +104,36 @@ fn steps_places(site: &Site, steps: &[&Step]) -> u32
 fn step_places(site: &Site, step: &Step) -> u32
     ensures { result ≡ capped (places (step_formula site.now step.now)) }
 {
-    plus(2, cause_places(site, &step.trigger))
+    let origin = origin_places(site, &step.origin);
+    one_more(plus(origin, cause_places(site, &step.trigger)))
+}
+
+fn origin_places(site: &Site, origin: &Origin) -> u32
+    ensures { result ≡ capped (places (origin_formula site.now origin.now)) }
+{
+    match origin {
+        Origin::Always => 1,
+        Origin::From(held) => held_places(site, held),
+    }
+}
+
+fn held_places(site: &Site, held: &Held) -> u32
+    ensures { result ≡ capped (places (held_formula site.now held.now)) }
+{
+    match held {
+        Held::One(_) => 1,
+        Held::Any(states) => one_more(count_capped(states.items())),
+    }
+}
+
+fn count_capped(states: &[u32]) -> u32
+    ensures { result ≡ capped (length states.now) }
+{
+    let count = states.len();
+    if count > 4_194_304 {
+        return 4_194_305;
+    }
+    count as u32
 }
 
 #[cycle(places)]
@@ -225,9 +254,10 @@ fn emission_part(site: &Site, number: u32, emission: &Emission) -> u32
 fn emission_places(site: &Site, emission: &Emission) -> u32
     ensures { result ≡ capped (places (emission_formula site.now emission.now)) }
 {
+    let origin = origin_places(site, &emission.origin);
     match &emission.trigger {
-        Some(trigger) => plus(2, cause_places(site, trigger)),
-        None => 2,
+        Some(trigger) => one_more(plus(origin, cause_places(site, trigger))),
+        None => one_more(origin),
     }
 }
 
@@ -274,7 +304,7 @@ fn flow_places(site: &Site, number: u32, place: u32, flow: &FlowMeaning) -> u32
 {
     match flow {
         FlowMeaning::Event(_, _) => 1,
-        FlowMeaning::State(_, _) => 1,
+        FlowMeaning::State(held, _) => held_places(site, held),
         FlowMeaning::Carry(_, _) => 1,
         FlowMeaning::Change(start, _, _) => entering_places(site, start),
     }

@@ -7,7 +7,7 @@ use crate::site::{Site, has_number};
 use error_behavior::Emission;
 use error_flows::FlowMeaning;
 use fault_system::Formula;
-use model_facts::{EventKind, FactKind};
+use model_facts::EventKind;
 use plain_values::{List, Mem};
 use std::alloc::Global;
 
@@ -48,7 +48,7 @@ fn emission_formula(alloc: Global, site: &Site, emission: &Emission) -> Mem<Form
     ensures { IfOk result (λ formula. formula ≡ emission_formula site.now emission.now) }
 {
     let mut parts = List::new(alloc);
-    parts.push(site.origin(alloc, &emission.origin))?;
+    parts.push(site.origin(alloc, &emission.origin)?)?;
     if let Some(trigger) = &emission.trigger {
         parts.push(cause_formula(alloc, site, trigger)?)?;
     }
@@ -112,7 +112,7 @@ fn flow_formula(
 {
     match flow {
         FlowMeaning::Event(_, _) => Ok(site.event(alloc, EventKind::Source(place))),
-        FlowMeaning::State(state, _) => Ok(site.fact(alloc, FactKind::State(*state))),
+        FlowMeaning::State(held, _) => site.held(alloc, held),
         FlowMeaning::Carry(start, _) => Ok(site.entering(alloc, start.point, number)),
         FlowMeaning::Change(start, _, _) => site.some_entering(alloc, start),
     }

@@ -1,4 +1,4 @@
-ghost use Rattle.std.specs.Prelude.{◌≡◌, ◌++◌, ℕ, IfOk, OnOk, false, map, nat_eq, slice_index_or};
+ghost use Rattle.std.specs.Prelude.{◌≡◌, ◌++◌, ℕ, IfOk, OnOk, false, filter, map, nat_eq, slice_index_or};
 ghost use Rattle.std.specs.HashMap.{get};
 ghost use Rattle.flattener.specs.Formulas.{branches_to, condition_to, conditions_to, emissions_at, end_of, flow_at, flows_at, steps_to};
 ghost use Rattle.flattener.specs.Tables.{AreConditions, AreEmissions, AreFlows, AreSteps, flow_seen, row_at, values};
@@ -69,11 +69,11 @@ impl<'m> Kind<'m> {
         self.model
     }
 
-    /// Whether a state is initial.
+    /// Whether a variant of a state always holds: that of an initial state.
     pub(crate) fn is_initial(&self, state: u32) -> bool
-        ensures { result ≡ slice_index_or self.now.states.initial state false }
+        ensures { result ≡ slice_index_or self.now.states.always state false }
     {
-        match self.model.states.initial.items().get(state as usize) {
+        match self.model.states.always.items().get(state as usize) {
             Some(initial) => *initial,
             None => false,
         }
@@ -141,7 +141,7 @@ fn conditions_of<'m>(
     Ok(rows)
 }
 
-/// Adds the condition of a clause to the row of its target.
+/// Adds the condition of a clause to the row of each of its targets.
 fn add_condition<'m>(
     alloc: Global,
     rows: &mut HashMap<u32, List<&'m Cause>>,
@@ -150,9 +150,24 @@ fn add_condition<'m>(
     ensures { OnOk result ((state : ℕ) → values (get nat_eq rows.new state) ≡ values (get nat_eq rows.old state) ++ condition_to state clause.now) }
 {
     match &clause.condition {
-        Some(condition) => add(alloc, rows, clause.target, condition),
+        Some(condition) => add_to(alloc, rows, clause.targets.items(), condition),
         None => Ok(()),
     }
+}
+
+/// Adds a condition to the row of each of these variants.
+fn add_to<'m>(
+    alloc: Global,
+    rows: &mut HashMap<u32, List<&'m Cause>>,
+    targets: &[u32],
+    condition: &'m Cause,
+) -> Mem<()>
+    ensures { OnOk result ((state : ℕ) → values (get nat_eq rows.new state) ≡ values (get nat_eq rows.old state) ++ map (λ target. condition.now) (filter (λ target. nat_eq target state) targets.now)) }
+{
+    for target in targets {
+        add(alloc, rows, *target, condition)?;
+    }
+    Ok(())
 }
 
 fn emissions_of<'m>(

@@ -5,7 +5,7 @@ use crate::kind::Kind;
 use error_behavior::{ErrorBehavior, States};
 use error_models::ErrorModel;
 use plain_values::{List, Mem};
-use propagation_points::{NameTable, Points};
+use propagation_points::{Points, Sorts};
 use std::alloc::Global;
 use std::marker::Model;
 
@@ -82,11 +82,12 @@ pub(crate) fn no_model<'a>(alloc: Global) -> ErrorModel<'a>
     ErrorModel {
         points: Points::new(alloc),
         states: States {
-            names: NameTable::new(alloc),
+            sorts: Sorts::new(alloc),
             initial: List::new(alloc),
+            always: List::new(alloc),
         },
         behavior: ErrorBehavior {
-            events: NameTable::new(alloc),
+            events: Sorts::new(alloc),
             steps: List::new(alloc),
             emissions: List::new(alloc),
         },

@@ -11,7 +11,7 @@ use error_behavior::Origin;
 use fault_system::Formula;
 use model_facts::{EventKey, EventKind, FactKey, FactKind};
 use plain_values::{List, Mem};
-use propagation_points::{Reach, ReachedPoint, Side};
+use propagation_points::{Held, ReachedPoint, Side};
 use std::alloc::Global;
 use std::marker::Model;
 
@@ -97,13 +97,33 @@ impl<'s> Site<'s> {
     }
 
     /// That it is where a transition starts.
-    pub(crate) fn origin(&self, alloc: Global, origin: &Origin) -> Formula
-        ensures { result ≡ origin_formula self.now origin.now }
+    pub(crate) fn origin(&self, alloc: Global, origin: &Origin) -> Mem<Formula>
+        ensures { IfOk result (λ formula. formula ≡ origin_formula self.now origin.now) }
     {
         match origin {
-            Origin::Always => Formula::True,
-            Origin::From(state) => self.fact(alloc, FactKind::State(*state)),
+            Origin::Always => Ok(Formula::True),
+            Origin::From(held) => self.held(alloc, held),
         }
+    }
+
+    /// That it is in what is selected of a state.
+    pub(crate) fn held(&self, alloc: Global, held: &Held) -> Mem<Formula>
+        ensures { IfOk result (λ formula. formula ≡ held_formula self.now held.now) }
+    {
+        match held {
+            Held::One(state) => Ok(self.fact(alloc, FactKind::State(*state))),
+            Held::Any(states) => Ok(Formula::Or(self.variants(alloc, states.items())?)),
+        }
+    }
+
+    fn variants(&self, alloc: Global, states: &[u32]) -> Mem<List<Formula>>
+        ensures { IfOk result (λ parts. parts ≡ map (λ state. own_fact self.now (State state)) states.now) }
+    {
+        let mut parts = List::new(alloc);
+        for state in states {
+            parts.push(self.fact(alloc, FactKind::State(*state)))?;
+        }
+        Ok(parts)
     }
 
     /// That the component below to which names lead is in the state of a number.

@@ -3,8 +3,10 @@ use Rattle.std.proofs.Common.{ℕ, true, false, List, [], ◌∷◌, ◌≡◌, 
 use Rattle.package_index.specs.declared.id.ClassifierId.{ClassifierId}
 use Rattle.error_types.specs.Libraries.{table_of}
 use Rattle.error_types.proofs.Sample.{library_unit}
+use Rattle.propagation_points.specs.declared.held.Held.TheVariants as held
 use Rattle.propagation_points.specs.declared.side.Reach.TheVariants.{Whole}
 use Rattle.propagation_points.specs.declared.side.Side.TheVariants as side
+use Rattle.propagation_points.specs.States.{Sort}
 use Rattle.error_flows.specs.declared.meaning.FlowMeaning.TheVariants as flow
 use Rattle.instantiator.specs.declared.path.Component.{Component}
 use Rattle.instantiator.proofs.Sample.{id}
@@ -19,17 +21,23 @@ use Rattle.model_facts.specs.declared.keys.FactKind.TheVariants.{Enters, Exits, 
 
 -- ---- the model
 
--- the root has two states
+-- a state or an event without a set
+abbrev plain : List ℕ → Sort
+plain name = record { name = name; first = 0; types = None }
+
+-- the root has two states, of which the second is declared with the types 1 and 2
 abbrev root_model : ErrorModel
-root_model = record no_model { states = record { names = codes "up" ∷ codes "down" ∷ []; initial = true ∷ false ∷ [] } }
+root_model = record no_model {
+  states = record { sorts = plain (codes "up") ∷ record { name = codes "down"; first = 1; types = Some (1 ∷ 2 ∷ []) } ∷ []; initial = true ∷ false ∷ []; always = true ∷ false ∷ false ∷ [] };
+}
 
 -- A device has a point i, into which the types 0 and 2 go, and a point o, at whose outward side all types may be; an event e, a
 -- source f at o, and a source g of a state.
 abbrev device_model : ErrorModel
 device_model = record no_model {
   points = point_of (codes "i") (side.Declared (0 ∷ 2 ∷ [])) side.Absent ∷ point_of (codes "o") side.Absent side.Free ∷ [];
-  behavior = record { events = codes "e" ∷ []; steps = []; emissions = [] };
-  flows = flow.State 0 (record { point = 1; types = Whole }) ∷ flow.Event (codes "f") (record { point = 1; types = Whole }) ∷ [];
+  behavior = record { events = record { name = codes "e"; first = 0; types = Some (0 ∷ []) } ∷ []; steps = []; emissions = [] };
+  flows = flow.State (held.One 0) (record { point = 1; types = Whole }) ∷ flow.Event (codes "f") (record { point = 1; types = Whole }) ∷ [];
 }
 
 abbrev at_path : List (List ℕ) → ClassifierId → Component
@@ -54,14 +62,14 @@ declared : universe_of model ≡ 0 ∷ 2 ∷ []
 declared = refl
 
 facts : facts_of model (universe_of model)
-    ≡ fact_in 0 (State 0) ∷ fact_in 0 (State 1) ∷ fact_in 1 (Enters 0 0) ∷ fact_in 1 (Enters 0 2) ∷ fact_in 1 (Exits 1 0) ∷ fact_in 1 (Exits 1 2)
+    ≡ fact_in 0 (State 0) ∷ fact_in 0 (State 1) ∷ fact_in 0 (State 2) ∷ fact_in 1 (Enters 0 0) ∷ fact_in 1 (Enters 0 2) ∷ fact_in 1 (Exits 1 0) ∷ fact_in 1 (Exits 1 2)
     ∷ fact_in 2 (Enters 0 0) ∷ fact_in 2 (Enters 0 2) ∷ fact_in 2 (Exits 1 0) ∷ fact_in 2 (Exits 1 2) ∷ []
 facts = refl
 
 few_facts : facts_refusal model ≡ None
 few_facts = refl
 
-number : fact_number (facts_of model (universe_of model)) (fact_in 2 (Enters 0 2)) ≡ Some 7
+number : fact_number (facts_of model (universe_of model)) (fact_in 2 (Enters 0 2)) ≡ Some 8
 number = refl
 
 no_number : fact_number (facts_of model (universe_of model)) (fact_in 1 (Enters 0 1)) ≡ None
@@ -82,8 +90,11 @@ event_place = refl
 
 -- ---- names
 
-state_name : fact_name model (fact_in 0 (State 1)) ≡ codes "root/state:down"
+state_name : fact_name model (fact_in 0 (State 0)) ≡ codes "root/state:up"
 state_name = refl
+
+typed_state : fact_name model (fact_in 0 (State 2)) ≡ codes "root/state:down{l::late}"
+typed_state = refl
 
 entering : fact_name model (fact_in 2 (Enters 0 2)) ≡ codes "root.b/in:i{l::late}"
 entering = refl
@@ -91,7 +102,7 @@ entering = refl
 exiting : fact_name model (fact_in 1 (Exits 1 0)) ≡ codes "root.a/out:o{l::serviceerror}"
 exiting = refl
 
-event : event_name model (event_in 1 (Declared 0)) ≡ codes "root.a/e"
+event : event_name model (event_in 1 (Declared 0)) ≡ codes "root.a/e{l::serviceerror}"
 event = refl
 
 source : event_name model (event_in 2 (Source 1)) ≡ codes "root.b/source:f"

@@ -1,9 +1,9 @@
 -- No two facts and no two events of a model have one name.
-use Rattle.std.proofs.Common.{ℕ, ◌+◌, ◌<◌, ◌≡◌, ◌≢◌, Bool, true, false, cond, List, [], ◌++◌, map, length, slice_get, slice_index_or, Option, Some, None, refl, sym, ap, ◌∙◌, subst, arith}
+use Rattle.std.proofs.Common.{ℕ, zero, suc, ◌+◌, ◌<◌, ◌≡◌, ◌≢◌, inl, inr, Bool, true, false, cond, List, [], ◌∷◌, ◌++◌, map, length, slice_get, slice_index_or, Option, Some, None, refl, sym, ap, ◌∙◌, subst, arith}
 use Rattle.std.specs.List.{AllByRecursion}
 use Rattle.std.specs.Option.{option_map_or}
 use Rattle.std.specs.Prelude.{codes}
-use Rattle.std.proofs.lemmas.List.{append_cancel_left, append_cancel_right}
+use Rattle.std.proofs.lemmas.List.{append-nil, append_assoc, append_cancel_left, append_cancel_right}
 use Rattle.std.proofs.lemmas.Option.{get_or_from_slice_get, slice_get_within}
 use Rattle.aadl_syntax.specs.Token.{IsIdentifier}
 use Rattle.error_types.specs.Libraries.{Table}
@@ -12,6 +12,7 @@ use Rattle.propagation_points.specs.declared.side.Side.{Side}
 use Rattle.propagation_points.specs.declared.side.Side.TheVariants.{Absent, Free}
 use Rattle.propagation_points.specs.declared.side.Side.TheVariants as side
 use Rattle.propagation_points.specs.Points.{NamesDiffer, Point}
+use Rattle.propagation_points.specs.States.{Sort, Variant, all_variants}
 use Rattle.propagation_points.specs.Uses.{side_types}
 use Rattle.error_flows.specs.declared.meaning.FlowMeaning.{FlowMeaning}
 use Rattle.error_flows.specs.declared.meaning.FlowMeaning.TheVariants as flow
@@ -23,7 +24,7 @@ use Rattle.propagation_links.specs.declared.link.Link.{Link}
 use Rattle.model_facts.specs.Assembly.{Assembly, model_at, side_numbers}
 use Rattle.model_facts.specs.Facts.{arrivals, component_events, component_facts, event_in, events_of, fact_in, facts_of, inward_of, is_linked, model_events, model_facts, point_facts, source_events}
 use Rattle.model_facts.specs.Laws.{AreNamed, IsNamed, Lacks}
-use Rattle.model_facts.specs.Names.{at_point, behind, event_name, fact_name, own_event_name, own_fact_name, path_at, path_text, point_name, source_name, type_text}
+use Rattle.model_facts.specs.Names.{at_point, behind, event_name, fact_name, in_braces, own_event_name, own_fact_name, path_at, path_text, point_name, source_name, type_text, variant_name, variant_text}
 use Rattle.model_facts.specs.declared.keys.EventKey.{EventKey}
 use Rattle.model_facts.specs.declared.keys.EventKind.{EventKind}
 use Rattle.model_facts.specs.declared.keys.EventKind.TheVariants.{Declared, Source, Arrival}
@@ -31,8 +32,8 @@ use Rattle.model_facts.specs.declared.keys.FactKey.{FactKey}
 use Rattle.model_facts.specs.declared.keys.FactKind.{FactKind}
 use Rattle.model_facts.specs.declared.keys.FactKind.TheVariants.{State, Enters, Exits}
 use Rattle.model_facts.proofs.RowLaws.{IsRising, below-apart, each-at, each-or, numbered-apart, numbered-each, rising-apart, rising-none}
-use Rattle.model_facts.proofs.ShapeLaws.{BothRise, IsShaped, Rises, SourcesDiffer}
-use Rattle.model_facts.proofs.TextLaws.{IsForeign, behind-same, heads, identifier-lacks, no-byte, up-to}
+use Rattle.model_facts.proofs.ShapeLaws.{BothRise, IsEarlier, IsShaped, Rises, SourcesDiffer, VariantsDiffer}
+use Rattle.model_facts.proofs.TextLaws.{IsForeign, behind-same, heads, identifier-lacks, lacks-by, no-byte, no-fronts, up-to}
 
 -- ---- bytes
 
@@ -53,6 +54,12 @@ apart-at R items i j x y apart less at there =
     let all = AllPairs-from_Apart R items apart i j x less (slice_get_within items j y there) in
     let first = subst (λ a. R a (slice_index_or items j x)) (get_or_from_slice_get items i x x at) all in
     subst (R x) (get_or_from_slice_get items j y x there) first
+
+-- the item of a number
+item-at : {Item : Type 0} (items : List Item) (n : ℕ) → n < length items → (item : Item) × (slice_get items n ≡ Some item)
+item-at [] n within = absurd (omega (arith, within))
+item-at (item ∷ items) zero within = (item, refl)
+item-at (item ∷ items) (suc n) within = item-at items n (omega (arith, within))
 
 -- ---- in one model
 
@@ -92,6 +99,61 @@ module _ (types : Table) (apart : PrintsApart types) (model : ErrorModel) (named
   side-rising universe rising Absent rise = rising-none count
   side-rising universe rising Free rise = rising
   side-rising universe rising (side.Declared numbers) rise = rise
+
+  -- ---- variants
+
+  -- the name of a variant tells the name before the brace
+  variant-same : (a b : Variant) → IsIdentifier a.name → IsIdentifier b.name → variant_text types a ≡ variant_text types b → (a.name ≡ b.name) × (option_map_or (in_braces types) a.type [] ≡ option_map_or (in_braces types) b.type [])
+  variant-same a b first second = by a.type b.type
+    where
+      by : (t u : Option ℕ) → a.name ++ option_map_or (in_braces types) t [] ≡ b.name ++ option_map_or (in_braces types) u [] → (a.name ≡ b.name) × (option_map_or (in_braces types) t [] ≡ option_map_or (in_braces types) u [])
+      by None None same = (sym (append-nil a.name) ∙ same ∙ append-nil b.name, refl)
+      by None (Some u) same = absurd (no-byte 123 a.name b.name (type_text types u ++ codes "}") (identifier-lacks 123 brace a.name first) (sym (append-nil a.name) ∙ same))
+      by (Some t) None same = absurd (no-byte 123 b.name a.name (type_text types t ++ codes "}") (identifier-lacks 123 brace b.name second) (sym (append-nil b.name) ∙ sym same))
+      by (Some t) (Some u) same =
+          let both = up-to 123 a.name b.name (type_text types t ++ codes "}") (type_text types u ++ codes "}") (identifier-lacks 123 brace a.name first) (identifier-lacks 123 brace b.name second) same in
+          (both.0, ap (λ text. 123 ∷ text) both.1)
+
+  -- types in braces tell how the types print
+  earlier-apart : (t u : Option ℕ) → IsEarlier count t u → option_map_or (in_braces types) t [] ≢ option_map_or (in_braces types) u []
+  earlier-apart None u earlier same = absurd earlier
+  earlier-apart (Some t) None earlier same = absurd earlier
+  earlier-apart (Some t) (Some u) earlier same =
+      apart t u earlier.0 earlier.1 (append_cancel_right (type_text types t) (type_text types u) (codes "}") (append_cancel_left (codes "{") (type_text types t ++ codes "}") (type_text types u ++ codes "}") same))
+
+  variants-apart : (a b : Variant) → IsIdentifier a.name → IsIdentifier b.name → VariantsDiffer count a b → variant_text types a ≢ variant_text types b
+  variants-apart a b first second differ same =
+      let both = variant-same a b first second same in
+      elim differ [
+        | inl names ↦ names both.0
+        | inr earlier ↦ earlier-apart a.type b.type earlier both.1
+      ]
+
+  module _ (sorts : List Sort) (words : AllByRecursion (λ variant. IsIdentifier variant.name) (all_variants sorts)) where
+    word-at : (n : ℕ) (variant : Variant) → slice_get (all_variants sorts) n ≡ Some variant → IsIdentifier variant.name
+    word-at n variant at = each-at (λ (variant : Variant). IsIdentifier variant.name) (all_variants sorts) n variant words at
+
+    text-at : (n : ℕ) (variant : Variant) → slice_get (all_variants sorts) n ≡ Some variant → variant_name types sorts n ≡ variant_text types variant
+    text-at n variant at = ap (λ found. option_map_or (variant_text types) found []) at
+
+    numbers-apart : Apart (VariantsDiffer count) (all_variants sorts) → (i j : ℕ) → i < j → j < length (all_variants sorts) → variant_name types sorts i ≢ variant_name types sorts j
+    numbers-apart differ i j less within same =
+        let a = item-at (all_variants sorts) i (omega (arith, less, within)) in
+        let b = item-at (all_variants sorts) j within in
+        variants-apart a.0 b.0 (word-at i a.0 a.1) (word-at j b.0 b.1) (apart-at (VariantsDiffer count) (all_variants sorts) i j a.0 b.0 differ less a.1 b.1)
+        (sym (text-at i a.0 a.1) ∙ same ∙ text-at j b.0 b.1)
+
+    -- before a colon in the name of a variant stands a brace
+    no-word : (n : ℕ) (word rest : List ℕ) → Lacks 123 word → variant_name types sorts n ≡ word ++ 58 ∷ rest → ⊥
+    no-word n word rest lacks = by (slice_get (all_variants sorts) n) refl
+      where
+        own : (variant : Variant) → IsIdentifier variant.name → (type : Option ℕ) → variant.name ++ option_map_or (in_braces types) type [] ≡ word ++ 58 ∷ rest → ⊥
+        own variant form None same = no-byte 58 variant.name word rest (identifier-lacks 58 colon variant.name form) (sym (append-nil variant.name) ∙ same)
+        own variant form (Some type) same = no-fronts 123 58 variant.name word (type_text types type ++ codes "}") rest refl (identifier-lacks 58 colon variant.name form) lacks same
+
+        by : (found : Option Variant) → slice_get (all_variants sorts) n ≡ found → option_map_or (variant_text types) found [] ≡ word ++ 58 ∷ rest → ⊥
+        by None at same = no-byte 58 [] word rest tt same
+        by (Some variant) at same = own variant (word-at n variant at) variant.type same
 
   -- ---- facts
 
@@ -148,12 +210,12 @@ module _ (types : Table) (apart : PrintsApart types) (model : ErrorModel) (named
 
     pub facts-apart : Apart FactsDiffer (model_facts universe model)
     facts-apart =
-        let states = numbers_below (length model.states.names) in
+        let states = numbers_below (length (all_variants model.states.sorts)) in
         let points = numbered_from (point_facts universe) 0 model.points in
         apart-append FactsDiffer (map State states) points
         (apart-map FactsDiffer State states
-        (below-apart (λ i j. FactsDiffer (State i) (State j)) (length model.states.names)
-        (λ i j less within same. shaped.states i j [] less within (append_cancel_left (codes "state:") (slice_index_or model.states.names i []) (slice_index_or model.states.names j []) same))))
+        (below-apart (λ i j. FactsDiffer (State i) (State j)) (length (all_variants model.states.sorts))
+        (λ i j less within same. numbers-apart model.states.sorts named.states shaped.states i j less within (append_cancel_left (codes "state:") (variant_name types model.states.sorts i) (variant_name types model.states.sorts j) same))))
         (numbered-apart (point_facts universe) FactsDiffer (λ n (point : Point). AtPoint n) 0 model.points (λ n i point is at. from-point n point)
         (λ n i point is at. in-point n point (each-at (BothRise count) model.points i point shaped.sides at)) facts-between)
         (each-map (λ a. AllByRecursion (FactsDiffer a) points) State states
@@ -223,19 +285,15 @@ module _ (types : Table) (apart : PrintsApart types) (model : ErrorModel) (named
   arrivals-between m n i j x y (Arrival p t) (Arrival q u) first second less at there is also same =
       points-apart m n i j p q t u x y first second less at there is also (append_cancel_left (codes "in:") (at_point types model p t) (at_point types model q u) same)
 
-  -- the name of an error event has no colon
-  plain-event : (event : ℕ) → Lacks 58 (slice_index_or model.behavior.events event [])
-  plain-event event = each-or (Lacks 58) [] tt model.behavior.events event (each-weaker IsIdentifier (Lacks 58) (identifier-lacks 58 colon) model.behavior.events named.events)
-
   declared-source : (n event : ℕ) (one : FlowMeaning) (b : EventKind) → OfFlow n one b → EventsDiffer (Declared event) b
   declared-source n event one (Declared b) is same = absurd is
-  declared-source n event one (Source b) is same = no-byte 58 (slice_index_or model.behavior.events event []) (codes "source") (source_name (slice_get model.flows b)) (plain-event event) same
+  declared-source n event one (Source b) is same = no-word model.behavior.events named.events event (codes "source") (source_name (slice_get model.flows b)) (lacks-by 123 (codes "source") refl) same
   declared-source n event one (Arrival p t) is same = absurd is
 
   declared-arrival : (n event : ℕ) (b : EventKind) → Arrives n b → EventsDiffer (Declared event) b
   declared-arrival n event (Declared b) is same = absurd is
   declared-arrival n event (Source b) is same = absurd is
-  declared-arrival n event (Arrival p t) is same = no-byte 58 (slice_index_or model.behavior.events event []) (codes "in") (at_point types model p t) (plain-event event) same
+  declared-arrival n event (Arrival p t) is same = no-word model.behavior.events named.events event (codes "in") (at_point types model p t) (lacks-by 123 (codes "in") refl) same
 
   source-arrival : (n m : ℕ) (one : FlowMeaning) (a b : EventKind) → OfFlow n one a → Arrives m b → EventsDiffer a b
   source-arrival n m one (Declared a) b is also same = absurd is
@@ -272,7 +330,7 @@ module _ (types : Table) (apart : PrintsApart types) (model : ErrorModel) (named
 
     pub events-apart : Apart EventsDiffer (model_events links component model)
     events-apart =
-        let declared = numbers_below (length model.behavior.events) in
+        let declared = numbers_below (length (all_variants model.behavior.events)) in
         let sources = numbered_from source_events 0 model.flows in
         let points = numbered_from (arrivals links component) 0 model.points in
         let all-points : (a : EventKind) → ((n : ℕ) (b : EventKind) → Arrives n b → EventsDiffer a b) → AllByRecursion (EventsDiffer a) points = λ a differ.
@@ -280,7 +338,7 @@ module _ (types : Table) (apart : PrintsApart types) (model : ErrorModel) (named
         let all-sources : (event : ℕ) → AllByRecursion (EventsDiffer (Declared event)) sources = λ event.
         numbered-each source_events (EventsDiffer (Declared event)) 0 model.flows (λ n i one is at. each-weaker (OfFlow n one) (EventsDiffer (Declared event)) (declared-source n event one) (source_events n one) (from-flow n one)) in
         apart-append EventsDiffer (map Declared declared) (sources ++ points)
-        (apart-map EventsDiffer Declared declared (below-apart (λ i j. EventsDiffer (Declared i) (Declared j)) (length model.behavior.events) (λ i j less within same. shaped.events i j [] less within same)))
+        (apart-map EventsDiffer Declared declared (below-apart (λ i j. EventsDiffer (Declared i) (Declared j)) (length (all_variants model.behavior.events)) (λ i j less within same. numbers-apart model.behavior.events named.events shaped.events i j less within same)))
         (apart-append EventsDiffer sources points
         (numbered-apart source_events EventsDiffer OfFlow 0 model.flows (λ n i one is at. from-flow n one) (λ n i one is at. in-flow n one) flows-between)
         (numbered-apart (arrivals links component) EventsDiffer (λ n (point : Point). Arrives n) 0 model.points (λ n i point is at. from-arrival n point)

@@ -1,5 +1,5 @@
 -- The names of facts and of events are plain.
-use Rattle.std.proofs.Common.{ℕ, ◌≡◌, ◌≢◌, Bool, true, false, ◌||◌, not, inl, inr, List, [], ◌∷◌, ◌++◌, flat_map, slice_get, slice_index_or, Option, Some, None, refl, sym, ap, ◌∙◌, subst}
+use Rattle.std.proofs.Common.{ℕ, ◌≡◌, ◌≢◌, Bool, true, false, ◌||◌, not, inl, inr, List, [], ◌∷◌, ◌++◌, flat_map, slice_get, Option, Some, None, refl, sym, ap, ◌∙◌, subst}
 use Rattle.std.specs.List.{AllByRecursion, concat, list_all}
 use Rattle.std.specs.Option.{option_map_or}
 use Rattle.std.specs.Prelude.{◌==◌, IsTrue, codes}
@@ -9,6 +9,7 @@ use Rattle.aadl_syntax.specs.Form.{Byte, One, Perhaps, ◌followed_by◌, is_dig
 use Rattle.aadl_syntax.specs.Token.{IsIdentifier}
 use Rattle.error_types.specs.Printed.{AreIdentifiers, TypeName, name_of, printed}
 use Rattle.propagation_points.specs.Points.{Point}
+use Rattle.propagation_points.specs.States.{Sort, Variant, all_variants}
 use Rattle.error_flows.specs.declared.meaning.FlowMeaning.{FlowMeaning}
 use Rattle.error_flows.specs.declared.meaning.FlowMeaning.TheVariants as flow
 use Rattle.instantiator.specs.declared.path.Component.{Component}
@@ -16,13 +17,13 @@ use Rattle.instantiator.proofs.Apart.{each-append, each-weaker}
 use Rattle.error_models.specs.declared.model.ErrorModel.{ErrorModel}
 use Rattle.model_facts.specs.Assembly.{Assembly, model_at}
 use Rattle.model_facts.specs.Laws.{AreNamed, EventNamesArePlain, FactNamesArePlain, IsNamed, IsNamedFlow, IsPlain, Lacks, is_name_byte, separators}
-use Rattle.model_facts.specs.Names.{at_point, behind, own_event_name, own_fact_name, path_at, point_name, source_name, type_text}
+use Rattle.model_facts.specs.Names.{at_point, behind, in_braces, own_event_name, own_fact_name, path_at, point_name, source_name, type_text, variant_name, variant_text}
 use Rattle.model_facts.specs.declared.keys.EventKind.{EventKind}
 use Rattle.model_facts.specs.declared.keys.EventKind.TheVariants.{Declared, Source, Arrival}
 use Rattle.model_facts.specs.declared.keys.FactKind.{FactKind}
 use Rattle.model_facts.specs.declared.keys.FactKind.TheVariants.{State, Enters, Exits}
 use Rattle.model_facts.proofs.RootLaws.{model-named}
-use Rattle.model_facts.proofs.RowLaws.{each-at, each-or}
+use Rattle.model_facts.proofs.RowLaws.{each-at}
 use Rattle.model_facts.proofs.TextLaws.{dotted}
 
 -- ---- bytes
@@ -91,9 +92,6 @@ library-name (name ∷ library) all =
 printed-name : (name : TypeName) → AreIdentifiers name → AllName (printed name)
 printed-name name form = both-name (flat_map (λ identifier. identifier ++ codes "::") name.library) name.name (library-name name.library form.library) (identifier-name name.name form.name)
 
-some-name : (names : List (List ℕ)) (n : ℕ) → AllByRecursion IsIdentifier names → AllName (slice_index_or names n [])
-some-name names n all = each-or AllName [] tt names n (each-weaker IsIdentifier AllName identifier-name names all)
-
 module _ (assembly : Assembly) (named : AreNamed assembly) where
   type-name : (n : ℕ) → AllName (type_text assembly.types n)
   type-name n = by (name_of assembly.types n) refl
@@ -101,6 +99,21 @@ module _ (assembly : Assembly) (named : AreNamed assembly) where
       by : (found : Option TypeName) → name_of assembly.types n ≡ found → AllName (option_map_or printed found [])
       by None is = tt
       by (Some name) is = printed-name name (named.types n name is)
+
+  braces-name : (type : ℕ) → AllName (in_braces assembly.types type)
+  braces-name type =
+      both-name (codes "{") (type_text assembly.types type ++ codes "}") (by-test (codes "{") refl) (both-name (type_text assembly.types type) (codes "}") (type-name type) (by-test (codes "}") refl))
+
+  variant-own : (variant : Variant) → IsIdentifier variant.name → (type : Option ℕ) → AllName (variant.name ++ option_map_or (in_braces assembly.types) type [])
+  variant-own variant form None = both-name variant.name [] (identifier-name variant.name form) tt
+  variant-own variant form (Some type) = both-name variant.name (in_braces assembly.types type) (identifier-name variant.name form) (braces-name type)
+
+  variant-name : (sorts : List Sort) → AllByRecursion (λ variant. IsIdentifier variant.name) (all_variants sorts) → (n : ℕ) → AllName (variant_name assembly.types sorts n)
+  variant-name sorts words n = by (slice_get (all_variants sorts) n) refl
+    where
+      by : (found : Option Variant) → slice_get (all_variants sorts) n ≡ found → AllName (option_map_or (variant_text assembly.types) found [])
+      by None at = tt
+      by (Some variant) at = variant-own variant (each-at (λ (variant : Variant). IsIdentifier variant.name) (all_variants sorts) n variant words at) variant.type
 
   path-name : (n : ℕ) → AllName (dotted (path_at assembly n))
   path-name n = by (slice_get assembly.instance.components n) refl
@@ -118,9 +131,7 @@ module _ (assembly : Assembly) (named : AreNamed assembly) where
         by (Some point) at = identifier-name point.name (each-at (λ (point : Point). IsIdentifier point.name) model.points n point so.points at)
 
     at-name : (point type : ℕ) → AllName (at_point assembly.types model point type)
-    at-name point type =
-        both-name (point_name model point) (codes "{" ++ (type_text assembly.types type ++ codes "}")) (point-name point)
-        (both-name (codes "{") (type_text assembly.types type ++ codes "}") (by-test (codes "{") refl) (both-name (type_text assembly.types type) (codes "}") (type-name type) (by-test (codes "}") refl)))
+    at-name point type = both-name (point_name model point) (in_braces assembly.types type) (point-name point) (braces-name type)
 
     flow-name : (one : FlowMeaning) → IsNamedFlow one → AllName (source_name (Some one))
     flow-name (flow.Event name reached) is = identifier-name name is
@@ -136,12 +147,12 @@ module _ (assembly : Assembly) (named : AreNamed assembly) where
         by (Some one) at = flow-name one (each-at IsNamedFlow model.flows n one so.flows at)
 
     fact-own : (kind : FactKind) → AllName (own_fact_name assembly.types model kind)
-    fact-own (State state) = both-name (codes "state:") (slice_index_or model.states.names state []) (by-test (codes "state:") refl) (some-name model.states.names state so.states)
+    fact-own (State state) = both-name (codes "state:") (variant_name assembly.types model.states.sorts state) (by-test (codes "state:") refl) (variant-name model.states.sorts so.states state)
     fact-own (Enters point type) = both-name (codes "in:") (at_point assembly.types model point type) (by-test (codes "in:") refl) (at-name point type)
     fact-own (Exits point type) = both-name (codes "out:") (at_point assembly.types model point type) (by-test (codes "out:") refl) (at-name point type)
 
     event-own : (kind : EventKind) → AllName (own_event_name assembly.types model kind)
-    event-own (Declared event) = some-name model.behavior.events event so.events
+    event-own (Declared event) = variant-name model.behavior.events so.events event
     event-own (Source number) = both-name (codes "source:") (source_name (slice_get model.flows number)) (by-test (codes "source:") refl) (source-name number)
     event-own (Arrival point type) = both-name (codes "in:") (at_point assembly.types model point type) (by-test (codes "in:") refl) (at-name point type)
 

@@ -1,5 +1,5 @@
 -- The shape of error models: names that differ, and types that rise.
-use Rattle.std.proofs.Common.{ℕ, ◌≡◌, ◌≢◌, Bool, true, false, ◌&&◌, List, [], ◌∷◌, ◌++◌, map, flat_map, find, fold, length, get_or, position, slice_get, Option, Some, None, is_some, option_and_then, option_map, option_to_list, refl, sym, ap, ◌∙◌, subst}
+use Rattle.std.proofs.Common.{ℕ, ◌≡◌, ◌≢◌, ◌<◌, ◌⊎◌, inl, inr, Bool, true, false, ◌&&◌, List, [], ◌∷◌, ◌++◌, map, flat_map, find, fold, length, get_or, position, slice_get, Option, Some, None, is_some, option_and_then, option_map, option_to_list, refl, sym, ap, ◌∙◌, subst}
 use Rattle.std.specs.Cmp.{first_so}
 use Rattle.std.specs.List.{AllByRecursion, list_any}
 use Rattle.std.proofs.lemmas.Bool.{false≢true}
@@ -10,7 +10,6 @@ use Rattle.std.proofs.lemmas.List.Quantifiers.{all_pairs_push, position-Some}
 use Rattle.std.proofs.lemmas.Slice.Eq.{bytes_eq-Decides}
 use Rattle.std.proofs.Math.Seq.{map-set_same}
 use Rattle.plain_values.specs.Name.{is_same_text}
-use Rattle.aadl_syntax.specs.declared.error_model.EventDecl.{EventDecl}
 use Rattle.aadl_syntax.specs.declared.error_model.Flow.{Flow}
 use Rattle.aadl_syntax.specs.declared.error_model.FlowKind.{FlowKind}
 use Rattle.aadl_syntax.specs.declared.error_model.FlowKind.TheVariants as kind
@@ -33,24 +32,25 @@ use Rattle.propagation_points.specs.declared.side.Side.{Side}
 use Rattle.propagation_points.specs.declared.side.Side.TheVariants.{Absent, Free, Declared}
 use Rattle.propagation_points.specs.declared.uses.ReachedPoint.{ReachedPoint}
 use Rattle.propagation_points.specs.Points.{NamesDiffer, OpenPoint, Point, declares, keep_at, keep_first, open_points, place_named, points_of, propagated, scopes_of, side_with, types_in, with_sides}
-use Rattle.propagation_points.specs.Settings.{Setting, clause_setting, reached_in}
-use Rattle.propagation_points.specs.States.{keep_name, number_named}
+use Rattle.propagation_points.specs.Settings.{Setting, clause_setting, held_in, reached_in}
+use Rattle.propagation_points.specs.declared.held.Held.{Held}
+use Rattle.propagation_points.specs.States.{Sort, Variant, all_variants, declared_by, keep_sort, place_of_sort, variant_types, variants_named, variants_of}
 use Rattle.propagation_points.specs.Uses.{point_use}
 use Rattle.error_flows.specs.declared.meaning.FlowMeaning.{FlowMeaning}
 use Rattle.error_flows.specs.declared.meaning.FlowMeaning.TheVariants.{Event, State, Carry, Change}
 use Rattle.error_flows.specs.Flows.{flow_meaning, path_meaning, source_meaning}
 use Rattle.error_behavior.specs.declared.states.States.{States}
 use Rattle.error_behavior.specs.Machines.{Machine}
-use Rattle.error_behavior.specs.States.{events_of, keep_state, no_states, states_of}
+use Rattle.error_behavior.specs.States.{EventAt, events_of, keep_event, keep_state, no_states, states_of}
 use Rattle.error_behavior.specs.States as behavior
 use Rattle.instantiator.specs.Effectives.{chain_or_none, effective_of}
-use Rattle.instantiator.proofs.Apart.{Apart, AllPairs-from_Apart, apart-append, apart-flat_map, apart-unmap, each-all, each-append, each-map, each-weaker}
+use Rattle.instantiator.proofs.Apart.{Apart, AllPairs-from_Apart, Apart-from_AllPairs, apart-append, apart-flat_map, apart-map, apart-unmap, each-all, each-append, each-map, each-weaker}
 use Rattle.instantiator.proofs.MemberNames.{name-same, same-name}
 use Rattle.error_models.specs.declared.model.ErrorModel.{ErrorModel}
 use Rattle.error_models.specs.Below.{kind_machine}
 use Rattle.error_models.specs.Models.{model_of}
 use Rattle.model_facts.specs.Assembly.{no_model}
-use Rattle.model_facts.proofs.RowLaws.{IsRising, rising-filter, rising-none}
+use Rattle.model_facts.proofs.RowLaws.{IsRising, rising-apart, rising-filter, rising-none}
 
 -- ---- shapes
 
@@ -69,11 +69,21 @@ abbrev pub SourcesDiffer : FlowMeaning → FlowMeaning → Type 0
 SourcesDiffer (Event a reached) (Event b other) = a ≢ b
 SourcesDiffer a b = Unit {0}
 
+-- one type stands before another among those that there are
+abbrev pub IsEarlier : ℕ → Option ℕ → Option ℕ → Type 0
+IsEarlier count None other = ⊥
+IsEarlier count (Some type) None = ⊥
+IsEarlier count (Some type) (Some other) = (type < other) × (other < count)
+
+-- two variants have different names, or the type of the first is the earlier one
+abbrev pub VariantsDiffer : ℕ → Variant → Variant → Type 0
+VariantsDiffer count a b = (a.name ≢ b.name) ⊎ IsEarlier count a.type b.type
+
 pub record IsShaped (count : ℕ) (model : ErrorModel) : Type 0 where
   pub points : NamesDiffer (λ point. point.name) model.points
   pub sides : AllByRecursion (BothRise count) model.points
-  pub states : NamesDiffer (λ (name : List ℕ). name) model.states.names
-  pub events : NamesDiffer (λ (name : List ℕ). name) model.behavior.events
+  pub states : Apart (VariantsDiffer count) (all_variants model.states.sorts)
+  pub events : Apart (VariantsDiffer count) (all_variants model.behavior.events)
   pub sources : Apart SourcesDiffer model.flows
 
 -- ---- what is kept
@@ -98,25 +108,93 @@ keep-differ {Item} name_of items item None is differ =
     all_pairs_push (λ a b. name_of a ≢ name_of b) items item differ
     (λ place default within same. false≢true (sym absent ∙ list_any_at has items place default within ((bytes_eq-Decides (name_of (get_or items place default)) (name_of item)).1 same)))
 
-names-kept : (names : List (List ℕ)) (name : List ℕ) → NamesDiffer (λ (n : List ℕ). n) names → NamesDiffer (λ (n : List ℕ). n) (keep_name names name)
-names-kept names name = keep-differ (λ (n : List ℕ). n) names name (number_named names name) refl
-
 -- ---- states and events
 
-states-kept : (states : States) (state : StateDecl) → NamesDiffer (λ (n : List ℕ). n) states.names → NamesDiffer (λ (n : List ℕ). n) (keep_state states state).names
-states-kept states state differ = by (number_named states.names state.name) refl
+set-rises : (table : Table) (scope : Option Scope) (set : TypeSet) → IsRising (length table.types) (types_in table scope set)
+set-rises table None set = rising-none (length table.types)
+set-rises table (Some scope) set = rising-filter _ (length table.types)
+
+-- the types with which a state or an event is declared rise
+abbrev TypesRise : ℕ → Option (List ℕ) → Type 0
+TypesRise count None = Unit {0}
+TypesRise count (Some types) = IsRising count types
+
+declared-rise : (table : Table) (scope : Option Scope) (set : Option TypeSet) → TypesRise (length table.types) (declared_by table scope set)
+declared-rise table scope None = tt
+declared-rise table scope (Some set) = set-rises table scope set
+
+-- no two of these have one name, and the types of each rise
+abbrev AreSorts : ℕ → List Sort → Type 0
+AreSorts count sorts = NamesDiffer (λ sort. sort.name) sorts × AllByRecursion (λ sort. TypesRise count sort.types) sorts
+
+sorts-kept : (count : ℕ) (sorts : List Sort) (name : List ℕ) (types : Option (List ℕ)) → TypesRise count types → AreSorts count sorts → AreSorts count (keep_sort sorts name types)
+sorts-kept count sorts name types rise are = (keep-differ (λ (sort : Sort). sort.name) sorts one (place_of_sort sorts name) refl are.0, kept (place_of_sort sorts name))
   where
-    by : (place : Option ℕ) → number_named states.names state.name ≡ place → NamesDiffer (λ (n : List ℕ). n) (behavior.keep_at place states state).names
-    by (Some number) is = differ
-    by None is = keep-differ (λ (n : List ℕ). n) states.names state.name None is differ
+    one : Sort
+    one = record { name = name; first = length (all_variants sorts); types = types }
 
-states-differ : (machine : Option Machine) → NamesDiffer (λ (n : List ℕ). n) (states_of machine).names
-states-differ None = none-differ (λ (n : List ℕ). n)
-states-differ (Some machine) = fold-keeps (λ (states : States). NamesDiffer (λ (n : List ℕ). n) states.names) keep_state states-kept machine.item.states no_states (none-differ (λ (n : List ℕ). n))
+    kept : (place : Option ℕ) → AllByRecursion (λ (sort : Sort). TypesRise count sort.types) (keep_at place sorts one)
+    kept (Some number) = are.1
+    kept None = each-append (λ (sort : Sort). TypesRise count sort.types) sorts (one ∷ []) are.1 (rise, tt)
 
-events-differ : (machine : Option Machine) (effective : Effective) → NamesDiffer (λ (n : List ℕ). n) (events_of machine effective)
-events-differ machine effective =
-    fold-map-keeps (NamesDiffer (λ (n : List ℕ). n)) keep_name (λ (event : EventDecl). event.name) (λ names event. names-kept names event.name) (behavior.machine_events machine ++ behavior.clause_events effective) [] (none-differ (λ (n : List ℕ). n))
+no-sorts : (count : ℕ) → AreSorts count []
+no-sorts count = (none-differ (λ (sort : Sort). sort.name), tt)
+
+module _ (count : ℕ) where
+  abbrev SortsDiffer : Sort → Sort → Type 0
+  SortsDiffer a b = a.name ≢ b.name
+
+  own-variants : (sort : Sort) → TypesRise count sort.types → Apart (VariantsDiffer count) (variants_of sort)
+  own-variants sort rise = by sort.types rise
+    where
+      variant : Option ℕ → Variant
+      variant type = record { name = sort.name; type = type }
+
+      by : (types : Option (List ℕ)) → TypesRise count types → Apart (VariantsDiffer count) (variants_named sort.name types)
+      by None rise = (tt, tt)
+      by (Some types) rise =
+          apart-map (VariantsDiffer count) variant (map Some types)
+          (apart-map (λ a b. VariantsDiffer count (variant a) (variant b)) Some types
+          (rising-apart (λ a b. VariantsDiffer count (variant (Some a)) (variant (Some b))) count (λ a b less within. inr (less, within)) types rise.each rise.apart))
+
+  -- the variants of two of different names
+  between-sorts : (a b : Sort) → SortsDiffer a b → AllByRecursion (λ v. AllByRecursion (VariantsDiffer count v) (variants_of b)) (variants_of a)
+  between-sorts a b apart =
+      let here = λ (type : Option ℕ). record { name = a.name; type = type } in
+      let there = λ (type : Option ℕ). record { name = b.name; type = type } in
+      each-map (λ v. AllByRecursion (VariantsDiffer count v) (variants_of b)) here (variant_types a.types)
+      (each-all (λ type. AllByRecursion (VariantsDiffer count (here type)) (variants_of b))
+      (λ type. each-map (VariantsDiffer count (here type)) there (variant_types b.types) (each-all (λ other. VariantsDiffer count (here type) (there other)) (λ other. inl apart) (variant_types b.types)))
+      (variant_types a.types))
+
+  variants-apart : (sorts : List Sort) → AreSorts count sorts → Apart (VariantsDiffer count) (all_variants sorts)
+  variants-apart sorts are =
+      apart-flat_map (VariantsDiffer count) variants_of SortsDiffer between-sorts sorts (Apart-from_AllPairs SortsDiffer sorts are.0)
+      (each-weaker (λ (sort : Sort). TypesRise count sort.types) (λ sort. Apart (VariantsDiffer count) (variants_of sort)) own-variants sorts are.1)
+
+state-kept : (table : Table) (scope : Option Scope) (states : States) (state : StateDecl) → AreSorts (length table.types) states.sorts → AreSorts (length table.types) (keep_state table scope states state).sorts
+state-kept table scope states state are = by (place_of_sort states.sorts state.name) refl
+  where
+    own : Option (List ℕ)
+    own = declared_by table scope state.set
+
+    by : (place : Option ℕ) → place_of_sort states.sorts state.name ≡ place → AreSorts (length table.types) (behavior.keep_at place states state own).sorts
+    by (Some number) is = are
+    by None is = sorts-kept (length table.types) states.sorts state.name own (declared-rise table scope state.set) are
+
+states-apart : (table : Table) (machine : Option Machine) → Apart (VariantsDiffer (length table.types)) (all_variants (states_of table machine).sorts)
+states-apart table None = tt
+states-apart table (Some machine) =
+    let scope = Some (behavior.machine_scope table machine) in
+    variants-apart (length table.types) (states_of table (Some machine)).sorts
+    (fold-keeps (λ (states : States). AreSorts (length table.types) states.sorts) (keep_state table scope) (state-kept table scope) machine.item.states no_states (no-sorts (length table.types)))
+
+events-apart : (table : Table) (machine : Option Machine) (effective : Effective) → Apart (VariantsDiffer (length table.types)) (all_variants (events_of table machine effective))
+events-apart table machine effective =
+    variants-apart (length table.types) (events_of table machine effective)
+    (fold-keeps (AreSorts (length table.types)) (keep_event table)
+    (λ events (event : EventAt) are. sorts-kept (length table.types) events event.decl.name (declared_by table event.scope event.decl.set) (declared-rise table event.scope event.decl.set) are)
+    (behavior.machine_events table machine ++ behavior.clause_events table effective) [] (no-sorts (length table.types)))
 
 -- ---- points
 
@@ -124,12 +202,8 @@ module _ (table : Table) (scopes : List Scope) (items : List (Scoped PointItem))
   abbrev count : ℕ
   count = length table.types
 
-  set-rises : (scope : Option Scope) (set : TypeSet) → IsRising count (types_in table scope set)
-  set-rises None set = rising-none count
-  set-rises (Some scope) set = rising-filter _ count
-
   found-rises : (is_open : Bool) (found : Option (Scoped PointItem)) → Rises count (side_with is_open (option_map (propagated table scopes) found))
-  found-rises is_open (Some scoped) = set-rises (slice_get scopes scoped.scope) scoped.item.set
+  found-rises is_open (Some scoped) = set-rises table (slice_get scopes scoped.scope) scoped.item.set
   found-rises true None = tt
   found-rises false None = tt
 
@@ -164,14 +238,14 @@ NamedBy name (Change start point types) = Unit {0}
 abbrev PerhapsNamedBy : List ℕ → Option FlowMeaning → Type 0
 PerhapsNamedBy name found = AllByRecursion (NamedBy name) (option_to_list found)
 
-state-named : (name : List ℕ) (number : Option ℕ) (reached : ReachedPoint) → PerhapsNamedBy name (option_map (λ number. State number reached) number)
+state-named : (name : List ℕ) (held : Option Held) (reached : ReachedPoint) → PerhapsNamedBy name (option_map (λ held. State held reached) held)
 state-named name None reached = tt
-state-named name (Some number) reached = (tt, tt)
+state-named name (Some held) reached = (tt, tt)
 
-source-named : (setting : Setting) (name : List ℕ) (state : Option StateRef) (reached : Option ReachedPoint) → PerhapsNamedBy name (option_and_then (source_meaning setting name state) reached)
-source-named setting name state None = tt
-source-named setting name None (Some reached) = (refl, tt)
-source-named setting name (Some state) (Some reached) = state-named name (number_named setting.states state.name) reached
+source-named : (table : Table) (setting : Setting) (name : List ℕ) (state : Option StateRef) (reached : Option ReachedPoint) → PerhapsNamedBy name (option_and_then (source_meaning table setting name state) reached)
+source-named table setting name state None = tt
+source-named table setting name None (Some reached) = (refl, tt)
+source-named table setting name (Some state) (Some reached) = state-named name (held_in table setting state) reached
 
 way-named : (name : List ℕ) (start : ReachedPoint) (to : ℕ) (types : Reach) → NamedBy name (path_meaning start to types)
 way-named name start to Whole = tt
@@ -183,7 +257,7 @@ path-named name (Some start) None = tt
 path-named name (Some start) (Some end) = (way-named name start end.point end.types, tt)
 
 flow-named : (table : Table) (setting : Setting) (name : List ℕ) (flow : FlowKind) → PerhapsNamedBy name (flow_meaning table setting name flow)
-flow-named table setting name (kind.Source point set state) = source-named setting name state (reached_in table setting (point_use point true set))
+flow-named table setting name (kind.Source point set state) = source-named table setting name state (reached_in table setting (point_use point true set))
 flow-named table setting name (kind.Sink point set) = tt
 flow-named table setting name (kind.Path start from_set end to_set mapping) = path-named name (reached_in table setting (point_use start false from_set)) (reached_in table setting (point_use end true to_set))
 
@@ -263,8 +337,8 @@ pub none-shaped : (most : ℕ) → IsShaped most no_model
 none-shaped most = record {
   points = none-differ (λ (point : Point). point.name);
   sides = tt;
-  states = none-differ (λ (n : List ℕ). n);
-  events = none-differ (λ (n : List ℕ). n);
+  states = tt;
+  events = tt;
   sources = tt;
 }
 
@@ -279,10 +353,10 @@ model-shaped table kinds id =
     record {
       points = shaped.0;
       sides = shaped.1;
-      states = states-differ machine;
-      events = events-differ machine effective;
+      states = states-apart table machine;
+      events = events-apart table machine effective;
       sources = sources-apart
-          (λ flow. flow_meaning table (clause_setting (points_of table effective) (states_of machine).names scopes flow.scope) flow.item.name flow.item.kind)
-          (λ flow. flow-named table (clause_setting (points_of table effective) (states_of machine).names scopes flow.scope) flow.item.name flow.item.kind) effective.propagations.flows
+          (λ flow. flow_meaning table (clause_setting (points_of table effective) (states_of table machine).sorts scopes flow.scope) flow.item.name flow.item.kind)
+          (λ flow. flow-named table (clause_setting (points_of table effective) (states_of table machine).sorts scopes flow.scope) flow.item.name flow.item.kind) effective.propagations.flows
           (flows-differ (clauses_of (classes_of table.packages (chain_or_none (chain_of table.packages id)))));
     }

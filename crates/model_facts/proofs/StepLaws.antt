@@ -8,6 +8,7 @@ use Rattle.plain_values.specs.Numbered.{numbered_from, numbers_below}
 use Rattle.package_index.proofs.Loops.{numbered-more}
 use Rattle.error_types.proofs.RowLaws.{length-below}
 use Rattle.propagation_points.specs.Points.{Point, side_of}
+use Rattle.propagation_points.specs.States.{all_variants}
 use Rattle.propagation_points.specs.Uses.{side_types}
 use Rattle.error_models.specs.declared.model.ErrorModel.{ErrorModel}
 use Rattle.propagation_links.specs.declared.link.Link.{Link}
@@ -153,20 +154,20 @@ arrivals-free links owner number point free = ap (λ b. map (event_in owner) (co
 
 -- the facts of a component with a model: of its states, and then of its points
 pub facts-parts : (owner : ℕ) (universe : List ℕ) (model : ErrorModel)
-    → (map (λ state. fact_in owner (State state)) (numbers_below (length model.states.names)) ++ numbered_from (λ number point. map (fact_in owner) (point_facts universe number point)) 0 model.points)
+    → (map (λ state. fact_in owner (State state)) (numbers_below (length (all_variants model.states.sorts))) ++ numbered_from (λ number point. map (fact_in owner) (point_facts universe number point)) 0 model.points)
     ≡ map (fact_in owner) (model_facts universe model)
 facts-parts owner universe model =
-    (λ i. sym (map-map (fact_in owner) State (numbers_below (length model.states.names))) i ++ sym (map-numbered (fact_in owner) (point_facts universe) 0 model.points) i)
-    ∙ sym (map-append (fact_in owner) (map State (numbers_below (length model.states.names))) (numbered_from (point_facts universe) 0 model.points))
+    (λ i. sym (map-map (fact_in owner) State (numbers_below (length (all_variants model.states.sorts)))) i ++ sym (map-numbered (fact_in owner) (point_facts universe) 0 model.points) i)
+    ∙ sym (map-append (fact_in owner) (map State (numbers_below (length (all_variants model.states.sorts)))) (numbered_from (point_facts universe) 0 model.points))
 
 -- the events of a component with a model: its error events, its sources, and the arrivals
 pub events-parts : (owner : ℕ) (links : List Link) (model : ErrorModel)
-    → (map (λ event. event_in owner (Declared event)) (numbers_below (length model.behavior.events))
+    → (map (λ event. event_in owner (Declared event)) (numbers_below (length (all_variants model.behavior.events)))
     ++ (numbered_from (λ number flow. map (event_in owner) (source_events number flow)) 0 model.flows ++ numbered_from (λ number point. map (event_in owner) (arrivals links owner number point)) 0 model.points))
     ≡ map (event_in owner) (model_events links owner model)
 events-parts owner links model =
-    let declared = map Declared (numbers_below (length model.behavior.events)) in
+    let declared = map Declared (numbers_below (length (all_variants model.behavior.events))) in
     let sources = numbered_from source_events 0 model.flows in
     let points = numbered_from (arrivals links owner) 0 model.points in
-    (λ i. sym (map-map (event_in owner) Declared (numbers_below (length model.behavior.events))) i ++ (sym (map-numbered (event_in owner) source_events 0 model.flows) i ++ sym (map-numbered (event_in owner) (arrivals links owner) 0 model.points) i))
+    (λ i. sym (map-map (event_in owner) Declared (numbers_below (length (all_variants model.behavior.events)))) i ++ (sym (map-numbered (event_in owner) source_events 0 model.flows) i ++ sym (map-numbered (event_in owner) (arrivals links owner) 0 model.points) i))
     ∙ ap (λ rest. map (event_in owner) declared ++ rest) (sym (map-append (event_in owner) sources points)) ∙ sym (map-append (event_in owner) declared (sources ++ points))

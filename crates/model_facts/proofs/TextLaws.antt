@@ -74,6 +74,13 @@ no-byte byte (x ∷ a) (y ∷ b) r p e = let rest : a ≡ b ++ byte ∷ r = cc i
 pub heads : (a b : ℕ) (xs ys : List ℕ) → nat_eq a b ≡ false → a ∷ xs ≡ b ∷ ys → ⊥
 heads a b xs ys apart e = let same : a ≡ b = cc in false≢true (sym apart ∙ eq-eqb a b same)
 
+-- texts that go on with different bytes, where neither byte stands in the front of the other text
+pub no-fronts : (x y : ℕ) (a b r s : List ℕ) → nat_eq x y ≡ false → Lacks y a → Lacks x b → a ++ x ∷ r ≡ b ++ y ∷ s → ⊥
+no-fronts x y [] [] r s apart p q e = heads x y r s apart e
+no-fronts x y [] (c ∷ b) r s apart p q e = let same : c ≡ x = cc in q.0 same
+no-fronts x y (c ∷ a) [] r s apart p q e = let same : c ≡ y = cc in p.0 same
+no-fronts x y (c ∷ a) (d ∷ b) r s apart p q e = let rest : a ++ x ∷ r ≡ b ++ y ∷ s = cc in no-fronts x y a b r s apart p.1 q.1 rest
+
 -- ---- paths
 
 -- the names of a path, each behind a dot

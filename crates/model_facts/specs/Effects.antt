@@ -10,7 +10,7 @@ use Rattle.model_facts.specs.declared.keys.FactKind.TheVariants.{State, Enters, 
 
 -- whether a fact of a component with this model is an effect: that it is in a state that is no initial one, or that an error exits
 abbrev pub is_effect_kind : ErrorModel → FactKind → Bool
-is_effect_kind model (State state) = not (slice_index_or model.states.initial state false)
+is_effect_kind model (State state) = not (slice_index_or model.states.always state false)
 is_effect_kind model (Enters point type) = false
 is_effect_kind model (Exits point type) = true
 

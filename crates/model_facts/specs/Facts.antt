@@ -4,6 +4,7 @@ use Rattle.std.specs.Bool.{beq}
 use Rattle.std.specs.List.{list_any}
 use Rattle.plain_values.specs.Numbered.{numbered_from, numbers_below}
 use Rattle.propagation_points.specs.Points.{Point}
+use Rattle.propagation_points.specs.States.{all_variants}
 use Rattle.propagation_points.specs.Uses.{side_types}
 use Rattle.error_flows.specs.declared.meaning.FlowMeaning.{FlowMeaning}
 use Rattle.error_flows.specs.declared.meaning.FlowMeaning.TheVariants as flow
@@ -25,9 +26,9 @@ use Rattle.model_facts.specs.declared.keys.FactKind.TheVariants.{State, Enters, 
 abbrev pub point_facts : List ℕ → ℕ → Point → List FactKind
 point_facts universe number point = map (Enters number) (side_types universe point.inward) ++ map (Exits number) (side_types universe point.outward)
 
--- The facts of a component with this model: its states, and then those of its points, each in order.
+-- The facts of a component with this model: the variants of its states, and then those of its points, each in order.
 abbrev pub model_facts : List ℕ → ErrorModel → List FactKind
-model_facts universe model = map State (numbers_below (length model.states.names)) ++ numbered_from (point_facts universe) 0 model.points
+model_facts universe model = map State (numbers_below (length (all_variants model.states.sorts))) ++ numbered_from (point_facts universe) 0 model.points
 
 -- a fact of the component of a number
 abbrev pub fact_in : ℕ → FactKind → FactKey
@@ -86,11 +87,11 @@ outward_of component point = record { component = component; point = point; outw
 abbrev pub arrivals : List Link → ℕ → ℕ → Point → List EventKind
 arrivals links component number point = cond (is_linked links (inward_of component number)) [] (map (Arrival number) (side_numbers point.inward))
 
--- The events of the component of a number with this model: its error events, its sources without a state, and its external
--- events, each in order.
+-- The events of the component of a number with this model: the variants of its error events, its sources without a state, and its
+-- external events, each in order.
 abbrev pub model_events : List Link → ℕ → ErrorModel → List EventKind
 model_events links component model =
-    map Declared (numbers_below (length model.behavior.events)) ++ (numbered_from source_events 0 model.flows ++ numbered_from (arrivals links component) 0 model.points)
+    map Declared (numbers_below (length (all_variants model.behavior.events))) ++ (numbered_from source_events 0 model.flows ++ numbered_from (arrivals links component) 0 model.points)
 
 -- an event of the component of a number
 abbrev pub event_in : ℕ → EventKind → EventKey

@@ -9,6 +9,7 @@ use Rattle.package_index.specs.declared.id.ClassifierId.{ClassifierId}
 use Rattle.package_index.specs.Duplicates.{IsDuplicate}
 use Rattle.error_types.specs.Printed.{AreIdentifiers, TypeName, name_of}
 use Rattle.propagation_points.specs.Points.{NamesDiffer}
+use Rattle.propagation_points.specs.States.{all_variants}
 use Rattle.error_flows.specs.declared.meaning.FlowMeaning.{FlowMeaning}
 use Rattle.error_flows.specs.declared.meaning.FlowMeaning.TheVariants as flow
 use Rattle.error_models.specs.declared.model.ErrorModel.{ErrorModel}
@@ -30,8 +31,8 @@ IsNamedFlow (flow.Change start point types) = Unit {0}
 -- The names of a model are identifiers: those of its points, its states, its events, and its sources without a state.
 pub record IsNamed (model : ErrorModel) : Type 0 where
   pub points : AllByRecursion (λ point. IsIdentifier point.name) model.points
-  pub states : AllByRecursion IsIdentifier model.states.names
-  pub events : AllByRecursion IsIdentifier model.behavior.events
+  pub states : AllByRecursion (λ variant. IsIdentifier variant.name) (all_variants model.states.sorts)
+  pub events : AllByRecursion (λ variant. IsIdentifier variant.name) (all_variants model.behavior.events)
   pub flows : AllByRecursion IsNamedFlow model.flows
 
 -- All names that facts and events are made of are identifiers: those of components, of models, and of types.

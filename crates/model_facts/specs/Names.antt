@@ -1,8 +1,9 @@
 -- The names of facts and of events.
-use Rattle.std.specs.Prelude.{ℕ, List, [], ◌∷◌, ◌++◌, codes, flat_map, slice_get, slice_index_or, Option, Some, None}
+use Rattle.std.specs.Prelude.{ℕ, List, [], ◌∷◌, ◌++◌, codes, flat_map, slice_get, Option, Some, None}
 use Rattle.std.specs.Option.{option_map_or}
 use Rattle.error_types.specs.Libraries.{Table}
 use Rattle.error_types.specs.Printed.{name_of, printed}
+use Rattle.propagation_points.specs.States.{Sort, Variant, all_variants}
 use Rattle.error_flows.specs.declared.meaning.FlowMeaning.{FlowMeaning}
 use Rattle.error_flows.specs.declared.meaning.FlowMeaning.TheVariants as flow
 use Rattle.error_models.specs.declared.model.ErrorModel.{ErrorModel}
@@ -36,9 +37,25 @@ type_text types number = option_map_or printed (name_of types number) []
 abbrev pub type_name : Table → ℕ → List ℕ
 type_name types number = option_map_or (λ name. name.name) (name_of types number) []
 
+-- a type in braces: `{lib::t}`
+abbrev pub in_braces : Table → ℕ → List ℕ
+in_braces types type = codes "{" ++ (type_text types type ++ codes "}")
+
+-- the name of a variant: `s`, or with its type `s{lib::t}`
+abbrev pub variant_text : Table → Variant → List ℕ
+variant_text types variant = variant.name ++ option_map_or (in_braces types) variant.type []
+
+-- the name of the variant of a number
+abbrev pub variant_name : Table → List Sort → ℕ → List ℕ
+variant_name types sorts number = option_map_or (variant_text types) (slice_get (all_variants sorts) number) []
+
+-- the name of the state or the event of which the variant of a number is one
+abbrev pub bare_name : List Sort → ℕ → List ℕ
+bare_name sorts number = option_map_or (λ variant. variant.name) (slice_get (all_variants sorts) number) []
+
 -- a type at a point: `p{lib::t}`
 abbrev pub at_point : Table → ErrorModel → ℕ → ℕ → List ℕ
-at_point types model point type = point_name model point ++ (codes "{" ++ (type_text types type ++ codes "}"))
+at_point types model point type = point_name model point ++ in_braces types type
 
 -- the name of a flow, where it is a source without a state
 abbrev pub source_name : Option FlowMeaning → List ℕ
@@ -54,9 +71,9 @@ source_name (Some (flow.Change start point types)) = []
 abbrev pub behind : Assembly → ℕ → List ℕ → List ℕ
 behind assembly owner text = path_text (path_at assembly owner) ++ (codes "/" ++ text)
 
--- what a fact of a component with this model is called there: `state:s`, `in:p{lib::t}` or `out:p{lib::t}`
+-- what a fact of a component with this model is called there: `state:s`, `state:s{lib::t}`, `in:p{lib::t}` or `out:p{lib::t}`
 abbrev pub own_fact_name : Table → ErrorModel → FactKind → List ℕ
-own_fact_name types model (State state) = codes "state:" ++ slice_index_or model.states.names state []
+own_fact_name types model (State state) = codes "state:" ++ variant_name types model.states.sorts state
 own_fact_name types model (Enters point type) = codes "in:" ++ at_point types model point type
 own_fact_name types model (Exits point type) = codes "out:" ++ at_point types model point type
 
@@ -64,9 +81,9 @@ own_fact_name types model (Exits point type) = codes "out:" ++ at_point types mo
 abbrev pub fact_name : Assembly → FactKey → List ℕ
 fact_name assembly fact = behind assembly fact.owner (own_fact_name assembly.types (model_at assembly fact.owner) fact.kind)
 
--- what an event of a component with this model is called there: `e`, `source:f` or `in:p{lib::t}`
+-- what an event of a component with this model is called there: `e`, `e{lib::t}`, `source:f` or `in:p{lib::t}`
 abbrev pub own_event_name : Table → ErrorModel → EventKind → List ℕ
-own_event_name types model (Declared event) = slice_index_or model.behavior.events event []
+own_event_name types model (Declared event) = variant_name types model.behavior.events event
 own_event_name types model (Source number) = codes "source:" ++ source_name (slice_get model.flows number)
 own_event_name types model (Arrival point type) = codes "in:" ++ at_point types model point type
 
@@ -76,7 +93,7 @@ event_name assembly event = behind assembly event.owner (own_event_name assembly
 
 -- by what rates of an event are found: its name, that of its flow, or its point and its type
 abbrev pub own_event_key : Table → ErrorModel → EventKind → List (List ℕ)
-own_event_key types model (Declared event) = slice_index_or model.behavior.events event [] ∷ []
+own_event_key types model (Declared event) = bare_name model.behavior.events event ∷ []
 own_event_key types model (Source number) = source_name (slice_get model.flows number) ∷ []
 own_event_key types model (Arrival point type) = point_name model point ∷ type_name types type ∷ []
 

@@ -60,7 +60,7 @@ fn add_model(
 ) -> Answer<()>
     ensures { AddsEvents events.old events.new (map (event_in owner) (model_events linked.now owner model.now)) result }
 {
-    add_declared(events, owner, model.behavior.events.names().len())?;
+    add_declared(events, owner, model.behavior.events.variants().len())?;
     add_sources(events, owner, model.flows.items())?;
     add_points(events, owner, linked, model.points.list())
 }

@@ -55,7 +55,7 @@ fn add_model(
 ) -> Answer<()>
     ensures { AddsFacts facts.old facts.new (map (fact_in owner) (model_facts universe.now model.now)) result }
 {
-    add_states(facts, owner, model.states.names.names().len())?;
+    add_states(facts, owner, model.states.sorts.variants().len())?;
     add_points(facts, owner, universe, model.points.list())
 }
 

@@ -101,10 +101,10 @@ fn is_effect(assembly: &Assembly, fact: FactKey) -> bool
 
 /// Whether a state of a component is an initial one.
 fn is_initial(assembly: &Assembly, owner: u32, state: u32) -> bool
-    ensures { result ≡ slice_index_or (model_at assembly.now owner).states.initial state false }
+    ensures { result ≡ slice_index_or (model_at assembly.now owner).states.always state false }
 {
     match assembly.model(owner) {
-        Some(model) => is_marked(model.states.initial.items(), state),
+        Some(model) => is_marked(model.states.always.items(), state),
         None => false,
     }
 }

@@ -12,7 +12,7 @@ use error_models::ErrorModel;
 use error_types::TypeTable;
 use instantiator::Component;
 use plain_values::Mem;
-use propagation_points::Point;
+use propagation_points::{Point, Variant};
 
 /// All names of which the names of facts and events are made are identifiers.
 pub fn are_named(assembly: &Assembly) -> Mem<()>
@@ -57,9 +57,17 @@ fn model_form(model: &ErrorModel)
     ensures { IsNamed model.now }
 {
     points_form(model.points.list());
-    identifiers_form(model.states.names.names());
-    identifiers_form(model.behavior.events.names());
+    variants_form(model.states.sorts.variants());
+    variants_form(model.behavior.events.variants());
     flows_form(model.flows.items());
+}
+
+fn variants_form(variants: &[Variant])
+    ensures { AllByRecursion (λ variant. IsIdentifier variant.name) variants.now }
+{
+    for variant in variants {
+        let _ = variant.name().text();
+    }
 }
 
 fn points_form(points: &[Point])

@@ -1,7 +1,8 @@
-ghost use Rattle.std.specs.Prelude.{◌≡◌, ◌∷◌, ◌++◌, [], codes, flat_map, map, slice_get, slice_index_or, IfOk, OnOk};
+ghost use Rattle.std.specs.Prelude.{◌≡◌, ◌∷◌, ◌++◌, [], codes, flat_map, map, slice_get, option_copied, IfOk, OnOk};
 ghost use Rattle.std.specs.Option.{option_map_or};
+ghost use Rattle.propagation_points.specs.States.{all_variants};
 ghost use Rattle.model_facts.specs.Assembly.{model_at};
-ghost use Rattle.model_facts.specs.Names.{at_point, event_key, event_name, fact_name, own_event_name, own_fact_name, path_at, path_text, point_name, source_name, type_name, type_text};
+ghost use Rattle.model_facts.specs.Names.{at_point, event_key, event_name, in_braces, variant_text, fact_name, own_event_name, own_fact_name, path_at, path_text, point_name, source_name, type_name, type_text};
 
 use crate::assembly::Assembly;
 use crate::keys::{EventKey, EventKind, FactKey, FactKind};
@@ -9,7 +10,7 @@ use aadl_syntax::Identifier;
 use error_flows::FlowMeaning;
 use error_types::TypeTable;
 use plain_values::{List, Mem, Name, copied};
-use propagation_points::Point;
+use propagation_points::{Point, Variant};
 use std::alloc::Global;
 
 /// The name of a fact: that of its component, a slash, and `state:s`, `in:p{lib::t}` or `out:p{lib::t}`.
@@ -38,7 +39,10 @@ pub fn event_key(alloc: Global, assembly: &Assembly, event: EventKey) -> Mem<Lis
 {
     let owner = event.owner;
     match event.kind {
-        EventKind::Declared(number) => one_name(alloc, declared_name(assembly, owner, number)),
+        EventKind::Declared(number) => one_name(
+            alloc,
+            bare_name(event_variant(assembly, owner, number)),
+        ),
         EventKind::Source(number) => one_name(alloc, source_name(assembly, owner, number)),
         EventKind::Arrival(point, number) => two_names(
             alloc,
@@ -92,7 +96,10 @@ fn push_fact(text: &mut Vec<u8>, assembly: &Assembly, fact: FactKey) -> Mem<()>
 {
     let owner = fact.owner;
     match fact.kind {
-        FactKind::State(state) => push_two(text, b"state:", state_name(assembly, owner, state)),
+        FactKind::State(state) => {
+            let variant = state_variant(assembly, owner, state);
+            push_variant(text, b"state:", assembly.types(), variant)
+        }
         FactKind::Enters(point, number) => {
             push_at_point(text, b"in:", assembly, owner, point, number)
         }
@@ -108,7 +115,10 @@ fn push_event(text: &mut Vec<u8>, assembly: &Assembly, event: EventKey) -> Mem<(
 {
     let owner = event.owner;
     match event.kind {
-        EventKind::Declared(number) => push_two(text, b"", declared_name(assembly, owner, number)),
+        EventKind::Declared(number) => {
+            let variant = event_variant(assembly, owner, number);
+            push_variant(text, b"", assembly.types(), variant)
+        }
         EventKind::Source(number) => {
             push_two(text, b"source:", source_name(assembly, owner, number))
         }
@@ -130,10 +140,7 @@ fn push_at_point(
     ensures { OnOk result (text.new.items ≡ text.old.items ++ (word.now ++ at_point assembly.now.types (model_at assembly.now owner) point number)) }
 {
     push_two(text, word, point_name(assembly, owner, point))?;
-    text.extend_from_slice(b"{")?;
-    push_type(text, assembly.types(), number)?;
-    text.extend_from_slice(b"}")?;
-    Ok(())
+    push_in_braces(text, assembly.types(), number)
 }
 
 /// Adds the name of a type as it prints.
@@ -146,33 +153,62 @@ fn push_type(text: &mut Vec<u8>, types: &TypeTable, number: u32) -> Mem<()>
     }
 }
 
-/// The name at a place, or nothing.
-fn name_at<'m>(names: &'m [&Identifier], number: u32) -> &'m [u8]
-    ensures { result.now ≡ slice_index_or (map (λ name. name.now) names.now) number [] }
+/// Adds a type in braces.
+fn push_in_braces(text: &mut Vec<u8>, types: &TypeTable, number: u32) -> Mem<()>
+    ensures { OnOk result (text.new.items ≡ text.old.items ++ in_braces types.now number) }
 {
-    match names.get(number as usize) {
-        Some(name) => name.text(),
+    text.extend_from_slice(b"{")?;
+    push_type(text, types, number)?;
+    text.extend_from_slice(b"}")?;
+    Ok(())
+}
+
+/// Adds a word, and the name of a variant behind it, if there is one.
+fn push_variant(
+    text: &mut Vec<u8>,
+    word: &[u8],
+    types: &TypeTable,
+    variant: Option<&Variant>,
+) -> Mem<()>
+    ensures { OnOk result (text.new.items ≡ text.old.items ++ (word.now ++ option_map_or (variant_text types.now) (option_copied variant.entry) [])) }
+{
+    push_two(text, word, bare_name(variant))?;
+    match variant {
+        Some(variant) => match variant.number() {
+            Some(number) => push_in_braces(text, types, number),
+            None => Ok(()),
+        },
+        None => Ok(()),
+    }
+}
+
+/// The name of the state or the event of a variant, if there is one.
+fn bare_name<'m>(variant: Option<&Variant<'m>>) -> &'m [u8]
+    ensures { result.now ≡ option_map_or (λ variant. variant.name) (option_copied variant.entry) [] }
+{
+    match variant {
+        Some(variant) => variant.name().text(),
         None => &[],
     }
 }
 
-/// The name of a state of a component, or nothing.
-fn state_name<'m>(assembly: &Assembly<'m>, owner: u32, number: u32) -> &'m [u8]
-    ensures { result.now ≡ slice_index_or (model_at assembly.now owner).states.names number [] }
+/// The variant of a state of a component.
+fn state_variant<'m>(assembly: &Assembly<'m>, owner: u32, number: u32) -> Option<&'m Variant<'m>>
+    ensures { option_copied result ≡ slice_get (all_variants (model_at assembly.now owner).states.sorts) number }
 {
     match assembly.model(owner) {
-        Some(model) => name_at(model.states.names.names(), number),
-        None => &[],
+        Some(model) => model.states.sorts.variants().get(number as usize),
+        None => None,
     }
 }
 
-/// The name of an error event of a component, or nothing.
-fn declared_name<'m>(assembly: &Assembly<'m>, owner: u32, number: u32) -> &'m [u8]
-    ensures { result.now ≡ slice_index_or (model_at assembly.now owner).behavior.events number [] }
+/// The variant of an error event of a component.
+fn event_variant<'m>(assembly: &Assembly<'m>, owner: u32, number: u32) -> Option<&'m Variant<'m>>
+    ensures { option_copied result ≡ slice_get (all_variants (model_at assembly.now owner).behavior.events) number }
 {
     match assembly.model(owner) {
-        Some(model) => name_at(model.behavior.events.names(), number),
-        None => &[],
+        Some(model) => model.behavior.events.variants().get(number as usize),
+        None => None,
     }
 }
 

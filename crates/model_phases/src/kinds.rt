@@ -64,7 +64,7 @@ fn models_with<'a>(
     types: &mut TypeTable<'_, 'a>,
 ) -> Result<List<ErrorModel<'a>>, Status>
     requires machines { machines.now ≡ map (kind_machine instance.now.packages) instance.now.kinds }
-    requires packages { types.old.packages ≡ instance.now.packages }
+    requires table { types.old ≡ table_of instance.now.packages }
     ensures tested { MeetsTests (content_tests types.old instance.now.kinds) result }
     ensures kept { types.new ≡ types.old }
     ensures models { IfOk result (λ models. models ≡ map (model_of types.old instance.now.kinds) instance.now.kinds) }

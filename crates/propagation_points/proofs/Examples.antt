@@ -1,19 +1,22 @@
 -- Small examples of the definitions, each proved by computing it.
-use Rattle.std.proofs.Common.{◌≡◌, Bool, true, false, List, [], ◌∷◌, codes, Option, Some, None, refl}
+use Rattle.std.proofs.Common.{ℕ, ◌≡◌, Bool, true, false, List, [], ◌∷◌, codes, Option, Some, None, refl}
 use Rattle.aadl_syntax.specs.declared.core_model.Decl.{Decl}
 use Rattle.aadl_syntax.specs.declared.core_model.FeatureKind.TheVariants.{Inward, Outward, Both, Access}
 use Rattle.aadl_syntax.specs.declared.error_model.Atom.{Atom}
+use Rattle.aadl_syntax.specs.declared.error_model.StateRef.{StateRef}
 use Rattle.aadl_syntax.specs.declared.error_model.TypeSet.{TypeSet}
-use Rattle.plain_values.specs.declared.refusal.Code.TheVariants.{FeatureGroup, NotContained, UnknownPoint, UnknownTrigger}
+use Rattle.plain_values.specs.declared.refusal.Code.TheVariants.{FeatureGroup, NotContained, UnknownPoint, UnknownState, UnknownTrigger}
 use Rattle.plain_values.specs.Refusal.{place_of, refusal}
 use Rattle.component_extension.specs.declared.effective.Effective.{Effective}
 use Rattle.error_types.specs.declared.scope.Scope.{Scope}
 use Rattle.error_types.specs.Search.{searched}
 use Rattle.error_types.specs.Types.{is_below_in, type_named}
 use Rattle.error_types.specs.Walk.{follow}
+use Rattle.propagation_points.specs.declared.held.Held.TheVariants.{Any, One}
 use Rattle.propagation_points.specs.declared.side.Reach.TheVariants.{Only, Whole}
 use Rattle.propagation_points.specs.declared.side.Side.TheVariants.{Absent, Free, Declared}
 use Rattle.propagation_points.specs.Points.{Point, point_refusals, points_of, scopes_of}
+use Rattle.propagation_points.specs.States.{Sort, all_variants, keep_sort, selected, state_held, state_refusals}
 use Rattle.propagation_points.specs.Uses.{atom_use, point_use, reached, reached_types, use_refusals}
 use Rattle.propagation_points.proofs.Sample.{clause_of, device_of, effective_of, feature_of, no_error_at, packages, point_at, propagation_at, set_at, spot, table, user_point_of}
 
@@ -143,3 +146,53 @@ points_of_source = refl
 no_refusals_of_source : point_refusals table (effective_of source) ≡ []
 unfolding searched follow type_named is_below_in
 no_refusals_of_source = refl
+
+-- ---- states and events
+
+-- ok, bad with the types 0 and 2, and worse; a second one of a name has no meaning
+abbrev sorts : List Sort
+sorts = record { name = codes "ok"; first = 0; types = None } ∷ record { name = codes "bad"; first = 1; types = Some (0 ∷ 2 ∷ []) } ∷ record { name = codes "worse"; first = 3; types = None } ∷ []
+
+in_order : keep_sort (keep_sort (keep_sort [] (codes "ok") None) (codes "bad") (Some (0 ∷ 2 ∷ []))) (codes "worse") None ≡ sorts
+in_order = refl
+
+again : keep_sort sorts (codes "bad") None ≡ sorts
+again = refl
+
+-- one variant of what is declared without a set, and one for each type of a set
+variants : all_variants sorts
+    ≡ record { name = codes "ok"; type = None } ∷ record { name = codes "bad"; type = Some 0 } ∷ record { name = codes "bad"; type = Some 2 } ∷ record { name = codes "worse"; type = None } ∷ []
+variants = refl
+
+-- what a name selects: the state itself; all of its types; those of a set; none of a type that it has not
+itself : selected 3 None Whole ≡ One 3
+itself = refl
+
+all_types : selected 1 (Some (0 ∷ 2 ∷ [])) Whole ≡ Any (1 ∷ 2 ∷ [])
+all_types = refl
+
+some_of_them : selected 1 (Some (0 ∷ 2 ∷ [])) (Only (2 ∷ 3 ∷ [])) ≡ Any (2 ∷ [])
+some_of_them = refl
+
+none_of_them : selected 3 None (Only (2 ∷ [])) ≡ Any []
+none_of_them = refl
+
+abbrev state_at : List ℕ → Option TypeSet → StateRef
+state_at name set = record { name = name; spot = spot 1; set = set }
+
+lost_of_bad : state_held table text sorts (state_at (codes "bad") (Some (set_at 9 (codes "lost" ∷ [])))) ≡ Some (Any (2 ∷ []))
+unfolding searched follow type_named is_below_in
+lost_of_bad = refl
+
+-- N10 at the set of what is declared without one, and at a set with a type that is not declared; N11 alone at an unknown state
+no_types : state_refusals table text sorts (state_at (codes "ok") only_bad) ≡ refusal NotContained (place_of (spot 9)) ∷ []
+unfolding searched follow type_named is_below_in
+no_types = refl
+
+other_type : state_refusals table text sorts (state_at (codes "bad") only_bad) ≡ refusal NotContained (place_of (spot 9)) ∷ []
+unfolding searched follow type_named is_below_in
+other_type = refl
+
+unknown : state_refusals table text sorts (state_at (codes "best") only_bad) ≡ refusal UnknownState (place_of (spot 1)) ∷ []
+unfolding searched follow type_named is_below_in
+unknown = refl

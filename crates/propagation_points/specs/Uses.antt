@@ -44,12 +44,17 @@ is_absent (Some Absent) = true
 is_absent (Some Free) = false
 is_absent (Some (Declared types)) = false
 
--- whether one of the types is outside those that are declared for a side; a free side has none outside
-abbrev pub is_outside : List ℕ → Option Side → Bool
+-- the types that are declared for a side, if any are; a free side has none outside
+abbrev pub declared_for : Option Side → Option (List ℕ)
+declared_for None = None
+declared_for (Some Absent) = None
+declared_for (Some Free) = None
+declared_for (Some (Declared types)) = Some types
+
+-- whether one of the types is outside those that are declared, if any are
+abbrev pub is_outside : List ℕ → Option (List ℕ) → Bool
 is_outside types None = false
-is_outside types (Some Absent) = false
-is_outside types (Some Free) = false
-is_outside types (Some (Declared declared)) = list_any (λ number. not (is_number_in declared number)) types
+is_outside types (Some declared) = list_any (λ number. not (is_number_in declared number)) types
 
 -- ---- uses
 
@@ -103,13 +108,13 @@ reached table points scope used =
 
 -- ---- refusals
 
--- N10 at a set with a type outside those that are declared for its side
-abbrev pub set_outside : Table → Option Scope → Option Side → Option TypeSet → List Refusal
-set_outside table scope side None = []
-set_outside table scope side (Some set) = refused_so (is_outside (types_in table scope set) side) NotContained set.spot
+-- N10 at a set with a type outside those that are declared, if any are
+abbrev pub set_outside : Table → Option Scope → Option (List ℕ) → Option TypeSet → List Refusal
+set_outside table scope declared None = []
+set_outside table scope declared (Some set) = refused_so (is_outside (types_in table scope set) declared) NotContained set.spot
 
 -- The refusals of a use: its own where the component has no such point or not that side, which is N9, or N12 at an atom without
 -- `in`; and N10.
 abbrev pub use_refusals : Table → List Point → Option Scope → PointUse → List Refusal
 use_refusals table points scope used =
-    refused_so (is_absent (used_side points used)) used.unknown used.spot ++ set_outside table scope (used_side points used) used.set
+    refused_so (is_absent (used_side points used)) used.unknown used.spot ++ set_outside table scope (declared_for (used_side points used)) used.set

@@ -2,6 +2,7 @@
 #![tactic(auto)]
 
 mod declared;
+mod held;
 mod open_point;
 mod point;
 mod points;
@@ -11,10 +12,11 @@ mod states;
 mod uses;
 
 pub use declared::scopes_of;
+pub use held::Held;
 pub use open_point::only_name;
 pub use point::Point;
 pub use points::{Points, points_of};
 pub use setting::Setting;
 pub use side::{Reach, Side};
-pub use states::{NameTable, spot_of};
+pub use states::{Sort, Sorts, Variant, declared_by};
 pub use uses::{PointUse, ReachedPoint, reached};

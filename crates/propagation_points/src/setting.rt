@@ -1,13 +1,14 @@
-ghost use Rattle.std.specs.Prelude.{◌≡◌, IfOk, OnOk, option_copied, slice_get};
+ghost use Rattle.std.specs.Prelude.{◌≡◌, [], IfOk, OnOk, Some, option_copied, slice_get, unwrap_or};
 ghost use Rattle.plain_values.specs.Order.{least, nearer};
-ghost use Rattle.propagation_points.specs.States.{state_refusals, number_named};
+ghost use Rattle.propagation_points.specs.States.{held_by, place_of_sort, sort_refusals};
 
+use crate::held::{Held, selected};
 use crate::points::Points;
-use crate::states::NameTable;
-use crate::uses::{PointUse, ReachedPoint, reached};
-use aadl_syntax::StateRef;
+use crate::states::{Sort, Sorts};
+use crate::uses::{PointUse, ReachedPoint, reach_within, reached};
+use aadl_syntax::{StateRef, TypeSet};
 use error_types::{Scope, TypeTable};
-use plain_values::{FirstRefusal, Mem};
+use plain_values::{Code, FirstRefusal, Mem};
 use std::alloc::Global;
 use std::marker::Model;
 
@@ -16,7 +17,7 @@ use std::marker::Model;
 #[derive(Drop)]
 pub struct Setting<'s, 'a> {
     points: &'s Points<'a>,
-    states: &'s NameTable<'a>,
+    states: &'s Sorts<'a>,
     scope: Option<&'s Scope>,
 }
 
@@ -34,12 +35,12 @@ impl<'s, 'a> Model for Setting<'s, 'a> {
 }
 
 impl<'s, 'a> Setting<'s, 'a> {
-    ghost use Rattle.propagation_points.specs.Settings.{clause_setting, refusals_in, reached_in};
+    ghost use Rattle.propagation_points.specs.Settings.{clause_setting, refusals_in, held_in, reached_in, state_refusals_in};
 
     /// The setting of items that are read in this text, if there is one.
     pub fn new(
         points: &'s Points<'a>,
-        states: &'s NameTable<'a>,
+        states: &'s Sorts<'a>,
         scope: Option<&'s Scope>,
     ) -> Setting<'s, 'a>
         ensures { result ≡ record { points = points.now; states = states.now; scope = option_copied scope.entry } }
@@ -54,7 +55,7 @@ impl<'s, 'a> Setting<'s, 'a> {
     /// The setting of the items of a clause, which has this number among the texts.
     pub fn of_clause(
         points: &'s Points<'a>,
-        states: &'s NameTable<'a>,
+        states: &'s Sorts<'a>,
         scopes: &'s [Scope],
         number: usize,
     ) -> Setting<'s, 'a>
@@ -82,12 +83,60 @@ impl<'s, 'a> Setting<'s, 'a> {
         reached(alloc, self.points, types, self.scope, used, first)
     }
 
-    /// The number of the state to which a text refers. The refusals of the reference are noted.
-    pub fn refer(&self, state: &StateRef, first: &mut FirstRefusal) -> Option<u32>
-        ensures number { result ≡ number_named self.now.states state.now.name }
-        ensures first { first.new ≡ nearer first.old (least (state_refusals self.now.states state.now)) }
+    /// What a name of a state or an event with this set behind it selects. N10 is noted.
+    pub fn held<'t>(
+        &self,
+        alloc: Global,
+        types: &mut TypeTable<'_, 't>,
+        sort: &Sort,
+        set: &'t Option<TypeSet>,
+        first: &mut FirstRefusal,
+    ) -> Mem<Held>
+        ensures kept { types.new ≡ types.old }
+        ensures held { IfOk result (λ held. held ≡ held_by types.old self.now.scope sort.now set.now) }
+        ensures first { OnOk result (first.new ≡ nearer first.old (least (sort_refusals types.old self.now.scope (Some sort.now) set.now))) }
     {
-        self.states.refer(state, first)
+        let reach = reach_within(alloc, types, self.scope, Some(types_of(sort)), set, first)?;
+        selected(alloc, sort.first(), sort.types(), &reach)
+    }
+
+    /// The place of the state of a reference, if there is one.
+    pub fn place(&self, state: &StateRef) -> Option<u32>
+        ensures { result ≡ place_of_sort self.now.states state.now.name }
+    {
+        self.states.place(state.name.text())
+    }
+
+    /// What a reference to a state selects. N11 and N10 are noted.
+    #[tactic(auto, using(plain_values::proofs::Noting::noted_more))]
+    pub fn refer<'t>(
+        &self,
+        alloc: Global,
+        types: &mut TypeTable<'_, 't>,
+        state: &'t StateRef,
+        first: &mut FirstRefusal,
+    ) -> Mem<Option<Held>>
+        ensures kept { types.new ≡ types.old }
+        ensures held { IfOk result (λ held. held ≡ held_in types.old self.now state.now) }
+        ensures first { OnOk result (first.new ≡ nearer first.old (least (state_refusals_in types.old self.now state.now))) }
+    {
+        match self.states.find(state.name.text()) {
+            Some(sort) => Ok(Some(self.held(alloc, types, sort, &state.set, first)?)),
+            None => {
+                first.note_if(true, Code::UnknownState, state.spot);
+                Ok(None)
+            }
+        }
+    }
+}
+
+/// The types that are declared with a state or an event.
+fn types_of<'s>(sort: &'s Sort) -> &'s [u32]
+    ensures { result.now ≡ unwrap_or sort.now.types [] }
+{
+    match sort.types() {
+        Some(types) => types.items(),
+        None => &[],
     }
 }
 

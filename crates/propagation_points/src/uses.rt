@@ -1,6 +1,6 @@
 ghost use Rattle.std.specs.Prelude.{◌≡◌, IfOk, None, OnOk, cond, option_copied, option_map};
 ghost use Rattle.plain_values.specs.Order.{least, nearer};
-ghost use Rattle.propagation_points.specs.Uses.{is_absent, is_outside, reach_of, reached, set_outside, use_refusals, used_place, used_side};
+ghost use Rattle.propagation_points.specs.Uses.{declared_for, is_absent, is_outside, reach_of, reached, set_outside, use_refusals, used_place, used_side};
 
 use crate::declared::types_in;
 use crate::open_point::only_name;
@@ -109,7 +109,7 @@ pub fn reached<'a>(
     let side = used.side(points);
     let is_absent = is_absent(side);
     first.note_if(is_absent, used.unknown, used.spot);
-    let reach = reach_of(alloc, types, scope, side, used.set, first)?;
+    let reach = reach_within(alloc, types, scope, declared_for(side), used.set, first)?;
     Ok(reached_at(used.place(points), is_absent, reach))
 }
 
@@ -125,24 +125,24 @@ fn reached_at(place: Option<u32>, is_absent: bool, types: Reach) -> Option<Reach
     }
 }
 
-/// What a set reaches of a side. N10 is noted where it has a type outside.
-fn reach_of<'a>(
+/// What a set reaches. N10 is noted where it has a type outside those that are declared, if any are.
+pub(crate) fn reach_within<'a>(
     alloc: Global,
     types: &mut TypeTable<'_, 'a>,
     scope: Option<&Scope>,
-    side: Option<&Side>,
+    declared: Option<&[u32]>,
     set: &'a Option<TypeSet>,
     first: &mut FirstRefusal,
 ) -> Mem<Reach>
     ensures kept { types.new ≡ types.old }
     ensures reach { IfOk result (λ reach. reach ≡ reach_of types.old (option_copied scope.entry) set.now) }
-    ensures first { OnOk result (first.new ≡ nearer first.old (least (set_outside types.old (option_copied scope.entry) (option_copied side.entry) set.now))) }
+    ensures first { OnOk result (first.new ≡ nearer first.old (least (set_outside types.old (option_copied scope.entry) (option_map (λ types. types.now) declared.entry) set.now))) }
 {
     let Some(set) = set else {
         return Ok(Reach::Whole);
     };
     let reached = types_in(alloc, types, scope, set)?;
-    let is_outside = is_outside(reached.items(), side);
+    let is_outside = is_outside(reached.items(), declared);
     first.note_if(is_outside, Code::NotContained, set.spot);
     Ok(Reach::Only(reached))
 }
@@ -158,13 +158,23 @@ fn is_absent(side: Option<&Side>) -> bool
     }
 }
 
-fn is_outside(types: &[u32], side: Option<&Side>) -> bool
-    ensures { result ≡ is_outside types.now (option_copied side.entry) }
+/// The types that are declared for a side, if any are.
+fn declared_for<'p>(side: Option<&'p Side>) -> Option<&'p [u32]>
+    ensures { option_map (λ types. types.now) result ≡ declared_for (option_copied side.entry) }
 {
     match side {
-        Some(Side::Declared(declared)) => has_other(declared.items(), types),
-        Some(Side::Free) => false,
-        Some(Side::Absent) => false,
+        Some(Side::Declared(declared)) => Some(declared.items()),
+        Some(Side::Free) => None,
+        Some(Side::Absent) => None,
+        None => None,
+    }
+}
+
+fn is_outside(types: &[u32], declared: Option<&[u32]>) -> bool
+    ensures { result ≡ is_outside types.now (option_map (λ types. types.now) declared.entry) }
+{
+    match declared {
+        Some(declared) => has_other(declared, types),
         None => false,
     }
 }

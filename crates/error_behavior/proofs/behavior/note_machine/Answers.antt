@@ -2,14 +2,12 @@ use Rattle.std.proofs.Common.{flat_map, ap, ◌∙◌}
 use Rattle.plain_values.specs.Order.{least, nearer}
 use Rattle.plain_values.specs.declared.refusal.Code.TheVariants.{MachineExtends, Mapping}
 use Rattle.plain_values.specs.Refusal.{refused_there}
-use Rattle.plain_values.proofs.Noted.{noted-four}
-use Rattle.error_behavior.specs.States.{event_refusals, state_decl_refusals}
+use Rattle.plain_values.proofs.Noted.{noted-three}
+use Rattle.error_behavior.specs.States.{event_refusals}
 use Rattle.error_behavior.proofs.behavior.note_machine.Goals as goal
 
 pub returns : goal.returns
 returns c =
     let decl = c.args.decl.now in
-    noted-four c.args.first.now c.note_at.new.self c.note_at-2.new.self (refused_there MachineExtends decl.extends) (refused_there Mapping decl.transforms) c.note_at.ensures c.note_at-2.ensures
-    c.note_events.new.first c.note_states.new.first (flat_map event_refusals decl.events) (flat_map state_decl_refusals decl.states)
-    (c.note_events.ensures ∙ ap (λ events. nearer c.note_at-2.new.self (least (flat_map event_refusals events))) c.items.ensures.items)
-    (c.note_states.ensures ∙ ap (λ states. nearer c.note_events.new.first (least (flat_map state_decl_refusals states))) c.items-2.ensures.items)
+    noted-three c.args.first.now c.note_at.new.self c.note_at-2.new.self (refused_there MachineExtends decl.extends) (refused_there Mapping decl.transforms) c.note_at.ensures c.note_at-2.ensures
+    c.note_events.new.first (flat_map event_refusals decl.events) (c.note_events.ensures ∙ ap (λ events. nearer c.note_at-2.new.self (least (flat_map event_refusals events))) c.items.ensures.items)

@@ -1,6 +1,9 @@
-use Rattle.std.proofs.Common.{◌≡◌, [], fold, map, take}
-use Rattle.propagation_points.specs.States.{keep_name}
+use Rattle.std.proofs.Common.{◌≡◌, [], fold, map, take, option_copied}
+use Rattle.error_behavior.specs.States.{event_at, keep_event}
 use Rattle.error_behavior.proofs.events.events_in.Given as goal
 
 abbrev pub invariant-loop-decl : goal.invariant-loop-decl
-invariant-loop-decl l = l.names ≡ fold keep_name [] (map (λ event. event.name) (take l.decl-index l.decls))
+invariant-loop-decl l = record {
+  kept : l.types ≡ l.fn.types;
+  events : l.events ≡ fold (keep_event l.fn.types) [] (map (event_at (option_copied l.scope)) (take l.decl-index l.decls));
+}

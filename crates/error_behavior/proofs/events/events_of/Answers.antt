@@ -1,11 +1,11 @@
-use Rattle.std.proofs.Common.{◌≡◌, List, IfOk, fold, map, subst, sym, ap, ◌∙◌}
-use Rattle.propagation_points.specs.States.{keep_name}
-use Rattle.error_behavior.specs.States.{machine_events}
-use Rattle.error_behavior.proofs.EventLaws.{names-joined}
+use Rattle.std.proofs.Common.{◌≡◌, IfOk, fold, map, subst, ap, ◌∙◌}
+use Rattle.error_behavior.specs.States.{clause_event, keep_event}
+use Rattle.error_behavior.proofs.EventLaws.{events-joined}
 use Rattle.error_behavior.proofs.events.events_of.Goals as goal
 
-pub returns : goal.returns
-returns c =
+pub returns-clause-events : goal.returns-clause-events
+returns-clause-events c =
+    let table = c.args.types.now in
     let all =
-    (λ i. fold keep_name (c.in_ok-names.ensures i) (map (λ scoped. scoped.item.name) (c.items.ensures.items i))) ∙ names-joined (machine_events c.args.machine.now) c.args.effective.now.behavior.events in
-    subst (λ names. IfOk c.with_clauses.result (λ made. made ≡ names)) all c.with_clauses.ensures
+    (λ i. fold (keep_event (c.in_ok-events.ensures.kept i)) (c.in_ok-events.ensures.events i) (map (clause_event (c.requires i).clauses) (c.items.ensures.items i))) ∙ events-joined table c.args.machine.now c.args.effective.now in
+    subst (λ events. IfOk c.with_clauses.result (λ made. made ≡ events)) all c.with_clauses.ensures.events

@@ -12,7 +12,10 @@ returns-clause-first c =
     let table = c.args.types.now in
     let outgoing = c.args.outgoing.now in
     let setting : c.place.inside.setting ≡ place.setting = ap (λ p. p.setting) c.place.view_is in
-    noted-three c.args.first.now c.origin_of-origin.new.first c.trigger_of.new.first (origin_refusals place.setting.states outgoing.source.state) (perhaps_refusals place table outgoing.condition)
-    (c.origin_of-origin.ensures.first ∙ ap (λ each. nearer c.args.first.now (least (origin_refusals each.states outgoing.source.state))) setting) c.in_ok-trigger.ensures.first
+    let same : c.in_ok-origin.types ≡ table = c.in_ok-origin.ensures.kept in
+    let still : c.in_ok-trigger.types ≡ table = c.in_ok-trigger.ensures.kept ∙ same in
+    noted-three c.args.first.now c.origin_of.new.first c.trigger_of.new.first (origin_refusals table place.setting outgoing.source.state) (perhaps_refusals place table outgoing.condition)
+    (c.in_ok-origin.ensures.first ∙ ap (λ each. nearer c.args.first.now (least (origin_refusals table each outgoing.source.state))) setting)
+    (c.in_ok-trigger.ensures.first ∙ ap (λ types. nearer c.origin_of.new.first (least (perhaps_refusals place types outgoing.condition))) same)
     c.reached.new.first (refusals_in table place.setting (point_use outgoing.point true outgoing.set))
-    (c.in_ok-reached.ensures.first ∙ (λ i. nearer c.trigger_of.new.first (least (refusals_in (c.in_ok-trigger.ensures.kept i) (setting i) (c.new-used.ensures i)))))
+    (c.in_ok-reached.ensures.first ∙ (λ i. nearer c.trigger_of.new.first (least (refusals_in (still i) (setting i) (c.new-used.ensures i)))))

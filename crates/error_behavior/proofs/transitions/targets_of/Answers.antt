@@ -1,13 +1,22 @@
-use Rattle.std.proofs.Common.{[], ◌++◌, option_to_list, ap, ◌∙◌}
+use Rattle.std.proofs.Common.{◌≡◌, [], ◌++◌, ap, ◌∙◌}
+use Rattle.std.specs.Option.{option_map_or}
+use Rattle.plain_values.specs.Order.{least, nearer}
 use Rattle.package_index.proofs.Loops.{gathered-more, noting-more}
-use Rattle.propagation_points.specs.States.{number_named, state_refusals}
+use Rattle.propagation_points.specs.Settings.{held_in, state_refusals_in}
+use Rattle.propagation_points.specs.States.{held_numbers}
+use Rattle.error_behavior.specs.Steps.{target_numbers}
 use Rattle.error_behavior.proofs.transitions.targets_of.Goals as goal
 
 pub loop-target-preserved : goal.loop-target-preserved
 loop-target-preserved c =
-    let states = c.args.setting.now.states in
+    let table = c.args.types.now in
+    let setting = c.args.setting.now in
+    let one = c.target-item.result in
+    let kept : c.loop-target.types ≡ table = c.loop-target.invariant.kept in
     record {
-      numbers = gathered-more c.args.targets.now c.loop-target.target-index c.target-item.result c.loop-target-test.true c.target-item.is (λ target. option_to_list (number_named states target.name)) [] c.loop-target.numbers _ c.loop-target.invariant.numbers
-          (c.in_ok-add_target.ensures ∙ ap (λ number. c.loop-target.numbers ++ option_to_list number) c.refer.ensures.number);
-      first = noting-more c.args.targets.now c.loop-target.target-index c.target-item.result c.loop-target-test.true c.target-item.is (state_refusals states) c.loop-target.first _ _ c.refer.ensures.first c.loop-target.invariant.first;
+      kept = c.in_ok-held.ensures.kept ∙ kept;
+      numbers = gathered-more c.args.targets.now c.loop-target.target-index one c.loop-target-test.true c.target-item.is (target_numbers table setting) [] c.loop-target.numbers _ c.loop-target.invariant.numbers
+          (c.in_ok-add_held.ensures ∙ (λ i. c.loop-target.numbers ++ option_map_or held_numbers (c.in_ok-held.ensures.held i) []) ∙ (λ i. c.loop-target.numbers ++ target_numbers (kept i) setting one));
+      first = noting-more c.args.targets.now c.loop-target.target-index one c.loop-target-test.true c.target-item.is (state_refusals_in table setting) c.loop-target.first _ _
+          (c.in_ok-held.ensures.first ∙ (λ i. nearer c.loop-target.first (least (state_refusals_in (kept i) setting one)))) c.loop-target.invariant.first;
     }

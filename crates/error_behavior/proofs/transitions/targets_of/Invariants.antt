@@ -1,11 +1,12 @@
 use Rattle.std.proofs.Common.{◌≡◌, drop, flat_map, take}
 use Rattle.plain_values.specs.Order.{least, nearer}
-use Rattle.propagation_points.specs.States.{state_refusals}
+use Rattle.propagation_points.specs.Settings.{state_refusals_in}
 use Rattle.error_behavior.specs.Steps.{targets_of}
 use Rattle.error_behavior.proofs.transitions.targets_of.Given as goal
 
 abbrev pub invariant-loop-target : goal.invariant-loop-target
 invariant-loop-target l = record {
-  numbers : l.numbers ≡ targets_of l.setting.states (take l.target-index l.targets);
-  first : nearer l.first (least (flat_map (state_refusals l.setting.states) (drop l.target-index l.targets))) ≡ nearer l.fn.first (least (flat_map (state_refusals l.setting.states) l.targets));
+  kept : l.types ≡ l.fn.types;
+  numbers : l.numbers ≡ targets_of l.fn.types l.setting (take l.target-index l.targets);
+  first : nearer l.first (least (flat_map (state_refusals_in l.fn.types l.setting) (drop l.target-index l.targets))) ≡ nearer l.fn.first (least (flat_map (state_refusals_in l.fn.types l.setting) l.targets));
 }

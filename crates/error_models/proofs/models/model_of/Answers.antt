@@ -22,10 +22,11 @@ returns-in_err-behavior-clause-refused c =
     let stop = c.in_err-behavior.field-0.0 in
     let first = least (point_refusals table effective) in
     let second = least (behavior_refusals table (points_of table effective) machine effective) in
-    let third = least (all_flow_refusals table (points_of table effective) (states_of machine).names effective) in
-    let last = least (composite_clause_refusals below table (points_of table effective) (states_of machine) effective) in
-    let same : least (behavior_refusals c.points.new.types c.in_ok-points.points machine effective) ≡ second =
-    λ i. least (behavior_refusals (c.in_ok-points.ensures.kept i) (c.in_ok-points.ensures.points i) machine effective) in
+    let third = least (all_flow_refusals table (points_of table effective) (states_of table machine).sorts effective) in
+    let last = least (composite_clause_refusals below table (points_of table effective) (states_of table machine) effective) in
+    let start : c.states_of.new.types ≡ table = c.in_ok-states.ensures.kept ∙ c.in_ok-points.ensures.kept in
+    let same : least (behavior_refusals c.states_of.new.types c.in_ok-points.points machine effective) ≡ second =
+    λ i. least (behavior_refusals (start i) (c.in_ok-points.ensures.points i) machine effective) in
     let p = err_from_is_err_and c.from_residual-in_err-behavior.result c.from_residual-in_err-behavior.ensures.1 in
     rw (p.1, p.2) (none-stops first (option_or second (option_or third last)) stop c.in_ok-points.ensures.accepted
     (or-stops second (option_or third last) stop (subst (λ o. StopsAt o stop) same c.in_err-behavior.ensures.refused)))
@@ -39,13 +40,15 @@ returns-in_err-flows-clause-refused c =
     let stop = c.in_err-flows.field-0.0 in
     let first = least (point_refusals table effective) in
     let second = least (behavior_refusals table (points_of table effective) machine effective) in
-    let third = least (all_flow_refusals table (points_of table effective) (states_of machine).names effective) in
-    let last = least (composite_clause_refusals below table (points_of table effective) (states_of machine) effective) in
-    let kept : c.behavior.new.types ≡ table = c.in_ok-behavior.ensures.kept ∙ c.in_ok-points.ensures.kept in
-    let same : least (behavior_refusals c.points.new.types c.in_ok-points.points machine effective) ≡ second =
-    λ i. least (behavior_refusals (c.in_ok-points.ensures.kept i) (c.in_ok-points.ensures.points i) machine effective) in
-    let next : least (all_flow_refusals c.behavior.new.types c.in_ok-points.points c.in_ok-states.states.names effective) ≡ third =
-    λ i. least (all_flow_refusals (kept i) (c.in_ok-points.ensures.points i) (c.in_ok-states.ensures i).names effective) in
+    let third = least (all_flow_refusals table (points_of table effective) (states_of table machine).sorts effective) in
+    let last = least (composite_clause_refusals below table (points_of table effective) (states_of table machine) effective) in
+    let start : c.states_of.new.types ≡ table = c.in_ok-states.ensures.kept ∙ c.in_ok-points.ensures.kept in
+    let states : c.in_ok-states.states ≡ states_of table machine = c.in_ok-states.ensures.states ∙ ap (λ types. states_of types machine) c.in_ok-points.ensures.kept in
+    let kept : c.behavior.new.types ≡ table = c.in_ok-behavior.ensures.kept ∙ start in
+    let same : least (behavior_refusals c.states_of.new.types c.in_ok-points.points machine effective) ≡ second =
+    λ i. least (behavior_refusals (start i) (c.in_ok-points.ensures.points i) machine effective) in
+    let next : least (all_flow_refusals c.behavior.new.types c.in_ok-points.points c.in_ok-states.states.sorts effective) ≡ third =
+    λ i. least (all_flow_refusals (kept i) (c.in_ok-points.ensures.points i) (states i).sorts effective) in
     let p = err_from_is_err_and c.from_residual-in_err-flows.result c.from_residual-in_err-flows.ensures.1 in
     rw (p.1, p.2) (none-stops first (option_or second (option_or third last)) stop c.in_ok-points.ensures.accepted
     (none-stops second (option_or third last) stop (sym same ∙ c.in_ok-behavior.ensures.accepted) (or-stops third last stop (subst (λ o. StopsAt o stop) next c.in_err-flows.ensures.refused))))
@@ -59,16 +62,18 @@ returns-in_err-composites-clause-refused c =
     let stop = c.in_err-composites.field-0.0 in
     let first = least (point_refusals table effective) in
     let second = least (behavior_refusals table (points_of table effective) machine effective) in
-    let third = least (all_flow_refusals table (points_of table effective) (states_of machine).names effective) in
-    let last = least (composite_clause_refusals below table (points_of table effective) (states_of machine) effective) in
-    let kept : c.behavior.new.types ≡ table = c.in_ok-behavior.ensures.kept ∙ c.in_ok-points.ensures.kept in
+    let third = least (all_flow_refusals table (points_of table effective) (states_of table machine).sorts effective) in
+    let last = least (composite_clause_refusals below table (points_of table effective) (states_of table machine) effective) in
+    let start : c.states_of.new.types ≡ table = c.in_ok-states.ensures.kept ∙ c.in_ok-points.ensures.kept in
+    let states : c.in_ok-states.states ≡ states_of table machine = c.in_ok-states.ensures.states ∙ ap (λ types. states_of types machine) c.in_ok-points.ensures.kept in
+    let kept : c.behavior.new.types ≡ table = c.in_ok-behavior.ensures.kept ∙ start in
     let kept_on : c.flows.new.types ≡ table = c.in_ok-flows.ensures.kept ∙ kept in
-    let same : least (behavior_refusals c.points.new.types c.in_ok-points.points machine effective) ≡ second =
-    λ i. least (behavior_refusals (c.in_ok-points.ensures.kept i) (c.in_ok-points.ensures.points i) machine effective) in
-    let next : least (all_flow_refusals c.behavior.new.types c.in_ok-points.points c.in_ok-states.states.names effective) ≡ third =
-    λ i. least (all_flow_refusals (kept i) (c.in_ok-points.ensures.points i) (c.in_ok-states.ensures i).names effective) in
+    let same : least (behavior_refusals c.states_of.new.types c.in_ok-points.points machine effective) ≡ second =
+    λ i. least (behavior_refusals (start i) (c.in_ok-points.ensures.points i) machine effective) in
+    let next : least (all_flow_refusals c.behavior.new.types c.in_ok-points.points c.in_ok-states.states.sorts effective) ≡ third =
+    λ i. least (all_flow_refusals (kept i) (c.in_ok-points.ensures.points i) (states i).sorts effective) in
     let here : least (composite_clause_refusals below c.flows.new.types c.in_ok-points.points c.in_ok-states.states effective) ≡ last =
-    λ i. least (composite_clause_refusals below (kept_on i) (c.in_ok-points.ensures.points i) (c.in_ok-states.ensures i) effective) in
+    λ i. least (composite_clause_refusals below (kept_on i) (c.in_ok-points.ensures.points i) (states i) effective) in
     let p = err_from_is_err_and c.from_residual-in_err-composites.result c.from_residual-in_err-composites.ensures.1 in
     rw (p.1, p.2) (none-stops first (option_or second (option_or third last)) stop c.in_ok-points.ensures.accepted
     (none-stops second (option_or third last) stop (sym same ∙ c.in_ok-behavior.ensures.accepted)
@@ -80,18 +85,20 @@ returns-clause-model c =
     let machine = c.args.machine.now in
     let table = c.args.types.now in
     let below = states_below c.args.below.now.tree.packages c.args.below.now.tree.kinds (Some c.args.below.now.classifier) in
-    let kept : c.behavior.new.types ≡ table = c.in_ok-behavior.ensures.kept ∙ c.in_ok-points.ensures.kept in
+    let start : c.states_of.new.types ≡ table = c.in_ok-states.ensures.kept ∙ c.in_ok-points.ensures.kept in
+    let states : c.in_ok-states.states ≡ states_of table machine = c.in_ok-states.ensures.states ∙ ap (λ types. states_of types machine) c.in_ok-points.ensures.kept in
+    let kept : c.behavior.new.types ≡ table = c.in_ok-behavior.ensures.kept ∙ start in
     let kept_on : c.flows.new.types ≡ table = c.in_ok-flows.ensures.kept ∙ kept in
     let behavior : c.in_ok-behavior.behavior ≡ behavior_of table (points_of table effective) machine effective =
-    c.in_ok-behavior.ensures.behavior ∙ (λ i. behavior_of (c.in_ok-points.ensures.kept i) (c.in_ok-points.ensures.points i) machine effective) in
-    let flows : c.in_ok-flows.flows ≡ flows_of table (points_of table effective) (states_of machine).names effective =
-    c.in_ok-flows.ensures.flows ∙ (λ i. flows_of (kept i) (c.in_ok-points.ensures.points i) (c.in_ok-states.ensures i).names effective) in
-    let composites : c.in_ok-composites.composites ≡ clauses_of below table (points_of table effective) (states_of machine) effective =
-    c.in_ok-composites.ensures.clauses ∙ (λ i. clauses_of below (kept_on i) (c.in_ok-points.ensures.points i) (c.in_ok-states.ensures i) effective) in
+    c.in_ok-behavior.ensures.behavior ∙ (λ i. behavior_of (start i) (c.in_ok-points.ensures.points i) machine effective) in
+    let flows : c.in_ok-flows.flows ≡ flows_of table (points_of table effective) (states_of table machine).sorts effective =
+    c.in_ok-flows.ensures.flows ∙ (λ i. flows_of (kept i) (c.in_ok-points.ensures.points i) (states i).sorts effective) in
+    let composites : c.in_ok-composites.composites ≡ clauses_of below table (points_of table effective) (states_of table machine) effective =
+    c.in_ok-composites.ensures.clauses ∙ (λ i. clauses_of below (kept_on i) (c.in_ok-points.ensures.points i) (states i) effective) in
     let has : c.is_composite.result ≡ is_composite effective.behavior.composites = c.is_composite.ensures ∙ ap is_composite c.items.ensures.items in
     λ i. record {
       points = c.in_ok-points.ensures.points i;
-      states = c.in_ok-states.ensures i;
+      states = states i;
       behavior = behavior i;
       flows = flows i;
       composites = composites i;
@@ -106,16 +113,18 @@ returns-clause-accepted c =
     let below = states_below c.args.below.now.tree.packages c.args.below.now.tree.kinds (Some c.args.below.now.classifier) in
     let first = least (point_refusals table effective) in
     let second = least (behavior_refusals table (points_of table effective) machine effective) in
-    let third = least (all_flow_refusals table (points_of table effective) (states_of machine).names effective) in
-    let last = least (composite_clause_refusals below table (points_of table effective) (states_of machine) effective) in
-    let kept : c.behavior.new.types ≡ table = c.in_ok-behavior.ensures.kept ∙ c.in_ok-points.ensures.kept in
+    let third = least (all_flow_refusals table (points_of table effective) (states_of table machine).sorts effective) in
+    let last = least (composite_clause_refusals below table (points_of table effective) (states_of table machine) effective) in
+    let start : c.states_of.new.types ≡ table = c.in_ok-states.ensures.kept ∙ c.in_ok-points.ensures.kept in
+    let states : c.in_ok-states.states ≡ states_of table machine = c.in_ok-states.ensures.states ∙ ap (λ types. states_of types machine) c.in_ok-points.ensures.kept in
+    let kept : c.behavior.new.types ≡ table = c.in_ok-behavior.ensures.kept ∙ start in
     let kept_on : c.flows.new.types ≡ table = c.in_ok-flows.ensures.kept ∙ kept in
-    let same : least (behavior_refusals c.points.new.types c.in_ok-points.points machine effective) ≡ second =
-    λ i. least (behavior_refusals (c.in_ok-points.ensures.kept i) (c.in_ok-points.ensures.points i) machine effective) in
-    let next : least (all_flow_refusals c.behavior.new.types c.in_ok-points.points c.in_ok-states.states.names effective) ≡ third =
-    λ i. least (all_flow_refusals (kept i) (c.in_ok-points.ensures.points i) (c.in_ok-states.ensures i).names effective) in
+    let same : least (behavior_refusals c.states_of.new.types c.in_ok-points.points machine effective) ≡ second =
+    λ i. least (behavior_refusals (start i) (c.in_ok-points.ensures.points i) machine effective) in
+    let next : least (all_flow_refusals c.behavior.new.types c.in_ok-points.points c.in_ok-states.states.sorts effective) ≡ third =
+    λ i. least (all_flow_refusals (kept i) (c.in_ok-points.ensures.points i) (states i).sorts effective) in
     let here : least (composite_clause_refusals below c.flows.new.types c.in_ok-points.points c.in_ok-states.states effective) ≡ last =
-    λ i. least (composite_clause_refusals below (kept_on i) (c.in_ok-points.ensures.points i) (c.in_ok-states.ensures i) effective) in
+    λ i. least (composite_clause_refusals below (kept_on i) (c.in_ok-points.ensures.points i) (states i) effective) in
     none-or first (option_or second (option_or third last)) c.in_ok-points.ensures.accepted
     (none-or second (option_or third last) (sym same ∙ c.in_ok-behavior.ensures.accepted)
     (none-or third last (sym next ∙ c.in_ok-flows.ensures.accepted) (sym here ∙ c.in_ok-composites.ensures.accepted)))

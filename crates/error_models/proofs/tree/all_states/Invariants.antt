@@ -3,4 +3,7 @@ use Rattle.error_behavior.specs.States.{states_of}
 use Rattle.error_models.proofs.tree.all_states.Given as goal
 
 abbrev pub invariant-loop-machine : goal.invariant-loop-machine
-invariant-loop-machine l = l.states ≡ map states_of (take l.machine-index l.machines)
+invariant-loop-machine l = record {
+  kept : l.types ≡ l.fn.types;
+  states : l.states ≡ map (states_of l.fn.types) (take l.machine-index l.machines);
+}

@@ -2,7 +2,7 @@ use Rattle.std.proofs.Common.{ap, ◌∙◌}
 use Rattle.error_flows.specs.declared.meaning.FlowMeaning.{FlowMeaning}
 use Rattle.model_facts.specs.Facts.{event_in, fact_in}
 use Rattle.model_facts.specs.declared.keys.EventKind.TheVariants.{Source}
-use Rattle.model_facts.specs.declared.keys.FactKind.TheVariants.{State, Enters}
+use Rattle.model_facts.specs.declared.keys.FactKind.TheVariants.{Enters}
 use Rattle.flattener.specs.Flat.{places}
 use Rattle.flattener.specs.Formulas.{flow_formula}
 use Rattle.flattener.proofs.Caps.{one-of}
@@ -12,10 +12,6 @@ use Rattle.flattener.proofs.counts.flow_places.Goals as goal
 pub returns-in-Event : goal.returns-in-Event
 returns-in-Event c =
     one-of _ (ap (λ (meaning : FlowMeaning). places (flow_formula c.args.site.now c.args.number c.args.place meaning)) c.in-Event.is ∙ event-place c.args.site.now.numbered (event_in c.args.site.now.owner (Source c.args.place)))
-
-pub returns-in-State : goal.returns-in-State
-returns-in-State c =
-    one-of _ (ap (λ (meaning : FlowMeaning). places (flow_formula c.args.site.now c.args.number c.args.place meaning)) c.in-State.is ∙ fact-place c.args.site.now.numbered (fact_in c.args.site.now.owner (State c.in-State.field-0)))
 
 pub returns-in-Carry : goal.returns-in-Carry
 returns-in-Carry c =

@@ -1,5 +1,4 @@
-use Rattle.std.proofs.Common.{◌++◌, length, map, ap, sym, ◌∙◌, subst}
-use Rattle.std.proofs.lemmas.List.{length-map}
+use Rattle.std.proofs.Common.{◌++◌, length, map, ap, ◌∙◌, subst}
 use Rattle.std.proofs.lemmas.Result.{err_from_is_err_and}
 use Rattle.plain_values.specs.declared.refusal.Code.TheVariants.{TooManyEvents}
 use Rattle.plain_values.specs.Numbered.{numbers_below, numbered_from}
@@ -13,7 +12,7 @@ use Rattle.model_facts.proofs.event_list.add_model.Goals as goal
 pub returns-in_err-add_sources : goal.returns-in_err-add_sources
 returns-in_err-add_sources c =
     let owner = c.args.owner in
-    let count = sym (length-map c.names.result.now (λ name. name.now)) ∙ ap length c.names.ensures.names in
+    let count = ap length c.variants.ensures in
     let declared = ap (λ n. map (λ event. event_in owner (Declared event)) (numbers_below n)) count in
     let sources = ap (numbered_from (λ number flow. map (event_in owner) (source_events number flow)) 0) c.items.ensures.items in
     let points = numbered_from (λ number point. map (event_in owner) (arrivals c.args.linked.now owner number point)) 0 c.args.model.now.points in
@@ -27,7 +26,7 @@ returns-in_err-add_sources c =
 pub returns : goal.returns
 returns c =
     let owner = c.args.owner in
-    let count = sym (length-map c.names.result.now (λ name. name.now)) ∙ ap length c.names.ensures.names in
+    let count = ap length c.variants.ensures in
     let declared = ap (λ n. map (λ event. event_in owner (Declared event)) (numbers_below n)) count in
     let sources = ap (numbered_from (λ number flow. map (event_in owner) (source_events number flow)) 0) c.items.ensures.items in
     let points = ap (numbered_from (λ number point. map (event_in owner) (arrivals c.args.linked.now owner number point)) 0) c.list.ensures.list in

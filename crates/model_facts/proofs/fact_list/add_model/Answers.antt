@@ -1,5 +1,4 @@
-use Rattle.std.proofs.Common.{◌++◌, length, map, ap, sym, ◌∙◌, subst}
-use Rattle.std.proofs.lemmas.List.{length-map}
+use Rattle.std.proofs.Common.{◌++◌, length, map, ap, ◌∙◌, subst}
 use Rattle.plain_values.specs.declared.refusal.Code.TheVariants.{TooManyFacts}
 use Rattle.plain_values.specs.Numbered.{numbers_below, numbered_from}
 use Rattle.model_facts.specs.Facts.{fact_in, point_facts}
@@ -13,7 +12,7 @@ pub returns : goal.returns
 returns c =
     let owner = c.args.owner in
     let universe = c.args.universe.now in
-    let count = sym (length-map c.names.result.now (λ name. name.now)) ∙ ap length c.names.ensures.names in
+    let count = ap length c.variants.ensures in
     let states = ap (λ n. map (λ state. fact_in owner (State state)) (numbers_below n)) count in
     let points = ap (numbered_from (λ number point. map (fact_in owner) (point_facts universe number point)) 0) c.list.ensures.list in
     let whole = (λ i. states i ++ points i) ∙ facts-parts owner universe c.args.model.now in

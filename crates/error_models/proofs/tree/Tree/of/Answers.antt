@@ -1,14 +1,16 @@
 use Rattle.std.proofs.Common.{map, ap, ◌∙◌}
+use Rattle.error_types.specs.Libraries.{table_of}
 use Rattle.error_behavior.specs.States.{states_of}
 use Rattle.error_models.specs.Below.{kind_machine}
 use Rattle.error_models.proofs.KindLaws.{maps}
 use Rattle.error_models.proofs.tree.Tree.of.Goals as goal
 
 pub invariant_of-result : goal.invariant_of-result
-invariant_of-result c = (
-  record {
-    parts = c.in_ok-parts.ensures;
-    states = c.in_ok-states.ensures ∙ ap (map states_of) c.requires ∙ maps (kind_machine c.args.instance.now.packages) states_of c.args.instance.now.kinds;
-  },
-  c.new.ensures,
-)
+invariant_of-result c =
+    let packages = c.args.instance.now.packages in (
+      record {
+        parts = c.in_ok-parts.ensures;
+        states = c.in_ok-states.ensures.states ∙ (λ i. map (states_of (c.requires.table i)) (c.requires.machines i)) ∙ maps (kind_machine packages) (states_of (table_of packages)) c.args.instance.now.kinds;
+      },
+      c.new.ensures,
+    )
