@@ -1,11 +1,13 @@
 -- The error model items of a classifier (EMV2: subclauses along `extends`).
 use Rattle.std.specs.Prelude.{ℕ, List, [], ◌∷◌, map, flat_map, fold, reverse, Option, Some, None, option_map, option_to_list, Result, Ok, Err}
+use Rattle.aadl_syntax.specs.declared.core_model.Binding.{Binding}
 use Rattle.aadl_syntax.specs.declared.core_model.PackageUnit.{PackageUnit}
 use Rattle.aadl_syntax.specs.declared.error_model.Emv2Clause.{Emv2Clause}
 use Rattle.aadl_syntax.specs.declared.error_model.PointItem.{PointItem}
 use Rattle.aadl_syntax.specs.declared.place.Ref.{Ref}
 use Rattle.plain_values.specs.declared.spot.Spot.{Spot}
 use Rattle.plain_values.specs.declared.refusal.Refusal.{Refusal}
+use Rattle.bindings.specs.Bindings.{bindings_in}
 use Rattle.package_index.specs.declared.id.ClassifierId.{ClassifierId}
 use Rattle.package_index.specs.Lookup.{decl_of}
 use Rattle.plain_values.specs.Numbered.{numbered_from}
@@ -70,6 +72,12 @@ machine_of clauses = fold (λ before machine. Some machine) None (numbered_from 
 -- the places of one sort in these clauses
 abbrev pub spots_of : (Emv2Clause → List Spot) → List Clause → List Spot
 spots_of spots clauses = flat_map (λ clause. spots clause.item) clauses
+
+-- ---- bindings
+
+-- The bindings of a chain, from the farthest classifier to the nearest, each in the order of its text.
+abbrev pub bindings_along : List Class → List Binding
+bindings_along classes = flat_map (λ class. flat_map bindings_in class.item.properties) classes
 
 -- ---- refusals
 

@@ -5,6 +5,7 @@ ghost use Rattle.component_extension.specs.Effective.{AreMembers, IsEffective};
 ghost use Rattle.component_extension.specs.Items.{classifier_refusals};
 ghost use Rattle.component_extension.specs.Members.{refusals_of, marks_along, member_refusals, members_along};
 
+use crate::bound::bindings_along;
 use crate::chain::chain_of;
 use crate::classifier::{Classifier, classifiers_of};
 use crate::declaration::PlainName;
@@ -16,7 +17,7 @@ use crate::limits::{Limited, note_all};
 use crate::member::Inherited;
 use crate::members::{declarations, members_of, note_unknown};
 use crate::names::{PlainNames, add_marks, note_duplicates};
-use aadl_syntax::{Connection, Feature, Ref, Subcomponent};
+use aadl_syntax::{Binding, Connection, Feature, Ref, Subcomponent};
 use package_index::{ClassifierId, Index};
 use plain_values::{Answer, FirstRefusal, List, Mem};
 use std::alloc::Global;
@@ -43,6 +44,8 @@ pub struct Effective<'a> {
     pub propagations: Propagations<'a>,
     pub behavior: Behavior<'a>,
     pub others: OtherItems<'a>,
+    /// From the farthest classifier to the nearest.
+    pub bindings: List<Binding>,
 }
 
 impl<'a> Effective<'a> {
@@ -57,6 +60,7 @@ impl<'a> Effective<'a> {
     {
         let chain = chain_of(alloc, index, id)?;
         let classifiers = classifiers_of(alloc, index, chain.items())?;
+        let bindings = bindings_along(alloc, classifiers.items())?;
         let members = effective_members(alloc, classifiers.items())?;
         let clauses = List::of(clauses_of(alloc, classifiers.items())?)?;
         let machine = machine_of(clauses.items());
@@ -71,6 +75,7 @@ impl<'a> Effective<'a> {
             propagations,
             behavior,
             others,
+            bindings,
         })
     }
 }

@@ -1,6 +1,7 @@
 //! What a classifier of a package has once its extensions are followed: its chain, its members and its error model items.
 #![tactic(auto)]
 
+mod bound;
 mod chain;
 mod classifier;
 mod declaration;
@@ -14,6 +15,7 @@ mod members;
 mod names;
 mod rows;
 
+pub use bound::bindings_along;
 pub use chain::chain_of;
 pub use classifier::{Classifier, classifiers_of};
 pub use declaration::Declaration;

@@ -44,6 +44,7 @@ module _ (packages : List PackageUnit) (id : ClassifierId) (made : Effective) (i
         propagations = all_propagations i;
         behavior = all_behavior i;
         others = all_others i;
+        bindings = is.bindings i;
       }
 
   pub effective-is : made ≡ effective_of packages id

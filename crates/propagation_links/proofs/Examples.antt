@@ -8,7 +8,10 @@ use Rattle.plain_values.specs.declared.refusal.Code.TheVariants.{ConnectionError
 use Rattle.plain_values.specs.declared.refusal.Place.TheVariants.{At}
 use Rattle.plain_values.specs.declared.refusal.Refusal.{Refusal}
 use Rattle.plain_values.specs.Refusal.{refusal}
+use Rattle.bindings.specs.Bindings.{binding, binding_end, binding_name, binding_word, dotted_name, path, reference, references, targets}
 use Rattle.component_extension.specs.Chain.{chain_from}
+use Rattle.grammar_rules.specs.Spans.{closes, is_even, opens}
+use Rattle.grammar_rules.specs.Tokens.{identifier, is_identifier, is_kind, is_sign, is_word, sign, word}
 use Rattle.propagation_points.specs.declared.side.Side.TheVariants.{Absent, Declared}
 use Rattle.propagation_points.specs.Points.{Point}
 use Rattle.instantiator.specs.Components.{preorder}
@@ -18,7 +21,7 @@ use Rattle.instantiator.proofs.Sample.{connection_of, end_at, id, spot, two_devi
 use Rattle.propagation_links.specs.declared.link.Link.{Link}
 use Rattle.propagation_links.specs.Links.{links_of}
 use Rattle.propagation_links.specs.Refused.{links_refusal}
-use Rattle.propagation_links.proofs.Sample.{clause_of, instance_with, link, path_of, point_of, points}
+use Rattle.propagation_links.proofs.Sample.{binding_section, bound_instance, bound_points, clause_of, instance_with, link, path_of, point_of, points}
 
 -- ---- two devices that are connected both ways
 
@@ -100,9 +103,9 @@ unfolding preorder effective_of chain_from
 both_unknown = refl
 
 -- a word is no fault where the names before it are those of a subcomponent
-word : refusal_with (connection Plain (codes "w" ∷ codes "bindings" ∷ []) false (codes "memory" ∷ [])) ≡ None
+a_word : refusal_with (connection Plain (codes "w" ∷ codes "bindings" ∷ []) false (codes "memory" ∷ [])) ≡ None
 unfolding preorder effective_of chain_from
-word = refl
+a_word = refl
 
 word_of_none : refusal_with (connection Plain (codes "z" ∷ codes "bindings" ∷ []) false (codes "memory" ∷ [])) ≡ Some (refusal UnknownEnd (At 0 20))
 unfolding preorder effective_of chain_from
@@ -116,7 +119,7 @@ three_names = refl
 -- ---- user paths
 
 abbrev path_links_with : UserPath → List Link
-path_links_with path = links_of (instance_with [] (clause_of (path ∷ []))) points
+path_links_with its = links_of (instance_with [] (clause_of (its ∷ []))) points
 
 -- a user's path goes down as far as its names, and up to a user's point
 deep : path_links_with (path_of 40 (codes "k") (codes "w" ∷ codes "d" ∷ codes "o" ∷ []) (codes "u" ∷ [])) ≡ link 3 1 true 0 2 true ∷ []
@@ -135,3 +138,26 @@ unknown_path = refl
 connection_error : links_refusal (instance_with [] (record (clause_of []) { connection_errors = spot 50 ∷ [] })) points ≡ Some (refusal ConnectionError (At 0 50))
 unfolding preorder effective_of chain_from
 connection_error = refl
+
+-- ---- bindings
+
+abbrev d : List (List ℕ)
+d = codes "d" ∷ []
+
+abbrev w_d : List (List ℕ)
+w_d = codes "w" ∷ codes "d" ∷ []
+
+-- a component and its processor, both ways
+inner_alone : links_of (bound_instance [] (binding_section d d ∷ [])) bound_points ≡ link 3 0 true 3 1 false ∷ link 3 1 true 3 0 false ∷ []
+unfolding preorder effective_of chain_from binding binding_name binding_word binding_end references reference path dotted_name targets word sign identifier is_word is_sign is_identifier is_even opens closes is_kind
+inner_alone = refl
+
+-- the outermost component that binds it counts
+outer_counts : links_of (bound_instance (binding_section d w_d ∷ []) (binding_section d d ∷ [])) bound_points ≡ link 1 0 true 3 1 false ∷ link 3 1 true 1 0 false ∷ []
+unfolding preorder effective_of chain_from binding binding_name binding_word binding_end references reference path dotted_name targets word sign identifier is_word is_sign is_identifier is_even opens closes is_kind
+outer_counts = refl
+
+-- and there the last, also where it leads nowhere
+last_counts : links_of (bound_instance (binding_section d w_d ∷ binding_section (codes "z" ∷ []) w_d ∷ []) (binding_section d d ∷ [])) bound_points ≡ []
+unfolding preorder effective_of chain_from binding binding_name binding_word binding_end references reference path dotted_name targets word sign identifier is_word is_sign is_identifier is_even opens closes is_kind
+last_counts = refl

@@ -1,5 +1,7 @@
 pub mod EndLaws
 pub mod LinkLaws
 pub mod JoinLaws
+pub mod FittingLaws
+pub mod BoundLaws
 pub mod Sample
 pub mod Examples

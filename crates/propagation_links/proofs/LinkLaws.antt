@@ -1,5 +1,5 @@
 -- Links and refusals, component after component.
-use Rattle.std.proofs.Common.{ℕ, ◌+◌, ◌≡◌, ◌<◌, ◌≤◌, List, [], ◌∷◌, ◌++◌, length, get_or, slice_get, sum, take, drop, Option, Some, None, Result, Ok, Err, IfErr, MatchResult, option_map, option_to_list, refl, sym, ap, ◌∙◌, subst}
+use Rattle.std.proofs.Common.{ℕ, ◌+◌, ◌≡◌, ◌<◌, ◌≤◌, List, [], ◌∷◌, ◌++◌, length, get_or, slice_get, sum, take, drop, flat_map, Option, Some, None, option_map, option_to_list, refl, sym, ap, ◌∙◌, subst}
 use Rattle.std.specs.Option.{option_or}
 use Rattle.std.proofs.lemmas.List.Sums.{sum_by_push}
 use Rattle.std.proofs.lemmas.List.{append_assoc, append-nil, get_or_default, take-append-drop, take_all}
@@ -16,9 +16,11 @@ use Rattle.instantiator.specs.declared.path.Component.{Component}
 use Rattle.instantiator.specs.Effectives.{effective_at, effective_of, no_effective}
 use Rattle.plain_values.specs.Stops.{StopsAt}
 use Rattle.instantiator.specs.Whole.{classifier_at, effective_in}
+use Rattle.propagation_links.specs.declared.bound.BoundTo.{BoundTo}
 use Rattle.propagation_links.specs.declared.link.Link.{Link}
+use Rattle.propagation_links.specs.Bound.{all_bounds}
 use Rattle.propagation_links.specs.Ends.{Pointed}
-use Rattle.propagation_links.specs.Links.{component_links, links_in}
+use Rattle.propagation_links.specs.Links.{all_links, bound_links, component_links, connected, links_in}
 use Rattle.propagation_links.specs.Refused.{component_fault, refusals_in, first_fault, limit_refusal}
 use Rattle.propagation_links.specs.Steps.{Linked}
 
@@ -104,7 +106,13 @@ module _ (pointed made : Pointed) (same : made ≡ pointed) where
   within-limit none = ap first_fault same ∙ ap (λ o. option_or o (first_fault pointed)) (sym (ap limit_refusal (sym same) ∙ none))
 
   -- and else that of the components
-  pub components-stop : (P : List Link → Type 0) (result : Result (List Link) Stop) → limit_refusal made ≡ None → MatchResult result P (StopsAt (first_fault made)) → IfErr result (StopsAt (option_or (limit_refusal pointed) (first_fault pointed)))
-  components-stop P (Ok links) none is = tt
-  components-stop P (Err Memory) none is = tt
-  components-stop P (Err (Refused refusal)) none is = sym (within-limit none) ∙ is
+  pub component-stops : (stop : Stop) → limit_refusal made ≡ None → StopsAt (first_fault made) stop → StopsAt (option_or (limit_refusal pointed) (first_fault pointed)) stop
+  component-stops Memory none is = tt
+  component-stops (Refused refusal) none is = sym (within-limit none) ∙ is
+
+  pub all-accepted : limit_refusal made ≡ None → first_fault made ≡ None → option_or (limit_refusal pointed) (first_fault pointed) ≡ None
+  all-accepted none nothing = sym (within-limit none) ∙ nothing
+
+  -- the links of connections and paths, and those of bindings behind them
+  pub all-linked : (links after : List Link) (bounds : List BoundTo) → links ≡ connected made → bounds ≡ all_bounds pointed.instance → after ≡ links ++ flat_map (bound_links made) bounds → after ≡ all_links pointed
+  all-linked links after bounds are is more = let first : links ≡ connected pointed = are ∙ ap connected same in more ∙ (λ i. first i ++ flat_map (bound_links (same i)) (is i))

@@ -1,4 +1,7 @@
+pub mod Bound
 pub mod Ends
 pub mod Links
 pub mod Refused
+pub mod Stated
 pub mod Steps
+pub mod Tables

@@ -1,6 +1,6 @@
 -- The links of an instance: from which side of which point errors propagate to which (EMV2: propagation along connections
 -- and paths).
-use Rattle.std.specs.Prelude.{ℕ, Bool, false, cond, ◌&&◌, ◌||◌, not, List, [], ◌∷◌, ◌++◌, flat_map, codes, Option, Some, None, option_and_then, IsTrue}
+use Rattle.std.specs.Prelude.{ℕ, Bool, true, false, cond, ◌&&◌, ◌||◌, not, List, [], ◌∷◌, ◌++◌, flat_map, codes, Option, Some, None, option_and_then, IsTrue}
 use Rattle.std.specs.List.{AllByRecursion}
 use Rattle.plain_values.specs.Name.{is_same_text}
 use Rattle.aadl_syntax.specs.declared.core_model.Connection.{Connection}
@@ -10,13 +10,17 @@ use Rattle.plain_values.specs.Numbered.{numbered_from}
 use Rattle.component_extension.specs.declared.effective.Effective.{Effective}
 use Rattle.component_extension.specs.Items.{Scoped}
 use Rattle.component_extension.specs.Members.{Member}
+use Rattle.instantiator.specs.Components.{component_below}
 use Rattle.instantiator.specs.declared.path.Component.{Component}
 use Rattle.propagation_points.specs.Points.{Point}
 use Rattle.instantiator.specs.Whole.{Instance, effective_in}
+use Rattle.propagation_links.specs.declared.bound.BoundTo.{BoundTo}
 use Rattle.propagation_links.specs.declared.link.Link.{Link}
 use Rattle.propagation_links.specs.declared.link.PointAt.{PointAt}
 use Rattle.propagation_links.specs.declared.ends.FoundEnd.{FoundEnd}
-use Rattle.propagation_links.specs.Ends.{Pointed, connection_end, is_access, is_there, path_end}
+use Rattle.propagation_links.specs.Bound.{all_bounds}
+use Rattle.propagation_links.specs.Ends.{Pointed, connection_end, is_access, is_there, path_end, point_of}
+use Rattle.propagation_links.specs.Stated.{Stated}
 
 -- ---- one link
 
@@ -76,7 +80,7 @@ connection_links pointed number member = links_at_ends pointed number (is_access
 abbrev pub path_links : Pointed → ℕ → Scoped UserPath → List Link
 path_links pointed number scoped = link_of pointed (path_end pointed number scoped.item.from.names) (path_end pointed number scoped.item.to.names)
 
--- ---- all links
+-- ---- connections and paths of all components
 
 -- the links of the component of a number with this effective classifier: those of its connections, and then of its paths
 abbrev pub links_in : Pointed → ℕ → Effective → List Link
@@ -87,9 +91,39 @@ links_in pointed number effective =
 abbrev pub component_links : Pointed → ℕ → Component → List Link
 component_links pointed number component = links_in pointed number (effective_in pointed.instance number)
 
--- the links of all components, one after the other
+-- the links of the connections and paths of all components, one component after the other
+abbrev pub connected : Pointed → List Link
+connected pointed = numbered_from (component_links pointed) 0 pointed.instance.components
+
+-- ---- bindings
+
+-- the point of a component that is bound: errors of what it is bound to come in there
+abbrev pub bound_word : Bool → List ℕ
+bound_word true = codes "memory"
+bound_word false = codes "processor"
+
+-- The links of the component of a number and one to which it is bound, if there is one: from the point `bindings` of that to its own
+-- point of the word, and then the other way.
+abbrev pub target_links : Pointed → Bool → ℕ → Option ℕ → List Link
+target_links pointed memory number None = []
+target_links pointed memory number (Some target) = links_both pointed true (point_of pointed false target (codes "bindings")) (point_of pointed false number (bound_word memory))
+
+-- The links of the component of a number by the binding that counts for it, if there is one: those of each reference in order, which is
+-- a path from the component that states the binding. A path that leads nowhere gives none.
+abbrev pub stated_links : Pointed → Bool → ℕ → Option Stated → List Link
+stated_links pointed memory number None = []
+stated_links pointed memory number (Some stated) =
+    flat_map (λ reference. target_links pointed memory number (component_below pointed.instance.components stated.component reference)) stated.binding.references
+
+-- the links of a component by its bindings, first that to a processor and then that to a memory
+abbrev pub bound_links : Pointed → BoundTo → List Link
+bound_links pointed bound = stated_links pointed false bound.component bound.processor ++ stated_links pointed true bound.component bound.memory
+
+-- ---- all links of an instance
+
+-- The links of the connections and paths of all components, and behind them those of their bindings.
 abbrev pub all_links : Pointed → List Link
-all_links pointed = numbered_from (component_links pointed) 0 pointed.instance.components
+all_links pointed = connected pointed ++ flat_map (bound_links pointed) (all_bounds pointed.instance)
 
 -- The links of an instance with these points, a list for each of its kinds.
 abbrev pub links_of : Instance → List (List Point) → List Link

@@ -1,5 +1,5 @@
 -- What is refused of the links of an instance.
-use Rattle.std.specs.Prelude.{ℕ, ◌+◌, Bool, true, false, cond, ◌&&◌, ◌||◌, not, nat_le, is_some, List, [], ◌∷◌, ◌++◌, length, sum, flat_map, slice_get, Option, Some, None, option_to_list}
+use Rattle.std.specs.Prelude.{ℕ, ◌+◌, Bool, true, false, cond, ◌&&◌, ◌||◌, not, nat_le, is_some, List, [], ◌∷◌, ◌++◌, length, map, sum, flat_map, slice_get, Option, Some, None, option_to_list}
 use Rattle.std.specs.Option.{option_map_or, option_or}
 use Rattle.aadl_syntax.specs.declared.core_model.Connection.{Connection}
 use Rattle.aadl_syntax.specs.declared.core_model.Ends.{Ends}
@@ -20,8 +20,11 @@ use Rattle.instantiator.specs.declared.path.Component.{Component}
 use Rattle.instantiator.specs.Components.{component_below}
 use Rattle.plain_values.specs.Refusal.{over_limit}
 use Rattle.instantiator.specs.Whole.{Instance, effective_in}
+use Rattle.propagation_links.specs.declared.bound.BoundTo.{BoundTo}
+use Rattle.propagation_links.specs.Bound.{all_bounds}
 use Rattle.propagation_links.specs.Ends.{Pointed, is_access, is_called_as_word, is_point_word, is_subcomponent, points_at}
 use Rattle.propagation_links.specs.Links.{ends_of, is_apart}
+use Rattle.propagation_links.specs.Stated.{Stated}
 
 -- ---- ends
 
@@ -87,13 +90,26 @@ count_in effective = length effective.members.connections + length effective.pro
 abbrev pub count_links : Pointed → ℕ
 count_links pointed = sum (numbered_from (λ number component. count_in (effective_in pointed.instance number) ∷ []) 0 pointed.instance.components)
 
+-- how many references the binding has that counts, if there is one
+abbrev pub count_stated : Option Stated → ℕ
+count_stated None = 0
+count_stated (Some stated) = length stated.binding.references
+
+-- how many references the bindings of a component have that count, also those that lead nowhere
+abbrev pub count_bound : BoundTo → ℕ
+count_bound bound = count_stated bound.processor + count_stated bound.memory
+
+-- how many connections and user paths all components have, and references of the bindings that count
+abbrev pub count_all : Pointed → ℕ
+count_all pointed = count_links pointed + sum (map count_bound (all_bounds pointed.instance))
+
 -- the refusal of the first component that has one
 abbrev pub first_fault : Pointed → Option Refusal
 first_fault pointed = slice_get (numbered_from (component_fault pointed) 0 pointed.instance.components) 0
 
--- M14 where there are more than 1,048,576 connections and user paths
+-- M14 where there are more than 1,048,576 connections, user paths and references of bindings
 abbrev pub limit_refusal : Pointed → Option Refusal
-limit_refusal pointed = over_limit (nat_le 1048577 (count_links pointed)) TooManyLinks Words
+limit_refusal pointed = over_limit (nat_le 1048577 (count_all pointed)) TooManyLinks Words
 
 -- The refusal of the links of an instance with these points: M14, and else that of the first component that has one.
 abbrev pub links_refusal : Instance → List (List Point) → Option Refusal

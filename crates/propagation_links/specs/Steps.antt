@@ -4,7 +4,7 @@ use Rattle.plain_values.specs.Order.{least}
 use Rattle.component_extension.specs.declared.effective.Effective.{Effective}
 use Rattle.propagation_links.specs.declared.link.Link.{Link}
 use Rattle.propagation_links.specs.Ends.{Pointed}
-use Rattle.propagation_links.specs.Links.{all_links, links_in}
+use Rattle.propagation_links.specs.Links.{connected, links_in}
 use Rattle.propagation_links.specs.Refused.{refusals_in, first_fault}
 
 -- The links of a component are added, of which nothing is refused.
@@ -12,7 +12,7 @@ pub record Linked (pointed : Pointed) (number : ℕ) (effective : Effective) (be
   pub links : after ≡ before ++ links_in pointed number effective
   pub accepted : least (refusals_in pointed number effective) ≡ None
 
--- These are all links, and nothing is refused.
+-- These are the links of all connections and paths, of which nothing is refused.
 pub record AllLinked (pointed : Pointed) (links : List Link) : Type 0 where
-  pub are : links ≡ all_links pointed
+  pub are : links ≡ connected pointed
   pub accepted : first_fault pointed ≡ None

@@ -1,11 +1,14 @@
-ghost use Rattle.std.specs.Prelude.{◌≡◌, ◌<◌, ◌^◌, None, Some, IfOk, IfErr, OnOk, MatchResult, map};
+ghost use Rattle.std.specs.Prelude.{◌≡◌, ◌<◌, ◌≤◌, ◌^◌, length, None, Some, IfOk, IfErr, OnOk, MatchResult, map};
 ghost use Rattle.plain_values.specs.Stops.{StopsAt};
+ghost use Rattle.propagation_links.specs.Bound.{all_bounds};
 ghost use Rattle.propagation_links.specs.Links.{links_of};
 ghost use Rattle.propagation_links.specs.Refused.{count_in, count_links, refusals_in, first_fault, limit_refusal, links_refusal};
 ghost use Rattle.propagation_links.specs.Steps.{Linked, AllLinked};
 ghost use Rattle.instantiator.specs.Whole.{effective_in};
 ghost use Rattle.plain_values.specs.Order.{least};
 
+use crate::bound::{BoundTo, bounds_of};
+use crate::bound_links::{add_all_bound, count_references};
 use crate::counted::count_in;
 use crate::link::Link;
 use crate::links::add_links;
@@ -24,9 +27,14 @@ use std::alloc::Global;
 /// from-end is the outward side of its point, or the inward side where the point is the component's own; a to-end is the
 /// other. A link of which a side is not there is left out.
 ///
-/// M14 where all components have more than 1,048,576 connections and user paths. Else the first component decides of which
-/// anything is refused, and of that the first by place: N14 at an end that means nothing, P3 at an end of a connection
-/// with three names or more, P9 at each block of connection errors.
+/// Behind these stand the links of bindings. For each component in order, first for its processor and then for its memory, the
+/// outermost component on the way to it counts that has a binding of that kind with it as a target, and there the last such
+/// binding. Each of its references in order that leads to a component gives the link from the point `bindings` of that to
+/// the point `processor` or `memory` of the bound one, and then the one from there to `bindings`.
+///
+/// M14 where all components have more than 1,048,576 connections, user paths and references of bindings that count. Else the
+/// first component decides of which anything is refused, and of that the first by place: N14 at an end that means nothing, P3
+/// at an end of a connection with three names or more, P9 at each block of connection errors.
 pub fn links_of<'a>(
     alloc: Global,
     instance: &Instance<'_, 'a>,
@@ -37,11 +45,15 @@ pub fn links_of<'a>(
     ensures refused { IfErr result (StopsAt (links_refusal instance.now (map (λ points. points.now) points.now))) }
 {
     let pointed = Pointed::new(instance, points);
-    within_limit(&pointed)?;
-    all_links(alloc, &pointed)
+    let bounds = bounds_of(alloc, instance)?;
+    within_limit(&pointed, bounds.items())?;
+    let mut links = connected(alloc, &pointed)?;
+    add_all_bound(&mut links, &pointed, bounds.items())?;
+    Ok(links)
 }
 
-fn all_links(alloc: Global, pointed: &Pointed) -> Answer<List<Link>>
+/// The links of the connections and paths of all components.
+fn connected(alloc: Global, pointed: &Pointed) -> Answer<List<Link>>
     ensures { MatchResult result (AllLinked pointed.now) (StopsAt (first_fault pointed.now)) }
 {
     let mut links = List::new(alloc);
@@ -76,20 +88,20 @@ fn add_effective<'a>(
     Ok(())
 }
 
-/// Refuses where all components have too many connections and user paths.
-fn within_limit(pointed: &Pointed) -> Result<(), Refusal>
+/// Refuses where all components have too many connections, user paths and references of these bindings.
+fn within_limit(pointed: &Pointed, bounds: &[BoundTo]) -> Result<(), Refusal>
+    requires bounds { bounds.now ≡ all_bounds pointed.now.instance }
+    requires few { length bounds.now ≤ 4096 }
     ensures { MatchResult result (λ _. limit_refusal pointed.now ≡ None) (λ refusal. limit_refusal pointed.now ≡ Some refusal) }
 {
-    Refusal::over_limit(
-        count_links(pointed) > 1_048_576,
-        Code::TooManyLinks,
-        Place::Words,
-    )
+    let count = count_links(pointed) + count_references(bounds);
+    Refusal::over_limit(count > 1_048_576, Code::TooManyLinks, Place::Words)
 }
 
 /// How many connections and user paths all components have.
 fn count_links(pointed: &Pointed) -> usize
-    ensures { result ≡ count_links pointed.now }
+    ensures count { result ≡ count_links pointed.now }
+    ensures few { result < 2 ^ 46 }
 {
     let mut count = 0;
     for number in 0..pointed.instance().components().len() {

@@ -87,7 +87,8 @@ impl<'s, 'i, 'a> Pointed<'s, 'i, 'a> {
         self.point_of(false, component, b"access")
     }
 
-    fn point_of(&self, own: bool, component: u32, name: &[u8]) -> Option<FoundEnd>
+    /// The point of a name of a component, as an end.
+    pub(crate) fn point_of(&self, own: bool, component: u32, name: &[u8]) -> Option<FoundEnd>
         ensures { result ≡ point_of self.now own component name.now }
     {
         let point = self.place(component, name)?;

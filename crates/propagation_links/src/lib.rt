@@ -2,8 +2,11 @@
 #![tactic(auto)]
 
 mod all;
+mod bound;
+mod bound_links;
 mod counted;
 mod ends;
+mod fitting;
 mod laws;
 mod link;
 mod links;

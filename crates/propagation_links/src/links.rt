@@ -109,7 +109,7 @@ fn begins_apart(names: &[Identifier]) -> bool
 }
 
 /// Adds the link in the written direction, and then the other where it goes both ways.
-fn add_both(
+pub(crate) fn add_both(
     links: &mut List<Link>,
     pointed: &Pointed,
     both: bool,

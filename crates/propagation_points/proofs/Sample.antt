@@ -87,6 +87,7 @@ effective_in classes = record {
   };
   behavior = record { events = []; transitions = []; outgoing = []; composites = [] };
   others = record { associations = []; mappings = []; connection_errors = [] };
+  bindings = [];
 }
 
 abbrev pub effective_of : Decl → Effective

@@ -5,7 +5,7 @@ use Rattle.plain_values.specs.Numbered.{numbered_from}
 use Rattle.instantiator.specs.Whole.{Instance}
 use Rattle.propagation_links.specs.Links.{component_links}
 use Rattle.propagation_links.proofs.LinkLaws.{accepted-all, accepted-more, links-more, stops-at}
-use Rattle.propagation_links.proofs.all.all_links.Goals as goal
+use Rattle.propagation_links.proofs.all.connected.Goals as goal
 
 pub returns-in_err-add_component : goal.returns-in_err-add_component
 returns-in_err-add_component c =

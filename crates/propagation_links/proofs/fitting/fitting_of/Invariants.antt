@@ -1,0 +1,8 @@
+use Rattle.std.proofs.Common.{take}
+use Rattle.std.specs.HashMap.{get}
+use Rattle.package_index.specs.Tables.{same_words}
+use Rattle.propagation_links.specs.Tables.{KnowsBindings}
+use Rattle.propagation_links.proofs.fitting.fitting_of.Given as goal
+
+abbrev pub invariant-loop-binding : goal.invariant-loop-binding
+invariant-loop-binding l = KnowsBindings l.memory (take l.binding-index l.list) (get same_words l.fitting)

@@ -1,0 +1,9 @@
+use Rattle.std.specs.HashMap.{get}
+use Rattle.package_index.specs.Tables.{same_words}
+use Rattle.package_index.specs.declared.words.Words.TheVariants.{Identifiers}
+use Rattle.propagation_links.proofs.FittingLaws.{puts}
+use Rattle.propagation_links.proofs.fitting.put.Goals as goal
+
+pub returns : goal.returns
+returns c =
+    puts (get same_words c.args.fitting.now) (get same_words c.insert.new.self) (Identifiers c.args.target) c.args.binding (λ words. c.in_ok-insert.ensures.updates.0 words)
