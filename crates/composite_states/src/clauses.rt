@@ -1,5 +1,7 @@
 ghost use Rattle.std.specs.Prelude.{◌≡◌, ◌&&◌, ◌++◌, IfOk, OnOk, is_none, option_map, option_to_list};
 ghost use Rattle.plain_values.specs.Order.{least, nearer};
+ghost use Rattle.plain_values.specs.declared.refusal.Code.TheVariants.{Others};
+ghost use Rattle.plain_values.specs.Refusal.{refused_so};
 ghost use Rattle.propagation_points.specs.States.{held_numbers};
 ghost use Rattle.composite_states.specs.Composites.{clause_refusals, clause_of, clauses_in, clauses_of, composite_clause_refusals, condition_of, refusals_in, is_not_initial, perhaps_refusals};
 
@@ -16,9 +18,9 @@ use std::alloc::Global;
 
 /// The composite clauses of a component with these points and states, in order, over the states of the components below.
 ///
-/// Their refusals are noted: N13 at a name that leads to no component below, N11 at a state that is none, P10 at each set behind
-/// a state, N9 at a point that is none, N10 at a set with a type that is not declared for its side, P5 at each `orless`, P6 at
-/// each `noerror` in a condition, and P7 at each clause of `others` to a state that is not initial.
+/// Their refusals are noted: N13 at a name that leads to no component below, N11 at a state that is none, N9 at a point that is
+/// none, N10 at a set with a type that is not declared for its side or its state, P5 at each `orless`, P6 at each `noerror` in a
+/// condition, and P7 at each clause of `others` to a state that is not initial.
 pub fn clauses_of<'a, B: StatesBelow<'a>>(
     alloc: Global,
     effective: &Effective<'a>,
@@ -79,7 +81,6 @@ fn clauses_in<'s, 'a, B: StatesBelow<'a>>(
 }
 
 /// Adds the meaning of a clause, if it has one. Its refusals are noted.
-#[tactic(auto, using(plain_values::proofs::Noting::noted_more))]
 fn add_clause<'a, B: StatesBelow<'a>>(
     alloc: Global,
     clauses: &mut List<ClauseMeaning>,
@@ -96,9 +97,21 @@ fn add_clause<'a, B: StatesBelow<'a>>(
     let condition = condition_of(alloc, types, place, &composite.condition, first)?;
     let held = place.setting.refer(alloc, types, &composite.target, first)?;
     let target = place.setting.place(&composite.target);
+    note_others(first, initial, target, composite);
+    add_meaning(alloc, clauses, held, condition)
+}
+
+/// Notes P7 at a clause of `others` to this state, where it is not initial.
+fn note_others(
+    first: &mut FirstRefusal,
+    initial: &[bool],
+    target: Option<u32>,
+    composite: &Composite,
+)
+    ensures { first.new ≡ nearer first.old (least (refused_so (is_none composite.now.condition && is_not_initial initial.now target) Others composite.now.spot)) }
+{
     let is_wrong = composite.condition.is_none() && is_not_initial(initial, target);
     first.note_if(is_wrong, Code::Others, composite.spot);
-    add_meaning(alloc, clauses, held, condition)
 }
 
 fn add_meaning(
