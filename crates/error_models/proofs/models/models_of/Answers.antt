@@ -66,7 +66,7 @@ returns-in_err-model-clause-refused c =
     let stop = c.in_err-model.field-0.0 in
     let tested =
     refusal table c.loop-number.types c.args.instance.now.packages ids c.kinds-kind-items.result.now c.args.machines.now c.in_ok-tree.tree i one c.index-machines-number.result within all c.requires.machines (ap (λ (types : Table). types.packages) c.requires.table) c.loop-number.invariant.kept
-    c.in_ok-tree.ensures c.kind-item.is c.index-machines-number.is in
+    c.in_ok-tree.ensures.tree c.kind-item.is c.index-machines-number.is in
     let inside : i < length ids = subst (λ n. i < n) (ap length all ∙ length-map ids (kind_of c.args.instance.now.packages)) within in
     let number = get_or ids i one.classifier in
     let p = err_from_is_err_and c.from_residual-in_err-model.result c.from_residual-in_err-model.ensures.1 in
@@ -84,10 +84,10 @@ loop-number-preserved c =
     let all = c.kinds-kind-items.ensures.kinds in
     let kept : c.loop-number.types ≡ table = c.loop-number.invariant.kept in
     let tested =
-    refusal table c.loop-number.types packages ids c.kinds-kind-items.result.now c.args.machines.now c.in_ok-tree.tree i one c.index-machines-number.result within all c.requires.machines (ap (λ (types : Table). types.packages) c.requires.table) kept c.in_ok-tree.ensures c.kind-item.is
+    refusal table c.loop-number.types packages ids c.kinds-kind-items.result.now c.args.machines.now c.in_ok-tree.tree i one c.index-machines-number.result within all c.requires.machines (ap (λ (types : Table). types.packages) c.requires.table) kept c.in_ok-tree.ensures.tree c.kind-item.is
     c.index-machines-number.is in
     let made =
-    model table c.loop-number.types packages ids c.kinds-kind-items.result.now c.args.machines.now c.in_ok-tree.tree i one c.index-machines-number.result within all c.requires.machines (ap (λ (types : Table). types.packages) c.requires.table) kept c.in_ok-tree.ensures c.kind-item.is
+    model table c.loop-number.types packages ids c.kinds-kind-items.result.now c.args.machines.now c.in_ok-tree.tree i one c.index-machines-number.result within all c.requires.machines (ap (λ (types : Table). types.packages) c.requires.table) kept c.in_ok-tree.ensures.tree c.kind-item.is
     c.index-machines-number.is in
     let inside : i < length ids = subst (λ n. i < n) (ap length all ∙ length-map ids (kind_of packages)) within in
     let number = get_or ids i one.classifier in
