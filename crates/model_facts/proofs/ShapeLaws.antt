@@ -160,8 +160,8 @@ module _ (count : ℕ) where
   -- the variants of two of different names
   between-sorts : (a b : Sort) → SortsDiffer a b → AllByRecursion (λ v. AllByRecursion (VariantsDiffer count v) (variants_of b)) (variants_of a)
   between-sorts a b apart =
-      let here = λ (type : Option ℕ). record { name = a.name; type = type } in
-      let there = λ (type : Option ℕ). record { name = b.name; type = type } in
+      let here : Option ℕ → Variant = λ type. record { name = a.name; type = type } in
+      let there : Option ℕ → Variant = λ type. record { name = b.name; type = type } in
       each-map (λ v. AllByRecursion (VariantsDiffer count v) (variants_of b)) here (variant_types a.types)
       (each-all (λ type. AllByRecursion (VariantsDiffer count (here type)) (variants_of b))
       (λ type. each-map (VariantsDiffer count (here type)) there (variant_types b.types) (each-all (λ other. VariantsDiffer count (here type) (there other)) (λ other. inl apart) (variant_types b.types)))

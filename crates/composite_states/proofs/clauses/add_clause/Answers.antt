@@ -19,8 +19,8 @@ returns-clause-first g c =
     let setting : c.place.inside.setting ≡ place.setting = ap (λ p. p.setting) c.place.view_is in
     let same : c.condition_of.new.types ≡ table = c.in_ok-condition.ensures.kept in
     let noted = noted-three c.args.first.now c.condition_of.new.first c.refer.new.first (perhaps_refusals below place.setting table composite.condition) (state_refusals_in table place.setting composite.target)
-        c.in_ok-condition.ensures.first
-        (c.in_ok-held.ensures.first ∙ (λ i. nearer c.condition_of.new.first (least (state_refusals_in (same i) (setting i) composite.target))))
-        c.note_others.new.first (others_refusals place.setting.states initial composite)
-        (c.note_others.ensures ∙ ap (λ target. nearer c.refer.new.first (least (refused_so (is_none composite.condition && is_not_initial initial target) Others composite.spot))) (c.place-target.ensures ∙ ap (λ each. place_of_sort each.states composite.target.name) setting)) in
+    c.in_ok-condition.ensures.first
+    (c.in_ok-held.ensures.first ∙ (λ i. nearer c.condition_of.new.first (least (state_refusals_in (same i) (setting i) composite.target))))
+    c.note_others.new.first (others_refusals place.setting.states initial composite)
+    (c.note_others.ensures ∙ ap (λ target. nearer c.refer.new.first (least (refused_so (is_none composite.condition && is_not_initial initial target) Others composite.spot))) (c.place-target.ensures ∙ ap (λ each. place_of_sort each.states composite.target.name) setting)) in
     on_ok_weaker _ (λ _. noted) c.add_meaning.ensures

@@ -24,11 +24,11 @@ returns-clause-emission c =
     let used = point_use outgoing.point true outgoing.set in
     ap option_to_list (c.emission_from.ensures
     ∙ ap (λ trigger. option_and_then (emission trigger c.in_ok-reached.reached) origin)
-        (c.in_ok-trigger.ensures.trigger ∙ ap (λ types. trigger_of place types outgoing.condition) same)
+    (c.in_ok-trigger.ensures.trigger ∙ ap (λ types. trigger_of place types outgoing.condition) same)
     ∙ ap (λ reached. option_and_then (emission meant reached) origin)
-        (c.in_ok-reached.ensures.reached ∙ (λ i. reached_in (still i) (setting i) (c.new-used.ensures i)))
+    (c.in_ok-reached.ensures.reached ∙ (λ i. reached_in (still i) (setting i) (c.new-used.ensures i)))
     ∙ ap (option_and_then (emission meant (reached_in table place.setting used)))
-        (c.in_ok-origin.ensures.origin ∙ ap (λ each. origin_of table each outgoing.source.state) setting))
+    (c.in_ok-origin.ensures.origin ∙ ap (λ each. origin_of table each outgoing.source.state) setting))
 
 pub returns-clause-first : goal.returns-clause-first
 returns-clause-first c =

@@ -23,11 +23,11 @@ returns-clause-step c =
     let meant = cause_of (trigger_meaning place table) transition.condition in
     ap option_to_list (c.step_from.ensures
     ∙ ap (λ trigger. option_map (step trigger c.in_ok-targets.targets) origin)
-        (c.in_ok-trigger.ensures.cause ∙ ap (λ types. cause_of (trigger_meaning place types) transition.condition) same)
+    (c.in_ok-trigger.ensures.cause ∙ ap (λ types. cause_of (trigger_meaning place types) transition.condition) same)
     ∙ ap (λ targets. option_map (step meant targets) origin)
-        (c.in_ok-targets.ensures.targets ∙ (λ i. targets_of (still i) (setting i) (c.items.ensures.items i)))
+    (c.in_ok-targets.ensures.targets ∙ (λ i. targets_of (still i) (setting i) (c.items.ensures.items i)))
     ∙ ap (option_map (step_from place table transition))
-        (c.in_ok-origin.ensures.origin ∙ ap (λ each. origin_of table each transition.source.state) setting))
+    (c.in_ok-origin.ensures.origin ∙ ap (λ each. origin_of table each transition.source.state) setting))
 
 pub returns-clause-first : goal.returns-clause-first
 returns-clause-first c =
