@@ -17,8 +17,8 @@ use std::alloc::Global;
 /// The meanings of the flows of a component, in order, sinks left out.
 ///
 /// The refusals of its flows are noted: N9 at a point that the component does not have, or not on the side that is used,
-/// N10 at a set with a type that is not declared for its side, N11 at a state that the component does not have, P10 at a
-/// set behind a state, and P11 at each use of mappings, by a path or by a clause.
+/// N10 at a set with a type that is not declared for its side or its state, N11 at a state that the component does not have,
+/// and P11 at each use of mappings, by a path or by a clause.
 pub fn flows_of<'a>(
     alloc: Global,
     effective: &Effective<'a>,

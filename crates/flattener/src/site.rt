@@ -1,7 +1,8 @@
 ghost use Rattle.std.specs.Prelude.{◌≡◌, ◌++◌, ◌∷◌, [], IfOk, OnOk, filter, map};
 ghost use Rattle.error_types.specs.Search.{is_number_in};
 ghost use Rattle.propagation_points.specs.Uses.{covers, side_types};
-ghost use Rattle.flattener.specs.Formulas.{below_in_state, is_reached, origin_formula};
+ghost use Rattle.model_facts.specs.declared.keys.FactKind.TheVariants.{State};
+ghost use Rattle.flattener.specs.Formulas.{below_in_state, held_formula, is_reached, origin_formula};
 ghost use Rattle.flattener.specs.Numbered.{entering, inward_types, own_event, own_fact, some_entering};
 
 use crate::kind::Kind;

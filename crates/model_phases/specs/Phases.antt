@@ -17,7 +17,7 @@ use Rattle.model_phases.specs.Named.{IsPlainModel}
 use Rattle.model_phases.specs.Tests.{IsIt}
 
 -- what is tested of the error models of kinds of components: the written sets that they use (N2, N7, N8, P4), and then each
--- error model (N9 to N13, P3, P5 to P8, P10 to P12)
+-- error model (N9 to N13, P3, P5 to P8, P11, P12)
 abbrev pub content_tests : Table → List ClassifierId → Phase (Unit {0})
 content_tests types kinds = do
   _ ← tests (Contains (all_set_refusals types kinds))

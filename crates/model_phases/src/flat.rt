@@ -40,7 +40,7 @@ pub struct FlatModel {
 ///
 /// It is tested phase by phase, and the first that refuses decides: its components (M4, M5, N2 to N6, P1 to P3), their machines
 /// (N2, N15), the error types (M8), the written sets that are used (N2, N7, N8, P4), the error models (N9 to N13, P3, P5
-/// to P8, P10 to P12), the links (M14, N14, P3, P9), and the size (M6, M7, M9). Rates are not tested: a value that is none gives the
+/// to P8, P11, P12), the links (M14, N14, P3, P9), and the size (M6, M7, M9). Rates are not tested: a value that is none gives the
 /// conservative rate.
 pub fn flat_model(alloc: Global, index: &Index, root: ClassifierId) -> Result<FlatModel, Status>
     ensures { Meets (flat_model index.now root) result }
