@@ -20,6 +20,13 @@ capped-over n over = sym (ap (λ b. cond b (most_places + 1) n) (lt-ltb most_pla
 pub capped-within : (n : ℕ) → n ≤ most_places → n ≡ capped n
 capped-within n within = sym (ap (λ b. cond b (most_places + 1) n) (le-ltb most_places n within))
 
+-- a count that was made
+pub count_over : (a n : ℕ) → a ≡ n → most_places < a → most_places + 1 ≡ capped n
+count_over a n is over = capped-over n (omega (arith, is, over))
+
+pub count_within : (a n : ℕ) → a ≡ n → a ≤ most_places → a ≡ capped n
+count_within a n is within = is ∙ capped-within n (omega (arith, is, within))
+
 pub plus_over : (a b m n : ℕ) → a ≡ capped m → b ≡ capped n → most_places < a + b → most_places + 1 ≡ capped (m + n)
 plus_over a b m n e f over =
     elim (capped_cases m) [

@@ -48,10 +48,14 @@ cause_step site (cause.AtLeast least parts) = AtLeast least parts
 abbrev pub cause_formula : Site → Cause → Formula
 cause_formula site = fold-Cause Formula (cause_step site)
 
+-- that a component is in the variant of a number
+abbrev pub in_variant : Site → ℕ → Formula
+in_variant site state = own_fact site (State state)
+
 -- that a component is in a state: in the one that is selected, or in one of the variants that are
 abbrev pub held_formula : Site → Held → Formula
-held_formula site (held.One state) = own_fact site (State state)
-held_formula site (held.Any states) = Or (map (λ state. own_fact site (State state)) states)
+held_formula site (held.One state) = in_variant site state
+held_formula site (held.Any states) = Or (map (in_variant site) states)
 
 -- that a component is where a transition starts: in a state, or anywhere
 abbrev pub origin_formula : Site → Origin → Formula

@@ -126,6 +126,7 @@ fn held_places(site: &Site, held: &Held) -> u32
     }
 }
 
+#[tactic(auto, using(crate::proofs::Caps::count_over, crate::proofs::Caps::count_within))]
 fn count_capped(states: &[u32]) -> u32
     ensures { result ≡ capped (length states.now) }
 {

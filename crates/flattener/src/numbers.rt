@@ -118,7 +118,7 @@ impl<'n> Numbers<'n> {
     }
 
     /// The component of a number.
-    pub(crate) fn site(&self, owner: u32) -> Site<'_>
+    pub(crate) fn site(&self, owner: u32) -> Site<'_, 'n>
         ensures { result ≡ site_of self.now owner }
     {
         let kind = self.kinds.kind(self.instance().kind(owner));

@@ -1,8 +1,7 @@
 ghost use Rattle.std.specs.Prelude.{◌≡◌, ◌++◌, ◌∷◌, [], IfOk, OnOk, filter, map};
 ghost use Rattle.error_types.specs.Search.{is_number_in};
 ghost use Rattle.propagation_points.specs.Uses.{covers, side_types};
-ghost use Rattle.model_facts.specs.declared.keys.FactKind.TheVariants.{State};
-ghost use Rattle.flattener.specs.Formulas.{below_in_state, held_formula, is_reached, origin_formula};
+ghost use Rattle.flattener.specs.Formulas.{below_in_state, held_formula, in_variant, is_reached, origin_formula};
 ghost use Rattle.flattener.specs.Numbered.{entering, inward_types, own_event, own_fact, some_entering};
 
 use crate::kind::Kind;
@@ -18,13 +17,13 @@ use std::marker::Model;
 
 /// A component of a model: its number, and its kind.
 #[derive(Drop)]
-pub(crate) struct Site<'s> {
-    numbers: &'s Numbers<'s>,
+pub(crate) struct Site<'s, 'n> {
+    numbers: &'s Numbers<'n>,
     owner: u32,
-    kind: &'s Kind<'s>,
+    kind: &'s Kind<'n>,
 }
 
-impl<'s> Model for Site<'s> {
+impl<'s, 'n> Model for Site<'s, 'n> {
     ghost use Rattle.std.specs.Coded.{codes};
     ghost use Rattle.aadl_syntax.specs.contracts.error_model.Condition as condition;
     ghost use Rattle.propagation_points.specs.contracts.side.Side as side;
@@ -38,9 +37,9 @@ impl<'s> Model for Site<'s> {
     ghost view = { λ s. record { numbered = s.numbers.now; owner = s.owner; model = s.kind.now } };
 }
 
-impl<'s> Site<'s> {
+impl<'s, 'n> Site<'s, 'n> {
     /// The component of a number, of this kind.
-    pub(crate) fn new(numbers: &'s Numbers<'s>, owner: u32, kind: &'s Kind<'s>) -> Site<'s>
+    pub(crate) fn new(numbers: &'s Numbers<'n>, owner: u32, kind: &'s Kind<'n>) -> Site<'s, 'n>
         ensures { result ≡ record { numbered = numbers.now; owner = owner; model = kind.now } }
     {
         Site {
@@ -51,7 +50,7 @@ impl<'s> Site<'s> {
     }
 
     /// The model in which it is.
-    pub(crate) fn numbers(&self) -> &'s Numbers<'s>
+    pub(crate) fn numbers(&self) -> &'s Numbers<'n>
         ensures { result.now ≡ self.now.numbered }
     {
         self.numbers
@@ -65,7 +64,7 @@ impl<'s> Site<'s> {
     }
 
     /// Its kind.
-    pub(crate) fn kind(&self) -> &'s Kind<'s>
+    pub(crate) fn kind(&self) -> &'s Kind<'n>
         ensures { result.now ≡ self.now.model }
     {
         self.kind
@@ -118,7 +117,7 @@ impl<'s> Site<'s> {
     }
 
     fn variants(&self, alloc: Global, states: &[u32]) -> Mem<List<Formula>>
-        ensures { IfOk result (λ parts. parts ≡ map (λ state. own_fact self.now (State state)) states.now) }
+        ensures { IfOk result (λ parts. parts ≡ map (in_variant self.now) states.now) }
     {
         let mut parts = List::new(alloc);
         for state in states {
