@@ -111,7 +111,40 @@ def extended():
     return package(library, device + system), (2, 2 + 1024, 1 + 1024)
 
 
-SHAPES = [ring, states, points, into_one, few_used, extended]
+def bound():
+    """4,094 processes that one list of the root binds to one processor: a link each, and a fact each for what comes along it."""
+    count = 4094
+    library = types(1) + (
+        "error behavior m events e: error event; states ok: initial state; bad: state;\ntransitions ok -[e]-> bad; end behavior;\n"
+    )
+    processor = (
+        "processor c annex EMV2 {** use types p; use behavior p::m; error propagations bindings: out propagation {t0};\n"
+        "flows f: error source bindings{t0} when bad; end propagations; **}; end c;\n"
+    )
+    process = "process w annex EMV2 {** use types p; error propagations processor: in propagation {t0}; end propagations; **}; end w;\n"
+    parts = "".join(f"w{n}: process w;\n" for n in range(count))
+    names = ", ".join(f"w{n}" for n in range(count))
+    system = (
+        f"system s end s; system implementation s.i subcomponents\nc: processor c;\n{parts}"
+        f"properties Actual_Processor_Binding => (reference (c)) applies to {names};\nend s.i;\n"
+    )
+    return package(library, processor + process + system), (count + 2, count + 3, 1)
+
+
+def typed():
+    """255 states and an event, each with 1,024 types; each state is entered from the one before."""
+    chain = "t0: type;\n" + "".join(f"t{n}: type extends t{n - 1};\n" for n in range(1, 1024))
+    names = "".join(f"s{n}: state {{t0}}; " for n in range(1, 256))
+    steps = "".join(f"s{n}{{t1023}} -[e{{t1023}}]-> s{n + 1}; " for n in range(1, 255))
+    library = "error types\n" + chain + "end types;\n" + (
+        f"error behavior m use types p; events e: error event {{t0}}; states ok: initial state; {names}\n"
+        f"transitions ok -[e{{t1023}}]-> s1; {steps}\nend behavior;\n"
+    )
+    body = "system s annex EMV2 {** use types p; use behavior p::m; **}; end s; system implementation s.i end s.i;\n"
+    return package(library, body), (1, 1 + 255 * 1024, 1024)
+
+
+SHAPES = [ring, states, points, into_one, few_used, extended, bound, typed]
 
 
 def main():
