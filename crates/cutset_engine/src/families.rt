@@ -27,7 +27,7 @@ const TRIES: u32 = 24;
 /// It is tried with one order of the variables after the other, and each try ends where it remembers too much; then those
 /// that came farthest may remember more. What a try that was given up made is dropped. Each number of the store keeps its
 /// family, also where memory is refused.
-pub fn family(
+pub(crate) fn raced_family(
     alloc: Global,
     system: &FaultSystem,
     slice: &Slice,
