@@ -1,11 +1,11 @@
 -- From the minimal cut sets of one event, and those of a system without these events, to all minimal cut sets.
 use Rattle.std.proofs.Common.{ℕ, ◌≡◌, ◌⊎◌, Bool, true, false, not, List, [], ◌∷◌, Contains, Option, Some, inl, inr, ⊎_elim, ap, ◌∙◌, sym, subst, refl}
-use Rattle.std.proofs.lemmas.Bool.{false≢true, and_from, and_parts}
-use Rattle.fault_system.specs.Truth.{NumberSet, Has, member, set_of}
-use Rattle.fault_system.specs.Systems.{System, Holds}
+use Rattle.std.proofs.lemmas.Bool.{and_from, and_parts}
+use Rattle.fault_system.specs.Truth.{Has, member, set_of}
+use Rattle.fault_system.specs.Systems.{System}
 use Rattle.fault_system.specs.CutSets.{IsCutSet, IsMinimalCutSet, IsSubset}
 use Rattle.fault_system.specs.Listings.{IsWithinOrder}
-use Rattle.zdd_store.specs.Family.{Family, branch, has, is_within}
+use Rattle.zdd_store.specs.Family.{Family, branch, has, is_within, IsAntichain}
 use Rattle.zdd_store.specs.Store.{Families, IsIn, family_of, family_with, IsSound, Fits}
 use Rattle.zdd_store.specs.declared.id.Id.{Id}
 use Rattle.zdd_store.specs.declared.id.Node.{Node}
@@ -86,6 +86,11 @@ module _ (system : System) (target : ℕ) (most : Option ℕ) (dropped : List Bo
         (some_or_none dropped set)) is.0,
     λ (minimal, w). (joined set).1 (in_either set minimal w, λ part here within. minimal.1 part (cut_of part here) (within_subset part set within)),
   )
+
+-- no minimal cut set is within another one
+pub cut-sets-apart : (system : System) (target : ℕ) (most : Option ℕ) (family : Family) → HasMinimalCutSets system target most family → IsAntichain family
+cut-sets-apart system target most family exact part whole here there within =
+    ((exact whole).0 there).0.1 part ((exact part).0 here).0.0 (within_subset part whole within)
 
 -- ---- the events that are sets alone, along a diagram
 

@@ -1,10 +1,10 @@
 -- What is left of a formula and of a system: when it is true, and that it is a system.
-use Rattle.std.proofs.Common.{ℕ, ◌≡◌, Bool, true, false, cond, not, eqb, ◌&&◌, ◌==◌, List, [], ◌∷◌, map, length, All, ap, ◌∙◌, sym, subst, refl, eqb-true}
+use Rattle.std.proofs.Common.{ℕ, ◌≡◌, Bool, true, false, cond, not, ◌&&◌, ◌==◌, List, [], ◌∷◌, map, length, All, ap, ◌∙◌, sym, subst, refl, eqb-true}
 use Rattle.std.proofs.lemmas.Bool.{false≢true, and_from, and_parts}
 use Rattle.std.proofs.lemmas.List.Elements.{All-map}
 use Rattle.std.specs.List.{list_all, list_any}
 use lib.ListN.{length-map}
-use Rattle.fault_system.specs.Truth.{NumberSet, Has, member, truth, truth_step, count_true, in_range, in_range_step}
+use Rattle.fault_system.specs.Truth.{NumberSet, Has, member, truth, truth_step, in_range, in_range_step}
 use Rattle.fault_system.specs.Systems.{System, IsSystem, NamesDiffer, applied, Holds}
 use Rattle.fault_system.specs.declared.formula.EventInfo.{EventInfo}
 use Rattle.fault_system.specs.declared.formula.FactInfo.{FactInfo}
@@ -14,7 +14,7 @@ use Rattle.fault_system.specs.declared.formula.Formula.TheVariants as shut
 use Rattle.fault_system.proofs.Marks.{Below-member}
 use Rattle.fault_system.proofs.HoldsLaws.{applied-grows}
 use Rattle.fault_system.proofs.TruthLaws.{truth-And, truth-Or, truth-AtLeast, truth-Event, truth-Fact}
-use Rattle.cutset_engine.specs.ThinSystems.{thin_event, thin_reference, thin_step, thin_formula, thin_fact, thin_of}
+use Rattle.cutset_engine.specs.ThinSystems.{thin_step, thin_formula, thin_fact, thin_of}
 
 -- the events that are not dropped, and the facts but for one
 abbrev pub left_events : List Bool → NumberSet → NumberSet

@@ -3,7 +3,9 @@
 ghost use Rattle.std.specs.Prelude.{◌≡◌, ◌<◌, ◌⊎◌, ℕ, List, Some, IfOk, IsTrue, length};
 ghost use Rattle.fault_system.specs.Truth.{Has, member};
 ghost use Rattle.fault_system.specs.Listings.{IsWithinOrder};
+ghost use Rattle.zdd_store.specs.Family.{IsAntichain};
 ghost use Rattle.zdd_store.specs.Store.{IsIn, family_of, Keeps};
+ghost use Rattle.zdd_families.specs.Unions.{HasMinimalSets, IsInEither};
 ghost use Rattle.backward_slice.specs.Slices.{IsSlice};
 ghost use Rattle.cutset_engine.specs.Families.{HasMinimalCutSets};
 ghost use Rattle.cutset_engine.specs.ThinSystems.{AreSingles};
@@ -121,10 +123,23 @@ fn with_others(
 {
     let thin = thinned(alloc, system, alone, slice.target)?;
     match sliced_family(alloc, &thin, slice.target, most, store) {
-        Ok(rest) => min_union(store, ones, rest),
+        Ok(rest) => joined(store, ones, rest),
         Err(Stop::Refused(_)) => raced_family(alloc, system, slice, blocks, most, store),
         Err(Stop::Memory) => Err(AllocError),
     }
+}
+
+/// The minimal sets of two families, of which the second has minimal sets alone, so that none is looked for in it.
+fn joined(store: &mut Store, ones: Id, rest: Id) -> Mem<Id>
+    requires ones_in { IsIn store.old ones }
+    requires rest_in { IsIn store.old rest }
+    requires apart { IsAntichain (family_of store.old rest) }
+    ensures found { IfOk result (IsIn store.new) }
+    ensures minimal { IfOk result (λ id. HasMinimalSets (family_of store.new id) (IsInEither (family_of store.old ones) (family_of store.old rest))) }
+    ensures kept { Keeps store.old store.new }
+{
+    store.note_apart(rest);
+    min_union(store, ones, rest)
 }
 
 /// The minimal cut sets of a target of a system, found in its slice.
