@@ -71,6 +71,34 @@ pub(crate) fn raced_family(
     )
 }
 
+/// The family, where the first try finds it.
+pub(crate) fn first_family(
+    alloc: Global,
+    system: &FaultSystem,
+    slice: &Slice,
+    blocks: &Blocks,
+    most: Option<u32>,
+    store: &mut Store,
+) -> Mem<Id>
+    requires { IsSlice system.now slice.now.target slice.now }
+    ensures found { IfOk result (IsIn store.new) }
+    ensures exact { IfOk result (λ id. HasMinimalCutSets system.now slice.now.target most (family_of store.new id)) }
+    ensures kept { Keeps store.old store.new }
+{
+    let race = Race::new(most.is_none());
+    let mut distance = Distance::NONE;
+    family_within(
+        alloc,
+        system,
+        slice,
+        blocks,
+        most,
+        race.next(),
+        &mut distance,
+        store,
+    )
+}
+
 /// The family, made over an order of the variables in a store of its own that remembers so many answers at most. How far
 /// it came is told in any case.
 fn family_within(

@@ -4,8 +4,8 @@
 //! families of all facts until nothing changes; then it covers exactly the sets of events under which the fact holds. A
 //! greatest order cuts each family on the way, so that it bounds the work.
 //!
-//! The sets of one event are found first, and the others in a system without these events, in which the formula of the target
-//! alone leads to the target: a set that goes past the target needs no more than the part before it.
+//! Where a first try does not end, the sets of one event are found first, and the others in a system without these events,
+//! and without the target in the formulas of facts: a set that goes past the target needs no more than its part before it.
 //!
 //! Two hints save time, and nothing of them is trusted. Facts are made block after block, and again only where a family in
 //! their formulas changed; a last sweep over all facts certifies the end. Diagrams are built over variables, the events as

@@ -10,7 +10,7 @@ ghost use Rattle.backward_slice.specs.Slices.{IsSlice};
 ghost use Rattle.cutset_engine.specs.Families.{HasMinimalCutSets};
 ghost use Rattle.cutset_engine.specs.ThinSystems.{AreSingles};
 
-use crate::families::raced_family;
+use crate::families::{first_family, raced_family};
 use crate::thinning::thinned;
 use backward_slice::{Slice, slice};
 use dependency_blocks::{Blocks, blocks};
@@ -23,8 +23,8 @@ use zdd_store::{Id, Node, Store};
 /// The minimal cut sets of the target of a slice, of at most so many events where a greatest order is given, as a family
 /// of sets of event numbers. The blocks decide how long it takes, and not what is found.
 ///
-/// The sets of one event are found first. The others have none of these events, and none needs the target on the way to the
-/// target: so they are found in a smaller system. Each number of the store keeps its family, also where memory is refused.
+/// Where they are not found at once, the sets of one event are found first. The others have none of these events, and none
+/// needs the target on the way to the target: so they are found in a smaller system. Each number of the store keeps its family, also where memory is refused.
 pub fn family(
     alloc: Global,
     system: &FaultSystem,
@@ -38,6 +38,9 @@ pub fn family(
     ensures exact { IfOk result (λ id. HasMinimalCutSets system.now slice.now.target most (family_of store.new id)) }
     ensures kept { Keeps store.old store.new }
 {
+    if let Ok(id) = first_family(alloc, system, slice, blocks, most, store) {
+        return Ok(id);
+    }
     if allows_one(most) {
         return ones_first(alloc, system, slice, blocks, most, store);
     }
