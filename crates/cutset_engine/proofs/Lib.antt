@@ -6,3 +6,5 @@ pub mod CutSets
 pub mod Ending
 pub mod Renamed
 pub mod InSlice
+pub mod ThinLaws
+pub mod ThinFamilies

@@ -27,7 +27,7 @@ const TRIES: u32 = 24;
 /// It is tried with one order of the variables after the other, and each try ends where it remembers too much; then those
 /// that came farthest may remember more. What a try that was given up made is dropped. Each number of the store keeps its
 /// family, also where memory is refused.
-pub fn family(
+pub(crate) fn raced_family(
     alloc: Global,
     system: &FaultSystem,
     slice: &Slice,
@@ -66,6 +66,34 @@ pub fn family(
         blocks,
         most,
         all,
+        &mut distance,
+        store,
+    )
+}
+
+/// The family, where the first try finds it.
+pub(crate) fn first_family(
+    alloc: Global,
+    system: &FaultSystem,
+    slice: &Slice,
+    blocks: &Blocks,
+    most: Option<u32>,
+    store: &mut Store,
+) -> Mem<Id>
+    requires { IsSlice system.now slice.now.target slice.now }
+    ensures found { IfOk result (IsIn store.new) }
+    ensures exact { IfOk result (λ id. HasMinimalCutSets system.now slice.now.target most (family_of store.new id)) }
+    ensures kept { Keeps store.old store.new }
+{
+    let race = Race::new(most.is_none());
+    let mut distance = Distance::NONE;
+    family_within(
+        alloc,
+        system,
+        slice,
+        blocks,
+        most,
+        race.next(),
         &mut distance,
         store,
     )

@@ -4,12 +4,16 @@
 //! families of all facts until nothing changes; then it covers exactly the sets of events under which the fact holds. A
 //! greatest order cuts each family on the way, so that it bounds the work.
 //!
+//! Where a first try does not end, the sets of one event are found first, and the others in a system without these events,
+//! and without the target in the formulas of facts: a set that goes past the target needs no more than its part before it.
+//!
 //! Two hints save time, and nothing of them is trusted. Facts are made block after block, and again only where a family in
 //! their formulas changed; a last sweep over all facts certifies the end. Diagrams are built over variables, the events as
 //! the target meets them depth-first, and the family of the target is brought into the order of the events at the end.
 #![tactic(auto)]
 
 mod agenda;
+mod copies;
 mod families;
 mod filling;
 mod formulas;
@@ -17,6 +21,8 @@ mod gates;
 mod inner_order;
 mod laws;
 mod race;
+mod singles;
+mod thinning;
 
-pub use families::family;
 pub use laws::in_slice;
+pub use singles::family;

@@ -6,12 +6,12 @@ use crate::gates::Form;
 use crate::inner_order::{WAYS, Way, way_of};
 
 /// How many answers each may remember at first; and where there is a greatest order, which bounds the families.
-const FIRST_ANSWERS: u64 = 16_384;
+const FIRST_ANSWERS: u64 = 4_096;
 
 const FIRST_BOUNDED_ANSWERS: u64 = 65_536;
 
 /// How often as many it may in the next round.
-const MORE_ANSWERS: u64 = 8;
+const MORE_ANSWERS: u64 = 16;
 
 /// A try: an order of the variables, the form of the families, and how many answers may be remembered.
 #[derive(Clone, Copy)]

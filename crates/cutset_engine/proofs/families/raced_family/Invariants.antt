@@ -1,5 +1,5 @@
 use Rattle.zdd_store.specs.Store.{Keeps}
-use Rattle.cutset_engine.proofs.families.family.Given as goal
+use Rattle.cutset_engine.proofs.families.raced_family.Given as goal
 
 abbrev pub invariant-loop-round : goal.invariant-loop-round
 invariant-loop-round l = Keeps l.fn.store l.store

@@ -1,0 +1,166 @@
+//! The minimal cut sets of a target: first those of one event, and then all others, in a system without these events.
+
+ghost use Rattle.std.specs.Prelude.{◌≡◌, ◌<◌, ◌⊎◌, ℕ, List, Some, IfOk, IsTrue, length};
+ghost use Rattle.fault_system.specs.Truth.{Has, member};
+ghost use Rattle.fault_system.specs.Listings.{IsWithinOrder};
+ghost use Rattle.zdd_store.specs.Family.{IsAntichain};
+ghost use Rattle.zdd_store.specs.Store.{IsIn, family_of, Keeps};
+ghost use Rattle.zdd_families.specs.Unions.{HasMinimalSets, IsInEither};
+ghost use Rattle.backward_slice.specs.Slices.{IsSlice};
+ghost use Rattle.cutset_engine.specs.Families.{HasMinimalCutSets};
+ghost use Rattle.cutset_engine.specs.ThinSystems.{AreSingles};
+
+use crate::families::{first_family, raced_family};
+use crate::thinning::thinned;
+use backward_slice::{Slice, slice};
+use dependency_blocks::{Blocks, blocks};
+use fault_system::{Bits, FaultSystem};
+use plain_values::{Answer, Mem, Stop};
+use std::alloc::{AllocError, Global};
+use zdd_families::{look, min_union};
+use zdd_store::{Id, Node, Store};
+
+/// The minimal cut sets of the target of a slice, of at most so many events where a greatest order is given, as a family
+/// of sets of event numbers. The blocks decide how long it takes, and not what is found.
+///
+/// Where they are not found at once, the sets of one event are found first. The others have none of these events, and none
+/// needs the target on the way to the target: so they are found in a smaller system. Each number of the store keeps its family, also where memory is refused.
+pub fn family(
+    alloc: Global,
+    system: &FaultSystem,
+    slice: &Slice,
+    blocks: &Blocks,
+    most: Option<u32>,
+    store: &mut Store,
+) -> Mem<Id>
+    requires { IsSlice system.now slice.now.target slice.now }
+    ensures found { IfOk result (IsIn store.new) }
+    ensures exact { IfOk result (λ id. HasMinimalCutSets system.now slice.now.target most (family_of store.new id)) }
+    ensures kept { Keeps store.old store.new }
+{
+    if let Ok(id) = first_family(alloc, system, slice, blocks, most, store) {
+        return Ok(id);
+    }
+    if allows_one(most) {
+        return ones_first(alloc, system, slice, blocks, most, store);
+    }
+    raced_family(alloc, system, slice, blocks, most, store)
+}
+
+/// Whether sets of one event are asked for.
+fn allows_one(most: Option<u32>) -> bool
+    ensures { IsTrue result → (set : List ℕ) → IsWithinOrder (Some 1) set → IsWithinOrder most set }
+{
+    match most {
+        Some(most) => most > 0,
+        None => true,
+    }
+}
+
+/// The events of the sets of a family that have one event each.
+fn single_events(alloc: Global, store: &Store, events: u32, id: Id) -> Mem<Bits>
+    requires { IsIn store.now id }
+    ensures { IfOk result (AreSingles (family_of store.now id)) }
+{
+    store.laws();
+    let mut alone = Bits::new(alloc, events)?;
+    let mut at = id;
+    for step in 0..u64::MAX {
+        let Some(node) = look(store, at) else {
+            return Ok(alone);
+        };
+        put_single(&mut alone, node);
+        at = node.lo;
+    }
+    Ok(alone)
+}
+
+/// Puts the variable of a node into a set of numbers, if it is a set of the node's family alone.
+fn put_single(alone: &mut Bits, node: Node)
+    ensures { (n : ℕ) → Has (member alone.new) n → Has (member alone.old) n ⊎ ((n ≡ node.var) × (node.hi.position ≡ 1)) }
+{
+    if node.hi.position == 1 && node.var < alone.size() {
+        alone.put(node.var);
+    }
+}
+
+/// The minimal cut sets of the target, where sets of one event are asked for.
+fn ones_first(
+    alloc: Global,
+    system: &FaultSystem,
+    slice: &Slice,
+    blocks: &Blocks,
+    most: Option<u32>,
+    store: &mut Store,
+) -> Mem<Id>
+    requires slice { IsSlice system.now slice.now.target slice.now }
+    requires allowed { (set : List ℕ) → IsWithinOrder (Some 1) set → IsWithinOrder most set }
+    ensures found { IfOk result (IsIn store.new) }
+    ensures exact { IfOk result (λ id. HasMinimalCutSets system.now slice.now.target most (family_of store.new id)) }
+    ensures kept { Keeps store.old store.new }
+{
+    let ones = raced_family(alloc, system, slice, blocks, Some(1), store)?;
+    let alone = single_events(alloc, store, system.events(), ones)?;
+    with_others(alloc, system, slice, blocks, most, ones, &alone, store)
+}
+
+/// The minimal cut sets of the target, where those of one event are known.
+fn with_others(
+    alloc: Global,
+    system: &FaultSystem,
+    slice: &Slice,
+    blocks: &Blocks,
+    most: Option<u32>,
+    ones: Id,
+    alone: &Bits,
+    store: &mut Store,
+) -> Mem<Id>
+    requires slice { IsSlice system.now slice.now.target slice.now }
+    requires allowed { (set : List ℕ) → IsWithinOrder (Some 1) set → IsWithinOrder most set }
+    requires ones_in { IsIn store.old ones }
+    requires ones { HasMinimalCutSets system.now slice.now.target (Some 1) (family_of store.old ones) }
+    requires alone { AreSingles (family_of store.old ones) alone.now }
+    ensures found { IfOk result (IsIn store.new) }
+    ensures exact { IfOk result (λ id. HasMinimalCutSets system.now slice.now.target most (family_of store.new id)) }
+    ensures kept { Keeps store.old store.new }
+{
+    let thin = thinned(alloc, system, alone, slice.target)?;
+    match sliced_family(alloc, &thin, slice.target, most, store) {
+        Ok(rest) => joined(store, ones, rest),
+        Err(Stop::Refused(_)) => raced_family(alloc, system, slice, blocks, most, store),
+        Err(Stop::Memory) => Err(AllocError),
+    }
+}
+
+/// The minimal sets of two families, of which the second has minimal sets alone, so that none is looked for in it.
+fn joined(store: &mut Store, ones: Id, rest: Id) -> Mem<Id>
+    requires ones_in { IsIn store.old ones }
+    requires rest_in { IsIn store.old rest }
+    requires apart { IsAntichain (family_of store.old rest) }
+    ensures found { IfOk result (IsIn store.new) }
+    ensures minimal { IfOk result (λ id. HasMinimalSets (family_of store.new id) (IsInEither (family_of store.old ones) (family_of store.old rest))) }
+    ensures kept { Keeps store.old store.new }
+{
+    store.note_apart(rest);
+    min_union(store, ones, rest)
+}
+
+/// The minimal cut sets of a target of a system, found in its slice.
+fn sliced_family(
+    alloc: Global,
+    system: &FaultSystem,
+    target: u32,
+    most: Option<u32>,
+    store: &mut Store,
+) -> Answer<Id>
+    requires { target < length system.now.facts }
+    ensures found { IfOk result (IsIn store.new) }
+    ensures exact { IfOk result (λ id. HasMinimalCutSets system.now target most (family_of store.new id)) }
+    ensures kept { Keeps store.old store.new }
+{
+    store.laws();
+    let slice = slice(alloc, system, target)?;
+    let blocks = blocks(alloc, system, &slice)?;
+    let family = raced_family(alloc, system, &slice, &blocks, most, store)?;
+    Ok(family)
+}
