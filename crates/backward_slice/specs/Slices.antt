@@ -34,7 +34,7 @@ pub record IsSlice (system : System) (target : ℕ) (slice : Slice) : Type 0 whe
 
 -- the greatest number of facts of a slice
 abbrev pub most_slice_facts : ℕ
-most_slice_facts = 16384
+most_slice_facts = 32768
 
 -- the greatest number of events of a slice
 abbrev pub most_slice_events : ℕ

@@ -12,14 +12,14 @@ use plain_values::{Answer, Code, List, Mem, Refusal, Stop};
 use std::alloc::Global;
 
 /// The greatest number of facts of a slice.
-const MOST_SLICE_FACTS: usize = 16_384;
+const MOST_SLICE_FACTS: usize = 32_768;
 
 /// The greatest number of events of a slice.
 const MOST_SLICE_EVENTS: usize = 1_024;
 
 /// The slice of a target, in a time that goes with the formulas that it reaches.
 ///
-/// It is refused as too large where it has over 16,384 facts, and else where it has over 1,024 events.
+/// It is refused as too large where it has over 32,768 facts, and else where it has over 1,024 events.
 pub fn slice(alloc: Global, system: &FaultSystem, target: u32) -> Answer<Slice>
     requires { target < length system.now.facts }
     ensures { MatchResult result (IsServed system.now target) (StopsFor (HasLargeSlice system.now target)) }

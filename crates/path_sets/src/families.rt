@@ -28,7 +28,7 @@ pub struct PathFamily {
 /// The minimal path sets of a target, of at most so many events where a greatest order is given, and the events on which the
 /// target depends in the dual. No fact may reach itself.
 ///
-/// They are refused exactly where the slice of the dual is: where it has over 16,384 facts, and else over 1,024 events. Each
+/// They are refused exactly where the slice of the dual is: where it has over 32,768 facts, and else over 1,024 events. Each
 /// number of the store keeps its family, also where memory is refused.
 pub fn paths(
     alloc: Global,

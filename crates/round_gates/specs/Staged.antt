@@ -35,7 +35,7 @@ all_places system numbers facts = total (map (stage_places system numbers) facts
 
 -- the greatest number of places of all stages
 abbrev pub most_places : ℕ
-most_places = 8000000
+most_places = 16000000
 
 -- why there is no tree: the target is constant; or it is not, and its stages have too many places; want of memory says nothing
 abbrev pub IsGateAnswer : System → BlockNumbers → ℕ → List ℕ → GateAnswer → Type 0

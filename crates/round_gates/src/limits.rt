@@ -9,7 +9,7 @@ use dependency_blocks::Blocks;
 use fault_system::{FaultSystem, Formula};
 
 /// The greatest number of places of all stages of a slice.
-const MOST_PLACES: u64 = 8_000_000;
+const MOST_PLACES: u64 = 16_000_000;
 
 /// What is left of a number after the places of a formula are taken; none where they are more.
 #[cycle(places)]
@@ -71,7 +71,7 @@ fn take_times(formula: &Formula, times: u32, left: u64) -> Option<u64>
     left.checked_sub(u64::from(times) * (left - rest))
 }
 
-/// Whether all stages of some facts have at most 8,000,000 places together.
+/// Whether all stages of some facts have at most 16,000,000 places together.
 pub(crate) fn are_few(system: &FaultSystem, blocks: &Blocks, facts: &[u32]) -> bool
     requires { All (λ fact. number_of blocks.now fact < 4294967295) facts.now }
     ensures { IsTrue result ↔ (all_places system.now blocks.now facts.now ≤ most_places) }

@@ -112,7 +112,7 @@ fn whole_tree(alloc: Global, system: &FaultSystem, slice: &Slice, blocks: &Block
 /// The tree of the target of a slice.
 ///
 /// The slice is one of the system, and the blocks are those of the slice. There is no tree of a target that always holds
-/// or never. It is refused where the target is not constant and all stages of the slice's facts have over 8,000,000 places.
+/// or never. It is refused where the target is not constant and all stages of the slice's facts have over 16,000,000 places.
 pub fn staged(
     alloc: Global,
     system: &FaultSystem,

@@ -1,4 +1,4 @@
-use Rattle.std.proofs.Common.{◌≡◌, refl, ap, sym, append-nil, ◌∙◌, ◌++◌, Err, arith}
+use Rattle.std.proofs.Common.{refl, ap, sym, append-nil, ◌∙◌, ◌++◌, arith}
 use Rattle.std.proofs.lemmas.Result.{err_from_is_err_and}
 use Rattle.cut_reports.specs.Feeding.{IsKept}
 use Rattle.cut_reports.specs.Texts.{reports_text}
