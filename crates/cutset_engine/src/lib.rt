@@ -13,7 +13,6 @@
 #![tactic(auto)]
 
 mod agenda;
-mod copies;
 mod families;
 mod filling;
 mod formulas;

@@ -3,8 +3,7 @@
 ghost use Rattle.std.specs.Prelude.{◌≡◌, IfOk, map};
 ghost use Rattle.cutset_engine.specs.ThinSystems.{thin_event, thin_fact, thin_formula, thin_of, thin_reference};
 
-use crate::copies::copied_events;
-use fault_system::{Bits, FactInfo, FaultSystem, Formula};
+use fault_system::{Bits, FactInfo, FaultSystem, Formula, copied_events};
 use plain_values::{List, Mem, copied};
 use std::alloc::Global;
 

@@ -3,6 +3,7 @@
 
 mod bits;
 mod checks;
+mod copies;
 mod formula;
 mod laws;
 mod places;
@@ -11,6 +12,7 @@ mod system;
 
 pub use bits::{Bits, Numbers};
 pub use checks::{Named, Names, is_system, names_differ};
+pub use copies::copied_events;
 pub use formula::{EventInfo, FactInfo, Formula};
 pub use laws::{
     changed_table, checked_table, computed_listing, cover, join, one_listing, table_of_rounds,

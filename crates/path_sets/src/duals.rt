@@ -5,8 +5,7 @@ ghost use Rattle.fault_system.specs.Truth.{NumberSet};
 ghost use Rattle.fault_system.specs.Systems.{Holds};
 ghost use Rattle.path_sets.specs.Duals.{IsWithoutFeedback, dual_count, dual_fact, dual_formula, dual_of, outside};
 
-use crate::copies::copied_events;
-use fault_system::{FactInfo, FaultSystem, Formula};
+use fault_system::{FactInfo, FaultSystem, Formula, copied_events};
 use plain_values::{List, Mem, copied};
 use std::alloc::Global;
 

@@ -9,8 +9,7 @@ ghost use Rattle.galileo_writer.specs.TreeText.{HasTextNames};
 ghost use Rattle.path_sets.specs.Duals.{IsWithoutFeedback};
 ghost use Rattle.path_sets.specs.GateSystems.{GateHolds, gate_fact, gate_system_of};
 
-use crate::copies::copied_events;
-use fault_system::{FactInfo, FaultSystem};
+use fault_system::{FactInfo, FaultSystem, copied_events};
 use galileo_writer::{gate_name, gates_differ};
 use plain_values::{List, Mem};
 use round_gates::{Gate, Tree, gate_formula};

@@ -4,7 +4,6 @@
 //! itself has a dual of this form, so of others the gates of the target's tree are taken, in which feedback is unrolled.
 #![tactic(auto)]
 
-mod copies;
 mod duals;
 mod families;
 mod gate_systems;

@@ -1,5 +1,5 @@
 use Rattle.std.proofs.Common.{◌≡◌, take}
-use Rattle.cutset_engine.proofs.copies.copied_names.Given as goal
+use Rattle.fault_system.proofs.copies.copied_names.Given as goal
 
 abbrev pub invariant-loop-name : goal.invariant-loop-name
 invariant-loop-name l = l.made ≡ take l.name-index l.names

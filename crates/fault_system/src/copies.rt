@@ -2,12 +2,12 @@
 
 ghost use Rattle.std.specs.Prelude.{◌≡◌, IfOk};
 
-use fault_system::EventInfo;
+use crate::formula::EventInfo;
 use plain_values::{List, Mem, Name, copied};
 use std::alloc::Global;
 
 /// A copy of some events.
-pub(crate) fn copied_events(alloc: Global, events: &[EventInfo]) -> Mem<List<EventInfo>>
+pub fn copied_events(alloc: Global, events: &[EventInfo]) -> Mem<List<EventInfo>>
     ensures { IfOk result (λ made. made ≡ events.now) }
 {
     let mut made = List::new(alloc);
