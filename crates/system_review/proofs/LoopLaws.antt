@@ -1,14 +1,13 @@
 -- Which blocks are loops, and what is so where none is.
-use Rattle.std.proofs.Common.{ℕ, zero, suc, ◌+◌, ◌≡◌, ◌≢◌, ◌<◌, ◌≤◌, ◌⊎◌, ◌↔◌, Bool, true, false, cond, ◌&&◌, ◌||◌, not, nat_lt, ◌==◌, List, [], ◌∷◌, ◌++◌, length, map, take, slice_index_or, Contains, Option, Some, inl, inr, ⊎_elim, ap, ◌∙◌, sym, subst, refl, arith, add-one, append-nil, length-append}
+use Rattle.std.proofs.Common.{ℕ, zero, suc, ◌+◌, ◌≡◌, ◌≢◌, ◌<◌, ◌≤◌, ◌⊎◌, Bool, true, false, cond, ◌&&◌, ◌||◌, not, nat_lt, ◌==◌, List, [], ◌∷◌, ◌++◌, length, map, take, Contains, Option, inl, inr, ⊎_elim, ap, ◌∙◌, sym, subst, refl, arith, add-one, append-nil, length-append}
 use Rattle.std.proofs.Math.Seq.{take-length}
-use Rattle.std.specs.List.{slice_get}
 use Rattle.std.specs.Option.{option_map_or}
-use Rattle.std.proofs.lemmas.Bool.{false≢true, lt-ltb, ltb-true, eqb-true, eq-eqb, ne_eqb, cases_Bool, cases_eq, cases_lt, and_parts, or_cases, or_left, or_right}
+use Rattle.std.proofs.lemmas.Bool.{false≢true, lt-ltb, ltb-true, eqb-true, eq-eqb, cases_Bool, cases_eq, cases_lt, and_parts, or_cases, or_left, or_right}
 use Rattle.std.proofs.lemmas.List.{get_or_past, map-append}
 use Rattle.std.proofs.lemmas.List.Sums.{count_by_more_yes, count_by_more_no}
-use Rattle.std.proofs.lemmas.Option.{slice_get_read, slice_get_within, slice_get_cases}
+use Rattle.std.proofs.lemmas.Option.{slice_get_cases}
 use Rattle.plain_values.specs.Rising.{RisesWithin}
-use Rattle.fault_system.specs.Truth.{NumberSet, Has, occurs, truth}
+use Rattle.fault_system.specs.Truth.{NumberSet, occurs}
 use Rattle.fault_system.specs.Systems.{System, IsSystem, IsFact}
 use Rattle.fault_system.specs.declared.formula.FactInfo.{FactInfo}
 use Rattle.fault_system.proofs.Elements.{In, In-contains, contains_In, In-append, In-front, In-back}
@@ -21,8 +20,8 @@ use Rattle.dependency_blocks.specs.Blocks.{AreAllBlocks, number_of, size_of}
 use Rattle.dependency_blocks.proofs.AllFacts.{below-contained}
 use Rattle.dependency_blocks.proofs.Passes.{depends_self, depends_then, depends_step}
 use Rattle.system_review.specs.Listed.{AreAll}
-use Rattle.system_review.specs.Loops.{Agrees, AreLoops, AreMutual, HasOneMeaning, IsInLoop, IsLoop}
-use Rattle.system_review.specs.Steps.{AddsLoop, is_looped, loop_at, occurs_in_own}
+use Rattle.system_review.specs.Loops.{AreLoops, AreMutual, HasOneMeaning, IsInLoop, IsLoop}
+use Rattle.system_review.specs.Steps.{is_looped, loop_at, occurs_in_own}
 use Rattle.system_review.specs.declared.looping.Loop.{Loop}
 use Rattle.system_review.proofs.Rising.{Listed, listed-none, listed-next, next_or_below, all-as}
 

@@ -1,17 +1,17 @@
 -- Where nothing is lost, a system and the one with all that may be said have the same facts.
-use Rattle.std.proofs.Common.{ℕ, ◌≡◌, ◌<◌, ◌||◌, ◌⊎◌, ◌↔◌, true, false, Bool, List, [], ◌∷◌, length, Option, Some, None, Contains, inl, inr, ⊎_elim, ap, ◌∙◌, sym, subst, refl, arith}
+use Rattle.std.proofs.Common.{ℕ, ◌≡◌, ◌↔◌, true, false, List, [], ◌∷◌, length, inl, inr, ⊎_elim, ap, ◌∙◌, sym, subst, refl, arith}
 use Rattle.std.proofs.lemmas.Bool.{false≢true, eqb-true, or_cases, or_left}
 use Rattle.std.proofs.lemmas.Option.{slice_get_cases, slice_get_within}
-use Rattle.std.specs.List.{list_any, slice_get}
+use Rattle.std.specs.List.{list_any}
 use Rattle.std.specs.Option.{option_map_or}
 use Rattle.fault_system.specs.Truth.{NumberSet, Has, member, truth}
-use Rattle.fault_system.specs.Systems.{System, IsFact, Holds, IsClosed, applied, holds_of}
+use Rattle.fault_system.specs.Systems.{System, IsFact, Holds, IsClosed, holds_of}
 use Rattle.fault_system.specs.Rounds.{no_event, only}
 use Rattle.fault_system.specs.declared.formula.FactInfo.{FactInfo}
 use Rattle.fault_system.proofs.Elements.{In, contains_In}
 use Rattle.fault_system.proofs.HoldsLaws.{holds_of-closed, holds_of-exact}
 use Rattle.fault_system.proofs.Occurring.{truth-grows}
-use Rattle.system_review.specs.Alone.{HoldTheSame, IsSaid, Joins, made_by_event, made_by_fact, no_fact}
+use Rattle.system_review.specs.Alone.{IsSaid, Joins, made_by_event, made_by_fact, no_fact}
 use Rattle.system_review.proofs.More.{applied-fact, applied-is}
 
 any-in : (test : NumberSet) (ns : List ℕ) → list_any test ns ≡ true → (n : ℕ) × In n ns × Has test n

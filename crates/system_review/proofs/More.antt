@@ -1,14 +1,16 @@
 -- What holds under some events holds under more.
-use Rattle.std.proofs.Common.{ℕ, ◌≡◌, ◌<◌, true, length, Option, Some, None, ◌∙◌, sym}
+use Rattle.std.proofs.Common.{ℕ, ◌≡◌, ◌<◌, true, length, Bool, List, ◌↔◌, Option, Some, None, ◌∙◌, sym, refl}
 use Rattle.std.proofs.lemmas.Bool.{false≢true}
 use Rattle.std.specs.List.{slice_get}
 use Rattle.fault_system.specs.Truth.{NumberSet, Has, member, occurs_event, truth}
 use Rattle.fault_system.specs.Systems.{System, IsSystem, IsFact, Holds, applied}
 use Rattle.fault_system.specs.declared.formula.FactInfo.{FactInfo}
 use Rattle.fault_system.proofs.NumberSets.{member-map, member-past}
+use Rattle.fault_system.proofs.HoldsLaws.{holds_of-exact}
+use Rattle.fault_system.proofs.TruthLaws.{same_answer}
 use Rattle.fault_system.proofs.Occurring.{truth-grows-on}
 use Rattle.fault_system.proofs.Occurrences.{occurs_event-in_range, fact-in_range}
-use Rattle.system_review.specs.Possible.{IsPossible}
+use Rattle.system_review.specs.Possible.{IsPossible, possible_in}
 
 -- what the formulas say of a fact is what its own one says
 pub applied-is : (system : System) (events facts : NumberSet) (n : ℕ) (fact : FactInfo) → IsFact system n fact → member (applied system events facts) n ≡ truth events facts fact.formula
@@ -35,3 +37,9 @@ pub possible-by_all : (system : System) (all : NumberSet) → IsSystem system �
 possible-by_all system all is every n (events, holds) =
     holds-more system events all
     (λ m e fact at o h. every e (occurs_event-in_range (length system.facts) (length system.events) e fact.formula (fact-in_range system is m fact at) o)) n holds
+
+-- a set of what may come about is that of what holds when all events occur
+pub possible-computed : (system : System) (marks : List Bool) → IsSystem system → ((n : ℕ) → Has (member marks) n ↔ IsPossible system n) → (n : ℕ) → member marks n ≡ possible_in system n
+possible-computed system marks is exact n = same_answer (member marks n) (possible_in system n)
+    (λ has. (holds_of-exact system (λ event. true) n).1 (possible-by_all system (λ event. true) is (λ e low. refl) n ((exact n).0 has)))
+    (λ has. (exact n).1 ((λ event. true), (holds_of-exact system (λ event. true) n).0 has))

@@ -1,9 +1,12 @@
 -- What a pass over the formulas marks.
-use Rattle.std.proofs.Common.{ℕ, ◌≡◌, ◌<◌, ◌||◌, ◌⊎◌, ◌↔◌, true, false, List, Bool, length, replicate, Some, inl, inr, ⊎_elim, ◌∙◌, sym, ap, subst, arith}
+use Rattle.std.proofs.Common.{ℕ, zero, suc, [], ◌∷◌, refl, ◌≡◌, ◌<◌, ◌||◌, ◌⊎◌, ◌↔◌, true, false, List, Bool, length, replicate, Some, ⊎_elim, ◌∙◌, sym, ap, arith}
 use Rattle.std.proofs.lemmas.Bool.{false≢true, or_cases, or_left, or_right}
-use Rattle.fault_system.specs.Truth.{NumberSet, Has, member}
-use Rattle.fault_system.specs.Systems.{System, IsSystem, IsFact}
+use Rattle.std.specs.List.{list_any, slice_get}
+use Rattle.fault_system.specs.Truth.{NumberSet, Has, member, occurs}
+use Rattle.fault_system.specs.Systems.{System, IsFact}
 use Rattle.fault_system.specs.declared.formula.FactInfo.{FactInfo}
+use Rattle.fault_system.proofs.TruthLaws.{same_answer}
+use Rattle.system_review.specs.Occurring.{IsUsedFact, used_in}
 use Rattle.fault_system.proofs.NumberSets.{member-in, member-replicate}
 
 -- marks after those of one formula were added
@@ -30,3 +33,21 @@ fresh-none marks size made n = ap (λ bs. member bs n) made ∙ member-replicate
 
 pub fresh-not : (marks : List Bool) (size : ℕ) → marks ≡ replicate size false → (n : ℕ) → Has (member marks) n → ⊥
 fresh-not marks size made n h = false≢true (sym (fresh-none marks size made n) ∙ h)
+
+used-at : (number n : ℕ) (facts : List FactInfo) (fact : FactInfo) → slice_get facts n ≡ Some fact → occurs number fact.formula ≡ true → list_any (λ other. occurs number other.formula) facts ≡ true
+used-at number n [] fact at o = absurd (cc)
+used-at number zero (other ∷ facts) fact at o = let same : other ≡ fact = cc in or_left _ _ (ap (λ (f : FactInfo). occurs number f.formula) same ∙ o)
+used-at number (suc n) (other ∷ facts) fact at o = or_right (occurs number other.formula) _ (used-at number n facts fact at o)
+
+used-from : (number : ℕ) (facts : List FactInfo) → list_any (λ other. occurs number other.formula) facts ≡ true → (n : ℕ) × (fact : FactInfo) × (slice_get facts n ≡ Some fact) × (occurs number fact.formula ≡ true)
+used-from number [] e = absurd (false≢true e)
+used-from number (fact ∷ facts) e = ⊎_elim
+    (λ here. (zero, fact, refl, here))
+    (λ there. let found = used-from number facts there in (suc found.0, found.1, found.2, found.3))
+    (or_cases (occurs number fact.formula) _ e)
+
+-- a set of what occurs is that of the test
+pub used-computed : (system : System) (marks : List Bool) → ((n : ℕ) → Has (member marks) n ↔ IsUsedFact system n) → (n : ℕ) → member marks n ≡ used_in system n
+used-computed system marks exact number = same_answer (member marks number) (used_in system number)
+    (λ has. let used = (exact number).0 has in used-at number used.0 system.facts used.1 used.2 used.3)
+    (λ has. (exact number).1 (used-from number system.facts has))

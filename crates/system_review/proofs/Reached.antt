@@ -1,5 +1,5 @@
 -- The marking of what some facts depend on, from these alone to the end.
-use Rattle.std.proofs.Common.{ℕ, ◌+◌, ◌≡◌, ◌≢◌, ◌<◌, ◌⊎◌, ◌↔◌, Bool, true, false, ◌&&◌, ◌||◌, not, List, [], ◌∷◌, ◌++◌, length, set, replicate, All, Contains, Some, ⊎_elim, ap, ◌∙◌, sym, subst, refl, arith, append-nil, length-set, length-append, ◌==◌}
+use Rattle.std.proofs.Common.{ℕ, ◌≡◌, ◌≢◌, ◌<◌, ◌↔◌, Bool, true, false, ◌&&◌, ◌||◌, not, List, [], ◌∷◌, ◌++◌, length, set, All, Contains, ⊎_elim, ap, ◌∙◌, sym, subst, refl, arith, length-set, length-append, ◌==◌}
 use Rattle.std.proofs.lemmas.Bool.{false≢true, eqb-true, ne_eqb, or_cases, and_parts, and_from, cases_eq, or_left, or_right}
 use Rattle.std.proofs.lemmas.List.Folds.{list_any-append}
 use Rattle.fault_system.specs.Truth.{NumberSet, Has, member, set_of, count_true, occurs}
@@ -7,7 +7,7 @@ use Rattle.fault_system.specs.Systems.{System, IsSystem, IsFact}
 use Rattle.fault_system.specs.declared.formula.FactInfo.{FactInfo}
 use Rattle.backward_slice.specs.Slices.{HasItsCauses, DependsOn}
 use Rattle.fault_system.proofs.Occurrences.{occurs-in_range, fact-in_range}
-use Rattle.fault_system.proofs.NumberSets.{count-put, member-in, member-replicate, member-set, contained-in_set, set_of-contained}
+use Rattle.fault_system.proofs.NumberSets.{count-put, member-in, member-set, contained-in_set, set_of-contained}
 use Rattle.dependency_blocks.proofs.Passes.{depends_self, depends_step, depends_then}
 use Rattle.system_review.specs.Occurring.{IsReached}
 use Rattle.system_review.specs.Marks.{Adds, is_done, IsMarking, IsMarkingBut}

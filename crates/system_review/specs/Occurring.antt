@@ -1,5 +1,6 @@
 -- Which facts and events have an effect: what occurs in formulas, and what some facts depend on.
 use Rattle.std.specs.Prelude.{ℕ, ◌<◌, ◌≡◌, true, List, length, Contains}
+use Rattle.std.specs.List.{list_any}
 use Rattle.fault_system.specs.Truth.{NumberSet, Has, occurs, occurs_event}
 use Rattle.fault_system.specs.Systems.{System, IsFact}
 use Rattle.fault_system.specs.declared.formula.FactInfo.{FactInfo}
@@ -8,6 +9,10 @@ use Rattle.backward_slice.specs.Slices.{DependsOn, DependsOnEvent}
 -- a fact occurs in the formula of a fact
 abbrev pub IsUsedFact : System → ℕ → Type 0
 IsUsedFact system number = (n : ℕ) × (fact : FactInfo) × IsFact system n fact × (occurs number fact.formula ≡ true)
+
+-- the facts that occur in formulas, as a test
+abbrev pub used_in : System → NumberSet
+used_in system number = list_any (λ fact. occurs number fact.formula) system.facts
 
 -- an event occurs in the formula of one of some facts
 abbrev pub OccursAmong : System → NumberSet → ℕ → Type 0

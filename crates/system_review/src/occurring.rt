@@ -5,7 +5,7 @@ ghost use Rattle.std.specs.List.{list_any};
 ghost use Rattle.fault_system.specs.Truth.{Has, member, occurs, occurs_event};
 ghost use Rattle.fault_system.specs.Systems.{IsFact};
 ghost use Rattle.fault_system.specs.declared.formula.FactInfo.{FactInfo};
-ghost use Rattle.system_review.specs.Occurring.{IsUsedFact, OccursAmong};
+ghost use Rattle.system_review.specs.Occurring.{IsUsedFact, OccursAmong, used_in};
 
 use fault_system::{Bits, FaultSystem, Formula, Numbers};
 use plain_values::Mem;
@@ -15,6 +15,7 @@ use std::alloc::Global;
 pub fn used_facts(alloc: Global, system: &FaultSystem) -> Mem<Bits>
     ensures size { IfOk result (λ facts. length facts ≡ length system.now.facts) }
     ensures exact { IfOk result (λ facts. (n : ℕ) → Has (member facts) n ↔ IsUsedFact system.now n) }
+    ensures computed { IfOk result (λ facts. (n : ℕ) → member facts n ≡ used_in system.now n) }
 {
     let mut facts = Bits::new(alloc, system.facts())?;
     mark_used(system, &mut facts);

@@ -3,7 +3,7 @@
 ghost use Rattle.std.specs.Prelude.{◌≡◌, ◌↔◌, ◌<◌, ℕ, IfOk, length};
 ghost use Rattle.fault_system.specs.Truth.{Has, member};
 ghost use Rattle.system_review.specs.Listed.{AreAll};
-ghost use Rattle.system_review.specs.Possible.{IsNever, IsPossible};
+ghost use Rattle.system_review.specs.Possible.{IsNever, IsPossible, possible_in};
 
 use crate::listing::{Everything, missing};
 use fault_system::{Bits, FaultSystem};
@@ -14,6 +14,7 @@ use std::alloc::Global;
 pub fn possible_facts(alloc: Global, system: &FaultSystem) -> Mem<Bits>
     ensures size { IfOk result (λ facts. length facts ≡ length system.now.facts) }
     ensures exact { IfOk result (λ facts. (n : ℕ) → Has (member facts) n ↔ IsPossible system.now n) }
+    ensures computed { IfOk result (λ facts. (n : ℕ) → member facts n ≡ possible_in system.now n) }
 {
     let events = all_events(alloc, system.events())?;
     let facts = system.holds(alloc, &events)?;

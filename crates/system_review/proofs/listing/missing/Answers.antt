@@ -1,4 +1,4 @@
-use Rattle.std.proofs.Common.{ℕ, ◌≡◌, ◌+◌, List, subst, sym, arith}
+use Rattle.std.proofs.Common.{ℕ, ◌≡◌, ◌+◌, subst, sym, arith}
 use Rattle.fault_system.specs.Truth.{member}
 use Rattle.system_review.proofs.Rising.{Listed, is_missing, listed-none, listed-next, missing-end}
 use Rattle.system_review.proofs.listing.missing.Goals as goal

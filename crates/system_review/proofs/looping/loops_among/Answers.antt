@@ -1,4 +1,4 @@
-use Rattle.std.proofs.Common.{ℕ, ◌≡◌, List, [], nat_eq, ap, subst, sym, arith}
+use Rattle.std.proofs.Common.{List, nat_eq, ap, subst, sym, arith}
 use Rattle.std.specs.List.{list_any}
 use Rattle.std.specs.HashSet.{contains}
 use Rattle.system_review.specs.declared.looping.Loop.{Loop}

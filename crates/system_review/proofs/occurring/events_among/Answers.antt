@@ -1,4 +1,4 @@
-use Rattle.std.proofs.Common.{ℕ, ◌<◌, false, length, ⊎_elim, ap, arith}
+use Rattle.std.proofs.Common.{◌<◌, false, length, ⊎_elim, ap, arith}
 use Rattle.std.proofs.lemmas.List.{length-replicate}
 use Rattle.fault_system.proofs.Occurrences.{occurs_event-in_range, fact-in_range}
 use Rattle.system_review.proofs.Occurs.{fresh-not}

@@ -1,5 +1,5 @@
-use Rattle.std.proofs.Common.{ℕ, ◌≡◌, true, inl, inr, ⊎_elim, sym, subst}
-use Rattle.fault_system.specs.Truth.{NumberSet, occurs}
+use Rattle.std.proofs.Common.{◌≡◌, true, inl, inr, ⊎_elim, sym, subst}
+use Rattle.fault_system.specs.Truth.{occurs}
 use Rattle.fault_system.specs.declared.formula.FactInfo.{FactInfo}
 use Rattle.system_review.proofs.Occurs.{added-done, added-from, added-kept, one_fact}
 use Rattle.system_review.proofs.occurring.mark_used_by.Goals as goal

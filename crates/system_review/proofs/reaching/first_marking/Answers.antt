@@ -1,4 +1,4 @@
-use Rattle.std.proofs.Common.{ℕ, ◌≡◌, false, length, ap, ◌∙◌}
+use Rattle.std.proofs.Common.{false, length, ap, ◌∙◌}
 use Rattle.std.proofs.lemmas.List.{length-replicate}
 use Rattle.system_review.proofs.Occurs.{fresh-none}
 use Rattle.system_review.proofs.Reached.{marking-first}

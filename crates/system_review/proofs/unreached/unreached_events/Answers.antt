@@ -1,4 +1,4 @@
-use Rattle.std.proofs.Common.{ℕ, true, refl}
+use Rattle.std.proofs.Common.{refl}
 use Rattle.fault_system.specs.Truth.{member}
 use Rattle.fault_system.proofs.Occurrences.{occurs_event-in_range, fact-in_range}
 use Rattle.system_review.specs.Occurring.{IsUnreachedEvent, OccursAmong}

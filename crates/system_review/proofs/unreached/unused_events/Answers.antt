@@ -1,4 +1,4 @@
-use Rattle.std.proofs.Common.{ℕ, true, refl}
+use Rattle.std.proofs.Common.{true, refl}
 use Rattle.fault_system.specs.Truth.{member}
 use Rattle.system_review.specs.Occurring.{IsUnusedEvent, OccursAmong}
 use Rattle.system_review.proofs.Rising.{missing-as}
