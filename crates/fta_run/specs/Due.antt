@@ -16,7 +16,8 @@ use Rattle.fta_words.specs.declared.command.Paging.{Paging}
 use Rattle.model_phases.specs.Phases.{flat_model}
 use Rattle.model_phases.specs.declared.flat.FlatModel.{FlatModel}
 use Rattle.fta_run.specs.Words.{Command, Check, Cuts, Tree, Fmea, Report, Make, Galileo, Paths, Why, Confirm, IsCommand}
-use Rattle.fta_run.specs.Effects.{asked_effects}
+use Rattle.target_orders.specs.Text.{TellsOrders}
+use Rattle.fta_run.specs.Effects.{asked_effects, asked_targets}
 use Rattle.fta_run.specs.Later.{in_later_files}
 use Rattle.fta_run.specs.Files.{MayContain, NamesTooMany, HasTooLong, HasTooMuch, AreTokens, LacksTokens, AreUnits, LacksUnits}
 use Rattle.fta_run.specs.Model.{HasDuplicate, root_named}
@@ -79,6 +80,10 @@ check_text model = yields (numbers_text model.components (length model.system.fa
 -- the text of `fmea`: the rows of the effects of the root, or of all components
 abbrev pub fmea_text : Bool → FlatModel → Phase (List ℕ)
 fmea_text all model = yields (table_text model.system model.rates (rows_of model.system (asked_effects all model)))
+
+-- the text of `targets`: what it takes to make each effect of the root hold, or each fact
+abbrev pub targets_text : Bool → FlatModel → Phase (List ℕ)
+targets_text all model = accepts (TellsOrders model.system (asked_targets all model))
 
 -- the root, the target and the page of a model that is made
 abbrev pub made_root : Root
