@@ -16,7 +16,7 @@ use Rattle.phases.specs.declared.status.Status.{Status}
 use Rattle.phases.specs.declared.status.Status.TheVariants.{Usage, Refused}
 use Rattle.phases.proofs.Leaves.{decided_answers, decided_computes, decided_finds, decided_rejects, decided_accepts, decided_tests}
 use Rattle.phases.proofs.Decided as decided
-use Rattle.fta_run.specs.Words.{Check, Command, Cuts, Tree, Fmea, Report, Make, Galileo, Paths, Why, Confirm, Place, Help, Version, IsCommand, files_of}
+use Rattle.fta_run.specs.Words.{Check, Command, Cuts, Tree, Fmea, Targets, Report, Make, Galileo, Paths, Why, Confirm, Place, Help, Version, IsCommand, files_of}
 use Rattle.system_answers.specs.Voices.{Voice, labels}
 use Rattle.model_maker.specs.Text.{text_of as made_text}
 use Rattle.model_phases.specs.declared.flat.FlatModel.{FlatModel}
@@ -140,6 +140,7 @@ command_decided contents voices (Check root files) told = (files_model_decided c
 command_decided contents voices (Cuts root target files paging tokens) told = (texts_decided contents files told, λ texts are. cuts_in_decided root target paging tokens texts)
 command_decided contents voices (Tree root target files) told = (files_model_decided contents root files told, λ model at. tree_decided IsSameStatus itself target model.system model.rates (plain_model contents root files model at).system.is_system)
 command_decided contents voices (Fmea root files all) told = (files_model_decided contents root files told, λ model at. tt)
+command_decided contents voices (Targets root files all) told = (files_model_decided contents root files told, λ model at. tt)
 command_decided contents voices (Report root target files chosen max_order) told = (files_model_decided contents root files told, λ model at. report_decided IsSameStatus itself target chosen max_order voices model.system)
 command_decided contents voices (Make number text) told = make_decided number text
 command_decided contents voices (Galileo files limit max_order paths) told = (texts_decided contents files told, λ texts are. tree_sets_decided paths limit max_order (first_text texts))

@@ -17,7 +17,7 @@ use Rattle.model_phases.proofs.Decided.{IsARefusal, model_stops}
 use Rattle.model_phases.specs.declared.flat.FlatModel.{FlatModel}
 use Rattle.backward_slice.specs.Slices.{HasLargeSlice}
 use Rattle.property_reader.specs.declared.rate.Rate.{Rate}
-use Rattle.fta_run.specs.Words.{Check, Command, Cuts, Tree, Fmea, Report, Make, Galileo, Paths, Why, Confirm, Place, Help, Version, files_of, GiveCommand, GiveNoCommand, IsCommand, chosen_of, file_words}
+use Rattle.fta_run.specs.Words.{Check, Command, Cuts, Tree, Fmea, Targets, Report, Make, Galileo, Paths, Why, Confirm, Place, Help, Version, files_of, GiveCommand, GiveNoCommand, IsCommand, chosen_of, file_words}
 use Rattle.fta_run.specs.Files.{HasTooLong, HasTooMuch, LacksTokens, LacksUnits, NamesTooMany, most_files}
 use Rattle.plain_values.specs.Refusal.{of_words}
 use Rattle.fta_words.specs.declared.command.Paging.{Paging}
@@ -171,6 +171,7 @@ command_stops contents voices (Check root files) = (refusals (model_of_files con
 command_stops contents voices (Cuts root target files paging tokens) = (refusals (texts_of contents files) (texts_stop contents files), λ texts read. cuts_in_stop root target paging tokens texts)
 command_stops contents voices (Tree root target files) = (refusals (model_of_files contents root files) (files_model_stops contents root files), λ model at. tree_stop target model.system model.rates)
 command_stops contents voices (Fmea root files all) = (refusals (model_of_files contents root files) (files_model_stops contents root files), λ model at. tt)
+command_stops contents voices (Targets root files all) = (refusals (model_of_files contents root files) (files_model_stops contents root files), λ model at. tt)
 command_stops contents voices (Report root target files chosen max_order) =
     (refusals (model_of_files contents root files) (files_model_stops contents root files), λ model at. refusals (report_text target chosen max_order voices model.system) (report_stop target chosen max_order voices model.system))
 command_stops contents voices (Make number text) = refusals (make_text number text) (make_stop number text)
@@ -517,6 +518,7 @@ begins_same (Check root files) status t = tt
 begins_same (Cuts root target files paging tokens) status t = λ memory. refl
 begins_same (Tree root target files) status t = tt
 begins_same (Fmea root files all) status t = tt
+begins_same (Targets root files all) status t = tt
 begins_same (Report root target files chosen max_order) status t = tt
 begins_same (Make number text) status t = tt
 begins_same (Galileo files limit max_order paths) status t = tt

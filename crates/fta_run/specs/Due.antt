@@ -162,6 +162,9 @@ command_text contents voices (Tree root target files) = do
 command_text contents voices (Fmea root files all) = do
   model ← model_of_files contents root files
   fmea_text all model
+command_text contents voices (Targets root files all) = do
+  model ← model_of_files contents root files
+  targets_text all model
 command_text contents voices (Report root target files chosen max_order) = do
   model ← model_of_files contents root files
   report_text target chosen max_order voices model.system

@@ -8,7 +8,7 @@ use Rattle.fta_words.specs.declared.command.Paging.{Paging}
 use Rattle.fta_words.specs.declared.kind.Kind.{Kind}
 use Rattle.fta_words.specs.declared.kind.Kind.TheVariants as kind
 use Rattle.fta_words.specs.Shown.{command_shown}
-use Rattle.fta_words.specs.Words.{Alone, Apart, AreOptions, AreWords, Attached, Check, Command, Confirm, Cuts, Fmea, Galileo, Given, Help, IsCommand, IsFolded, IsNumberText, IsPlainWord, IsRoot, Make, NamesModel, Paths, Place, Report, Says, Spelling, Tree, Version, Why, before_options, file_words, files_of, is_option, name_of, option_words, spelled}
+use Rattle.fta_words.specs.Words.{Alone, Apart, AreOptions, AreWords, Attached, Check, Command, Confirm, Cuts, Fmea, Targets, Galileo, Given, Help, IsCommand, IsFolded, IsNumberText, IsPlainWord, IsRoot, Make, NamesModel, Paths, Place, Report, Says, Spelling, Tree, Version, Why, before_options, file_words, files_of, is_option, name_of, option_words, spelled}
 use Rattle.fta_words.specs.Reading.{Answers, HaveOptions, IsRead, ReadsAs, Say, Values, flags_of, kind_of, valued_of, values_of}
 use Rattle.fta_words.proofs.PlainFront.{no_end, no_option}
 use Rattle.fta_words.proofs.Places.{one_chosen}
@@ -74,6 +74,9 @@ to_read reports words (Tree root target files) x =
 to_read reports words (Fmea root files all) x =
     let s = split_words words (codes "fmea" ∷ x.0 ∷ files) (flags_of kind.Fmea) (valued_of kind.Fmea) x.1 x.2 in
     record { given = x.1; plain = subst (AllByRecursion IsPlainWord) (sym s.0) x.2.plain_words; options_are = s.1; options = x.2.options; read = (x.0, s.0, x.3, x.4) }
+to_read reports words (Targets root files all) x =
+    let s = split_words words (codes "targets" ∷ x.0 ∷ files) (flags_of kind.Targets) (valued_of kind.Targets) x.1 x.2 in
+    record { given = x.1; plain = subst (AllByRecursion IsPlainWord) (sym s.0) x.2.plain_words; options_are = s.1; options = x.2.options; read = (x.0, s.0, x.3, x.4) }
 to_read reports words (Report root target files chosen max_order) x =
     let s = split_words words (codes "report" ∷ x.0 ∷ x.1 ∷ files) (flags_of kind.Report) (valued_of kind.Report) x.2 x.3 in
     record { given = x.2; plain = subst (AllByRecursion IsPlainWord) (sym s.0) x.3.plain_words; options_are = s.1; options = x.3.options; read = (x.0, x.1, s.0, x.4, x.5, x.6, x.7) }
@@ -132,6 +135,10 @@ from_read reports words (Fmea root files all) x =
     let r = x.read in
     let are = words_from words (codes "fmea" ∷ r.0 ∷ files) (flags_of kind.Fmea) (valued_of kind.Fmea) x.given x.plain r.1 x.options_are x.options in
     (r.0, x.given, are, r.2, r.3)
+from_read reports words (Targets root files all) x =
+    let r = x.read in
+    let are = words_from words (codes "targets" ∷ r.0 ∷ files) (flags_of kind.Targets) (valued_of kind.Targets) x.given x.plain r.1 x.options_are x.options in
+    (r.0, x.given, are, r.2, r.3)
 from_read reports words (Report root target files chosen max_order) x =
     let r = x.read in
     let are = words_from words (codes "report" ∷ r.0 ∷ r.1 ∷ files) (flags_of kind.Report) (valued_of kind.Report) x.given x.plain r.2 x.options_are x.options in
@@ -179,6 +186,7 @@ abbrev kind_by_name : List ℕ → Option Kind
 kind_by_name name =
     if is_same_text name (codes "check") then Some kind.Check else if is_same_text name (codes "cuts") then Some kind.Cuts
     else if is_same_text name (codes "tree") then Some kind.Tree else if is_same_text name (codes "fmea") then Some kind.Fmea
+    else if is_same_text name (codes "targets") then Some kind.Targets
     else if is_same_text name (codes "report") then Some kind.Report else if is_same_text name (codes "make") then Some kind.Make
     else if is_same_text name (codes "galileo") then Some kind.Galileo else if is_same_text name (codes "paths") then Some kind.Paths
     else if is_same_text name (codes "why") then Some kind.Why else if is_same_text name (codes "confirm") then Some kind.Confirm
@@ -189,6 +197,7 @@ named_again kind.Check = refl
 named_again kind.Cuts = refl
 named_again kind.Tree = refl
 named_again kind.Fmea = refl
+named_again kind.Targets = refl
 named_again kind.Report = refl
 named_again kind.Make = refl
 named_again kind.Galileo = refl
@@ -209,6 +218,7 @@ read_name reports plain values (Check root files) r = (r.0 ∷ files, r.1)
 read_name reports plain values (Cuts root target files paging tokens) r = (r.0 ∷ r.1 ∷ files, r.2)
 read_name reports plain values (Tree root target files) r = (r.0 ∷ r.1 ∷ files, r.2)
 read_name reports plain values (Fmea root files all) r = (r.0 ∷ files, r.1)
+read_name reports plain values (Targets root files all) r = (r.0 ∷ files, r.1)
 read_name reports plain values (Report root target files chosen max_order) r = (r.0 ∷ r.1 ∷ files, r.2)
 read_name reports plain values (Make number text) r = (r.0 ∷ [], r.1)
 read_name reports plain values (Galileo files limit max_order paths) r = (files, r.0)
@@ -261,6 +271,7 @@ Parts kind.Check = Root × List (List ℕ)
 Parts kind.Cuts = Root × List ℕ × List (List ℕ) × Paging × Bool
 Parts kind.Tree = Root × List ℕ × List (List ℕ)
 Parts kind.Fmea = Root × List (List ℕ) × Bool
+Parts kind.Targets = Root × List (List ℕ) × Bool
 Parts kind.Report = Root × List ℕ × List (List ℕ) × List ℕ × Option ℕ
 Parts kind.Make = ℕ × Bool
 Parts kind.Galileo = List (List ℕ) × Option ℕ × Option ℕ × Bool
@@ -276,6 +287,7 @@ made kind.Check p = Check p.0 p.1
 made kind.Cuts p = Cuts p.0 p.1 p.2 p.3 p.4
 made kind.Tree p = Tree p.0 p.1 p.2
 made kind.Fmea p = Fmea p.0 p.1 p.2
+made kind.Targets p = Targets p.0 p.1 p.2
 made kind.Report p = Report p.0 p.1 p.2 p.3 p.4
 made kind.Make p = Make p.0 p.1
 made kind.Galileo p = Galileo p.0 p.1 p.2 p.3
@@ -291,6 +303,7 @@ parts_of (Check root files) = (root, files)
 parts_of (Cuts root target files paging tokens) = (root, target, files, paging, tokens)
 parts_of (Tree root target files) = (root, target, files)
 parts_of (Fmea root files all) = (root, files, all)
+parts_of (Targets root files all) = (root, files, all)
 parts_of (Report root target files chosen max_order) = (root, target, files, chosen, max_order)
 parts_of (Make number text) = (number, text)
 parts_of (Galileo files limit max_order paths) = (files, limit, max_order, paths)
@@ -306,6 +319,7 @@ made_again (Check root files) = refl
 made_again (Cuts root target files paging tokens) = refl
 made_again (Tree root target files) = refl
 made_again (Fmea root files all) = refl
+made_again (Targets root files all) = refl
 made_again (Report root target files chosen max_order) = refl
 made_again (Make number text) = refl
 made_again (Galileo files limit max_order paths) = refl
@@ -378,6 +392,10 @@ one_of_kind reports plain values kind.Fmea p q x y =
     let both : codes "fmea" ∷ x.0 ∷ p.1 ≡ codes "fmea" ∷ y.0 ∷ q.1 = sym x.1 ∙ y.1 in
     let flags : p.2 ≡ q.2 = x.3 ∙ sym y.3 in
     ap (λ (a : Root × List (List ℕ)). Fmea a.0 a.1 p.2) (one_model (codes "fmea") x.0 y.0 p.0 q.0 p.1 q.1 both x.2 y.2) ∙ ap (λ b. Fmea q.0 q.1 b) flags
+one_of_kind reports plain values kind.Targets p q x y =
+    let both : codes "targets" ∷ x.0 ∷ p.1 ≡ codes "targets" ∷ y.0 ∷ q.1 = sym x.1 ∙ y.1 in
+    let flags : p.2 ≡ q.2 = x.3 ∙ sym y.3 in
+    ap (λ (a : Root × List (List ℕ)). Targets a.0 a.1 p.2) (one_model (codes "targets") x.0 y.0 p.0 q.0 p.1 q.1 both x.2 y.2) ∙ ap (λ b. Targets q.0 q.1 b) flags
 one_of_kind reports plain values kind.Report p q x y =
     let both : codes "report" ∷ x.0 ∷ x.1 ∷ p.2 ≡ codes "report" ∷ y.0 ∷ y.1 ∷ q.2 = sym x.2 ∙ y.2 in
     let asked = one_asked (codes "report") x.0 y.0 x.1 y.1 p.0 q.0 p.1 q.1 p.2 q.2 both x.3 y.3 x.4 y.4 in
@@ -458,6 +476,8 @@ file_words_are reports words (Tree root target files) x =
     ap file_words x.3.words_are ∙ ap (drop 3) (front_of (codes "tree" ∷ x.0 ∷ x.1 ∷ files) (option_words x.2) x.3.plain_words (begin_with_option x.2))
 file_words_are reports words (Fmea root files all) x =
     ap file_words x.2.words_are ∙ ap (drop 2) (front_of (codes "fmea" ∷ x.0 ∷ files) (option_words x.1) x.2.plain_words (begin_with_option x.1))
+file_words_are reports words (Targets root files all) x =
+    ap file_words x.2.words_are ∙ ap (drop 2) (front_of (codes "targets" ∷ x.0 ∷ files) (option_words x.1) x.2.plain_words (begin_with_option x.1))
 file_words_are reports words (Report root target files chosen max_order) x =
     ap file_words x.3.words_are ∙ ap (drop 3) (front_of (codes "report" ∷ x.0 ∷ x.1 ∷ files) (option_words x.2) x.3.plain_words (begin_with_option x.2))
 file_words_are reports words (Make number text) x =

@@ -68,6 +68,7 @@ kinds_apart kind.Cuts =
     }
 kinds_apart kind.Tree = record { flag_names = no_equals [] tt; valued_names = no_equals [] tt; apart = λ name has other. none_of name has }
 kinds_apart kind.Fmea = record { flag_names = no_equals (codes "all" ∷ []) (refl, tt); valued_names = no_equals [] tt; apart = λ name has other. none_of name other }
+kinds_apart kind.Targets = record { flag_names = no_equals (codes "all" ∷ []) (refl, tt); valued_names = no_equals [] tt; apart = λ name has other. none_of name other }
 kinds_apart kind.Report = record { flag_names = no_equals [] tt; valued_names = no_equals (codes "reports" ∷ codes "max-order" ∷ []) (refl, (refl, tt)); apart = λ name has other. none_of name has }
 kinds_apart kind.Make = record { flag_names = no_equals (codes "text" ∷ []) (refl, tt); valued_names = no_equals [] tt; apart = λ name has other. none_of name other }
 kinds_apart kind.Galileo =

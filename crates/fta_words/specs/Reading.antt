@@ -7,7 +7,7 @@ use Rattle.fta_words.specs.declared.options.Options.{Options}
 use Rattle.fta_words.specs.declared.command.Command.{Command as CommandInCode}
 use Rattle.fta_words.specs.declared.command.Paging.{Paging}
 use Rattle.fta_words.specs.Shown.{command_shown}
-use Rattle.fta_words.specs.Words.{AreChosen, AreOptions, Check, Command, Confirm, Cuts, Fmea, Galileo, Given, GiveNoCommand, Help, IsAllowed, IsCommand, IsFolded, IsNumberText, Make, NamesModel, Paths, Place, Report, Says, Spelling, Tree, Version, Why, has_flag, name_of, option_words, spelled, value_of}
+use Rattle.fta_words.specs.Words.{AreChosen, AreOptions, Check, Command, Confirm, Cuts, Fmea, Targets, Galileo, Given, GiveNoCommand, Help, IsAllowed, IsCommand, IsFolded, IsNumberText, Make, NamesModel, Paths, Place, Report, Says, Spelling, Tree, Version, Why, has_flag, name_of, option_words, spelled, value_of}
 
 -- whether letters and digits follow, each perhaps after one `_`: it goes along the bytes, and after a
 -- `_` (waiting) a letter or digit must stand
@@ -24,6 +24,7 @@ flags_of kind.Check = []
 flags_of kind.Cuts = codes "tokens" ∷ []
 flags_of kind.Tree = []
 flags_of kind.Fmea = codes "all" ∷ []
+flags_of kind.Targets = codes "all" ∷ []
 flags_of kind.Report = []
 flags_of kind.Make = codes "text" ∷ []
 flags_of kind.Galileo = codes "paths" ∷ []
@@ -40,6 +41,7 @@ valued_of kind.Check = []
 valued_of kind.Cuts = codes "limit" ∷ codes "after" ∷ codes "max-order" ∷ []
 valued_of kind.Tree = []
 valued_of kind.Fmea = []
+valued_of kind.Targets = []
 valued_of kind.Report = codes "reports" ∷ codes "max-order" ∷ []
 valued_of kind.Make = []
 valued_of kind.Galileo = codes "limit" ∷ codes "max-order" ∷ []
@@ -120,6 +122,7 @@ kind_of (Check root files) = kind.Check
 kind_of (Cuts root target files paging tokens) = kind.Cuts
 kind_of (Tree root target files) = kind.Tree
 kind_of (Fmea root files all) = kind.Fmea
+kind_of (Targets root files all) = kind.Targets
 kind_of (Report root target files chosen max_order) = kind.Report
 kind_of (Make number text) = kind.Make
 kind_of (Galileo files limit max_order paths) = kind.Galileo
@@ -145,6 +148,8 @@ IsRead reports plain values (Tree root target files) =
     × NamesModel root_word root files × IsFolded target_word target
 IsRead reports plain values (Fmea root files all) =
     (root_word : List ℕ) × (plain ≡ codes "fmea" ∷ root_word ∷ files) × NamesModel root_word root files × (all ≡ values.all)
+IsRead reports plain values (Targets root files all) =
+    (root_word : List ℕ) × (plain ≡ codes "targets" ∷ root_word ∷ files) × NamesModel root_word root files × (all ≡ values.all)
 IsRead reports plain values (Report root target files chosen max_order) =
     (root_word : List ℕ) × (target_word : List ℕ) × (plain ≡ codes "report" ∷ root_word ∷ target_word ∷ files)
     × NamesModel root_word root files × IsFolded target_word target

@@ -1,7 +1,7 @@
 -- What values of the code stand for.
 use Rattle.fta_words.specs.declared.command.Command.{Command as CommandInCode}
 use Rattle.fta_words.specs.declared.command.Command.TheVariants as in_code
-use Rattle.fta_words.specs.Words.{Command, Check, Cuts, Tree, Fmea, Report, Make, Galileo, Paths, Why, Confirm, Place, Help, Version}
+use Rattle.fta_words.specs.Words.{Command, Check, Cuts, Tree, Fmea, Targets, Report, Make, Galileo, Paths, Why, Confirm, Place, Help, Version}
 
 -- a command
 abbrev pub command_shown : CommandInCode → Command
@@ -9,6 +9,7 @@ command_shown (in_code.Check root files) = Check root files.now
 command_shown (in_code.Cuts root target files paging tokens) = Cuts root target files.now paging tokens
 command_shown (in_code.Tree root target files) = Tree root target files.now
 command_shown (in_code.Fmea root files all) = Fmea root files.now all
+command_shown (in_code.Targets root files all) = Targets root files.now all
 command_shown (in_code.Report root target files chosen max_order) = Report root target files.now chosen max_order
 command_shown (in_code.Make number text) = Make number text
 command_shown (in_code.Galileo files limit max_order paths) = Galileo files.now limit max_order paths

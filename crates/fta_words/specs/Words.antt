@@ -121,6 +121,7 @@ name_of kind.Check = codes "check"
 name_of kind.Cuts = codes "cuts"
 name_of kind.Tree = codes "tree"
 name_of kind.Fmea = codes "fmea"
+name_of kind.Targets = codes "targets"
 name_of kind.Report = codes "report"
 name_of kind.Make = codes "make"
 name_of kind.Galileo = codes "galileo"
@@ -141,6 +142,7 @@ pub data Command : Type 0 where
   Tree : Root → List ℕ → List (List ℕ) → Command
   -- the FMEA table of such a model, of all effects or of those of the root
   Fmea : Root → List (List ℕ) → Bool → Command
+  Targets : Root → List (List ℕ) → Bool → Command
   -- the reports of these places over the minimal cut sets of such a fact, of at most so many events
   Report : Root → List ℕ → List (List ℕ) → List ℕ → Option ℕ → Command
   -- what is said of a model that is made, of this size; or its text
@@ -166,6 +168,7 @@ files_of (Check root files) = files
 files_of (Cuts root target files paging tokens) = files
 files_of (Tree root target files) = files
 files_of (Fmea root files all) = files
+files_of (Targets root files all) = files
 files_of (Report root target files chosen max_order) = files
 files_of (Make number text) = []
 files_of (Galileo files limit max_order paths) = files
@@ -246,6 +249,9 @@ IsCommand reports words (Tree root target files) =
 IsCommand reports words (Fmea root files all) =
     (root_word : List ℕ) × (given : List Given) × AreWords words (codes "fmea" ∷ root_word ∷ files) (codes "all" ∷ []) [] given
     × NamesModel root_word root files × (all ≡ has_flag (codes "all") given)
+IsCommand reports words (Targets root files all) =
+    (root_word : List ℕ) × (given : List Given) × AreWords words (codes "targets" ∷ root_word ∷ files) (codes "all" ∷ []) [] given
+    × NamesModel root_word root files × (all ≡ has_flag (codes "all") given)
 IsCommand reports words (Report root target files chosen max_order) =
     (root_word : List ℕ) × (target_word : List ℕ) × (given : List Given)
     × AreWords words (codes "report" ∷ root_word ∷ target_word ∷ files) [] (codes "reports" ∷ codes "max-order" ∷ []) given
@@ -308,11 +314,11 @@ before_options (word ∷ words) = if is_option word then [] else word ∷ before
 -- how many plain words of a command of this name stand before its files
 abbrev pub words_before_files : List ℕ → ℕ
 words_before_files name =
-    if is_same_text name (codes "check") then 2 else if is_same_text name (codes "fmea") then 2 else if is_same_text name (codes "make") then 2
-    else if is_same_text name (codes "galileo") then 1 else 3
+    if is_same_text name (codes "check") then 2 else if is_same_text name (codes "fmea") then 2 else if is_same_text name (codes "targets") then 2
+    else if is_same_text name (codes "make") then 2 else if is_same_text name (codes "galileo") then 1 else 3
 
--- the words that name files: that behind the first of `place`; those behind the first two of `check`, `fmea` and `make`, behind the
--- first of `galileo`, and behind the first three of any other, up to the first that begins with `-`
+-- the words that name files: that behind the first of `place`; those behind the first two of `check`, `fmea`, `targets` and `make`, behind
+-- the first of `galileo`, and behind the first three of any other, up to the first that begins with `-`
 abbrev pub file_words : List (List ℕ) → List (List ℕ)
 file_words [] = []
 file_words (name ∷ words) =

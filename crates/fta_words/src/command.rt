@@ -45,6 +45,12 @@ pub enum Command<'a> {
         files: &'a [Word],
         all: bool,
     },
+    /// What it takes to make each fact of such a model hold, or each effect of the root.
+    Targets {
+        root: Root,
+        files: &'a [Word],
+        all: bool,
+    },
     /// The reports of these places, which rise, over the minimal cut sets of such a fact, of at most so many events.
     Report {
         root: Root,
@@ -175,6 +181,7 @@ fn command_of<'a>(
         Kind::Cuts => cuts(alloc, words, options),
         Kind::Tree => tree(alloc, words, options),
         Kind::Fmea => fmea(alloc, words, options),
+        Kind::Targets => targets(alloc, words, options),
         Kind::Report => report(alloc, words, options, reports),
         Kind::Make => Ok(make(words, options)),
         Kind::Galileo => Ok(galileo(words, options)),
@@ -278,6 +285,22 @@ fn fmea<'a>(alloc: Global, words: &'a [Word], options: &Options<'_>) -> Mem<Opti
         return Ok(None);
     };
     Ok(Some(Command::Fmea {
+        root,
+        files,
+        all: options.all,
+    }))
+}
+
+fn targets<'a>(alloc: Global, words: &'a [Word], options: &Options<'_>) -> Mem<Option<Command<'a>>>
+    ensures { (reports : List (List ℕ)) → IfOk result (ReadsAs reports (codes "targets" ∷ words.now) (options_shown options.now)) }
+{
+    let [root, files @ ..] = words else {
+        return Ok(None);
+    };
+    let Some(root) = root_in(alloc, root.items(), files)? else {
+        return Ok(None);
+    };
+    Ok(Some(Command::Targets {
         root,
         files,
         all: options.all,

@@ -3,7 +3,7 @@ ghost use Rattle.fta_words.specs.Words.{before_options, file_words, is_option, w
 
 use plain_values::{Word, is_same};
 
-/// The words that name files: that behind the first of `place`; those behind the first two of `check`, `fmea` and `make`, behind
+/// The words that name files: that behind the first of `place`; those behind the first two of `check`, `fmea`, `targets` and `make`, behind
 /// the first of `galileo`, and behind the first three of any other, up to the first that begins with `-`.
 pub fn file_words(words: &[Word]) -> &[Word]
     ensures { result.now ≡ file_words words.now }
@@ -37,7 +37,9 @@ fn second_of(words: &[Word]) -> &[Word]
 fn words_before_files(name: &[u8]) -> usize
     ensures { result ≡ words_before_files name.now }
 {
-    if is_same(name, b"check") || is_same(name, b"fmea") || is_same(name, b"make") {
+    if is_same(name, b"check") || is_same(name, b"fmea") {
+        2
+    } else if is_same(name, b"targets") || is_same(name, b"make") {
         2
     } else if is_same(name, b"galileo") {
         1

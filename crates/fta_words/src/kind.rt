@@ -12,6 +12,7 @@ pub enum Kind {
     Cuts,
     Tree,
     Fmea,
+    Targets,
     Report,
     Make,
     Galileo,
@@ -38,6 +39,9 @@ pub(crate) fn kind_named(name: &[u8]) -> Option<Kind>
     }
     if is_same(name, b"fmea") {
         return Some(Kind::Fmea);
+    }
+    if is_same(name, b"targets") {
+        return Some(Kind::Targets);
     }
     if is_same(name, b"report") {
         return Some(Kind::Report);
@@ -75,7 +79,7 @@ pub(crate) fn has_flag(kind: Kind, name: &[u8]) -> bool
 {
     match kind {
         Kind::Cuts => is_same(name, b"tokens"),
-        Kind::Fmea => is_same(name, b"all"),
+        Kind::Fmea | Kind::Targets => is_same(name, b"all"),
         Kind::Make => is_same(name, b"text"),
         Kind::Galileo => is_same(name, b"paths"),
         Kind::Check | Kind::Tree | Kind::Report | Kind::Paths | Kind::Why | Kind::Confirm => false,
@@ -94,7 +98,7 @@ pub(crate) fn has_valued(kind: Kind, name: &[u8]) -> bool
         Kind::Report => is_same(name, b"reports") || is_same(name, b"max-order"),
         Kind::Galileo => is_same(name, b"limit") || is_same(name, b"max-order"),
         Kind::Why | Kind::Confirm => is_same(name, b"set"),
-        Kind::Check | Kind::Tree | Kind::Fmea | Kind::Make => false,
+        Kind::Check | Kind::Tree | Kind::Fmea | Kind::Targets | Kind::Make => false,
         Kind::Place | Kind::Help | Kind::Version => false,
     }
 }

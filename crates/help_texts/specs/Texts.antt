@@ -12,6 +12,7 @@ command_lines =
     ++ codes "cuts ROOT TARGET FILE..: the minimal cut sets of a target, or a page of them\n"
     ++ codes "tree ROOT TARGET FILE..: the static fault tree of a target as Galileo text\n"
     ++ codes "fmea ROOT FILE..: the table of the effects that each event reaches alone\n"
+    ++ codes "targets ROOT FILE..: the facts that may be asked, and how many events each takes\n"
     ++ codes "report ROOT TARGET FILE..: what reports count in the minimal cut sets of a target\n"
     ++ codes "make N: what is said of a model of N pairs of parts, or its text\n"
     ++ codes "galileo FILE: the minimal cut sets, or path sets, of a tree in Galileo text\n"
@@ -77,6 +78,19 @@ fmea_lines =
     ++ codes "\n"
     ++ codes "Example, in the folder of the repository:\n"
     ++ codes "./aadl_fta fmea Acs::Control.dual examples/attitude_control.aadl\n"
+
+abbrev pub targets_lines : List ℕ
+targets_lines =
+    codes "aadl_fta targets ROOT FILE.. [--all]\n"
+    ++ codes "\n"
+    ++ codes "Lists the facts that may be asked as TARGET, each with how many events it takes at least to bring it\n"
+    ++ codes "about: a number, always where it takes none, never where no events do, or large where it depends on too\n"
+    ++ codes "much to be listed. They are the states of the root that are not initial, and what leaves it.\n"
+    ++ codes "\n"
+    ++ codes "--all          all facts\n"
+    ++ codes "\n"
+    ++ codes "Example, in the folder of the repository:\n"
+    ++ codes "./aadl_fta targets Acs::Control.dual examples/attitude_control.aadl\n"
 
 abbrev pub report_lines : List ℕ
 report_lines =
@@ -192,6 +206,7 @@ lines_of kind.Check = check_lines
 lines_of kind.Cuts = cuts_lines
 lines_of kind.Tree = tree_lines
 lines_of kind.Fmea = fmea_lines
+lines_of kind.Targets = targets_lines
 lines_of kind.Report = report_lines
 lines_of kind.Make = make_lines
 lines_of kind.Galileo = galileo_lines

@@ -1,7 +1,7 @@
 //! The text of each command.
 
 ghost use Rattle.std.specs.Prelude.{◌≡◌};
-ghost use Rattle.help_texts.specs.Texts.{check_lines, confirm_lines, cuts_lines, fmea_lines, galileo_lines, help_lines, make_lines, paths_lines, place_lines, report_lines, tree_lines, version_lines, why_lines, lines_of};
+ghost use Rattle.help_texts.specs.Texts.{check_lines, confirm_lines, cuts_lines, fmea_lines, galileo_lines, help_lines, make_lines, paths_lines, place_lines, report_lines, targets_lines, tree_lines, version_lines, why_lines, lines_of};
 
 use fta_words::Kind;
 
@@ -14,6 +14,7 @@ pub(crate) fn lines_of(command: Kind) -> &'static [u8]
         Kind::Cuts => cuts_lines(),
         Kind::Tree => tree_lines(),
         Kind::Fmea => fmea_lines(),
+        Kind::Targets => targets_lines(),
         Kind::Report => report_lines(),
         Kind::Make => make_lines(),
         Kind::Galileo => galileo_lines(),
@@ -81,6 +82,21 @@ fn fmea_lines() -> &'static [u8]
     \n\
     Example, in the folder of the repository:\n\
     ./aadl_fta fmea Acs::Control.dual examples/attitude_control.aadl\n"
+}
+
+fn targets_lines() -> &'static [u8]
+    ensures { result.now ≡ targets_lines }
+{
+    b"aadl_fta targets ROOT FILE.. [--all]\n\
+    \n\
+    Lists the facts that may be asked as TARGET, each with how many events it takes at least to bring it\n\
+    about: a number, always where it takes none, never where no events do, or large where it depends on too\n\
+    much to be listed. They are the states of the root that are not initial, and what leaves it.\n\
+    \n\
+    --all          all facts\n\
+    \n\
+    Example, in the folder of the repository:\n\
+    ./aadl_fta targets Acs::Control.dual examples/attitude_control.aadl\n"
 }
 
 fn report_lines() -> &'static [u8]

@@ -33,6 +33,7 @@ fn all_lines() -> &'static [u8]
     cuts ROOT TARGET FILE..: the minimal cut sets of a target, or a page of them\n\
     tree ROOT TARGET FILE..: the static fault tree of a target as Galileo text\n\
     fmea ROOT FILE..: the table of the effects that each event reaches alone\n\
+    targets ROOT FILE..: the facts that may be asked, and how many events each takes\n\
     report ROOT TARGET FILE..: what reports count in the minimal cut sets of a target\n\
     make N: what is said of a model of N pairs of parts, or its text\n\
     galileo FILE: the minimal cut sets, or path sets, of a tree in Galileo text\n\
