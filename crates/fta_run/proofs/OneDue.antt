@@ -28,6 +28,9 @@ use Rattle.system_answers.proofs.Derived.{confirm_decided, why_decided}
 use Rattle.system_answers.proofs.Decided.{cuts_decided, galileo_paths_text_decided, galileo_text_decided, listing_decided, paths_decided, report_decided, slice_decided, target_decided, tree_decided}
 use Rattle.page_tokens.specs.Keys.{asked_digits}
 use Rattle.fta_run.specs.Due.{command_text, confirmed_in, cuts_in, due, first_text, made_root, made_target, make_text, model_of_files, model_of_texts, model_of_units, other_texts, sets_of_tree, sized_text, texts_of, units_of, within_limits}
+use Rattle.target_orders.specs.Text.{TellsOrders}
+use Rattle.target_orders.proofs.Said.{one-text}
+use Rattle.fta_run.specs.Effects.{asked_targets}
 use Rattle.fta_run.specs.Later.{IsLater, in_later_files, later_refusal, next_file}
 use Rattle.fta_run.specs.Answers.{AllTold, IsOutput, IsSameStatus}
 use Rattle.fta_run.proofs.Commands.{one_command}
@@ -140,7 +143,7 @@ command_decided contents voices (Check root files) told = (files_model_decided c
 command_decided contents voices (Cuts root target files paging tokens) told = (texts_decided contents files told, λ texts are. cuts_in_decided root target paging tokens texts)
 command_decided contents voices (Tree root target files) told = (files_model_decided contents root files told, λ model at. tree_decided IsSameStatus itself target model.system model.rates (plain_model contents root files model at).system.is_system)
 command_decided contents voices (Fmea root files all) told = (files_model_decided contents root files told, λ model at. tt)
-command_decided contents voices (Targets root files all) told = (files_model_decided contents root files told, λ model at. tt)
+command_decided contents voices (Targets root files all) told = (files_model_decided contents root files told, λ model at. decided_accepts IsSameStatus (TellsOrders model.system (asked_targets all model)) (one-text model.system (asked_targets all model)))
 command_decided contents voices (Report root target files chosen max_order) told = (files_model_decided contents root files told, λ model at. report_decided IsSameStatus itself target chosen max_order voices model.system)
 command_decided contents voices (Make number text) told = make_decided number text
 command_decided contents voices (Galileo files limit max_order paths) told = (texts_decided contents files told, λ texts are. tree_sets_decided paths limit max_order (first_text texts))

@@ -171,7 +171,7 @@ command_stops contents voices (Check root files) = (refusals (model_of_files con
 command_stops contents voices (Cuts root target files paging tokens) = (refusals (texts_of contents files) (texts_stop contents files), λ texts read. cuts_in_stop root target paging tokens texts)
 command_stops contents voices (Tree root target files) = (refusals (model_of_files contents root files) (files_model_stops contents root files), λ model at. tree_stop target model.system model.rates)
 command_stops contents voices (Fmea root files all) = (refusals (model_of_files contents root files) (files_model_stops contents root files), λ model at. tt)
-command_stops contents voices (Targets root files all) = (refusals (model_of_files contents root files) (files_model_stops contents root files), λ model at. tt)
+command_stops contents voices (Targets root files all) = (refusals (model_of_files contents root files) (files_model_stops contents root files), λ model at status none. absurd none)
 command_stops contents voices (Report root target files chosen max_order) =
     (refusals (model_of_files contents root files) (files_model_stops contents root files), λ model at. refusals (report_text target chosen max_order voices model.system) (report_stop target chosen max_order voices model.system))
 command_stops contents voices (Make number text) = refusals (make_text number text) (make_stop number text)

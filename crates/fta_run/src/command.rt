@@ -12,7 +12,7 @@ ghost use Rattle.fta_run.specs.Line.{status_line};
 ghost use Rattle.fta_run.specs.Answers.{AllTold, AnswersWords, BeginsWithMemory, IsCaused, IsJustified, IsManyAnswer, IsOutput, MayCome, Took};
 ghost use Rattle.fta_run.specs.Due.{check_text, cuts_in, due, fmea_text, model_of_files, model_of_texts, sets_of_tree};
 ghost use Rattle.fta_run.specs.Files.{most_files};
-ghost use Rattle.fta_run.specs.Words.{Check, Command as AnyCommand, Confirm, Cuts, Fmea, Galileo, GiveNoCommand, IsCommand, Paths, Place, Report, Tree, Why, chosen_of, file_words, files_of};
+ghost use Rattle.fta_run.specs.Words.{Check, Command as AnyCommand, Confirm, Cuts, Fmea, Galileo, GiveNoCommand, IsCommand, Paths, Place, Report, Targets, Tree, Why, chosen_of, file_words, files_of};
 ghost use Rattle.system_answers.specs.Prints.{Prints};
 ghost use Rattle.system_answers.specs.Voices.{labels, voices_of};
 ghost use Rattle.cut_reports.specs.Feeding.{IsKept, RoseAt};
@@ -28,6 +28,7 @@ use crate::line::write_line;
 use crate::made::write_make;
 use crate::model::model_of_texts;
 use crate::places::write_place;
+use crate::targets::write_targets;
 use crate::text::write_numbers;
 use crate::words::command_of;
 use fta_outside::{Files, Report, Sink};
@@ -46,7 +47,8 @@ use system_answers::{
 ///
 /// `check ROOT FILE..` writes the numbers of components, facts and events of the model of a root in the files,
 /// `cuts ROOT TARGET FILE..` a page of the minimal cut sets of a fact in it, `tree ROOT TARGET FILE..` its static fault tree as
-/// Galileo text, `fmea ROOT FILE..` the table of the effects that each event reaches alone, `report ROOT TARGET FILE..` what the
+/// Galileo text, `fmea ROOT FILE..` the table of the effects that each event reaches alone, `targets ROOT FILE..` how many events it takes
+/// to make each effect of the root hold, `report ROOT TARGET FILE..` what the
 /// handed-in reports say of all minimal cut sets of a fact, `make N` what is said of a model that is made of a number, and
 /// `galileo FILE` the minimal cut sets, or path sets, of a tree in Galileo text. `paths ROOT TARGET FILE..` writes a page of the minimal
 /// path sets of a fact, `why ROOT TARGET FILE..` a derivation of it under a set of events, and `confirm ROOT TARGET DERIVATION FILE..`
@@ -177,6 +179,11 @@ fn write_command<F: Files, S: Sink>(
             files: names,
             all,
         } => fmea(alloc, root, names, *all, files, out),
+        Command::Targets {
+            root,
+            files: names,
+            all,
+        } => targets(alloc, root, names, *all, files, out),
         Command::Report {
             root,
             target,
@@ -326,6 +333,23 @@ fn fmea<F: Files, S: Sink>(
 {
     let model = read_model(alloc, root, names, files)?;
     write_fmea(alloc, &model, all, out)
+}
+
+/// Writes what it takes to make each target of the model of a root hold.
+fn targets<F: Files, S: Sink>(
+    alloc: Global,
+    root: &Root,
+    names: &[Word],
+    all: bool,
+    files: &mut F,
+    out: &mut S,
+) -> Result<(), Status>
+    ensures end { RunsAlone (Targets root.now names.now all) (F.contents files.old) (F.faults files.old) (F.faults files.new) result (S.taken out.old) (S.taken out.new) (S.faults out.old) (S.faults out.new) }
+    ensures too_many { most_files < length names.now → files.new ≡ files.old }
+    ensures many { most_files < length names.now → IsManyAnswer (ended result) }
+{
+    let model = read_model(alloc, root, names, files)?;
+    write_targets(alloc, &model, all, out)
 }
 
 /// Writes what the chosen reports say of the listing of a target in the model of a root.

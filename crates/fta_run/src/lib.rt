@@ -11,6 +11,7 @@ mod line;
 mod made;
 mod model;
 mod places;
+mod targets;
 mod text;
 mod words;
 
