@@ -1,0 +1,3 @@
+mod Feeds
+mod Placed
+pub mod Examples

@@ -1,0 +1,8 @@
+//! The place of a byte in a text, as a person looks for it: by line and column, with the line itself and a caret below the byte.
+#![tactic(auto)]
+
+mod columns;
+mod lines;
+mod places;
+
+pub use places::place_text;
