@@ -1,0 +1,10 @@
+use Rattle.std.proofs.Common.{◌+◌, ◌-◌, length}
+use Rattle.fault_system.specs.Truth.{count_true}
+use Rattle.system_review.specs.Marks.{IsMarking}
+use Rattle.system_review.proofs.reaching.reached.Given as goal
+
+abbrev pub invariant-loop-number : goal.invariant-loop-number
+invariant-loop-number l = IsMarking l.system l.from l.marking
+
+abbrev pub decreases-loop-number : goal.decreases-loop-number
+decreases-loop-number l = length l.marking.waiting.items + length l.system.facts - count_true l.marking.facts

@@ -1,0 +1,42 @@
+//! Which facts may come about: those that hold when all events occur, since what holds under some events holds under more.
+
+ghost use Rattle.std.specs.Prelude.{◌≡◌, ◌↔◌, ◌<◌, ℕ, IfOk, length};
+ghost use Rattle.fault_system.specs.Truth.{Has, member};
+ghost use Rattle.system_review.specs.Listed.{AreAll};
+ghost use Rattle.system_review.specs.Possible.{IsNever, IsPossible, possible_in};
+
+use crate::listing::{Everything, missing};
+use fault_system::{Bits, FaultSystem};
+use plain_values::{List, Mem};
+use std::alloc::Global;
+
+/// The facts that hold under some set of events.
+pub fn possible_facts(alloc: Global, system: &FaultSystem) -> Mem<Bits>
+    ensures size { IfOk result (λ facts. length facts ≡ length system.now.facts) }
+    ensures exact { IfOk result (λ facts. (n : ℕ) → Has (member facts) n ↔ IsPossible system.now n) }
+    ensures computed { IfOk result (λ facts. (n : ℕ) → member facts n ≡ possible_in system.now n) }
+{
+    let events = all_events(alloc, system.events())?;
+    let facts = system.holds(alloc, &events)?;
+    Ok(facts)
+}
+
+/// The facts that hold under no set of events, rising.
+pub fn never_facts(alloc: Global, system: &FaultSystem) -> Mem<List<u32>>
+    ensures { IfOk result (AreAll (IsNever system.now) (length system.now.facts)) }
+{
+    let possible = possible_facts(alloc, system)?;
+    let never = missing(alloc, system.facts(), &Everything, &possible)?;
+    Ok(never)
+}
+
+// The set of all events, of which there are so many.
+fn all_events(alloc: Global, count: u32) -> Mem<Bits>
+    ensures { IfOk result (λ events. (e : ℕ) → e < count → Has (member events) e) }
+{
+    let mut events = Bits::new(alloc, count)?;
+    for event in 0..count {
+        events.put(event);
+    }
+    Ok(events)
+}
