@@ -5,7 +5,7 @@ use Rattle.std.proofs.lemmas.Option.{slice_get_within}
 use Rattle.plain_values.specs.Rising.{RisesWithin}
 use Rattle.fta_words.specs.Words.{AreChosen, Rise}
 use Rattle.fault_system.proofs.Elements.{In-contains, contains_In, each-at}
-use Rattle.fta_run.specs.Words.{Check, Command, Confirm, Cuts, Fmea, Galileo, IsCommand, Make, Paths, Report, Tree, Why, chosen_of}
+use Rattle.fta_run.specs.Words.{Check, Command, Confirm, Cuts, Fmea, Galileo, Help, IsCommand, Make, Paths, Place, Report, Tree, Version, Why, chosen_of}
 
 rise_within : (low high : ℕ) (places : List ℕ) → Rise places → ((place : ℕ) → Contains places place → low ≤ place) → ((place : ℕ) → Contains places place → place < high) → RisesWithin low high places
 rise_within low high [] rise above below = tt
@@ -35,3 +35,6 @@ places_rise names words (Galileo files limit max_order paths) is = tt
 places_rise names words (Paths root target files paging) is = tt
 places_rise names words (Why root target files set) is = tt
 places_rise names words (Confirm root target files set) is = tt
+places_rise names words (Place files byte) is = tt
+places_rise names words (Help of) is = tt
+places_rise names words Version is = tt

@@ -16,7 +16,7 @@ use Rattle.phases.specs.declared.status.Status.{Status}
 use Rattle.phases.specs.declared.status.Status.TheVariants.{Usage, Refused}
 use Rattle.phases.proofs.Leaves.{decided_answers, decided_computes, decided_finds, decided_rejects, decided_accepts, decided_tests}
 use Rattle.phases.proofs.Decided as decided
-use Rattle.fta_run.specs.Words.{Check, Command, Cuts, Tree, Fmea, Report, Make, Galileo, Paths, Why, Confirm, IsCommand, files_of}
+use Rattle.fta_run.specs.Words.{Check, Command, Cuts, Tree, Fmea, Report, Make, Galileo, Paths, Why, Confirm, Place, Help, Version, IsCommand, files_of}
 use Rattle.system_answers.specs.Voices.{Voice, labels}
 use Rattle.model_maker.specs.Text.{text_of as made_text}
 use Rattle.model_phases.specs.declared.flat.FlatModel.{FlatModel}
@@ -146,6 +146,9 @@ command_decided contents voices (Galileo files limit max_order paths) told = (te
 command_decided contents voices (Paths root target files paging) told = (files_model_decided contents root files told, λ model at. plain_paths_decided target paging model.system (plain_model contents root files model at).system)
 command_decided contents voices (Why root target files set) told = (files_model_decided contents root files told, λ model at. plain_why_decided target set model.system (plain_model contents root files model at).system)
 command_decided contents voices (Confirm root target files set) told = (texts_decided contents files told, λ texts are. confirmed_decided root target set texts (first_short contents files texts are))
+command_decided contents voices (Place files byte) told = (texts_decided contents files told, λ texts are. tt)
+command_decided contents voices (Help of) told = tt
+command_decided contents voices Version told = tt
 
 due_decided : (words : List (List ℕ)) (contents : List ℕ → Option (List ℕ)) (voices : List Voice) → AllTold words contents voices → IsDecided IsSameStatus (due words contents voices)
 due_decided words contents voices told =

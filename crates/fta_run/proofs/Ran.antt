@@ -17,7 +17,7 @@ use Rattle.model_phases.proofs.Decided.{IsARefusal, model_stops}
 use Rattle.model_phases.specs.declared.flat.FlatModel.{FlatModel}
 use Rattle.backward_slice.specs.Slices.{HasLargeSlice}
 use Rattle.property_reader.specs.declared.rate.Rate.{Rate}
-use Rattle.fta_run.specs.Words.{Check, Command, Cuts, Tree, Fmea, Report, Make, Galileo, Paths, Why, Confirm, files_of, GiveCommand, GiveNoCommand, IsCommand, chosen_of, file_words}
+use Rattle.fta_run.specs.Words.{Check, Command, Cuts, Tree, Fmea, Report, Make, Galileo, Paths, Why, Confirm, Place, Help, Version, files_of, GiveCommand, GiveNoCommand, IsCommand, chosen_of, file_words}
 use Rattle.fta_run.specs.Files.{HasTooLong, HasTooMuch, LacksTokens, LacksUnits, NamesTooMany, most_files}
 use Rattle.plain_values.specs.Refusal.{of_words}
 use Rattle.fta_words.specs.declared.command.Paging.{Paging}
@@ -178,6 +178,9 @@ command_stops contents voices (Galileo files limit max_order paths) = (refusals 
 command_stops contents voices (Paths root target files paging) = (refusals (model_of_files contents root files) (files_model_stops contents root files), λ model at. refusals (paths_text target paging model.system) (paths_stop target paging model.system))
 command_stops contents voices (Why root target files set) = (refusals (model_of_files contents root files) (files_model_stops contents root files), λ model at. refusals (why_text target set model.system) (why_stop target set model.system))
 command_stops contents voices (Confirm root target files set) = (refusals (texts_of contents files) (texts_stop contents files), λ texts read. refusals (confirmed_in root target set texts) (confirmed_stop root target set texts))
+command_stops contents voices (Place files byte) = (refusals (texts_of contents files) (texts_stop contents files), λ texts read. tt)
+command_stops contents voices (Help of) = tt
+command_stops contents voices Version = tt
 
 -- Usage without a command; or there is one, and a refusal, a constant target or a stale token
 abbrev Kind : List (List ℕ) → List (List ℕ) → Status → Type 0
@@ -520,6 +523,9 @@ begins_same (Galileo files limit max_order paths) status t = tt
 begins_same (Paths root target files paging) status t = tt
 begins_same (Why root target files set) status t = tt
 begins_same (Confirm root target files set) status t = tt
+begins_same (Place files byte) status t = tt
+begins_same (Help of) status t = tt
+begins_same Version status t = tt
 
 -- the words give this command
 pub begins_as : (names words : List (List ℕ)) (given command : Command) (status : Status) (t u : Option (List ℕ)) → Passes (finds (IsCommand names words) Usage) given → BeginsWithMemory given status t u → IsCommand names words command → BeginsWithMemory command status t u

@@ -10,12 +10,14 @@ use Rattle.cutset_writer.specs.Text.{listing_page}
 use Rattle.cutset_writer.specs.declared.form.SetForm.TheVariants.{Token}
 use Rattle.page_tokens.specs.Keys.{asked_digits}
 use Rattle.model_maker.specs.Text.{text_of as made_text}
+use Rattle.text_places.specs.Places.{place_text}
+use Rattle.help_texts.specs.Texts.{help_text, version_text}
 use Rattle.fmea_rows.specs.Rows.{rows_of}
 use Rattle.fmea_rows.specs.Text.{table_text}
 use Rattle.fta_words.specs.declared.command.Paging.{Paging}
 use Rattle.model_phases.specs.Phases.{flat_model}
 use Rattle.model_phases.specs.declared.flat.FlatModel.{FlatModel}
-use Rattle.fta_run.specs.Words.{Command, Check, Cuts, Tree, Fmea, Report, Make, Galileo, Paths, Why, Confirm, IsCommand}
+use Rattle.fta_run.specs.Words.{Command, Check, Cuts, Tree, Fmea, Report, Make, Galileo, Paths, Why, Confirm, Place, Help, Version, IsCommand}
 use Rattle.fta_run.specs.Effects.{asked_effects}
 use Rattle.fta_run.specs.Later.{in_later_files}
 use Rattle.fta_run.specs.Files.{MayContain, NamesTooMany, HasTooLong, HasTooMuch, AreTokens, LacksTokens, AreUnits, LacksUnits}
@@ -38,6 +40,10 @@ texts_of contents files = do
   _ ← tests (NamesTooMany files)
   texts ← accepts (MayContain contents files)
   within_limits texts
+
+-- the first name of files
+abbrev pub first_name : List (List ℕ) → List ℕ
+first_name files = slice_index_or files 0 []
 
 -- the text of the first file
 abbrev pub first_text : List (List ℕ) → List ℕ
@@ -133,6 +139,10 @@ confirmed_in root target set texts = do
   model ← in_later_files (model_of_texts root (other_texts texts))
   confirm_text target set (first_text texts) model.system
 
+-- the text of `place`: where a byte stands in the first of these texts, which is that of the first of these files
+abbrev pub place_in : List (List ℕ) → ℕ → List (List ℕ) → Phase (List ℕ)
+place_in files byte texts = yields (place_text (first_name files) (first_text texts) byte)
+
 -- the text of a command, where this is what the files contain, and these are the reports
 abbrev pub command_text : (List ℕ → Option (List ℕ)) → List Voice → Command → Phase (List ℕ)
 command_text contents voices (Check root files) = do
@@ -163,6 +173,11 @@ command_text contents voices (Why root target files set) = do
 command_text contents voices (Confirm root target files set) = do
   texts ← texts_of contents files
   confirmed_in root target set texts
+command_text contents voices (Place files byte) = do
+  texts ← texts_of contents files
+  place_in files byte texts
+command_text contents voices (Help of) = yields (help_text of)
+command_text contents voices Version = yields version_text
 
 -- the text of the command that the words give
 abbrev pub due : List (List ℕ) → (List ℕ → Option (List ℕ)) → List Voice → Phase (List ℕ)

@@ -1,6 +1,6 @@
 -- The commands, and what of them the words give.
 use Rattle.std.specs.Prelude.{ℕ, List, []}
-pub use Rattle.fta_words.specs.Words.{Command, Check, Cuts, Tree, Fmea, Report, Make, Galileo, Paths, Why, Confirm, IsCommand, GiveCommand, GiveNoCommand, files_of, file_words}
+pub use Rattle.fta_words.specs.Words.{Command, Check, Cuts, Tree, Fmea, Report, Make, Galileo, Paths, Why, Confirm, Place, Help, Version, IsCommand, GiveCommand, GiveNoCommand, files_of, file_words}
 
 -- the places of the reports that a command chooses
 abbrev pub chosen_of : Command → List ℕ
@@ -14,3 +14,6 @@ chosen_of (Galileo files limit max_order paths) = []
 chosen_of (Paths root target files paging) = []
 chosen_of (Why root target files set) = []
 chosen_of (Confirm root target files set) = []
+chosen_of (Place files byte) = []
+chosen_of (Help of) = []
+chosen_of Version = []

@@ -12,7 +12,7 @@ ghost use Rattle.fta_run.specs.Line.{status_line};
 ghost use Rattle.fta_run.specs.Answers.{AllTold, AnswersWords, BeginsWithMemory, IsCaused, IsJustified, IsManyAnswer, IsOutput, MayCome, Took};
 ghost use Rattle.fta_run.specs.Due.{check_text, cuts_in, due, fmea_text, model_of_files, model_of_texts, sets_of_tree};
 ghost use Rattle.fta_run.specs.Files.{most_files};
-ghost use Rattle.fta_run.specs.Words.{Check, Command as AnyCommand, Confirm, Cuts, Fmea, Galileo, GiveNoCommand, IsCommand, Paths, Report, Tree, Why, chosen_of, file_words, files_of};
+ghost use Rattle.fta_run.specs.Words.{Check, Command as AnyCommand, Confirm, Cuts, Fmea, Galileo, GiveNoCommand, IsCommand, Paths, Place, Report, Tree, Why, chosen_of, file_words, files_of};
 ghost use Rattle.system_answers.specs.Prints.{Prints};
 ghost use Rattle.system_answers.specs.Voices.{labels, voices_of};
 ghost use Rattle.cut_reports.specs.Feeding.{IsKept, RoseAt};
@@ -21,11 +21,13 @@ ghost use Rattle.plain_values.specs.Rising.{RisesWithin};
 ghost use Rattle.fta_run.specs.Steps.{IsReadEnd, Runs, RunsAlone, RunsWith, ended};
 
 use crate::confirmed::write_confirmation;
+use crate::fixed::{write_help, write_version};
 use crate::fmea::write_table;
 use crate::input::{Texts, read_texts};
 use crate::line::write_line;
 use crate::made::write_make;
 use crate::model::model_of_texts;
+use crate::places::write_place;
 use crate::text::write_numbers;
 use crate::words::command_of;
 use fta_outside::{Files, Report, Sink};
@@ -48,7 +50,8 @@ use system_answers::{
 /// handed-in reports say of all minimal cut sets of a fact, `make N` what is said of a model that is made of a number, and
 /// `galileo FILE` the minimal cut sets, or path sets, of a tree in Galileo text. `paths ROOT TARGET FILE..` writes a page of the minimal
 /// path sets of a fact, `why ROOT TARGET FILE..` a derivation of it under a set of events, and `confirm ROOT TARGET DERIVATION FILE..`
-/// that a text is one. Under every status but Done one line is written to `err`; a fault of `err` changes nothing.
+/// that a text is one. `place FILE BYTE` writes where a byte of a file stands, and `help` and `version` write fixed texts. Under every
+/// status but Done one line is written to `err`; a fault of `err` changes nothing.
 pub fn run<F: Files, S: Sink, E: Sink>(
     alloc: Global,
     words: &[Word],
@@ -216,6 +219,9 @@ fn write_command<F: Files, S: Sink>(
             files: names,
             set,
         } => confirm(alloc, root, target, names, set, files, out),
+        Command::Place { files: names, byte } => place(alloc, names, *byte, files, out),
+        Command::Help { of } => write_help(*of, out),
+        Command::Version => write_version(out),
     }
 }
 
@@ -440,6 +446,22 @@ fn confirm<F: Files, S: Sink>(
 {
     let texts = read_texts(alloc, files, names)?;
     write_confirmation(alloc, root, target, set, &texts, out)
+}
+
+/// Writes where a byte of a file stands.
+fn place<F: Files, S: Sink>(
+    alloc: Global,
+    names: &[Word],
+    byte: u32,
+    files: &mut F,
+    out: &mut S,
+) -> Result<(), Status>
+    ensures end { RunsAlone (Place names.now byte) (F.contents files.old) (F.faults files.old) (F.faults files.new) result (S.taken out.old) (S.taken out.new) (S.faults out.old) (S.faults out.new) }
+    ensures too_many { most_files < length names.now → files.new ≡ files.old }
+    ensures many { most_files < length names.now → IsManyAnswer (ended result) }
+{
+    let texts = read_texts(alloc, files, names)?;
+    write_place(alloc, names, byte, &texts, out)
 }
 
 /// The model of a root in the files of these names.

@@ -3,12 +3,14 @@
 
 mod command;
 mod confirmed;
+mod fixed;
 mod fmea;
 mod input;
 mod laws;
 mod line;
 mod made;
 mod model;
+mod places;
 mod text;
 mod words;
 

@@ -47,6 +47,9 @@ flag_of_all kind.Galileo = all_of all_flags (flags_of kind.Galileo) (refl, tt)
 flag_of_all kind.Paths = tt
 flag_of_all kind.Why = tt
 flag_of_all kind.Confirm = tt
+flag_of_all kind.Place = tt
+flag_of_all kind.Help = tt
+flag_of_all kind.Version = tt
 
 valued_of_all : (k : Kind) → AllByRecursion (Contains all_valued) (valued_of k)
 valued_of_all kind.Check = tt
@@ -59,6 +62,9 @@ valued_of_all kind.Galileo = all_of all_valued (valued_of kind.Galileo) (refl, (
 valued_of_all kind.Paths = all_of all_valued (valued_of kind.Paths) (refl, (refl, (refl, tt)))
 valued_of_all kind.Why = all_of all_valued (valued_of kind.Why) (refl, tt)
 valued_of_all kind.Confirm = all_of all_valued (valued_of kind.Confirm) (refl, tt)
+valued_of_all kind.Place = tt
+valued_of_all kind.Help = tt
+valued_of_all kind.Version = tt
 
 allowed_one : (k : Kind) (name : List ℕ) (spelling : Spelling) → IsAllowed (flags_of k) (valued_of k) name spelling → IsAllowed all_flags all_valued name spelling
 allowed_one k name Alone is = each_of (Contains all_flags) (flags_of k) name (flag_of_all k) is

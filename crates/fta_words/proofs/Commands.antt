@@ -1,5 +1,5 @@
 -- Commands: the reading of their words, and that words are one command at most.
-use Rattle.std.proofs.Common.{◌≡◌, ℕ, Bool, true, false, if◌then◌else◌, List, [], ◌∷◌, ◌++◌, length, drop, ◌==◌, Option, Some, None, codes, refl, sym, ap, subst, ◌∙◌}
+use Rattle.std.proofs.Common.{◌≡◌, ℕ, Bool, true, false, if◌then◌else◌, List, [], ◌∷◌, ◌++◌, length, drop, ◌==◌, Option, Some, None, codes, refl, sym, ap, subst, take, arith, ◌∙◌}
 use Rattle.std.specs.List.{AllByRecursion}
 use Rattle.plain_values.specs.Name.{folded, is_same_text}
 use Rattle.plain_values.specs.declared.name.Root.{Root}
@@ -8,8 +8,8 @@ use Rattle.fta_words.specs.declared.command.Paging.{Paging}
 use Rattle.fta_words.specs.declared.kind.Kind.{Kind}
 use Rattle.fta_words.specs.declared.kind.Kind.TheVariants as kind
 use Rattle.fta_words.specs.Shown.{command_shown}
-use Rattle.fta_words.specs.Words.{Alone, Apart, AreOptions, AreWords, Attached, Check, Command, Confirm, Cuts, Fmea, Galileo, Given, IsCommand, IsFolded, IsNumberText, IsPlainWord, IsRoot, Make, NamesModel, Paths, Report, Says, Spelling, Tree, Why, before_options, file_words, files_of, is_option, option_words, spelled}
-use Rattle.fta_words.specs.Reading.{Answers, HaveOptions, IsRead, ReadsAs, Say, Values, flags_of, kind_of, name_of, valued_of, values_of}
+use Rattle.fta_words.specs.Words.{Alone, Apart, AreOptions, AreWords, Attached, Check, Command, Confirm, Cuts, Fmea, Galileo, Given, Help, IsCommand, IsFolded, IsNumberText, IsPlainWord, IsRoot, Make, NamesModel, Paths, Place, Report, Says, Spelling, Tree, Version, Why, before_options, file_words, files_of, is_option, name_of, option_words, spelled}
+use Rattle.fta_words.specs.Reading.{Answers, HaveOptions, IsRead, ReadsAs, Say, Values, flags_of, kind_of, valued_of, values_of}
 use Rattle.fta_words.proofs.PlainFront.{no_end, no_option}
 use Rattle.fta_words.proofs.Places.{one_chosen}
 use Rattle.fta_words.proofs.Roots.{one_root}
@@ -92,6 +92,18 @@ to_read reports words (Why root target files set) x =
 to_read reports words (Confirm root target files set) x =
     let s = split_words words (codes "confirm" ∷ x.0 ∷ x.1 ∷ files) (flags_of kind.Confirm) (valued_of kind.Confirm) x.2 x.3 in
     record { given = x.2; plain = subst (AllByRecursion IsPlainWord) (sym s.0) x.3.plain_words; options_are = s.1; options = x.3.options; read = (x.0, x.1, s.0, x.4, x.5, x.6, x.7) }
+to_read reports words (Place files byte) x =
+    let s = split_words words (codes "place" ∷ (files ++ x.0 ∷ [])) (flags_of kind.Place) (valued_of kind.Place) x.1 x.2 in
+    record { given = x.1; plain = subst (AllByRecursion IsPlainWord) (sym s.0) x.2.plain_words; options_are = s.1; options = x.2.options; read = (x.0, s.0, x.3, x.4) }
+to_read reports words (Help None) x =
+    let s = split_words words (codes "help" ∷ []) (flags_of kind.Help) (valued_of kind.Help) x.0 x.1 in
+    record { given = x.0; plain = subst (AllByRecursion IsPlainWord) (sym s.0) x.1.plain_words; options_are = s.1; options = x.1.options; read = s.0 }
+to_read reports words (Help (Some of)) x =
+    let s = split_words words (codes "help" ∷ name_of of ∷ []) (flags_of kind.Help) (valued_of kind.Help) x.0 x.1 in
+    record { given = x.0; plain = subst (AllByRecursion IsPlainWord) (sym s.0) x.1.plain_words; options_are = s.1; options = x.1.options; read = s.0 }
+to_read reports words Version x =
+    let s = split_words words (codes "version" ∷ []) (flags_of kind.Version) (valued_of kind.Version) x.0 x.1 in
+    record { given = x.0; plain = subst (AllByRecursion IsPlainWord) (sym s.0) x.1.plain_words; options_are = s.1; options = x.1.options; read = s.0 }
 
 -- the parts of words that are read
 words_from : (words plain : List (List ℕ)) (flags valued : List (List ℕ)) (given : List Given) → AllByRecursion IsPlainWord (before_options words) → before_options words ≡ plain
@@ -144,6 +156,22 @@ from_read reports words (Confirm root target files set) x =
     let r = x.read in
     let are = words_from words (codes "confirm" ∷ r.0 ∷ r.1 ∷ files) (flags_of kind.Confirm) (valued_of kind.Confirm) x.given x.plain r.2 x.options_are x.options in
     (r.0, r.1, x.given, are, r.3, r.4, r.5, r.6)
+from_read reports words (Place files byte) x =
+    let r = x.read in
+    let are = words_from words (codes "place" ∷ (files ++ r.0 ∷ [])) (flags_of kind.Place) (valued_of kind.Place) x.given x.plain r.1 x.options_are x.options in
+    (r.0, x.given, are, r.2, r.3)
+from_read reports words (Help None) x =
+    let r = x.read in
+    let are = words_from words (codes "help" ∷ []) (flags_of kind.Help) (valued_of kind.Help) x.given x.plain r x.options_are x.options in
+    (x.given, are)
+from_read reports words (Help (Some of)) x =
+    let r = x.read in
+    let are = words_from words (codes "help" ∷ name_of of ∷ []) (flags_of kind.Help) (valued_of kind.Help) x.given x.plain r x.options_are x.options in
+    (x.given, are)
+from_read reports words Version x =
+    let r = x.read in
+    let are = words_from words (codes "version" ∷ []) (flags_of kind.Version) (valued_of kind.Version) x.given x.plain r x.options_are x.options in
+    (x.given, are)
 
 -- ---- names of commands
 
@@ -153,7 +181,8 @@ kind_by_name name =
     else if is_same_text name (codes "tree") then Some kind.Tree else if is_same_text name (codes "fmea") then Some kind.Fmea
     else if is_same_text name (codes "report") then Some kind.Report else if is_same_text name (codes "make") then Some kind.Make
     else if is_same_text name (codes "galileo") then Some kind.Galileo else if is_same_text name (codes "paths") then Some kind.Paths
-    else if is_same_text name (codes "why") then Some kind.Why else Some kind.Confirm
+    else if is_same_text name (codes "why") then Some kind.Why else if is_same_text name (codes "confirm") then Some kind.Confirm
+    else if is_same_text name (codes "place") then Some kind.Place else if is_same_text name (codes "help") then Some kind.Help else Some kind.Version
 
 named_again : (k : Kind) → kind_by_name (name_of k) ≡ Some k
 named_again kind.Check = refl
@@ -166,6 +195,9 @@ named_again kind.Galileo = refl
 named_again kind.Paths = refl
 named_again kind.Why = refl
 named_again kind.Confirm = refl
+named_again kind.Place = refl
+named_again kind.Help = refl
+named_again kind.Version = refl
 
 -- commands of one name are one
 pub same_kind : (a b : Kind) → name_of a ≡ name_of b → a ≡ b
@@ -183,6 +215,10 @@ read_name reports plain values (Galileo files limit max_order paths) r = (files,
 read_name reports plain values (Paths root target files paging) r = (r.0 ∷ r.1 ∷ files, r.2)
 read_name reports plain values (Why root target files set) r = (r.0 ∷ r.1 ∷ files, r.2)
 read_name reports plain values (Confirm root target files set) r = (r.0 ∷ r.1 ∷ files, r.2)
+read_name reports plain values (Place files byte) r = (files ++ r.0 ∷ [], r.1)
+read_name reports plain values (Help None) r = ([], r)
+read_name reports plain values (Help (Some of)) r = (name_of of ∷ [], r)
+read_name reports plain values Version r = ([], r)
 
 pub kind_read : (reports plain : List (List ℕ)) (values : Values) (command : Command) → IsRead reports plain values command → (k : Kind) (others : List (List ℕ)) → plain ≡ name_of k ∷ others → kind_of command ≡ k
 kind_read reports plain values command r k others is =
@@ -231,6 +267,9 @@ Parts kind.Galileo = List (List ℕ) × Option ℕ × Option ℕ × Bool
 Parts kind.Paths = Root × List ℕ × List (List ℕ) × Paging
 Parts kind.Why = Root × List ℕ × List (List ℕ) × List ℕ
 Parts kind.Confirm = Root × List ℕ × List (List ℕ) × List ℕ
+Parts kind.Place = List (List ℕ) × ℕ
+Parts kind.Help = Option Kind
+Parts kind.Version = Unit {0}
 
 abbrev made : (k : Kind) → Parts k → Command
 made kind.Check p = Check p.0 p.1
@@ -243,6 +282,9 @@ made kind.Galileo p = Galileo p.0 p.1 p.2 p.3
 made kind.Paths p = Paths p.0 p.1 p.2 p.3
 made kind.Why p = Why p.0 p.1 p.2 p.3
 made kind.Confirm p = Confirm p.0 p.1 p.2 p.3
+made kind.Place p = Place p.0 p.1
+made kind.Help p = Help p
+made kind.Version p = Version
 
 abbrev parts_of : (command : Command) → Parts (kind_of command)
 parts_of (Check root files) = (root, files)
@@ -255,6 +297,9 @@ parts_of (Galileo files limit max_order paths) = (files, limit, max_order, paths
 parts_of (Paths root target files paging) = (root, target, files, paging)
 parts_of (Why root target files set) = (root, target, files, set)
 parts_of (Confirm root target files set) = (root, target, files, set)
+parts_of (Place files byte) = (files, byte)
+parts_of (Help of) = of
+parts_of Version = tt
 
 made_again : (command : Command) → made (kind_of command) (parts_of command) ≡ command
 made_again (Check root files) = refl
@@ -267,6 +312,9 @@ made_again (Galileo files limit max_order paths) = refl
 made_again (Paths root target files paging) = refl
 made_again (Why root target files set) = refl
 made_again (Confirm root target files set) = refl
+made_again (Place files byte) = refl
+made_again (Help of) = refl
+made_again Version = refl
 
 -- equal words name one model
 one_model : (name w v : List ℕ) (root root₂ : Root) (files files₂ : List (List ℕ)) → name ∷ w ∷ files ≡ name ∷ v ∷ files₂ → NamesModel w root files → NamesModel v root₂ files₂
@@ -285,6 +333,33 @@ one_asked name w v u t root root₂ target target₂ files files₂ both x y a b
     let named : u ≡ t = cc (both) in
     let rest : files ≡ files₂ = cc (both) in
     ap (λ r. (r, target, files)) (same_model w v root root₂ files files₂ word x y) ∙ ap (λ n. (root₂, n, files)) (a ∙ ap folded named ∙ sym b) ∙ ap (λ f. (root₂, target₂, f)) rest
+
+-- the words behind `help`
+abbrev helped : Option Kind → List (List ℕ)
+helped None = []
+helped (Some of) = name_of of ∷ []
+
+-- equal lists of one file each and a word name one file and one word
+same_file : (files files₂ : List (List ℕ)) (word word₂ : List ℕ) → length files ≡ 1 → length files₂ ≡ 1 → files ++ word ∷ [] ≡ files₂ ++ word₂ ∷ [] → (files ≡ files₂) × (word ≡ word₂)
+same_file [] files₂ word word₂ one other same = absurd (omega (arith, one))
+same_file (file ∷ []) [] word word₂ one other same = absurd (omega (arith, other))
+same_file (file ∷ []) (file₂ ∷ []) word word₂ one other same = (cc (same), cc (same))
+same_file (file ∷ []) (file₂ ∷ more ∷ files₂) word word₂ one other same = absurd (omega (arith, other))
+same_file (file ∷ more ∷ files) files₂ word word₂ one other same = absurd (omega (arith, one))
+
+-- what is asked of a command of one name
+one_help : (a b : Option Kind) (plain : List (List ℕ)) → plain ≡ codes "help" ∷ helped a → plain ≡ codes "help" ∷ helped b → a ≡ b
+one_help None None plain x y = refl
+one_help None (Some b) plain x y = absurd (cc (sym x ∙ y))
+one_help (Some a) None plain x y = absurd (cc (sym x ∙ y))
+one_help (Some a) (Some b) plain x y =
+    let both : codes "help" ∷ name_of a ∷ [] ≡ codes "help" ∷ name_of b ∷ [] = sym x ∙ y in
+    let names : name_of a ≡ name_of b = cc (both) in
+    ap (λ (k : Kind). Some k) (same_kind a b names)
+
+help_read : (reports plain : List (List ℕ)) (values : Values) (of : Option Kind) → IsRead reports plain values (Help of) → plain ≡ codes "help" ∷ helped of
+help_read reports plain values None x = x
+help_read reports plain values (Some of) x = x
 
 one_of_kind : (reports plain : List (List ℕ)) (values : Values) (k : Kind) (p q : Parts k) → IsRead reports plain values (made k p) → IsRead reports plain values (made k q) → made k p ≡ made k q
 one_of_kind reports plain values kind.Check p q x y =
@@ -339,6 +414,13 @@ one_of_kind reports plain values kind.Confirm p q x y =
     let sets : Some p.3 ≡ Some q.3 = one_said IsFolded one_fold values.set (Some p.3) (Some q.3) x.6 y.6 in
     let set : p.3 ≡ q.3 = cc (sets) in
     ap (λ (a : Root × List ℕ × List (List ℕ)). Confirm a.0 a.1 a.2 p.3) asked ∙ ap (λ g. Confirm q.0 q.1 q.2 g) set
+one_of_kind reports plain values kind.Place p q x y =
+    let both : codes "place" ∷ (p.0 ++ x.0 ∷ []) ≡ codes "place" ∷ (q.0 ++ y.0 ∷ []) = sym x.1 ∙ y.1 in
+    let rest : p.0 ++ x.0 ∷ [] ≡ q.0 ++ y.0 ∷ [] = cc (both) in
+    let same = same_file p.0 q.0 x.0 y.0 x.2 y.2 rest in
+    ap (λ f. Place f p.1) same.0 ∙ ap (λ n. Place q.0 n) (one_number y.0 p.1 q.1 (subst (λ w. IsNumberText w p.1) same.1 x.3) y.3)
+one_of_kind reports plain values kind.Help p q x y = ap (λ (of : Option Kind). Help of) (one_help p q plain (help_read reports plain values p x) (help_read reports plain values q y))
+one_of_kind reports plain values kind.Version p q x y = refl
 
 -- plain words and values are one command at most
 pub one_read : (reports plain : List (List ℕ)) (values : Values) (a b : Command) → kind_of a ≡ kind_of b → IsRead reports plain values a → IsRead reports plain values b → a ≡ b
@@ -361,6 +443,12 @@ one_command reports words a b x y =
 
 -- ---- the words that name files
 
+-- the only file of a list before a word
+only_file : (files : List (List ℕ)) (word : List ℕ) → length files ≡ 1 → take 1 (files ++ word ∷ []) ≡ files
+only_file [] word one = absurd (omega (arith, one))
+only_file (file ∷ []) word one = refl
+only_file (file ∷ more ∷ files) word one = absurd (omega (arith, one))
+
 pub file_words_are : (reports words : List (List ℕ)) (command : Command) → IsCommand reports words command → file_words words ≡ files_of command
 file_words_are reports words (Check root files) x =
     ap file_words x.2.words_are ∙ ap (drop 2) (front_of (codes "check" ∷ x.0 ∷ files) (option_words x.1) x.2.plain_words (begin_with_option x.1))
@@ -382,6 +470,13 @@ file_words_are reports words (Why root target files set) x =
     ap file_words x.3.words_are ∙ ap (drop 3) (front_of (codes "why" ∷ x.0 ∷ x.1 ∷ files) (option_words x.2) x.3.plain_words (begin_with_option x.2))
 file_words_are reports words (Confirm root target files set) x =
     ap file_words x.3.words_are ∙ ap (drop 3) (front_of (codes "confirm" ∷ x.0 ∷ x.1 ∷ files) (option_words x.2) x.3.plain_words (begin_with_option x.2))
+file_words_are reports words (Place files byte) x =
+    ap file_words x.2.words_are
+    ∙ ap (λ plain. take 1 (drop 1 plain)) (front_of (codes "place" ∷ (files ++ x.0 ∷ [])) (option_words x.1) x.2.plain_words (begin_with_option x.1)) ∙ only_file files x.0 x.3
+file_words_are reports words (Help None) x = ap file_words x.1.words_are ∙ ap (drop 3) (front_of (codes "help" ∷ []) (option_words x.0) x.1.plain_words (begin_with_option x.0))
+file_words_are reports words (Help (Some of)) x =
+    ap file_words x.1.words_are ∙ ap (drop 3) (front_of (codes "help" ∷ name_of of ∷ []) (option_words x.0) x.1.plain_words (begin_with_option x.0))
+file_words_are reports words Version x = ap file_words x.1.words_are ∙ ap (drop 3) (front_of (codes "version" ∷ []) (option_words x.0) x.1.plain_words (begin_with_option x.0))
 
 -- ---- the answer
 

@@ -79,6 +79,9 @@ kinds_apart kind.Galileo =
 kinds_apart kind.Paths = record { flag_names = no_equals [] tt; valued_names = no_equals (codes "limit" ∷ codes "after" ∷ codes "max-order" ∷ []) (refl, (refl, (refl, tt))); apart = λ name has other. none_of name has }
 kinds_apart kind.Why = record { flag_names = no_equals [] tt; valued_names = no_equals (codes "set" ∷ []) (refl, tt); apart = λ name has other. none_of name has }
 kinds_apart kind.Confirm = record { flag_names = no_equals [] tt; valued_names = no_equals (codes "set" ∷ []) (refl, tt); apart = λ name has other. none_of name has }
+kinds_apart kind.Place = record { flag_names = no_equals [] tt; valued_names = no_equals [] tt; apart = λ name has other. none_of name has }
+kinds_apart kind.Help = record { flag_names = no_equals [] tt; valued_names = no_equals [] tt; apart = λ name has other. none_of name has }
+kinds_apart kind.Version = record { flag_names = no_equals [] tt; valued_names = no_equals [] tt; apart = λ name has other. none_of name has }
 
 pub all_apart : AreApart all_flags all_valued
 all_apart =

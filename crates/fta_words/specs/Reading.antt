@@ -1,5 +1,5 @@
 -- How words are read: what private functions say of them.
-use Rattle.std.specs.Prelude.{◌≡◌, ◌≤◌, ℕ, length, Some, Bool, true, false, not, ◌==◌, ◌&&◌, if◌then◌else◌, List, [], ◌∷◌, ◌++◌, Option, MatchOption, codes, option_map}
+use Rattle.std.specs.Prelude.{◌≡◌, ◌≤◌, ℕ, length, Some, None, Bool, true, false, not, ◌==◌, ◌&&◌, if◌then◌else◌, List, [], ◌∷◌, ◌++◌, Option, MatchOption, codes, option_map}
 use Rattle.aadl_syntax.specs.Form.{is_letter_or_digit}
 use Rattle.fta_words.specs.declared.kind.Kind.{Kind}
 use Rattle.fta_words.specs.declared.kind.Kind.TheVariants as kind
@@ -7,7 +7,7 @@ use Rattle.fta_words.specs.declared.options.Options.{Options}
 use Rattle.fta_words.specs.declared.command.Command.{Command as CommandInCode}
 use Rattle.fta_words.specs.declared.command.Paging.{Paging}
 use Rattle.fta_words.specs.Shown.{command_shown}
-use Rattle.fta_words.specs.Words.{AreChosen, AreOptions, Check, Command, Confirm, Cuts, Fmea, Galileo, Given, GiveNoCommand, IsAllowed, IsCommand, IsFolded, IsNumberText, Make, NamesModel, Paths, Report, Says, Spelling, Tree, Why, has_flag, option_words, spelled, value_of}
+use Rattle.fta_words.specs.Words.{AreChosen, AreOptions, Check, Command, Confirm, Cuts, Fmea, Galileo, Given, GiveNoCommand, Help, IsAllowed, IsCommand, IsFolded, IsNumberText, Make, NamesModel, Paths, Place, Report, Says, Spelling, Tree, Version, Why, has_flag, name_of, option_words, spelled, value_of}
 
 -- whether letters and digits follow, each perhaps after one `_`: it goes along the bytes, and after a
 -- `_` (waiting) a letter or digit must stand
@@ -30,6 +30,9 @@ flags_of kind.Galileo = codes "paths" ∷ []
 flags_of kind.Paths = []
 flags_of kind.Why = []
 flags_of kind.Confirm = []
+flags_of kind.Place = []
+flags_of kind.Help = []
+flags_of kind.Version = []
 
 -- the options of a command that have a value
 abbrev pub valued_of : Kind → List (List ℕ)
@@ -43,6 +46,9 @@ valued_of kind.Galileo = codes "limit" ∷ codes "max-order" ∷ []
 valued_of kind.Paths = codes "limit" ∷ codes "after" ∷ codes "max-order" ∷ []
 valued_of kind.Why = codes "set" ∷ []
 valued_of kind.Confirm = codes "set" ∷ []
+valued_of kind.Place = []
+valued_of kind.Help = []
+valued_of kind.Version = []
 
 -- An option of this name stands first in the words, and these words follow it.
 pub record StandsFirst (flags valued words : List (List ℕ)) (name : List ℕ) (rest : List (List ℕ)) : Type 0 where
@@ -109,19 +115,6 @@ Say flags valued words values = (given : List Given) × (words ≡ option_words 
 abbrev pub PagesAs : Values → Paging → Type 0
 PagesAs values paging = Says IsNumberText values.limit paging.limit × Says IsFolded values.after paging.after × Says IsNumberText values.max_order paging.max_order
 
--- the name of a command
-abbrev pub name_of : Kind → List ℕ
-name_of kind.Check = codes "check"
-name_of kind.Cuts = codes "cuts"
-name_of kind.Tree = codes "tree"
-name_of kind.Fmea = codes "fmea"
-name_of kind.Report = codes "report"
-name_of kind.Make = codes "make"
-name_of kind.Galileo = codes "galileo"
-name_of kind.Paths = codes "paths"
-name_of kind.Why = codes "why"
-name_of kind.Confirm = codes "confirm"
-
 abbrev pub kind_of : Command → Kind
 kind_of (Check root files) = kind.Check
 kind_of (Cuts root target files paging tokens) = kind.Cuts
@@ -133,6 +126,9 @@ kind_of (Galileo files limit max_order paths) = kind.Galileo
 kind_of (Paths root target files paging) = kind.Paths
 kind_of (Why root target files set) = kind.Why
 kind_of (Confirm root target files set) = kind.Confirm
+kind_of (Place files byte) = kind.Place
+kind_of (Help of) = kind.Help
+kind_of Version = kind.Version
 
 -- The plain words and the values of the options are a command.
 abbrev pub IsRead : List (List ℕ) → List (List ℕ) → Values → Command → Type 0
@@ -176,6 +172,11 @@ IsRead reports plain values (Confirm root target files set) =
     (root_word : List ℕ) × (target_word : List ℕ) × (plain ≡ codes "confirm" ∷ root_word ∷ target_word ∷ files)
     × NamesModel root_word root files × IsFolded target_word target × (2 ≤ length files)
     × Says IsFolded values.set (Some set)
+IsRead reports plain values (Place files byte) =
+    (byte_word : List ℕ) × (plain ≡ codes "place" ∷ (files ++ byte_word ∷ [])) × (length files ≡ 1) × IsNumberText byte_word byte
+IsRead reports plain values (Help None) = plain ≡ codes "help" ∷ []
+IsRead reports plain values (Help (Some of)) = plain ≡ codes "help" ∷ name_of of ∷ []
+IsRead reports plain values Version = plain ≡ codes "version" ∷ []
 
 -- The answer is the command that the plain words and values are, or none where they are none.
 abbrev pub ReadsAs : List (List ℕ) → List (List ℕ) → Values → Option CommandInCode → Type 0

@@ -1,7 +1,7 @@
 -- What values of the code stand for.
 use Rattle.fta_words.specs.declared.command.Command.{Command as CommandInCode}
 use Rattle.fta_words.specs.declared.command.Command.TheVariants as in_code
-use Rattle.fta_words.specs.Words.{Command, Check, Cuts, Tree, Fmea, Report, Make, Galileo, Paths, Why, Confirm}
+use Rattle.fta_words.specs.Words.{Command, Check, Cuts, Tree, Fmea, Report, Make, Galileo, Paths, Why, Confirm, Place, Help, Version}
 
 -- a command
 abbrev pub command_shown : CommandInCode → Command
@@ -15,3 +15,6 @@ command_shown (in_code.Galileo files limit max_order paths) = Galileo files.now 
 command_shown (in_code.Paths root target files paging) = Paths root target files.now paging
 command_shown (in_code.Why root target files set) = Why root target files.now set
 command_shown (in_code.Confirm root target files set) = Confirm root target files.now set
+command_shown (in_code.Place files byte) = Place files.now byte
+command_shown (in_code.Help of) = Help of
+command_shown in_code.Version = Version

@@ -1,10 +1,12 @@
 -- The words of the command line: a name, plain words, and options.
-use Rattle.std.specs.Prelude.{◌≡◌, ◌≢◌, ◌<◌, ◌≤◌, ◌↔◌, ◌+◌, ◌*◌, ◌-◌, ℕ, Bool, false, ◌==◌, if◌then◌else◌, List, [], ◌∷◌, ◌++◌, drop, length, map, fold, codes, Option, Some, None, IfSome, IsUtf8, Contains, slice_get}
+use Rattle.std.specs.Prelude.{◌≡◌, ◌≢◌, ◌<◌, ◌≤◌, ◌↔◌, ◌+◌, ◌*◌, ◌-◌, ℕ, Bool, false, ◌==◌, if◌then◌else◌, List, [], ◌∷◌, ◌++◌, drop, length, map, fold, codes, Option, Some, None, IfSome, IsUtf8, Contains, slice_get, take}
 use Rattle.std.specs.List.{AllByRecursion, flat_map, join_with_byte, list_any}
 use Rattle.plain_values.specs.Name.{folded, is_same_text}
 use Rattle.plain_values.specs.declared.name.Root.{Root}
 use Rattle.aadl_syntax.specs.Form.{IsWord}
 use Rattle.fta_words.specs.declared.command.Paging.{Paging}
+use Rattle.fta_words.specs.declared.kind.Kind.{Kind}
+use Rattle.fta_words.specs.declared.kind.Kind.TheVariants as kind
 
 -- ---- plain words
 
@@ -113,6 +115,22 @@ has_flag name given = list_any (λ option. is_same_text name option.name) given
 
 -- ---- commands
 
+-- the name of a command
+abbrev pub name_of : Kind → List ℕ
+name_of kind.Check = codes "check"
+name_of kind.Cuts = codes "cuts"
+name_of kind.Tree = codes "tree"
+name_of kind.Fmea = codes "fmea"
+name_of kind.Report = codes "report"
+name_of kind.Make = codes "make"
+name_of kind.Galileo = codes "galileo"
+name_of kind.Paths = codes "paths"
+name_of kind.Why = codes "why"
+name_of kind.Confirm = codes "confirm"
+name_of kind.Place = codes "place"
+name_of kind.Help = codes "help"
+name_of kind.Version = codes "version"
+
 -- what the words ask for
 pub data Command : Type 0 where
   -- the numbers of the model of a root, which stands in files of these names
@@ -135,6 +153,12 @@ pub data Command : Type 0 where
   Why : Root → List ℕ → List (List ℕ) → List ℕ → Command
   -- whether a derivation, which stands in the first file, shows that; the model stands in the others
   Confirm : Root → List ℕ → List (List ℕ) → List ℕ → Command
+  -- where a byte of the text in a file stands
+  Place : List (List ℕ) → ℕ → Command
+  -- what the tool does, or a command of it
+  Help : Option Kind → Command
+  -- the version of the tool
+  Version : Command
 
 -- the names of the files of a command
 abbrev pub files_of : Command → List (List ℕ)
@@ -148,6 +172,9 @@ files_of (Galileo files limit max_order paths) = files
 files_of (Paths root target files paging) = files
 files_of (Why root target files set) = files
 files_of (Confirm root target files set) = files
+files_of (Place files byte) = files
+files_of (Help of) = []
+files_of Version = []
 
 -- what an option says where it is given, and nothing where it is not
 abbrev pub Says : {A : Type 0} → (List ℕ → A → Type 0) → Option (List ℕ) → Option A → Type 0
@@ -251,6 +278,12 @@ IsCommand reports words (Confirm root target files set) =
     × AreWords words (codes "confirm" ∷ root_word ∷ target_word ∷ files) [] (codes "set" ∷ []) given
     × NamesModel root_word root files × IsFolded target_word target × (2 ≤ length files)
     × Says IsFolded (value_of (codes "set") given) (Some set)
+IsCommand reports words (Place files byte) =
+    (byte_word : List ℕ) × (given : List Given) × AreWords words (codes "place" ∷ (files ++ byte_word ∷ [])) [] [] given
+    × (length files ≡ 1) × IsNumberText byte_word byte
+IsCommand reports words (Help None) = (given : List Given) × AreWords words (codes "help" ∷ []) [] [] given
+IsCommand reports words (Help (Some of)) = (given : List Given) × AreWords words (codes "help" ∷ name_of of ∷ []) [] [] given
+IsCommand reports words Version = (given : List Given) × AreWords words (codes "version" ∷ []) [] [] given
 
 -- The words give a command.
 abbrev pub GiveCommand : List (List ℕ) → List (List ℕ) → Type 0
@@ -278,8 +311,10 @@ words_before_files name =
     if is_same_text name (codes "check") then 2 else if is_same_text name (codes "fmea") then 2 else if is_same_text name (codes "make") then 2
     else if is_same_text name (codes "galileo") then 1 else 3
 
--- the words that name files: those behind the first two of `check`, `fmea` and `make`, behind the first of `galileo`, and behind
--- the first three of any other, up to the first that begins with `-`
+-- the words that name files: that behind the first of `place`; those behind the first two of `check`, `fmea` and `make`, behind the
+-- first of `galileo`, and behind the first three of any other, up to the first that begins with `-`
 abbrev pub file_words : List (List ℕ) → List (List ℕ)
 file_words [] = []
-file_words (name ∷ words) = drop (words_before_files name) (before_options (name ∷ words))
+file_words (name ∷ words) =
+    if is_same_text name (codes "place") then take 1 (drop 1 (before_options (name ∷ words)))
+    else drop (words_before_files name) (before_options (name ∷ words))

@@ -1,6 +1,6 @@
 ghost use Rattle.std.specs.Prelude.{◌≡◌, ◌∷◌, List, ℕ, Option, Some, IfOk, IfErr, IfSome, codes, option_map};
-ghost use Rattle.fta_words.specs.Words.{IsCommand, IsFolded, Says};
-ghost use Rattle.fta_words.specs.Reading.{Answers, ReadsAs, PagesAs, name_of, options_shown};
+ghost use Rattle.fta_words.specs.Words.{IsCommand, IsFolded, Says, name_of};
+ghost use Rattle.fta_words.specs.Reading.{Answers, ReadsAs, PagesAs, Values, options_shown};
 ghost use Rattle.fta_words.specs.Reasons.{TellsUsage};
 ghost use Rattle.fta_words.specs.Shown.{command_shown};
 ghost use Rattle.fta_words.specs.declared.command.Paging.{Paging};
@@ -87,6 +87,17 @@ pub enum Command<'a> {
         files: &'a [Word],
         set: Name,
     },
+    /// Where a byte of a file, which is the only one, stands in its text.
+    Place {
+        files: &'a [Word],
+        byte: u32,
+    },
+    /// What the tool does, or a command of it.
+    Help {
+        of: Option<Kind>,
+    },
+    /// The version of the tool.
+    Version,
 }
 
 /// Which page of a listing is asked for.
@@ -170,6 +181,9 @@ fn command_of<'a>(
         Kind::Paths => paths(alloc, words, options),
         Kind::Why => why(alloc, words, options),
         Kind::Confirm => confirm(alloc, words, options),
+        Kind::Place => Ok(place(words)),
+        Kind::Help => Ok(help(words)),
+        Kind::Version => Ok(version(words)),
     }
 }
 
@@ -396,4 +410,38 @@ fn confirm<'a>(alloc: Global, words: &'a [Word], options: &Options<'_>) -> Mem<O
         files,
         set,
     }))
+}
+
+fn place<'a>(words: &'a [Word]) -> Option<Command<'a>>
+    ensures { (reports : List (List ℕ)) (values : Values) → ReadsAs reports (codes "place" ∷ words.now) values result }
+{
+    let [files @ .., byte] = words else {
+        return None;
+    };
+    if files.len() != 1 {
+        return None;
+    }
+    let byte = number_of(byte.items())?;
+    Some(Command::Place { files, byte })
+}
+
+fn help<'a>(words: &[Word]) -> Option<Command<'a>>
+    ensures { (reports : List (List ℕ)) (values : Values) → ReadsAs reports (codes "help" ∷ words.now) values result }
+{
+    match words {
+        [] => Some(Command::Help { of: None }),
+        [name] => Some(Command::Help {
+            of: Some(kind_named(name.items())?),
+        }),
+        _ => None,
+    }
+}
+
+fn version<'a>(words: &[Word]) -> Option<Command<'a>>
+    ensures { (reports : List (List ℕ)) (values : Values) → ReadsAs reports (codes "version" ∷ words.now) values result }
+{
+    match words {
+        [] => Some(Command::Version),
+        _ => None,
+    }
 }

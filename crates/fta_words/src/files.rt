@@ -1,10 +1,10 @@
-ghost use Rattle.std.specs.Prelude.{◌≡◌, ◌≤◌, length};
+ghost use Rattle.std.specs.Prelude.{◌≡◌, ◌≤◌, drop, length, take};
 ghost use Rattle.fta_words.specs.Words.{before_options, file_words, is_option, words_before_files};
 
 use plain_values::{Word, is_same};
 
-/// The words that name files: those behind the first two of `check`, `fmea` and `make`, behind the first of `galileo`, and behind
-/// the first three of any other, up to the first that begins with `-`.
+/// The words that name files: that behind the first of `place`; those behind the first two of `check`, `fmea` and `make`, behind
+/// the first of `galileo`, and behind the first three of any other, up to the first that begins with `-`.
 pub fn file_words(words: &[Word]) -> &[Word]
     ensures { result.now ≡ file_words words.now }
 {
@@ -12,12 +12,25 @@ pub fn file_words(words: &[Word]) -> &[Word]
         return words;
     };
     let plain = before_options(words);
+    if is_same(name.items(), b"place") {
+        return second_of(plain);
+    }
     let before = words_before_files(name.items());
     if before < plain.len() {
         &plain[before..]
     } else {
         &[]
     }
+}
+
+/// The second of some words, as a list.
+fn second_of(words: &[Word]) -> &[Word]
+    ensures { result.now ≡ take 1 (drop 1 words.now) }
+{
+    if words.len() < 2 {
+        return &[];
+    }
+    &words[1..2]
 }
 
 /// How many plain words of a command of this name stand before its files.

@@ -1,12 +1,13 @@
 ghost use Rattle.std.specs.Prelude.{◌≡◌, ◌↔◌, IsTrue, MatchOption, Contains};
-ghost use Rattle.fta_words.specs.Reading.{flags_of, name_of, valued_of};
+ghost use Rattle.fta_words.specs.Reading.{flags_of, valued_of};
+ghost use Rattle.fta_words.specs.Words.{name_of};
 ghost use Rattle.fta_words.specs.declared.kind.Kind.{Kind};
 
 use plain_values::is_same;
 
 /// Which command is asked for.
 #[derive(Clone, Copy)]
-pub(crate) enum Kind {
+pub enum Kind {
     Check,
     Cuts,
     Tree,
@@ -17,6 +18,9 @@ pub(crate) enum Kind {
     Paths,
     Why,
     Confirm,
+    Place,
+    Help,
+    Version,
 }
 
 /// The command of a name.
@@ -53,6 +57,15 @@ pub(crate) fn kind_named(name: &[u8]) -> Option<Kind>
     if is_same(name, b"confirm") {
         return Some(Kind::Confirm);
     }
+    if is_same(name, b"place") {
+        return Some(Kind::Place);
+    }
+    if is_same(name, b"help") {
+        return Some(Kind::Help);
+    }
+    if is_same(name, b"version") {
+        return Some(Kind::Version);
+    }
     None
 }
 
@@ -66,6 +79,7 @@ pub(crate) fn has_flag(kind: Kind, name: &[u8]) -> bool
         Kind::Make => is_same(name, b"text"),
         Kind::Galileo => is_same(name, b"paths"),
         Kind::Check | Kind::Tree | Kind::Report | Kind::Paths | Kind::Why | Kind::Confirm => false,
+        Kind::Place | Kind::Help | Kind::Version => false,
     }
 }
 
@@ -81,5 +95,6 @@ pub(crate) fn has_valued(kind: Kind, name: &[u8]) -> bool
         Kind::Galileo => is_same(name, b"limit") || is_same(name, b"max-order"),
         Kind::Why | Kind::Confirm => is_same(name, b"set"),
         Kind::Check | Kind::Tree | Kind::Fmea | Kind::Make => false,
+        Kind::Place | Kind::Help | Kind::Version => false,
     }
 }

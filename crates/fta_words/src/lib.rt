@@ -18,3 +18,4 @@ mod text;
 pub use command::{Command, Paging};
 pub use error::WordsFault;
 pub use files::file_words;
+pub use kind::Kind;

@@ -62,3 +62,15 @@ returns-in-Confirm-clause-end g c = rw c.in-Confirm.is (ran_alone _ _ _ c.confir
 
 pub returns-in-Confirm-clause-reports : goal.returns-in-Confirm-clause-reports
 returns-in-Confirm-clause-reports g c = all_kept (λ b. (goal.Report-dyn g (b.vtable, b.value)).text b.value) (λ b. (goal.Report-dyn g (b.vtable, b.value)).label b.value) (λ b. (goal.Report-dyn g (b.vtable, b.value)).report_faults b.value) _ c.args.reports.now.items
+
+pub returns-in-Place-clause-end : goal.returns-in-Place-clause-end
+returns-in-Place-clause-end g c = rw c.in-Place.is (ran_alone _ _ _ c.place.result _ _ _ _ (c.place.ensures.end []))
+
+pub returns-in-Place-clause-reports : goal.returns-in-Place-clause-reports
+returns-in-Place-clause-reports g c = all_kept (λ b. (goal.Report-dyn g (b.vtable, b.value)).text b.value) (λ b. (goal.Report-dyn g (b.vtable, b.value)).label b.value) (λ b. (goal.Report-dyn g (b.vtable, b.value)).report_faults b.value) _ c.args.reports.now.items
+
+pub returns-in-Help-clause-reports : goal.returns-in-Help-clause-reports
+returns-in-Help-clause-reports g c = all_kept (λ b. (goal.Report-dyn g (b.vtable, b.value)).text b.value) (λ b. (goal.Report-dyn g (b.vtable, b.value)).label b.value) (λ b. (goal.Report-dyn g (b.vtable, b.value)).report_faults b.value) _ c.args.reports.now.items
+
+pub returns-in-Version-clause-reports : goal.returns-in-Version-clause-reports
+returns-in-Version-clause-reports g c = all_kept (λ b. (goal.Report-dyn g (b.vtable, b.value)).text b.value) (λ b. (goal.Report-dyn g (b.vtable, b.value)).label b.value) (λ b. (goal.Report-dyn g (b.vtable, b.value)).report_faults b.value) _ c.args.reports.now.items
