@@ -9,4 +9,5 @@ mod OneDue
 mod Ran
 mod Chosen
 mod Written
+mod Below
 mod DerivationLaws

@@ -13,23 +13,24 @@ use Rattle.plain_values.specs.Stops.{StopsAtFirst}
 use Rattle.package_index.specs.Lookup.{look_classifier, packages_of, refused_at}
 use Rattle.package_index.specs.declared.id.ClassifierId.{ClassifierId}
 use Rattle.phases.specs.Meets.{IsMemory, Meets}
-use Rattle.phases.specs.Phases.{Passes, Stops, chains, computes, tests}
+use Rattle.phases.specs.Phases.{Passes, Phase, Stops, chains, computes, tests}
 use Rattle.phases.specs.Stopped.{status_of}
 use Rattle.phases.specs.declared.status.Status.{Status}
 use Rattle.phases.specs.declared.status.Status.TheVariants.{Refused}
 use Rattle.phases.proofs.Steps.{computed, meets_later}
-use Rattle.model_phases.specs.Phases.{flat_model}
-use Rattle.model_phases.specs.declared.flat.FlatModel.{FlatModel}
-use Rattle.fta_run.specs.Due.{model_of_units}
+use Rattle.model_facts.specs.Assembly.{Assembly}
+use Rattle.model_phases.specs.Phases.{assembled}
+use Rattle.fta_run.specs.Due.{made_of_units}
 use Rattle.fta_run.specs.Model.{HasDuplicate, root_named}
 
 -- ---- the root
 
 -- the index of the files is refused
-pub index_stop : (files its : List (List FileUnit)) (root : Root) (why : Stop) → its ≡ files → StopsAtFirst (IsDuplicate (packages_of its)) why → Stops (model_of_units root files) (status_of why) ⊎ IsMemory (status_of why)
-index_stop files its root (stop.Refused refusal) same first =
+pub index_stop : {A : Type 0} (next : Assembly → Phase A) (files its : List (List FileUnit)) (root : Root) (why : Stop) → its ≡ files → StopsAtFirst (IsDuplicate (packages_of its)) why
+    → Stops (made_of_units next root files) (status_of why) ⊎ IsMemory (status_of why)
+index_stop next files its root (stop.Refused refusal) same first =
     inl (record { stopped = inl (refusal, subst (λ fs. IsFirst (HasDuplicate fs) refusal) same first, refl) })
-index_stop files its root stop.Memory same first = inr refl
+index_stop next files its root stop.Memory same first = inr refl
 
 -- nothing is declared again
 pub no_duplicate : (files its : List (List FileUnit)) → its ≡ files → IsClear (IsDuplicate (packages_of its)) → Passes (tests (HasDuplicate files)) (tt {0})
@@ -41,12 +42,12 @@ pub root_is : (files its : List (List FileUnit)) (packages : List PackageUnit) (
 root_is files its packages root result are same found =
     sym (found ∙ ap (λ (ps : List PackageUnit). refused_at Words (look_classifier ps None root.names root.item)) (are ∙ ap packages_of same))
 
--- the model of the root in the index of the files
-pub model_in : (files its : List (List FileUnit)) (packages : List PackageUnit) (root : Root) (id : ClassifierId) (result : Result FlatModel Status) → packages ≡ packages_of its → its ≡ files
-    → IsClear (IsDuplicate (packages_of its)) → root_named files root ≡ Ok id → Meets (flat_model packages id) result → Meets (model_of_units root files) result
-model_in files its packages root id result are same clear named met =
-    let whole : Meets (flat_model (packages_of files) id) result = subst (λ (ps : List PackageUnit). Meets (flat_model ps id) result) (are ∙ ap packages_of same) met in
-    let behind : Meets (chains (computes (root_named files root)) (flat_model (packages_of files))) result =
-    meets_later IsMemory (λ model. model) (computes (root_named files root)) (flat_model (packages_of files)) id result (λ s memory. memory) (computed named) whole
+-- what is made of the model of the root in the index of the files
+pub model_in : {A : Type 0} (next : Assembly → Phase A) (files its : List (List FileUnit)) (packages : List PackageUnit) (root : Root) (id : ClassifierId) (result : Result A Status) → packages ≡ packages_of its → its ≡ files
+    → IsClear (IsDuplicate (packages_of its)) → root_named files root ≡ Ok id → Meets (assembled next packages id) result → Meets (made_of_units next root files) result
+model_in next files its packages root id result are same clear named met =
+    let whole : Meets (assembled next (packages_of files) id) result = subst (λ (ps : List PackageUnit). Meets (assembled next ps id) result) (are ∙ ap packages_of same) met in
+    let behind : Meets (chains (computes (root_named files root)) (assembled next (packages_of files))) result =
+    meets_later IsMemory (λ model. model) (computes (root_named files root)) (assembled next (packages_of files)) id result (λ s memory. memory) (computed named) whole
     in
-    meets_later IsMemory (λ model. model) (tests (HasDuplicate files)) (λ _. chains (computes (root_named files root)) (flat_model (packages_of files))) (tt {0}) result (λ s memory. memory) (no_duplicate files its same clear) behind
+    meets_later IsMemory (λ model. model) (tests (HasDuplicate files)) (λ _. chains (computes (root_named files root)) (assembled next (packages_of files))) (tt {0}) result (λ s memory. memory) (no_duplicate files its same clear) behind

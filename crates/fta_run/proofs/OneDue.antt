@@ -6,17 +6,20 @@ use Rattle.plain_values.specs.declared.name.Root.{Root}
 use Rattle.plain_values.specs.declared.refusal.Refusal.{Refusal}
 use Rattle.package_index.specs.Lookup.{packages_of}
 use Rattle.fault_system.specs.Systems.{System}
-use Rattle.aadl_syntax.specs.declared.core_model.Unit.{Unit as FileUnit}
 use Rattle.fta_words.specs.declared.command.Paging.{Paging}
 use Rattle.model_phases.specs.Named.{IsPlainSystem}
-use Rattle.model_phases.proofs.Decided.{model_decided}
+use Rattle.model_phases.proofs.Decided.{model_decided, origins_decided}
+use Rattle.model_phases.specs.Phases.{assembled, flat_phase, origins_phase}
+use Rattle.model_facts.specs.Assembly.{Assembly}
+use Rattle.aadl_syntax.specs.declared.core_model.PackageUnit.{PackageUnit}
+use Rattle.package_index.specs.declared.id.ClassifierId.{ClassifierId}
 use Rattle.grammar_rules.specs.Texts.{syntax_error}
 use Rattle.phases.specs.Phases.{IsDecided, IsDue, IsSameEnd, Passes, Phase}
 use Rattle.phases.specs.declared.status.Status.{Status}
 use Rattle.phases.specs.declared.status.Status.TheVariants.{Usage, Refused}
 use Rattle.phases.proofs.Leaves.{decided_answers, decided_computes, decided_finds, decided_rejects, decided_accepts, decided_tests}
 use Rattle.phases.proofs.Decided as decided
-use Rattle.fta_run.specs.Words.{Check, Command, Cuts, Tree, Fmea, Report, Make, Galileo, Paths, Why, Confirm, Place, Help, Version, IsCommand, files_of}
+use Rattle.fta_run.specs.Words.{Check, Command, Cuts, Tree, Fmea, Targets, Events, Report, Make, Galileo, Paths, Why, Confirm, Place, Help, Version, IsCommand, files_of}
 use Rattle.system_answers.specs.Voices.{Voice, labels}
 use Rattle.model_maker.specs.Text.{text_of as made_text}
 use Rattle.model_phases.specs.declared.flat.FlatModel.{FlatModel}
@@ -27,7 +30,10 @@ use Rattle.system_answers.specs.Texts.{cuts_text, paths_text}
 use Rattle.system_answers.proofs.Derived.{confirm_decided, why_decided}
 use Rattle.system_answers.proofs.Decided.{cuts_decided, galileo_paths_text_decided, galileo_text_decided, listing_decided, paths_decided, report_decided, slice_decided, target_decided, tree_decided}
 use Rattle.page_tokens.specs.Keys.{asked_digits}
-use Rattle.fta_run.specs.Due.{command_text, confirmed_in, cuts_in, due, first_text, made_root, made_target, make_text, model_of_files, model_of_texts, model_of_units, other_texts, sets_of_tree, sized_text, texts_of, units_of, within_limits}
+use Rattle.fta_run.specs.Due.{command_text, confirmed_in, cuts_in, due, first_text, made_of_files, made_of_texts, made_root, made_target, make_text, model_of_files, model_of_texts, other_texts, sets_of_tree, sized_text, texts_of, units_of, within_limits}
+use Rattle.target_orders.specs.Text.{TellsOrders}
+use Rattle.target_orders.proofs.Said.{one-text}
+use Rattle.fta_run.specs.Effects.{asked_targets}
 use Rattle.fta_run.specs.Later.{IsLater, in_later_files, later_refusal, next_file}
 use Rattle.fta_run.specs.Answers.{AllTold, IsOutput, IsSameStatus}
 use Rattle.fta_run.proofs.Commands.{one_command}
@@ -68,14 +74,18 @@ units_decided texts = (
   λ tokens are. decided_rejects IsSameStatus (AreUnits tokens) (LacksUnits texts tokens) (one_units tokens) (λ files refusal have lacks. lacks_or_have texts tokens files refusal have lacks) (lacks_once texts tokens),
 )
 
-units_model_decided : (root : Root) (files : List (List FileUnit)) → IsDecided IsSameStatus (model_of_units root files)
-units_model_decided root files = (
-  decided_tests IsSameStatus itself (HasDuplicate files),
-  λ _ clear. (decided_computes IsSameStatus itself (root_named files root), λ id named. model_decided IsSameStatus itself (packages_of files) id),
+-- what is made of a model in files has one end at most, where what is made of one in packages has
+made_decided : {A : Type 0} (next : Assembly → Phase A) → ((packages : List PackageUnit) (id : ClassifierId) → IsDecided IsSameStatus (assembled next packages id)) → (root : Root) (texts : List (List ℕ)) → IsDecided IsSameStatus (made_of_texts next root texts)
+made_decided next last root texts = (
+  units_decided texts,
+  λ files have. (
+    decided_tests IsSameStatus itself (HasDuplicate files),
+    λ _ clear. (decided_computes IsSameStatus itself (root_named files root), λ id named. last (packages_of files) id),
+  ),
 )
 
 texts_model_decided : (root : Root) (texts : List (List ℕ)) → IsDecided IsSameStatus (model_of_texts root texts)
-texts_model_decided root texts = (units_decided texts, λ files have. units_model_decided root files)
+texts_model_decided = made_decided flat_phase (model_decided IsSameStatus itself)
 
 plain_cuts_decided : (target : List ℕ) (paging : Paging) (tokens : Bool) (key : List ℕ) (system : System) → IsPlainSystem system → IsDecided IsSameStatus (cuts_text target paging tokens key system)
 plain_cuts_decided target paging tokens key system plain = cuts_decided IsSameStatus itself target paging tokens key system plain.is_system (token_names system plain)
@@ -93,6 +103,9 @@ plain_paths_decided target paging system plain = paths_decided IsSameStatus itse
 
 files_model_decided : (contents : List ℕ → Option (List ℕ)) (root : Root) (files : List (List ℕ)) → AllByRecursion (λ file. IsSome (contents file)) files → IsDecided IsSameStatus (model_of_files contents root files)
 files_model_decided contents root files told = (texts_decided contents files told, λ texts are. texts_model_decided root texts)
+
+files_origins_decided : (contents : List ℕ → Option (List ℕ)) (root : Root) (files : List (List ℕ)) → AllByRecursion (λ file. IsSome (contents file)) files → IsDecided IsSameStatus (made_of_files origins_phase contents root files)
+files_origins_decided contents root files told = (texts_decided contents files told, λ texts are. made_decided origins_phase (origins_decided IsSameStatus itself) root texts)
 
 tree_sets_decided : (paths : Bool) (limit max_order : Option ℕ) (text : List ℕ) → IsDecided IsSameStatus (sets_of_tree paths limit max_order text)
 tree_sets_decided true limit max_order text = galileo_paths_text_decided IsSameStatus itself limit max_order text
@@ -140,6 +153,8 @@ command_decided contents voices (Check root files) told = (files_model_decided c
 command_decided contents voices (Cuts root target files paging tokens) told = (texts_decided contents files told, λ texts are. cuts_in_decided root target paging tokens texts)
 command_decided contents voices (Tree root target files) told = (files_model_decided contents root files told, λ model at. tree_decided IsSameStatus itself target model.system model.rates (plain_model contents root files model at).system.is_system)
 command_decided contents voices (Fmea root files all) told = (files_model_decided contents root files told, λ model at. tt)
+command_decided contents voices (Targets root files all) told = (files_model_decided contents root files told, λ model at. decided_accepts IsSameStatus (TellsOrders model.system (asked_targets all model)) (one-text model.system (asked_targets all model)))
+command_decided contents voices (Events root files) told = (files_origins_decided contents root files told, λ model at. tt)
 command_decided contents voices (Report root target files chosen max_order) told = (files_model_decided contents root files told, λ model at. report_decided IsSameStatus itself target chosen max_order voices model.system)
 command_decided contents voices (Make number text) told = make_decided number text
 command_decided contents voices (Galileo files limit max_order paths) told = (texts_decided contents files told, λ texts are. tree_sets_decided paths limit max_order (first_text texts))

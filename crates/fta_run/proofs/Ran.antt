@@ -13,11 +13,15 @@ use Rattle.phases.proofs.Endings.{StopsOnly, stops_only}
 use Rattle.fault_system.specs.Systems.{System}
 use Rattle.fault_system.specs.Truth.{set_of}
 use Rattle.package_index.specs.Lookup.{packages_of}
-use Rattle.model_phases.proofs.Decided.{IsARefusal, model_stops}
+use Rattle.model_phases.proofs.Decided.{IsARefusal, model_stops, origins_stop}
+use Rattle.model_phases.specs.Phases.{assembled, flat_phase, origins_phase}
+use Rattle.model_facts.specs.Assembly.{Assembly}
+use Rattle.aadl_syntax.specs.declared.core_model.PackageUnit.{PackageUnit}
+use Rattle.package_index.specs.declared.id.ClassifierId.{ClassifierId}
 use Rattle.model_phases.specs.declared.flat.FlatModel.{FlatModel}
 use Rattle.backward_slice.specs.Slices.{HasLargeSlice}
 use Rattle.property_reader.specs.declared.rate.Rate.{Rate}
-use Rattle.fta_run.specs.Words.{Check, Command, Cuts, Tree, Fmea, Report, Make, Galileo, Paths, Why, Confirm, Place, Help, Version, files_of, GiveCommand, GiveNoCommand, IsCommand, chosen_of, file_words}
+use Rattle.fta_run.specs.Words.{Check, Command, Cuts, Tree, Fmea, Targets, Events, Report, Make, Galileo, Paths, Why, Confirm, Place, Help, Version, files_of, GiveCommand, GiveNoCommand, IsCommand, chosen_of, file_words}
 use Rattle.fta_run.specs.Files.{HasTooLong, HasTooMuch, LacksTokens, LacksUnits, NamesTooMany, most_files}
 use Rattle.plain_values.specs.Refusal.{of_words}
 use Rattle.fta_words.specs.declared.command.Paging.{Paging}
@@ -33,7 +37,7 @@ use Rattle.page_tokens.specs.Keys.{asked_digits}
 use Rattle.page_tokens.specs.Starts.{IsStale, LacksStart as LacksBegin}
 use Rattle.path_sets.specs.PathSets.{HasLargePaths}
 use Rattle.system_answers.specs.Prints.{IsReportFault, NoFault, PrintsBut}
-use Rattle.fta_run.specs.Due.{command_text, confirmed_in, cuts_in, due, first_text, made_root, made_target, make_text, model_of_files, model_of_texts, other_texts, sets_of_tree, sized_text, texts_of, within_limits}
+use Rattle.fta_run.specs.Due.{command_text, confirmed_in, cuts_in, due, first_text, made_of_files, made_of_texts, made_root, made_target, make_text, model_of_files, model_of_texts, other_texts, sets_of_tree, sized_text, texts_of, within_limits}
 use Rattle.fta_run.specs.Later.{IsLater}
 use Rattle.system_answers.specs.Voices.{Voice, labels}
 use Rattle.model_maker.specs.Text.{text_of as made_text}
@@ -146,17 +150,23 @@ limits_stop texts = (refusal_is (IsFirst (HasTooLong texts)), λ _ short. (refus
 texts_stop : (contents : List ℕ → Option (List ℕ)) (files : List (List ℕ)) → StopsOnly IsARefusal (texts_of contents files)
 texts_stop contents files = (refusal_is (IsFirst (NamesTooMany files)), λ _ few. ((λ s none. absurd none), λ texts are. limits_stop texts))
 
-texts_model_stops : (root : Root) (texts : List (List ℕ)) → StopsOnly IsARefusal (model_of_texts root texts)
-texts_model_stops root texts = (
+made_stops : {A : Type 0} (next : Assembly → Phase A) → ((packages : List PackageUnit) (id : ClassifierId) → StopsOnly IsARefusal (assembled next packages id)) → (root : Root) (texts : List (List ℕ)) → StopsOnly IsARefusal (made_of_texts next root texts)
+made_stops next last root texts = (
   (refusal_is (IsFirst (LacksTokens texts)), λ tokens are. refusal_is (LacksUnits texts tokens)),
   λ files have. (
     refusal_is (IsFirst (HasDuplicate files)),
-    λ _ clear. (refusal_is (λ refusal. root_named files root ≡ Err refusal), λ id named. model_stops (packages_of files) id),
+    λ _ clear. (refusal_is (λ refusal. root_named files root ≡ Err refusal), λ id named. last (packages_of files) id),
   ),
 )
 
+texts_model_stops : (root : Root) (texts : List (List ℕ)) → StopsOnly IsARefusal (model_of_texts root texts)
+texts_model_stops = made_stops flat_phase model_stops
+
 files_model_stops : (contents : List ℕ → Option (List ℕ)) (root : Root) (files : List (List ℕ)) → StopsOnly IsARefusal (model_of_files contents root files)
 files_model_stops contents root files = (texts_stop contents files, λ texts read. texts_model_stops root texts)
+
+files_origins_stop : (contents : List ℕ → Option (List ℕ)) (root : Root) (files : List (List ℕ)) → StopsOnly IsARefusal (made_of_files origins_phase contents root files)
+files_origins_stop contents root files = (texts_stop contents files, λ texts read. made_stops origins_phase origins_stop root texts)
 
 make_stop : (number : ℕ) (text : Bool) → StopsOnly IsARefusal (make_text number text)
 make_stop number true = tt
@@ -171,6 +181,8 @@ command_stops contents voices (Check root files) = (refusals (model_of_files con
 command_stops contents voices (Cuts root target files paging tokens) = (refusals (texts_of contents files) (texts_stop contents files), λ texts read. cuts_in_stop root target paging tokens texts)
 command_stops contents voices (Tree root target files) = (refusals (model_of_files contents root files) (files_model_stops contents root files), λ model at. tree_stop target model.system model.rates)
 command_stops contents voices (Fmea root files all) = (refusals (model_of_files contents root files) (files_model_stops contents root files), λ model at. tt)
+command_stops contents voices (Targets root files all) = (refusals (model_of_files contents root files) (files_model_stops contents root files), λ model at status none. absurd none)
+command_stops contents voices (Events root files) = (refusals (made_of_files origins_phase contents root files) (files_origins_stop contents root files), λ model at. tt)
 command_stops contents voices (Report root target files chosen max_order) =
     (refusals (model_of_files contents root files) (files_model_stops contents root files), λ model at. refusals (report_text target chosen max_order voices model.system) (report_stop target chosen max_order voices model.system))
 command_stops contents voices (Make number text) = refusals (make_text number text) (make_stop number text)
@@ -517,6 +529,8 @@ begins_same (Check root files) status t = tt
 begins_same (Cuts root target files paging tokens) status t = λ memory. refl
 begins_same (Tree root target files) status t = tt
 begins_same (Fmea root files all) status t = tt
+begins_same (Targets root files all) status t = tt
+begins_same (Events root files) status t = tt
 begins_same (Report root target files chosen max_order) status t = tt
 begins_same (Make number text) status t = tt
 begins_same (Galileo files limit max_order paths) status t = tt

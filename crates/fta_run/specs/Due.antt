@@ -15,10 +15,14 @@ use Rattle.help_texts.specs.Texts.{help_text, version_text}
 use Rattle.fmea_rows.specs.Rows.{rows_of}
 use Rattle.fmea_rows.specs.Text.{table_text}
 use Rattle.fta_words.specs.declared.command.Paging.{Paging}
-use Rattle.model_phases.specs.Phases.{flat_model}
+use Rattle.model_facts.specs.Assembly.{Assembly}
+use Rattle.model_phases.specs.Phases.{assembled, flat_phase, origins_phase}
+use Rattle.model_phases.specs.declared.events.EventModel.{EventModel}
+use Rattle.event_lines.specs.Text.{events_text as text_of_events}
 use Rattle.model_phases.specs.declared.flat.FlatModel.{FlatModel}
-use Rattle.fta_run.specs.Words.{Command, Check, Cuts, Tree, Fmea, Report, Make, Galileo, Paths, Why, Confirm, Place, Help, Version, IsCommand}
-use Rattle.fta_run.specs.Effects.{asked_effects}
+use Rattle.fta_run.specs.Words.{Command, Check, Cuts, Tree, Fmea, Targets, Events, Report, Make, Galileo, Paths, Why, Confirm, Place, Help, Version, IsCommand}
+use Rattle.target_orders.specs.Text.{TellsOrders}
+use Rattle.fta_run.specs.Effects.{asked_effects, asked_targets}
 use Rattle.fta_run.specs.Later.{in_later_files}
 use Rattle.fta_run.specs.Files.{MayContain, NamesTooMany, HasTooLong, HasTooMuch, AreTokens, LacksTokens, AreUnits, LacksUnits}
 use Rattle.fta_run.specs.Model.{HasDuplicate, root_named}
@@ -59,24 +63,37 @@ units_of texts = do
   tokens ← answers (AreTokens texts) (LacksTokens texts)
   rejects (AreUnits tokens) (LacksUnits texts tokens)
 
--- the model of the root in these files: nothing is declared again in them, the root names a classifier, and its model is right
-abbrev pub model_of_units : Root → List (List FileUnit) → Phase FlatModel
-model_of_units root files = do
+-- what a further phase makes of the model of the root in these files: nothing is declared again in them, the root names a classifier,
+-- and its model is right
+abbrev pub made_of_units : {A : Type 0} → (Assembly → Phase A) → Root → List (List FileUnit) → Phase A
+made_of_units next root files = do
   _ ← tests (HasDuplicate files)
   id ← computes (root_named files root)
-  flat_model (packages_of files) id
+  assembled next (packages_of files) id
+
+-- the same of files of these texts
+abbrev pub made_of_texts : {A : Type 0} → (Assembly → Phase A) → Root → List (List ℕ) → Phase A
+made_of_texts next root texts = do
+  files ← units_of texts
+  made_of_units next root files
+
+-- the same of the files of these names
+abbrev pub made_of_files : {A : Type 0} → (Assembly → Phase A) → (List ℕ → Option (List ℕ)) → Root → List (List ℕ) → Phase A
+made_of_files next contents root files = do
+  texts ← texts_of contents files
+  made_of_texts next root texts
+
+-- the model of the root in these files, as a system
+abbrev pub model_of_units : Root → List (List FileUnit) → Phase FlatModel
+model_of_units root files = made_of_units flat_phase root files
 
 -- the model of the root in files of these texts
 abbrev pub model_of_texts : Root → List (List ℕ) → Phase FlatModel
-model_of_texts root texts = do
-  files ← units_of texts
-  model_of_units root files
+model_of_texts root texts = made_of_texts flat_phase root texts
 
 -- the model of the root in the files of these names
 abbrev pub model_of_files : (List ℕ → Option (List ℕ)) → Root → List (List ℕ) → Phase FlatModel
-model_of_files contents root files = do
-  texts ← texts_of contents files
-  model_of_texts root texts
+model_of_files contents root files = made_of_files flat_phase contents root files
 
 -- the text of `check`: the numbers of components, of facts and of events
 abbrev pub check_text : FlatModel → Phase (List ℕ)
@@ -85,6 +102,14 @@ check_text model = yields (numbers_text model.components (length model.system.fa
 -- the text of `fmea`: the rows of the effects of the root, or of all components
 abbrev pub fmea_text : Bool → FlatModel → Phase (List ℕ)
 fmea_text all model = yields (table_text model.system model.rates (rows_of model.system (asked_effects all model)))
+
+-- the text of `targets`: what it takes to make each effect of the root hold, or each fact
+abbrev pub targets_text : Bool → FlatModel → Phase (List ℕ)
+targets_text all model = accepts (TellsOrders model.system (asked_targets all model))
+
+-- the text of `events`: each event with its kind, its rate, and where it is declared in files of these names
+abbrev pub events_text : List (List ℕ) → EventModel → Phase (List ℕ)
+events_text files model = yields (text_of_events files model)
 
 -- the root, the target and the page of a model that is made
 abbrev pub made_root : Root
@@ -157,6 +182,12 @@ command_text contents voices (Tree root target files) = do
 command_text contents voices (Fmea root files all) = do
   model ← model_of_files contents root files
   fmea_text all model
+command_text contents voices (Targets root files all) = do
+  model ← model_of_files contents root files
+  targets_text all model
+command_text contents voices (Events root files) = do
+  model ← made_of_files origins_phase contents root files
+  events_text files model
 command_text contents voices (Report root target files chosen max_order) = do
   model ← model_of_files contents root files
   report_text target chosen max_order voices model.system

@@ -5,11 +5,8 @@ use Rattle.plain_values.specs.declared.refusal.Place.TheVariants.{Words, Whole, 
 use Rattle.plain_values.specs.declared.refusal.Refusal.{Refusal}
 use Rattle.plain_values.specs.Refusal.{code_text}
 use Rattle.phases.specs.declared.status.Status.{Status}
+use Rattle.event_lines.specs.Text.{file_word}
 use Rattle.phases.specs.declared.status.Status.TheVariants.{Done, Usage, Refused, Constant, StaleToken, ReadFault, WriteFault, ReportFault, Memory}
-
--- the file word of a number, as it was written
-abbrev pub file_word : List (List ℕ) → ℕ → List ℕ
-file_word files number = unwrap_or (slice_get files number) []
 
 -- the place of a refusal: nothing for the words, and else the file, with the byte where it stands at one
 abbrev pub place_text : List (List ℕ) → Place → List ℕ

@@ -8,11 +8,12 @@ ghost use Rattle.plain_values.specs.declared.refusal.Code.TheVariants.{TooManyFi
 ghost use Rattle.plain_values.specs.Refusal.{of_words};
 ghost use Rattle.fta_words.specs.Shown.{command_shown};
 ghost use Rattle.model_phases.specs.Named.{IsPlainModel};
+ghost use Rattle.model_phases.specs.Phases.{origins_phase};
 ghost use Rattle.fta_run.specs.Line.{status_line};
 ghost use Rattle.fta_run.specs.Answers.{AllTold, AnswersWords, BeginsWithMemory, IsCaused, IsJustified, IsManyAnswer, IsOutput, MayCome, Took};
-ghost use Rattle.fta_run.specs.Due.{check_text, cuts_in, due, fmea_text, model_of_files, model_of_texts, sets_of_tree};
+ghost use Rattle.fta_run.specs.Due.{check_text, cuts_in, due, fmea_text, made_of_files, model_of_files, model_of_texts, sets_of_tree};
 ghost use Rattle.fta_run.specs.Files.{most_files};
-ghost use Rattle.fta_run.specs.Words.{Check, Command as AnyCommand, Confirm, Cuts, Fmea, Galileo, GiveNoCommand, IsCommand, Paths, Place, Report, Tree, Why, chosen_of, file_words, files_of};
+ghost use Rattle.fta_run.specs.Words.{Check, Command as AnyCommand, Confirm, Cuts, Events, Fmea, Galileo, GiveNoCommand, IsCommand, Paths, Place, Report, Targets, Tree, Why, chosen_of, file_words, files_of};
 ghost use Rattle.system_answers.specs.Prints.{Prints};
 ghost use Rattle.system_answers.specs.Voices.{labels, voices_of};
 ghost use Rattle.cut_reports.specs.Feeding.{IsKept, RoseAt};
@@ -21,6 +22,7 @@ ghost use Rattle.plain_values.specs.Rising.{RisesWithin};
 ghost use Rattle.fta_run.specs.Steps.{IsReadEnd, Runs, RunsAlone, RunsWith, ended};
 
 use crate::confirmed::write_confirmation;
+use crate::events::write_events;
 use crate::fixed::{write_help, write_version};
 use crate::fmea::write_table;
 use crate::input::{Texts, read_texts};
@@ -28,11 +30,12 @@ use crate::line::write_line;
 use crate::made::write_make;
 use crate::model::model_of_texts;
 use crate::places::write_place;
+use crate::targets::write_targets;
 use crate::text::write_numbers;
 use crate::words::command_of;
 use fta_outside::{Files, Report, Sink};
 use fta_words::{Command, Paging, file_words};
-use model_phases::FlatModel;
+use model_phases::{EventModel, FlatModel};
 use page_tokens::asked_digest;
 use phases::Status;
 use plain_values::{List, Name, Root, Word};
@@ -46,7 +49,9 @@ use system_answers::{
 ///
 /// `check ROOT FILE..` writes the numbers of components, facts and events of the model of a root in the files,
 /// `cuts ROOT TARGET FILE..` a page of the minimal cut sets of a fact in it, `tree ROOT TARGET FILE..` its static fault tree as
-/// Galileo text, `fmea ROOT FILE..` the table of the effects that each event reaches alone, `report ROOT TARGET FILE..` what the
+/// Galileo text, `fmea ROOT FILE..` the table of the effects that each event reaches alone, `targets ROOT FILE..` how many events it takes
+/// to make each effect of the root hold, `events ROOT FILE..` each event with its kind, its rate, and where it is declared,
+/// `report ROOT TARGET FILE..` what the
 /// handed-in reports say of all minimal cut sets of a fact, `make N` what is said of a model that is made of a number, and
 /// `galileo FILE` the minimal cut sets, or path sets, of a tree in Galileo text. `paths ROOT TARGET FILE..` writes a page of the minimal
 /// path sets of a fact, `why ROOT TARGET FILE..` a derivation of it under a set of events, and `confirm ROOT TARGET DERIVATION FILE..`
@@ -177,6 +182,12 @@ fn write_command<F: Files, S: Sink>(
             files: names,
             all,
         } => fmea(alloc, root, names, *all, files, out),
+        Command::Targets {
+            root,
+            files: names,
+            all,
+        } => targets(alloc, root, names, *all, files, out),
+        Command::Events { root, files: names } => events(alloc, root, names, files, out),
         Command::Report {
             root,
             target,
@@ -328,6 +339,39 @@ fn fmea<F: Files, S: Sink>(
     write_fmea(alloc, &model, all, out)
 }
 
+/// Writes what it takes to make each target of the model of a root hold.
+fn targets<F: Files, S: Sink>(
+    alloc: Global,
+    root: &Root,
+    names: &[Word],
+    all: bool,
+    files: &mut F,
+    out: &mut S,
+) -> Result<(), Status>
+    ensures end { RunsAlone (Targets root.now names.now all) (F.contents files.old) (F.faults files.old) (F.faults files.new) result (S.taken out.old) (S.taken out.new) (S.faults out.old) (S.faults out.new) }
+    ensures too_many { most_files < length names.now → files.new ≡ files.old }
+    ensures many { most_files < length names.now → IsManyAnswer (ended result) }
+{
+    let model = read_model(alloc, root, names, files)?;
+    write_targets(alloc, &model, all, out)
+}
+
+/// Writes each event of the model of a root, with its kind, its rate, and where it is declared.
+fn events<F: Files, S: Sink>(
+    alloc: Global,
+    root: &Root,
+    names: &[Word],
+    files: &mut F,
+    out: &mut S,
+) -> Result<(), Status>
+    ensures end { RunsAlone (Events root.now names.now) (F.contents files.old) (F.faults files.old) (F.faults files.new) result (S.taken out.old) (S.taken out.new) (S.faults out.old) (S.faults out.new) }
+    ensures too_many { most_files < length names.now → files.new ≡ files.old }
+    ensures many { most_files < length names.now → IsManyAnswer (ended result) }
+{
+    let model = read_events(alloc, root, names, files)?;
+    write_events(alloc, names, &model, out)
+}
+
 /// Writes what the chosen reports say of the listing of a target in the model of a root.
 fn report<F: Files, S: Sink>(
     alloc: Global,
@@ -475,6 +519,21 @@ fn read_model<F: Files>(
     ensures unread { most_files < length names.now → files.new ≡ files.old }
     ensures many { most_files < length names.now → result ≡ Err (Refused (of_words TooManyFiles)) }
     ensures plain { IfOk result IsPlainModel }
+{
+    let texts = read_texts(alloc, files, names)?;
+    model_of_texts(alloc, root, texts.items())
+}
+
+/// The model of a root in the files of these names, with the origins of its events.
+fn read_events<F: Files>(
+    alloc: Global,
+    root: &Root,
+    names: &[Word],
+    files: &mut F,
+) -> Result<EventModel, Status>
+    ensures meets { MeetsBut (IsReadEnd names.now (F.faults files.old) (F.faults files.new)) (λ model. model) (made_of_files origins_phase (F.contents files.old) root.now names.now) result }
+    ensures unread { most_files < length names.now → files.new ≡ files.old }
+    ensures many { most_files < length names.now → result ≡ Err (Refused (of_words TooManyFiles)) }
 {
     let texts = read_texts(alloc, files, names)?;
     model_of_texts(alloc, root, texts.items())

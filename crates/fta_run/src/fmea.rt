@@ -34,7 +34,7 @@ pub fn write_table<S: Sink>(
 }
 
 /// The effects that are asked of: those of all components, or those of the root.
-fn asked_effects(alloc: Global, model: &FlatModel, all: bool) -> Mem<List<u32>>
+pub(crate) fn asked_effects(alloc: Global, model: &FlatModel, all: bool) -> Mem<List<u32>>
     requires rise { RisesWithin 0 (length model.now.system.facts) model.now.effects }
     ensures effects { IfOk result (λ effects. effects ≡ asked_effects all model.now) }
     ensures rise { IfOk result (λ effects. RisesWithin 0 (length model.now.system.facts) effects) }

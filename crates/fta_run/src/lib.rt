@@ -3,6 +3,7 @@
 
 mod command;
 mod confirmed;
+mod events;
 mod fixed;
 mod fmea;
 mod input;
@@ -11,6 +12,7 @@ mod line;
 mod made;
 mod model;
 mod places;
+mod targets;
 mod text;
 mod words;
 

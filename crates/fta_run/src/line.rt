@@ -1,8 +1,10 @@
 ghost use Rattle.std.specs.Prelude.{◌≡◌, ◌++◌, codes, decimal, map};
 ghost use Rattle.cutset_writer.specs.Written.{Writes};
-ghost use Rattle.fta_run.specs.Line.{constant_text, file_word, limit_text, place_text, refusal_text, report_name, stale_text, status_line};
+ghost use Rattle.event_lines.specs.Text.{file_word};
+ghost use Rattle.fta_run.specs.Line.{constant_text, limit_text, place_text, refusal_text, report_name, stale_text, status_line};
 
 use cut_reports::name_of;
+use event_lines::file_word;
 use fta_outside::{Report, Sink, SinkFailed, write_all};
 use itoa::Buffer;
 use phases::Status;
@@ -142,14 +144,4 @@ fn write_piece<E: Sink>(err: &mut E, piece: &[u8]) -> Result<(), SinkFailed>
     ensures { Writes result piece.now (E.taken err.old) (E.taken err.new) (E.faults err.old) (E.faults err.new) }
 {
     write_all(err, piece)
-}
-
-/// The file word of a number.
-fn file_word(files: &[Word], number: u32) -> &[u8]
-    ensures { result.now ≡ file_word files.now number }
-{
-    match files.get(number as usize) {
-        Some(file) => file.items(),
-        None => &[],
-    }
 }

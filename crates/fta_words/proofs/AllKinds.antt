@@ -50,6 +50,8 @@ flag_of_all kind.Confirm = tt
 flag_of_all kind.Place = tt
 flag_of_all kind.Help = tt
 flag_of_all kind.Version = tt
+flag_of_all kind.Targets = all_of all_flags (flags_of kind.Targets) (refl, tt)
+flag_of_all kind.Events = tt
 
 valued_of_all : (k : Kind) → AllByRecursion (Contains all_valued) (valued_of k)
 valued_of_all kind.Check = tt
@@ -65,6 +67,8 @@ valued_of_all kind.Confirm = all_of all_valued (valued_of kind.Confirm) (refl, t
 valued_of_all kind.Place = tt
 valued_of_all kind.Help = tt
 valued_of_all kind.Version = tt
+valued_of_all kind.Targets = tt
+valued_of_all kind.Events = tt
 
 allowed_one : (k : Kind) (name : List ℕ) (spelling : Spelling) → IsAllowed (flags_of k) (valued_of k) name spelling → IsAllowed all_flags all_valued name spelling
 allowed_one k name Alone is = each_of (Contains all_flags) (flags_of k) name (flag_of_all k) is

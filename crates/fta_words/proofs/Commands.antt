@@ -1,5 +1,5 @@
 -- Commands: the reading of their words, and that words are one command at most.
-use Rattle.std.proofs.Common.{◌≡◌, ℕ, Bool, true, false, if◌then◌else◌, List, [], ◌∷◌, ◌++◌, length, drop, ◌==◌, Option, Some, None, codes, refl, sym, ap, subst, take, arith, ◌∙◌}
+use Rattle.std.proofs.Common.{◌≡◌, ℕ, Bool, true, false, if◌then◌else◌, List, [], ◌∷◌, ◌++◌, length, drop, ◌==◌, Option, Some, None, codes, refl, sym, ap, subst, take, arith, ◌∙◌, ◌-◌, get_or}
 use Rattle.std.specs.List.{AllByRecursion}
 use Rattle.plain_values.specs.Name.{folded, is_same_text}
 use Rattle.plain_values.specs.declared.name.Root.{Root}
@@ -8,7 +8,7 @@ use Rattle.fta_words.specs.declared.command.Paging.{Paging}
 use Rattle.fta_words.specs.declared.kind.Kind.{Kind}
 use Rattle.fta_words.specs.declared.kind.Kind.TheVariants as kind
 use Rattle.fta_words.specs.Shown.{command_shown}
-use Rattle.fta_words.specs.Words.{Alone, Apart, AreOptions, AreWords, Attached, Check, Command, Confirm, Cuts, Fmea, Galileo, Given, Help, IsCommand, IsFolded, IsNumberText, IsPlainWord, IsRoot, Make, NamesModel, Paths, Place, Report, Says, Spelling, Tree, Version, Why, before_options, file_words, files_of, is_option, name_of, option_words, spelled}
+use Rattle.fta_words.specs.Words.{Alone, Apart, AreOptions, AreWords, Attached, Check, Command, Confirm, Cuts, Fmea, Galileo, Given, Help, IsCommand, IsFolded, IsNumberText, IsPlainWord, IsRoot, Make, NamesModel, Paths, Place, Report, Says, Spelling, Tree, Version, Why, before_options, file_words, files_of, is_option, name_of, option_words, spelled, Targets, Events}
 use Rattle.fta_words.specs.Reading.{Answers, HaveOptions, IsRead, ReadsAs, Say, Values, flags_of, kind_of, valued_of, values_of}
 use Rattle.fta_words.proofs.PlainFront.{no_end, no_option}
 use Rattle.fta_words.proofs.Places.{one_chosen}
@@ -104,6 +104,12 @@ to_read reports words (Help (Some of)) x =
 to_read reports words Version x =
     let s = split_words words (codes "version" ∷ []) (flags_of kind.Version) (valued_of kind.Version) x.0 x.1 in
     record { given = x.0; plain = subst (AllByRecursion IsPlainWord) (sym s.0) x.1.plain_words; options_are = s.1; options = x.1.options; read = s.0 }
+to_read reports words (Targets root files all) x =
+    let s = split_words words (codes "targets" ∷ x.0 ∷ files) (flags_of kind.Targets) (valued_of kind.Targets) x.1 x.2 in
+    record { given = x.1; plain = subst (AllByRecursion IsPlainWord) (sym s.0) x.2.plain_words; options_are = s.1; options = x.2.options; read = (x.0, s.0, x.3, x.4) }
+to_read reports words (Events root files) x =
+    let s = split_words words (codes "events" ∷ x.0 ∷ files) (flags_of kind.Events) (valued_of kind.Events) x.1 x.2 in
+    record { given = x.1; plain = subst (AllByRecursion IsPlainWord) (sym s.0) x.2.plain_words; options_are = s.1; options = x.2.options; read = (x.0, s.0, x.3) }
 
 -- the parts of words that are read
 words_from : (words plain : List (List ℕ)) (flags valued : List (List ℕ)) (given : List Given) → AllByRecursion IsPlainWord (before_options words) → before_options words ≡ plain
@@ -172,6 +178,14 @@ from_read reports words Version x =
     let r = x.read in
     let are = words_from words (codes "version" ∷ []) (flags_of kind.Version) (valued_of kind.Version) x.given x.plain r x.options_are x.options in
     (x.given, are)
+from_read reports words (Targets root files all) x =
+    let r = x.read in
+    let are = words_from words (codes "targets" ∷ r.0 ∷ files) (flags_of kind.Targets) (valued_of kind.Targets) x.given x.plain r.1 x.options_are x.options in
+    (r.0, x.given, are, r.2, r.3)
+from_read reports words (Events root files) x =
+    let r = x.read in
+    let are = words_from words (codes "events" ∷ r.0 ∷ files) (flags_of kind.Events) (valued_of kind.Events) x.given x.plain r.1 x.options_are x.options in
+    (r.0, x.given, are, r.2)
 
 -- ---- names of commands
 
@@ -182,7 +196,8 @@ kind_by_name name =
     else if is_same_text name (codes "report") then Some kind.Report else if is_same_text name (codes "make") then Some kind.Make
     else if is_same_text name (codes "galileo") then Some kind.Galileo else if is_same_text name (codes "paths") then Some kind.Paths
     else if is_same_text name (codes "why") then Some kind.Why else if is_same_text name (codes "confirm") then Some kind.Confirm
-    else if is_same_text name (codes "place") then Some kind.Place else if is_same_text name (codes "help") then Some kind.Help else Some kind.Version
+    else if is_same_text name (codes "place") then Some kind.Place else if is_same_text name (codes "help") then Some kind.Help
+    else if is_same_text name (codes "version") then Some kind.Version else if is_same_text name (codes "targets") then Some kind.Targets else Some kind.Events
 
 named_again : (k : Kind) → kind_by_name (name_of k) ≡ Some k
 named_again kind.Check = refl
@@ -198,6 +213,8 @@ named_again kind.Confirm = refl
 named_again kind.Place = refl
 named_again kind.Help = refl
 named_again kind.Version = refl
+named_again kind.Targets = refl
+named_again kind.Events = refl
 
 -- commands of one name are one
 pub same_kind : (a b : Kind) → name_of a ≡ name_of b → a ≡ b
@@ -219,6 +236,8 @@ read_name reports plain values (Place files byte) r = (files ++ r.0 ∷ [], r.1)
 read_name reports plain values (Help None) r = ([], r)
 read_name reports plain values (Help (Some of)) r = (name_of of ∷ [], r)
 read_name reports plain values Version r = ([], r)
+read_name reports plain values (Targets root files all) r = (r.0 ∷ files, r.1)
+read_name reports plain values (Events root files) r = (r.0 ∷ files, r.1)
 
 pub kind_read : (reports plain : List (List ℕ)) (values : Values) (command : Command) → IsRead reports plain values command → (k : Kind) (others : List (List ℕ)) → plain ≡ name_of k ∷ others → kind_of command ≡ k
 kind_read reports plain values command r k others is =
@@ -270,6 +289,8 @@ Parts kind.Confirm = Root × List ℕ × List (List ℕ) × List ℕ
 Parts kind.Place = List (List ℕ) × ℕ
 Parts kind.Help = Option Kind
 Parts kind.Version = Unit {0}
+Parts kind.Targets = Root × List (List ℕ) × Bool
+Parts kind.Events = Root × List (List ℕ)
 
 abbrev made : (k : Kind) → Parts k → Command
 made kind.Check p = Check p.0 p.1
@@ -285,6 +306,8 @@ made kind.Confirm p = Confirm p.0 p.1 p.2 p.3
 made kind.Place p = Place p.0 p.1
 made kind.Help p = Help p
 made kind.Version p = Version
+made kind.Targets p = Targets p.0 p.1 p.2
+made kind.Events p = Events p.0 p.1
 
 abbrev parts_of : (command : Command) → Parts (kind_of command)
 parts_of (Check root files) = (root, files)
@@ -300,6 +323,8 @@ parts_of (Confirm root target files set) = (root, target, files, set)
 parts_of (Place files byte) = (files, byte)
 parts_of (Help of) = of
 parts_of Version = tt
+parts_of (Targets root files all) = (root, files, all)
+parts_of (Events root files) = (root, files)
 
 made_again : (command : Command) → made (kind_of command) (parts_of command) ≡ command
 made_again (Check root files) = refl
@@ -315,6 +340,21 @@ made_again (Confirm root target files set) = refl
 made_again (Place files byte) = refl
 made_again (Help of) = refl
 made_again Version = refl
+made_again (Targets root files all) = refl
+made_again (Events root files) = refl
+
+-- what is no command of the kind that its name says is none
+pub kind_only : (k : Kind) (reports words : List (List ℕ)) (values : Values) → ((p : Parts k) → IsRead reports (name_of k ∷ words) values (made k p) → ⊥) → (command : Command) → IsRead reports (name_of k ∷ words) values command → ⊥
+kind_only k reports words values none command r =
+    let same : kind_of command ≡ k = kind_read reports (name_of k ∷ words) values command r k words refl in
+    let no : (p : Parts (kind_of command)) → IsRead reports (name_of k ∷ words) values (made (kind_of command) p) → ⊥ = subst (λ j. (p : Parts j) → IsRead reports (name_of k ∷ words) values (made j p) → ⊥) (sym same) none in
+    no (parts_of command) (subst (IsRead reports (name_of k ∷ words) values) (sym (made_again command)) r)
+
+-- the last word behind one file
+pub last_word : (words files : List (List ℕ)) (word other : List ℕ) → length files ≡ 1 → words ≡ files ++ word ∷ [] → get_or words (length words - 1) other ≡ word
+last_word words [] word other one is = absurd (omega (arith, one))
+last_word words (file ∷ []) word other one is = subst (λ w. get_or w (length w - 1) other ≡ word) (sym is) refl
+last_word words (file ∷ more ∷ files) word other one is = absurd (omega (arith, one))
 
 -- equal words name one model
 one_model : (name w v : List ℕ) (root root₂ : Root) (files files₂ : List (List ℕ)) → name ∷ w ∷ files ≡ name ∷ v ∷ files₂ → NamesModel w root files → NamesModel v root₂ files₂
@@ -421,6 +461,13 @@ one_of_kind reports plain values kind.Place p q x y =
     ap (λ f. Place f p.1) same.0 ∙ ap (λ n. Place q.0 n) (one_number y.0 p.1 q.1 (subst (λ w. IsNumberText w p.1) same.1 x.3) y.3)
 one_of_kind reports plain values kind.Help p q x y = ap (λ (of : Option Kind). Help of) (one_help p q plain (help_read reports plain values p x) (help_read reports plain values q y))
 one_of_kind reports plain values kind.Version p q x y = refl
+one_of_kind reports plain values kind.Targets p q x y =
+    let both : codes "targets" ∷ x.0 ∷ p.1 ≡ codes "targets" ∷ y.0 ∷ q.1 = sym x.1 ∙ y.1 in
+    let flags : p.2 ≡ q.2 = x.3 ∙ sym y.3 in
+    ap (λ (a : Root × List (List ℕ)). Targets a.0 a.1 p.2) (one_model (codes "targets") x.0 y.0 p.0 q.0 p.1 q.1 both x.2 y.2) ∙ ap (λ b. Targets q.0 q.1 b) flags
+one_of_kind reports plain values kind.Events p q x y =
+    let both : codes "events" ∷ x.0 ∷ p.1 ≡ codes "events" ∷ y.0 ∷ q.1 = sym x.1 ∙ y.1 in
+    ap (λ (a : Root × List (List ℕ)). Events a.0 a.1) (one_model (codes "events") x.0 y.0 p.0 q.0 p.1 q.1 both x.2 y.2)
 
 -- plain words and values are one command at most
 pub one_read : (reports plain : List (List ℕ)) (values : Values) (a b : Command) → kind_of a ≡ kind_of b → IsRead reports plain values a → IsRead reports plain values b → a ≡ b
@@ -477,6 +524,10 @@ file_words_are reports words (Help None) x = ap file_words x.1.words_are ∙ ap 
 file_words_are reports words (Help (Some of)) x =
     ap file_words x.1.words_are ∙ ap (drop 3) (front_of (codes "help" ∷ name_of of ∷ []) (option_words x.0) x.1.plain_words (begin_with_option x.0))
 file_words_are reports words Version x = ap file_words x.1.words_are ∙ ap (drop 3) (front_of (codes "version" ∷ []) (option_words x.0) x.1.plain_words (begin_with_option x.0))
+file_words_are reports words (Targets root files all) x =
+    ap file_words x.2.words_are ∙ ap (drop 2) (front_of (codes "targets" ∷ x.0 ∷ files) (option_words x.1) x.2.plain_words (begin_with_option x.1))
+file_words_are reports words (Events root files) x =
+    ap file_words x.2.words_are ∙ ap (drop 2) (front_of (codes "events" ∷ x.0 ∷ files) (option_words x.1) x.2.plain_words (begin_with_option x.1))
 
 -- ---- the answer
 

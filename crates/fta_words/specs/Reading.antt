@@ -7,7 +7,7 @@ use Rattle.fta_words.specs.declared.options.Options.{Options}
 use Rattle.fta_words.specs.declared.command.Command.{Command as CommandInCode}
 use Rattle.fta_words.specs.declared.command.Paging.{Paging}
 use Rattle.fta_words.specs.Shown.{command_shown}
-use Rattle.fta_words.specs.Words.{AreChosen, AreOptions, Check, Command, Confirm, Cuts, Fmea, Galileo, Given, GiveNoCommand, Help, IsAllowed, IsCommand, IsFolded, IsNumberText, Make, NamesModel, Paths, Place, Report, Says, Spelling, Tree, Version, Why, has_flag, name_of, option_words, spelled, value_of}
+use Rattle.fta_words.specs.Words.{AreChosen, AreOptions, Check, Command, Confirm, Cuts, Fmea, Galileo, Given, GiveNoCommand, Help, IsAllowed, IsCommand, IsFolded, IsNumberText, Make, NamesModel, Paths, Place, Report, Says, Spelling, Tree, Version, Why, has_flag, name_of, option_words, spelled, value_of, Targets, Events}
 
 -- whether letters and digits follow, each perhaps after one `_`: it goes along the bytes, and after a
 -- `_` (waiting) a letter or digit must stand
@@ -33,6 +33,8 @@ flags_of kind.Confirm = []
 flags_of kind.Place = []
 flags_of kind.Help = []
 flags_of kind.Version = []
+flags_of kind.Targets = codes "all" ∷ []
+flags_of kind.Events = []
 
 -- the options of a command that have a value
 abbrev pub valued_of : Kind → List (List ℕ)
@@ -49,6 +51,8 @@ valued_of kind.Confirm = codes "set" ∷ []
 valued_of kind.Place = []
 valued_of kind.Help = []
 valued_of kind.Version = []
+valued_of kind.Targets = []
+valued_of kind.Events = []
 
 -- An option of this name stands first in the words, and these words follow it.
 pub record StandsFirst (flags valued words : List (List ℕ)) (name : List ℕ) (rest : List (List ℕ)) : Type 0 where
@@ -129,6 +133,8 @@ kind_of (Confirm root target files set) = kind.Confirm
 kind_of (Place files byte) = kind.Place
 kind_of (Help of) = kind.Help
 kind_of Version = kind.Version
+kind_of (Targets root files all) = kind.Targets
+kind_of (Events root files) = kind.Events
 
 -- The plain words and the values of the options are a command.
 abbrev pub IsRead : List (List ℕ) → List (List ℕ) → Values → Command → Type 0
@@ -177,6 +183,9 @@ IsRead reports plain values (Place files byte) =
 IsRead reports plain values (Help None) = plain ≡ codes "help" ∷ []
 IsRead reports plain values (Help (Some of)) = plain ≡ codes "help" ∷ name_of of ∷ []
 IsRead reports plain values Version = plain ≡ codes "version" ∷ []
+IsRead reports plain values (Targets root files all) =
+    (root_word : List ℕ) × (plain ≡ codes "targets" ∷ root_word ∷ files) × NamesModel root_word root files × (all ≡ values.all)
+IsRead reports plain values (Events root files) = (root_word : List ℕ) × (plain ≡ codes "events" ∷ root_word ∷ files) × NamesModel root_word root files
 
 -- The answer is the command that the plain words and values are, or none where they are none.
 abbrev pub ReadsAs : List (List ℕ) → List (List ℕ) → Values → Option CommandInCode → Type 0

@@ -1,7 +1,7 @@
 -- What values of the code stand for.
 use Rattle.fta_words.specs.declared.command.Command.{Command as CommandInCode}
 use Rattle.fta_words.specs.declared.command.Command.TheVariants as in_code
-use Rattle.fta_words.specs.Words.{Command, Check, Cuts, Tree, Fmea, Report, Make, Galileo, Paths, Why, Confirm, Place, Help, Version}
+use Rattle.fta_words.specs.Words.{Command, Check, Cuts, Tree, Fmea, Report, Make, Galileo, Paths, Why, Confirm, Place, Help, Version, Targets, Events}
 
 -- a command
 abbrev pub command_shown : CommandInCode → Command
@@ -18,3 +18,5 @@ command_shown (in_code.Confirm root target files set) = Confirm root target file
 command_shown (in_code.Place files byte) = Place files.now byte
 command_shown (in_code.Help of) = Help of
 command_shown in_code.Version = Version
+command_shown (in_code.Targets root files all) = Targets root files.now all
+command_shown (in_code.Events root files) = Events root files.now

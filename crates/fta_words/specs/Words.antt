@@ -130,6 +130,8 @@ name_of kind.Confirm = codes "confirm"
 name_of kind.Place = codes "place"
 name_of kind.Help = codes "help"
 name_of kind.Version = codes "version"
+name_of kind.Targets = codes "targets"
+name_of kind.Events = codes "events"
 
 -- what the words ask for
 pub data Command : Type 0 where
@@ -159,6 +161,10 @@ pub data Command : Type 0 where
   Help : Option Kind → Command
   -- the version of the tool
   Version : Command
+  -- the facts of such a model that may be asked as targets: the effects of the root, or all facts
+  Targets : Root → List (List ℕ) → Bool → Command
+  -- the events of such a model
+  Events : Root → List (List ℕ) → Command
 
 -- the names of the files of a command
 abbrev pub files_of : Command → List (List ℕ)
@@ -175,6 +181,8 @@ files_of (Confirm root target files set) = files
 files_of (Place files byte) = files
 files_of (Help of) = []
 files_of Version = []
+files_of (Targets root files all) = files
+files_of (Events root files) = files
 
 -- what an option says where it is given, and nothing where it is not
 abbrev pub Says : {A : Type 0} → (List ℕ → A → Type 0) → Option (List ℕ) → Option A → Type 0
@@ -284,6 +292,11 @@ IsCommand reports words (Place files byte) =
 IsCommand reports words (Help None) = (given : List Given) × AreWords words (codes "help" ∷ []) [] [] given
 IsCommand reports words (Help (Some of)) = (given : List Given) × AreWords words (codes "help" ∷ name_of of ∷ []) [] [] given
 IsCommand reports words Version = (given : List Given) × AreWords words (codes "version" ∷ []) [] [] given
+IsCommand reports words (Targets root files all) =
+    (root_word : List ℕ) × (given : List Given) × AreWords words (codes "targets" ∷ root_word ∷ files) (codes "all" ∷ []) [] given
+    × NamesModel root_word root files × (all ≡ has_flag (codes "all") given)
+IsCommand reports words (Events root files) =
+    (root_word : List ℕ) × (given : List Given) × AreWords words (codes "events" ∷ root_word ∷ files) [] [] given × NamesModel root_word root files
 
 -- The words give a command.
 abbrev pub GiveCommand : List (List ℕ) → List (List ℕ) → Type 0
@@ -309,10 +322,11 @@ before_options (word ∷ words) = if is_option word then [] else word ∷ before
 abbrev pub words_before_files : List ℕ → ℕ
 words_before_files name =
     if is_same_text name (codes "check") then 2 else if is_same_text name (codes "fmea") then 2 else if is_same_text name (codes "make") then 2
+    else if is_same_text name (codes "targets") then 2 else if is_same_text name (codes "events") then 2
     else if is_same_text name (codes "galileo") then 1 else 3
 
--- the words that name files: that behind the first of `place`; those behind the first two of `check`, `fmea` and `make`, behind the
--- first of `galileo`, and behind the first three of any other, up to the first that begins with `-`
+-- the words that name files: that behind the first of `place`; those behind the first two of `check`, `fmea`, `make`, `targets` and
+-- `events`, behind the first of `galileo`, and behind the first three of any other, up to the first that begins with `-`
 abbrev pub file_words : List (List ℕ) → List (List ℕ)
 file_words [] = []
 file_words (name ∷ words) =

@@ -98,6 +98,17 @@ pub enum Command<'a> {
     },
     /// The version of the tool.
     Version,
+    /// The facts of the model of a root that may be asked as targets: its effects, or all facts.
+    Targets {
+        root: Root,
+        files: &'a [Word],
+        all: bool,
+    },
+    /// The events of such a model.
+    Events {
+        root: Root,
+        files: &'a [Word],
+    },
 }
 
 /// Which page of a listing is asked for.
@@ -184,6 +195,8 @@ fn command_of<'a>(
         Kind::Place => Ok(place(words)),
         Kind::Help => Ok(help(words)),
         Kind::Version => Ok(version(words)),
+        Kind::Targets => targets(alloc, words, options),
+        Kind::Events => events(alloc, words, options),
     }
 }
 
@@ -421,7 +434,9 @@ fn place<'a>(words: &'a [Word]) -> Option<Command<'a>>
     if files.len() != 1 {
         return None;
     }
-    let byte = number_of(byte.items())?;
+    let Some(byte) = number_of(byte.items()) else {
+        return None;
+    };
     Some(Command::Place { files, byte })
 }
 
@@ -444,4 +459,32 @@ fn version<'a>(words: &[Word]) -> Option<Command<'a>>
         [] => Some(Command::Version),
         _ => None,
     }
+}
+
+fn targets<'a>(alloc: Global, words: &'a [Word], options: &Options<'_>) -> Mem<Option<Command<'a>>>
+    ensures { (reports : List (List ℕ)) → IfOk result (ReadsAs reports (codes "targets" ∷ words.now) (options_shown options.now)) }
+{
+    let [root, files @ ..] = words else {
+        return Ok(None);
+    };
+    let Some(root) = root_in(alloc, root.items(), files)? else {
+        return Ok(None);
+    };
+    Ok(Some(Command::Targets {
+        root,
+        files,
+        all: options.all,
+    }))
+}
+
+fn events<'a>(alloc: Global, words: &'a [Word], options: &Options<'_>) -> Mem<Option<Command<'a>>>
+    ensures { (reports : List (List ℕ)) → IfOk result (ReadsAs reports (codes "events" ∷ words.now) (options_shown options.now)) }
+{
+    let [root, files @ ..] = words else {
+        return Ok(None);
+    };
+    let Some(root) = root_in(alloc, root.items(), files)? else {
+        return Ok(None);
+    };
+    Ok(Some(Command::Events { root, files }))
 }

@@ -3,8 +3,8 @@ ghost use Rattle.fta_words.specs.Words.{before_options, file_words, is_option, w
 
 use plain_values::{Word, is_same};
 
-/// The words that name files: that behind the first of `place`; those behind the first two of `check`, `fmea` and `make`, behind
-/// the first of `galileo`, and behind the first three of any other, up to the first that begins with `-`.
+/// The words that name files: that behind the first of `place`; those behind the first two of `check`, `fmea`, `make`, `targets` and
+/// `events`, behind the first of `galileo`, and behind the first three of any other, up to the first that begins with `-`.
 pub fn file_words(words: &[Word]) -> &[Word]
     ensures { result.now ≡ file_words words.now }
 {
@@ -38,6 +38,8 @@ fn words_before_files(name: &[u8]) -> usize
     ensures { result ≡ words_before_files name.now }
 {
     if is_same(name, b"check") || is_same(name, b"fmea") || is_same(name, b"make") {
+        2
+    } else if is_same(name, b"targets") || is_same(name, b"events") {
         2
     } else if is_same(name, b"galileo") {
         1

@@ -21,6 +21,8 @@ pub enum Kind {
     Place,
     Help,
     Version,
+    Targets,
+    Events,
 }
 
 /// The command of a name.
@@ -66,6 +68,12 @@ pub(crate) fn kind_named(name: &[u8]) -> Option<Kind>
     if is_same(name, b"version") {
         return Some(Kind::Version);
     }
+    if is_same(name, b"targets") {
+        return Some(Kind::Targets);
+    }
+    if is_same(name, b"events") {
+        return Some(Kind::Events);
+    }
     None
 }
 
@@ -75,11 +83,11 @@ pub(crate) fn has_flag(kind: Kind, name: &[u8]) -> bool
 {
     match kind {
         Kind::Cuts => is_same(name, b"tokens"),
-        Kind::Fmea => is_same(name, b"all"),
+        Kind::Fmea | Kind::Targets => is_same(name, b"all"),
         Kind::Make => is_same(name, b"text"),
         Kind::Galileo => is_same(name, b"paths"),
         Kind::Check | Kind::Tree | Kind::Report | Kind::Paths | Kind::Why | Kind::Confirm => false,
-        Kind::Place | Kind::Help | Kind::Version => false,
+        Kind::Place | Kind::Help | Kind::Version | Kind::Events => false,
     }
 }
 
@@ -95,6 +103,6 @@ pub(crate) fn has_valued(kind: Kind, name: &[u8]) -> bool
         Kind::Galileo => is_same(name, b"limit") || is_same(name, b"max-order"),
         Kind::Why | Kind::Confirm => is_same(name, b"set"),
         Kind::Check | Kind::Tree | Kind::Fmea | Kind::Make => false,
-        Kind::Place | Kind::Help | Kind::Version => false,
+        Kind::Place | Kind::Help | Kind::Version | Kind::Targets | Kind::Events => false,
     }
 }

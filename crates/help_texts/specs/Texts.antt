@@ -18,6 +18,8 @@ command_lines =
     ++ codes "paths ROOT TARGET FILE..: the minimal path sets of a target, or a page of them\n"
     ++ codes "why ROOT TARGET FILE.. --set TOKEN: why a target holds under a set of events\n"
     ++ codes "confirm ROOT TARGET DERIVATION FILE.. --set TOKEN: that a text shows that\n"
+    ++ codes "targets ROOT FILE..: the facts that may be asked as targets\n"
+    ++ codes "events ROOT FILE..: the basic events, with their kinds, rates and places\n"
     ++ codes "place FILE BYTE: the line and the column of a byte, as a refusal names it\n"
     ++ codes "help [COMMAND]: these lines; or the words of a command, its options and an example\n"
     ++ codes "version: the version of the program and of its profile\n"
@@ -157,6 +159,29 @@ confirm_lines =
     ++ codes "./aadl_fta why Acs::Control.dual 'root/out:torque{errors::serviceomission}' examples/attitude_control.aadl --set root.v/failure > why.txt\n"
     ++ codes "./aadl_fta confirm Acs::Control.dual 'root/out:torque{errors::serviceomission}' why.txt examples/attitude_control.aadl --set root.v/failure\n"
 
+abbrev pub targets_lines : List ℕ
+targets_lines =
+    codes "aadl_fta targets ROOT FILE.. [--all]\n"
+    ++ codes "\n"
+    ++ codes "Lists the facts of a model that may be asked as targets: the effects of the root, which are its states\n"
+    ++ codes "that are not initial and what leaves it. Behind each stands always, never, or the number of events of its\n"
+    ++ codes "first minimal cut set, or large where it depends on too much. The last line is end.\n"
+    ++ codes "\n"
+    ++ codes "--all          all facts\n"
+    ++ codes "\n"
+    ++ codes "Example, in the folder of the repository:\n"
+    ++ codes "./aadl_fta targets Acs::Control.dual examples/attitude_control.aadl\n"
+
+abbrev pub events_lines : List ℕ
+events_lines =
+    codes "aadl_fta events ROOT FILE..\n"
+    ++ codes "\n"
+    ++ codes "Lists the basic events of a model, each with its kind (error, source or external), its rate, and the place\n"
+    ++ codes "of its declaration, FILE:BYTE. The last line is end.\n"
+    ++ codes "\n"
+    ++ codes "Example, in the folder of the repository:\n"
+    ++ codes "./aadl_fta events Acs::Control.dual examples/attitude_control.aadl\n"
+
 abbrev pub place_lines : List ℕ
 place_lines =
     codes "aadl_fta place FILE BYTE\n"
@@ -198,6 +223,8 @@ lines_of kind.Galileo = galileo_lines
 lines_of kind.Paths = paths_lines
 lines_of kind.Why = why_lines
 lines_of kind.Confirm = confirm_lines
+lines_of kind.Targets = targets_lines
+lines_of kind.Events = events_lines
 lines_of kind.Place = place_lines
 lines_of kind.Help = help_lines
 lines_of kind.Version = version_lines

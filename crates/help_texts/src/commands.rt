@@ -1,7 +1,7 @@
 //! The text of each command.
 
 ghost use Rattle.std.specs.Prelude.{◌≡◌};
-ghost use Rattle.help_texts.specs.Texts.{check_lines, confirm_lines, cuts_lines, fmea_lines, galileo_lines, help_lines, make_lines, paths_lines, place_lines, report_lines, tree_lines, version_lines, why_lines, lines_of};
+ghost use Rattle.help_texts.specs.Texts.{check_lines, confirm_lines, cuts_lines, events_lines, fmea_lines, galileo_lines, help_lines, make_lines, paths_lines, place_lines, report_lines, targets_lines, tree_lines, version_lines, why_lines, lines_of};
 
 use fta_words::Kind;
 
@@ -20,6 +20,8 @@ pub(crate) fn lines_of(command: Kind) -> &'static [u8]
         Kind::Paths => paths_lines(),
         Kind::Why => why_lines(),
         Kind::Confirm => confirm_lines(),
+        Kind::Targets => targets_lines(),
+        Kind::Events => events_lines(),
         Kind::Place => place_lines(),
         Kind::Help => help_lines(),
         Kind::Version => version_lines(),
@@ -172,6 +174,33 @@ fn confirm_lines() -> &'static [u8]
     Example, in the folder of the repository:\n\
     ./aadl_fta why Acs::Control.dual 'root/out:torque{errors::serviceomission}' examples/attitude_control.aadl --set root.v/failure > why.txt\n\
     ./aadl_fta confirm Acs::Control.dual 'root/out:torque{errors::serviceomission}' why.txt examples/attitude_control.aadl --set root.v/failure\n"
+}
+
+fn targets_lines() -> &'static [u8]
+    ensures { result.now ≡ targets_lines }
+{
+    b"aadl_fta targets ROOT FILE.. [--all]\n\
+    \n\
+    Lists the facts of a model that may be asked as targets: the effects of the root, which are its states\n\
+    that are not initial and what leaves it. Behind each stands always, never, or the number of events of its\n\
+    first minimal cut set, or large where it depends on too much. The last line is end.\n\
+    \n\
+    --all          all facts\n\
+    \n\
+    Example, in the folder of the repository:\n\
+    ./aadl_fta targets Acs::Control.dual examples/attitude_control.aadl\n"
+}
+
+fn events_lines() -> &'static [u8]
+    ensures { result.now ≡ events_lines }
+{
+    b"aadl_fta events ROOT FILE..\n\
+    \n\
+    Lists the basic events of a model, each with its kind (error, source or external), its rate, and the place\n\
+    of its declaration, FILE:BYTE. The last line is end.\n\
+    \n\
+    Example, in the folder of the repository:\n\
+    ./aadl_fta events Acs::Control.dual examples/attitude_control.aadl\n"
 }
 
 fn place_lines() -> &'static [u8]

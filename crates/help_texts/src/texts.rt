@@ -39,6 +39,8 @@ fn all_lines() -> &'static [u8]
     paths ROOT TARGET FILE..: the minimal path sets of a target, or a page of them\n\
     why ROOT TARGET FILE.. --set TOKEN: why a target holds under a set of events\n\
     confirm ROOT TARGET DERIVATION FILE.. --set TOKEN: that a text shows that\n\
+    targets ROOT FILE..: the facts that may be asked as targets\n\
+    events ROOT FILE..: the basic events, with their kinds, rates and places\n\
     place FILE BYTE: the line and the column of a byte, as a refusal names it\n\
     help [COMMAND]: these lines; or the words of a command, its options and an example\n\
     version: the version of the program and of its profile\n\

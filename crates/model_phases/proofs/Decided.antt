@@ -4,7 +4,7 @@ use Rattle.aadl_syntax.specs.declared.core_model.PackageUnit.{PackageUnit}
 use Rattle.plain_values.specs.declared.refusal.Refusal.{Refusal}
 use Rattle.plain_values.specs.Order.{IsFirst}
 use Rattle.package_index.specs.declared.id.ClassifierId.{ClassifierId}
-use Rattle.phases.specs.Phases.{IsDecided, IsRefusal}
+use Rattle.phases.specs.Phases.{IsDecided, IsRefusal, Phase}
 use Rattle.phases.specs.declared.status.Status.{Status}
 use Rattle.phases.specs.declared.status.Status.TheVariants.{Refused}
 use Rattle.phases.proofs.Endings.{StopsOnly}
@@ -16,7 +16,7 @@ use Rattle.instantiator.specs.Whole.{Instance, instance_of}
 use Rattle.propagation_links.specs.Refused.{links_refusal}
 use Rattle.model_facts.specs.Assembly.{Assembly, assembly_of, points_in}
 use Rattle.flattener.specs.Flat.{size_refusal}
-use Rattle.model_phases.specs.Phases.{IsFlat, content_tests, flat_model, flat_phase, kind_tests}
+use Rattle.model_phases.specs.Phases.{IsFlat, assembled, content_tests, flat_model, flat_phase, kind_tests, origins_phase}
 use Rattle.model_phases.specs.Tests.{IsIt}
 
 -- ---- one end at most
@@ -37,18 +37,26 @@ module _ (Same : Status → Status → Type 0) (itself : (status : Status) → S
   flat_decided : (assembly : Assembly) → IsDecided Same (flat_phase assembly)
   flat_decided assembly = (decided_tests Same itself (IsIt (size_refusal assembly)), λ _ small. decided_accepts Same (IsFlat assembly) (λ a b one other. one.model_is ∙ sym other.model_is))
 
-  -- the model of a root has one end at most
-  pub model_decided : (packages : List PackageUnit) (root : ClassifierId) → IsDecided Same (flat_model packages root)
-  model_decided packages root = (
+  -- what is made of a model has one end at most, where what comes last has
+  pub assembled_decided : {A : Type 0} (next : Assembly → Phase A) → ((assembly : Assembly) → IsDecided Same (next assembly)) → (packages : List PackageUnit) (root : ClassifierId) → IsDecided Same (assembled next packages root)
+  assembled_decided next last packages root = (
     decided_tests Same itself (IsIt (instance_refusal packages root)),
     λ _ made. (
       kinds_decided (instance_of packages root),
       λ _ right. (
         decided_tests Same itself (IsIt (links_refusal (instance_of packages root) (points_in (assembly_of packages root).models))),
-        λ _ linked. flat_decided (assembly_of packages root),
+        λ _ linked. last (assembly_of packages root),
       ),
     ),
   )
+
+  -- the model of a root has one end at most
+  pub model_decided : (packages : List PackageUnit) (root : ClassifierId) → IsDecided Same (flat_model packages root)
+  model_decided = assembled_decided flat_phase flat_decided
+
+  -- and so has it with the origins of its events
+  pub origins_decided : (packages : List PackageUnit) (root : ClassifierId) → IsDecided Same (assembled origins_phase packages root)
+  origins_decided = assembled_decided origins_phase (λ assembly. (flat_decided assembly, λ model at. tt))
 
 -- ---- refusals alone
 
@@ -71,15 +79,23 @@ kinds_stop instance = (
 flat_stops : (assembly : Assembly) → StopsOnly IsARefusal (flat_phase assembly)
 flat_stops assembly = (first_is (IsIt (size_refusal assembly)), λ _ small. (λ s none. absurd none))
 
--- the model of a root stops with a refusal alone
-pub model_stops : (packages : List PackageUnit) (root : ClassifierId) → StopsOnly IsARefusal (flat_model packages root)
-model_stops packages root = (
+-- what is made of a model stops with a refusal alone, where what comes last does
+pub assembled_stops : {A : Type 0} (next : Assembly → Phase A) → ((assembly : Assembly) → StopsOnly IsARefusal (next assembly)) → (packages : List PackageUnit) (root : ClassifierId) → StopsOnly IsARefusal (assembled next packages root)
+assembled_stops next last packages root = (
   first_is (IsIt (instance_refusal packages root)),
   λ _ made. (
     kinds_stop (instance_of packages root),
     λ _ right. (
       first_is (IsIt (links_refusal (instance_of packages root) (points_in (assembly_of packages root).models))),
-      λ _ linked. flat_stops (assembly_of packages root),
+      λ _ linked. last (assembly_of packages root),
     ),
   ),
 )
+
+-- the model of a root stops with a refusal alone
+pub model_stops : (packages : List PackageUnit) (root : ClassifierId) → StopsOnly IsARefusal (flat_model packages root)
+model_stops = assembled_stops flat_phase flat_stops
+
+-- and so does it with the origins of its events
+pub origins_stop : (packages : List PackageUnit) (root : ClassifierId) → StopsOnly IsARefusal (assembled origins_phase packages root)
+origins_stop = assembled_stops origins_phase (λ assembly. (flat_stops assembly, λ model at. tt))

@@ -3,7 +3,7 @@ use Rattle.std.proofs.Common.{◌≡◌, List, map, Result, ap, ◌∙◌, subst
 use Rattle.aadl_syntax.specs.declared.core_model.PackageUnit.{PackageUnit}
 use Rattle.package_index.specs.declared.id.ClassifierId.{ClassifierId}
 use Rattle.phases.specs.Meets.{IsMemory, Meets, StopsBut}
-use Rattle.phases.specs.Phases.{Passes, chains, tests}
+use Rattle.phases.specs.Phases.{Passes, Phase, chains, tests}
 use Rattle.phases.specs.declared.status.Status.{Status}
 use Rattle.error_types.specs.Libraries.{Table, table_of}
 use Rattle.error_models.specs.declared.model.ErrorModel.{ErrorModel}
@@ -14,8 +14,7 @@ use Rattle.propagation_links.specs.declared.link.Link.{Link}
 use Rattle.propagation_links.specs.Links.{links_of}
 use Rattle.propagation_links.specs.Refused.{links_refusal}
 use Rattle.model_facts.specs.Assembly.{Assembly, assembly_of, points_in, with_links}
-use Rattle.model_phases.specs.declared.flat.FlatModel.{FlatModel}
-use Rattle.model_phases.specs.Phases.{flat_model, flat_phase, kind_tests}
+use Rattle.model_phases.specs.Phases.{assembled, kind_tests}
 use Rattle.model_phases.specs.Tests.{IsIt}
 use Rattle.model_phases.proofs.Tested.{behind}
 
@@ -52,16 +51,16 @@ whole packages root instance types models links made known are joined =
     let joined_up : its ≡ with_links instance types models = λ i. record { instance = instance; types = types; models = models; links = joined i } in
     joined_up ∙ (λ i. with_links instance (known i) (are i)) ∙ ap (λ (one : Instance). with_links one (table_of one.packages) (models_in one)) made
 
--- the model of the root
-pub model_met : (packages : List PackageUnit) (root : ClassifierId) (instance : Instance) (types : Table) (models : List ErrorModel) (links : List Link) (result : Result FlatModel Status)
+-- what is made of the model of the root
+pub model_met : {A : Type 0} (next : Assembly → Phase A) (packages : List PackageUnit) (root : ClassifierId) (instance : Instance) (types : Table) (models : List ErrorModel) (links : List Link) (result : Result A Status)
     → instance ≡ instance_of packages root → types ≡ table_of instance.packages → models ≡ models_in instance → links ≡ links_of instance (points_in models)
     → Passes (tests (IsIt (instance_refusal packages root))) (tt {0}) → Passes (kind_tests instance) (tt {0}) → Passes (tests (IsIt (links_refusal instance (points_in models)))) (tt {0})
-    → Meets (flat_phase (record { instance = instance; types = types; models = models; links = links })) result → Meets (flat_model packages root) result
-model_met packages root instance types models links result made known are joined right kinds linked met =
-    let flat = flat_phase (assembly_of packages root) in
-    let its : Meets flat result = subst (λ (a : Assembly). Meets (flat_phase a) result) (whole packages root instance types models links made known are joined) met in
+    → Meets (next (record { instance = instance; types = types; models = models; links = links })) result → Meets (assembled next packages root) result
+model_met next packages root instance types models links result made known are joined right kinds linked met =
+    let last = next (assembly_of packages root) in
+    let its : Meets last result = subst (λ (a : Assembly). Meets (next a) result) (whole packages root instance types models links made known are joined) met in
     let joining = tests (IsIt (links_refusal (instance_of packages root) (points_in (assembly_of packages root).models))) in
     let own = kind_tests (instance_of packages root) in
-    behind (λ (model : FlatModel). model) (tests (IsIt (instance_refusal packages root))) (chains own (λ _. chains joining (λ _. flat))) result right
-    (behind (λ (model : FlatModel). model) own (chains joining (λ _. flat)) result (kinds_pass packages root instance made kinds)
-    (behind (λ (model : FlatModel). model) joining flat result (links_pass packages root instance models made are linked) its))
+    behind (λ model. model) (tests (IsIt (instance_refusal packages root))) (chains own (λ _. chains joining (λ _. last))) result right
+    (behind (λ model. model) own (chains joining (λ _. last)) result (kinds_pass packages root instance made kinds)
+    (behind (λ model. model) joining last result (links_pass packages root instance models made are linked) its))

@@ -1,7 +1,7 @@
 -- The phases of a model: what is refused of a root in packages, in order, and else its system.
 use Rattle.std.specs.Prelude.{◌≡◌, List, length, map, Contains}
 use Rattle.aadl_syntax.specs.declared.core_model.PackageUnit.{PackageUnit}
-use Rattle.phases.specs.Phases.{Phase, accepts, tests, ◌>>=◌}
+use Rattle.phases.specs.Phases.{Phase, accepts, tests, yields, ◌>>=◌}
 use Rattle.package_index.specs.declared.id.ClassifierId.{ClassifierId}
 use Rattle.error_types.specs.Libraries.{HasTooManyTypes, Table, table_of}
 use Rattle.instantiator.specs.Refused.{instance_refusal}
@@ -12,7 +12,10 @@ use Rattle.model_facts.specs.Assembly.{Assembly, assembly_of, points_in}
 use Rattle.model_facts.specs.Effects.{effects_of}
 use Rattle.flattener.specs.Flat.{size_refusal, system_of}
 use Rattle.event_rates.specs.Associations.{rate_in}
+use Rattle.model_facts.specs.Facts.{events_of}
+use Rattle.event_origins.specs.Origins.{origin_of}
 use Rattle.model_phases.specs.declared.flat.FlatModel.{FlatModel}
+use Rattle.model_phases.specs.declared.events.EventModel.{EventModel}
 use Rattle.model_phases.specs.Named.{IsPlainModel}
 use Rattle.model_phases.specs.Tests.{IsIt}
 
@@ -52,11 +55,25 @@ flat_phase assembly = do
   _ ← tests (IsIt (size_refusal assembly))
   accepts (IsFlat assembly)
 
--- The model of a root in packages, as a system: its components are right (M4, M5, N2 to N6, P1 to P3), then their error models,
--- then its links (M14, N14, P3, P9), and it is not too large.
-abbrev pub flat_model : List PackageUnit → ClassifierId → Phase FlatModel
-flat_model packages root = do
+-- What a further phase makes of the model of a root in packages: its components are right (M4, M5, N2 to N6, P1 to P3), then their
+-- error models, then its links (M14, N14, P3, P9), and then comes the phase.
+abbrev pub assembled : {A : Type 0} → (Assembly → Phase A) → List PackageUnit → ClassifierId → Phase A
+assembled next packages root = do
   _ ← tests (IsIt (instance_refusal packages root))
   _ ← kind_tests (instance_of packages root)
   _ ← tests (IsIt (links_refusal (instance_of packages root) (points_in (assembly_of packages root).models)))
-  flat_phase (assembly_of packages root)
+  next (assembly_of packages root)
+
+-- The model of a root in packages, as a system which is not too large.
+abbrev pub flat_model : List PackageUnit → ClassifierId → Phase FlatModel
+flat_model = assembled flat_phase
+
+-- a model as a system, and of which kind each of its events is, and where it is declared
+abbrev pub with_origins : Assembly → FlatModel → EventModel
+with_origins assembly model = record { flat = model; origins = map (origin_of assembly) (events_of assembly) }
+
+-- The model that is put together, as a system which is not too large, with the origins of its events.
+abbrev pub origins_phase : Assembly → Phase EventModel
+origins_phase assembly = do
+  model ← flat_phase assembly
+  yields (with_origins assembly model)

@@ -6,7 +6,7 @@ ghost use Rattle.instantiator.specs.Whole.{instance_of};
 ghost use Rattle.propagation_links.specs.Links.{links_of};
 ghost use Rattle.propagation_links.specs.Refused.{links_refusal};
 ghost use Rattle.model_facts.specs.Assembly.{points_in};
-ghost use Rattle.model_phases.specs.Phases.{flat_model, flat_phase};
+ghost use Rattle.model_phases.specs.Phases.{assembled};
 ghost use Rattle.model_phases.specs.Tests.{IsIt, MeetsTests};
 
 use crate::kinds::{Kinds, kinds_of};
@@ -36,19 +36,54 @@ pub struct FlatModel {
     pub rates: List<Rate>,
 }
 
-/// The model of a root in the packages of an index, as a system.
+/// What is made of a model that is put together.
+pub trait FromAssembly: Sized {
+    ghost use Rattle.phases.specs.Meets.{Meets};
+    ghost use Rattle.phases.specs.Phases.{Phase};
+    ghost use Rattle.model_facts.specs.Assembly.{Assembly as Seen};
+
+    /// What is due of a model that is put together.
+    ghost phase: { Seen → Phase Self };
+
+    /// Makes it of a model.
+    fn of(alloc: Global, assembly: &Assembly) -> Result<Self, Status>
+        ensures { Meets (phase assembly.now) result };
+}
+
+impl FromAssembly for FlatModel {
+    ghost use Rattle.model_phases.specs.Phases.{flat_phase};
+
+    ghost phase = { flat_phase };
+
+    fn of(alloc: Global, assembly: &Assembly) -> Result<FlatModel, Status> {
+        let facts = plain_system(alloc, assembly)?;
+        let rates = rates_of(alloc, assembly.instance(), facts.system.event_infos())?;
+        Ok(FlatModel {
+            components: assembly.instance().components().len() as u32,
+            system: facts.system,
+            effects: facts.effects,
+            rates,
+        })
+    }
+}
+
+/// The model of a root in the packages of an index, put together, and what is made of it.
 ///
 /// It is tested phase by phase, and the first that refuses decides: its components (M4, M5, N2 to N6, P1 to P3), their machines
 /// (N2, N15), the error types (M8), the written sets that are used (N2, N7, N8, P4), the error models (N9 to N13, P3, P5
-/// to P8, P11, P12), the links (M14, N14, P3, P9), and the size (M6, M7, M9). Rates are not tested: a value that is none gives the
-/// conservative rate.
-pub fn flat_model(alloc: Global, index: &Index, root: ClassifierId) -> Result<FlatModel, Status>
-    ensures { Meets (flat_model index.now root) result }
+/// to P8, P11, P12), the links (M14, N14, P3, P9), and then, of a `FlatModel`, the size (M6, M7, M9). Rates are not tested: a value that
+/// is none gives the conservative rate.
+pub fn assembled<M: FromAssembly>(
+    alloc: Global,
+    index: &Index,
+    root: ClassifierId,
+) -> Result<M, Status>
+    ensures { Meets (assembled M.phase index.now root) result }
 {
     let instance = instance_at(alloc, index, root)?;
     let kinds = kinds_of(alloc, &instance)?;
     let links = links_between(alloc, &instance, &kinds)?;
-    flat_with(alloc, &instance, &kinds, &links)
+    made_of(alloc, &instance, &kinds, &links)
 }
 
 /// The instance of a root.
@@ -76,22 +111,15 @@ fn links_between<'a>(
     Ok(links_of(alloc, instance, points.items())?)
 }
 
-/// The system of an instance whose kinds have these error models, and which has these links.
-fn flat_with<'m, 'i, 'a>(
+/// What is made of an instance whose kinds have these error models, and which has these links.
+fn made_of<'m, 'i, 'a, M: FromAssembly>(
     alloc: Global,
     instance: &'m Instance<'i, 'a>,
     kinds: &'m Kinds<'i, 'a>,
     links: &'m List<Link>,
-) -> Result<FlatModel, Status>
-    ensures { Meets (flat_phase (record { instance = instance.now; types = kinds.now.types; models = kinds.now.models; links = links.now })) result }
+) -> Result<M, Status>
+    ensures { Meets (M.phase (record { instance = instance.now; types = kinds.now.types; models = kinds.now.models; links = links.now })) result }
 {
     let assembly = Assembly::new(instance, &kinds.types, kinds.models.items(), links.items());
-    let facts = plain_system(alloc, &assembly)?;
-    let rates = rates_of(alloc, instance, facts.system.event_infos())?;
-    Ok(FlatModel {
-        components: instance.components().len() as u32,
-        system: facts.system,
-        effects: facts.effects,
-        rates,
-    })
+    M::of(alloc, &assembly)
 }

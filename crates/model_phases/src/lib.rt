@@ -1,8 +1,10 @@
 //! The model of a root in packages, phase by phase: its components, their error models, its links, and its system.
 #![tactic(auto)]
 
+mod events;
 mod flat;
 mod kinds;
 mod system;
 
-pub use flat::{FlatModel, flat_model};
+pub use events::EventModel;
+pub use flat::{FlatModel, FromAssembly, assembled};

@@ -30,6 +30,18 @@ returns-in-Fmea-clause-end g c = rw c.in-Fmea.is (ran_alone _ _ _ c.fmea.result 
 pub returns-in-Fmea-clause-reports : goal.returns-in-Fmea-clause-reports
 returns-in-Fmea-clause-reports g c = all_kept (λ b. (goal.Report-dyn g (b.vtable, b.value)).text b.value) (λ b. (goal.Report-dyn g (b.vtable, b.value)).label b.value) (λ b. (goal.Report-dyn g (b.vtable, b.value)).report_faults b.value) _ c.args.reports.now.items
 
+pub returns-in-Targets-clause-end : goal.returns-in-Targets-clause-end
+returns-in-Targets-clause-end g c = rw c.in-Targets.is (ran_alone _ _ _ c.targets.result _ _ _ _ (c.targets.ensures.end []))
+
+pub returns-in-Targets-clause-reports : goal.returns-in-Targets-clause-reports
+returns-in-Targets-clause-reports g c = all_kept (λ b. (goal.Report-dyn g (b.vtable, b.value)).text b.value) (λ b. (goal.Report-dyn g (b.vtable, b.value)).label b.value) (λ b. (goal.Report-dyn g (b.vtable, b.value)).report_faults b.value) _ c.args.reports.now.items
+
+pub returns-in-Events-clause-end : goal.returns-in-Events-clause-end
+returns-in-Events-clause-end g c = rw c.in-Events.is (ran_alone _ _ _ c.events.result _ _ _ _ (c.events.ensures.end []))
+
+pub returns-in-Events-clause-reports : goal.returns-in-Events-clause-reports
+returns-in-Events-clause-reports g c = all_kept (λ b. (goal.Report-dyn g (b.vtable, b.value)).text b.value) (λ b. (goal.Report-dyn g (b.vtable, b.value)).label b.value) (λ b. (goal.Report-dyn g (b.vtable, b.value)).report_faults b.value) _ c.args.reports.now.items
+
 pub returns-in-Paths-clause-end : goal.returns-in-Paths-clause-end
 returns-in-Paths-clause-end g c = rw c.in-Paths.is (ran_alone _ _ _ c.paths.result _ _ _ _ (c.paths.ensures.end []))
 

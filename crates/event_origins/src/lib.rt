@@ -1,0 +1,11 @@
+//! Of which kind each event of a model is, and where its declaration stands.
+#![tactic(auto)]
+
+mod declaration;
+mod kinds;
+mod origin;
+mod origins;
+mod table;
+
+pub use origin::{EventOrigin, OriginKind};
+pub use origins::origins_of;

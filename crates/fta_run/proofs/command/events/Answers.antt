@@ -1,0 +1,16 @@
+use Rattle.fta_run.specs.Due.{events_text, made_of_files}
+use Rattle.model_phases.specs.Phases.{origins_phase}
+use Rattle.model_phases.specs.declared.events.EventModel.{EventModel}
+use Rattle.fta_run.specs.Steps.{IsReadEnd}
+use Rattle.system_answers.specs.Prints.{NoFault}
+use Rattle.fta_run.proofs.Ran.{ran_on, ran_stopped}
+use Rattle.fta_run.proofs.command.events.Goals as goal
+
+pub returns-in_err-model-clause-end : goal.returns-in_err-model-clause-end
+returns-in_err-model-clause-end g c = λ voices.
+    ran_stopped NoFault _ (made_of_files origins_phase (g.F.Files.contents c.args.files.now) c.args.root.now c.args.names.now) (λ (model : EventModel). events_text c.args.names.now model) _ _ c.from_residual.result c.in_err-model.field-0.0 c.from_residual.ensures.1 c.in_err-model.ensures.meets
+
+pub returns-clause-end : goal.returns-clause-end
+returns-clause-end g c = λ voices.
+    ran_on NoFault (IsReadEnd c.args.names.now (g.F.Files.faults c.args.files.now) (g.F.Files.faults c.read_events.new.files)) (made_of_files origins_phase (g.F.Files.contents c.args.files.now) c.args.root.now c.args.names.now)
+    (λ (model : EventModel). events_text c.args.names.now model) c.in_ok-model.model c.write_events.result _ _ _ _ c.in_ok-model.ensures.meets c.write_events.ensures

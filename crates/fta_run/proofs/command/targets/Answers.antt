@@ -1,0 +1,15 @@
+use Rattle.fta_run.specs.Due.{model_of_files, targets_text}
+use Rattle.model_phases.specs.declared.flat.FlatModel.{FlatModel}
+use Rattle.fta_run.specs.Steps.{IsReadEnd}
+use Rattle.system_answers.specs.Prints.{NoFault}
+use Rattle.fta_run.proofs.Ran.{ran_on, ran_stopped}
+use Rattle.fta_run.proofs.command.targets.Goals as goal
+
+pub returns-in_err-model-clause-end : goal.returns-in_err-model-clause-end
+returns-in_err-model-clause-end g c = λ voices.
+    ran_stopped NoFault _ (model_of_files (g.F.Files.contents c.args.files.now) c.args.root.now c.args.names.now) (λ (model : FlatModel). targets_text c.args.all model) _ _ c.from_residual.result c.in_err-model.field-0.0 c.from_residual.ensures.1 c.in_err-model.ensures.meets
+
+pub returns-clause-end : goal.returns-clause-end
+returns-clause-end g c = λ voices.
+    ran_on NoFault (IsReadEnd c.args.names.now (g.F.Files.faults c.args.files.now) (g.F.Files.faults c.read_model.new.files)) (model_of_files (g.F.Files.contents c.args.files.now) c.args.root.now c.args.names.now)
+    (λ (model : FlatModel). targets_text c.args.all model) c.in_ok-model.model c.write_targets.result _ _ _ _ c.in_ok-model.ensures.meets c.write_targets.ensures
