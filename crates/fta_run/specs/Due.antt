@@ -83,11 +83,7 @@ made_of_files next contents root files = do
   texts ← texts_of contents files
   made_of_texts next root texts
 
--- the model of the root in these files, as a system
-abbrev pub model_of_units : Root → List (List FileUnit) → Phase FlatModel
-model_of_units root files = made_of_units flat_phase root files
-
--- the model of the root in files of these texts
+-- the model of the root in files of these texts, as a system
 abbrev pub model_of_texts : Root → List (List ℕ) → Phase FlatModel
 model_of_texts root texts = made_of_texts flat_phase root texts
 

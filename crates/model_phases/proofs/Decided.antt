@@ -16,7 +16,7 @@ use Rattle.instantiator.specs.Whole.{Instance, instance_of}
 use Rattle.propagation_links.specs.Refused.{links_refusal}
 use Rattle.model_facts.specs.Assembly.{Assembly, assembly_of, points_in}
 use Rattle.flattener.specs.Flat.{size_refusal}
-use Rattle.model_phases.specs.Phases.{IsFlat, assembled, content_tests, flat_model, flat_phase, kind_tests, origins_phase}
+use Rattle.model_phases.specs.Phases.{IsFlat, assembled, content_tests, flat_phase, kind_tests, origins_phase}
 use Rattle.model_phases.specs.Tests.{IsIt}
 
 -- ---- one end at most
@@ -51,7 +51,7 @@ module _ (Same : Status → Status → Type 0) (itself : (status : Status) → S
   )
 
   -- the model of a root has one end at most
-  pub model_decided : (packages : List PackageUnit) (root : ClassifierId) → IsDecided Same (flat_model packages root)
+  pub model_decided : (packages : List PackageUnit) (root : ClassifierId) → IsDecided Same (assembled flat_phase packages root)
   model_decided = assembled_decided flat_phase flat_decided
 
   -- and so has it with the origins of its events
@@ -93,7 +93,7 @@ assembled_stops next last packages root = (
 )
 
 -- the model of a root stops with a refusal alone
-pub model_stops : (packages : List PackageUnit) (root : ClassifierId) → StopsOnly IsARefusal (flat_model packages root)
+pub model_stops : (packages : List PackageUnit) (root : ClassifierId) → StopsOnly IsARefusal (assembled flat_phase packages root)
 model_stops = assembled_stops flat_phase flat_stops
 
 -- and so does it with the origins of its events

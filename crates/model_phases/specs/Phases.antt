@@ -64,10 +64,6 @@ assembled next packages root = do
   _ ← tests (IsIt (links_refusal (instance_of packages root) (points_in (assembly_of packages root).models)))
   next (assembly_of packages root)
 
--- The model of a root in packages, as a system which is not too large.
-abbrev pub flat_model : List PackageUnit → ClassifierId → Phase FlatModel
-flat_model = assembled flat_phase
-
 -- a model as a system, and of which kind each of its events is, and where it is declared
 abbrev pub with_origins : Assembly → FlatModel → EventModel
 with_origins assembly model = record { flat = model; origins = map (origin_of assembly) (events_of assembly) }
