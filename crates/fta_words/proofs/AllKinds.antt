@@ -52,6 +52,7 @@ flag_of_all kind.Help = tt
 flag_of_all kind.Version = tt
 flag_of_all kind.Targets = all_of all_flags (flags_of kind.Targets) (refl, tt)
 flag_of_all kind.Events = tt
+flag_of_all kind.Review = tt
 
 valued_of_all : (k : Kind) → AllByRecursion (Contains all_valued) (valued_of k)
 valued_of_all kind.Check = tt
@@ -69,6 +70,7 @@ valued_of_all kind.Help = tt
 valued_of_all kind.Version = tt
 valued_of_all kind.Targets = tt
 valued_of_all kind.Events = tt
+valued_of_all kind.Review = tt
 
 allowed_one : (k : Kind) (name : List ℕ) (spelling : Spelling) → IsAllowed (flags_of k) (valued_of k) name spelling → IsAllowed all_flags all_valued name spelling
 allowed_one k name Alone is = each_of (Contains all_flags) (flags_of k) name (flag_of_all k) is

@@ -8,7 +8,7 @@ use Rattle.fta_words.specs.declared.command.Paging.{Paging}
 use Rattle.fta_words.specs.declared.kind.Kind.{Kind}
 use Rattle.fta_words.specs.declared.kind.Kind.TheVariants as kind
 use Rattle.fta_words.specs.Shown.{command_shown}
-use Rattle.fta_words.specs.Words.{Alone, Apart, AreOptions, AreWords, Attached, Check, Command, Confirm, Cuts, Fmea, Galileo, Given, Help, IsCommand, IsFolded, IsNumberText, IsPlainWord, IsRoot, Make, NamesModel, Paths, Place, Report, Says, Spelling, Tree, Version, Why, before_options, file_words, files_of, is_option, name_of, option_words, spelled, Targets, Events}
+use Rattle.fta_words.specs.Words.{Alone, Apart, AreOptions, AreWords, Attached, Check, Command, Confirm, Cuts, Fmea, Galileo, Given, Help, IsCommand, IsFolded, IsNumberText, IsPlainWord, IsRoot, Make, NamesModel, Paths, Place, Report, Says, Spelling, Tree, Version, Why, before_options, file_words, files_of, is_option, name_of, option_words, spelled, Targets, Events, Review}
 use Rattle.fta_words.specs.Reading.{Answers, HaveOptions, IsRead, ReadsAs, Say, Values, flags_of, kind_of, valued_of, values_of}
 use Rattle.fta_words.proofs.PlainFront.{no_end, no_option}
 use Rattle.fta_words.proofs.Places.{one_chosen}
@@ -110,6 +110,9 @@ to_read reports words (Targets root files all) x =
 to_read reports words (Events root files) x =
     let s = split_words words (codes "events" ∷ x.0 ∷ files) (flags_of kind.Events) (valued_of kind.Events) x.1 x.2 in
     record { given = x.1; plain = subst (AllByRecursion IsPlainWord) (sym s.0) x.2.plain_words; options_are = s.1; options = x.2.options; read = (x.0, s.0, x.3) }
+to_read reports words (Review root files) x =
+    let s = split_words words (codes "review" ∷ x.0 ∷ files) (flags_of kind.Review) (valued_of kind.Review) x.1 x.2 in
+    record { given = x.1; plain = subst (AllByRecursion IsPlainWord) (sym s.0) x.2.plain_words; options_are = s.1; options = x.2.options; read = (x.0, s.0, x.3) }
 
 -- the parts of words that are read
 words_from : (words plain : List (List ℕ)) (flags valued : List (List ℕ)) (given : List Given) → AllByRecursion IsPlainWord (before_options words) → before_options words ≡ plain
@@ -186,6 +189,10 @@ from_read reports words (Events root files) x =
     let r = x.read in
     let are = words_from words (codes "events" ∷ r.0 ∷ files) (flags_of kind.Events) (valued_of kind.Events) x.given x.plain r.1 x.options_are x.options in
     (r.0, x.given, are, r.2)
+from_read reports words (Review root files) x =
+    let r = x.read in
+    let are = words_from words (codes "review" ∷ r.0 ∷ files) (flags_of kind.Review) (valued_of kind.Review) x.given x.plain r.1 x.options_are x.options in
+    (r.0, x.given, are, r.2)
 
 -- ---- names of commands
 
@@ -197,7 +204,8 @@ kind_by_name name =
     else if is_same_text name (codes "galileo") then Some kind.Galileo else if is_same_text name (codes "paths") then Some kind.Paths
     else if is_same_text name (codes "why") then Some kind.Why else if is_same_text name (codes "confirm") then Some kind.Confirm
     else if is_same_text name (codes "place") then Some kind.Place else if is_same_text name (codes "help") then Some kind.Help
-    else if is_same_text name (codes "version") then Some kind.Version else if is_same_text name (codes "targets") then Some kind.Targets else Some kind.Events
+    else if is_same_text name (codes "version") then Some kind.Version else if is_same_text name (codes "targets") then Some kind.Targets
+    else if is_same_text name (codes "events") then Some kind.Events else Some kind.Review
 
 named_again : (k : Kind) → kind_by_name (name_of k) ≡ Some k
 named_again kind.Check = refl
@@ -215,6 +223,7 @@ named_again kind.Help = refl
 named_again kind.Version = refl
 named_again kind.Targets = refl
 named_again kind.Events = refl
+named_again kind.Review = refl
 
 -- commands of one name are one
 pub same_kind : (a b : Kind) → name_of a ≡ name_of b → a ≡ b
@@ -238,6 +247,7 @@ read_name reports plain values (Help (Some of)) r = (name_of of ∷ [], r)
 read_name reports plain values Version r = ([], r)
 read_name reports plain values (Targets root files all) r = (r.0 ∷ files, r.1)
 read_name reports plain values (Events root files) r = (r.0 ∷ files, r.1)
+read_name reports plain values (Review root files) r = (r.0 ∷ files, r.1)
 
 pub kind_read : (reports plain : List (List ℕ)) (values : Values) (command : Command) → IsRead reports plain values command → (k : Kind) (others : List (List ℕ)) → plain ≡ name_of k ∷ others → kind_of command ≡ k
 kind_read reports plain values command r k others is =
@@ -291,6 +301,7 @@ Parts kind.Help = Option Kind
 Parts kind.Version = Unit {0}
 Parts kind.Targets = Root × List (List ℕ) × Bool
 Parts kind.Events = Root × List (List ℕ)
+Parts kind.Review = Root × List (List ℕ)
 
 abbrev made : (k : Kind) → Parts k → Command
 made kind.Check p = Check p.0 p.1
@@ -308,6 +319,7 @@ made kind.Help p = Help p
 made kind.Version p = Version
 made kind.Targets p = Targets p.0 p.1 p.2
 made kind.Events p = Events p.0 p.1
+made kind.Review p = Review p.0 p.1
 
 abbrev parts_of : (command : Command) → Parts (kind_of command)
 parts_of (Check root files) = (root, files)
@@ -325,6 +337,7 @@ parts_of (Help of) = of
 parts_of Version = tt
 parts_of (Targets root files all) = (root, files, all)
 parts_of (Events root files) = (root, files)
+parts_of (Review root files) = (root, files)
 
 made_again : (command : Command) → made (kind_of command) (parts_of command) ≡ command
 made_again (Check root files) = refl
@@ -342,6 +355,7 @@ made_again (Help of) = refl
 made_again Version = refl
 made_again (Targets root files all) = refl
 made_again (Events root files) = refl
+made_again (Review root files) = refl
 
 -- what is no command of the kind that its name says is none
 pub kind_only : (k : Kind) (reports words : List (List ℕ)) (values : Values) → ((p : Parts k) → IsRead reports (name_of k ∷ words) values (made k p) → ⊥) → (command : Command) → IsRead reports (name_of k ∷ words) values command → ⊥
@@ -468,6 +482,9 @@ one_of_kind reports plain values kind.Targets p q x y =
 one_of_kind reports plain values kind.Events p q x y =
     let both : codes "events" ∷ x.0 ∷ p.1 ≡ codes "events" ∷ y.0 ∷ q.1 = sym x.1 ∙ y.1 in
     ap (λ (a : Root × List (List ℕ)). Events a.0 a.1) (one_model (codes "events") x.0 y.0 p.0 q.0 p.1 q.1 both x.2 y.2)
+one_of_kind reports plain values kind.Review p q x y =
+    let both : codes "review" ∷ x.0 ∷ p.1 ≡ codes "review" ∷ y.0 ∷ q.1 = sym x.1 ∙ y.1 in
+    ap (λ (a : Root × List (List ℕ)). Review a.0 a.1) (one_model (codes "review") x.0 y.0 p.0 q.0 p.1 q.1 both x.2 y.2)
 
 -- plain words and values are one command at most
 pub one_read : (reports plain : List (List ℕ)) (values : Values) (a b : Command) → kind_of a ≡ kind_of b → IsRead reports plain values a → IsRead reports plain values b → a ≡ b
@@ -528,6 +545,8 @@ file_words_are reports words (Targets root files all) x =
     ap file_words x.2.words_are ∙ ap (drop 2) (front_of (codes "targets" ∷ x.0 ∷ files) (option_words x.1) x.2.plain_words (begin_with_option x.1))
 file_words_are reports words (Events root files) x =
     ap file_words x.2.words_are ∙ ap (drop 2) (front_of (codes "events" ∷ x.0 ∷ files) (option_words x.1) x.2.plain_words (begin_with_option x.1))
+file_words_are reports words (Review root files) x =
+    ap file_words x.2.words_are ∙ ap (drop 2) (front_of (codes "review" ∷ x.0 ∷ files) (option_words x.1) x.2.plain_words (begin_with_option x.1))
 
 -- ---- the answer
 

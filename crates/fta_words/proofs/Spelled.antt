@@ -84,6 +84,7 @@ kinds_apart kind.Help = record { flag_names = no_equals [] tt; valued_names = no
 kinds_apart kind.Version = record { flag_names = no_equals [] tt; valued_names = no_equals [] tt; apart = λ name has other. none_of name has }
 kinds_apart kind.Targets = record { flag_names = no_equals (codes "all" ∷ []) (refl, tt); valued_names = no_equals [] tt; apart = λ name has other. none_of name other }
 kinds_apart kind.Events = record { flag_names = no_equals [] tt; valued_names = no_equals [] tt; apart = λ name has other. none_of name has }
+kinds_apart kind.Review = record { flag_names = no_equals [] tt; valued_names = no_equals [] tt; apart = λ name has other. none_of name has }
 
 pub all_apart : AreApart all_flags all_valued
 all_apart =

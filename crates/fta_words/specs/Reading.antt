@@ -7,7 +7,7 @@ use Rattle.fta_words.specs.declared.options.Options.{Options}
 use Rattle.fta_words.specs.declared.command.Command.{Command as CommandInCode}
 use Rattle.fta_words.specs.declared.command.Paging.{Paging}
 use Rattle.fta_words.specs.Shown.{command_shown}
-use Rattle.fta_words.specs.Words.{AreChosen, AreOptions, Check, Command, Confirm, Cuts, Fmea, Galileo, Given, GiveNoCommand, Help, IsAllowed, IsCommand, IsFolded, IsNumberText, Make, NamesModel, Paths, Place, Report, Says, Spelling, Tree, Version, Why, has_flag, name_of, option_words, spelled, value_of, Targets, Events}
+use Rattle.fta_words.specs.Words.{AreChosen, AreOptions, Check, Command, Confirm, Cuts, Fmea, Galileo, Given, GiveNoCommand, Help, IsAllowed, IsCommand, IsFolded, IsNumberText, Make, NamesModel, Paths, Place, Report, Says, Spelling, Tree, Version, Why, has_flag, name_of, option_words, spelled, value_of, Targets, Events, Review}
 
 -- whether letters and digits follow, each perhaps after one `_`: it goes along the bytes, and after a
 -- `_` (waiting) a letter or digit must stand
@@ -35,6 +35,7 @@ flags_of kind.Help = []
 flags_of kind.Version = []
 flags_of kind.Targets = codes "all" ∷ []
 flags_of kind.Events = []
+flags_of kind.Review = []
 
 -- the options of a command that have a value
 abbrev pub valued_of : Kind → List (List ℕ)
@@ -53,6 +54,7 @@ valued_of kind.Help = []
 valued_of kind.Version = []
 valued_of kind.Targets = []
 valued_of kind.Events = []
+valued_of kind.Review = []
 
 -- An option of this name stands first in the words, and these words follow it.
 pub record StandsFirst (flags valued words : List (List ℕ)) (name : List ℕ) (rest : List (List ℕ)) : Type 0 where
@@ -135,6 +137,7 @@ kind_of (Help of) = kind.Help
 kind_of Version = kind.Version
 kind_of (Targets root files all) = kind.Targets
 kind_of (Events root files) = kind.Events
+kind_of (Review root files) = kind.Review
 
 -- The plain words and the values of the options are a command.
 abbrev pub IsRead : List (List ℕ) → List (List ℕ) → Values → Command → Type 0
@@ -186,6 +189,7 @@ IsRead reports plain values Version = plain ≡ codes "version" ∷ []
 IsRead reports plain values (Targets root files all) =
     (root_word : List ℕ) × (plain ≡ codes "targets" ∷ root_word ∷ files) × NamesModel root_word root files × (all ≡ values.all)
 IsRead reports plain values (Events root files) = (root_word : List ℕ) × (plain ≡ codes "events" ∷ root_word ∷ files) × NamesModel root_word root files
+IsRead reports plain values (Review root files) = (root_word : List ℕ) × (plain ≡ codes "review" ∷ root_word ∷ files) × NamesModel root_word root files
 
 -- The answer is the command that the plain words and values are, or none where they are none.
 abbrev pub ReadsAs : List (List ℕ) → List (List ℕ) → Values → Option CommandInCode → Type 0

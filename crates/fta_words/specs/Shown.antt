@@ -1,7 +1,7 @@
 -- What values of the code stand for.
 use Rattle.fta_words.specs.declared.command.Command.{Command as CommandInCode}
 use Rattle.fta_words.specs.declared.command.Command.TheVariants as in_code
-use Rattle.fta_words.specs.Words.{Command, Check, Cuts, Tree, Fmea, Report, Make, Galileo, Paths, Why, Confirm, Place, Help, Version, Targets, Events}
+use Rattle.fta_words.specs.Words.{Command, Check, Cuts, Tree, Fmea, Report, Make, Galileo, Paths, Why, Confirm, Place, Help, Version, Targets, Events, Review}
 
 -- a command
 abbrev pub command_shown : CommandInCode → Command
@@ -20,3 +20,4 @@ command_shown (in_code.Help of) = Help of
 command_shown in_code.Version = Version
 command_shown (in_code.Targets root files all) = Targets root files.now all
 command_shown (in_code.Events root files) = Events root files.now
+command_shown (in_code.Review root files) = Review root files.now

@@ -132,6 +132,7 @@ name_of kind.Help = codes "help"
 name_of kind.Version = codes "version"
 name_of kind.Targets = codes "targets"
 name_of kind.Events = codes "events"
+name_of kind.Review = codes "review"
 
 -- what the words ask for
 pub data Command : Type 0 where
@@ -165,6 +166,8 @@ pub data Command : Type 0 where
   Targets : Root → List (List ℕ) → Bool → Command
   -- the events of such a model
   Events : Root → List (List ℕ) → Command
+  -- what stands in such a model without effect, and where its errors stop
+  Review : Root → List (List ℕ) → Command
 
 -- the names of the files of a command
 abbrev pub files_of : Command → List (List ℕ)
@@ -183,6 +186,7 @@ files_of (Help of) = []
 files_of Version = []
 files_of (Targets root files all) = files
 files_of (Events root files) = files
+files_of (Review root files) = files
 
 -- what an option says where it is given, and nothing where it is not
 abbrev pub Says : {A : Type 0} → (List ℕ → A → Type 0) → Option (List ℕ) → Option A → Type 0
@@ -297,6 +301,8 @@ IsCommand reports words (Targets root files all) =
     × NamesModel root_word root files × (all ≡ has_flag (codes "all") given)
 IsCommand reports words (Events root files) =
     (root_word : List ℕ) × (given : List Given) × AreWords words (codes "events" ∷ root_word ∷ files) [] [] given × NamesModel root_word root files
+IsCommand reports words (Review root files) =
+    (root_word : List ℕ) × (given : List Given) × AreWords words (codes "review" ∷ root_word ∷ files) [] [] given × NamesModel root_word root files
 
 -- The words give a command.
 abbrev pub GiveCommand : List (List ℕ) → List (List ℕ) → Type 0
@@ -323,10 +329,11 @@ abbrev pub words_before_files : List ℕ → ℕ
 words_before_files name =
     if is_same_text name (codes "check") then 2 else if is_same_text name (codes "fmea") then 2 else if is_same_text name (codes "make") then 2
     else if is_same_text name (codes "targets") then 2 else if is_same_text name (codes "events") then 2
+    else if is_same_text name (codes "review") then 2
     else if is_same_text name (codes "galileo") then 1 else 3
 
--- the words that name files: that behind the first of `place`; those behind the first two of `check`, `fmea`, `make`, `targets` and
--- `events`, behind the first of `galileo`, and behind the first three of any other, up to the first that begins with `-`
+-- the words that name files: that behind the first of `place`; those behind the first two of `check`, `fmea`, `make`, `targets`,
+-- `events` and `review`, behind the first of `galileo`, and behind the first three of any other, up to the first that begins with `-`
 abbrev pub file_words : List (List ℕ) → List (List ℕ)
 file_words [] = []
 file_words (name ∷ words) =

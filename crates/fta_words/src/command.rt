@@ -109,6 +109,11 @@ pub enum Command<'a> {
         root: Root,
         files: &'a [Word],
     },
+    /// What stands in such a model without effect, and where its errors stop.
+    Review {
+        root: Root,
+        files: &'a [Word],
+    },
 }
 
 /// Which page of a listing is asked for.
@@ -197,6 +202,7 @@ fn command_of<'a>(
         Kind::Version => Ok(version(words)),
         Kind::Targets => targets(alloc, words, options),
         Kind::Events => events(alloc, words, options),
+        Kind::Review => review(alloc, words, options),
     }
 }
 
@@ -487,4 +493,16 @@ fn events<'a>(alloc: Global, words: &'a [Word], options: &Options<'_>) -> Mem<Op
         return Ok(None);
     };
     Ok(Some(Command::Events { root, files }))
+}
+
+fn review<'a>(alloc: Global, words: &'a [Word], options: &Options<'_>) -> Mem<Option<Command<'a>>>
+    ensures { (reports : List (List ℕ)) → IfOk result (ReadsAs reports (codes "review" ∷ words.now) (options_shown options.now)) }
+{
+    let [root, files @ ..] = words else {
+        return Ok(None);
+    };
+    let Some(root) = root_in(alloc, root.items(), files)? else {
+        return Ok(None);
+    };
+    Ok(Some(Command::Review { root, files }))
 }

@@ -39,7 +39,7 @@ fn words_before_files(name: &[u8]) -> usize
 {
     if is_same(name, b"check") || is_same(name, b"fmea") || is_same(name, b"make") {
         2
-    } else if is_same(name, b"targets") || is_same(name, b"events") {
+    } else if is_same(name, b"targets") || is_same(name, b"events") || is_same(name, b"review") {
         2
     } else if is_same(name, b"galileo") {
         1

@@ -23,6 +23,7 @@ pub enum Kind {
     Version,
     Targets,
     Events,
+    Review,
 }
 
 /// The command of a name.
@@ -74,6 +75,9 @@ pub(crate) fn kind_named(name: &[u8]) -> Option<Kind>
     if is_same(name, b"events") {
         return Some(Kind::Events);
     }
+    if is_same(name, b"review") {
+        return Some(Kind::Review);
+    }
     None
 }
 
@@ -87,7 +91,7 @@ pub(crate) fn has_flag(kind: Kind, name: &[u8]) -> bool
         Kind::Make => is_same(name, b"text"),
         Kind::Galileo => is_same(name, b"paths"),
         Kind::Check | Kind::Tree | Kind::Report | Kind::Paths | Kind::Why | Kind::Confirm => false,
-        Kind::Place | Kind::Help | Kind::Version | Kind::Events => false,
+        Kind::Place | Kind::Help | Kind::Version | Kind::Events | Kind::Review => false,
     }
 }
 
@@ -103,6 +107,7 @@ pub(crate) fn has_valued(kind: Kind, name: &[u8]) -> bool
         Kind::Galileo => is_same(name, b"limit") || is_same(name, b"max-order"),
         Kind::Why | Kind::Confirm => is_same(name, b"set"),
         Kind::Check | Kind::Tree | Kind::Fmea | Kind::Make => false,
-        Kind::Place | Kind::Help | Kind::Version | Kind::Targets | Kind::Events => false,
+        Kind::Place | Kind::Help | Kind::Version => false,
+        Kind::Targets | Kind::Events | Kind::Review => false,
     }
 }

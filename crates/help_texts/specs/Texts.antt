@@ -20,6 +20,7 @@ command_lines =
     ++ codes "confirm ROOT TARGET DERIVATION FILE.. --set TOKEN: that a text shows that\n"
     ++ codes "targets ROOT FILE..: the facts that may be asked as targets\n"
     ++ codes "events ROOT FILE..: the basic events, with their kinds, rates and places\n"
+    ++ codes "review ROOT FILE..: what stands in a model without effect, and where its errors stop\n"
     ++ codes "place FILE BYTE: the line and the column of a byte, as a refusal names it\n"
     ++ codes "help [COMMAND]: these lines; or the words of a command, its options and an example\n"
     ++ codes "version: the version of the program and of its profile\n"
@@ -182,6 +183,18 @@ events_lines =
     ++ codes "Example, in the folder of the repository:\n"
     ++ codes "./aadl_fta events Acs::Control.dual examples/attitude_control.aadl\n"
 
+abbrev pub review_lines : List ℕ
+review_lines =
+    codes "aadl_fta review ROOT FILE..\n"
+    ++ codes "\n"
+    ++ codes "Lists what stands in a model without effect, and where its errors stop: flows and links that a condition\n"
+    ++ codes "hides, types that a receiver does not declare, errors that nothing looks at, events that no effect depends\n"
+    ++ codes "on, and what never comes about. No line says that the model is wrong; each may be a slip. The last line is\n"
+    ++ codes "end.\n"
+    ++ codes "\n"
+    ++ codes "Example, in the folder of the repository:\n"
+    ++ codes "./aadl_fta review Acs::Control.dual examples/attitude_control.aadl\n"
+
 abbrev pub place_lines : List ℕ
 place_lines =
     codes "aadl_fta place FILE BYTE\n"
@@ -225,6 +238,7 @@ lines_of kind.Why = why_lines
 lines_of kind.Confirm = confirm_lines
 lines_of kind.Targets = targets_lines
 lines_of kind.Events = events_lines
+lines_of kind.Review = review_lines
 lines_of kind.Place = place_lines
 lines_of kind.Help = help_lines
 lines_of kind.Version = version_lines

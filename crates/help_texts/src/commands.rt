@@ -1,7 +1,7 @@
 //! The text of each command.
 
 ghost use Rattle.std.specs.Prelude.{◌≡◌};
-ghost use Rattle.help_texts.specs.Texts.{check_lines, confirm_lines, cuts_lines, events_lines, fmea_lines, galileo_lines, help_lines, make_lines, paths_lines, place_lines, report_lines, targets_lines, tree_lines, version_lines, why_lines, lines_of};
+ghost use Rattle.help_texts.specs.Texts.{check_lines, confirm_lines, cuts_lines, events_lines, fmea_lines, galileo_lines, help_lines, make_lines, paths_lines, place_lines, report_lines, review_lines, targets_lines, tree_lines, version_lines, why_lines, lines_of};
 
 use fta_words::Kind;
 
@@ -22,6 +22,7 @@ pub(crate) fn lines_of(command: Kind) -> &'static [u8]
         Kind::Confirm => confirm_lines(),
         Kind::Targets => targets_lines(),
         Kind::Events => events_lines(),
+        Kind::Review => review_lines(),
         Kind::Place => place_lines(),
         Kind::Help => help_lines(),
         Kind::Version => version_lines(),
@@ -201,6 +202,20 @@ fn events_lines() -> &'static [u8]
     \n\
     Example, in the folder of the repository:\n\
     ./aadl_fta events Acs::Control.dual examples/attitude_control.aadl\n"
+}
+
+fn review_lines() -> &'static [u8]
+    ensures { result.now ≡ review_lines }
+{
+    b"aadl_fta review ROOT FILE..\n\
+    \n\
+    Lists what stands in a model without effect, and where its errors stop: flows and links that a condition\n\
+    hides, types that a receiver does not declare, errors that nothing looks at, events that no effect depends\n\
+    on, and what never comes about. No line says that the model is wrong; each may be a slip. The last line is\n\
+    end.\n\
+    \n\
+    Example, in the folder of the repository:\n\
+    ./aadl_fta review Acs::Control.dual examples/attitude_control.aadl\n"
 }
 
 fn place_lines() -> &'static [u8]

@@ -41,6 +41,7 @@ fn all_lines() -> &'static [u8]
     confirm ROOT TARGET DERIVATION FILE.. --set TOKEN: that a text shows that\n\
     targets ROOT FILE..: the facts that may be asked as targets\n\
     events ROOT FILE..: the basic events, with their kinds, rates and places\n\
+    review ROOT FILE..: what stands in a model without effect, and where its errors stop\n\
     place FILE BYTE: the line and the column of a byte, as a refusal names it\n\
     help [COMMAND]: these lines; or the words of a command, its options and an example\n\
     version: the version of the program and of its profile\n\
