@@ -2,11 +2,12 @@
 use Rattle.std.proofs.Common.{ℕ, zero, suc, ◌+◌, ◌≡◌, ◌<◌, ◌≤◌, ◌⊎◌, Bool, true, false, cond, ◌&&◌, ◌||◌, not, nat_le, slice_index_or, List, [], ◌∷◌, ◌++◌, map, length, All, Option, Some, Result, Ok, Err, IfOk, inl, inr, ⊎_elim, ap, ◌∙◌, sym, subst, refl, arith, leb-true, le-leb}
 use Rattle.std.proofs.lemmas.Bool.{lt-leb, cases_lt, or_cases}
 use Rattle.std.proofs.lemmas.List.Elements.{All-weaker}
-use Rattle.std.specs.List.{list_all, list_any, AllByRecursion}
+use lib.ListN.{length-map}
+use Rattle.std.specs.List.{list_all, list_any, sum_by, AllByRecursion}
 use Rattle.std.specs.declared.alloc.AllocError.{AllocError}
 use Rattle.fault_system.specs.Truth.{count_true}
 use Rattle.fault_system.specs.Listings.{IsWithinOrder}
-use Rattle.fault_system.proofs.TruthLaws.{same_answer}
+use Rattle.fault_system.proofs.TruthLaws.{same_answer, nat_le-all, nat_le-any}
 use Rattle.zdd_store.specs.Family.{covers, IsRising}
 use Rattle.zdd_store.specs.Store.{Families, IsIn, family_of, Keeps, IsSound}
 use Rattle.zdd_store.specs.Answers.{sets_up_to, IsAsked, IsLeastUpTo}
@@ -19,7 +20,8 @@ use Rattle.cutset_engine.specs.Gates.{covers_each, Stands, Made, of_all, of_both
 use Rattle.cutset_engine.specs.declared.gates.Gate.{Gate}
 use Rattle.cutset_engine.specs.declared.gates.Gate.TheVariants.{And, Or}
 use Rattle.std.specs.List.Sorted.{IsPermutation}
-use Rattle.std.proofs.lemmas.List.Sorted.{IsPermutation-map, list_any-IsPermutation}
+use Rattle.std.proofs.lemmas.List.Sorted.{IsPermutation-map, list_any-IsPermutation, sum_by-IsPermutation}
+use Rattle.std.proofs.lemmas.List.Recursion.{is_sum_by}
 use Rattle.std.proofs.lemmas.List.Folds.{list_all-append, list_any-append}
 
 -- what is kept covers as before
@@ -163,6 +165,36 @@ of_all-permuted Or xs ys h = list_any-IsPermutation (λ b. b) xs ys h
 pub made_sorted : (before after : Families) (most : Option ℕ) (gate : Gate) (parts sorted : List Id) (result : Result Id AllocError) → IsPermutation parts sorted → Made before after most (λ set. of_all gate (covers_each before sorted set)) result → Made before after most (λ set. of_all gate (covers_each before parts set)) result
 made_sorted before after most gate parts sorted result h made =
     made_then before before after most _ _ result (Keeps_same before) made (λ set w. sym (of_all-permuted gate _ _ (IsPermutation-map (λ id. covers (family_of before id) set) parts sorted h)))
+
+-- how many are true does not depend on their order
+count_true-permuted : (bs cs : List Bool) → IsPermutation bs cs → count_true cs ≡ count_true bs
+count_true-permuted bs cs h = summed cs ∙ sum_by-IsPermutation (λ b. cond b 1 0) bs cs h ∙ sym (summed bs)
+  where
+    one_more : (b : Bool) (rest : List Bool) → count_true (b ∷ rest) ≡ cond b 1 0 + count_true rest
+    one_more true rest = omega arith
+    one_more false rest = omega arith
+
+    summed : (xs : List Bool) → count_true xs ≡ sum_by (λ b. cond b 1 0) xs
+    summed = is_sum_by count_true (λ b. cond b 1 0) refl one_more
+
+pub made_counted : (before after : Families) (most : Option ℕ) (k : ℕ) (parts sorted : List Id) (result : Result Id AllocError) → IsPermutation parts sorted → Made before after most (λ set. nat_le k (count_true (covers_each before sorted set))) result
+    → Made before after most (λ set. nat_le k (count_true (covers_each before parts set))) result
+made_counted before after most k parts sorted result h made =
+    made_then before before after most _ _ result (Keeps_same before) made
+    (λ set w. ap (nat_le k) (count_true-permuted _ _ (IsPermutation-map (λ id. covers (family_of before id) set) parts sorted h)))
+
+-- at least one is any of them, and as many as there are is all of them
+pub made_any : (before after : Families) (most : Option ℕ) (k : ℕ) (parts : List Id) (result : Result Id AllocError) → k ≡ 1 → Made before after most (λ set. of_all Or (covers_each before parts set)) result
+    → Made before after most (λ set. nat_le k (count_true (covers_each before parts set))) result
+made_any before after most k parts result is made =
+    made_then before before after most _ _ result (Keeps_same before) made
+    (λ set w. sym (ap (λ n. nat_le n (count_true (covers_each before parts set))) is ∙ nat_le-any (covers_each before parts set)))
+
+pub made_all : (before after : Families) (most : Option ℕ) (k : ℕ) (parts : List Id) (result : Result Id AllocError) → k ≡ length parts → Made before after most (λ set. of_all And (covers_each before parts set)) result
+    → Made before after most (λ set. nat_le k (count_true (covers_each before parts set))) result
+made_all before after most k parts result is made =
+    made_then before before after most _ _ result (Keeps_same before) made
+    (λ set w. sym (ap (λ n. nat_le n (count_true (covers_each before parts set))) (is ∙ sym (length-map parts (λ id. covers (family_of before id) set))) ∙ nat_le-all (covers_each before parts set)))
 
 pub keeps_then : (before middle after : Families) → Keeps before middle → Keeps middle after → Keeps before after
 keeps_then = Keeps_trans

@@ -49,7 +49,7 @@ pub(crate) fn formula_family(
         }
         Formula::AtLeast(least, parts) => {
             let families = part_families(alloc, store, order, most, form, now, parts.items())?;
-            some_of(alloc, store, most, *least, families.as_slice())
+            some_of(alloc, store, most, form, *least, families)
         }
     }
 }

@@ -1,4 +1,4 @@
-ghost use Rattle.std.specs.Prelude.{◌≡◌, ◌<◌, ℕ, List, [], All, Some, nat_le};
+ghost use Rattle.std.specs.Prelude.{◌≡◌, ◌<◌, ℕ, List, [], All, Some, length, nat_le};
 ghost use Rattle.std.specs.List.Sorted.{IsPermutation};
 ghost use Rattle.fault_system.specs.Truth.{count_true};
 ghost use Rattle.fault_system.specs.Listings.{IsWithinOrder};
@@ -196,8 +196,34 @@ pub(crate) fn of_gate(
     of_parts(store, most, form, gate, sorted.as_slice())
 }
 
-/// Of some families: what at least so many cover, counted by place.
-pub(crate) fn some_of(
+/// Of some families: what at least so many cover, where these are one.
+fn any_of(store: &mut Store, most: Option<u32>, form: Form, least: u32, parts: Vec<Id>) -> Mem<Id>
+    requires one { least ≡ 1 }
+    requires found { All (IsIn store.old) parts.items }
+    ensures { Made store.old store.new most (λ set. nat_le least (count_true (covers_each store.old parts.items set))) result }
+{
+    of_gate(store, most, form, Gate::Or, parts)
+}
+
+/// Of some families: what at least so many cover, where these are all.
+fn all_of(store: &mut Store, most: Option<u32>, form: Form, least: u32, parts: Vec<Id>) -> Mem<Id>
+    requires all { least ≡ length parts.items }
+    requires found { All (IsIn store.old) parts.items }
+    ensures { Made store.old store.new most (λ set. nat_le least (count_true (covers_each store.old parts.items set))) result }
+{
+    of_gate(store, most, form, Gate::And, parts)
+}
+
+/// Puts families in the order of their first variables, and one that is said again and again side by side.
+fn sort_for_counting(store: &Store, parts: &mut Vec<Id>) -> Mem<()>
+    ensures { IsPermutation parts.old.items parts.new.items }
+{
+    parts.sort_by_key(|id: &Id| (first_variable(store, *id), id.position))?;
+    Ok(())
+}
+
+/// Of some families: what at least so many cover, by a table.
+fn by_table(
     alloc: Global,
     store: &mut Store,
     most: Option<u32>,
@@ -209,4 +235,41 @@ pub(crate) fn some_of(
 {
     let choice = at_least_up_to(alloc, store, least, parts, bound_of(most))?;
     cut(store, most, choice)
+}
+
+/// Of some families: what at least so many cover, by a table over them in an order that makes it small.
+fn counted(
+    alloc: Global,
+    store: &mut Store,
+    most: Option<u32>,
+    least: u32,
+    parts: Vec<Id>,
+) -> Mem<Id>
+    requires { All (IsIn store.old) parts.items }
+    ensures { Made store.old store.new most (λ set. nat_le least (count_true (covers_each store.old parts.items set))) result }
+{
+    let mut sorted = parts;
+    sort_for_counting(store, &mut sorted)?;
+    by_table(alloc, store, most, least, sorted.as_slice())
+}
+
+/// Of some families: what at least so many cover, counted by place.
+pub(crate) fn some_of(
+    alloc: Global,
+    store: &mut Store,
+    most: Option<u32>,
+    form: Form,
+    least: u32,
+    parts: Vec<Id>,
+) -> Mem<Id>
+    requires { All (IsIn store.old) parts.items }
+    ensures { Made store.old store.new most (λ set. nat_le least (count_true (covers_each store.old parts.items set))) result }
+{
+    if least == 1 {
+        return any_of(store, most, form, least, parts);
+    }
+    if least as usize == parts.as_slice().len() {
+        return all_of(store, most, form, least, parts);
+    }
+    counted(alloc, store, most, least, parts)
 }

@@ -23,8 +23,9 @@ use zdd_store::{Id, Node, Store};
 /// The minimal cut sets of the target of a slice, of at most so many events where a greatest order is given, as a family
 /// of sets of event numbers. The blocks decide how long it takes, and not what is found.
 ///
-/// Where they are not found at once, the sets of one event are found first. The others have none of these events, and none
-/// needs the target on the way to the target: so they are found in a smaller system. Each number of the store keeps its family, also where memory is refused.
+/// Where they are not found at once, the sets of one event are found first. The others have none of these events, and none needs the
+/// target on the way to the target: so they are found in a smaller system. Each number of the store keeps its family, also where
+/// memory is refused.
 pub fn family(
     alloc: Global,
     system: &FaultSystem,

@@ -1,7 +1,5 @@
 -- The declarations from which the events of a component come (EMV2: error events, error sources, inward propagations).
-use Rattle.std.specs.Prelude.{ℕ, Bool, ◌||◌, cond, List, [], ◌∷◌, ◌++◌, find, flat_map, map, Option, None, Some, option_map}
-use denote.Ref.{Bor}
-use Rattle.plain_values.specs.Name.{is_same_text}
+use Rattle.std.specs.Prelude.{ℕ, ◌||◌, cond, List, [], ◌∷◌, ◌++◌, flat_map, map, Option, None, Some}
 use Rattle.plain_values.specs.declared.spot.Spot.{Spot}
 use Rattle.aadl_syntax.specs.declared.core_model.PackageUnit.{PackageUnit}
 use Rattle.aadl_syntax.specs.declared.error_model.EventDecl.{EventDecl}
@@ -11,26 +9,10 @@ use Rattle.package_index.specs.Names.{only}
 use Rattle.package_index.specs.declared.id.ClassifierId.{ClassifierId}
 use Rattle.component_extension.specs.declared.effective.Effective.{Effective}
 use Rattle.error_behavior.specs.Machines.{Machine}
-use Rattle.error_models.specs.Below.{kind_machine}
+use Rattle.error_models.specs.Below.{machine_of}
 use Rattle.instantiator.specs.Effectives.{effective_of}
+use Rattle.event_origins.specs.Named.{Declaration}
 use Rattle.event_origins.specs.declared.kinds.Declarations.{Declarations}
-
--- A declaration: its name, and where it stands.
-pub record Declaration : Type 0 where
-  pub name : List ℕ
-  pub spot : Spot
-
--- whether a declaration has the name
-abbrev pub has_name : List ℕ → Declaration → Bool
-has_name name declaration = is_same_text declaration.name name
-
--- the same of a name that is lent
-abbrev pub has_text : Bor (List ℕ) → Declaration → Bool
-has_text name declaration = has_name name.now declaration
-
--- where the first declaration of a name stands
-abbrev pub spot_named : List Declaration → List ℕ → Option Spot
-spot_named declarations name = option_map (λ declaration. declaration.spot) (find (has_name name) declarations)
 
 -- ---- error events
 
@@ -76,4 +58,4 @@ declarations_in machine effective = record {
 
 -- the declarations of a component of this classifier
 abbrev pub declarations_of : List PackageUnit → ClassifierId → Declarations
-declarations_of packages id = declarations_in (kind_machine packages id) (effective_of packages id)
+declarations_of packages id = declarations_in (machine_of packages (effective_of packages id)) (effective_of packages id)

@@ -11,7 +11,8 @@ use Rattle.event_origins.specs.declared.kinds.Declarations.{Declarations}
 use Rattle.event_origins.specs.declared.origin.EventOrigin.{EventOrigin}
 use Rattle.event_origins.specs.declared.origin.OriginKind.{OriginKind}
 use Rattle.event_origins.specs.declared.origin.OriginKind.TheVariants.{Error, Source, External}
-use Rattle.event_origins.specs.Declarations.{declarations_of, spot_named}
+use Rattle.event_origins.specs.Named.{spot_named}
+use Rattle.event_origins.specs.Declarations.{declarations_of}
 
 -- of which kind an event is
 abbrev pub kind_of : EventKind → OriginKind

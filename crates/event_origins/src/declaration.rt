@@ -10,7 +10,7 @@ pub(crate) struct Declaration<'a> {
 }
 
 impl<'a> Model for Declaration<'a> {
-    ghost use Rattle.event_origins.specs.Declarations.{Declaration as Seen};
+    ghost use Rattle.event_origins.specs.Named.{Declaration as Seen};
 
     ghost Value = { Seen };
 

@@ -1,6 +1,6 @@
 ghost use Rattle.std.specs.Prelude.{◌≡◌, ◌++◌, IfOk, OnOk, flat_map, map, option_and_then, option_map};
-ghost use Rattle.error_models.specs.Below.{kind_machine, machine_of};
-ghost use Rattle.event_origins.specs.Declarations.{declarations_in, declarations_of, event_declaration, event_declarations, flow_declaration, inward_declaration, machine_events, named_at};
+ghost use Rattle.error_models.specs.Below.{machine_of};
+ghost use Rattle.event_origins.specs.Declarations.{declarations_in, declarations_of, event_declaration, flow_declaration, inward_declaration, machine_events, named_at};
 
 use crate::declaration::Declaration;
 use crate::table::DeclarationTable;

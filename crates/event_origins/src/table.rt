@@ -1,7 +1,7 @@
 ghost use Rattle.std.specs.Prelude.{◌≡◌, IfOk};
 ghost use Rattle.std.specs.HashMap.{get};
 ghost use Rattle.package_index.specs.Tables.{Knows, same_text};
-ghost use Rattle.event_origins.specs.Declarations.{has_text, spot_named};
+ghost use Rattle.event_origins.specs.Named.{has_text, spot_named};
 
 use crate::declaration::Declaration;
 use package_index::add;
@@ -22,7 +22,7 @@ impl<'a> Model for DeclarationTable<'a> {
     ghost use Rattle.std.specs.HashMap.{get};
     ghost use denote.Ref.{Bor};
     ghost use Rattle.package_index.specs.Tables.{Knows, same_text};
-    ghost use Rattle.event_origins.specs.Declarations.{Declaration as Seen, has_text};
+    ghost use Rattle.event_origins.specs.Named.{Declaration as Seen, has_text};
 
     ghost Value = { List Seen };
 

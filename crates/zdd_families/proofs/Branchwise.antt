@@ -1,11 +1,11 @@
 -- Families that are joined branch by branch, where at a variable what is covered with it is no less than without it.
-use Rattle.std.proofs.Common.{◌≡◌, ℕ, ◌<◌, ◌≤◌, min, Bool, true, false, ◌&&◌, ◌||◌, not, List, [], ◌∷◌, filter, Contains, length, Result, Ok, Err, refl, sym, ap, ◌∙◌, subst, arith}
-use Rattle.std.specs.Prelude.{IfOk, IsTrue}
+use Rattle.std.proofs.Common.{◌≡◌, ℕ, ◌<◌, ◌≤◌, min, Bool, true, false, ◌&&◌, ◌||◌, not, List, [], ◌∷◌, filter, Contains, Result, Ok, Err, refl, sym, ap, ◌∙◌, subst, arith}
+use Rattle.std.specs.Prelude.{IsTrue}
 use Rattle.std.specs.declared.alloc.AllocError.{AllocError}
 use Rattle.std.proofs.lemmas.Bool.{false≢true}
-use Rattle.zdd_store.specs.Family.{Family, branch, least_number, has, covers, IsAntichain, sets_without}
-use Rattle.zdd_store.specs.Store.{Families, IsIn, family_at, family_of, family_with, Keeps, Fits, IsSound}
-use Rattle.zdd_store.specs.Answers.{IsCovering, IsWide, IsLeastFamily}
+use Rattle.zdd_store.specs.Family.{Family, branch, least_number, has, covers, sets_without}
+use Rattle.zdd_store.specs.Store.{Families, IsIn, family_at, family_of, family_with, Keeps, Fits}
+use Rattle.zdd_store.specs.Answers.{IsCovering, IsWide}
 use Rattle.zdd_store.specs.declared.id.Id.{Id}
 use Rattle.zdd_store.specs.declared.id.Node.{Node}
 use Rattle.zdd_store.proofs.Branches.{branch-empty, same_branch, le-least_number-branch}
@@ -13,12 +13,12 @@ use Rattle.zdd_families.specs.Steps.{IsFound, Answered, IsSplit, joined}
 use Rattle.zdd_families.specs.Rising.{ArePartsOf, AreBothParts}
 use Rattle.zdd_families.specs.declared.split.Parts.{Parts}
 use Rattle.zdd_families.specs.declared.wide.BothParts.{BothParts}
-use Rattle.zdd_families.proofs.Booleans.{or_left, or_right, or_cases}
+use Rattle.zdd_families.proofs.Booleans.{or_left, or_right}
 use Rattle.zdd_families.proofs.Subsets.{has_first}
 use Rattle.zdd_families.proofs.Covers.{covers-branch, covers-with, member-greater}
-use Rattle.zdd_families.proofs.Joins.{filter-branch, same_filter, least-join}
+use Rattle.zdd_families.proofs.Joins.{filter-branch, same_filter}
 use Rattle.zdd_families.proofs.Pairs.{found_kept}
-use Rattle.zdd_families.proofs.Ways.{answered, Keeps_trans, joined_finish}
+use Rattle.zdd_families.proofs.Ways.{answered, Keeps_trans}
 
 -- what is no node is its own two parts
 same_parts_bits : (h c : Bool) → c ≡ (c || (h && c))

@@ -1,10 +1,9 @@
 -- The product of two families from what of each contains a set of the other.
-use Rattle.std.proofs.Common.{◌≡◌, ℕ, ◌<◌, ◌≤◌, min, Bool, true, false, not, ◌&&◌, ◌||◌, List, Contains, length, filter, Result, Ok, Err, refl, sym, ap, ◌∙◌, subst, arith}
-use Rattle.std.specs.Prelude.{IfOk}
+use Rattle.std.proofs.Common.{◌≡◌, ℕ, ◌≤◌, min, Bool, true, false, not, ◌&&◌, ◌||◌, List, Contains, Result, Ok, Err, refl, sym, ap, ◌∙◌, subst, arith}
 use Rattle.std.specs.declared.alloc.AllocError.{AllocError}
 use Rattle.std.proofs.lemmas.Bool.{false≢true}
 use Rattle.zdd_store.specs.Family.{Family, least_number, is_within, covers, sets_without, IsAntichain}
-use Rattle.zdd_store.specs.Store.{Families, IsIn, family_at, family_of, Keeps, IsSound}
+use Rattle.zdd_store.specs.Store.{Families, IsIn, family_of, Keeps}
 use Rattle.zdd_store.specs.Answers.{IsLeastFamily, IsAsked, IsLeastUpTo, IsProductUpTo}
 use Rattle.zdd_store.specs.declared.id.Id.{Id}
 use Rattle.zdd_families.specs.Steps.{IsFound, Answered, IsHalved, AreHalves, least_of_halves, of_halves, either, both}

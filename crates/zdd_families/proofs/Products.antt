@@ -1,6 +1,5 @@
 -- The ways through the product of two families of minimal sets, as far as sets are asked for.
 use Rattle.std.proofs.Common.{◌≡◌, ℕ, ◌+◌, ◌<◌, ◌≤◌, min, Bool, true, false, ◌&&◌, ◌||◌, List, length, Result, Ok, Err, refl, sym, ap, ◌∙◌, subst, arith}
-use Rattle.std.specs.Prelude.{IfOk}
 use Rattle.std.specs.declared.alloc.AllocError.{AllocError}
 use Rattle.zdd_store.specs.Family.{Family, least_number, has, covers, IsAntichain}
 use Rattle.zdd_store.specs.Store.{Families, IsIn, family_at, family_of, Keeps, IsSound}

@@ -1,8 +1,8 @@
 -- Sets within others are no longer, and what the sizes of sets tell of what families cover.
-use Rattle.std.proofs.Common.{◌≡◌, ℕ, ◌+◌, ◌<◌, ◌≤◌, ◌⊎◌, max, Bool, true, false, cond, not, ◌&&◌, ◌||◌, List, [], ◌∷◌, length, filter, Contains, refl, sym, ap, ◌∙◌, subst, inl, inr, ⊎_elim, arith, leb-true, le-leb}
+use Rattle.std.proofs.Common.{◌≡◌, ℕ, ◌+◌, ◌<◌, ◌≤◌, Bool, true, false, cond, not, ◌&&◌, ◌||◌, List, [], ◌∷◌, length, filter, Contains, refl, sym, ap, ◌∙◌, subst, ⊎_elim, arith}
 use Rattle.std.specs.Prelude.{nat_le}
 use Rattle.std.specs.List.{list_any, AllByRecursion}
-use Rattle.std.proofs.lemmas.Bool.{leb-false, cases_lt}
+use Rattle.std.proofs.lemmas.Bool.{leb-false}
 use Rattle.zdd_store.specs.Family.{Family, has, is_within, covers, sets_without, IsRising, IsAntichain}
 use Rattle.zdd_store.specs.Answers.{HasAtLeast, HasAtMost, IsAsked, IsLeastUpTo, sets_up_to}
 use Rattle.zdd_store.proofs.Orders.{all_contained}

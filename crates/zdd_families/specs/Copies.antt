@@ -1,5 +1,5 @@
 -- Families that stand in another store too.
-use Rattle.std.specs.Prelude.{ℕ, ◌≡◌, Option, Some, Result, IfOk}
+use Rattle.std.specs.Prelude.{◌≡◌, Option, Some, Result, IfOk}
 use Rattle.std.specs.declared.alloc.AllocError.{AllocError}
 use Rattle.zdd_store.specs.Family.{Family}
 use Rattle.zdd_store.specs.Store.{Families, IsIn, family_of, Keeps}

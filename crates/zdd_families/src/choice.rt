@@ -1,4 +1,4 @@
-ghost use Rattle.std.specs.Prelude.{◌≡◌, ◌+◌, ◌<◌, ◌≤◌, ◌^◌, [], ◌∷◌, ◌++◌, map, length, IfOk, All};
+ghost use Rattle.std.specs.Prelude.{◌≡◌, ◌+◌, ◌<◌, ◌≤◌, ℕ, [], map, length, slice_index_or, IfOk, OnOk, All};
 ghost use Rattle.zdd_store.specs.Store.{IsIn, family_of, Keeps};
 ghost use Rattle.zdd_store.specs.Answers.{IsLeastFamily, IsLeastUpTo};
 ghost use Rattle.zdd_families.specs.Steps.{Answered};
@@ -13,7 +13,7 @@ use plain_values::Mem;
 use std::alloc::Global;
 use zdd_store::{Id, Store};
 
-/// An entry of the table with one part more: of the entries at its place and below.
+/// An entry of the table with one part more, said once or several times: of the entry at its place, and of that so many places below.
 fn next_entry(store: &mut Store, part: Id, below: Id, here: Id, most: u32) -> Mem<Id>
     requires part_is { IsMinimalNumber store.old part }
     requires below_is { IsMinimalNumber store.old below }
@@ -24,26 +24,36 @@ fn next_entry(store: &mut Store, part: Id, below: Id, here: Id, most: u32) -> Me
     kept_union(store, here, with)
 }
 
-/// The row of the table with one part more.
-fn next_row(alloc: Global, store: &mut Store, row: &[Id], part: Id, most: u32) -> Mem<Vec<Id>>
-    requires some { 0 < length row.now }
+/// Makes the entries from `low` to `high` of a row anew, with one part more that is said so many times. The highest comes first, so
+/// that each is made of entries of the row as it was.
+fn next_row(
+    store: &mut Store,
+    row: &mut [Id],
+    part: Id,
+    times: usize,
+    low: usize,
+    high: usize,
+    most: u32,
+) -> Mem<()>
+    requires within { high < length row.old }
     requires part_is { IsMinimalNumber store.old part }
-    requires row_is { All (IsMinimalNumber store.old) row.now }
-    ensures next { IfOk result (λ next. IsNextRow most store.old store.new part row.now next.items) }
+    requires row_is { All (IsMinimalNumber store.old) row.old }
+    ensures next { OnOk result (IsNextRow most store.old store.new part times low high row.old row.new) }
     ensures kept { Keeps store.old store.new }
 {
-    let mut next = Vec::new(alloc);
-    next.push(row[0])?;
-    for at in 1..row.len() {
-        let entry = next_entry(store, part, row[at - 1], row[at], most)?;
-        next.push(entry)?;
+    let mut above = high + 1;
+    while above > low {
+        let at = above - 1;
+        let below = at.saturating_sub(times);
+        row[at] = next_entry(store, part, row[below], row[at], most)?;
+        above = at;
     }
-    Ok(next)
+    Ok(())
 }
 
 /// The row of no parts: the empty set alone at 0, and no set at each place up to k.
 fn first_row(alloc: Global, store: &Store, k: u32, most: u32) -> Mem<Vec<Id>>
-    ensures row { IfOk result (λ row. IsRow most store.now [] row.items) }
+    ensures row { IfOk result (λ row. IsRow 0 most store.now [] row.items) }
     ensures long { IfOk result (λ row. length row.items ≡ k + 1) }
 {
     store.laws();
@@ -55,20 +65,53 @@ fn first_row(alloc: Global, store: &Store, k: u32, most: u32) -> Mem<Vec<Id>>
     Ok(row)
 }
 
-/// The row of all parts, from the last to the first.
+/// The first place from which on, up to `end`, one part is said again and again.
+fn first_of_run(parts: &[Id], end: usize) -> usize
+    requires some { 0 < end }
+    requires within { end ≤ length parts.now }
+    ensures before { result < end }
+    ensures same { (at : ℕ) (d : Id) → result ≤ at → at < end → slice_index_or parts.now at d ≡ slice_index_or parts.now result d }
+{
+    let mut first = end - 1;
+    while first > 0 {
+        if parts[first - 1] != parts[first] {
+            return first;
+        }
+        first -= 1;
+    }
+    first
+}
+
+/// Puts all parts into the row of no parts, from the last to the first. Only those entries are made from which the one at k can
+/// still be reached: k times n - k + 1 for n parts, and fewer where a part is said again and again.
+fn fill_row(store: &mut Store, k: usize, parts: &[Id], most: u32, row: &mut [Id]) -> Mem<()>
+    requires parts_in { All (IsIn store.old) parts.now }
+    requires long { length row.old ≡ k + 1 }
+    requires start { IsRow 0 most store.old [] row.old }
+    ensures filled { OnOk result (IsRow k most store.new (map (family_of store.old) parts.now) row.new) }
+    ensures kept { Keeps store.old store.new }
+{
+    let mut at = parts.len();
+    while at > 0 {
+        let first = first_of_run(parts, at);
+        let part = minimal_sets(store, parts[first])?;
+        let low = k.saturating_sub(first).max(1);
+        let high = k.min(parts.len() - first);
+        next_row(store, row, part, at - first, low, high, most)?;
+        at = first;
+    }
+    Ok(())
+}
+
+/// The row of all parts, whose entry at k is made.
 fn last_row(alloc: Global, store: &mut Store, k: u32, parts: &[Id], most: u32) -> Mem<Vec<Id>>
     requires parts_in { All (IsIn store.old) parts.now }
-    ensures row { IfOk result (λ row. IsRow most store.new (map (family_of store.old) parts.now) row.items) }
+    ensures row { IfOk result (λ row. IsRow k most store.new (map (family_of store.old) parts.now) row.items) }
     ensures long { IfOk result (λ row. length row.items ≡ k + 1) }
     ensures kept { Keeps store.old store.new }
 {
     let mut row = first_row(alloc, store, k, most)?;
-    let mut at = parts.len();
-    while at > 0 {
-        at -= 1;
-        let part = minimal_sets(store, parts[at])?;
-        row = next_row(alloc, store, row.as_slice(), part, most)?;
-    }
+    fill_row(store, k as usize, parts, most, row.as_mut_slice())?;
     Ok(row)
 }
 

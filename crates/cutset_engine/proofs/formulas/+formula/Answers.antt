@@ -23,8 +23,8 @@ formula_family-returns-in_ok-families-in-Or t c =
 pub formula_family-returns-in_ok-families-in-AtLeast : goal.formula_family-returns-in_ok-families-in-AtLeast
 formula_family-returns-in_ok-families-in-AtLeast t c =
     gate_made (λ bs. nat_le c.in-AtLeast.least (count_true bs)) c.args.store.now c.part_families-in-AtLeast.new.store c.some_of.new.store c.args.most (λ set. map (λ part. is_true_under c.args.order.now c.args.store.now c.args.now.now part set) c.items-in-AtLeast.result.now)
-    (is_true_under c.args.order.now c.args.store.now c.args.now.now c.args.formula.now) c.in_ok-families-in-AtLeast.families.items c.as_slice.result.now c.some_of.result
-    c.part_families-in-AtLeast.ensures.kept c.in_ok-families-in-AtLeast.ensures.parts c.as_slice.ensures.value c.some_of.ensures
+    (is_true_under c.args.order.now c.args.store.now c.args.now.now c.args.formula.now) c.in_ok-families-in-AtLeast.families.items c.in_ok-families-in-AtLeast.families.items c.some_of.result
+    c.part_families-in-AtLeast.ensures.kept c.in_ok-families-in-AtLeast.ensures.parts refl c.some_of.ensures
     (λ set. least_true (events_of c.args.order.now set) (member (covers_each c.args.store.now c.args.now.now set)) c.args.formula.now c.in-AtLeast.parts c.items-in-AtLeast.result.now c.items-in-AtLeast.ensures.items c.in-AtLeast.least c.in-AtLeast.is)
 
 pub part_families-loop-part-preserved : goal.part_families-loop-part-preserved

@@ -1,13 +1,8 @@
-use Rattle.std.proofs.Common.{◌≡◌, ℕ, ◌<◌, length}
-use Rattle.std.specs.Prelude.{slice_index_or}
-use Rattle.zdd_store.specs.Store.{Keeps}
-use Rattle.zdd_store.specs.declared.id.Id.{Id}
-use Rattle.zdd_families.specs.Rows.{IsEntry}
+use Rattle.zdd_families.proofs.Tables.{IsHalfRow}
 use Rattle.zdd_families.proofs.choice.next_row.Given as goal
 
-abbrev pub invariant-loop-at : goal.invariant-loop-at
-invariant-loop-at l = record {
-  kept : Keeps l.fn.store l.store;
-  long : length l.next.items ≡ l.at;
-  entries : (k : ℕ) (d : Id) → k < length l.next.items → IsEntry l.most l.fn.store l.store l.part l.row k (slice_index_or l.next.items k d);
-}
+abbrev pub invariant-loop-above : goal.invariant-loop-above
+invariant-loop-above l = IsHalfRow l.most l.fn.store l.store l.part l.times l.low l.high l.above l.fn.row l.row
+
+abbrev pub decreases-loop-above : goal.decreases-loop-above
+decreases-loop-above l = l.above

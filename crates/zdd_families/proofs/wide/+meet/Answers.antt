@@ -1,4 +1,4 @@
-use Rattle.std.proofs.Common.{◌≡◌, ◌<◌, ◌≤◌, ◌&&◌, ◌||◌, min, sym, subst, Ok, arith}
+use Rattle.std.proofs.Common.{◌≤◌, ◌&&◌, min, sym, subst, Ok, arith}
 use Rattle.zdd_store.specs.Family.{least_number}
 use Rattle.zdd_store.specs.Store.{family_of, Keeps}
 use Rattle.zdd_store.specs.Answers.{IsMeetOf}

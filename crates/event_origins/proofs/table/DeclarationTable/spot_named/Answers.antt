@@ -1,6 +1,6 @@
 use Rattle.std.proofs.Common.{◌≡◌, Some, None, option_and_then, option_map, slice_get, ap, sym, ◌∙◌}
 use Rattle.std.proofs.lemmas.Option.{slice_get_past, slice_get-get_or}
-use Rattle.event_origins.specs.Declarations.{spot_named}
+use Rattle.event_origins.specs.Named.{spot_named}
 use Rattle.event_origins.proofs.TableLaws.{spot_found, spot_there}
 use Rattle.event_origins.proofs.table.DeclarationTable.spot_named.Goals as goal
 

@@ -1,5 +1,5 @@
 use Rattle.cutset_engine.proofs.Covering.{made_some}
-use Rattle.cutset_engine.proofs.gates.some_of.Goals as goal
+use Rattle.cutset_engine.proofs.gates.by_table.Goals as goal
 
 pub returns : goal.returns
 returns c =
