@@ -5,7 +5,7 @@ use Rattle.std.proofs.lemmas.Option.{slice_get_within}
 use Rattle.plain_values.specs.Rising.{RisesWithin}
 use Rattle.fta_words.specs.Words.{AreChosen, Rise}
 use Rattle.fault_system.proofs.Elements.{In-contains, contains_In, each-at}
-use Rattle.fta_run.specs.Words.{Check, Command, Confirm, Cuts, Events, Fmea, Targets, Galileo, Help, IsCommand, Make, Paths, Place, Report, Tree, Version, Why, chosen_of}
+use Rattle.fta_run.specs.Words.{Check, Command, Confirm, Cuts, Events, Review, Fmea, Targets, Galileo, Help, IsCommand, Make, Paths, Place, Report, Tree, Version, Why, chosen_of}
 
 rise_within : (low high : ℕ) (places : List ℕ) → Rise places → ((place : ℕ) → Contains places place → low ≤ place) → ((place : ℕ) → Contains places place → place < high) → RisesWithin low high places
 rise_within low high [] rise above below = tt
@@ -31,6 +31,7 @@ places_rise names words (Tree root target files) is = tt
 places_rise names words (Fmea root files all) is = tt
 places_rise names words (Targets root files all) is = tt
 places_rise names words (Events root files) is = tt
+places_rise names words (Review root files) is = tt
 places_rise names words (Report root target files chosen max_order) is = chosen_rise names _ chosen is.6
 places_rise names words (Make number text) is = tt
 places_rise names words (Galileo files limit max_order paths) is = tt

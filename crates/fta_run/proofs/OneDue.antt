@@ -8,8 +8,8 @@ use Rattle.package_index.specs.Lookup.{packages_of}
 use Rattle.fault_system.specs.Systems.{System}
 use Rattle.fta_words.specs.declared.command.Paging.{Paging}
 use Rattle.model_phases.specs.Named.{IsPlainSystem}
-use Rattle.model_phases.proofs.Decided.{model_decided, origins_decided}
-use Rattle.model_phases.specs.Phases.{assembled, flat_phase, origins_phase}
+use Rattle.model_phases.proofs.Decided.{model_decided, origins_decided, review_decided}
+use Rattle.model_phases.specs.Phases.{assembled, flat_phase, origins_phase, review_phase}
 use Rattle.model_facts.specs.Assembly.{Assembly}
 use Rattle.aadl_syntax.specs.declared.core_model.PackageUnit.{PackageUnit}
 use Rattle.package_index.specs.declared.id.ClassifierId.{ClassifierId}
@@ -19,7 +19,7 @@ use Rattle.phases.specs.declared.status.Status.{Status}
 use Rattle.phases.specs.declared.status.Status.TheVariants.{Usage, Refused}
 use Rattle.phases.proofs.Leaves.{decided_answers, decided_computes, decided_finds, decided_rejects, decided_accepts, decided_tests}
 use Rattle.phases.proofs.Decided as decided
-use Rattle.fta_run.specs.Words.{Check, Command, Cuts, Tree, Fmea, Targets, Events, Report, Make, Galileo, Paths, Why, Confirm, Place, Help, Version, IsCommand, files_of}
+use Rattle.fta_run.specs.Words.{Check, Command, Cuts, Tree, Fmea, Targets, Events, Review, Report, Make, Galileo, Paths, Why, Confirm, Place, Help, Version, IsCommand, files_of}
 use Rattle.system_answers.specs.Voices.{Voice, labels}
 use Rattle.model_maker.specs.Text.{text_of as made_text}
 use Rattle.model_phases.specs.declared.flat.FlatModel.{FlatModel}
@@ -107,6 +107,9 @@ files_model_decided contents root files told = (texts_decided contents files tol
 files_origins_decided : (contents : List ℕ → Option (List ℕ)) (root : Root) (files : List (List ℕ)) → AllByRecursion (λ file. IsSome (contents file)) files → IsDecided IsSameStatus (made_of_files origins_phase contents root files)
 files_origins_decided contents root files told = (texts_decided contents files told, λ texts are. made_decided origins_phase (origins_decided IsSameStatus itself) root texts)
 
+files_review_decided : (contents : List ℕ → Option (List ℕ)) (root : Root) (files : List (List ℕ)) → AllByRecursion (λ file. IsSome (contents file)) files → IsDecided IsSameStatus (made_of_files review_phase contents root files)
+files_review_decided contents root files told = (texts_decided contents files told, λ texts are. made_decided review_phase (review_decided IsSameStatus itself) root texts)
+
 tree_sets_decided : (paths : Bool) (limit max_order : Option ℕ) (text : List ℕ) → IsDecided IsSameStatus (sets_of_tree paths limit max_order text)
 tree_sets_decided true limit max_order text = galileo_paths_text_decided IsSameStatus itself limit max_order text
 tree_sets_decided false limit max_order text = galileo_text_decided IsSameStatus itself limit max_order text
@@ -154,6 +157,7 @@ command_decided contents voices (Cuts root target files paging tokens) told = (t
 command_decided contents voices (Tree root target files) told = (files_model_decided contents root files told, λ model at. tree_decided IsSameStatus itself target model.system model.rates (plain_model contents root files model at).system.is_system)
 command_decided contents voices (Fmea root files all) told = (files_model_decided contents root files told, λ model at. tt)
 command_decided contents voices (Targets root files all) told = (files_model_decided contents root files told, λ model at. decided_accepts IsSameStatus (TellsOrders model.system (asked_targets all model)) (one-text model.system (asked_targets all model)))
+command_decided contents voices (Review root files) told = (files_review_decided contents root files told, λ reviewed at. tt)
 command_decided contents voices (Events root files) told = (files_origins_decided contents root files told, λ model at. tt)
 command_decided contents voices (Report root target files chosen max_order) told = (files_model_decided contents root files told, λ model at. report_decided IsSameStatus itself target chosen max_order voices model.system)
 command_decided contents voices (Make number text) told = make_decided number text

@@ -13,15 +13,15 @@ use Rattle.phases.proofs.Endings.{StopsOnly, stops_only}
 use Rattle.fault_system.specs.Systems.{System}
 use Rattle.fault_system.specs.Truth.{set_of}
 use Rattle.package_index.specs.Lookup.{packages_of}
-use Rattle.model_phases.proofs.Decided.{IsARefusal, model_stops, origins_stop}
-use Rattle.model_phases.specs.Phases.{assembled, flat_phase, origins_phase}
+use Rattle.model_phases.proofs.Decided.{IsARefusal, model_stops, origins_stop, review_stop}
+use Rattle.model_phases.specs.Phases.{assembled, flat_phase, origins_phase, review_phase}
 use Rattle.model_facts.specs.Assembly.{Assembly}
 use Rattle.aadl_syntax.specs.declared.core_model.PackageUnit.{PackageUnit}
 use Rattle.package_index.specs.declared.id.ClassifierId.{ClassifierId}
 use Rattle.model_phases.specs.declared.flat.FlatModel.{FlatModel}
 use Rattle.backward_slice.specs.Slices.{HasLargeSlice}
 use Rattle.property_reader.specs.declared.rate.Rate.{Rate}
-use Rattle.fta_run.specs.Words.{Check, Command, Cuts, Tree, Fmea, Targets, Events, Report, Make, Galileo, Paths, Why, Confirm, Place, Help, Version, files_of, GiveCommand, GiveNoCommand, IsCommand, chosen_of, file_words}
+use Rattle.fta_run.specs.Words.{Check, Command, Cuts, Tree, Fmea, Targets, Events, Review, Report, Make, Galileo, Paths, Why, Confirm, Place, Help, Version, files_of, GiveCommand, GiveNoCommand, IsCommand, chosen_of, file_words}
 use Rattle.fta_run.specs.Files.{HasTooLong, HasTooMuch, LacksTokens, LacksUnits, NamesTooMany, most_files}
 use Rattle.plain_values.specs.Refusal.{of_words}
 use Rattle.fta_words.specs.declared.command.Paging.{Paging}
@@ -168,6 +168,9 @@ files_model_stops contents root files = (texts_stop contents files, λ texts rea
 files_origins_stop : (contents : List ℕ → Option (List ℕ)) (root : Root) (files : List (List ℕ)) → StopsOnly IsARefusal (made_of_files origins_phase contents root files)
 files_origins_stop contents root files = (texts_stop contents files, λ texts read. made_stops origins_phase origins_stop root texts)
 
+files_review_stop : (contents : List ℕ → Option (List ℕ)) (root : Root) (files : List (List ℕ)) → StopsOnly IsARefusal (made_of_files review_phase contents root files)
+files_review_stop contents root files = (texts_stop contents files, λ texts read. made_stops review_phase review_stop root texts)
+
 make_stop : (number : ℕ) (text : Bool) → StopsOnly IsARefusal (make_text number text)
 make_stop number true = tt
 make_stop number false = (limits_stop (made_text number ∷ []), λ texts short. (texts_model_stops made_root texts, λ model at. sized_stop model))
@@ -183,6 +186,7 @@ command_stops contents voices (Tree root target files) = (refusals (model_of_fil
 command_stops contents voices (Fmea root files all) = (refusals (model_of_files contents root files) (files_model_stops contents root files), λ model at. tt)
 command_stops contents voices (Targets root files all) = (refusals (model_of_files contents root files) (files_model_stops contents root files), λ model at status none. absurd none)
 command_stops contents voices (Events root files) = (refusals (made_of_files origins_phase contents root files) (files_origins_stop contents root files), λ model at. tt)
+command_stops contents voices (Review root files) = (refusals (made_of_files review_phase contents root files) (files_review_stop contents root files), λ model at. tt)
 command_stops contents voices (Report root target files chosen max_order) =
     (refusals (model_of_files contents root files) (files_model_stops contents root files), λ model at. refusals (report_text target chosen max_order voices model.system) (report_stop target chosen max_order voices model.system))
 command_stops contents voices (Make number text) = refusals (make_text number text) (make_stop number text)
@@ -531,6 +535,7 @@ begins_same (Tree root target files) status t = tt
 begins_same (Fmea root files all) status t = tt
 begins_same (Targets root files all) status t = tt
 begins_same (Events root files) status t = tt
+begins_same (Review root files) status t = tt
 begins_same (Report root target files chosen max_order) status t = tt
 begins_same (Make number text) status t = tt
 begins_same (Galileo files limit max_order paths) status t = tt

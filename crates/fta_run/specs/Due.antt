@@ -16,11 +16,11 @@ use Rattle.fmea_rows.specs.Rows.{rows_of}
 use Rattle.fmea_rows.specs.Text.{table_text}
 use Rattle.fta_words.specs.declared.command.Paging.{Paging}
 use Rattle.model_facts.specs.Assembly.{Assembly}
-use Rattle.model_phases.specs.Phases.{assembled, flat_phase, origins_phase}
+use Rattle.model_phases.specs.Phases.{assembled, flat_phase, origins_phase, review_phase}
 use Rattle.model_phases.specs.declared.events.EventModel.{EventModel}
 use Rattle.event_lines.specs.Text.{events_text as text_of_events}
 use Rattle.model_phases.specs.declared.flat.FlatModel.{FlatModel}
-use Rattle.fta_run.specs.Words.{Command, Check, Cuts, Tree, Fmea, Targets, Events, Report, Make, Galileo, Paths, Why, Confirm, Place, Help, Version, IsCommand}
+use Rattle.fta_run.specs.Words.{Command, Check, Cuts, Tree, Fmea, Targets, Events, Review, Report, Make, Galileo, Paths, Why, Confirm, Place, Help, Version, IsCommand}
 use Rattle.target_orders.specs.Text.{TellsOrders}
 use Rattle.fta_run.specs.Effects.{asked_effects, asked_targets}
 use Rattle.fta_run.specs.Later.{in_later_files}
@@ -184,6 +184,9 @@ command_text contents voices (Targets root files all) = do
 command_text contents voices (Events root files) = do
   model ← made_of_files origins_phase contents root files
   events_text files model
+command_text contents voices (Review root files) = do
+  reviewed ← made_of_files review_phase contents root files
+  yields reviewed.text
 command_text contents voices (Report root target files chosen max_order) = do
   model ← model_of_files contents root files
   report_text target chosen max_order voices model.system

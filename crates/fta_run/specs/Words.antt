@@ -1,6 +1,6 @@
 -- The commands, and what of them the words give.
 use Rattle.std.specs.Prelude.{ℕ, List, []}
-pub use Rattle.fta_words.specs.Words.{Command, Check, Cuts, Tree, Fmea, Targets, Events, Report, Make, Galileo, Paths, Why, Confirm, Place, Help, Version, IsCommand, GiveCommand, GiveNoCommand, files_of, file_words}
+pub use Rattle.fta_words.specs.Words.{Command, Check, Cuts, Tree, Fmea, Targets, Events, Review, Report, Make, Galileo, Paths, Why, Confirm, Place, Help, Version, IsCommand, GiveCommand, GiveNoCommand, files_of, file_words}
 
 -- the places of the reports that a command chooses
 abbrev pub chosen_of : Command → List ℕ
@@ -10,6 +10,7 @@ chosen_of (Tree root target files) = []
 chosen_of (Fmea root files all) = []
 chosen_of (Targets root files all) = []
 chosen_of (Events root files) = []
+chosen_of (Review root files) = []
 chosen_of (Report root target files chosen max_order) = chosen
 chosen_of (Make number text) = []
 chosen_of (Galileo files limit max_order paths) = []

@@ -8,12 +8,12 @@ ghost use Rattle.plain_values.specs.declared.refusal.Code.TheVariants.{TooManyFi
 ghost use Rattle.plain_values.specs.Refusal.{of_words};
 ghost use Rattle.fta_words.specs.Shown.{command_shown};
 ghost use Rattle.model_phases.specs.Named.{IsPlainModel};
-ghost use Rattle.model_phases.specs.Phases.{origins_phase};
+ghost use Rattle.model_phases.specs.Phases.{origins_phase, review_phase};
 ghost use Rattle.fta_run.specs.Line.{status_line};
 ghost use Rattle.fta_run.specs.Answers.{AllTold, AnswersWords, BeginsWithMemory, IsCaused, IsJustified, IsManyAnswer, IsOutput, MayCome, Took};
 ghost use Rattle.fta_run.specs.Due.{check_text, cuts_in, due, fmea_text, made_of_files, model_of_files, model_of_texts, sets_of_tree};
 ghost use Rattle.fta_run.specs.Files.{most_files};
-ghost use Rattle.fta_run.specs.Words.{Check, Command as AnyCommand, Confirm, Cuts, Events, Fmea, Galileo, GiveNoCommand, IsCommand, Paths, Place, Report, Targets, Tree, Why, chosen_of, file_words, files_of};
+ghost use Rattle.fta_run.specs.Words.{Check, Command as AnyCommand, Confirm, Cuts, Events, Fmea, Galileo, GiveNoCommand, IsCommand, Paths, Place, Report, Review, Targets, Tree, Why, chosen_of, file_words, files_of};
 ghost use Rattle.system_answers.specs.Prints.{Prints};
 ghost use Rattle.system_answers.specs.Voices.{labels, voices_of};
 ghost use Rattle.cut_reports.specs.Feeding.{IsKept, RoseAt};
@@ -30,12 +30,13 @@ use crate::line::write_line;
 use crate::made::write_make;
 use crate::model::model_of_texts;
 use crate::places::write_place;
+use crate::reviewed::write_review;
 use crate::targets::write_targets;
 use crate::text::write_numbers;
 use crate::words::command_of;
 use fta_outside::{Files, Report, Sink};
 use fta_words::{Command, Paging, file_words};
-use model_phases::{EventModel, FlatModel};
+use model_phases::{EventModel, FlatModel, ReviewedModel};
 use page_tokens::asked_digest;
 use phases::Status;
 use plain_values::{List, Name, Root, Word};
@@ -51,7 +52,7 @@ use system_answers::{
 /// `cuts ROOT TARGET FILE..` a page of the minimal cut sets of a fact in it, `tree ROOT TARGET FILE..` its static fault tree as
 /// Galileo text, `fmea ROOT FILE..` the table of the effects that each event reaches alone, `targets ROOT FILE..` how many events it takes
 /// to make each effect of the root hold, `events ROOT FILE..` each event with its kind, its rate, and where it is declared,
-/// `report ROOT TARGET FILE..` what the
+/// `review ROOT FILE..` what it leaves without effect, and where its errors stop, `report ROOT TARGET FILE..` what the
 /// handed-in reports say of all minimal cut sets of a fact, `make N` what is said of a model that is made of a number, and
 /// `galileo FILE` the minimal cut sets, or path sets, of a tree in Galileo text. `paths ROOT TARGET FILE..` writes a page of the minimal
 /// path sets of a fact, `why ROOT TARGET FILE..` a derivation of it under a set of events, and `confirm ROOT TARGET DERIVATION FILE..`
@@ -188,6 +189,7 @@ fn write_command<F: Files, S: Sink>(
             all,
         } => targets(alloc, root, names, *all, files, out),
         Command::Events { root, files: names } => events(alloc, root, names, files, out),
+        Command::Review { root, files: names } => review(alloc, root, names, files, out),
         Command::Report {
             root,
             target,
@@ -372,6 +374,22 @@ fn events<F: Files, S: Sink>(
     write_events(alloc, names, &model, out)
 }
 
+/// Writes what the model of a root leaves without effect, and where its errors stop.
+fn review<F: Files, S: Sink>(
+    alloc: Global,
+    root: &Root,
+    names: &[Word],
+    files: &mut F,
+    out: &mut S,
+) -> Result<(), Status>
+    ensures end { RunsAlone (Review root.now names.now) (F.contents files.old) (F.faults files.old) (F.faults files.new) result (S.taken out.old) (S.taken out.new) (S.faults out.old) (S.faults out.new) }
+    ensures too_many { most_files < length names.now → files.new ≡ files.old }
+    ensures many { most_files < length names.now → IsManyAnswer (ended result) }
+{
+    let reviewed = read_review(alloc, root, names, files)?;
+    write_review(reviewed.text.items(), out)
+}
+
 /// Writes what the chosen reports say of the listing of a target in the model of a root.
 fn report<F: Files, S: Sink>(
     alloc: Global,
@@ -532,6 +550,21 @@ fn read_events<F: Files>(
     files: &mut F,
 ) -> Result<EventModel, Status>
     ensures meets { MeetsBut (IsReadEnd names.now (F.faults files.old) (F.faults files.new)) (λ model. model) (made_of_files origins_phase (F.contents files.old) root.now names.now) result }
+    ensures unread { most_files < length names.now → files.new ≡ files.old }
+    ensures many { most_files < length names.now → result ≡ Err (Refused (of_words TooManyFiles)) }
+{
+    let texts = read_texts(alloc, files, names)?;
+    model_of_texts(alloc, root, texts.items())
+}
+
+/// The review of the model of a root in the files of these names.
+fn read_review<F: Files>(
+    alloc: Global,
+    root: &Root,
+    names: &[Word],
+    files: &mut F,
+) -> Result<ReviewedModel, Status>
+    ensures meets { MeetsBut (IsReadEnd names.now (F.faults files.old) (F.faults files.new)) (λ model. model) (made_of_files review_phase (F.contents files.old) root.now names.now) result }
     ensures unread { most_files < length names.now → files.new ≡ files.old }
     ensures many { most_files < length names.now → result ≡ Err (Refused (of_words TooManyFiles)) }
 {

@@ -12,6 +12,7 @@ mod line;
 mod made;
 mod model;
 mod places;
+mod reviewed;
 mod targets;
 mod text;
 mod words;

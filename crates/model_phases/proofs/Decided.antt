@@ -16,7 +16,10 @@ use Rattle.instantiator.specs.Whole.{Instance, instance_of}
 use Rattle.propagation_links.specs.Refused.{links_refusal}
 use Rattle.model_facts.specs.Assembly.{Assembly, assembly_of, points_in}
 use Rattle.flattener.specs.Flat.{size_refusal}
-use Rattle.model_phases.specs.Phases.{IsFlat, assembled, content_tests, flat_phase, kind_tests, origins_phase}
+use Rattle.model_phases.specs.Phases.{IsFlat, assembled, content_tests, flat_phase, kind_tests, origins_phase, review_phase}
+use Rattle.model_review.specs.Review.{IsReview}
+use Rattle.model_review.proofs.One.{one-review}
+use Rattle.model_phases.specs.declared.review.ReviewedModel.{ReviewedModel}
 use Rattle.model_phases.specs.Tests.{IsIt}
 
 -- ---- one end at most
@@ -53,6 +56,10 @@ module _ (Same : Status → Status → Type 0) (itself : (status : Status) → S
   -- the model of a root has one end at most
   pub model_decided : (packages : List PackageUnit) (root : ClassifierId) → IsDecided Same (assembled flat_phase packages root)
   model_decided = assembled_decided flat_phase flat_decided
+
+  -- and so has its review
+  pub review_decided : (packages : List PackageUnit) (root : ClassifierId) → IsDecided Same (assembled review_phase packages root)
+  review_decided = assembled_decided review_phase (λ assembly. (flat_decided assembly, λ model at. decided_accepts Same (λ (reviewed : ReviewedModel). IsReview assembly reviewed.text) (λ a b one other. (λ i. record { text = one-review assembly a.text b.text one other i }))))
 
   -- and so has it with the origins of its events
   pub origins_decided : (packages : List PackageUnit) (root : ClassifierId) → IsDecided Same (assembled origins_phase packages root)
@@ -99,3 +106,7 @@ model_stops = assembled_stops flat_phase flat_stops
 -- and so does it with the origins of its events
 pub origins_stop : (packages : List PackageUnit) (root : ClassifierId) → StopsOnly IsARefusal (assembled origins_phase packages root)
 origins_stop = assembled_stops origins_phase (λ assembly. (flat_stops assembly, λ model at. tt))
+
+-- and so does its review
+pub review_stop : (packages : List PackageUnit) (root : ClassifierId) → StopsOnly IsARefusal (assembled review_phase packages root)
+review_stop = assembled_stops review_phase (λ assembly. (flat_stops assembly, λ model at. (λ s none. absurd none)))

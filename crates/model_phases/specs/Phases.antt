@@ -15,7 +15,9 @@ use Rattle.event_rates.specs.Associations.{rate_in}
 use Rattle.model_facts.specs.Facts.{events_of}
 use Rattle.event_origins.specs.Origins.{origin_of}
 use Rattle.model_phases.specs.declared.flat.FlatModel.{FlatModel}
+use Rattle.model_review.specs.Review.{IsReview}
 use Rattle.model_phases.specs.declared.events.EventModel.{EventModel}
+use Rattle.model_phases.specs.declared.review.ReviewedModel.{ReviewedModel}
 use Rattle.model_phases.specs.Named.{IsPlainModel}
 use Rattle.model_phases.specs.Tests.{IsIt}
 
@@ -73,3 +75,9 @@ abbrev pub origins_phase : Assembly → Phase EventModel
 origins_phase assembly = do
   model ← flat_phase assembly
   yields (with_origins assembly model)
+
+-- The text of the review of a model that is put together, as a system which is not too large.
+abbrev pub review_phase : Assembly → Phase ReviewedModel
+review_phase assembly = do
+  _ ← flat_phase assembly
+  accepts (λ reviewed. IsReview assembly reviewed.text)

@@ -4,7 +4,9 @@
 mod events;
 mod flat;
 mod kinds;
+mod review;
 mod system;
 
 pub use events::EventModel;
 pub use flat::{FlatModel, FromAssembly, assembled};
+pub use review::ReviewedModel;

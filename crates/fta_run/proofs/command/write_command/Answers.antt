@@ -42,6 +42,12 @@ returns-in-Events-clause-end g c = rw c.in-Events.is (ran_alone _ _ _ c.events.r
 pub returns-in-Events-clause-reports : goal.returns-in-Events-clause-reports
 returns-in-Events-clause-reports g c = all_kept (λ b. (goal.Report-dyn g (b.vtable, b.value)).text b.value) (λ b. (goal.Report-dyn g (b.vtable, b.value)).label b.value) (λ b. (goal.Report-dyn g (b.vtable, b.value)).report_faults b.value) _ c.args.reports.now.items
 
+pub returns-in-Review-clause-end : goal.returns-in-Review-clause-end
+returns-in-Review-clause-end g c = rw c.in-Review.is (ran_alone _ _ _ c.review.result _ _ _ _ (c.review.ensures.end []))
+
+pub returns-in-Review-clause-reports : goal.returns-in-Review-clause-reports
+returns-in-Review-clause-reports g c = all_kept (λ b. (goal.Report-dyn g (b.vtable, b.value)).text b.value) (λ b. (goal.Report-dyn g (b.vtable, b.value)).label b.value) (λ b. (goal.Report-dyn g (b.vtable, b.value)).report_faults b.value) _ c.args.reports.now.items
+
 pub returns-in-Paths-clause-end : goal.returns-in-Paths-clause-end
 returns-in-Paths-clause-end g c = rw c.in-Paths.is (ran_alone _ _ _ c.paths.result _ _ _ _ (c.paths.ensures.end []))
 

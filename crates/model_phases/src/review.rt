@@ -1,0 +1,25 @@
+use crate::flat::{FlatModel, FromAssembly};
+use model_facts::Assembly;
+use model_review::review;
+use phases::Status;
+use plain_values::Name;
+use std::alloc::Global;
+
+/// What a model leaves without effect, and where its errors stop.
+#[derive(Drop)]
+pub struct ReviewedModel {
+    /// The text of its review: a line a finding, and then the line `end`.
+    pub text: Name,
+}
+
+impl FromAssembly for ReviewedModel {
+    ghost use Rattle.model_phases.specs.Phases.{review_phase};
+
+    ghost phase = { review_phase };
+
+    fn of(alloc: Global, assembly: &Assembly) -> Result<ReviewedModel, Status> {
+        let model = FlatModel::of(alloc, assembly)?;
+        let text = review(alloc, assembly, &model.system, model.effects.items())?;
+        Ok(ReviewedModel { text })
+    }
+}
