@@ -11,8 +11,5 @@ returns-clause-facts c = IfOk-weaker c.asked_effects.result _ _ (λ facts are. r
 pub returns-clause-there : goal.returns-clause-there
 returns-clause-there c = IfOk-weaker c.asked_effects.result _ _ (λ facts rise. RisesWithin-each 0 (length c.args.model.now.system.facts) facts rise) c.asked_effects.ensures.rise
 
-pub returns-in-if-all-clause-facts : goal.returns-in-if-all-clause-facts
-returns-in-if-all-clause-facts c = IfOk-weaker c.all_facts.result _ _ (λ facts are. rw c.if-all.true are) c.all_facts.ensures
-
-pub returns-in-if-all-clause-there : goal.returns-in-if-all-clause-there
-returns-in-if-all-clause-there c = IfOk-weaker c.all_facts.result _ _ (λ facts are. all_below (length c.args.model.now.system.facts) facts are) c.all_facts.ensures
+pub returns-then-all-clause-there : goal.returns-then-all-clause-there
+returns-then-all-clause-there c = IfOk-weaker c.all_facts.result _ _ (λ facts are. all_below (length c.args.model.now.system.facts) facts are) c.all_facts.ensures
