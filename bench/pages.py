@@ -1,10 +1,11 @@
 #!/usr/bin/env python3
-"""Pages of long listings: how long the first sets, some in the middle and the last ones take, and a whole long listing.
+"""Pages of long listings: how long the first sets, some in the middle and the last ones take, and a whole long listing; and the
+first pages of listings that are never found whole.
 
     pages.py --tool PROGRAM [--seconds N] [--megabytes N]    runs `aadl_fta cuts` over each, and prints a table
 
 The sets of each model are known from its shape, with their order, so each run is also a test: where another byte was printed,
-the table says `WRONG`.
+the table says `WRONG`. The sets of the large grids are known up to a few events: they are tried here one by one.
 """
 
 import argparse
@@ -94,6 +95,98 @@ class Counted:
         return names
 
 
+@dataclass
+class Grid:
+    """Ways through a grid, of which all must fail: `grid` of the shapes."""
+
+    name: str
+    side: int
+    order: int  # up to how many events its sets are known
+
+    def shape(self):
+        return shapes.grid(self.side, self.side)
+
+    def known(self):
+        """The minimal sets of at most so many events that meet each way from the first place to the last, in listing order.
+
+        A place is numbered as the tool numbers its event: row by row. A set grows by the places of a way that it does not meet, and
+        none is left out: a minimal one meets that way too.
+        """
+        found, waiting = set(), {frozenset()}
+        while waiting:
+            chosen = waiting.pop()
+            way = self.way_around(chosen)
+            if way is None:
+                found.add(chosen)
+            elif len(chosen) < self.order:
+                waiting |= {chosen | {place} for place in way}
+        minimal = [each for each in found if all(self.way_around(each - {place}) for place in each)]
+        return sorted((sorted(each) for each in minimal), key=lambda each: (len(each), each))
+
+    def way_around(self, chosen):
+        """The places of a way from the first place to the last that meets none of these; none where there is none."""
+        side, before = self.side, {}
+        for place in range(side * side):
+            row, column = divmod(place, side)
+            if place in chosen:
+                continue
+            if place == 0:
+                before[place] = -1
+            elif column > 0 and place - 1 in before:
+                before[place] = place - 1
+            elif row > 0 and place - side in before:
+                before[place] = place - side
+        place, way = side * side - 1, []
+        if place not in before:
+            return None
+        while place >= 0:
+            way.append(place)
+            place = before[place]
+        return way
+
+
+def grids():
+    """Each grid with the pages that are asked of it: the number of the first set, and how many."""
+    for side, order in (10, 4), (16, 3):
+        grid = Grid(f"a grid of {side} rows and columns", side, order)
+        known = len(grid.known())
+        yield grid, [(0, 0), (0, 1), (0, known - 1), (known // 2, known // 4)]
+
+
+def grid_line(grid, numbers):
+    """The line of a set of a grid."""
+    return f"{len(numbers)} {grid_text(grid, numbers)}\n".encode()
+
+
+def grid_text(grid, numbers):
+    return "+".join(f"root.e{number // grid.side}x{number % grid.side}/source:e" for number in numbers)
+
+
+def grid_rows(options, tool, folder):
+    """Runs the pages of the grids, and prints their rows; whether all were right. Some of the sets that are known follow each page."""
+    all_right = True
+    for grid, asked in grids():
+        shape, known = grid.shape(), grid.known()
+        shapes.write(shape, folder)
+        for first, limit in asked:
+            words = [tool, *shape.words(), folder / f"{shape.name}.aadl", "--limit", str(limit)]
+            words += ["--after", grid_text(grid, known[first - 1])] if first > 0 else []
+            done = run(words, folder / "listing", options.seconds, options.megabytes)
+            lines = [grid_line(grid, numbers) for numbers in known[first : first + limit]] + [b"more\n"]
+            right = done.status == 0 and digest(pieces_of(done.output)) == digest(lines)
+            all_right = all_right and right
+            about = f"{limit} behind the first {first}" if first else f"the first {limit}"
+            print_row(grid.name, "?", about, done, right)
+    return all_right
+
+
+def print_row(name, count, about, done, right):
+    lines = sum(piece.count(b"\n") for piece in pieces_of(done.output))
+    end = "" if right else f" WRONG: status {done.status} {done.errors}"
+    cells = [name, count, about, lines, f"{done.seconds:.2f}", f"{done.megabytes:.0f}"]
+    print("| " + " | ".join(map(str, cells)) + " |" + end, flush=True)
+
+
 def letter(number):
     return chr(ord("a") + number)
 
@@ -174,10 +267,8 @@ def main():
                 done = run(words, folder / "listing", options.seconds, options.megabytes)
                 right = done.status == 0 and digest(pieces_of(done.output)) == digest(page(model, first, limit))
                 wrong = wrong or not right
-                lines = sum(piece.count(b"\n") for piece in pieces_of(done.output))
-                end = "" if right else f" WRONG: status {done.status} {done.errors}"
-                cells = [model.name, number(model.count()), about, lines, f"{done.seconds:.2f}", f"{done.megabytes:.0f}"]
-                print("| " + " | ".join(map(str, cells)) + " |" + end, flush=True)
+                print_row(model.name, number(model.count()), about, done, right)
+        wrong = not grid_rows(options, tool, folder) or wrong
     sys.exit(1 if wrong else 0)
 
 

@@ -14,7 +14,7 @@ use dependency_blocks::Blocks;
 use family_renaming::in_event_order;
 use fault_system::FaultSystem;
 use plain_values::Mem;
-use std::alloc::Global;
+use std::alloc::{AllocError, Global};
 use zdd_families::{copied, minimal_family, up_to_size};
 use zdd_store::{Id, Store};
 
@@ -25,14 +25,15 @@ const TRIES: u32 = 24;
 /// of sets of event numbers. The blocks decide how long it takes, and not what is found.
 ///
 /// It is tried with one order of the variables after the other, and each try ends where it remembers too much; then those
-/// that came farthest may remember more. What a try that was given up made is dropped. Each number of the store keeps its
-/// family, also where memory is refused.
+/// that came farthest may remember more. After so many rounds it is given up, which is a refused growth of memory. What a try that
+/// was given up made is dropped. Each number of the store keeps its family, also where memory is refused.
 pub(crate) fn raced_family(
     alloc: Global,
     system: &FaultSystem,
     slice: &Slice,
     blocks: &Blocks,
     most: Option<u32>,
+    rounds: u32,
     store: &mut Store,
 ) -> Mem<Id>
     requires { IsSlice system.now slice.now.target slice.now }
@@ -41,7 +42,10 @@ pub(crate) fn raced_family(
     ensures kept { Keeps store.old store.new }
 {
     let mut race = Race::new(most.is_none());
-    for round in 0..TRIES {
+    for turn in 0..TRIES {
+        if race.rounds() >= rounds {
+            return Err(AllocError);
+        }
         let mut distance = Distance::NONE;
         if let Ok(id) = family_within(
             alloc,

@@ -24,4 +24,4 @@ mod singles;
 mod thinning;
 
 pub use laws::in_slice;
-pub use singles::family;
+pub use singles::{family, family_in_rounds};

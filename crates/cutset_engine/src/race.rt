@@ -71,6 +71,8 @@ pub(crate) struct Race {
     answers: u64,
     // whether each is tried for the first time
     opening: bool,
+    // how many rounds ended
+    rounds: u32,
     // how many were tried in this round
     turn: u32,
     // whether wide families are tried too
@@ -91,12 +93,18 @@ impl Race {
         Race {
             answers,
             opening: true,
+            rounds: 0,
             turn: 0,
             wide,
             first: Runner::new(Way::Numbered, form),
             second: Runner::new(Way::Written, form),
             third: Runner::new(Way::Numbered, Form::Minimal),
         }
+    }
+
+    /// How many rounds ended.
+    pub(crate) fn rounds(&self) -> u32 {
+        self.rounds
     }
 
     /// The next try.
@@ -196,6 +204,7 @@ impl Race {
 
     fn end_round(&mut self) {
         self.opening = false;
+        self.rounds = self.rounds.saturating_add(1);
         self.turn = 0;
         self.answers = self.answers.saturating_mul(MORE_ANSWERS);
         if self.wide {

@@ -39,13 +39,32 @@ pub fn family(
     ensures exact { IfOk result (λ id. HasMinimalCutSets system.now slice.now.target most (family_of store.new id)) }
     ensures kept { Keeps store.old store.new }
 {
+    family_in_rounds(alloc, system, slice, blocks, most, u32::MAX, store)
+}
+
+/// The same, given up after so many rounds of tries, each of which may remember sixteen times as much as those of the round before.
+/// To give up is a refused growth of memory.
+pub fn family_in_rounds(
+    alloc: Global,
+    system: &FaultSystem,
+    slice: &Slice,
+    blocks: &Blocks,
+    most: Option<u32>,
+    rounds: u32,
+    store: &mut Store,
+) -> Mem<Id>
+    requires { IsSlice system.now slice.now.target slice.now }
+    ensures found { IfOk result (IsIn store.new) }
+    ensures exact { IfOk result (λ id. HasMinimalCutSets system.now slice.now.target most (family_of store.new id)) }
+    ensures kept { Keeps store.old store.new }
+{
     if let Ok(id) = first_family(alloc, system, slice, blocks, most, store) {
         return Ok(id);
     }
     if allows_one(most) {
-        return ones_first(alloc, system, slice, blocks, most, store);
+        return ones_first(alloc, system, slice, blocks, most, rounds, store);
     }
-    raced_family(alloc, system, slice, blocks, most, store)
+    raced_family(alloc, system, slice, blocks, most, rounds, store)
 }
 
 /// Whether sets of one event are asked for.
@@ -92,6 +111,7 @@ fn ones_first(
     slice: &Slice,
     blocks: &Blocks,
     most: Option<u32>,
+    rounds: u32,
     store: &mut Store,
 ) -> Mem<Id>
     requires slice { IsSlice system.now slice.now.target slice.now }
@@ -100,9 +120,11 @@ fn ones_first(
     ensures exact { IfOk result (λ id. HasMinimalCutSets system.now slice.now.target most (family_of store.new id)) }
     ensures kept { Keeps store.old store.new }
 {
-    let ones = raced_family(alloc, system, slice, blocks, Some(1), store)?;
+    let ones = raced_family(alloc, system, slice, blocks, Some(1), u32::MAX, store)?;
     let alone = single_events(alloc, store, system.events(), ones)?;
-    with_others(alloc, system, slice, blocks, most, ones, &alone, store)
+    with_others(
+        alloc, system, slice, blocks, most, rounds, ones, &alone, store,
+    )
 }
 
 /// The minimal cut sets of the target, where those of one event are known.
@@ -112,6 +134,7 @@ fn with_others(
     slice: &Slice,
     blocks: &Blocks,
     most: Option<u32>,
+    rounds: u32,
     ones: Id,
     alone: &Bits,
     store: &mut Store,
@@ -126,9 +149,9 @@ fn with_others(
     ensures kept { Keeps store.old store.new }
 {
     let thin = thinned(alloc, system, alone, slice.target)?;
-    match sliced_family(alloc, &thin, slice.target, most, store) {
+    match sliced_family(alloc, &thin, slice.target, most, rounds, store) {
         Ok(rest) => joined(store, ones, rest),
-        Err(Stop::Refused(_)) => raced_family(alloc, system, slice, blocks, most, store),
+        Err(Stop::Refused(_)) => { raced_family(alloc, system, slice, blocks, most, rounds, store) }
         Err(Stop::Memory) => Err(AllocError),
     }
 }
@@ -152,6 +175,7 @@ fn sliced_family(
     system: &FaultSystem,
     target: u32,
     most: Option<u32>,
+    rounds: u32,
     store: &mut Store,
 ) -> Answer<Id>
     requires { target < length system.now.facts }
@@ -162,6 +186,6 @@ fn sliced_family(
     store.laws();
     let slice = slice(alloc, system, target)?;
     let blocks = blocks(alloc, system, &slice)?;
-    let family = raced_family(alloc, system, &slice, &blocks, most, store)?;
+    let family = raced_family(alloc, system, &slice, &blocks, most, rounds, store)?;
     Ok(family)
 }

@@ -2,6 +2,7 @@ mod Begins
 pub mod Targets
 pub mod Prints
 pub mod Listed
+pub mod FirstSets
 mod TreeTexts
 pub mod Reported
 pub mod Decided

@@ -12,9 +12,11 @@ ghost use Rattle.cutset_writer.specs.Pages.{IsOpen, IsReady};
 ghost use Rattle.cutset_writer.specs.Text.{listing_page, marked_page};
 ghost use Rattle.cutset_writer.specs.declared.form.SetForm.TheVariants.{Token};
 ghost use Rattle.cutset_lister.specs.SetText.{HasTokenNames};
+ghost use Rattle.system_answers.specs.Fronts.{GivesPage};
 ghost use Rattle.system_answers.specs.Texts.{begin_of, named_key, page_in, page_of, slice_of, start_of};
 ghost use Rattle.system_answers.specs.Prints.{Prints};
 
+use crate::fronts::page_family;
 use backward_slice::{Slice, slice};
 use cutset_engine::{family, in_slice};
 use cutset_lister::{Listing, read_token};
@@ -117,7 +119,15 @@ fn write_marked_page<S: Sink>(
     ensures begins { IsErrOf result any_status.Memory → S.taken out.new ≡ S.taken out.old }
 {
     let mut store = Store::new(alloc);
-    let writer = page_writer(alloc, system, part, paging.max_order, &mut store)?;
+    let writer = limited_writer(
+        alloc,
+        system,
+        part,
+        start,
+        paging.limit,
+        paging.max_order,
+        &mut store,
+    )?;
     let bookmark = Bookmark::new(alloc, system, key)?;
     write_marked_listing(writer, system, &store, bookmark, start, paging.limit, out)?;
     Ok(())
@@ -161,9 +171,30 @@ pub fn write_page_in<S: Sink>(
     ensures begins { IsErrOf result any_status.Memory → S.taken out.new ≡ S.taken out.old }
 {
     let mut store = Store::new(alloc);
-    let writer = page_writer(alloc, system, part, max_order, &mut store)?;
+    let writer = limited_writer(alloc, system, part, start, limit, max_order, &mut store)?;
     write_listing(writer, system, &store, form, start, limit, out)?;
     Ok(())
+}
+
+/// A listing whose page is that of the listing of the target of a slice, about to be written: where a limit is given, it may have the
+/// first sets alone.
+fn limited_writer(
+    alloc: Global,
+    system: &FaultSystem,
+    part: &Slice,
+    start: &Option<List<u32>>,
+    limit: Option<u32>,
+    max_order: Option<u32>,
+    store: &mut Store,
+) -> Mem<PageWriter>
+    requires { IsSlice system.now part.now.target part.now }
+    ensures ready { IfOk result (IsReady system.now store.new) }
+    ensures page { IfOk result (λ writer. GivesPage system.now part.now.target max_order start.now limit (all_sets store.new writer.listing)) }
+{
+    in_slice();
+    let found = blocks(alloc, system, part)?;
+    let sets = page_family(alloc, system, part, &found, start, limit, max_order, store)?;
+    PageWriter::start(alloc, system, store, sets, part.events.items())
 }
 
 /// The listing of the target of a slice, about to be written.

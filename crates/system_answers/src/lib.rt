@@ -5,6 +5,7 @@ mod answers;
 mod cut_sets;
 mod derivation_laws;
 mod derivations_text;
+mod fronts;
 mod galileo;
 mod galileo_laws;
 mod path_pages;

@@ -1,5 +1,5 @@
 use Rattle.zdd_store.specs.Store.{Keeps}
 use Rattle.cutset_engine.proofs.families.raced_family.Given as goal
 
-abbrev pub invariant-loop-round : goal.invariant-loop-round
-invariant-loop-round l = Keeps l.fn.store l.store
+abbrev pub invariant-loop-turn : goal.invariant-loop-turn
+invariant-loop-turn l = Keeps l.fn.store l.store

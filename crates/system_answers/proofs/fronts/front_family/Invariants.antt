@@ -1,0 +1,5 @@
+use Rattle.zdd_store.specs.Store.{Keeps}
+use Rattle.system_answers.proofs.fronts.front_family.Given as goal
+
+abbrev pub invariant-loop-turn : goal.invariant-loop-turn
+invariant-loop-turn l = Keeps l.fn.store l.store

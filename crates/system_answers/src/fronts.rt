@@ -1,0 +1,267 @@
+//! The sets of which a page is made: the first ones of a listing, where these are more than the page has, or all of them.
+//!
+//! A page with a limit needs the smallest sets alone, and these may be found at once where all sets are never found. Which are tried, in
+//! which order and how long, decides how long it takes, and not what is found.
+
+ghost use Rattle.std.specs.Prelude.{◌≡◌, ◌<◌, ℕ, List as Items, Contains, IfOk, IfSome, IsTrue, Option as Maybe, Some, length, option_map, suc};
+ghost use Rattle.fault_system.specs.Listings.{IsWithinOrder, sets_after};
+ghost use Rattle.backward_slice.specs.Slices.{IsSlice};
+ghost use Rattle.zdd_store.specs.Family.{is_within};
+ghost use Rattle.zdd_store.specs.Store.{IsIn, Keeps, family_of};
+ghost use Rattle.cutset_lister.specs.Walks.{IsStarted, all_sets, sets_left};
+ghost use Rattle.cutset_writer.specs.Pages.{Lists};
+ghost use Rattle.system_answers.specs.Fronts.{ServesPage};
+
+use backward_slice::Slice;
+use cutset_engine::{family_in_rounds, in_slice};
+use cutset_lister::Listing;
+use dependency_blocks::Blocks;
+use fault_system::FaultSystem;
+use fta_outside::Steps;
+use plain_values::{List, Mem};
+use std::alloc::{AllocError, Global};
+use std::marker::Brand;
+use std::sync::ledger::{Blank, Ledger};
+use zdd_store::{Id, Store};
+
+/// How many rounds there are before all sets are asked for, however long it takes.
+const ROUNDS: u32 = 3;
+
+/// More orders than are tried below 1,024 events.
+const ORDERS: u32 = 64;
+
+/// A family of minimal cut sets of the target of a slice, whose page is that of all of them. Each number of the store keeps its family,
+/// also where memory is refused.
+///
+/// Where a limit is given, all sets are asked for in a few rounds, then those of small orders in a few rounds, and so on.
+pub(crate) fn page_family(
+    alloc: Global,
+    system: &FaultSystem,
+    part: &Slice,
+    blocks: &Blocks,
+    start: &Option<List<u32>>,
+    limit: Option<u32>,
+    most: Option<u32>,
+    store: &mut Store,
+) -> Mem<Id>
+    requires { IsSlice system.now part.now.target part.now }
+    ensures found { IfOk result (IsIn store.new) }
+    ensures serves { IfOk result (λ id. ServesPage system.now part.now.target most start.now limit (family_of store.new id)) }
+    ensures kept { Keeps store.old store.new }
+{
+    match limit {
+        Some(limit) => limited_family(alloc, system, part, blocks, start, limit, most, store),
+        None => whole_family(alloc, system, part, blocks, most, u32::MAX, store),
+    }
+}
+
+/// The same, where a limit is given.
+fn limited_family(
+    alloc: Global,
+    system: &FaultSystem,
+    part: &Slice,
+    blocks: &Blocks,
+    start: &Option<List<u32>>,
+    limit: u32,
+    most: Option<u32>,
+    store: &mut Store,
+) -> Mem<Id>
+    requires { IsSlice system.now part.now.target part.now }
+    ensures found { IfOk result (IsIn store.new) }
+    ensures serves { IfOk result (λ id. ServesPage system.now part.now.target most start.now (Some limit) (family_of store.new id)) }
+    ensures kept { Keeps store.old store.new }
+{
+    for round in 0..ROUNDS {
+        if let Ok(id) = whole_family(alloc, system, part, blocks, most, round + 2, store) {
+            return Ok(id);
+        }
+        if let Ok(id) = front_family(
+            alloc,
+            system,
+            part,
+            blocks,
+            start,
+            limit,
+            most,
+            round + 1,
+            store,
+        ) {
+            return Ok(id);
+        }
+    }
+    whole_family(alloc, system, part, blocks, most, u32::MAX, store)
+}
+
+/// All minimal cut sets of the target, given up after so many rounds.
+fn whole_family(
+    alloc: Global,
+    system: &FaultSystem,
+    part: &Slice,
+    blocks: &Blocks,
+    most: Option<u32>,
+    rounds: u32,
+    store: &mut Store,
+) -> Mem<Id>
+    requires { IsSlice system.now part.now.target part.now }
+    ensures found { IfOk result (IsIn store.new) }
+    ensures serves { IfOk result (λ id. (start : Maybe (Items ℕ)) (limit : Maybe ℕ) → ServesPage system.now part.now.target most start limit (family_of store.new id)) }
+    ensures kept { Keeps store.old store.new }
+{
+    family_in_rounds(alloc, system, part, blocks, most, rounds, store)
+}
+
+/// The minimal cut sets of a small order, of which more than the limit stand behind the start of the page. That there is no such order,
+/// or that all are given up after so many rounds, is a refused growth of memory.
+fn front_family(
+    alloc: Global,
+    system: &FaultSystem,
+    part: &Slice,
+    blocks: &Blocks,
+    start: &Option<List<u32>>,
+    limit: u32,
+    most: Option<u32>,
+    rounds: u32,
+    store: &mut Store,
+) -> Mem<Id>
+    requires { IsSlice system.now part.now.target part.now }
+    ensures found { IfOk result (IsIn store.new) }
+    ensures serves { IfOk result (λ id. ServesPage system.now part.now.target most start.now (Some limit) (family_of store.new id)) }
+    ensures kept { Keeps store.old store.new }
+{
+    let mut order = first_order(start);
+    for turn in 0..ORDERS {
+        if !is_smaller(order, most) || order as usize >= part.events.items().len() {
+            return Err(AllocError);
+        }
+        if let Some(id) = front_of_order(
+            alloc, system, part, blocks, start, limit, most, order, rounds, store,
+        )? {
+            return Ok(id);
+        }
+        order = next_order(order);
+    }
+    Err(AllocError)
+}
+
+/// The first order that is tried: no smaller set stands behind the start of a page.
+fn first_order(start: &Option<List<u32>>) -> u32 {
+    match start {
+        Some(set) => set.len_u32().max(1),
+        None => 1,
+    }
+}
+
+/// The order that is tried next: a quarter more.
+fn next_order(order: u32) -> u32 {
+    order.saturating_add((order / 4).max(1))
+}
+
+/// Whether an order is smaller than the greatest one.
+fn is_smaller(order: u32, most: Option<u32>) -> bool
+    ensures { IsTrue result → (set : Items ℕ) → IsWithinOrder (Some order) set → IsWithinOrder most set }
+{
+    match most {
+        Some(most) => order < most,
+        None => true,
+    }
+}
+
+/// The minimal cut sets of at most so many events, if more than the limit of them stand behind the start of the page.
+fn front_of_order(
+    alloc: Global,
+    system: &FaultSystem,
+    part: &Slice,
+    blocks: &Blocks,
+    start: &Option<List<u32>>,
+    limit: u32,
+    most: Option<u32>,
+    order: u32,
+    rounds: u32,
+    store: &mut Store,
+) -> Mem<Option<Id>>
+    requires slice { IsSlice system.now part.now.target part.now }
+    requires allowed { (set : Items ℕ) → IsWithinOrder (Some order) set → IsWithinOrder most set }
+    ensures found { IfOk result (λ answer. IfSome answer (IsIn store.new)) }
+    ensures serves { IfOk result (λ answer. IfSome answer (λ id. ServesPage system.now part.now.target most start.now (Some limit) (family_of store.new id))) }
+    ensures kept { Keeps store.old store.new }
+{
+    in_slice();
+    let id = family_in_rounds(alloc, system, part, blocks, Some(order), rounds, store)?;
+    if has_more_sets(alloc, store, id, part.events.items(), start, limit)? {
+        return Ok(Some(id));
+    }
+    Ok(None)
+}
+
+/// Whether more sets of a family than so many stand behind the start of a page.
+fn has_more_sets(
+    alloc: Global,
+    store: &mut Store,
+    family: Id,
+    events: &[u32],
+    start: &Option<List<u32>>,
+    limit: u32,
+) -> Mem<bool>
+    requires found { IsIn store.old family }
+    requires among { (set : Items ℕ) → Contains (family_of store.old family) set → IsTrue (is_within set events.now) }
+    ensures more { IfOk result (λ more. IsTrue more → (sets : Items (Items ℕ)) → Lists (family_of store.old family) sets → limit < length (sets_after start.now sets)) }
+    ensures kept { Keeps store.old store.new }
+{
+    let mut listing = Listing::start(alloc, store, family, events)?;
+    Ok(has_more_behind::<Brand>(&mut listing, store, start, limit, Blank::new(1)))
+}
+
+/// Whether more sets of a listing than so many stand behind the start of a page. Its steps are counted on a ledger of its own.
+fn has_more_behind<L: Ledger>(
+    listing: &mut Listing,
+    store: &Store,
+    start: &Option<List<u32>>,
+    limit: u32,
+    blank: Blank,
+) -> bool
+    requires name { blank.name ≡ L.name }
+    requires parts { blank.parts ≡ L.parts }
+    requires some { 0 < L.parts }
+    requires started { IsStarted store.now listing.old }
+    requires left { sets_left store.now listing.old ≡ all_sets store.now listing.old }
+    ensures { IsTrue result → limit < length (sets_after start.now (all_sets store.now listing.old)) }
+{
+    let mut steps = Steps::<L>::new(blank);
+    match start {
+        Some(set) => {
+            listing.seek(store, set.items(), &mut steps);
+            has_more_left(listing, store, limit, &mut steps)
+        }
+        None => has_more_left(listing, store, limit, &mut steps),
+    }
+}
+
+/// Whether a listing has more sets left than so many.
+fn has_more_left<L: Ledger>(
+    listing: &mut Listing,
+    store: &Store,
+    limit: u32,
+    steps: &mut Steps<L>,
+) -> bool
+    requires { IsStarted store.now listing.old }
+    ensures { IsTrue result → limit < length (sets_left store.now listing.old) }
+{
+    for passed in 0..limit {
+        if !pass_one(listing, store, steps) {
+            return false;
+        }
+    }
+    pass_one(listing, store, steps)
+}
+
+/// Passes the next set of a listing; whether there is one.
+fn pass_one<L: Ledger>(listing: &mut Listing, store: &Store, steps: &mut Steps<L>) -> bool
+    requires { IsStarted store.now listing.old }
+    ensures started { IsStarted store.now listing.new }
+    ensures one { IsTrue result → length (sets_left store.now listing.old) ≡ suc (length (sets_left store.now listing.new)) }
+{
+    match listing.next(store, steps) {
+        Some(_) => true,
+        None => false,
+    }
+}
