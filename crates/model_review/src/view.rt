@@ -1,0 +1,254 @@
+ghost use Rattle.std.specs.Prelude.{◌≡◌, ◌&&◌, ◌++◌, IfOk, OnOk, length, not, option_copied, option_map, option_to_list, unwrap_or};
+ghost use Rattle.fault_system.specs.Truth.{member};
+ghost use Rattle.propagation_points.specs.States.{all_variants};
+ghost use Rattle.model_facts.specs.Assembly.{model_at, no_model, side_at};
+ghost use Rattle.model_review.specs.Seen.{declared_for, is_lost_event, is_lost_fact, may_come, number_at, side_in, source_number, state_number, states_of, stops, types_in};
+ghost use Rattle.system_review.specs.Alone.{made_by_fact};
+
+use error_models::ErrorModel;
+use fault_system::{Bits, FaultSystem};
+use instantiator::Instance;
+use model_facts::{Assembly, EventKey, EventKind, EventTable, FactKey, FactKind, FactTable};
+use plain_values::{List, Mem};
+use propagation_links::{Link, PointAt};
+use propagation_points::Side;
+use std::alloc::{AllocError, Global};
+use std::marker::Model;
+use system_review::{made_by_event, made_by_fact};
+
+/// A model whose facts and events are numbered, with its system: what a review looks at.
+#[derive(Drop)]
+pub struct View<'v> {
+    assembly: &'v Assembly<'v>,
+    universe: &'v [u32],
+    facts: &'v FactTable,
+    events: &'v EventTable,
+    system: &'v FaultSystem,
+    possible: &'v Bits,
+    used: &'v Bits,
+}
+
+impl<'v> Model for View<'v> {
+    ghost use Rattle.std.specs.Coded.{codes};
+    ghost use Rattle.aadl_syntax.specs.contracts.error_model.Condition as condition;
+    ghost use Rattle.propagation_points.specs.contracts.side.Side as side;
+    ghost use Rattle.error_conditions.specs.contracts.cause.Cause as cause;
+    ghost use Rattle.fault_system.specs.contracts.formula.Formula as formula;
+    ghost use Rattle.fault_system.specs.Truth.{member};
+    ghost use Rattle.model_review.specs.Seen.{Seen};
+
+    ghost Value = { Seen };
+
+    ghost coded = { Prim.hlevel (codes, condition.the_row.coded, side.the_row.coded, cause.the_row.coded, formula.the_row.coded) };
+
+    ghost view = { λ v. record {
+      numbered = record { assembly = v.assembly.now; universe = v.universe.now; facts = v.facts.now; events = v.events.now };
+      system = v.system.now;
+      possible = member v.possible.now;
+      used = member v.used.now;
+    } };
+}
+
+impl<'v> View<'v> {
+    /// A model with this universe, these facts and events, and this system, in which these facts may come about, and these
+    /// occur in formulas.
+    pub fn new(
+        assembly: &'v Assembly<'v>,
+        universe: &'v [u32],
+        facts: &'v FactTable,
+        events: &'v EventTable,
+        system: &'v FaultSystem,
+        possible: &'v Bits,
+        used: &'v Bits,
+    ) -> View<'v>
+        ensures { result ≡ record {
+          numbered = record { assembly = assembly.now; universe = universe.now; facts = facts.now; events = events.now };
+          system = system.now;
+          possible = member possible.now;
+          used = member used.now;
+        } }
+    {
+        View {
+            assembly,
+            universe,
+            facts,
+            events,
+            system,
+            possible,
+            used,
+        }
+    }
+
+    /// The instance.
+    pub(crate) fn instance(&self) -> &'v Instance<'v, 'v>
+        ensures { result.now ≡ self.now.numbered.assembly.instance }
+    {
+        self.assembly.instance()
+    }
+
+    /// The links.
+    pub(crate) fn links(&self) -> &'v [Link]
+        ensures { result.now ≡ self.now.numbered.assembly.links }
+    {
+        self.assembly.links()
+    }
+
+    /// The error model of a component; none where it has no classifier, and so nothing in it.
+    pub(crate) fn model(&self, owner: u32) -> Option<&'v ErrorModel<'v>>
+        ensures { unwrap_or (option_copied result) no_model ≡ model_at self.now.numbered.assembly owner }
+    {
+        self.assembly.model(owner)
+    }
+
+    /// A side of a point, if there is the point.
+    pub(crate) fn side(&self, at: PointAt) -> Option<&'v Side>
+        ensures { option_copied result ≡ side_at self.now.numbered.assembly at }
+    {
+        let model = self.assembly.model(at.component)?;
+        let point = model.points.list().get(at.point as usize)?;
+        Some(point.side(at.outward))
+    }
+
+    /// The types that may be at a side.
+    pub(crate) fn types(&self, at: PointAt) -> &'v [u32]
+        ensures { result.now ≡ types_in self.now at }
+    {
+        match self.side(at) {
+            Some(Side::Free) => self.universe,
+            Some(Side::Declared(types)) => types.items(),
+            Some(Side::Absent) => &[],
+            None => &[],
+        }
+    }
+
+    /// The types that are declared for a side, if any are.
+    pub(crate) fn declared(&self, at: PointAt) -> Option<&'v [u32]>
+        ensures { option_map (λ types. types.now) result ≡ declared_for (side_in self.now at) }
+    {
+        match self.side(at) {
+            Some(Side::Declared(types)) => Some(types.items()),
+            _ => None,
+        }
+    }
+
+    /// The number of the fact that a type is at a side, if it may be there.
+    pub(crate) fn fact_at(&self, at: PointAt, number: u32) -> Option<u32>
+        ensures { result ≡ number_at self.now at number }
+    {
+        let kind = if at.outward {
+            FactKind::Exits(at.point, number)
+        } else {
+            FactKind::Enters(at.point, number)
+        };
+        self.facts.number(FactKey {
+            owner: at.component,
+            kind,
+        })
+    }
+
+    /// The number of the fact that a component is in a state.
+    pub(crate) fn state(&self, owner: u32, state: u32) -> Option<u32>
+        ensures { result ≡ state_number self.now owner state }
+    {
+        self.facts.number(FactKey {
+            owner,
+            kind: FactKind::State(state),
+        })
+    }
+
+    /// The number of the event of a source.
+    pub(crate) fn source(&self, owner: u32, flow: u32) -> Option<u32>
+        ensures { result ≡ source_number self.now owner flow }
+    {
+        self.events.number(EventKey {
+            owner,
+            kind: EventKind::Source(flow),
+        })
+    }
+
+    /// Whether a fact is there, and may come about.
+    pub(crate) fn may_come(&self, fact: Option<u32>) -> bool
+        ensures { result ≡ may_come self.now fact }
+    {
+        match fact {
+            Some(fact) => self.possible.has(fact),
+            None => false,
+        }
+    }
+
+    /// Whether a fact is there, may come about, and occurs in no formula.
+    pub(crate) fn stops(&self, fact: Option<u32>) -> bool
+        ensures { result ≡ stops self.now fact }
+    {
+        match fact {
+            Some(fact) => self.possible.has(fact) && !self.used.has(fact),
+            None => false,
+        }
+    }
+
+    /// The facts that a component is in its states.
+    pub(crate) fn states(&self, alloc: Global, owner: u32) -> Mem<List<u32>>
+        ensures { IfOk result (λ states. states ≡ states_of self.now owner) }
+    {
+        let mut states = List::new(alloc);
+        for state in 0..self.count_states(owner) {
+            self.add_state(&mut states, owner, state)?;
+        }
+        Ok(states)
+    }
+
+    fn count_states(&self, owner: u32) -> usize
+        ensures { result ≡ length (all_variants (model_at self.now.numbered.assembly owner).states.sorts) }
+    {
+        match self.model(owner) {
+            Some(model) => model.states.sorts.variants().len(),
+            None => 0,
+        }
+    }
+
+    fn add_state(&self, states: &mut List<u32>, owner: u32, state: usize) -> Mem<()>
+        ensures { OnOk result (states.new ≡ states.old ++ option_to_list (state_number self.now owner state)) }
+    {
+        if state > 4_294_967_295 {
+            return Err(AllocError);
+        }
+        states.push_some(self.state(owner, state as u32))?;
+        Ok(())
+    }
+
+    /// Whether a fact may come about, and does not make another one hold by itself, by way of these alone.
+    pub(crate) fn is_lost_fact(
+        &self,
+        alloc: Global,
+        among: &[u32],
+        target: u32,
+        cause: Option<u32>,
+    ) -> Mem<bool>
+        ensures { IfOk result (λ lost. lost ≡ is_lost_fact self.now among.now target cause) }
+    {
+        match cause {
+            Some(cause) => self.is_lost(alloc, among, target, cause),
+            None => Ok(false),
+        }
+    }
+
+    fn is_lost(&self, alloc: Global, among: &[u32], target: u32, cause: u32) -> Mem<bool>
+        ensures { IfOk result (λ lost. lost ≡ (self.now.possible cause && not (made_by_fact self.now.system among.now target cause))) }
+    {
+        if !self.possible.has(cause) {
+            return Ok(false);
+        }
+        let made = made_by_fact(alloc, self.system, among, target, cause)?;
+        Ok(!made)
+    }
+
+    /// Whether an event does not make a fact hold by itself.
+    pub(crate) fn is_lost_event(&self, target: u32, cause: Option<u32>) -> bool
+        ensures { result ≡ is_lost_event self.now target cause }
+    {
+        match cause {
+            Some(cause) => !made_by_event(self.system, target, cause),
+            None => false,
+        }
+    }
+}
