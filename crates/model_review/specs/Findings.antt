@@ -1,5 +1,5 @@
--- What a review tells of a model: what it leaves without effect, and where its errors stop (EMV2).
-use Rattle.std.specs.Prelude.{ℕ, Bool, true, false, cond, ◌&&◌, not, nat_eq, List, [], ◌∷◌, ◌++◌, map, filter, flat_map, length, slice_index_or, Option, Some, None, option_map}
+-- What a review tells of a model but for its loops and its events: what it leaves without effect, and where its errors stop (EMV2).
+use Rattle.std.specs.Prelude.{ℕ, Bool, true, false, cond, ◌&&◌, ◌==◌, not, nat_eq, List, [], ◌∷◌, ◌++◌, map, filter, flat_map, length, slice_index_or, Option, Some, None, option_map}
 use Rattle.std.specs.List.{list_any}
 use Rattle.std.specs.Option.{option_map_or}
 use Rattle.aadl_syntax.specs.declared.error_model.Flow.{Flow}
@@ -26,7 +26,7 @@ use Rattle.model_facts.specs.Facts.{inward_of, is_linked, outward_of}
 use Rattle.flattener.specs.Formulas.{end_of}
 use Rattle.model_review.specs.Seen.{Seen, declared_for, is_lost_event, is_lost_fact, may_come, number_at, side_in, source_number, state_number, states_of, stops, types_in}
 use Rattle.model_review.specs.declared.finding.Finding.{Finding}
-use Rattle.model_review.specs.declared.finding.Finding.TheVariants.{HiddenFlow, HiddenLink, HiddenTransitions, Never, NeverState, NotDeclared, Open, StopsHere}
+use Rattle.model_review.specs.declared.finding.Finding.TheVariants.{HiddenLink, HiddenPath, HiddenSource, HiddenTransitions, Never, NeverState, NotDeclared, Open, StopsHere}
 use Rattle.model_review.specs.declared.finding.TypesAt.{TypesAt}
 
 -- types at a side
@@ -35,8 +35,7 @@ types_at side types = record { side = side; types = types }
 
 -- what is told of some types, if there are any
 abbrev pub if_any : (List ℕ → Finding) → List ℕ → List Finding
-if_any tells [] = []
-if_any tells (type ∷ types) = tells (type ∷ types) ∷ []
+if_any tells types = cond (length types == 0) [] (tells types ∷ [])
 
 -- the types of a side of which a test holds
 abbrev pub types_where : Seen → PointAt → (ℕ → Bool) → List ℕ
@@ -64,10 +63,30 @@ abbrev pub hidden_types : Seen → List ℕ → ℕ → ℕ → FlowMeaning → 
 hidden_types seen among owner number flow =
     types_where seen (outward_of owner (end_of flow)) (λ type. option_map_or (λ target. is_hidden_flow seen among owner number type target flow) (number_at seen (outward_of owner (end_of flow)) type) false)
 
--- A source or a path is told with the types that it covers without effect, if there are any.
-abbrev pub hidden_flows : Seen → ℕ → ErrorModel → List Finding
-hidden_flows seen owner model =
-    numbered_from (λ number flow. if_any (λ types. HiddenFlow owner number (types_at (outward_of owner (end_of flow)) types)) (hidden_types seen (states_of seen owner) owner number flow)) 0 model.flows
+-- whether a flow is a path
+abbrev pub is_path : FlowMeaning → Bool
+is_path (flow.Event name reached) = false
+is_path (flow.State held reached) = false
+is_path (flow.Carry start end) = true
+is_path (flow.Change start end types) = true
+
+-- A source is told with the types that it covers without effect, if there are any.
+abbrev pub hidden_source : Seen → List ℕ → ℕ → ℕ → FlowMeaning → List Finding
+hidden_source seen among owner number flow =
+    cond (is_path flow) [] (if_any (λ types. HiddenSource owner number (types_at (outward_of owner (end_of flow)) types)) (hidden_types seen among owner number flow))
+
+-- A path is told so.
+abbrev pub hidden_path : Seen → List ℕ → ℕ → ℕ → FlowMeaning → List Finding
+hidden_path seen among owner number flow =
+    cond (is_path flow) (if_any (λ types. HiddenPath owner number (types_at (outward_of owner (end_of flow)) types)) (hidden_types seen among owner number flow)) []
+
+-- a flow, where paths are told, or sources
+abbrev pub hidden_flow : Bool → Seen → List ℕ → ℕ → ℕ → FlowMeaning → List Finding
+hidden_flow paths seen among owner number flow = cond paths (hidden_path seen among owner number flow) (hidden_source seen among owner number flow)
+
+-- the sources or the paths of a component
+abbrev pub hidden_flows : Bool → Seen → ℕ → ErrorModel → List Finding
+hidden_flows paths seen owner model = numbered_from (hidden_flow paths seen (states_of seen owner) owner) 0 model.flows
 
 -- ---- hidden links
 
@@ -171,16 +190,18 @@ is_never seen model state = not (slice_index_or model.states.always state false)
 abbrev pub never_states : Seen → ErrorModel → List Finding
 never_states seen model = map NeverState (filter (is_never seen model) (numbers_below (length (all_variants model.states.sorts))))
 
--- ---- all findings
+-- ---- in order
 
--- What is told of a model, in this order: what is hidden, where errors stop, and what never comes about.
-abbrev pub findings_of : Seen → List Finding
-findings_of seen =
-    of_components seen (hidden_flows seen)
+-- What is told of a model but for its loops and its events, in this order: what is hidden, where errors stop, and what never comes
+-- about.
+abbrev pub model_findings : Seen → List Finding
+model_findings seen =
+    of_components seen (hidden_flows false seen)
+    ++ (of_components seen (hidden_flows true seen)
     ++ (flat_map (hidden_link seen) seen.numbered.assembly.links
     ++ (of_components seen hidden_transitions
     ++ (flat_map (not_declared seen) seen.numbered.assembly.links
     ++ (of_components seen (stops_of seen)
     ++ (of_components seen (open_ends seen)
     ++ (of_components seen (never_out seen)
-    ++ never_states seen (model_at seen.numbered.assembly 0)))))))
+    ++ never_states seen (model_at seen.numbered.assembly 0))))))))

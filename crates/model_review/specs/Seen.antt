@@ -1,5 +1,5 @@
--- A model with its system: which facts may come about, and which occur in formulas.
-use Rattle.std.specs.Prelude.{ℕ, Bool, false, ◌&&◌, not, List, flat_map, length, unwrap_or, Option, Some, None, option_to_list}
+-- A model with its system: which facts may come about, which occur in formulas, and which are effects.
+use Rattle.std.specs.Prelude.{ℕ, Bool, true, false, ◌&&◌, not, nat_eq, List, filter, flat_map, length, slice_get, unwrap_or, Option, Some, None, option_to_list}
 use Rattle.std.specs.Option.{option_map_or}
 use Rattle.propagation_points.specs.declared.side.Side.{Side}
 use Rattle.propagation_points.specs.declared.side.Side.TheVariants.{Absent, Free, Declared}
@@ -8,8 +8,10 @@ use Rattle.propagation_points.specs.States.{all_variants}
 use Rattle.propagation_points.specs.Uses.{side_types}
 use Rattle.propagation_links.specs.declared.link.PointAt.{PointAt}
 use Rattle.model_facts.specs.Assembly.{Assembly, model_at, side_at}
+use Rattle.model_facts.specs.Effects.{effects_of}
 use Rattle.model_facts.specs.Facts.{event_in, event_number, fact_in, fact_number}
-use Rattle.model_facts.specs.declared.keys.EventKind.TheVariants.{Source}
+use Rattle.model_facts.specs.declared.keys.EventKind.{EventKind}
+use Rattle.model_facts.specs.declared.keys.EventKind.TheVariants.{Arrival, Declared as Error, Source}
 use Rattle.model_facts.specs.declared.keys.FactKind.TheVariants.{State}
 use Rattle.fault_system.specs.Truth.{NumberSet}
 use Rattle.fault_system.specs.Systems.{System}
@@ -24,16 +26,23 @@ use Rattle.system_review.specs.Possible.{possible_in}
 pub record Seen : Type 0 where
   pub numbered : Numbered
   pub system : System
+  pub effects : List ℕ
   pub possible : NumberSet
   pub used : NumberSet
 
--- a model whose facts and events are numbered, with its system
-abbrev pub seen_by : Numbered → Seen
-seen_by numbered = record { numbered = numbered; system = system_by numbered; possible = possible_in (system_by numbered); used = used_in (system_by numbered) }
+-- a model whose facts and events are numbered, with its system, of which these facts are effects
+abbrev pub seen_by : Numbered → List ℕ → Seen
+seen_by numbered effects = record {
+  numbered = numbered;
+  system = system_by numbered;
+  effects = effects;
+  possible = possible_in (system_by numbered);
+  used = used_in (system_by numbered);
+}
 
 -- a model with its system
 abbrev pub seen_of : Assembly → Seen
-seen_of assembly = seen_by (numbered_of assembly)
+seen_of assembly = seen_by (numbered_of assembly) (effects_of assembly)
 
 -- ---- sides
 
@@ -77,6 +86,26 @@ stops seen fact = option_map_or (λ number. seen.possible number && not (seen.us
 abbrev pub states_of : Seen → ℕ → List ℕ
 states_of seen owner =
     flat_map (λ state. option_to_list (state_number seen owner state)) (numbers_below (length (all_variants (model_at seen.numbered.assembly owner).states.sorts)))
+
+-- ---- effects and events
+
+-- whether a fact is one of the root, which is the component of the number 0
+abbrev pub is_of_root : System → ℕ → Bool
+is_of_root system number = option_map_or (λ fact. nat_eq fact.owner 0) (slice_get system.facts number) false
+
+-- the effects of the root: those of which its table of effects asks
+abbrev pub root_effects : Seen → List ℕ
+root_effects seen = filter (is_of_root seen.system) seen.effects
+
+-- whether an event is an error event
+abbrev pub is_error : EventKind → Bool
+is_error (Error number) = true
+is_error (Source flow) = false
+is_error (Arrival point type) = false
+
+-- whether the event of a number is an error event
+abbrev pub is_error_event : Seen → ℕ → Bool
+is_error_event seen number = option_map_or (λ event. is_error event.kind) (slice_get seen.numbered.events number) false
 
 -- ---- what has no effect
 

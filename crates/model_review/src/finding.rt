@@ -1,9 +1,10 @@
 ghost use Rattle.std.specs.Prelude.{◌≡◌, ◌++◌, OnOk};
 ghost use Rattle.model_review.specs.Findings.{if_any, types_at};
-ghost use Rattle.model_review.specs.declared.finding.Finding.TheVariants.{HiddenFlow, HiddenLink, Never, NotDeclared, Open, StopsHere};
+ghost use Rattle.model_review.specs.declared.finding.Finding.TheVariants.{HiddenLink, HiddenPath, HiddenSource, Never, NotDeclared, Open, StopsHere};
 
 use plain_values::{List, Mem};
 use propagation_links::PointAt;
+use system_review::Loop;
 
 /// Types at a side of a point, by their numbers.
 #[derive(Drop)]
@@ -12,12 +13,13 @@ pub struct TypesAt {
     pub types: List<u32>,
 }
 
-/// What a review tells of a model. Components, flows and states are named by their places in their lists, from 0.
+/// What a review tells of a model. Components, flows, states and events are named by their places in their lists, from 0.
 #[derive(Drop)]
 pub enum Finding {
-    /// A source or a path of a component says of these types what their facts do not say: its component, and its place
-    /// among the flows.
-    HiddenFlow(u32, u32, TypesAt),
+    /// A source covers these types without effect: its component, and its place among the sources and paths.
+    HiddenSource(u32, u32, TypesAt),
+    /// A path does.
+    HiddenPath(u32, u32, TypesAt),
     /// What comes along a link from this side to the other has no effect there, of these types.
     HiddenLink(PointAt, TypesAt),
     /// A component has clauses of composite states, which hide so many transitions.
@@ -32,22 +34,47 @@ pub enum Finding {
     Never(TypesAt),
     /// The root is never in this state.
     NeverState(u32),
+    /// Facts depend on one another.
+    InLoop(Loop),
+    /// An error event occurs in no formula.
+    UnusedEvent(u32),
+    /// The root has no effect.
+    NoEffect,
+    /// An event occurs in a formula, and no effect of the root depends on it.
+    UnreachedEvent(u32),
 }
 
-/// Tells the types of a flow that are hidden, if there are any.
-pub(crate) fn tell_hidden_flow(
+/// Tells the types of a source that are hidden, if there are any.
+pub(crate) fn tell_hidden_source(
     found: &mut List<Finding>,
     owner: u32,
     number: u32,
     side: PointAt,
     types: List<u32>,
 ) -> Mem<()>
-    ensures { OnOk result (found.new ≡ found.old ++ if_any (λ types. HiddenFlow owner number (types_at side types)) types) }
+    ensures { OnOk result (found.new ≡ found.old ++ if_any (λ types. HiddenSource owner number (types_at side types)) types) }
 {
     if types.items().is_empty() {
         return Ok(());
     }
-    found.push(Finding::HiddenFlow(owner, number, TypesAt { side, types }))?;
+    found.push(Finding::HiddenSource(owner, number, TypesAt { side, types }))?;
+    Ok(())
+}
+
+/// Tells the types of a path that are hidden, if there are any.
+pub(crate) fn tell_hidden_path(
+    found: &mut List<Finding>,
+    owner: u32,
+    number: u32,
+    side: PointAt,
+    types: List<u32>,
+) -> Mem<()>
+    ensures { OnOk result (found.new ≡ found.old ++ if_any (λ types. HiddenPath owner number (types_at side types)) types) }
+{
+    if types.items().is_empty() {
+        return Ok(());
+    }
+    found.push(Finding::HiddenPath(owner, number, TypesAt { side, types }))?;
     Ok(())
 }
 

@@ -10,30 +10,38 @@ ghost use Rattle.propagation_points.specs.Uses.{covers};
 ghost use Rattle.model_facts.specs.Assembly.{model_at};
 ghost use Rattle.model_facts.specs.Facts.{inward_of, outward_of};
 ghost use Rattle.flattener.specs.Formulas.{end_of};
-ghost use Rattle.model_review.specs.Findings.{hidden_flows, hidden_types, if_any, is_hidden_flow, types_at};
+ghost use Rattle.model_review.specs.Findings.{hidden_flow, hidden_flows, hidden_path, hidden_source, hidden_types, is_hidden_flow, is_path};
 ghost use Rattle.model_review.specs.Seen.{is_lost_fact, number_at, state_number, types_in};
-ghost use Rattle.model_review.specs.declared.finding.Finding.TheVariants.{HiddenFlow};
 
-use crate::finding::{Finding, tell_hidden_flow};
+use crate::finding::{Finding, tell_hidden_path, tell_hidden_source};
 use crate::view::View;
 use error_flows::FlowMeaning;
 use plain_values::{List, Mem};
 use propagation_links::PointAt;
 use propagation_points::{Held, ReachedPoint};
-use std::alloc::Global;
+use std::alloc::{AllocError, Global};
 
-/// Adds the hidden flows of a component.
+/// Adds the hidden sources of a component, or its hidden paths.
 pub(crate) fn add_hidden_flows(
     alloc: Global,
     found: &mut List<Finding>,
     view: &View,
     owner: u32,
+    paths: bool,
 ) -> Mem<()>
-    ensures { OnOk result (found.new ≡ found.old ++ hidden_flows view.now owner (model_at view.now.numbered.assembly owner)) }
+    ensures { OnOk result (found.new ≡ found.old ++ hidden_flows paths view.now owner (model_at view.now.numbered.assembly owner)) }
 {
     let states = view.states(alloc, owner)?;
     match view.model(owner) {
-        Some(model) => add_flows(alloc, found, view, states.items(), owner, &model.flows),
+        Some(model) => add_flows(
+            alloc,
+            found,
+            view,
+            states.items(),
+            owner,
+            model.flows.items(),
+            paths,
+        ),
         None => Ok(()),
     }
 }
@@ -44,12 +52,13 @@ fn add_flows(
     view: &View,
     among: &[u32],
     owner: u32,
-    flows: &List<FlowMeaning>,
+    flows: &[FlowMeaning],
+    paths: bool,
 ) -> Mem<()>
-    ensures { OnOk result (found.new ≡ found.old ++ numbered_from (λ number flow. if_any (λ types. HiddenFlow owner number (types_at (outward_of owner (end_of flow)) types)) (hidden_types view.now among.now owner number flow)) 0 flows.now) }
+    ensures { OnOk result (found.new ≡ found.old ++ numbered_from (hidden_flow paths view.now among.now owner) 0 flows.now) }
 {
-    for (number, flow) in flows.items().iter().enumerate() {
-        add_flow(alloc, found, view, among, owner, number as u32, flow)?;
+    for (number, flow) in flows.iter().enumerate() {
+        add_flow(alloc, found, view, among, owner, number, flow, paths)?;
     }
     Ok(())
 }
@@ -60,18 +69,57 @@ fn add_flow(
     view: &View,
     among: &[u32],
     owner: u32,
+    number: usize,
+    flow: &FlowMeaning,
+    paths: bool,
+) -> Mem<()>
+    ensures { OnOk result (found.new ≡ found.old ++ hidden_flow paths view.now among.now owner number flow.now) }
+{
+    if number > 4_294_967_295 {
+        return Err(AllocError);
+    }
+    if paths {
+        return add_path(alloc, found, view, among, owner, number as u32, flow);
+    }
+    add_source(alloc, found, view, among, owner, number as u32, flow)
+}
+
+fn add_source(
+    alloc: Global,
+    found: &mut List<Finding>,
+    view: &View,
+    among: &[u32],
+    owner: u32,
     number: u32,
     flow: &FlowMeaning,
 ) -> Mem<()>
-    ensures { OnOk result (found.new ≡ found.old ++ if_any (λ types. HiddenFlow owner number (types_at (outward_of owner (end_of flow.now)) types)) (hidden_types view.now among.now owner number flow.now)) }
+    ensures { OnOk result (found.new ≡ found.old ++ hidden_source view.now among.now owner number flow.now) }
 {
-    let side = PointAt {
-        component: owner,
-        point: end_of(flow),
-        outward: true,
-    };
-    let types = hidden_types(alloc, view, among, side, number, flow)?;
-    tell_hidden_flow(found, owner, number, side, types)
+    if is_path(flow) {
+        return Ok(());
+    }
+    let side = outward_of(owner, end_of(flow));
+    let types = hidden_types(alloc, view, among, owner, number, flow)?;
+    tell_hidden_source(found, owner, number, side, types)
+}
+
+fn add_path(
+    alloc: Global,
+    found: &mut List<Finding>,
+    view: &View,
+    among: &[u32],
+    owner: u32,
+    number: u32,
+    flow: &FlowMeaning,
+) -> Mem<()>
+    ensures { OnOk result (found.new ≡ found.old ++ hidden_path view.now among.now owner number flow.now) }
+{
+    if !is_path(flow) {
+        return Ok(());
+    }
+    let side = outward_of(owner, end_of(flow));
+    let types = hidden_types(alloc, view, among, owner, number, flow)?;
+    tell_hidden_path(found, owner, number, side, types)
 }
 
 /// The types that a flow covers without effect.
@@ -79,13 +127,13 @@ fn hidden_types(
     alloc: Global,
     view: &View,
     among: &[u32],
-    side: PointAt,
+    owner: u32,
     number: u32,
     flow: &FlowMeaning,
 ) -> Mem<List<u32>>
-    requires { side ≡ outward_of side.component (end_of flow.now) }
-    ensures { IfOk result (λ types. types ≡ hidden_types view.now among.now side.component number flow.now) }
+    ensures { IfOk result (λ types. types ≡ hidden_types view.now among.now owner number flow.now) }
 {
+    let side = outward_of(owner, end_of(flow));
     let mut types = List::new(alloc);
     for kind in view.types(side) {
         let is_hidden = is_hidden_at(alloc, view, among, side, number, *kind, flow)?;
@@ -237,6 +285,27 @@ pub(crate) fn inward_of(component: u32, point: u32) -> PointAt
         component,
         point,
         outward: false,
+    }
+}
+
+/// The outward side of a point.
+pub(crate) fn outward_of(component: u32, point: u32) -> PointAt
+    ensures { result ≡ outward_of component point }
+{
+    PointAt {
+        component,
+        point,
+        outward: true,
+    }
+}
+
+/// Whether a flow is a path.
+fn is_path(flow: &FlowMeaning) -> bool
+    ensures { result ≡ is_path flow.now }
+{
+    match flow {
+        FlowMeaning::Event(_, _) | FlowMeaning::State(_, _) => false,
+        FlowMeaning::Carry(_, _) | FlowMeaning::Change(_, _, _) => true,
     }
 }
 

@@ -1,16 +1,17 @@
-//! What a model leaves without effect, and where its errors stop.
+//! What a model leaves without effect, and where its errors stop: the text of its review.
 #![tactic(auto)]
 
+mod assembled;
 mod finding;
 mod flows;
 mod lines;
 mod links;
 mod list;
+mod reviewing;
 mod sides;
 mod states;
+mod told;
 mod view;
 
 pub use finding::{Finding, TypesAt};
-pub use lines::push_finding;
-pub use list::findings;
-pub use view::View;
+pub use reviewing::review;

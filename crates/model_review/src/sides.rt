@@ -14,7 +14,7 @@ ghost use Rattle.model_review.specs.Seen.{may_come, number_at};
 ghost use Rattle.model_review.specs.declared.finding.Finding.TheVariants.{Never, Open, StopsHere};
 
 use crate::finding::{Finding, tell_never, tell_open, tell_stop};
-use crate::flows::{has_number, inward_of};
+use crate::flows::{has_number, inward_of, outward_of};
 use crate::view::View;
 use aadl_syntax::{Flow, FlowKind};
 use component_extension::InClause;
@@ -355,15 +355,4 @@ fn add_never_types(
         types.push_if(*kind, !view.may_come(view.fact_at(side, *kind)))?;
     }
     tell_never(found, side, types)
-}
-
-/// The outward side of a point.
-fn outward_of(component: u32, point: u32) -> PointAt
-    ensures { result ≡ outward_of component point }
-{
-    PointAt {
-        component,
-        point,
-        outward: true,
-    }
 }

@@ -1,8 +1,9 @@
-ghost use Rattle.std.specs.Prelude.{◌≡◌, ◌&&◌, ◌++◌, IfOk, OnOk, length, not, option_copied, option_map, option_to_list, unwrap_or};
+ghost use Rattle.std.specs.Prelude.{◌≡◌, ◌&&◌, ◌++◌, IfOk, OnOk, false, length, not, option_copied, option_map, option_to_list, slice_get, unwrap_or};
+ghost use Rattle.std.specs.Option.{option_map_or};
 ghost use Rattle.fault_system.specs.Truth.{member};
 ghost use Rattle.propagation_points.specs.States.{all_variants};
 ghost use Rattle.model_facts.specs.Assembly.{model_at, no_model, side_at};
-ghost use Rattle.model_review.specs.Seen.{declared_for, is_lost_event, is_lost_fact, may_come, number_at, side_in, source_number, state_number, states_of, stops, types_in};
+ghost use Rattle.model_review.specs.Seen.{declared_for, is_error, is_error_event, is_lost_event, is_lost_fact, may_come, number_at, side_in, source_number, state_number, states_of, stops, types_in};
 ghost use Rattle.system_review.specs.Alone.{made_by_fact};
 
 use error_models::ErrorModel;
@@ -18,12 +19,13 @@ use system_review::{made_by_event, made_by_fact};
 
 /// A model whose facts and events are numbered, with its system: what a review looks at.
 #[derive(Drop)]
-pub struct View<'v> {
+pub(crate) struct View<'v> {
     assembly: &'v Assembly<'v>,
     universe: &'v [u32],
     facts: &'v FactTable,
     events: &'v EventTable,
     system: &'v FaultSystem,
+    effects: &'v [u32],
     possible: &'v Bits,
     used: &'v Bits,
 }
@@ -44,26 +46,29 @@ impl<'v> Model for View<'v> {
     ghost view = { λ v. record {
       numbered = record { assembly = v.assembly.now; universe = v.universe.now; facts = v.facts.now; events = v.events.now };
       system = v.system.now;
+      effects = v.effects.now;
       possible = member v.possible.now;
       used = member v.used.now;
     } };
 }
 
 impl<'v> View<'v> {
-    /// A model with this universe, these facts and events, and this system, in which these facts may come about, and these
-    /// occur in formulas.
-    pub fn new(
+    /// A model with this universe, these facts and events, and this system, in which these facts are effects, these may come
+    /// about, and these occur in formulas.
+    pub(crate) fn new(
         assembly: &'v Assembly<'v>,
         universe: &'v [u32],
         facts: &'v FactTable,
         events: &'v EventTable,
         system: &'v FaultSystem,
+        effects: &'v [u32],
         possible: &'v Bits,
         used: &'v Bits,
     ) -> View<'v>
         ensures { result ≡ record {
           numbered = record { assembly = assembly.now; universe = universe.now; facts = facts.now; events = events.now };
           system = system.now;
+          effects = effects.now;
           possible = member possible.now;
           used = member used.now;
         } }
@@ -74,9 +79,38 @@ impl<'v> View<'v> {
             facts,
             events,
             system,
+            effects,
             possible,
             used,
         }
+    }
+
+    /// The model.
+    pub(crate) fn assembly(&self) -> &'v Assembly<'v>
+        ensures { result.now ≡ self.now.numbered.assembly }
+    {
+        self.assembly
+    }
+
+    /// Its system.
+    pub(crate) fn system(&self) -> &'v FaultSystem
+        ensures { result.now ≡ self.now.system }
+    {
+        self.system
+    }
+
+    /// The facts that are effects.
+    pub(crate) fn effects(&self) -> &'v [u32]
+        ensures { result.now ≡ self.now.effects }
+    {
+        self.effects
+    }
+
+    /// Whether the event of a number is an error event.
+    pub(crate) fn is_error_event(&self, number: u32) -> bool
+        ensures { result ≡ is_error_event self.now number }
+    {
+        is_error_at(self.events.list(), number)
     }
 
     /// The instance.
@@ -250,5 +284,24 @@ impl<'v> View<'v> {
             Some(cause) => !made_by_event(self.system, target, cause),
             None => false,
         }
+    }
+}
+
+fn is_error_at(events: &[EventKey], number: u32) -> bool
+    ensures { result ≡ option_map_or (λ event. is_error event.kind) (slice_get events.now number) false }
+{
+    match events.get(number as usize) {
+        Some(event) => is_error(event.kind),
+        None => false,
+    }
+}
+
+/// Whether an event is an error event.
+fn is_error(kind: EventKind) -> bool
+    ensures { result ≡ is_error kind }
+{
+    match kind {
+        EventKind::Declared(_) => true,
+        EventKind::Source(_) | EventKind::Arrival(_, _) => false,
     }
 }

@@ -5,3 +5,4 @@ pub mod Reached
 pub mod LoopLaws
 pub mod Following
 pub mod Lost
+pub mod OneReview

@@ -16,7 +16,7 @@ loop-owner-preserved c =
     let within : number < length all = omega (arith, long, c.loop-owner-test.true) in
     let none : Component = record { path = []; classifier = None } in
     let component : Component = get_or all number none in
-    numbered-step (λ (owner : ℕ) (component : Component). hidden_flows view owner (model_at view.numbered.assembly owner)) all number c.args.found.now c.loop-owner.found c.loop-owner.invariant component within (get_or_default all number none component within) c.add_hidden_flows.new.found c.in_ok-add_hidden_flows.ensures
+    numbered-step (λ (owner : ℕ) (component : Component). hidden_flows c.args.paths view owner (model_at view.numbered.assembly owner)) all number c.args.found.now c.loop-owner.found c.loop-owner.invariant component within (get_or_default all number none component within) c.add_hidden_flows.new.found c.in_ok-add_hidden_flows.ensures
 
 pub returns : goal.returns
 returns c =
@@ -24,4 +24,4 @@ returns c =
     let all = view.numbered.assembly.instance.components in
     let long = ap length (c.components-owner-end.ensures.components ∙ ap (λ (instance : Instance). instance.components) c.instance-owner-end.ensures) in
     let past : length all ≤ c.loop-owner.owner = omega (arith, long, c.loop-owner-test.false) in
-    numbered-end (λ (owner : ℕ) (component : Component). hidden_flows view owner (model_at view.numbered.assembly owner)) all c.loop-owner.owner c.args.found.now c.loop-owner.found c.loop-owner.invariant past
+    numbered-end (λ (owner : ℕ) (component : Component). hidden_flows c.args.paths view owner (model_at view.numbered.assembly owner)) all c.loop-owner.owner c.args.found.now c.loop-owner.found c.loop-owner.invariant past

@@ -1,0 +1,21 @@
+use Rattle.std.proofs.Common.{ℕ, List, filter, map, ap, sym, ◌++◌, ◌∙◌}
+use Rattle.fault_system.proofs.NumberSets.{RisesWithin-each}
+use Rattle.model_review.specs.Seen.{is_error_event, is_of_root}
+use Rattle.model_review.specs.Told.{effect_findings}
+use Rattle.model_review.specs.declared.finding.Finding.TheVariants.{InLoop, UnusedEvent}
+use Rattle.model_review.proofs.Telling.{found-told, steps-told}
+use Rattle.model_review.proofs.told.add_told.Goals as goal
+
+pub returns : goal.returns
+returns c =
+    let seen = c.args.view.now in
+    let loops = c.in_ok-loops.loops in
+    let unused = c.in_ok-unused.unused in
+    let unreached = c.in_ok-unreached.unreached in
+    let roots = c.in_ok-root.ensures.effects ∙ (λ i. filter (is_of_root (c.system-system.ensures i)) (c.effects-effects.ensures i)) in (
+      loops,
+      unused,
+      unreached,
+      found-told seen loops unused unreached c.system-system.result.now c.effects-effects.result.now c.in_ok-root.root c.items-unreached.result.now c.system-system.ensures c.effects-effects.ensures c.in_ok-root.ensures.effects c.items-unreached.ensures.items c.in_ok-loops.ensures.loops c.in_ok-unused.ensures c.in_ok-unreached.ensures,
+      steps-told seen loops unused unreached c.args.found.now c.add_loops.new.found c.add_unused.new.found c.add_unreached.new.found c.items-3.result.now (c.items-3.ensures.items ∙ roots) ? ? ?,
+    )
