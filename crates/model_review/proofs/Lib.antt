@@ -4,3 +4,4 @@ pub mod Telling
 pub mod FlowPlaces
 pub mod Whole
 pub mod OneText
+pub mod Counting

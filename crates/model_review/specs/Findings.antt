@@ -114,7 +114,7 @@ count_steps model = length (filter (leads_on model) model.behavior.steps)
 
 -- A component that has clauses of composite states is told with the number of its transitions, if it has any.
 abbrev pub hidden_transitions : ℕ → ErrorModel → List Finding
-hidden_transitions owner model = cond (model.is_composite && not (nat_eq (count_steps model) 0)) (HiddenTransitions owner (count_steps model) ∷ []) []
+hidden_transitions owner model = cond (model.is_composite && not (count_steps model == 0)) (HiddenTransitions owner (count_steps model) ∷ []) []
 
 -- ---- types that are not declared
 
@@ -186,9 +186,13 @@ never_out seen owner model = numbered_from (never_at seen owner) 0 model.points
 abbrev pub is_never : Seen → ErrorModel → ℕ → Bool
 is_never seen model state = not (slice_index_or model.states.always state false) && not (may_come seen (state_number seen 0 state))
 
+-- a state of the root, if it is not initial, and the root is never in it
+abbrev pub never_state : Seen → ErrorModel → ℕ → List Finding
+never_state seen model state = cond (is_never seen model state) (NeverState state ∷ []) []
+
 -- the states of the root that are not initial, and in which it never is
 abbrev pub never_states : Seen → ErrorModel → List Finding
-never_states seen model = map NeverState (filter (is_never seen model) (numbers_below (length (all_variants model.states.sorts))))
+never_states seen model = flat_map (never_state seen model) (numbers_below (length (all_variants model.states.sorts)))
 
 -- ---- in order
 

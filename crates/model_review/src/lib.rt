@@ -13,5 +13,4 @@ mod states;
 mod told;
 mod view;
 
-pub use finding::{Finding, TypesAt};
 pub use reviewing::review;

@@ -162,19 +162,13 @@ fn push_two(text: &mut Vec<u8>, first: &[u8], second: &[u8]) -> Mem<()>
     Ok(())
 }
 
-/// Adds a text of a component's own, in two parts, behind the component's name.
-fn push_behind(
-    text: &mut Vec<u8>,
-    assembly: &Assembly,
-    owner: u32,
-    first: &[u8],
-    second: &[u8],
-) -> Mem<()>
-    ensures { OnOk result (text.new.items ≡ text.old.items ++ behind assembly.now owner (first.now ++ second.now)) }
+/// Adds the name of a component, and a slash.
+fn push_owner(text: &mut Vec<u8>, assembly: &Assembly, owner: u32) -> Mem<()>
+    ensures { OnOk result (text.new.items ≡ text.old.items ++ (path_text (path_at assembly.now owner) ++ codes "/")) }
 {
     push_path(text, assembly, owner)?;
     text.extend_from_slice(b"/")?;
-    push_two(text, first, second)
+    Ok(())
 }
 
 // ---- sides
@@ -184,13 +178,8 @@ fn push_side_at(text: &mut Vec<u8>, word: &[u8], assembly: &Assembly, side: Poin
     ensures { OnOk result (text.new.items ≡ text.old.items ++ (word.now ++ side_text assembly.now side)) }
 {
     text.extend_from_slice(word)?;
-    push_behind(
-        text,
-        assembly,
-        side.component,
-        direction(side.outward),
-        point_name(assembly, side),
-    )
+    push_owner(text, assembly, side.component)?;
+    push_two(text, direction(side.outward), point_name(assembly, side))
 }
 
 fn direction(outward: bool) -> &'static [u8]
@@ -291,9 +280,18 @@ fn push_flow(text: &mut Vec<u8>, assembly: &Assembly, owner: u32, number: u32) -
     ensures { OnOk result (text.new.items ≡ text.old.items ++ flow_text assembly.now owner number) }
 {
     match flow_of(assembly, owner, number) {
-        Some(flow) => push_behind(text, assembly, owner, flow.name.text(), &[]),
+        Some(flow) => push_own(text, assembly, owner, flow.name.text()),
         None => Ok(()),
     }
+}
+
+/// Adds a name of a component's own, behind the component's name.
+fn push_own(text: &mut Vec<u8>, assembly: &Assembly, owner: u32, name: &[u8]) -> Mem<()>
+    ensures { OnOk result (text.new.items ≡ text.old.items ++ behind assembly.now owner name.now) }
+{
+    push_owner(text, assembly, owner)?;
+    text.extend_from_slice(name)?;
+    Ok(())
 }
 
 /// The source or path of a place among those of a component.

@@ -15,7 +15,7 @@ use crate::view::View;
 use fault_system::FaultSystem;
 use model_facts::{Assembly, EventTable, FactTable, universe_of};
 use package_index::{ClassifierId, Index};
-use plain_values::{List, Mem, Name};
+use plain_values::{Mem, Name};
 use std::alloc::{AllocError, Global};
 use system_review::{possible_facts, used_facts};
 

@@ -7,7 +7,7 @@ ghost use Rattle.plain_values.specs.Numbered.{numbered_from};
 ghost use Rattle.error_types.specs.Search.{is_number_in};
 ghost use Rattle.propagation_points.specs.Uses.{covers};
 ghost use Rattle.model_facts.specs.Assembly.{model_at};
-ghost use Rattle.model_facts.specs.Facts.{inward_of, outward_of};
+ghost use Rattle.model_facts.specs.Facts.{inward_of, is_linked, outward_of};
 ghost use Rattle.model_facts.specs.Tables.{KnowsSides, same_side_key};
 ghost use Rattle.model_review.specs.Findings.{has_sink, if_any, is_sink_at, is_stopped, never_at, never_out, open_at, open_ends, stop_at, stops_of, takes, types_at, types_where};
 ghost use Rattle.model_review.specs.Seen.{may_come, number_at};
@@ -15,13 +15,13 @@ ghost use Rattle.model_review.specs.declared.finding.Finding.TheVariants.{Never,
 
 use crate::finding::{Finding, tell_never, tell_open, tell_stop};
 use crate::flows::{has_number, inward_of, outward_of};
-use crate::view::View;
+use crate::view::{View, declared_for};
 use aadl_syntax::{Flow, FlowKind};
 use component_extension::InClause;
 use error_flows::FlowMeaning;
 use plain_values::{List, Mem, is_same};
 use propagation_links::{Link, PointAt};
-use propagation_points::{Point, ReachedPoint, Side, only_name};
+use propagation_points::{Point, ReachedPoint, only_name};
 use std::alloc::{AllocError, Global};
 use std::collections::HashSet;
 
@@ -259,15 +259,22 @@ fn add_open_end(
     if number > 4_294_967_295 {
         return Err(AllocError);
     }
-    if linked.contains(&(owner, number as u32, false)) {
+    if is_linked(view, linked, owner, number as u32) {
         return Ok(());
     }
-    match point.side(false) {
-        Side::Declared(types) => {
-            add_arrivals(alloc, found, inward_of(owner, number as u32), types.items())
-        }
-        Side::Free | Side::Absent => Ok(()),
+    match declared_for(point.side(false)) {
+        Some(types) => add_arrivals(alloc, found, inward_of(owner, number as u32), types),
+        None => Ok(()),
     }
+}
+
+/// Whether a link leads into the inward side of a point.
+fn is_linked(view: &View, linked: &HashSet<(u32, u32, bool)>, owner: u32, number: u32) -> bool
+    requires { KnowsSides view.now.numbered.assembly.links (contains same_side_key linked.now) }
+    ensures { result ≡ is_linked view.now.numbered.assembly.links (inward_of owner number) }
+{
+    let _ = view;
+    linked.contains(&(owner, number, false))
 }
 
 fn add_arrivals(
@@ -327,17 +334,15 @@ fn add_never_point(
     if number > 4_294_967_295 {
         return Err(AllocError);
     }
-    match point.side(true) {
-        Side::Declared(types) => {
-            add_never_types(
-                alloc,
-                found,
-                view,
-                outward_of(owner, number as u32),
-                types.items(),
-            )
-        }
-        Side::Free | Side::Absent => Ok(()),
+    match declared_for(point.side(true)) {
+        Some(types) => add_never_types(
+            alloc,
+            found,
+            view,
+            outward_of(owner, number as u32),
+            types,
+        ),
+        None => Ok(()),
     }
 }
 

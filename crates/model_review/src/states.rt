@@ -1,9 +1,9 @@
 //! Transitions that are hidden, and states that never come about.
 
-ghost use Rattle.std.specs.Prelude.{◌≡◌, ◌++◌, ◌∷◌, [], OnOk, cond, false, slice_index_or};
+ghost use Rattle.std.specs.Prelude.{◌≡◌, ◌++◌, OnOk, false, flat_map, slice_index_or};
+ghost use Rattle.plain_values.specs.Numbered.{numbers_below};
 ghost use Rattle.model_facts.specs.Assembly.{model_at};
-ghost use Rattle.model_review.specs.Findings.{count_steps, hidden_transitions, is_never, leads_on, never_states};
-ghost use Rattle.model_review.specs.declared.finding.Finding.TheVariants.{NeverState};
+ghost use Rattle.model_review.specs.Findings.{count_steps, hidden_transitions, is_never, leads_on, never_state, never_states};
 
 use crate::finding::Finding;
 use crate::view::View;
@@ -26,9 +26,8 @@ fn add_transitions(found: &mut List<Finding>, owner: u32, model: &ErrorModel) ->
     ensures { OnOk result (found.new ≡ found.old ++ hidden_transitions owner model.now) }
 {
     let count = count_steps(model);
-    if model.is_composite && count > 0 {
-        found.push(Finding::HiddenTransitions(owner, count))?;
-    }
+    let is_hidden = model.is_composite && count != 0;
+    found.push_if(Finding::HiddenTransitions(owner, count), is_hidden)?;
     Ok(())
 }
 
@@ -80,14 +79,25 @@ pub(crate) fn add_never_states(found: &mut List<Finding>, view: &View) -> Mem<()
 fn add_states(found: &mut List<Finding>, view: &View, model: &ErrorModel) -> Mem<()>
     ensures { OnOk result (found.new ≡ found.old ++ never_states view.now model.now) }
 {
-    for state in 0..model.states.sorts.variants().len() {
+    add_states_below(found, view, model, model.states.sorts.variants().len())
+}
+
+fn add_states_below(
+    found: &mut List<Finding>,
+    view: &View,
+    model: &ErrorModel,
+    count: usize,
+) -> Mem<()>
+    ensures { OnOk result (found.new ≡ found.old ++ flat_map (never_state view.now model.now) (numbers_below count)) }
+{
+    for state in 0..count {
         add_state(found, view, model, state)?;
     }
     Ok(())
 }
 
 fn add_state(found: &mut List<Finding>, view: &View, model: &ErrorModel, state: usize) -> Mem<()>
-    ensures { OnOk result (found.new ≡ found.old ++ cond (is_never view.now model.now state) (NeverState state ∷ []) []) }
+    ensures { OnOk result (found.new ≡ found.old ++ never_state view.now model.now state) }
 {
     if state > 4_294_967_295 {
         return Err(AllocError);

@@ -3,6 +3,8 @@ ghost use Rattle.std.specs.Option.{option_map_or};
 ghost use Rattle.fault_system.specs.Truth.{member};
 ghost use Rattle.propagation_points.specs.States.{all_variants};
 ghost use Rattle.model_facts.specs.Assembly.{model_at, no_model, side_at};
+ghost use Rattle.flattener.specs.Facts.{fact_at};
+ghost use Rattle.propagation_points.specs.Uses.{side_types};
 ghost use Rattle.model_review.specs.Seen.{declared_for, is_error, is_error_event, is_lost_event, is_lost_fact, may_come, number_at, side_in, source_number, state_number, states_of, stops, types_in};
 ghost use Rattle.system_review.specs.Alone.{made_by_fact};
 
@@ -37,7 +39,9 @@ impl<'v> Model for View<'v> {
     ghost use Rattle.error_conditions.specs.contracts.cause.Cause as cause;
     ghost use Rattle.fault_system.specs.contracts.formula.Formula as formula;
     ghost use Rattle.fault_system.specs.Truth.{member};
-    ghost use Rattle.model_review.specs.Seen.{Seen};
+    ghost use Rattle.flattener.specs.Facts.{fact_at};
+ghost use Rattle.propagation_points.specs.Uses.{side_types};
+ghost use Rattle.model_review.specs.Seen.{Seen};
 
     ghost Value = { Seen };
 
@@ -148,9 +152,7 @@ impl<'v> View<'v> {
         ensures { result.now ≡ types_in self.now at }
     {
         match self.side(at) {
-            Some(Side::Free) => self.universe,
-            Some(Side::Declared(types)) => types.items(),
-            Some(Side::Absent) => &[],
+            Some(side) => side_types(self.universe, side),
             None => &[],
         }
     }
@@ -160,8 +162,8 @@ impl<'v> View<'v> {
         ensures { option_map (λ types. types.now) result ≡ declared_for (side_in self.now at) }
     {
         match self.side(at) {
-            Some(Side::Declared(types)) => Some(types.items()),
-            _ => None,
+            Some(side) => declared_for(side),
+            None => None,
         }
     }
 
@@ -169,15 +171,7 @@ impl<'v> View<'v> {
     pub(crate) fn fact_at(&self, at: PointAt, number: u32) -> Option<u32>
         ensures { result ≡ number_at self.now at number }
     {
-        let kind = if at.outward {
-            FactKind::Exits(at.point, number)
-        } else {
-            FactKind::Enters(at.point, number)
-        };
-        self.facts.number(FactKey {
-            owner: at.component,
-            kind,
-        })
+        self.facts.number(fact_at(number, at))
     }
 
     /// The number of the fact that a component is in a state.
@@ -284,6 +278,42 @@ impl<'v> View<'v> {
             Some(cause) => !made_by_event(self.system, target, cause),
             None => false,
         }
+    }
+}
+
+/// The types that may be at a side, where those of the universe may be at one without a set.
+fn side_types<'v>(universe: &'v [u32], side: &'v Side) -> &'v [u32]
+    ensures { result.now ≡ side_types universe.now side.now }
+{
+    match side {
+        Side::Absent => &[],
+        Side::Free => universe,
+        Side::Declared(types) => types.items(),
+    }
+}
+
+/// The types that are declared for a side, if any are.
+pub(crate) fn declared_for(side: &Side) -> Option<&[u32]>
+    ensures { option_map (λ types. types.now) result ≡ declared_for side.now }
+{
+    match side {
+        Side::Absent | Side::Free => None,
+        Side::Declared(types) => Some(types.items()),
+    }
+}
+
+/// The fact that a type is at a side.
+fn fact_at(number: u32, side: PointAt) -> FactKey
+    ensures { result ≡ fact_at number side }
+{
+    let kind = if side.outward {
+        FactKind::Exits(side.point, number)
+    } else {
+        FactKind::Enters(side.point, number)
+    };
+    FactKey {
+        owner: side.component,
+        kind,
     }
 }
 
