@@ -335,13 +335,7 @@ fn add_never_point(
         return Err(AllocError);
     }
     match declared_for(point.side(true)) {
-        Some(types) => add_never_types(
-            alloc,
-            found,
-            view,
-            outward_of(owner, number as u32),
-            types,
-        ),
+        Some(types) => add_never_types(alloc, found, view, outward_of(owner, number as u32), types),
         None => Ok(()),
     }
 }

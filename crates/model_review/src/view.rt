@@ -40,8 +40,8 @@ impl<'v> Model for View<'v> {
     ghost use Rattle.fault_system.specs.contracts.formula.Formula as formula;
     ghost use Rattle.fault_system.specs.Truth.{member};
     ghost use Rattle.flattener.specs.Facts.{fact_at};
-ghost use Rattle.propagation_points.specs.Uses.{side_types};
-ghost use Rattle.model_review.specs.Seen.{Seen};
+    ghost use Rattle.propagation_points.specs.Uses.{side_types};
+    ghost use Rattle.model_review.specs.Seen.{Seen};
 
     ghost Value = { Seen };
 

@@ -40,7 +40,7 @@ module _ (system : System) (among : List ℕ) where
 module _ (system : System) (among : List ℕ) (cause : ℕ) where
   -- where a round adds nothing, none does
   stays : (r : ℕ) → following system among cause (suc r) ≡ following system among cause r → (k : ℕ) → following system among cause (k + r) ≡ following system among cause r
-  stays r same zero = ap (following system among cause) (omega arith)
+  stays r same zero = let none : zero + r ≡ r = omega arith in ap (following system among cause) none
   stays r same (suc k) =
       let step : suc k + r ≡ suc (k + r) = omega arith in
       ap (following system among cause) step ∙ ap (and_next system among) (stays r same k) ∙ same
@@ -52,7 +52,8 @@ module _ (system : System) (among : List ℕ) (cause : ℕ) where
   following-end r old new so_far made none few =
       let same : following system among cause (suc r) ≡ following system among cause r =
       ap (and_next system among) (sym so_far) ∙ sym made ∙ none ∙ so_far in
-      none ∙ so_far ∙ sym (stays r same (length among - r)) ∙ ap (following system among cause) (omega arith)
+      let all : length among - r + r ≡ length among = omega (arith, few) in
+      none ∙ so_far ∙ sym (stays r same (length among - r)) ∙ ap (following system among cause) all
 
 eqb-back : (a b : ℕ) → eqb a b ≡ eqb b a
 eqb-back a b = same_answer _ _ (λ e. eq-eqb b a (sym (eqb-true a b e))) (λ e. eq-eqb a b (sym (eqb-true b a e)))

@@ -43,6 +43,7 @@ module _ (system : System) where
       λ i. record { size = sizes i; first = e i }
 
   same-loops : (xs ys : List Loop) → ((l : Loop) → In l xs → IsLoop system l) → ((l : Loop) → In l ys → IsLoop system l) → map (λ (l : Loop). l.first) xs ≡ map (λ (l : Loop). l.first) ys → xs ≡ ys
+  unfolding first_or rest_of
   same-loops [] [] f g e = refl
   same-loops [] (y ∷ ys) f g e = absurd (none-some e)
   same-loops (x ∷ xs) [] f g e = absurd (none-some (sym e))

@@ -17,7 +17,10 @@ returns c =
     let roots = c.in_ok-root.ensures.effects ∙ (λ i. filter (is_of_root (c.system-system.ensures i)) (c.effects-effects.ensures i)) in
     let one = c.in_ok-add_loops.ensures ∙ ap (λ (all : List Loop). c.args.found.now ++ map InLoop all) c.items-2.ensures.items in
     let two = c.in_ok-add_unused.ensures ∙ ap (λ (all : List ℕ). c.add_loops.new.found ++ map UnusedEvent (filter (is_error_event seen) all)) c.items-3.ensures.items in
-    let three = c.in_ok-add_unreached.ensures ∙ ap (λ (all : List ℕ). c.add_unused.new.found ++ effect_findings c.items-4.result.now all) c.items-5.ensures.items in
-    (loops, unused, unreached,
-    found-told seen loops unused unreached c.system-system.result.now c.effects-effects.result.now c.in_ok-root.root c.items.result.now c.system-system.ensures c.effects-effects.ensures c.in_ok-root.ensures.effects c.items.ensures.items c.in_ok-loops.ensures.loops c.in_ok-unused.ensures c.in_ok-unreached.ensures,
-    steps-told seen loops unused unreached c.args.found.now c.add_loops.new.found c.add_unused.new.found c.add_unreached.new.found c.items-4.result.now (c.items-4.ensures.items ∙ roots) one two three)
+    let three = c.in_ok-add_unreached.ensures ∙ ap (λ (all : List ℕ). c.add_unused.new.found ++ effect_findings c.items-4.result.now all) c.items-5.ensures.items in (
+      loops,
+      unused,
+      unreached,
+      found-told seen loops unused unreached c.system-system.result.now c.effects-effects.result.now c.in_ok-root.root c.items.result.now c.system-system.ensures c.effects-effects.ensures c.in_ok-root.ensures.effects c.items.ensures.items c.in_ok-loops.ensures.loops c.in_ok-unused.ensures c.in_ok-unreached.ensures,
+      steps-told seen loops unused unreached c.args.found.now c.add_loops.new.found c.add_unused.new.found c.add_unreached.new.found c.items-4.result.now (c.items-4.ensures.items ∙ roots) one two three,
+    )
