@@ -1,7 +1,8 @@
 -- Lists to which the parts of a whole are added one after the other.
-use Rattle.std.proofs.Common.{ℕ, ◌+◌, ◌≡◌, ◌<◌, ◌≤◌, List, [], ◌++◌, length, take, get_or, None, ap, ◌∙◌, sym}
-use Rattle.std.proofs.lemmas.List.{append_assoc, get_or_default, take_all}
-use Rattle.plain_values.specs.Numbered.{numbered_from}
+use Rattle.std.proofs.Common.{ℕ, ◌+◌, ◌≡◌, ◌<◌, ◌≤◌, List, [], ◌∷◌, ◌++◌, flat_map, length, take, get_or, None, add-one, ap, ◌∙◌, sym}
+use Rattle.std.proofs.lemmas.Grind.{flat_map-append}
+use Rattle.std.proofs.lemmas.List.{append-nil, append_assoc, get_or_default, take_all}
+use Rattle.plain_values.specs.Numbered.{numbered_from, numbers_below}
 use Rattle.package_index.proofs.Loops.{numbered-more}
 use Rattle.instantiator.specs.declared.path.Component.{Component}
 
@@ -28,3 +29,10 @@ module _ {Row : Type 0} (tells : ℕ → List Row) (all : List Component) (i : �
   -- no component more
   pub owner-end : length all ≤ i → mid ≡ old ++ numbered_from (λ (owner : ℕ) (component : Component). tells owner) 0 all
   owner-end past = numbered-end (λ (owner : ℕ) (component : Component). tells owner) all i old mid so_far past
+
+-- what is told of each number below a bound, a number more
+pub below-step : {Row : Type 0} (give : ℕ → List Row) (n : ℕ) (old mid new : List Row) → mid ≡ old ++ flat_map give (numbers_below n) → new ≡ mid ++ give n → new ≡ old ++ flat_map give (numbers_below (n + 1))
+below-step give n old mid new so_far added =
+    added ∙ ap (λ front. front ++ give n) so_far ∙ append_assoc old (flat_map give (numbers_below n)) (give n)
+    ∙ ap (λ rest. old ++ rest) (sym (ap (λ k. flat_map give (numbers_below k)) (add-one n) ∙ flat_map-append give (numbers_below n) (n ∷ [])
+    ∙ ap (λ rest. flat_map give (numbers_below n) ++ rest) (append-nil (give n))))

@@ -1,7 +1,6 @@
 pub mod Adding
 pub mod Rising
 pub mod Telling
-pub mod FlowPlaces
 pub mod Whole
 pub mod OneText
 pub mod Counting

@@ -8,7 +8,6 @@ use Rattle.error_models.specs.Models.{model_of}
 use Rattle.instantiator.specs.Whole.{Instance, instance_of}
 use Rattle.propagation_links.specs.declared.link.Link.{Link}
 use Rattle.propagation_links.specs.Links.{links_of}
-use Rattle.fault_system.specs.Truth.{NumberSet}
 use Rattle.fault_system.specs.Systems.{System}
 use Rattle.model_facts.specs.Assembly.{Assembly, assembly_of, points_in, universe_of, with_links}
 use Rattle.model_facts.specs.Effects.{effects_of}
@@ -16,8 +15,6 @@ use Rattle.model_facts.specs.Facts.{events_of, facts_of}
 use Rattle.model_facts.specs.declared.keys.EventKey.{EventKey}
 use Rattle.model_facts.specs.declared.keys.FactKey.{FactKey}
 use Rattle.flattener.specs.Flat.{system_of}
-use Rattle.system_review.specs.Occurring.{used_in}
-use Rattle.system_review.specs.Possible.{possible_in}
 use Rattle.model_review.specs.Seen.{Seen, seen_of}
 
 -- the error models of the kinds of an instance
@@ -33,12 +30,9 @@ whole packages root instance types models links made known are joined =
     joined_up ∙ (λ i. with_links instance (known i) (are i)) ∙ ap (λ (one : Instance). with_links one (table_of one.packages) (models_in one)) made
 
 -- what is seen of it
-pub all-seen : (assembly : Assembly) (universe : List ℕ) (facts : List FactKey) (events : List EventKey) (system : System) (effects : List ℕ) (possible used : NumberSet)
+pub all-seen : (assembly : Assembly) (universe : List ℕ) (facts : List FactKey) (events : List EventKey) (system : System) (effects : List ℕ)
     → universe ≡ universe_of assembly → facts ≡ facts_of assembly universe → events ≡ events_of assembly → system ≡ system_of assembly → effects ≡ effects_of assembly
-    → ((n : ℕ) → possible n ≡ possible_in system n) → ((n : ℕ) → used n ≡ used_in system n)
-    → record { numbered = record { assembly = assembly; universe = universe; facts = facts; events = events }; system = system; effects = effects; possible = possible; used = used } ≡ seen_of assembly
-all-seen assembly universe facts events system effects possible used all named happen its are come occur =
+    → record { numbered = record { assembly = assembly; universe = universe; facts = facts; events = events }; system = system; effects = effects } ≡ seen_of assembly
+all-seen assembly universe facts events system effects all named happen its are =
     let facts_are : facts ≡ facts_of assembly (universe_of assembly) = named ∙ ap (facts_of assembly) all in
-    let come_all : possible ≡ possible_in (system_of assembly) = (λ i n. come n i) ∙ ap possible_in its in
-    let occur_all : used ≡ used_in (system_of assembly) = (λ i n. occur n i) ∙ ap used_in its in
-    λ i. record { numbered = record { assembly = assembly; universe = all i; facts = facts_are i; events = happen i }; system = its i; effects = are i; possible = come_all i; used = occur_all i }
+    λ i. record { numbered = record { assembly = assembly; universe = all i; facts = facts_are i; events = happen i }; system = its i; effects = are i }

@@ -13,7 +13,6 @@ use Rattle.model_facts.specs.Facts.{event_in, event_number, fact_in, fact_number
 use Rattle.model_facts.specs.declared.keys.EventKind.{EventKind}
 use Rattle.model_facts.specs.declared.keys.EventKind.TheVariants.{Arrival, Declared as Error, Source}
 use Rattle.model_facts.specs.declared.keys.FactKind.TheVariants.{State}
-use Rattle.fault_system.specs.Truth.{NumberSet}
 use Rattle.fault_system.specs.Systems.{System}
 use Rattle.flattener.specs.Facts.{fact_at}
 use Rattle.flattener.specs.Flat.{system_by}
@@ -22,23 +21,15 @@ use Rattle.system_review.specs.Alone.{made_by_event, made_by_fact}
 use Rattle.system_review.specs.Occurring.{used_in}
 use Rattle.system_review.specs.Possible.{possible_in}
 
--- what a review looks at
+-- what a review looks at: a model whose facts and events are numbered, its system, and those of its facts that are effects
 pub record Seen : Type 0 where
   pub numbered : Numbered
   pub system : System
   pub effects : List ℕ
-  pub possible : NumberSet
-  pub used : NumberSet
 
 -- a model whose facts and events are numbered, with its system, of which these facts are effects
 abbrev pub seen_by : Numbered → List ℕ → Seen
-seen_by numbered effects = record {
-  numbered = numbered;
-  system = system_by numbered;
-  effects = effects;
-  possible = possible_in (system_by numbered);
-  used = used_in (system_by numbered);
-}
+seen_by numbered effects = record { numbered = numbered; system = system_by numbered; effects = effects }
 
 -- a model with its system
 abbrev pub seen_of : Assembly → Seen
@@ -76,11 +67,11 @@ source_number seen owner flow = event_number seen.numbered.events (event_in owne
 
 -- whether a fact is there, and may come about
 abbrev pub may_come : Seen → Option ℕ → Bool
-may_come seen fact = option_map_or seen.possible fact false
+may_come seen fact = option_map_or (possible_in seen.system) fact false
 
 -- whether a fact is there, may come about, and occurs in no formula
 abbrev pub stops : Seen → Option ℕ → Bool
-stops seen fact = option_map_or (λ number. seen.possible number && not (seen.used number)) fact false
+stops seen fact = option_map_or (λ number. possible_in seen.system number && not (used_in seen.system number)) fact false
 
 -- the facts that a component is in its states
 abbrev pub states_of : Seen → ℕ → List ℕ
@@ -111,7 +102,7 @@ is_error_event seen number = option_map_or (λ event. is_error event.kind) (slic
 
 -- whether a fact may come about, and does not make another one hold by itself, by way of these alone
 abbrev pub is_lost_fact : Seen → List ℕ → ℕ → Option ℕ → Bool
-is_lost_fact seen among target cause = option_map_or (λ number. seen.possible number && not (made_by_fact seen.system among target number)) cause false
+is_lost_fact seen among target cause = option_map_or (λ number. possible_in seen.system number && not (made_by_fact seen.system among target number)) cause false
 
 -- whether an event does not make a fact hold by itself
 abbrev pub is_lost_event : Seen → ℕ → Option ℕ → Bool

@@ -192,11 +192,8 @@ fn is_hidden(
             is_lost_state(alloc, view, among, owner, target, held)
         }
         FlowMeaning::Carry(start, _) => {
-            if !start.types.covers(kind) {
-                return Ok(false);
-            }
-            let cause = view.fact_at(inward_of(owner, start.point), kind);
-            view.is_lost_fact(alloc, among, target, cause)
+            let side = inward_of(owner, start.point);
+            is_lost_type(alloc, view, among, target, side, start, kind)
         }
         FlowMeaning::Change(start, _, types) => {
             if !has_number(types.items(), kind) {

@@ -1,4 +1,4 @@
-ghost use Rattle.std.specs.Prelude.{◌≡◌, ◌&&◌, ◌++◌, IfOk, OnOk, false, length, not, option_copied, option_map, option_to_list, slice_get, unwrap_or};
+ghost use Rattle.std.specs.Prelude.{◌≡◌, ℕ, ◌&&◌, ◌++◌, IfOk, OnOk, false, length, not, option_copied, option_map, option_to_list, slice_get, unwrap_or};
 ghost use Rattle.std.specs.Option.{option_map_or};
 ghost use Rattle.fault_system.specs.Truth.{member};
 ghost use Rattle.propagation_points.specs.States.{all_variants};
@@ -7,6 +7,8 @@ ghost use Rattle.flattener.specs.Facts.{fact_at};
 ghost use Rattle.propagation_points.specs.Uses.{side_types};
 ghost use Rattle.model_review.specs.Seen.{declared_for, is_error, is_error_event, is_lost_event, is_lost_fact, may_come, number_at, side_in, source_number, state_number, states_of, stops, types_in};
 ghost use Rattle.system_review.specs.Alone.{made_by_fact};
+ghost use Rattle.system_review.specs.Occurring.{used_in};
+ghost use Rattle.system_review.specs.Possible.{possible_in};
 
 use error_models::ErrorModel;
 use fault_system::{Bits, FaultSystem};
@@ -33,14 +35,15 @@ pub(crate) struct View<'v> {
 }
 
 impl<'v> Model for View<'v> {
+    ghost use Rattle.std.specs.Prelude.{◌≡◌, ℕ};
     ghost use Rattle.std.specs.Coded.{codes};
     ghost use Rattle.aadl_syntax.specs.contracts.error_model.Condition as condition;
     ghost use Rattle.propagation_points.specs.contracts.side.Side as side;
     ghost use Rattle.error_conditions.specs.contracts.cause.Cause as cause;
     ghost use Rattle.fault_system.specs.contracts.formula.Formula as formula;
     ghost use Rattle.fault_system.specs.Truth.{member};
-    ghost use Rattle.flattener.specs.Facts.{fact_at};
-    ghost use Rattle.propagation_points.specs.Uses.{side_types};
+    ghost use Rattle.system_review.specs.Occurring.{used_in};
+    ghost use Rattle.system_review.specs.Possible.{possible_in};
     ghost use Rattle.model_review.specs.Seen.{Seen};
 
     ghost Value = { Seen };
@@ -51,9 +54,9 @@ impl<'v> Model for View<'v> {
       numbered = record { assembly = v.assembly.now; universe = v.universe.now; facts = v.facts.now; events = v.events.now };
       system = v.system.now;
       effects = v.effects.now;
-      possible = member v.possible.now;
-      used = member v.used.now;
     } };
+
+    ghost invariant = { λ v. ((n : ℕ) → member v.possible.now n ≡ possible_in v.system.now n) × ((n : ℕ) → member v.used.now n ≡ used_in v.system.now n) };
 }
 
 impl<'v> View<'v> {
@@ -69,12 +72,12 @@ impl<'v> View<'v> {
         possible: &'v Bits,
         used: &'v Bits,
     ) -> View<'v>
+        requires possible { (n : ℕ) → member possible.now n ≡ possible_in system.now n }
+        requires used { (n : ℕ) → member used.now n ≡ used_in system.now n }
         ensures { result ≡ record {
           numbered = record { assembly = assembly.now; universe = universe.now; facts = facts.now; events = events.now };
           system = system.now;
           effects = effects.now;
-          possible = member possible.now;
-          used = member used.now;
         } }
     {
         View {
@@ -194,12 +197,26 @@ impl<'v> View<'v> {
         })
     }
 
+    /// Whether a fact may come about.
+    fn is_possible(&self, fact: u32) -> bool
+        ensures { result ≡ possible_in self.now.system fact }
+    {
+        self.possible.has(fact)
+    }
+
+    /// Whether a fact occurs in a formula.
+    fn is_used(&self, fact: u32) -> bool
+        ensures { result ≡ used_in self.now.system fact }
+    {
+        self.used.has(fact)
+    }
+
     /// Whether a fact is there, and may come about.
     pub(crate) fn may_come(&self, fact: Option<u32>) -> bool
         ensures { result ≡ may_come self.now fact }
     {
         match fact {
-            Some(fact) => self.possible.has(fact),
+            Some(fact) => self.is_possible(fact),
             None => false,
         }
     }
@@ -209,7 +226,7 @@ impl<'v> View<'v> {
         ensures { result ≡ stops self.now fact }
     {
         match fact {
-            Some(fact) => self.possible.has(fact) && !self.used.has(fact),
+            Some(fact) => self.is_possible(fact) && !self.is_used(fact),
             None => false,
         }
     }
@@ -261,9 +278,9 @@ impl<'v> View<'v> {
     }
 
     fn is_lost(&self, alloc: Global, among: &[u32], target: u32, cause: u32) -> Mem<bool>
-        ensures { IfOk result (λ lost. lost ≡ (self.now.possible cause && not (made_by_fact self.now.system among.now target cause))) }
+        ensures { IfOk result (λ lost. lost ≡ (possible_in self.now.system cause && not (made_by_fact self.now.system among.now target cause))) }
     {
-        if !self.possible.has(cause) {
+        if !self.is_possible(cause) {
             return Ok(false);
         }
         let made = made_by_fact(alloc, self.system, among, target, cause)?;

@@ -9,7 +9,7 @@ pub loop-owner-preserved : goal.loop-owner-preserved
 loop-owner-preserved c =
     let view = c.args.view.now in
     let all = view.numbered.assembly.instance.components in
-    let long = ap length (c.components-owner-end.ensures.components ∙ ap (λ (instance : Instance). instance.components) c.instance-owner-end.ensures) in
+    let long = ap length (c.components-owner-end.ensures.components ∙ ap (λ (instance : Instance). instance.components) c.instance.ensures) in
     let within : c.loop-owner.owner < length all = omega (arith, long, c.loop-owner-test.true) in
     owner-step (λ (owner : ℕ). stops_of view owner (model_at view.numbered.assembly owner)) all c.loop-owner.owner c.args.found.now c.loop-owner.found c.loop-owner.invariant within c.add_stops.new.found c.in_ok-add_stops.ensures
 
@@ -17,6 +17,6 @@ pub returns : goal.returns
 returns c =
     let view = c.args.view.now in
     let all = view.numbered.assembly.instance.components in
-    let long = ap length (c.components-owner-end.ensures.components ∙ ap (λ (instance : Instance). instance.components) c.instance-owner-end.ensures) in
+    let long = ap length (c.components-owner-end.ensures.components ∙ ap (λ (instance : Instance). instance.components) c.instance.ensures) in
     let past : length all ≤ c.loop-owner.owner = omega (arith, long, c.loop-owner-test.false) in
     owner-end (λ (owner : ℕ). stops_of view owner (model_at view.numbered.assembly owner)) all c.loop-owner.owner c.args.found.now c.loop-owner.found c.loop-owner.invariant past

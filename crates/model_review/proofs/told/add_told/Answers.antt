@@ -1,4 +1,5 @@
-use Rattle.std.proofs.Common.{ℕ, List, filter, map, ap, ◌++◌, ◌∙◌}
+use Rattle.std.proofs.Common.{ℕ, ◌<◌, List, filter, length, map, ap, ◌++◌, ◌∙◌, sym, subst}
+use Rattle.std.specs.Prelude.{All}
 use Rattle.fault_system.proofs.NumberSets.{RisesWithin-each}
 use Rattle.system_review.specs.declared.looping.Loop.{Loop}
 use Rattle.model_review.specs.Seen.{is_error_event, is_of_root, root_effects}
@@ -7,6 +8,11 @@ use Rattle.model_review.specs.declared.finding.Finding.{Finding}
 use Rattle.model_review.specs.declared.finding.Finding.TheVariants.{InLoop, UnusedEvent}
 use Rattle.model_review.proofs.Telling.{found-told, steps-told}
 use Rattle.model_review.proofs.told.add_told.Goals as goal
+
+pub unreached_events-requires : goal.unreached_events-requires
+unreached_events-requires c =
+    let most = length c.system-system.result.now.facts in
+    subst (λ (ns : List ℕ). All (λ n. n < most) ns) (sym c.items.ensures.items) (RisesWithin-each 0 most c.in_ok-root.root c.in_ok-root.ensures.rise)
 
 pub returns : goal.returns
 returns c =

@@ -11,4 +11,4 @@ returns-clause-rise c =
     let most = length c.args.system.now.facts in
     rises-as 0 most (filter root c.args.effects.now) c.loop-effect.found
     (c.loop-effect.invariant ∙ ap (filter root) (take_all c.loop-effect.effect-index c.args.effects.now c.loop-effect-test.false))
-    (rises-filter root 0 most c.args.effects.now c.requires)
+    (rises-filter root 0 most c.args.effects.now c.requires.rise)
