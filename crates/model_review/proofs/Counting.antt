@@ -1,5 +1,5 @@
 -- How many items pass a test.
-use Rattle.std.proofs.Common.{ℕ, suc, ◌≤◌, Bool, true, false, cond, List, [], ◌∷◌, filter, length, arith}
+use Rattle.std.proofs.Common.{◌≤◌, Bool, true, false, cond, List, [], ◌∷◌, filter, length, arith}
 
 fewer : {X : Type 0} (b : Bool) (x : X) (xs ys : List X) → length ys ≤ length xs → length (cond b (x ∷ ys) ys) ≤ length (x ∷ xs)
 fewer true x xs ys few = omega (arith, few)

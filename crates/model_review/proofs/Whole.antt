@@ -15,7 +15,7 @@ use Rattle.model_facts.specs.Facts.{events_of, facts_of}
 use Rattle.model_facts.specs.declared.keys.EventKey.{EventKey}
 use Rattle.model_facts.specs.declared.keys.FactKey.{FactKey}
 use Rattle.flattener.specs.Flat.{system_of}
-use Rattle.model_review.specs.Seen.{Seen, seen_of}
+use Rattle.model_review.specs.Seen.{seen_of}
 
 -- the error models of the kinds of an instance
 abbrev models_in : Instance → List ErrorModel

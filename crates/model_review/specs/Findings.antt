@@ -1,14 +1,12 @@
 -- What a review tells of a model but for its loops and its events: what it leaves without effect, and where its errors stop (EMV2).
-use Rattle.std.specs.Prelude.{ℕ, Bool, true, false, cond, ◌&&◌, ◌==◌, not, nat_eq, List, [], ◌∷◌, ◌++◌, map, filter, flat_map, length, slice_index_or, Option, Some, None, option_map}
+use Rattle.std.specs.Prelude.{ℕ, Bool, true, false, cond, ◌&&◌, ◌==◌, not, nat_eq, List, [], ◌∷◌, ◌++◌, filter, flat_map, length, slice_index_or}
 use Rattle.std.specs.List.{list_any}
 use Rattle.std.specs.Option.{option_map_or}
-use Rattle.aadl_syntax.specs.declared.error_model.Flow.{Flow}
 use Rattle.aadl_syntax.specs.declared.error_model.FlowKind.{FlowKind}
 use Rattle.aadl_syntax.specs.declared.error_model.FlowKind.TheVariants as kind
 use Rattle.plain_values.specs.Name.{is_same_text}
 use Rattle.plain_values.specs.Numbered.{numbered_from, numbers_below}
 use Rattle.package_index.specs.Names.{only}
-use Rattle.component_extension.specs.Items.{Scoped}
 use Rattle.error_types.specs.Search.{is_number_in}
 use Rattle.propagation_points.specs.Points.{Point}
 use Rattle.propagation_points.specs.States.{all_variants, held_numbers}
@@ -17,7 +15,6 @@ use Rattle.error_flows.specs.declared.meaning.FlowMeaning.{FlowMeaning}
 use Rattle.error_flows.specs.declared.meaning.FlowMeaning.TheVariants as flow
 use Rattle.error_behavior.specs.declared.steps.Step.{Step}
 use Rattle.error_models.specs.declared.model.ErrorModel.{ErrorModel}
-use Rattle.instantiator.specs.declared.path.Component.{Component}
 use Rattle.instantiator.specs.Whole.{effective_in}
 use Rattle.propagation_links.specs.declared.link.Link.{Link}
 use Rattle.propagation_links.specs.declared.link.PointAt.{PointAt}

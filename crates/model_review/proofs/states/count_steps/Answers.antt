@@ -1,5 +1,4 @@
-use Rattle.std.proofs.Common.{ℕ, ◌≡◌, ◌<◌, ◌≤◌, ◌^◌, filter, length, take, ap, sym, subst, length-take-le, arith}
-use Rattle.error_behavior.specs.declared.steps.Step.{Step}
+use Rattle.std.proofs.Common.{◌≡◌, ◌<◌, ◌≤◌, filter, length, take, ap, length-take-le, arith}
 use Rattle.model_review.specs.Findings.{leads_on}
 use Rattle.model_review.proofs.Counting.{filtered-fewer}
 use Rattle.model_review.proofs.states.count_steps.Goals as goal
