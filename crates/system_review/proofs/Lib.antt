@@ -3,4 +3,6 @@ pub mod More
 pub mod Occurs
 pub mod Reached
 pub mod LoopLaws
+pub mod Following
 pub mod Lost
+pub mod OneReview

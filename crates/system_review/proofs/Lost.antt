@@ -1,17 +1,17 @@
 -- Where nothing is lost, a system and the one with all that may be said have the same facts.
-use Rattle.std.proofs.Common.{ℕ, ◌≡◌, ◌↔◌, true, false, List, [], ◌∷◌, length, inl, inr, ⊎_elim, ap, ◌∙◌, sym, subst, refl, arith}
-use Rattle.std.proofs.lemmas.Bool.{false≢true, eqb-true, or_cases, or_left}
+use Rattle.std.proofs.Common.{ℕ, zero, suc, ◌≡◌, ◌↔◌, true, false, List, [], ◌∷◌, length, inl, inr, ⊎_elim, ap, ◌∙◌, sym, subst, refl, arith}
+use Rattle.std.proofs.lemmas.Bool.{false≢true, and_parts, eqb-true, or_cases, or_left}
 use Rattle.std.proofs.lemmas.Option.{slice_get_cases, slice_get_within}
 use Rattle.std.specs.List.{list_any}
 use Rattle.std.specs.Option.{option_map_or}
 use Rattle.fault_system.specs.Truth.{NumberSet, Has, member, truth}
-use Rattle.fault_system.specs.Systems.{System, IsFact, Holds, IsClosed, holds_of}
+use Rattle.fault_system.specs.Systems.{System, IsFact, Holds, IsClosed, applied, holds_of}
 use Rattle.fault_system.specs.Rounds.{no_event, only}
 use Rattle.fault_system.specs.declared.formula.FactInfo.{FactInfo}
 use Rattle.fault_system.proofs.Elements.{In, contains_In}
 use Rattle.fault_system.proofs.HoldsLaws.{holds_of-closed, holds_of-exact}
 use Rattle.fault_system.proofs.Occurring.{truth-grows}
-use Rattle.system_review.specs.Alone.{IsSaid, Joins, made_by_event, made_by_fact, no_fact}
+use Rattle.system_review.specs.Alone.{IsSaid, Joins, following, made_by_event, made_by_fact, no_fact}
 use Rattle.system_review.proofs.More.{applied-fact, applied-is}
 
 any-in : (test : NumberSet) (ns : List ℕ) → list_any test ns ≡ true → (n : ℕ) × In n ns × Has test n
@@ -32,11 +32,23 @@ module _ (system : System) (events facts : NumberSet) (closed : IsClosed system 
       (λ e same. subst (Has events) (sym (eqb-true e event same)) occurs) (λ m none. absurd (false≢true none)) fact.formula
       (sym (ap (λ found. option_map_or (λ (f : FactInfo). truth (only event) no_fact f.formula) found false) at) ∙ made))
 
-  by-fact : (cause : ℕ) → Has facts cause → made_by_fact system n cause ≡ true → Has facts n
-  by-fact cause holds made =
-      closed-at (truth-grows no_event events (only cause) facts
-      (λ e none. absurd (false≢true none)) (λ m same. subst (Has facts) (sym (eqb-true m cause same)) holds) fact.formula
-      (sym (ap (λ found. option_map_or (λ (f : FactInfo). truth no_event (only cause) f.formula) found false) at) ∙ made))
+-- what follows from a fact that a closed set has is in that set
+module _ (system : System) (events facts : NumberSet) (closed : IsClosed system events facts) (among : List ℕ) (cause : ℕ) (holds : Has facts cause) where
+  grown-in : (set : NumberSet) → ((n : ℕ) → Has set n → Has facts n) → (n : ℕ) → Has (member (applied system no_event set)) n → Has facts n
+  grown-in set inside n has =
+      let there = applied-fact system no_event set n has in
+      closed-at system events facts closed n there.0 there.1
+      (truth-grows no_event events set facts (λ e none. absurd (false≢true none)) inside there.0.formula (sym (applied-is system no_event set n there.0 there.1) ∙ has))
+
+  following-in : (r n : ℕ) → Has (following system among cause r) n → Has facts n
+  following-in zero n e = subst (Has facts) (sym (eqb-true n cause e)) holds
+  following-in (suc r) n e = ⊎_elim
+      (following-in r n)
+      (λ both. grown-in (following system among cause r) (following-in r) n (and_parts _ _ both).1)
+      (or_cases _ _ e)
+
+  by-fact : (n : ℕ) → made_by_fact system among n cause ≡ true → Has facts n
+  by-fact n made = grown-in (following system among cause (length among)) (following-in (length among)) n made
 
 module _ (system joined : System) (events_of facts_of : ℕ → List ℕ) (long : length system.facts ≡ length joined.facts) (joins : Joins system joined events_of facts_of) (said : IsSaid system events_of facts_of) (events : NumberSet) where
   -- what holds in the system is closed under what the other one says
@@ -52,8 +64,8 @@ module _ (system joined : System) (events_of facts_of : ℕ → List ℕ) (long 
       (λ some. let found = any-in events (events_of n) some in
       by-event system events (member (holds_of system events)) closed n here.0 here.1 found.0 found.2 (said.events n found.0 (contains_In found.0 (events_of n) found.1)))
       (λ some. let found = any-in (member (holds_of system events)) (facts_of n) some in
-      by-fact system events (member (holds_of system events)) closed n here.0 here.1 found.0 found.2
-      (said.facts n found.0 (contains_In found.0 (facts_of n) found.1) (events, (holds_of-exact system events found.0).0 found.2)))
+      let way = said.facts n found.0 (contains_In found.0 (facts_of n) found.1) (events, (holds_of-exact system events found.0).0 found.2) in
+      by-fact system events (member (holds_of system events)) closed way.0 found.0 found.2 n way.1)
       (or_cases _ _ more))
       (or_cases _ _ whole)
 

@@ -1,8 +1,9 @@
--- What the steps of the gathering of loops add.
+-- What the steps of the gathering of loops add, and what follows next from some facts.
 use Rattle.std.specs.Prelude.{ℕ, ◌≡◌, Bool, false, cond, ◌&&◌, ◌||◌, not, nat_lt, nat_eq, List, [], ◌∷◌, ◌++◌, slice_get}
 use Rattle.std.specs.Option.{option_map_or}
-use Rattle.fault_system.specs.Truth.{occurs}
-use Rattle.fault_system.specs.Systems.{System}
+use Rattle.fault_system.specs.Truth.{NumberSet, member, occurs, set_of}
+use Rattle.fault_system.specs.Systems.{System, applied}
+use Rattle.fault_system.specs.Rounds.{no_event}
 use Rattle.dependency_blocks.specs.Blocks.{number_of, size_of}
 use Rattle.system_review.specs.declared.looping.Loop.{Loop}
 
@@ -22,3 +23,7 @@ loop_at numbers number = record { size = size_of numbers (number_of numbers numb
 pub record AddsLoop (system : System) (numbers : List ℕ) (number : ℕ) (seen_before seen_after : ℕ → Bool) (before after : List Loop) : Type 0 where
   pub seen : (block : ℕ) → seen_after block ≡ (nat_eq (number_of numbers number) block || seen_before block)
   pub loops : after ≡ before ++ cond (not (seen_before (number_of numbers number)) && is_looped system (loop_at numbers number)) (loop_at numbers number ∷ []) []
+
+-- whether the formula of a fact is true where these facts hold and no event occurs, and it is none of these
+abbrev pub is_next : System → List ℕ → NumberSet
+is_next system facts n = not (set_of facts n) && member (applied system no_event (set_of facts)) n

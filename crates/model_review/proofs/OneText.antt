@@ -1,0 +1,24 @@
+-- A model has one review.
+use Rattle.std.proofs.Common.{◌≡◌, ℕ, ◌++◌, List, length, ap, sym, ◌∙◌}
+use Rattle.system_review.specs.Occurring.{IsUnreachedEvent, IsUnusedEvent}
+use Rattle.system_review.proofs.OneReview.{one-listed, one-loops}
+use Rattle.model_facts.specs.Assembly.{Assembly}
+use Rattle.model_review.specs.Findings.{model_findings}
+use Rattle.model_review.specs.Lines.{review_text}
+use Rattle.model_review.specs.Review.{IsReview}
+use Rattle.model_review.specs.Seen.{Seen, root_effects, seen_of}
+use Rattle.model_review.specs.Told.{AreFindings, system_findings}
+use Rattle.model_review.specs.declared.finding.Finding.{Finding}
+
+-- one list of findings
+pub one-findings : (seen : Seen) (a b : List Finding) → AreFindings seen a → AreFindings seen b → a ≡ b
+one-findings seen a b (loops, unused, unreached, told, is) (others, never_used, far, as_told, are) =
+    let most = length seen.system.events in
+    let same_loops = one-loops seen.system loops others told.loops_are as_told.loops_are in
+    let same_unused = one-listed (IsUnusedEvent seen.system) most unused never_used told.unused_are as_told.unused_are in
+    let same_unreached = one-listed (IsUnreachedEvent seen.system (root_effects seen)) most unreached far told.unreached_are as_told.unreached_are in
+    is ∙ (λ i. model_findings seen ++ system_findings seen (same_loops i) (same_unused i) (same_unreached i)) ∙ sym are
+
+-- one text
+pub one_review : (assembly : Assembly) (a b : List ℕ) → IsReview assembly a → IsReview assembly b → a ≡ b
+one_review assembly a b (found, are, is) (others, told, reads) = is ∙ ap (review_text (seen_of assembly)) (one-findings (seen_of assembly) found others are told) ∙ sym reads

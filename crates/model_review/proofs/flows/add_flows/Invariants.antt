@@ -1,0 +1,7 @@
+use Rattle.std.proofs.Common.{◌≡◌, ◌++◌, take}
+use Rattle.plain_values.specs.Numbered.{numbered_from}
+use Rattle.model_review.specs.Findings.{hidden_flow}
+use Rattle.model_review.proofs.flows.add_flows.Given as goal
+
+abbrev pub invariant-loop-number : goal.invariant-loop-number
+invariant-loop-number l = l.found ≡ l.fn.found ++ numbered_from (hidden_flow l.paths l.view l.among l.owner) 0 (take l.number l.flows)

@@ -1,0 +1,208 @@
+-- What a review tells of a model but for its loops and its events: what it leaves without effect, and where its errors stop (EMV2).
+use Rattle.std.specs.Prelude.{ℕ, Bool, true, false, cond, ◌&&◌, ◌==◌, not, nat_eq, List, [], ◌∷◌, ◌++◌, filter, flat_map, length, slice_index_or}
+use Rattle.std.specs.List.{list_any}
+use Rattle.std.specs.Option.{option_map_or}
+use Rattle.aadl_syntax.specs.declared.error_model.FlowKind.{FlowKind}
+use Rattle.aadl_syntax.specs.declared.error_model.FlowKind.TheVariants as kind
+use Rattle.plain_values.specs.Name.{is_same_text}
+use Rattle.plain_values.specs.Numbered.{numbered_from, numbers_below}
+use Rattle.package_index.specs.Names.{only}
+use Rattle.error_types.specs.Search.{is_number_in}
+use Rattle.propagation_points.specs.Points.{Point}
+use Rattle.propagation_points.specs.States.{all_variants, held_numbers}
+use Rattle.propagation_points.specs.Uses.{covers}
+use Rattle.error_flows.specs.declared.meaning.FlowMeaning.{FlowMeaning}
+use Rattle.error_flows.specs.declared.meaning.FlowMeaning.TheVariants as flow
+use Rattle.error_behavior.specs.declared.steps.Step.{Step}
+use Rattle.error_models.specs.declared.model.ErrorModel.{ErrorModel}
+use Rattle.instantiator.specs.Whole.{effective_in}
+use Rattle.propagation_links.specs.declared.link.Link.{Link}
+use Rattle.propagation_links.specs.declared.link.PointAt.{PointAt}
+use Rattle.model_facts.specs.Assembly.{model_at}
+use Rattle.model_facts.specs.Facts.{inward_of, is_linked, outward_of}
+use Rattle.flattener.specs.Formulas.{end_of}
+use Rattle.model_review.specs.Seen.{Seen, declared_for, is_lost_event, is_lost_fact, may_come, number_at, side_in, source_number, state_number, states_of, stops, types_in}
+use Rattle.model_review.specs.declared.finding.Finding.{Finding}
+use Rattle.model_review.specs.declared.finding.Finding.TheVariants.{HiddenLink, HiddenPath, HiddenSource, HiddenTransitions, Never, NeverState, NotDeclared, Open, StopsHere}
+use Rattle.model_review.specs.declared.finding.TypesAt.{TypesAt}
+
+-- types at a side
+abbrev pub types_at : PointAt → List ℕ → TypesAt
+types_at side types = record { side = side; types = types }
+
+-- what is told of some types, if there are any
+abbrev pub if_any : (List ℕ → Finding) → List ℕ → List Finding
+if_any tells types = cond (length types == 0) [] (tells types ∷ [])
+
+-- the types of a side of which a test holds
+abbrev pub types_where : Seen → PointAt → (ℕ → Bool) → List ℕ
+types_where seen side test = filter test (types_in seen side)
+
+-- what is told of each component, one after the other
+abbrev pub of_components : Seen → (ℕ → ErrorModel → List Finding) → List Finding
+of_components seen tells = numbered_from (λ owner component. tells owner (model_at seen.numbered.assembly owner)) 0 seen.numbered.assembly.instance.components
+
+-- ---- hidden sources and paths
+
+-- Whether what a flow of a component says of a type that it covers has no effect: its event, its state, or a type that may enter
+-- where it begins may come about, and does not make the fact hold by itself, also not by way of the states of the component.
+abbrev pub is_hidden_flow : Seen → List ℕ → ℕ → ℕ → ℕ → ℕ → FlowMeaning → Bool
+is_hidden_flow seen among owner number type target (flow.Event name reached) = covers reached.types type && is_lost_event seen target (source_number seen owner number)
+is_hidden_flow seen among owner number type target (flow.State held reached) =
+    covers reached.types type && list_any (λ state. is_lost_fact seen among target (state_number seen owner state)) (held_numbers held)
+is_hidden_flow seen among owner number type target (flow.Carry start end) =
+    covers start.types type && is_lost_fact seen among target (number_at seen (inward_of owner start.point) type)
+is_hidden_flow seen among owner number type target (flow.Change start end types) =
+    is_number_in types type && list_any (λ other. covers start.types other && is_lost_fact seen among target (number_at seen (inward_of owner start.point) other)) (types_in seen (inward_of owner start.point))
+
+-- the types that a flow covers without effect
+abbrev pub hidden_types : Seen → List ℕ → ℕ → ℕ → FlowMeaning → List ℕ
+hidden_types seen among owner number flow =
+    types_where seen (outward_of owner (end_of flow)) (λ type. option_map_or (λ target. is_hidden_flow seen among owner number type target flow) (number_at seen (outward_of owner (end_of flow)) type) false)
+
+-- whether a flow is a path
+abbrev pub is_path : FlowMeaning → Bool
+is_path (flow.Event name reached) = false
+is_path (flow.State held reached) = false
+is_path (flow.Carry start end) = true
+is_path (flow.Change start end types) = true
+
+-- A source is told with the types that it covers without effect, if there are any.
+abbrev pub hidden_source : Seen → List ℕ → ℕ → ℕ → FlowMeaning → List Finding
+hidden_source seen among owner number flow =
+    cond (is_path flow) [] (if_any (λ types. HiddenSource owner number (types_at (outward_of owner (end_of flow)) types)) (hidden_types seen among owner number flow))
+
+-- A path is told so.
+abbrev pub hidden_path : Seen → List ℕ → ℕ → ℕ → FlowMeaning → List Finding
+hidden_path seen among owner number flow =
+    cond (is_path flow) (if_any (λ types. HiddenPath owner number (types_at (outward_of owner (end_of flow)) types)) (hidden_types seen among owner number flow)) []
+
+-- a flow, where paths are told, or sources
+abbrev pub hidden_flow : Bool → Seen → List ℕ → ℕ → ℕ → FlowMeaning → List Finding
+hidden_flow paths seen among owner number flow = cond paths (hidden_path seen among owner number flow) (hidden_source seen among owner number flow)
+
+-- the sources or the paths of a component
+abbrev pub hidden_flows : Bool → Seen → ℕ → ErrorModel → List Finding
+hidden_flows paths seen owner model = numbered_from (hidden_flow paths seen (states_of seen owner) owner) 0 model.flows
+
+-- ---- hidden links
+
+-- whether what a link brings of a type to an outward side has no effect there, also not by way of these
+abbrev pub is_hidden_link : Seen → List ℕ → Link → ℕ → Bool
+is_hidden_link seen among link type = option_map_or (λ target. is_lost_fact seen among target (number_at seen link.from type)) (number_at seen link.to type) false
+
+-- the types that a link brings without effect
+abbrev pub hidden_along : Seen → List ℕ → Link → List ℕ
+hidden_along seen among link = types_where seen link.to (is_hidden_link seen among link)
+
+-- A link to an outward side is told with the types that it brings without effect, if there are any.
+abbrev pub hidden_link : Seen → Link → List Finding
+hidden_link seen link = cond link.to.outward (if_any (λ types. HiddenLink link.from (types_at link.to types)) (hidden_along seen (states_of seen link.to.component) link)) []
+
+-- ---- hidden transitions
+
+-- whether a transition leads to a state that is not initial
+abbrev pub leads_on : ErrorModel → Step → Bool
+leads_on model step = list_any (λ target. not (slice_index_or model.states.always target false)) step.targets
+
+-- how many transitions lead to states that are not initial
+abbrev pub count_steps : ErrorModel → ℕ
+count_steps model = length (filter (leads_on model) model.behavior.steps)
+
+-- A component that has clauses of composite states is told with the number of its transitions, if it has any.
+abbrev pub hidden_transitions : ℕ → ErrorModel → List Finding
+hidden_transitions owner model = cond (model.is_composite && not (count_steps model == 0)) (HiddenTransitions owner (count_steps model) ∷ []) []
+
+-- ---- types that are not declared
+
+-- the types that may come along a link, and are not among these
+abbrev pub others_along : Seen → Link → List ℕ → List ℕ
+others_along seen link declared = types_where seen link.from (λ type. may_come seen (number_at seen link.from type) && not (is_number_in declared type))
+
+-- A link to a side with declared types is told with those that may come along it and are not declared there, if there are any.
+abbrev pub not_declared : Seen → Link → List Finding
+not_declared seen link =
+    option_map_or (λ declared. if_any (λ types. NotDeclared (types_at link.from types) link.to) (others_along seen link declared)) (declared_for (side_in seen link.to)) []
+
+-- ---- where errors stop
+
+-- whether a flow is a sink that names the point of a name
+abbrev pub is_sink_at : List ℕ → FlowKind → Bool
+is_sink_at name (kind.Source point set state) = false
+is_sink_at name (kind.Sink point set) = option_map_or (λ other. is_same_text other name) (only point.names) false
+is_sink_at name (kind.Path from from_set to to_set mapping) = false
+
+-- whether a sink of a component names a point
+abbrev pub has_sink : Seen → ℕ → Point → Bool
+has_sink seen owner point = list_any (λ flow. is_sink_at point.name flow.item.kind) (effective_in seen.numbered.assembly.instance owner).propagations.flows
+
+-- Whether a path takes a type that comes in at a point to a type of the side at its end: one that carries each type to this type, and
+-- one that makes types to one of those.
+abbrev pub takes : Seen → ℕ → ℕ → ℕ → FlowMeaning → Bool
+takes seen owner number type (flow.Event name reached) = false
+takes seen owner number type (flow.State held reached) = false
+takes seen owner number type (flow.Carry start end) =
+    (nat_eq start.point number && covers start.types type) && is_number_in (types_in seen (outward_of owner end)) type
+takes seen owner number type (flow.Change start end types) =
+    (nat_eq start.point number && covers start.types type) && list_any (is_number_in types) (types_in seen (outward_of owner end))
+
+-- whether a type may come in at a point, occurs in no formula, and is taken by no path
+abbrev pub is_stopped : Seen → ℕ → ℕ → ℕ → Bool
+is_stopped seen owner number type =
+    stops seen (number_at seen (inward_of owner number) type) && not (list_any (takes seen owner number type) (model_at seen.numbered.assembly owner).flows)
+
+-- A point without a sink is told with the types that stop there, if there are any.
+abbrev pub stop_at : Seen → ℕ → ℕ → Point → List Finding
+stop_at seen owner number point =
+    cond (has_sink seen owner point) [] (if_any (λ types. StopsHere (types_at (inward_of owner number) types)) (types_where seen (inward_of owner number) (is_stopped seen owner number)))
+
+abbrev pub stops_of : Seen → ℕ → ErrorModel → List Finding
+stops_of seen owner model = numbered_from (stop_at seen owner) 0 model.points
+
+-- ---- open ends
+
+-- A point is told with the types that are declared for its inward side, if no link leads there.
+abbrev pub open_at : Seen → ℕ → ℕ → Point → List Finding
+open_at seen owner number point =
+    cond (is_linked seen.numbered.assembly.links (inward_of owner number)) [] (option_map_or (λ types. if_any (λ types. Open (types_at (inward_of owner number) types)) types) (declared_for point.inward) [])
+
+abbrev pub open_ends : Seen → ℕ → ErrorModel → List Finding
+open_ends seen owner model = numbered_from (open_at seen owner) 0 model.points
+
+-- ---- what never comes about
+
+-- A point is told with the types that are declared for its outward side and never come out, if there are any.
+abbrev pub never_at : Seen → ℕ → ℕ → Point → List Finding
+never_at seen owner number point =
+    option_map_or (λ types. if_any (λ types. Never (types_at (outward_of owner number) types)) (filter (λ type. not (may_come seen (number_at seen (outward_of owner number) type))) types)) (declared_for point.outward) []
+
+abbrev pub never_out : Seen → ℕ → ErrorModel → List Finding
+never_out seen owner model = numbered_from (never_at seen owner) 0 model.points
+
+-- whether a state of the root is not initial, and it is never in it
+abbrev pub is_never : Seen → ErrorModel → ℕ → Bool
+is_never seen model state = not (slice_index_or model.states.always state false) && not (may_come seen (state_number seen 0 state))
+
+-- a state of the root, if it is not initial, and the root is never in it
+abbrev pub never_state : Seen → ErrorModel → ℕ → List Finding
+never_state seen model state = cond (is_never seen model state) (NeverState state ∷ []) []
+
+-- the states of the root that are not initial, and in which it never is
+abbrev pub never_states : Seen → ErrorModel → List Finding
+never_states seen model = flat_map (never_state seen model) (numbers_below (length (all_variants model.states.sorts)))
+
+-- ---- in order
+
+-- What is told of a model but for its loops and its events, in this order: what is hidden, where errors stop, and what never comes
+-- about.
+abbrev pub model_findings : Seen → List Finding
+model_findings seen =
+    of_components seen (hidden_flows false seen)
+    ++ (of_components seen (hidden_flows true seen)
+    ++ (flat_map (hidden_link seen) seen.numbered.assembly.links
+    ++ (of_components seen hidden_transitions
+    ++ (flat_map (not_declared seen) seen.numbered.assembly.links
+    ++ (of_components seen (stops_of seen)
+    ++ (of_components seen (open_ends seen)
+    ++ (of_components seen (never_out seen)
+    ++ never_states seen (model_at seen.numbered.assembly 0))))))))

@@ -1,0 +1,5 @@
+pub mod Seen
+pub mod Findings
+pub mod Told
+pub mod Lines
+pub mod Review

@@ -1,0 +1,86 @@
+-- The lines of a review.
+use Rattle.std.specs.Prelude.{ℕ, Bool, true, false, List, [], ◌∷◌, ◌++◌, codes, decimal, filter, flat_map, slice_get, Option, option_map}
+use Rattle.std.specs.Option.{option_map_or}
+use Rattle.aadl_syntax.specs.declared.error_model.Flow.{Flow}
+use Rattle.aadl_syntax.specs.declared.error_model.FlowKind.{FlowKind}
+use Rattle.aadl_syntax.specs.declared.error_model.FlowKind.TheVariants as kind
+use Rattle.component_extension.specs.Items.{Scoped}
+use Rattle.error_types.specs.Libraries.{Table}
+use Rattle.instantiator.specs.Whole.{effective_in}
+use Rattle.propagation_links.specs.declared.link.PointAt.{PointAt}
+use Rattle.model_facts.specs.Assembly.{Assembly, model_at}
+use Rattle.model_facts.specs.Facts.{fact_in}
+use Rattle.model_facts.specs.Names.{behind, fact_name as its_fact_name, path_at, path_text, point_name, type_text}
+use Rattle.model_facts.specs.declared.keys.FactKind.TheVariants.{State}
+use Rattle.fault_system.specs.Systems.{event_name, fact_name}
+use Rattle.model_review.specs.Seen.{Seen}
+use Rattle.model_review.specs.declared.finding.Finding.{Finding}
+use Rattle.model_review.specs.declared.finding.Finding.TheVariants.{HiddenLink, HiddenPath, HiddenSource, HiddenTransitions, InLoop, Never, NeverState, NoEffect, NotDeclared, Open, StopsHere, UnreachedEvent, UnusedEvent}
+use Rattle.model_review.specs.declared.finding.TypesAt.{TypesAt}
+
+-- ---- sides
+
+-- the direction of a side
+abbrev pub direction : Bool → List ℕ
+direction false = codes "in:"
+direction true = codes "out:"
+
+-- a side: `root.a/out:p`
+abbrev pub side_text : Assembly → PointAt → List ℕ
+side_text assembly side = behind assembly side.component (direction side.outward ++ point_name (model_at assembly side.component) side.point)
+
+-- types, each behind a comma
+abbrev pub further_types : Table → List ℕ → List ℕ
+further_types types others = flat_map (λ type. codes "," ++ type_text types type) others
+
+-- types, with a comma between each two
+abbrev pub type_list : Table → List ℕ → List ℕ
+type_list types [] = []
+type_list types (type ∷ others) = type_text types type ++ further_types types others
+
+-- types at a side: `root.a/out:p{lib::t,lib::u}`
+abbrev pub types_text : Assembly → TypesAt → List ℕ
+types_text assembly at = side_text assembly at.side ++ (codes "{" ++ (type_list assembly.types at.types ++ codes "}"))
+
+-- ---- flows
+
+-- whether a flow is a source or a path
+abbrev pub is_no_sink : FlowKind → Bool
+is_no_sink (kind.Source point set state) = true
+is_no_sink (kind.Sink point set) = false
+is_no_sink (kind.Path from from_set to to_set mapping) = true
+
+-- the source or path of a place among the sources and paths, which all have a meaning in a model that is not refused
+abbrev pub flow_at : ℕ → List (Scoped Flow) → Option Flow
+flow_at number flows = option_map (λ flow. flow.item) (slice_get (filter (λ flow. is_no_sink flow.item.kind) flows) number)
+
+-- The name of a source or a path of a component, behind that of the component: `root.a/f`.
+abbrev pub flow_text : Assembly → ℕ → ℕ → List ℕ
+flow_text assembly owner number =
+    option_map_or (λ flow. behind assembly owner flow.name) (flow_at number (effective_in assembly.instance owner).propagations.flows) []
+
+-- ---- lines
+
+-- what a line says
+abbrev pub finding_text : Seen → Finding → List ℕ
+finding_text seen (HiddenSource owner number at) = codes "hidden-source " ++ (flow_text seen.numbered.assembly owner number ++ (codes " at " ++ types_text seen.numbered.assembly at))
+finding_text seen (HiddenPath owner number at) = codes "hidden-path " ++ (flow_text seen.numbered.assembly owner number ++ (codes " at " ++ types_text seen.numbered.assembly at))
+finding_text seen (HiddenLink from at) = codes "hidden-link " ++ (side_text seen.numbered.assembly from ++ (codes " -> " ++ types_text seen.numbered.assembly at))
+finding_text seen (HiddenTransitions owner count) = codes "hidden-transitions " ++ (path_text (path_at seen.numbered.assembly owner) ++ (codes " " ++ decimal count))
+finding_text seen (NotDeclared at to) = codes "not-declared " ++ (types_text seen.numbered.assembly at ++ (codes " -> " ++ side_text seen.numbered.assembly to))
+finding_text seen (StopsHere at) = codes "stops-here " ++ types_text seen.numbered.assembly at
+finding_text seen (Open at) = codes "open " ++ types_text seen.numbered.assembly at
+finding_text seen (Never at) = codes "never " ++ types_text seen.numbered.assembly at
+finding_text seen (NeverState state) = codes "never " ++ its_fact_name seen.numbered.assembly (fact_in 0 (State state))
+finding_text seen (InLoop loop) = codes "loop " ++ (decimal loop.size ++ (codes " " ++ fact_name seen.system loop.first))
+finding_text seen (UnusedEvent event) = codes "unused-event " ++ event_name seen.system event
+finding_text seen NoEffect = codes "no-effect root"
+finding_text seen (UnreachedEvent event) = codes "unreached-event " ++ event_name seen.system event
+
+-- a line
+abbrev pub finding_line : Seen → Finding → List ℕ
+finding_line seen finding = finding_text seen finding ++ codes "\n"
+
+-- The text of these findings: a line each, and then that it ends.
+abbrev pub review_text : Seen → List Finding → List ℕ
+review_text seen findings = flat_map (finding_line seen) findings ++ codes "end\n"

@@ -1,0 +1,326 @@
+//! Sources and paths without effect.
+
+ghost use Rattle.std.specs.Prelude.{◌≡◌, ◌&&◌, ◌++◌, false, IfOk, OnOk};
+ghost use Rattle.std.specs.List.{list_any};
+ghost use Rattle.std.specs.Option.{option_map_or};
+ghost use Rattle.plain_values.specs.Numbered.{numbered_from};
+ghost use Rattle.error_types.specs.Search.{is_number_in};
+ghost use Rattle.propagation_points.specs.States.{held_numbers};
+ghost use Rattle.propagation_points.specs.Uses.{covers};
+ghost use Rattle.model_facts.specs.Assembly.{model_at};
+ghost use Rattle.model_facts.specs.Facts.{inward_of, outward_of};
+ghost use Rattle.flattener.specs.Formulas.{end_of};
+ghost use Rattle.model_review.specs.Findings.{hidden_flow, hidden_flows, hidden_path, hidden_source, hidden_types, is_hidden_flow, is_path};
+ghost use Rattle.model_review.specs.Seen.{is_lost_fact, number_at, state_number, types_in};
+
+use crate::finding::{Finding, tell_hidden_path, tell_hidden_source};
+use crate::view::View;
+use error_flows::FlowMeaning;
+use plain_values::{List, Mem};
+use propagation_links::PointAt;
+use propagation_points::{Held, ReachedPoint};
+use std::alloc::{AllocError, Global};
+
+/// Adds the hidden sources of a component, or its hidden paths.
+pub(crate) fn add_hidden_flows(
+    alloc: Global,
+    found: &mut List<Finding>,
+    view: &View,
+    owner: u32,
+    paths: bool,
+) -> Mem<()>
+    ensures { OnOk result (found.new ≡ found.old ++ hidden_flows paths view.now owner (model_at view.now.numbered.assembly owner)) }
+{
+    let states = view.states(alloc, owner)?;
+    match view.model(owner) {
+        Some(model) => add_flows(
+            alloc,
+            found,
+            view,
+            states.items(),
+            owner,
+            model.flows.items(),
+            paths,
+        ),
+        None => Ok(()),
+    }
+}
+
+fn add_flows(
+    alloc: Global,
+    found: &mut List<Finding>,
+    view: &View,
+    among: &[u32],
+    owner: u32,
+    flows: &[FlowMeaning],
+    paths: bool,
+) -> Mem<()>
+    ensures { OnOk result (found.new ≡ found.old ++ numbered_from (hidden_flow paths view.now among.now owner) 0 flows.now) }
+{
+    for (number, flow) in flows.iter().enumerate() {
+        add_flow(alloc, found, view, among, owner, number, flow, paths)?;
+    }
+    Ok(())
+}
+
+fn add_flow(
+    alloc: Global,
+    found: &mut List<Finding>,
+    view: &View,
+    among: &[u32],
+    owner: u32,
+    number: usize,
+    flow: &FlowMeaning,
+    paths: bool,
+) -> Mem<()>
+    ensures { OnOk result (found.new ≡ found.old ++ hidden_flow paths view.now among.now owner number flow.now) }
+{
+    if number > 4_294_967_295 {
+        return Err(AllocError);
+    }
+    if paths {
+        return add_path(alloc, found, view, among, owner, number as u32, flow);
+    }
+    add_source(alloc, found, view, among, owner, number as u32, flow)
+}
+
+fn add_source(
+    alloc: Global,
+    found: &mut List<Finding>,
+    view: &View,
+    among: &[u32],
+    owner: u32,
+    number: u32,
+    flow: &FlowMeaning,
+) -> Mem<()>
+    ensures { OnOk result (found.new ≡ found.old ++ hidden_source view.now among.now owner number flow.now) }
+{
+    if is_path(flow) {
+        return Ok(());
+    }
+    let side = outward_of(owner, end_of(flow));
+    let types = hidden_types(alloc, view, among, owner, number, flow)?;
+    tell_hidden_source(found, owner, number, side, types)
+}
+
+fn add_path(
+    alloc: Global,
+    found: &mut List<Finding>,
+    view: &View,
+    among: &[u32],
+    owner: u32,
+    number: u32,
+    flow: &FlowMeaning,
+) -> Mem<()>
+    ensures { OnOk result (found.new ≡ found.old ++ hidden_path view.now among.now owner number flow.now) }
+{
+    if !is_path(flow) {
+        return Ok(());
+    }
+    let side = outward_of(owner, end_of(flow));
+    let types = hidden_types(alloc, view, among, owner, number, flow)?;
+    tell_hidden_path(found, owner, number, side, types)
+}
+
+/// The types that a flow covers without effect.
+fn hidden_types(
+    alloc: Global,
+    view: &View,
+    among: &[u32],
+    owner: u32,
+    number: u32,
+    flow: &FlowMeaning,
+) -> Mem<List<u32>>
+    ensures { IfOk result (λ types. types ≡ hidden_types view.now among.now owner number flow.now) }
+{
+    let side = outward_of(owner, end_of(flow));
+    let mut types = List::new(alloc);
+    for kind in view.types(side) {
+        let is_hidden = is_hidden_at(alloc, view, among, side, number, *kind, flow)?;
+        types.push_if(*kind, is_hidden)?;
+    }
+    Ok(types)
+}
+
+fn is_hidden_at(
+    alloc: Global,
+    view: &View,
+    among: &[u32],
+    side: PointAt,
+    number: u32,
+    kind: u32,
+    flow: &FlowMeaning,
+) -> Mem<bool>
+    ensures { IfOk result (λ hidden. hidden ≡ option_map_or (λ target. is_hidden_flow view.now among.now side.component number kind target flow.now) (number_at view.now side kind) false) }
+{
+    match view.fact_at(side, kind) {
+        Some(target) => is_hidden(
+            alloc,
+            view,
+            among,
+            side.component,
+            number,
+            kind,
+            target,
+            flow,
+        ),
+        None => Ok(false),
+    }
+}
+
+/// Whether what a flow says of a type has no effect.
+fn is_hidden(
+    alloc: Global,
+    view: &View,
+    among: &[u32],
+    owner: u32,
+    number: u32,
+    kind: u32,
+    target: u32,
+    flow: &FlowMeaning,
+) -> Mem<bool>
+    ensures { IfOk result (λ hidden. hidden ≡ is_hidden_flow view.now among.now owner number kind target flow.now) }
+{
+    match flow {
+        FlowMeaning::Event(_, reached) => Ok(
+            reached.types.covers(kind) && view.is_lost_event(target, view.source(owner, number)),
+        ),
+        FlowMeaning::State(held, reached) => {
+            if !reached.types.covers(kind) {
+                return Ok(false);
+            }
+            is_lost_state(alloc, view, among, owner, target, held)
+        }
+        FlowMeaning::Carry(start, _) => {
+            let side = inward_of(owner, start.point);
+            is_lost_type(alloc, view, among, target, side, start, kind)
+        }
+        FlowMeaning::Change(start, _, types) => {
+            if !has_number(types.items(), kind) {
+                return Ok(false);
+            }
+            is_lost_start(alloc, view, among, owner, target, start)
+        }
+    }
+}
+
+fn is_lost_state(
+    alloc: Global,
+    view: &View,
+    among: &[u32],
+    owner: u32,
+    target: u32,
+    held: &Held,
+) -> Mem<bool>
+    ensures { IfOk result (λ lost. lost ≡ list_any (λ state. is_lost_fact view.now among.now target (state_number view.now owner state)) (held_numbers held.now)) }
+{
+    match held {
+        Held::One(state) => view.is_lost_fact(alloc, among, target, view.state(owner, *state)),
+        Held::Any(states) => is_lost_variant(alloc, view, among, owner, target, states.items()),
+    }
+}
+
+fn is_lost_variant(
+    alloc: Global,
+    view: &View,
+    among: &[u32],
+    owner: u32,
+    target: u32,
+    states: &[u32],
+) -> Mem<bool>
+    ensures { IfOk result (λ lost. lost ≡ list_any (λ state. is_lost_fact view.now among.now target (state_number view.now owner state)) states.now) }
+{
+    for state in states {
+        if view.is_lost_fact(alloc, among, target, view.state(owner, *state))? {
+            return Ok(true);
+        }
+    }
+    Ok(false)
+}
+
+fn is_lost_start(
+    alloc: Global,
+    view: &View,
+    among: &[u32],
+    owner: u32,
+    target: u32,
+    start: &ReachedPoint,
+) -> Mem<bool>
+    ensures { IfOk result (λ lost. lost ≡ list_any (λ other. covers start.now.types other && is_lost_fact view.now among.now target (number_at view.now (inward_of owner start.now.point) other)) (types_in view.now (inward_of owner start.now.point))) }
+{
+    let side = inward_of(owner, start.point);
+    for other in view.types(side) {
+        if is_lost_type(alloc, view, among, target, side, start, *other)? {
+            return Ok(true);
+        }
+    }
+    Ok(false)
+}
+
+fn is_lost_type(
+    alloc: Global,
+    view: &View,
+    among: &[u32],
+    target: u32,
+    side: PointAt,
+    start: &ReachedPoint,
+    other: u32,
+) -> Mem<bool>
+    ensures { IfOk result (λ lost. lost ≡ (covers start.now.types other && is_lost_fact view.now among.now target (number_at view.now side other))) }
+{
+    if !start.types.covers(other) {
+        return Ok(false);
+    }
+    view.is_lost_fact(alloc, among, target, view.fact_at(side, other))
+}
+
+/// The inward side of a point.
+pub(crate) fn inward_of(component: u32, point: u32) -> PointAt
+    ensures { result ≡ inward_of component point }
+{
+    PointAt {
+        component,
+        point,
+        outward: false,
+    }
+}
+
+/// The outward side of a point.
+pub(crate) fn outward_of(component: u32, point: u32) -> PointAt
+    ensures { result ≡ outward_of component point }
+{
+    PointAt {
+        component,
+        point,
+        outward: true,
+    }
+}
+
+/// Whether a flow is a path.
+fn is_path(flow: &FlowMeaning) -> bool
+    ensures { result ≡ is_path flow.now }
+{
+    match flow {
+        FlowMeaning::Event(_, _) | FlowMeaning::State(_, _) => false,
+        FlowMeaning::Carry(_, _) | FlowMeaning::Change(_, _, _) => true,
+    }
+}
+
+/// The point out of which a flow comes.
+fn end_of(flow: &FlowMeaning) -> u32
+    ensures { result ≡ end_of flow.now }
+{
+    match flow {
+        FlowMeaning::Event(_, reached) => reached.point,
+        FlowMeaning::State(_, reached) => reached.point,
+        FlowMeaning::Carry(_, end) => *end,
+        FlowMeaning::Change(_, end, _) => *end,
+    }
+}
+
+/// Whether a number is one of these.
+pub(crate) fn has_number(numbers: &[u32], number: u32) -> bool
+    ensures { result ≡ is_number_in numbers.now number }
+{
+    numbers.iter().any(|other| *other == number)
+}

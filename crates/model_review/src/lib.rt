@@ -1,0 +1,15 @@
+//! What a model leaves without effect, and where its errors stop: the text of its review.
+#![tactic(auto)]
+
+mod finding;
+mod flows;
+mod lines;
+mod links;
+mod list;
+mod reviewing;
+mod sides;
+mod states;
+mod told;
+mod view;
+
+pub use reviewing::review;

@@ -1,0 +1,342 @@
+//! Findings as lines.
+
+ghost use Rattle.std.specs.Prelude.{◌≡◌, ◌++◌, ◌==◌, ◌-◌, [], IfOk, None, OnOk, Some, codes, cond, decimal, flat_map, map, option_copied, slice_get};
+ghost use Rattle.std.specs.Option.{option_map_or};
+ghost use Rattle.fault_system.specs.Systems.{event_name, fact_name};
+ghost use Rattle.instantiator.specs.Whole.{effective_in};
+ghost use Rattle.model_facts.specs.Assembly.{model_at};
+ghost use Rattle.model_facts.specs.Facts.{fact_in};
+ghost use Rattle.model_facts.specs.Names.{behind, fact_name as its_fact_name, path_at, path_text, point_name, type_text};
+ghost use Rattle.model_facts.specs.declared.keys.FactKind.TheVariants.{State};
+ghost use Rattle.model_review.specs.Lines.{direction, finding_line, finding_text, flow_at, flow_text, further_types, is_no_sink, review_text, side_text, type_list, types_text};
+
+use crate::finding::{Finding, TypesAt};
+use crate::view::View;
+use aadl_syntax::{Flow, FlowKind, Identifier};
+use component_extension::InClause;
+use error_types::TypeTable;
+use fault_system::FaultSystem;
+use itoa::Buffer;
+use model_facts::{Assembly, FactKey, FactKind, fact_name};
+use plain_values::{List, Mem, Name};
+use propagation_links::PointAt;
+use propagation_points::Point;
+use std::alloc::Global;
+use system_review::Loop;
+
+/// The text of these findings of a model.
+pub(crate) fn text_of(alloc: Global, view: &View, findings: &[Finding]) -> Mem<Name>
+    ensures { IfOk result (λ text. text ≡ review_text view.now findings.now) }
+{
+    let mut text = Vec::new(alloc);
+    push_findings(alloc, &mut text, view, findings)?;
+    text.extend_from_slice(b"end\n")?;
+    List::of(text)
+}
+
+fn push_findings(alloc: Global, text: &mut Vec<u8>, view: &View, findings: &[Finding]) -> Mem<()>
+    ensures { OnOk result (text.new.items ≡ text.old.items ++ flat_map (finding_line view.now) findings.now) }
+{
+    for finding in findings {
+        push_finding(alloc, text, view, finding)?;
+    }
+    Ok(())
+}
+
+/// Adds the line of a finding.
+fn push_finding(alloc: Global, text: &mut Vec<u8>, view: &View, finding: &Finding) -> Mem<()>
+    ensures { OnOk result (text.new.items ≡ text.old.items ++ finding_line view.now finding.now) }
+{
+    push_text(alloc, text, view, finding)?;
+    text.extend_from_slice(b"\n")?;
+    Ok(())
+}
+
+fn push_text(alloc: Global, text: &mut Vec<u8>, view: &View, finding: &Finding) -> Mem<()>
+    ensures { OnOk result (text.new.items ≡ text.old.items ++ finding_text view.now finding.now) }
+{
+    let assembly = view.assembly();
+    match finding {
+        Finding::HiddenSource(owner, flow, at) => {
+            push_flow_at(text, b"hidden-source ", assembly, *owner, *flow, at)
+        }
+        Finding::HiddenPath(owner, flow, at) => {
+            push_flow_at(text, b"hidden-path ", assembly, *owner, *flow, at)
+        }
+        Finding::HiddenLink(from, at) => push_link(text, assembly, *from, at),
+        Finding::HiddenTransitions(owner, count) => push_count(text, assembly, *owner, *count),
+        Finding::NotDeclared(at, to) => push_other(text, assembly, at, *to),
+        Finding::StopsHere(at) => push_at(text, b"stops-here ", assembly, at),
+        Finding::Open(at) => push_at(text, b"open ", assembly, at),
+        Finding::Never(at) => push_at(text, b"never ", assembly, at),
+        Finding::NeverState(state) => push_state(alloc, text, assembly, *state),
+        Finding::InLoop(one) => push_loop(text, view.system(), *one),
+        Finding::UnusedEvent(event) => push_event(text, b"unused-event ", view.system(), *event),
+        Finding::NoEffect => push_two(text, b"no-effect ", b"root"),
+        Finding::UnreachedEvent(event) => {
+            push_event(text, b"unreached-event ", view.system(), *event)
+        }
+    }
+}
+
+/// Adds that what comes along a link has no effect.
+fn push_link(text: &mut Vec<u8>, assembly: &Assembly, from: PointAt, at: &TypesAt) -> Mem<()>
+    ensures { OnOk result (text.new.items ≡ text.old.items ++ (codes "hidden-link " ++ (side_text assembly.now from ++ (codes " -> " ++ types_text assembly.now at.now)))) }
+{
+    push_side_at(text, b"hidden-link ", assembly, from)?;
+    push_at(text, b" -> ", assembly, at)
+}
+
+/// Adds that what comes along a link is not declared where it leads.
+fn push_other(text: &mut Vec<u8>, assembly: &Assembly, at: &TypesAt, to: PointAt) -> Mem<()>
+    ensures { OnOk result (text.new.items ≡ text.old.items ++ (codes "not-declared " ++ (types_text assembly.now at.now ++ (codes " -> " ++ side_text assembly.now to)))) }
+{
+    push_at(text, b"not-declared ", assembly, at)?;
+    push_side_at(text, b" -> ", assembly, to)
+}
+
+/// Adds how many facts depend on one another, and the first of them.
+fn push_loop(text: &mut Vec<u8>, system: &FaultSystem, one: Loop) -> Mem<()>
+    ensures { OnOk result (text.new.items ≡ text.old.items ++ (codes "loop " ++ (decimal one.size ++ (codes " " ++ fact_name system.now one.first)))) }
+{
+    let mut buffer = Buffer::new();
+    push_two(text, b"loop ", buffer.format(one.size).as_bytes())?;
+    push_two(text, b" ", system.fact_name(one.first))
+}
+
+/// Adds a word and the name of an event.
+fn push_event(text: &mut Vec<u8>, word: &[u8], system: &FaultSystem, event: u32) -> Mem<()>
+    ensures { OnOk result (text.new.items ≡ text.old.items ++ (word.now ++ event_name system.now event)) }
+{
+    push_two(text, word, system.event_name(event))
+}
+
+/// Adds that the root is never in a state.
+fn push_state(alloc: Global, text: &mut Vec<u8>, assembly: &Assembly, state: u32) -> Mem<()>
+    ensures { OnOk result (text.new.items ≡ text.old.items ++ (codes "never " ++ its_fact_name assembly.now (fact_in 0 (State state)))) }
+{
+    let fact = FactKey {
+        owner: 0,
+        kind: FactKind::State(state),
+    };
+    let name = fact_name(alloc, assembly, fact)?;
+    push_two(text, b"never ", name.items())
+}
+
+/// Adds how many transitions of a component are hidden.
+fn push_count(text: &mut Vec<u8>, assembly: &Assembly, owner: u32, count: u32) -> Mem<()>
+    ensures { OnOk result (text.new.items ≡ text.old.items ++ (codes "hidden-transitions " ++ (path_text (path_at assembly.now owner) ++ (codes " " ++ decimal count)))) }
+{
+    let mut buffer = Buffer::new();
+    text.extend_from_slice(b"hidden-transitions ")?;
+    push_path(text, assembly, owner)?;
+    push_two(text, b" ", buffer.format(count).as_bytes())
+}
+
+/// Adds the name of a component.
+fn push_path(text: &mut Vec<u8>, assembly: &Assembly, owner: u32) -> Mem<()>
+    ensures { OnOk result (text.new.items ≡ text.old.items ++ path_text (path_at assembly.now owner)) }
+{
+    text.extend_from_slice(b"root")?;
+    match assembly.instance().components().get(owner as usize) {
+        Some(component) => push_names(text, component.path.names()),
+        None => Ok(()),
+    }
+}
+
+fn push_names(text: &mut Vec<u8>, names: &[&Identifier]) -> Mem<()>
+    ensures { OnOk result (text.new.items ≡ text.old.items ++ flat_map (λ name. codes "." ++ name) (map (λ name. name.now) names.now)) }
+{
+    for name in names {
+        push_two(text, b".", name.text())?;
+    }
+    Ok(())
+}
+
+/// Adds two texts.
+fn push_two(text: &mut Vec<u8>, first: &[u8], second: &[u8]) -> Mem<()>
+    ensures { OnOk result (text.new.items ≡ text.old.items ++ (first.now ++ second.now)) }
+{
+    text.extend_from_slice(first)?;
+    text.extend_from_slice(second)?;
+    Ok(())
+}
+
+/// Adds the name of a component, and a slash.
+fn push_owner(text: &mut Vec<u8>, assembly: &Assembly, owner: u32) -> Mem<()>
+    ensures { OnOk result (text.new.items ≡ text.old.items ++ (path_text (path_at assembly.now owner) ++ codes "/")) }
+{
+    push_path(text, assembly, owner)?;
+    text.extend_from_slice(b"/")?;
+    Ok(())
+}
+
+// ---- sides
+
+/// Adds a word and a side.
+fn push_side_at(text: &mut Vec<u8>, word: &[u8], assembly: &Assembly, side: PointAt) -> Mem<()>
+    ensures { OnOk result (text.new.items ≡ text.old.items ++ (word.now ++ side_text assembly.now side)) }
+{
+    text.extend_from_slice(word)?;
+    push_owner(text, assembly, side.component)?;
+    push_two(text, direction(side.outward), point_name(assembly, side))
+}
+
+fn direction(outward: bool) -> &'static [u8]
+    ensures { result.now ≡ direction outward }
+{
+    if outward { b"out:" } else { b"in:" }
+}
+
+/// The name of a point of a component, or nothing.
+fn point_name<'m>(assembly: &Assembly<'m>, side: PointAt) -> &'m [u8]
+    ensures { result.now ≡ point_name (model_at assembly.now side.component) side.point }
+{
+    match assembly.model(side.component) {
+        Some(model) => name_of_point(model.points.list(), side.point),
+        None => &[],
+    }
+}
+
+fn name_of_point<'m>(points: &'m [Point], number: u32) -> &'m [u8]
+    ensures { result.now ≡ option_map_or (λ point. point.name) (slice_get points.now number) [] }
+{
+    match points.get(number as usize) {
+        Some(point) => point.name().text(),
+        None => &[],
+    }
+}
+
+/// Adds a word, and types at a side.
+fn push_at(text: &mut Vec<u8>, word: &[u8], assembly: &Assembly, at: &TypesAt) -> Mem<()>
+    ensures { OnOk result (text.new.items ≡ text.old.items ++ (word.now ++ types_text assembly.now at.now)) }
+{
+    push_side_at(text, word, assembly, at.side)?;
+    text.extend_from_slice(b"{")?;
+    push_types(text, assembly.types(), at.types.items())?;
+    text.extend_from_slice(b"}")?;
+    Ok(())
+}
+
+fn push_types(text: &mut Vec<u8>, types: &TypeTable, numbers: &[u32]) -> Mem<()>
+    ensures { OnOk result (text.new.items ≡ text.old.items ++ type_list types.now numbers.now) }
+{
+    match numbers.split_first() {
+        Some((first, rest)) => {
+            push_type(text, types, *first)?;
+            push_further(text, types, rest)
+        }
+        None => Ok(()),
+    }
+}
+
+/// Adds further types, each behind a comma.
+fn push_further(text: &mut Vec<u8>, types: &TypeTable, numbers: &[u32]) -> Mem<()>
+    ensures { OnOk result (text.new.items ≡ text.old.items ++ further_types types.now numbers.now) }
+{
+    for number in numbers {
+        push_next(text, types, *number)?;
+    }
+    Ok(())
+}
+
+fn push_next(text: &mut Vec<u8>, types: &TypeTable, number: u32) -> Mem<()>
+    ensures { OnOk result (text.new.items ≡ text.old.items ++ (codes "," ++ type_text types.now number)) }
+{
+    text.extend_from_slice(b",")?;
+    push_type(text, types, number)
+}
+
+/// Adds the name of a type as it prints.
+fn push_type(text: &mut Vec<u8>, types: &TypeTable, number: u32) -> Mem<()>
+    ensures { OnOk result (text.new.items ≡ text.old.items ++ type_text types.now number) }
+{
+    match types.name(number) {
+        Some(name) => name.print(text),
+        None => Ok(()),
+    }
+}
+
+// ---- flows
+
+/// Adds a word, the name of a source or a path of a component, and types at a side.
+fn push_flow_at(
+    text: &mut Vec<u8>,
+    word: &[u8],
+    assembly: &Assembly,
+    owner: u32,
+    number: u32,
+    at: &TypesAt,
+) -> Mem<()>
+    ensures { OnOk result (text.new.items ≡ text.old.items ++ (word.now ++ (flow_text assembly.now owner number ++ (codes " at " ++ types_text assembly.now at.now)))) }
+{
+    text.extend_from_slice(word)?;
+    push_flow(text, assembly, owner, number)?;
+    push_at(text, b" at ", assembly, at)
+}
+
+/// Adds the name of a source or a path.
+fn push_flow(text: &mut Vec<u8>, assembly: &Assembly, owner: u32, number: u32) -> Mem<()>
+    ensures { OnOk result (text.new.items ≡ text.old.items ++ flow_text assembly.now owner number) }
+{
+    match flow_of(assembly, owner, number) {
+        Some(flow) => push_own(text, assembly, owner, flow.name.text()),
+        None => Ok(()),
+    }
+}
+
+/// Adds a name of a component's own, behind the component's name.
+fn push_own(text: &mut Vec<u8>, assembly: &Assembly, owner: u32, name: &[u8]) -> Mem<()>
+    ensures { OnOk result (text.new.items ≡ text.old.items ++ behind assembly.now owner name.now) }
+{
+    push_owner(text, assembly, owner)?;
+    text.extend_from_slice(name)?;
+    Ok(())
+}
+
+/// The source or path of a place among those of a component.
+fn flow_of<'m>(assembly: &Assembly<'m>, owner: u32, number: u32) -> Option<&'m Flow>
+    ensures { option_copied result ≡ flow_at number (effective_in assembly.now.instance owner).propagations.flows }
+{
+    match assembly.instance().effective(owner) {
+        Some(effective) => flow_at(effective.propagations.flows.items(), number),
+        None => None,
+    }
+}
+
+/// The source or path of a place, among which sinks do not count.
+fn flow_at<'a>(flows: &[InClause<'a, Flow>], number: u32) -> Option<&'a Flow>
+    ensures { option_copied result ≡ flow_at number flows.now }
+{
+    let mut left = number;
+    for flow in flows {
+        match left_after(&flow.item().kind, left) {
+            Some(less) => left = less,
+            None => return Some(flow.item()),
+        }
+    }
+    None
+}
+
+/// How many flows are left behind one, of which so many are left before; none where it is the last.
+fn left_after(kind: &FlowKind, left: u32) -> Option<u32>
+    ensures { result ≡ cond (is_no_sink kind.now) (cond (left == 0) None (Some (left - 1))) (Some left) }
+{
+    if !is_no_sink(kind) {
+        return Some(left);
+    }
+    if left == 0 {
+        return None;
+    }
+    Some(left - 1)
+}
+
+fn is_no_sink(kind: &FlowKind) -> bool
+    ensures { result ≡ is_no_sink kind.now }
+{
+    match kind {
+        FlowKind::Source(_, _, _) => true,
+        FlowKind::Sink(_, _) => false,
+        FlowKind::Path(_, _, _, _, _) => true,
+    }
+}

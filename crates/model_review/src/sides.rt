@@ -1,0 +1,357 @@
+//! Sides at which errors stop, come from outside, or never come out.
+
+ghost use Rattle.std.specs.Prelude.{◌≡◌, ◌&&◌, ◌++◌, IfOk, OnOk, filter, nat_eq, not};
+ghost use Rattle.std.specs.HashSet.{contains};
+ghost use Rattle.std.specs.List.{list_any};
+ghost use Rattle.plain_values.specs.Numbered.{numbered_from};
+ghost use Rattle.error_types.specs.Search.{is_number_in};
+ghost use Rattle.propagation_points.specs.Uses.{covers};
+ghost use Rattle.model_facts.specs.Assembly.{model_at};
+ghost use Rattle.model_facts.specs.Facts.{inward_of, is_linked, outward_of};
+ghost use Rattle.model_facts.specs.Tables.{KnowsSides, same_side_key};
+ghost use Rattle.model_review.specs.Findings.{has_sink, if_any, is_sink_at, is_stopped, never_at, never_out, open_at, open_ends, stop_at, stops_of, takes, types_at, types_where};
+ghost use Rattle.model_review.specs.Seen.{may_come, number_at};
+ghost use Rattle.model_review.specs.declared.finding.Finding.TheVariants.{Never, Open, StopsHere};
+
+use crate::finding::{Finding, tell_never, tell_open, tell_stop};
+use crate::flows::{has_number, inward_of, outward_of};
+use crate::view::{View, declared_for};
+use aadl_syntax::{Flow, FlowKind};
+use component_extension::InClause;
+use error_flows::FlowMeaning;
+use plain_values::{List, Mem, is_same};
+use propagation_links::{Link, PointAt};
+use propagation_points::{Point, ReachedPoint, only_name};
+use std::alloc::{AllocError, Global};
+use std::collections::HashSet;
+
+/// Adds the sides of a component at which errors stop.
+pub(crate) fn add_stops(
+    alloc: Global,
+    found: &mut List<Finding>,
+    view: &View,
+    owner: u32,
+) -> Mem<()>
+    ensures { OnOk result (found.new ≡ found.old ++ stops_of view.now owner (model_at view.now.numbered.assembly owner)) }
+{
+    match view.model(owner) {
+        Some(model) => add_stops_at(alloc, found, view, owner, model.points.list()),
+        None => Ok(()),
+    }
+}
+
+fn add_stops_at(
+    alloc: Global,
+    found: &mut List<Finding>,
+    view: &View,
+    owner: u32,
+    points: &[Point],
+) -> Mem<()>
+    ensures { OnOk result (found.new ≡ found.old ++ numbered_from (stop_at view.now owner) 0 points.now) }
+{
+    for (number, point) in points.iter().enumerate() {
+        add_stop(alloc, found, view, owner, number, point)?;
+    }
+    Ok(())
+}
+
+fn add_stop(
+    alloc: Global,
+    found: &mut List<Finding>,
+    view: &View,
+    owner: u32,
+    number: usize,
+    point: &Point,
+) -> Mem<()>
+    ensures { OnOk result (found.new ≡ found.old ++ stop_at view.now owner number point.now) }
+{
+    if number > 4_294_967_295 {
+        return Err(AllocError);
+    }
+    if has_sink(view, owner, point) {
+        return Ok(());
+    }
+    add_stopping(alloc, found, view, owner, number as u32)
+}
+
+/// Adds the types that stop at a point.
+fn add_stopping(
+    alloc: Global,
+    found: &mut List<Finding>,
+    view: &View,
+    owner: u32,
+    number: u32,
+) -> Mem<()>
+    ensures { OnOk result (found.new ≡ found.old ++ if_any (λ types. StopsHere (types_at (inward_of owner number) types)) (types_where view.now (inward_of owner number) (is_stopped view.now owner number))) }
+{
+    let types = stopping(alloc, view, owner, number)?;
+    tell_stop(found, inward_of(owner, number), types)
+}
+
+/// The types that stop at a point.
+fn stopping(alloc: Global, view: &View, owner: u32, number: u32) -> Mem<List<u32>>
+    ensures { IfOk result (λ types. types ≡ types_where view.now (inward_of owner number) (is_stopped view.now owner number)) }
+{
+    let mut types = List::new(alloc);
+    for kind in view.types(inward_of(owner, number)) {
+        types.push_if(*kind, is_stopped(view, owner, number, *kind))?;
+    }
+    Ok(types)
+}
+
+/// Whether a type may come in at a point, occurs in no formula, and is taken by no path.
+fn is_stopped(view: &View, owner: u32, number: u32, kind: u32) -> bool
+    ensures { result ≡ is_stopped view.now owner number kind }
+{
+    view.stops(view.fact_at(inward_of(owner, number), kind))
+        && !is_taken_in(view, owner, number, kind)
+}
+
+fn is_taken_in(view: &View, owner: u32, number: u32, kind: u32) -> bool
+    ensures { result ≡ list_any (takes view.now owner number kind) (model_at view.now.numbered.assembly owner).flows }
+{
+    match view.model(owner) {
+        Some(model) => is_taken(view, owner, number, kind, model.flows.items()),
+        None => false,
+    }
+}
+
+fn is_taken(view: &View, owner: u32, number: u32, kind: u32, flows: &[FlowMeaning]) -> bool
+    ensures { result ≡ list_any (takes view.now owner number kind) flows.now }
+{
+    for flow in flows {
+        if takes(view, owner, number, kind, flow) {
+            return true;
+        }
+    }
+    false
+}
+
+/// Whether a path takes a type that comes in at a point to a type of the side at its end.
+fn takes(view: &View, owner: u32, number: u32, kind: u32, flow: &FlowMeaning) -> bool
+    ensures { result ≡ takes view.now owner number kind flow.now }
+{
+    match flow {
+        FlowMeaning::Event(_, _) | FlowMeaning::State(_, _) => false,
+        FlowMeaning::Carry(start, end) => {
+            begins(start, number, kind) && has_number(view.types(outward_of(owner, *end)), kind)
+        }
+        FlowMeaning::Change(start, end, types) => {
+            begins(start, number, kind)
+                && has_some(types.items(), view.types(outward_of(owner, *end)))
+        }
+    }
+}
+
+/// Whether a path begins at a point and takes a type.
+fn begins(start: &ReachedPoint, number: u32, kind: u32) -> bool
+    ensures { result ≡ (nat_eq start.now.point number && covers start.now.types kind) }
+{
+    start.point == number && start.types.covers(kind)
+}
+
+/// Whether one of these is one of some types.
+fn has_some(types: &[u32], numbers: &[u32]) -> bool
+    ensures { result ≡ list_any (is_number_in types.now) numbers.now }
+{
+    for number in numbers {
+        if has_number(types, *number) {
+            return true;
+        }
+    }
+    false
+}
+
+/// Whether a sink of a component names a point.
+fn has_sink(view: &View, owner: u32, point: &Point) -> bool
+    ensures { result ≡ has_sink view.now owner point.now }
+{
+    match view.instance().effective(owner) {
+        Some(effective) => is_named(effective.propagations.flows.items(), point.name().text()),
+        None => false,
+    }
+}
+
+fn is_named(flows: &[InClause<Flow>], name: &[u8]) -> bool
+    ensures { result ≡ list_any (λ flow. is_sink_at name.now flow.item.kind) flows.now }
+{
+    for flow in flows {
+        if is_sink_at(&flow.item().kind, name) {
+            return true;
+        }
+    }
+    false
+}
+
+/// Whether a flow is a sink that names the point of a name.
+fn is_sink_at(kind: &FlowKind, name: &[u8]) -> bool
+    ensures { result ≡ is_sink_at name.now kind.now }
+{
+    match kind {
+        FlowKind::Sink(point, _) => match only_name(point.names.items()) {
+            Some(other) => is_same(other.text(), name),
+            None => false,
+        },
+        FlowKind::Source(_, _, _) | FlowKind::Path(_, _, _, _, _) => false,
+    }
+}
+
+// ---- open ends
+
+/// The sides into which these links lead.
+pub(crate) fn linked_sides(alloc: Global, links: &[Link]) -> Mem<HashSet<(u32, u32, bool)>>
+    ensures { IfOk result (λ sides. KnowsSides links.now (contains same_side_key sides)) }
+{
+    let mut sides = HashSet::new(alloc);
+    for link in links {
+        let to = link.to;
+        sides.insert((to.component, to.point, to.outward))?;
+    }
+    Ok(sides)
+}
+
+/// Adds the inward sides of a component with declared types into which no link leads.
+pub(crate) fn add_open(
+    alloc: Global,
+    found: &mut List<Finding>,
+    view: &View,
+    linked: &HashSet<(u32, u32, bool)>,
+    owner: u32,
+) -> Mem<()>
+    requires { KnowsSides view.now.numbered.assembly.links (contains same_side_key linked.now) }
+    ensures { OnOk result (found.new ≡ found.old ++ open_ends view.now owner (model_at view.now.numbered.assembly owner)) }
+{
+    match view.model(owner) {
+        Some(model) => add_open_at(alloc, found, view, linked, owner, model.points.list()),
+        None => Ok(()),
+    }
+}
+
+fn add_open_at(
+    alloc: Global,
+    found: &mut List<Finding>,
+    view: &View,
+    linked: &HashSet<(u32, u32, bool)>,
+    owner: u32,
+    points: &[Point],
+) -> Mem<()>
+    requires { KnowsSides view.now.numbered.assembly.links (contains same_side_key linked.now) }
+    ensures { OnOk result (found.new ≡ found.old ++ numbered_from (open_at view.now owner) 0 points.now) }
+{
+    for (number, point) in points.iter().enumerate() {
+        add_open_end(alloc, found, view, linked, owner, number, point)?;
+    }
+    Ok(())
+}
+
+fn add_open_end(
+    alloc: Global,
+    found: &mut List<Finding>,
+    view: &View,
+    linked: &HashSet<(u32, u32, bool)>,
+    owner: u32,
+    number: usize,
+    point: &Point,
+) -> Mem<()>
+    requires { KnowsSides view.now.numbered.assembly.links (contains same_side_key linked.now) }
+    ensures { OnOk result (found.new ≡ found.old ++ open_at view.now owner number point.now) }
+{
+    if number > 4_294_967_295 {
+        return Err(AllocError);
+    }
+    if is_linked(view, linked, owner, number as u32) {
+        return Ok(());
+    }
+    match declared_for(point.side(false)) {
+        Some(types) => add_arrivals(alloc, found, inward_of(owner, number as u32), types),
+        None => Ok(()),
+    }
+}
+
+/// Whether a link leads into the inward side of a point.
+fn is_linked(view: &View, linked: &HashSet<(u32, u32, bool)>, owner: u32, number: u32) -> bool
+    requires { KnowsSides view.now.numbered.assembly.links (contains same_side_key linked.now) }
+    ensures { result ≡ is_linked view.now.numbered.assembly.links (inward_of owner number) }
+{
+    let _ = view;
+    linked.contains(&(owner, number, false))
+}
+
+fn add_arrivals(
+    alloc: Global,
+    found: &mut List<Finding>,
+    side: PointAt,
+    declared: &[u32],
+) -> Mem<()>
+    ensures { OnOk result (found.new ≡ found.old ++ if_any (λ types. Open (types_at side types)) declared.now) }
+{
+    let types = List::of(Vec::from_slice(alloc, declared)?)?;
+    tell_open(found, side, types)
+}
+
+// ---- what never comes out
+
+/// Adds the outward sides of a component with declared types that never come out.
+pub(crate) fn add_never(
+    alloc: Global,
+    found: &mut List<Finding>,
+    view: &View,
+    owner: u32,
+) -> Mem<()>
+    ensures { OnOk result (found.new ≡ found.old ++ never_out view.now owner (model_at view.now.numbered.assembly owner)) }
+{
+    match view.model(owner) {
+        Some(model) => add_never_at(alloc, found, view, owner, model.points.list()),
+        None => Ok(()),
+    }
+}
+
+fn add_never_at(
+    alloc: Global,
+    found: &mut List<Finding>,
+    view: &View,
+    owner: u32,
+    points: &[Point],
+) -> Mem<()>
+    ensures { OnOk result (found.new ≡ found.old ++ numbered_from (never_at view.now owner) 0 points.now) }
+{
+    for (number, point) in points.iter().enumerate() {
+        add_never_point(alloc, found, view, owner, number, point)?;
+    }
+    Ok(())
+}
+
+fn add_never_point(
+    alloc: Global,
+    found: &mut List<Finding>,
+    view: &View,
+    owner: u32,
+    number: usize,
+    point: &Point,
+) -> Mem<()>
+    ensures { OnOk result (found.new ≡ found.old ++ never_at view.now owner number point.now) }
+{
+    if number > 4_294_967_295 {
+        return Err(AllocError);
+    }
+    match declared_for(point.side(true)) {
+        Some(types) => add_never_types(alloc, found, view, outward_of(owner, number as u32), types),
+        None => Ok(()),
+    }
+}
+
+fn add_never_types(
+    alloc: Global,
+    found: &mut List<Finding>,
+    view: &View,
+    side: PointAt,
+    declared: &[u32],
+) -> Mem<()>
+    ensures { OnOk result (found.new ≡ found.old ++ if_any (λ types. Never (types_at side types)) (filter (λ type. not (may_come view.now (number_at view.now side type))) declared.now)) }
+{
+    let mut types = List::new(alloc);
+    for kind in declared {
+        types.push_if(*kind, !view.may_come(view.fact_at(side, *kind)))?;
+    }
+    tell_never(found, side, types)
+}

@@ -1,0 +1,93 @@
+//! Loops of facts, and events without effect.
+
+ghost use Rattle.std.specs.Prelude.{◌≡◌, ◌++◌, IfOk, OnOk, filter, length, map};
+ghost use Rattle.plain_values.specs.Rising.{RisesWithin};
+ghost use Rattle.model_review.specs.Seen.{is_error_event, is_of_root, root_effects};
+ghost use Rattle.model_review.specs.Told.{AddsTold, effect_findings};
+ghost use Rattle.model_review.specs.declared.finding.Finding.TheVariants.{InLoop, UnreachedEvent, UnusedEvent};
+
+use crate::finding::Finding;
+use crate::view::View;
+use fault_system::FaultSystem;
+use plain_values::{List, Mem};
+use std::alloc::Global;
+use system_review::{Loop, loops, unreached_events, unused_events};
+
+/// Adds the loops of a model, its error events that occur in no formula, and what its root tells: that it has no effect, or the
+/// events on which none depends.
+pub(crate) fn add_told(alloc: Global, found: &mut List<Finding>, view: &View) -> Mem<()>
+    requires { RisesWithin 0 (length view.now.system.facts) view.now.effects }
+    ensures { OnOk result (AddsTold view.now found.old found.new) }
+{
+    let system = view.system();
+    let effects = view.effects();
+    let loops = loops(alloc, system)?;
+    let unused = unused_events(alloc, system)?;
+    let root = root_effects(alloc, system, effects)?;
+    let unreached = unreached_events(alloc, system, root.items())?;
+    add_loops(found, loops.items())?;
+    add_unused(found, view, unused.items())?;
+    add_unreached(found, root.items(), unreached.items())?;
+    Ok(())
+}
+
+/// Those of some effects that are facts of the root.
+fn root_effects(alloc: Global, system: &FaultSystem, effects: &[u32]) -> Mem<List<u32>>
+    requires rise { RisesWithin 0 (length system.now.facts) effects.now }
+    ensures effects { IfOk result (λ found. found ≡ filter (is_of_root system.now) effects.now) }
+    ensures rise { IfOk result (λ found. RisesWithin 0 (length system.now.facts) found) }
+{
+    let mut found = List::new(alloc);
+    for effect in effects {
+        found.push_if(*effect, is_of_root(system, *effect))?;
+    }
+    Ok(found)
+}
+
+/// Whether a fact is one of the root.
+fn is_of_root(system: &FaultSystem, number: u32) -> bool
+    ensures { result ≡ is_of_root system.now number }
+{
+    match system.fact(number) {
+        Some(fact) => fact.owner == 0,
+        None => false,
+    }
+}
+
+fn add_loops(found: &mut List<Finding>, loops: &[Loop]) -> Mem<()>
+    ensures { OnOk result (found.new ≡ found.old ++ map InLoop loops.now) }
+{
+    for one in loops {
+        found.push(Finding::InLoop(*one))?;
+    }
+    Ok(())
+}
+
+fn add_unused(found: &mut List<Finding>, view: &View, unused: &[u32]) -> Mem<()>
+    ensures { OnOk result (found.new ≡ found.old ++ map UnusedEvent (filter (is_error_event view.now) unused.now)) }
+{
+    for event in unused {
+        found.push_if(Finding::UnusedEvent(*event), view.is_error_event(*event))?;
+    }
+    Ok(())
+}
+
+/// Adds that the root has no effect, or the events on which none of its effects depends.
+fn add_unreached(found: &mut List<Finding>, effects: &[u32], unreached: &[u32]) -> Mem<()>
+    ensures { OnOk result (found.new ≡ found.old ++ effect_findings effects.now unreached.now) }
+{
+    if effects.is_empty() {
+        found.push(Finding::NoEffect)?;
+        return Ok(());
+    }
+    add_events(found, unreached)
+}
+
+fn add_events(found: &mut List<Finding>, events: &[u32]) -> Mem<()>
+    ensures { OnOk result (found.new ≡ found.old ++ map UnreachedEvent events.now) }
+{
+    for event in events {
+        found.push(Finding::UnreachedEvent(*event))?;
+    }
+    Ok(())
+}
