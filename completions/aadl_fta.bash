@@ -1,7 +1,7 @@
 # Completions for bash: source this file, or put it into the folder of bash-completion under the name aadl_fta.
 
 _aadl_fta() {
-  local commands='check cuts tree fmea targets events report make galileo paths why confirm place help version'
+  local commands='check cuts tree fmea targets events review report make galileo paths why confirm place help version'
   local word=${COMP_WORDS[COMP_CWORD]} before=${COMP_WORDS[COMP_CWORD-1]}
   local command=${COMP_WORDS[1]} options='' files_from=0
   COMPREPLY=()
@@ -19,7 +19,7 @@ _aadl_fta() {
   esac
   # The options of the command, and the number of its first word that is a file.
   case $command in
-    check | events) files_from=3 ;;
+    check | events | review) files_from=3 ;;
     cuts) options='--limit --after --max-order --tokens' files_from=4 ;;
     tree) files_from=4 ;;
     fmea | targets) options='--all' files_from=3 ;;
