@@ -1,5 +1,5 @@
 ghost use Rattle.std.specs.Prelude.{◌≡◌, ◌<◌, ◌+◌, ◌++◌, ◌∷◌, [], if◌then◌else◌, MatchResult, IfOk, OnOk, length};
-ghost use Rattle.plain_values.specs.Stops.{StopsFor};
+ghost use Rattle.plain_values.specs.inner.Stops.{StopsFor};
 ghost use Rattle.fault_system.specs.Truth.{count_true};
 ghost use Rattle.fault_system.specs.Systems.{IsSystem};
 ghost use Rattle.backward_slice.specs.Slices.{HasLargeSlice, IsSlice, IsServed};

@@ -6,7 +6,7 @@ use Rattle.plain_values.specs.declared.refusal.Stop.TheVariants.{Memory, Refused
 use Rattle.plain_values.specs.Order.{IsFirst}
 use Rattle.plain_values.proofs.OrderLaws.{least-first}
 use Rattle.package_index.specs.declared.id.ClassifierId.{ClassifierId}
-use Rattle.plain_values.specs.Stops.{StopsAtFirst}
+use Rattle.plain_values.specs.inner.Stops.{StopsAtFirst}
 use Rattle.component_extension.specs.Chain.{Answers, chain_of}
 use Rattle.component_extension.specs.Items.{classifier_refusals, refusals_along}
 

@@ -1,6 +1,6 @@
 ghost use Rattle.std.specs.Prelude.{◌≡◌, ◌↔◌, ◌≤◌, ◌<◌, ◌^◌, IfOk, IfErr, IsSome, OnOk, length};
 ghost use Rattle.plain_values.specs.Order.{least, nearer};
-ghost use Rattle.plain_values.specs.Stops.{StopsAtFirst};
+ghost use Rattle.plain_values.specs.inner.Stops.{StopsAtFirst};
 ghost use Rattle.error_types.specs.Libraries.{HasTooManyTypes, IsOver, declared_types, greatest_types, libraries_of, table_of, unknown_libraries};
 ghost use Rattle.error_types.specs.Printed.{name_of};
 ghost use Rattle.error_types.specs.Types.{denoted, is_below, text_scope};

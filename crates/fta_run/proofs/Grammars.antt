@@ -11,7 +11,7 @@ use Rattle.grammar_rules.proofs.Texts.{reads_once}
 use Rattle.plain_values.specs.declared.refusal.Stop.{Stop}
 use Rattle.plain_values.specs.declared.refusal.Stop.TheVariants as stop
 use Rattle.plain_values.specs.Refusal.{refusal}
-use Rattle.plain_values.specs.Stops.{StopsFor}
+use Rattle.plain_values.specs.inner.Stops.{StopsFor}
 use Rattle.phases.specs.Meets.{IsMemory}
 use Rattle.phases.specs.Phases.{Stops, rejects}
 use Rattle.phases.specs.Stopped.{status_of}

@@ -9,7 +9,7 @@ use Rattle.plain_values.specs.declared.refusal.Stop.{Stop}
 use Rattle.plain_values.specs.declared.refusal.Stop.TheVariants as stop
 use Rattle.plain_values.specs.Order.{IsClear, IsFirst}
 use Rattle.package_index.specs.Duplicates.{IsDuplicate}
-use Rattle.plain_values.specs.Stops.{StopsAtFirst}
+use Rattle.plain_values.specs.inner.Stops.{StopsAtFirst}
 use Rattle.package_index.specs.Lookup.{look_classifier, packages_of, refused_at}
 use Rattle.package_index.specs.declared.id.ClassifierId.{ClassifierId}
 use Rattle.phases.specs.Meets.{IsMemory, Meets}

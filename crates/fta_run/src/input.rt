@@ -3,7 +3,7 @@ ghost use Rattle.plain_values.specs.declared.refusal.Refusal.{Refusal};
 ghost use Rattle.plain_values.specs.declared.refusal.Code.TheVariants.{TooManyFiles};
 ghost use Rattle.plain_values.specs.declared.refusal.Stop.TheVariants.{Refused};
 ghost use Rattle.plain_values.specs.Order.{IsFirst, least, nearer};
-ghost use Rattle.plain_values.specs.Stops.{StopsFor};
+ghost use Rattle.plain_values.specs.inner.Stops.{StopsFor};
 ghost use Rattle.aadl_lexer.specs.Tokens.{IsFault, RefusedAs, Tokens};
 ghost use Rattle.aadl_parser.specs.Files.{IsUnread};
 ghost use Rattle.phases.specs.Meets.{Meets, MeetsBut};

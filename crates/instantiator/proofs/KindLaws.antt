@@ -12,7 +12,7 @@ use Rattle.plain_values.specs.declared.refusal.Stop.TheVariants.{Memory, Refused
 use Rattle.plain_values.specs.Order.{IsFirst, least}
 use Rattle.plain_values.proofs.OrderLaws.{first_once, least-first}
 use Rattle.package_index.specs.declared.id.ClassifierId.{ClassifierId}
-use Rattle.plain_values.specs.Stops.{StopsAtFirst, StopsAt}
+use Rattle.plain_values.specs.inner.Stops.{StopsAtFirst, StopsAt}
 use Rattle.package_index.proofs.KnowsLaws.{some-place}
 use Rattle.component_extension.specs.Chain.{is_among, same_id}
 use Rattle.component_extension.specs.Items.{classifier_refusals}

@@ -1,7 +1,7 @@
 ghost use Rattle.std.specs.Prelude.{◌≡◌, ◌≤◌, None, IfOk, IfErr, OnOk, length, map, option_and_then, option_copied, option_map, slice_get};
 ghost use Rattle.instantiator.specs.Components.{component_below};
 ghost use Rattle.instantiator.specs.Effectives.{effective_of};
-ghost use Rattle.plain_values.specs.Stops.{StopsAt};
+ghost use Rattle.plain_values.specs.inner.Stops.{StopsAt};
 ghost use Rattle.instantiator.specs.Refused.{instance_refusal};
 ghost use Rattle.instantiator.specs.Tables.{kind_of};
 ghost use Rattle.instantiator.specs.Whole.{ParentsComeFirst, PathsDiffer, classifier_at, instance_of, kind_number, kinds_of, parent_in, parent_of};

@@ -2,7 +2,7 @@ ghost use Rattle.std.specs.Prelude.{◌≡◌, ◌∷◌, ◌++◌, [], length, 
 ghost use Rattle.component_extension.specs.Items.{classifier_refusals};
 ghost use Rattle.instantiator.specs.Components.{parts_of};
 ghost use Rattle.instantiator.specs.Effectives.{effective_at, effective_of};
-ghost use Rattle.plain_values.specs.Stops.{StopsAt};
+ghost use Rattle.plain_values.specs.inner.Stops.{StopsAt};
 ghost use Rattle.instantiator.specs.Refused.{classifier_refusal};
 ghost use Rattle.instantiator.specs.Tables.{Entered, kind_of};
 ghost use Rattle.instantiator.specs.Whole.{kind_place};

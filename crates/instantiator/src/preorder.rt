@@ -1,6 +1,6 @@
 ghost use Rattle.std.specs.Prelude.{◌≡◌, ◌≤◌, ◌-◌, length, MatchResult};
 ghost use Rattle.instantiator.specs.Components.{preorder};
-ghost use Rattle.plain_values.specs.Stops.{StopsAt};
+ghost use Rattle.plain_values.specs.inner.Stops.{StopsAt};
 ghost use Rattle.instantiator.specs.Refused.{first_refusal};
 ghost use Rattle.instantiator.specs.Tables.{Grown};
 

@@ -1,6 +1,6 @@
 ghost use Rattle.std.specs.Prelude.{◌≡◌, ◌<◌, ◌^◌, None, length, IfErr, IfOk, OnOk};
 ghost use Rattle.std.specs.HashMap.{get};
-ghost use Rattle.plain_values.specs.Stops.{StopsAt};
+ghost use Rattle.plain_values.specs.inner.Stops.{StopsAt};
 ghost use Rattle.package_index.specs.Tables.{Knows};
 ghost use Rattle.model_facts.specs.Facts.{event_number, events_of, same_event};
 ghost use Rattle.model_facts.specs.Limits.{many_events};

@@ -6,7 +6,7 @@ use Rattle.plain_values.specs.declared.refusal.Refusal.{Refusal}
 use Rattle.plain_values.specs.declared.refusal.Stop.{Stop}
 use Rattle.plain_values.specs.declared.refusal.Stop.TheVariants as stop
 use Rattle.plain_values.proofs.OrderLaws.{first_alone}
-use Rattle.plain_values.specs.Stops.{StopsAtFirst, StopsAt}
+use Rattle.plain_values.specs.inner.Stops.{StopsAtFirst, StopsAt}
 use Rattle.plain_values.specs.Refusal.{refusal}
 use Rattle.phases.specs.Meets.{IsMemory, MeetsBut}
 use Rattle.phases.specs.Phases.{Phase, Passes, Stops, chains, tests}

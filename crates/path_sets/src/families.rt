@@ -1,7 +1,7 @@
 //! The minimal path sets of a target as a family, where no fact reaches itself.
 
 ghost use Rattle.std.specs.Prelude.{◌<◌, ℕ, List as Items, Contains, IfErr, IfOk, IsTrue, length};
-ghost use Rattle.plain_values.specs.Stops.{StopsFor};
+ghost use Rattle.plain_values.specs.inner.Stops.{StopsFor};
 ghost use Rattle.backward_slice.specs.Slices.{HasLargeSlice};
 ghost use Rattle.cutset_engine.specs.Families.{HasMinimalCutSets};
 ghost use Rattle.zdd_store.specs.Family.{is_within};

@@ -2,7 +2,7 @@
 
 ghost use Rattle.std.specs.Prelude.{◌≡◌, ℕ, List as Items, [], Contains, IfErr, IfOk, IsTrue, OnOk};
 ghost use Rattle.plain_values.specs.Order.{IsClear};
-ghost use Rattle.plain_values.specs.Stops.{StopsFor};
+ghost use Rattle.plain_values.specs.inner.Stops.{StopsFor};
 ghost use Rattle.backward_slice.specs.Slices.{HasLargeSlice, IsSlice};
 ghost use Rattle.round_gates.specs.Targets.{IsWellMade};
 ghost use Rattle.galileo_writer.specs.TreeText.{HasTextNames};

@@ -14,7 +14,7 @@ use Rattle.package_index.proofs.Loops.{numbered-more}
 use Rattle.component_extension.specs.declared.effective.Effective.{Effective}
 use Rattle.instantiator.specs.declared.path.Component.{Component}
 use Rattle.instantiator.specs.Effectives.{effective_at, effective_of, no_effective}
-use Rattle.plain_values.specs.Stops.{StopsAt}
+use Rattle.plain_values.specs.inner.Stops.{StopsAt}
 use Rattle.instantiator.specs.Whole.{classifier_at, effective_in}
 use Rattle.propagation_links.specs.declared.bound.BoundTo.{BoundTo}
 use Rattle.propagation_links.specs.declared.link.Link.{Link}

@@ -15,7 +15,7 @@ use Rattle.phases.specs.Phases.{tests}
 use Rattle.backward_slice.specs.Slices.{HasLargeSlice}
 use Rattle.system_answers.specs.Texts.{slice_of}
 use Rattle.phases.specs.Stopped.{status_of}
-use Rattle.plain_values.specs.Stops.{StopsFor}
+use Rattle.plain_values.specs.inner.Stops.{StopsFor}
 use Rattle.plain_values.specs.declared.refusal.Stop.{Stop}
 use Rattle.plain_values.specs.declared.refusal.Stop.TheVariants as stops
 use Rattle.plain_values.proofs.OrderLaws.{first_alone}

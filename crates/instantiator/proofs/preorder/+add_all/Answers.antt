@@ -1,7 +1,7 @@
 use Rattle.std.proofs.Common.{◌∙◌, ◌-◌, length, sym, subst}
 use Rattle.std.proofs.lemmas.List.{take_all}
 use Rattle.std.proofs.lemmas.Result.{err_from_is_err_and}
-use Rattle.plain_values.specs.Stops.{StopsAt}
+use Rattle.plain_values.specs.inner.Stops.{StopsAt}
 use Rattle.instantiator.specs.Refused.{first_refusal}
 use Rattle.instantiator.specs.Tables.{Grown}
 use Rattle.instantiator.proofs.PreorderLaws.{part-added, part-stops, stops-here, walked, whole}

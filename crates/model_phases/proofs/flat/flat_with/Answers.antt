@@ -3,7 +3,7 @@ use Rattle.std.proofs.lemmas.List.{length-map}
 use Rattle.phases.specs.Meets.{IsMemory}
 use Rattle.phases.specs.Stopped.{status_of}
 use Rattle.phases.proofs.Steps.{ends, exits}
-use Rattle.plain_values.specs.Stops.{StopsAt}
+use Rattle.plain_values.specs.inner.Stops.{StopsAt}
 use Rattle.fault_system.specs.Systems.{System}
 use Rattle.model_facts.specs.Assembly.{Assembly}
 use Rattle.model_facts.specs.Effects.{effects_of}

@@ -1,7 +1,7 @@
 use Rattle.std.proofs.Common.{◌<◌, IfErr, IfOk, length, sym, subst}
 use Rattle.std.proofs.lemmas.Result.{IfOk-weaker}
 use lib.ListN.{length-map}
-use Rattle.plain_values.specs.Stops.{StopsFor}
+use Rattle.plain_values.specs.inner.Stops.{StopsFor}
 use Rattle.fault_system.specs.Systems.{System}
 use Rattle.backward_slice.specs.Slices.{HasLargeSlice}
 use Rattle.zdd_store.specs.Store.{family_of}

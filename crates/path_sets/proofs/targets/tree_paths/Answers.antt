@@ -1,5 +1,5 @@
 use Rattle.std.proofs.Common.{IfErr, IfOk, subst}
-use Rattle.plain_values.specs.Stops.{StopsFor}
+use Rattle.plain_values.specs.inner.Stops.{StopsFor}
 use Rattle.fault_system.specs.Systems.{System}
 use Rattle.backward_slice.specs.Slices.{HasLargeSlice}
 use Rattle.zdd_store.specs.Store.{family_of}
