@@ -8,7 +8,8 @@ use Rattle.aadl_syntax.specs.declared.token.TokenKind.{TokenKind}
 use Rattle.aadl_syntax.specs.declared.token.TokenKind.TheVariants.{Word, Number, Text, Sign, AnnexBegin, AnnexRaw, AnnexEnd}
 use Rattle.aadl_syntax.specs.Form.{One, ◌followed_by◌, Repeated, Perhaps, IsWord, is_letter, is_digit, is_letter_or_digit}
 use Rattle.plain_values.specs.Name.{lower, folded}
-use Rattle.aadl_syntax.specs.Token.{IsTokenText, text_of}
+use Rattle.aadl_syntax.specs.Token.{text_of}
+use Rattle.aadl_syntax.specs.inner.Token.{IsTokenText}
 use Rattle.aadl_lexer.specs.Tokens.{IsForm}
 use Rattle.aadl_lexer.specs.Steps.{HasTokenText}
 

@@ -5,7 +5,8 @@ use Rattle.aadl_syntax.specs.declared.token.TokenKind.{TokenKind}
 use Rattle.aadl_syntax.specs.declared.token.TokenKind.TheVariants.{AnnexRaw}
 use Rattle.plain_values.specs.declared.refusal.Code.{Code}
 use Rattle.aadl_lexer.specs.Tokens.{Piece, IsRead, InAnnex, IsStuck, IsFirstEnd, annex_end}
-use Rattle.aadl_syntax.specs.Token.{IsTokenText, text_of, token_of}
+use Rattle.aadl_syntax.specs.Token.{text_of, token_of}
+use Rattle.aadl_syntax.specs.inner.Token.{IsTokenText}
 
 -- The first bytes of the text, so many, are a piece by the rule, and its tokens are added.
 pub record Takes (PieceRule : Piece → List ℕ → Type 0) (text : List ℕ) (old new : List Token) (len : ℕ) : Type 0 where

@@ -8,7 +8,7 @@ use Rattle.std.proofs.lemmas.Option.{get_or_from_slice_get, none-some, option_an
 use Rattle.std.proofs.lemmas.Slice.Eq.{bytes_eq-Decides}
 use Rattle.aadl_syntax.specs.Form.{Byte, One, Perhaps, ◌followed_by◌, is_letter, is_letter_or_digit}
 use Rattle.plain_values.specs.Order.{IsClear}
-use Rattle.aadl_syntax.specs.Token.{IsIdentifier}
+use Rattle.aadl_syntax.specs.inner.Token.{IsIdentifier}
 use Rattle.aadl_syntax.specs.declared.core_model.PackageUnit.{PackageUnit}
 use Rattle.aadl_syntax.specs.declared.error_model.TypeItem.{TypeItem}
 use Rattle.plain_values.specs.declared.refusal.Code.TheVariants.{DuplicateUnit}

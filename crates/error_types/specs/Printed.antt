@@ -2,7 +2,7 @@
 use Rattle.std.specs.Prelude.{◌≡◌, ℕ, List, ◌++◌, codes, flat_map, slice_get, Option, Some, option_and_then, option_map}
 use Rattle.std.specs.List.{AllByRecursion}
 use Rattle.plain_values.specs.Order.{IsClear}
-use Rattle.aadl_syntax.specs.Token.{IsIdentifier}
+use Rattle.aadl_syntax.specs.inner.Token.{IsIdentifier}
 use Rattle.aadl_syntax.specs.declared.core_model.PackageUnit.{PackageUnit}
 use Rattle.package_index.specs.Duplicates.{IsDuplicate}
 use Rattle.error_types.specs.declared.id.ItemId.{ItemId}

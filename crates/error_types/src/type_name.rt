@@ -1,6 +1,6 @@
 ghost use Rattle.std.specs.Prelude.{◌≡◌, ◌++◌, codes, flat_map, OnOk};
 ghost use Rattle.std.specs.List.{AllByRecursion};
-ghost use Rattle.aadl_syntax.specs.Token.{IsIdentifier};
+ghost use Rattle.aadl_syntax.specs.inner.Token.{IsIdentifier};
 ghost use Rattle.error_types.specs.Printed.{AreIdentifiers, printed};
 
 use aadl_syntax::{Identifier, PackageUnit, TypeItem};

@@ -1,7 +1,7 @@
 ghost use Rattle.std.specs.Prelude.{◌≡◌, ◌+◌, length, slice_get, IfOk, IfSome, IsTrue, map, bytes_eq};
 ghost use Rattle.std.specs.Option.{option_map};
 ghost use Rattle.aadl_syntax.specs.declared.token.TokenKind.TheVariants.{Word};
-ghost use Rattle.aadl_syntax.specs.Token.{IsTokenText, shown};
+ghost use Rattle.aadl_syntax.specs.inner.Token.{IsTokenText, shown};
 ghost use Rattle.std.specs.List.{list_any};
 ghost use Rattle.grammar_rules.specs.Reader.{Gives};
 ghost use Rattle.grammar_rules.specs.Tokens.{is_kind, is_word, is_sign, is_identifier, is_one_of, spot};

@@ -1,7 +1,7 @@
 ghost use Rattle.std.specs.Prelude.{◌≡◌, ℕ, [], ◌<◌, ◌&&◌, ◌||◌, length, take, drop, IfSome, MatchOption};
 ghost use Rattle.aadl_syntax.specs.declared.token.TokenKind.TheVariants.{AnnexEnd};
 ghost use Rattle.std.specs.Option.{option_map};
-ghost use Rattle.aadl_syntax.specs.Token.{shown};
+ghost use Rattle.aadl_syntax.specs.inner.Token.{shown};
 ghost use Rattle.grammar_rules.specs.Tokens.{is_kind};
 ghost use Rattle.grammar_rules.specs.Running.{spanned, read, dead, seen};
 ghost use Rattle.grammar_rules.specs.Reader.{Gives};
@@ -15,7 +15,7 @@ use aadl_syntax::{TokenKind, TokenRef, TokenSlice};
 pub trait Span {
     ghost use Rattle.std.specs.Prelude.{Option, Bool};
     ghost use Rattle.std.specs.Option.{option_map};
-    ghost use Rattle.aadl_syntax.specs.Token.{shown};
+    ghost use Rattle.aadl_syntax.specs.inner.Token.{shown};
     ghost use Rattle.aadl_syntax.specs.declared.token.Token.{Token};
 
     ghost stops: { Option Token → Token → Bool };

@@ -3,7 +3,7 @@ use Rattle.std.specs.Prelude.{◌≡◌, ◌≢◌, ◌==◌, ◌||◌, ℕ, Boo
 use Rattle.std.specs.List.{AllByRecursion, list_any}
 use Rattle.aadl_syntax.specs.Form.{is_letter_or_digit}
 use Rattle.plain_values.specs.Order.{IsClear}
-use Rattle.aadl_syntax.specs.Token.{IsIdentifier}
+use Rattle.aadl_syntax.specs.inner.Token.{IsIdentifier}
 use Rattle.aadl_syntax.specs.declared.core_model.PackageUnit.{PackageUnit}
 use Rattle.package_index.specs.declared.id.ClassifierId.{ClassifierId}
 use Rattle.package_index.specs.Duplicates.{IsDuplicate}

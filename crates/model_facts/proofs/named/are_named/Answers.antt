@@ -1,6 +1,6 @@
 use Rattle.std.proofs.Common.{ℕ, ◌≡◌, Result, Ok, Err, Some, OnOk, ap, ◌∙◌, subst}
 use Rattle.std.specs.List.{AllByRecursion}
-use Rattle.aadl_syntax.specs.Token.{IsIdentifier}
+use Rattle.aadl_syntax.specs.inner.Token.{IsIdentifier}
 use Rattle.error_types.specs.Libraries.{Table}
 use Rattle.error_types.specs.Printed.{AreIdentifiers, TypeName, name_of}
 use Rattle.instantiator.specs.Whole.{Instance}

@@ -3,7 +3,7 @@ use Rattle.std.specs.Prelude.{◌≡◌, ℕ, ◌+◌, ◌-◌, ◌<◌, ◌≤�
 use Rattle.std.specs.List.{AllByRecursion, between}
 use Rattle.aadl_syntax.specs.declared.token.Token.{Token}
 use Rattle.aadl_syntax.specs.declared.tokens.Mark.{Mark}
-use Rattle.aadl_syntax.specs.Token.{IsTokenText}
+use Rattle.aadl_syntax.specs.inner.Token.{IsTokenText}
 
 -- the text of a mark
 abbrev pub text_at : List ℕ → Mark → List ℕ
