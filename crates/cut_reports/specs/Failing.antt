@@ -1,7 +1,7 @@
 -- A report that fails as it is told.
 use Rattle.std.specs.Prelude.{ℕ, Bool, List, Option, None, nat_eq, if◌then◌else◌}
 use Rattle.std.specs.List.{list_any}
-use Rattle.fta_outside.specs.Memory.{one_more}
+use Rattle.fta_outside.specs.inner.Memory.{one_more}
 
 -- A report for tests: the numbers of the calls that fail, how many calls there were, how many of them failed, and for how many
 -- events it was begun.
