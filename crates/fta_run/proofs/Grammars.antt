@@ -12,9 +12,9 @@ use Rattle.plain_values.specs.declared.refusal.Stop.{Stop}
 use Rattle.plain_values.specs.declared.refusal.Stop.TheVariants as stop
 use Rattle.plain_values.specs.Refusal.{refusal}
 use Rattle.plain_values.specs.inner.Stops.{StopsFor}
-use Rattle.phases.specs.Meets.{IsMemory}
+use Rattle.phases.specs.inner.Meets.{IsMemory}
 use Rattle.phases.specs.Phases.{Stops, rejects}
-use Rattle.phases.specs.Stopped.{status_of}
+use Rattle.phases.specs.inner.Stopped.{status_of}
 use Rattle.phases.specs.declared.status.Status.TheVariants.{Refused}
 use Rattle.phases.proofs.Steps.{refused}
 use Rattle.grammar_rules.specs.Texts.{token_place}

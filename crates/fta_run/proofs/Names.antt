@@ -13,7 +13,7 @@ use Rattle.cutset_lister.specs.SetText.{HasTokenNames, IsTokenName}
 use Rattle.galileo_writer.specs.Galileo.{IsPlainName}
 use Rattle.fmea_rows.specs.Text.{HasFieldNames, IsPlainField}
 use Rattle.galileo_writer.specs.TreeText.{AreRates, HasTextNames}
-use Rattle.phases.specs.Meets.{Meets}
+use Rattle.phases.specs.inner.Meets.{Meets}
 use Rattle.phases.specs.Phases.{Passed}
 use Rattle.phases.specs.declared.status.Status.{Status}
 use Rattle.model_facts.specs.Laws.{IsPlain, Lacks}

@@ -11,7 +11,8 @@ use Rattle.fta_words.specs.declared.command.Paging.{Paging}
 use Rattle.model_phases.specs.Named.{IsPlainSystem}
 use Rattle.model_phases.proofs.Decided.{model_decided}
 use Rattle.grammar_rules.specs.Texts.{syntax_error}
-use Rattle.phases.specs.Phases.{IsDecided, IsDue, IsSameEnd, Passes, Phase}
+use Rattle.phases.specs.Phases.{IsDue, Passes, Phase}
+use Rattle.phases.specs.inner.Phases.{IsDecided, IsSameEnd}
 use Rattle.phases.specs.declared.status.Status.{Status}
 use Rattle.phases.specs.declared.status.Status.TheVariants.{Usage, Refused}
 use Rattle.phases.proofs.Leaves.{decided_answers, decided_computes, decided_finds, decided_rejects, decided_accepts, decided_tests}

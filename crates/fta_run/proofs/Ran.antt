@@ -6,7 +6,8 @@ use Rattle.plain_values.specs.declared.refusal.Code.TheVariants.{TooManyFiles}
 use Rattle.plain_values.specs.declared.refusal.Refusal.{Refusal}
 use Rattle.plain_values.specs.Order.{IsFirst}
 use Rattle.plain_values.specs.declared.name.Root.{Root}
-use Rattle.phases.specs.Phases.{Phase, Passes, Stops, yields, tells, chains, finds, IsDue, IsRefusal, IsSameEnd}
+use Rattle.phases.specs.Phases.{Phase, Passes, Stops, yields, tells, chains, finds, IsDue, IsRefusal}
+use Rattle.phases.specs.inner.Phases.{IsSameEnd}
 use Rattle.phases.specs.declared.status.Status.{Status}
 use Rattle.phases.specs.declared.status.Status.TheVariants.{Done, Usage, Refused, Constant, StaleToken, ReadFault, WriteFault, ReportFault, Memory}
 use Rattle.phases.proofs.Endings.{StopsOnly, stops_only}

@@ -1,7 +1,7 @@
 ghost use Rattle.std.specs.Prelude.{◌≡◌, ◌<◌, ◌≤◌, ℕ, false, List, IfOk, IsErrOf, Result, Err, length, map, vec_len};
 ghost use Rattle.fta_outside.specs.Outside.{Rose, TookPrefix, with_bytes};
 ghost use Rattle.phases.specs.Phases.{IsDue};
-ghost use Rattle.phases.specs.Meets.{Meets, MeetsBut};
+ghost use Rattle.phases.specs.inner.Meets.{Meets, MeetsBut};
 ghost use Rattle.phases.specs.declared.status.Status.{Status as AnyStatus};
 ghost use Rattle.phases.specs.declared.status.Status.TheVariants.{Refused, Memory};
 ghost use Rattle.plain_values.specs.declared.refusal.Code.TheVariants.{TooManyFiles};

@@ -6,7 +6,7 @@ ghost use Rattle.plain_values.specs.Order.{IsFirst, least, nearer};
 ghost use Rattle.plain_values.specs.inner.Stops.{StopsFor};
 ghost use Rattle.aadl_lexer.specs.Tokens.{IsFault, RefusedAs, Tokens};
 ghost use Rattle.aadl_parser.specs.Files.{IsUnread};
-ghost use Rattle.phases.specs.Meets.{Meets, MeetsBut};
+ghost use Rattle.phases.specs.inner.Meets.{Meets, MeetsBut};
 ghost use Rattle.phases.specs.Phases.{answers, rejects};
 ghost use Rattle.fta_run.specs.Due.{first_text, other_texts, texts_of, units_of, within_limits};
 ghost use Rattle.fta_run.specs.Files.{AreTokens, AreUnits, AreUnitsOf, HasTooLong, HasTooMuch, LacksTokens, LacksUnits, most_bytes, most_files, most_text, too_long, too_long_from};

@@ -1,4 +1,4 @@
-ghost use Rattle.phases.specs.Meets.{IsMemory, MeetsBut};
+ghost use Rattle.phases.specs.inner.Meets.{IsMemory, MeetsBut};
 ghost use Rattle.phases.specs.Phases.{finds};
 ghost use Rattle.phases.specs.declared.status.Status.TheVariants.{Usage};
 ghost use Rattle.fta_words.specs.Shown.{command_shown};

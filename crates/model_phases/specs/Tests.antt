@@ -1,7 +1,7 @@
 -- What a function promises that does a phase of tests.
 use Rattle.std.specs.Prelude.{◌≡◌, Option, Some, Result}
 use Rattle.plain_values.specs.declared.refusal.Refusal.{Refusal}
-use Rattle.phases.specs.Meets.{IsMemory, MeetsBut}
+use Rattle.phases.specs.inner.Meets.{IsMemory, MeetsBut}
 use Rattle.phases.specs.Phases.{Phase}
 use Rattle.phases.specs.declared.status.Status.{Status}
 

@@ -1,5 +1,5 @@
 ghost use Rattle.std.specs.Prelude.{◌≡◌, IfOk};
-ghost use Rattle.phases.specs.Meets.{Meets};
+ghost use Rattle.phases.specs.inner.Meets.{Meets};
 ghost use Rattle.phases.specs.Phases.{tests};
 ghost use Rattle.instantiator.specs.Refused.{instance_refusal};
 ghost use Rattle.instantiator.specs.Whole.{instance_of};

@@ -16,7 +16,7 @@ use Rattle.fault_system.proofs.Elements.{In-contains, contains_In}
 use Rattle.fault_system.proofs.Orders.{one_order}
 use Rattle.backward_slice.specs.Slices.{HasLargeSlice, IsServed}
 use Rattle.backward_slice.proofs.OneSlice.{one_large, one_served, served_or_large}
-use Rattle.phases.specs.Phases.{IsDecided, IsDecidedStep}
+use Rattle.phases.specs.inner.Phases.{IsDecided, IsDecidedStep}
 use Rattle.phases.specs.declared.status.Status.{Status}
 use Rattle.phases.specs.declared.status.Status.TheVariants.{Refused, Constant}
 use Rattle.page_tokens.proofs.Once.{page_start_decided}

@@ -15,7 +15,8 @@ use Rattle.derivations.specs.Text.{AreLineNames, IsBadAt, IsTextOf, event_names,
 use Rattle.derivations.proofs.OneDerivation.{long-text, one-bad, one-derivation, one-reading, read-or-bad}
 use Rattle.derivations.proofs.Sound.{good-holds}
 use Rattle.derivations.proofs.WhyText.{confirmed-text}
-use Rattle.phases.specs.Phases.{IsDecided, Passes}
+use Rattle.phases.specs.Phases.{Passes}
+use Rattle.phases.specs.inner.Phases.{IsDecided}
 use Rattle.phases.specs.declared.status.Status.{Status}
 use Rattle.phases.specs.declared.status.Status.TheVariants.{Refused}
 use Rattle.phases.proofs.Leaves.{decided_rejects}

@@ -10,11 +10,11 @@ use Rattle.cutset_writer.specs.Pages.{Lists}
 use Rattle.fault_system.specs.Systems.{IsSystem}
 use Rattle.path_sets.specs.PathSets.{HasLargePaths, HasMinimalPathSets, IsPathListing}
 use Rattle.path_sets.proofs.Listings.{one-refusal}
-use Rattle.phases.specs.Meets.{IsMemory, StopsBut}
+use Rattle.phases.specs.inner.Meets.{IsMemory, StopsBut}
 use Rattle.phases.specs.Phases.{tests}
 use Rattle.backward_slice.specs.Slices.{HasLargeSlice}
 use Rattle.system_answers.specs.Texts.{slice_of}
-use Rattle.phases.specs.Stopped.{status_of}
+use Rattle.phases.specs.inner.Stopped.{status_of}
 use Rattle.plain_values.specs.inner.Stops.{StopsFor}
 use Rattle.plain_values.specs.declared.refusal.Stop.{Stop}
 use Rattle.plain_values.specs.declared.refusal.Stop.TheVariants as stops

@@ -4,10 +4,10 @@ use Rattle.std.specs.Prelude.{IsErrAnd}
 use Rattle.std.proofs.lemmas.Result.{err_from_is_err_and}
 use Rattle.fta_outside.specs.Outside.{Rose, TookPrefix}
 use Rattle.fta_outside.proofs.Writing.{with_bytes-nil}
-use Rattle.phases.specs.Meets.{IsMemory}
+use Rattle.phases.specs.inner.Meets.{IsMemory}
 use Rattle.phases.specs.Phases.{Phase, Passes, Stops, chains}
 use Rattle.phases.specs.declared.status.Status.{Status}
-use Rattle.phases.specs.Stopped.{status_of_write}
+use Rattle.phases.specs.inner.Stopped.{status_of_write}
 use Rattle.fta_outside.specs.declared.error.WriteError.{WriteError}
 use Rattle.fta_outside.specs.declared.error.WriteError.TheVariants.{Failed, Memory}
 use Rattle.phases.proofs.Steps.{◌passes◌}

@@ -1,7 +1,7 @@
 //! A page of the minimal cut sets of a target.
 
 ghost use Rattle.std.specs.Prelude.{◌≡◌, ◌<◌, IfErr, IfOk, IfSome, IsErrOf, Some, OnErr, OnOk, length, option_map};
-ghost use Rattle.phases.specs.Meets.{Meets};
+ghost use Rattle.phases.specs.inner.Meets.{Meets};
 ghost use Rattle.phases.specs.declared.status.Status.TheVariants as any_status;
 ghost use Rattle.fta_outside.specs.Outside.{Rose, TookPrefix, with_bytes};
 ghost use Rattle.fault_system.specs.CutSets.{IsEventSet};

@@ -1,7 +1,7 @@
 //! The minimal cut sets and the minimal path sets of a tree in Galileo text.
 
 ghost use Rattle.std.specs.Prelude.{◌≡◌, ◌≤◌, IfOk, length};
-ghost use Rattle.phases.specs.Meets.{Meets};
+ghost use Rattle.phases.specs.inner.Meets.{Meets};
 ghost use Rattle.galileo_reader.specs.TreeSystems.{system_of};
 ghost use Rattle.galileo_reader.specs.Trees.{IsNamedTree};
 ghost use Rattle.path_sets.specs.Duals.{IsWithoutFeedback};

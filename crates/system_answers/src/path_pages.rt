@@ -1,7 +1,7 @@
 //! A page of the minimal path sets of a target.
 
 ghost use Rattle.std.specs.Prelude.{◌≡◌, ◌<◌, IfErr, IfOk, OnOk, length};
-ghost use Rattle.phases.specs.Meets.{IsMemory, StopsBut};
+ghost use Rattle.phases.specs.inner.Meets.{IsMemory, StopsBut};
 ghost use Rattle.phases.specs.Phases.{tests};
 ghost use Rattle.plain_values.specs.Order.{IsClear};
 ghost use Rattle.backward_slice.specs.Slices.{IsServed, IsSlice};

@@ -1,7 +1,7 @@
 //! The tree of a target.
 
 ghost use Rattle.std.specs.Prelude.{◌≡◌, ℕ, List, IfErr, IfOk, IsErrOf, OnErr, OnOk};
-ghost use Rattle.phases.specs.Meets.{StopsBut, IsMemory};
+ghost use Rattle.phases.specs.inner.Meets.{StopsBut, IsMemory};
 ghost use Rattle.fta_outside.specs.Outside.{Rose, TookPrefix, with_bytes};
 ghost use Rattle.backward_slice.specs.Slices.{IsSlice};
 ghost use Rattle.galileo_writer.specs.TreeText.{AreRates, HasTextNames, tree_text};

@@ -1,5 +1,5 @@
 use Rattle.std.proofs.Common.{inl, subst}
-use Rattle.phases.specs.Meets.{Meets}
+use Rattle.phases.specs.inner.Meets.{Meets}
 use Rattle.phases.proofs.Steps.{ends, exits, meets_later}
 use Rattle.fta_run.specs.Due.{model_of_texts, texts_of}
 use Rattle.fta_run.specs.Steps.{IsReadEnd}

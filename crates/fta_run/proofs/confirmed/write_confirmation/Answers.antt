@@ -1,5 +1,5 @@
 use Rattle.std.proofs.Common.{List, ℕ, ◌⊎◌, inl, inr, subst}
-use Rattle.phases.specs.Meets.{IsMemory}
+use Rattle.phases.specs.inner.Meets.{IsMemory}
 use Rattle.phases.specs.Phases.{Passes, Stops}
 use Rattle.model_phases.specs.declared.flat.FlatModel.{FlatModel}
 use Rattle.fta_run.specs.Due.{confirmed_in, first_text, model_of_texts, other_texts}

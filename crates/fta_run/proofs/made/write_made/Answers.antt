@@ -1,5 +1,5 @@
 use Rattle.std.proofs.Common.{◌∷◌, ◌⊎◌, [], subst}
-use Rattle.phases.specs.Meets.{IsMemory}
+use Rattle.phases.specs.inner.Meets.{IsMemory}
 use Rattle.phases.specs.Phases.{Passes, Stops, chains}
 use Rattle.phases.proofs.Steps.{◌beyond◌, ends}
 use Rattle.fta_run.specs.Due.{made_model_text, made_root, model_of_texts, sized_text, within_limits}

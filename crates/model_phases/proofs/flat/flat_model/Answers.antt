@@ -1,4 +1,4 @@
-use Rattle.phases.specs.Meets.{IsMemory}
+use Rattle.phases.specs.inner.Meets.{IsMemory}
 use Rattle.phases.proofs.Steps.{◌beyond◌, ends, exits}
 use Rattle.model_phases.specs.declared.flat.FlatModel.{FlatModel}
 use Rattle.model_phases.specs.Phases.{flat_model}

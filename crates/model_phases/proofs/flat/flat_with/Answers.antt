@@ -1,7 +1,7 @@
 use Rattle.std.proofs.Common.{◌≡◌, length, map, ap, sym, ◌∙◌, subst}
 use Rattle.std.proofs.lemmas.List.{length-map}
-use Rattle.phases.specs.Meets.{IsMemory}
-use Rattle.phases.specs.Stopped.{status_of}
+use Rattle.phases.specs.inner.Meets.{IsMemory}
+use Rattle.phases.specs.inner.Stopped.{status_of}
 use Rattle.phases.proofs.Steps.{ends, exits}
 use Rattle.plain_values.specs.inner.Stops.{StopsAt}
 use Rattle.fault_system.specs.Systems.{System}

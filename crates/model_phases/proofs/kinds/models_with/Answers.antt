@@ -1,5 +1,5 @@
 use Rattle.std.proofs.Common.{subst}
-use Rattle.phases.specs.Stopped.{status_of}
+use Rattle.phases.specs.inner.Stopped.{status_of}
 use Rattle.phases.proofs.Steps.{◌beyond◌}
 use Rattle.plain_values.specs.inner.Stops.{StopsAt}
 use Rattle.error_types.specs.Libraries.{Table}

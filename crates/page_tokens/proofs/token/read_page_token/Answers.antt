@@ -1,4 +1,4 @@
-use Rattle.phases.specs.Meets.{IsMemory}
+use Rattle.phases.specs.inner.Meets.{IsMemory}
 use Rattle.phases.specs.Phases.{chains}
 use Rattle.phases.proofs.Steps.{◌beyond◌, ends, exits, meets_later}
 use Rattle.page_tokens.specs.Shown.{said}
