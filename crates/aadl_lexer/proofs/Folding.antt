@@ -11,7 +11,7 @@ use Rattle.plain_values.specs.Name.{lower, folded}
 use Rattle.aadl_syntax.specs.Token.{text_of}
 use Rattle.aadl_syntax.specs.inner.Token.{IsTokenText}
 use Rattle.aadl_lexer.specs.Tokens.{IsForm}
-use Rattle.aadl_lexer.specs.Steps.{HasTokenText}
+use Rattle.aadl_lexer.specs.inner.Steps.{HasTokenText}
 
 and_both : (a b : Bool) → (a && b) ≡ true → (a ≡ true) × (b ≡ true)
 and_both true b e = (refl, e)
