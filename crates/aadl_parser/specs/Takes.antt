@@ -2,7 +2,7 @@
 use Rattle.std.specs.Prelude.{ℕ, List}
 use Rattle.aadl_syntax.specs.declared.core_model.Decl.{Decl}
 use Rattle.aadl_syntax.specs.declared.core_model.PackageUnit.{PackageUnit}
-use Rattle.grammar_rules.specs.Parts.{TakesTokens}
+use Rattle.grammar_rules.specs.inner.Parts.{TakesTokens}
 use Rattle.grammar_rules.proofs.Takes.{takes_takes, takes_first, takes_after, takes_either, word_takes, sign_takes, identifier_takes}
 use Rattle.aadl_parser.specs.Words.{any_of}
 use Rattle.aadl_parser.specs.Names.{core_name, further_name, further_names, dotted_name, with_packages, category, grouped_category, virtual_category}

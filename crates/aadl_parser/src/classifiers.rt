@@ -1,5 +1,5 @@
 ghost use Rattle.std.specs.Prelude.{◌≡◌, [], ◌∷◌, Some, None};
-ghost use Rattle.grammar_rules.specs.Reader.{Gives, given};
+ghost use Rattle.grammar_rules.specs.inner.Reader.{Gives, given};
 ghost use Rattle.grammar_rules.specs.Tokens.{is_one_of};
 ghost use Rattle.aadl_parser.specs.Words.{section_words};
 ghost use Rattle.aadl_parser.specs.Classifiers.{features_section, subcomponents_section, connections_section, annex_section, prototypes_at};

@@ -1,5 +1,5 @@
 ghost use Rattle.std.specs.Prelude.{[], ◌∷◌, codes};
-ghost use Rattle.grammar_rules.specs.Reader.{Gives, given};
+ghost use Rattle.grammar_rules.specs.inner.Reader.{Gives, given};
 ghost use Rattle.grammar_rules.specs.Rules.{gives, joins, chooses};
 ghost use Rattle.grammar_rules.specs.Parts.{parts_after};
 ghost use Rattle.grammar_rules.specs.Tokens.{word, sign, is_word};

@@ -1,5 +1,5 @@
 ghost use Rattle.std.specs.Prelude.{◌≡◌, ◌<◌, [], ◌∷◌, codes, IfOk, MatchOption};
-ghost use Rattle.grammar_rules.specs.Reader.{Gives, given};
+ghost use Rattle.grammar_rules.specs.inner.Reader.{Gives, given};
 ghost use Rattle.grammar_rules.specs.Tokens.{is_sign};
 ghost use Rattle.aadl_parser.specs.Words.{is_name};
 ghost use Rattle.aadl_parser.specs.Names.{further_name, names_after, names, two_names, last_name, dotted_name, optional_item, reference, further_names, with_packages, grouped_category, virtual_category, category};

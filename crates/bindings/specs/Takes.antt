@@ -1,5 +1,5 @@
 -- The further parts of a binding take at least one token.
-use Rattle.grammar_rules.specs.Parts.{TakesTokens}
+use Rattle.grammar_rules.specs.inner.Parts.{TakesTokens}
 use Rattle.grammar_rules.proofs.Takes.{takes_first, sign_takes}
 use Rattle.bindings.specs.Bindings.{dotted_name, further_path, further_reference}
 

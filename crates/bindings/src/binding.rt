@@ -1,5 +1,5 @@
 ghost use Rattle.std.specs.Prelude.{◌≡◌, ◌++◌, [], ◌∷◌, IfOk, OnOk};
-ghost use Rattle.grammar_rules.specs.Reader.{Gives};
+ghost use Rattle.grammar_rules.specs.inner.Reader.{Gives};
 ghost use Rattle.bindings.specs.Bindings.{binding, binding_name, binding_word, binding_end, bindings_in, dotted_name, further_path, further_reference, path, piece_binding, reference, reference_list, references, targets};
 
 use crate::piece::section_pieces;

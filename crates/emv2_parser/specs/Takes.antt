@@ -2,7 +2,7 @@
 use Rattle.std.specs.Prelude.{ℕ, List}
 use Rattle.aadl_syntax.specs.declared.place.Ref.{Ref}
 use Rattle.grammar_rules.specs.Rules.{Rule}
-use Rattle.grammar_rules.specs.Parts.{TakesTokens}
+use Rattle.grammar_rules.specs.inner.Parts.{TakesTokens}
 use Rattle.grammar_rules.proofs.Takes.{takes_first, takes_after, takes_either, word_takes, sign_takes, identifier_takes, one_of_takes}
 use Rattle.aadl_syntax.specs.declared.error_model.Condition.{Condition}
 use Rattle.emv2_parser.specs.declared.properties.TargetPath.{TargetPath}

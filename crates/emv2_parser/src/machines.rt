@@ -1,5 +1,5 @@
 ghost use Rattle.std.specs.Prelude.{◌≡◌, [], ◌∷◌, codes};
-ghost use Rattle.grammar_rules.specs.Reader.{Gives, given};
+ghost use Rattle.grammar_rules.specs.inner.Reader.{Gives, given};
 ghost use Rattle.grammar_rules.specs.Tokens.{is_sign, is_one_of};
 ghost use Rattle.emv2_parser.specs.Words.{is_name, begins_source, machine_words};
 ghost use Rattle.emv2_parser.specs.Machines.{error_event, recovery_kind, recovery_event, event_words, event, events_after, initial};

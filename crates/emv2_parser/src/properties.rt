@@ -1,5 +1,5 @@
 ghost use Rattle.std.specs.Prelude.{◌≡◌, [], ◌∷◌, ◌||◌, IfOk, codes};
-ghost use Rattle.grammar_rules.specs.Reader.{Gives, Begins, given};
+ghost use Rattle.grammar_rules.specs.inner.Reader.{Gives, Begins, given};
 ghost use Rattle.grammar_rules.specs.Spans.{closes};
 ghost use Rattle.aadl_syntax.specs.inner.Token.{shown};
 ghost use Rattle.grammar_rules.specs.Tokens.{is_sign, is_word};

@@ -1,5 +1,5 @@
 ghost use Rattle.std.specs.Prelude.{◌≡◌, [], ◌∷◌, codes};
-ghost use Rattle.grammar_rules.specs.Reader.{Gives};
+ghost use Rattle.grammar_rules.specs.inner.Reader.{Gives};
 ghost use Rattle.grammar_rules.specs.Tokens.{is_word};
 ghost use Rattle.emv2_parser.specs.Words.{is_name};
 ghost use Rattle.emv2_parser.specs.Names.{use_types_after};

@@ -1,5 +1,5 @@
 -- A field takes at least one token.
-use Rattle.grammar_rules.specs.Parts.{TakesTokens}
+use Rattle.grammar_rules.specs.inner.Parts.{TakesTokens}
 use Rattle.grammar_rules.proofs.Takes.{takes_first, identifier_takes}
 use Rattle.property_reader.specs.Fields.{field}
 

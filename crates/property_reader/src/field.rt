@@ -1,5 +1,5 @@
 ghost use Rattle.std.specs.Prelude.{◌≡◌, [], ◌∷◌, IfOk};
-ghost use Rattle.grammar_rules.specs.Reader.{Gives, Begins};
+ghost use Rattle.grammar_rules.specs.inner.Reader.{Gives, Begins};
 ghost use Rattle.grammar_rules.specs.Tokens.{is_identifier};
 ghost use Rattle.property_reader.specs.Fields.{field, fields, rate_value, value_fields};
 

@@ -9,7 +9,8 @@ use Rattle.std.proofs.Common.{ap, arith}
 use Rattle.aadl_syntax.specs.declared.token.TokenKind.TheVariants.{AnnexBegin, AnnexEnd}
 use Rattle.grammar_rules.specs.Rules.{Rule, gives, chooses, ◌>>=◌}
 use Rattle.grammar_rules.specs.Tokens.{is_word, is_sign, is_identifier, kind, word, sign, identifier}
-use Rattle.grammar_rules.specs.Parts.{TakesTokens, parts_after}
+use Rattle.grammar_rules.specs.Parts.{parts_after}
+use Rattle.grammar_rules.specs.inner.Parts.{TakesTokens}
 use Rattle.grammar_rules.specs.Spans.{until, ends_balanced, ends_tail, ends_to_end}
 
 unfoldable pub reserved : List (List ℕ)

@@ -1,7 +1,7 @@
 //! A table of small texts by the sample grammar: what each gives, or its dead place.
 
 ghost use Rattle.std.specs.Prelude.{[], ◌∷◌, codes};
-ghost use Rattle.grammar_rules.specs.Reader.{Gives, Begins};
+ghost use Rattle.grammar_rules.specs.inner.Reader.{Gives, Begins};
 ghost use Rattle.grammar_rules.specs.Tokens.{is_identifier, is_sign};
 ghost use Rattle.text_tests.specs.Sample.{reserved, name, further_name, further_name-takes, uses, dotted, item, skipped, annexed, sample};
 
