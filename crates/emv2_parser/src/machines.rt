@@ -9,7 +9,7 @@ ghost use Rattle.emv2_parser.specs.Machines.{transition_effect, transition, tran
 ghost use Rattle.emv2_parser.specs.Machines.{machine_uses, machine_transforms, machine_events, machine_states, machine_transitions};
 ghost use Rattle.emv2_parser.specs.Machines.{machine_properties, machine_use, machine_other, machine_block, machine_blocks};
 ghost use Rattle.emv2_parser.specs.Machines.{machine_extends, machine_head, machine};
-ghost use Rattle.emv2_parser.specs.Takes.{event-takes, state-takes, transition-takes, further_branch-takes, machine_block-takes};
+ghost use Rattle.emv2_parser.specs.inner.Takes.{event-takes, state-takes, transition-takes, further_branch-takes, machine_block-takes};
 
 use crate::conditions::whole_condition;
 use crate::names::{
