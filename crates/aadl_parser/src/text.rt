@@ -9,7 +9,8 @@ ghost use Rattle.grammar_rules.specs.Rules.{Reads};
 ghost use Rattle.grammar_rules.specs.Texts.{token_place};
 ghost use Rattle.aadl_parser.specs.Packages.{file_units};
 ghost use Rattle.aadl_parser.specs.Nesting.{IsShallow, NestedAt};
-ghost use Rattle.aadl_parser.specs.Files.{too_nested, IsUnread};
+ghost use Rattle.aadl_parser.specs.Files.{too_nested};
+ghost use Rattle.aadl_parser.specs.inner.Files.{IsUnread};
 
 use crate::nesting::{NESTING_LIMIT, too_nested_at};
 use crate::packages::file_units;

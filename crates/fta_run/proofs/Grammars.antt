@@ -20,7 +20,8 @@ use Rattle.phases.proofs.Steps.{refused}
 use Rattle.grammar_rules.specs.Texts.{token_place}
 use Rattle.aadl_parser.specs.Packages.{file_units}
 use Rattle.aadl_parser.specs.Nesting.{NestedAt}
-use Rattle.aadl_parser.specs.Files.{IsSyntaxError, IsTooNested, IsUnread, too_nested}
+use Rattle.aadl_parser.specs.Files.{IsSyntaxError, IsTooNested, too_nested}
+use Rattle.aadl_parser.specs.inner.Files.{IsUnread}
 use Rattle.fta_run.specs.Files.{AreUnits, AreUnitsOf, HaveUnits, LacksUnits}
 use Rattle.fta_run.specs.Answers.{IsSameStatus}
 

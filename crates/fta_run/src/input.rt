@@ -5,7 +5,7 @@ ghost use Rattle.plain_values.specs.declared.refusal.Stop.TheVariants.{Refused};
 ghost use Rattle.plain_values.specs.Order.{IsFirst, least, nearer};
 ghost use Rattle.plain_values.specs.inner.Stops.{StopsFor};
 ghost use Rattle.aadl_lexer.specs.Tokens.{IsFault, RefusedAs, Tokens};
-ghost use Rattle.aadl_parser.specs.Files.{IsUnread};
+ghost use Rattle.aadl_parser.specs.inner.Files.{IsUnread};
 ghost use Rattle.phases.specs.inner.Meets.{Meets, MeetsBut};
 ghost use Rattle.phases.specs.Phases.{answers, rejects};
 ghost use Rattle.fta_run.specs.Due.{first_text, other_texts, texts_of, units_of, within_limits};
