@@ -8,7 +8,8 @@ use Rattle.std.proofs.lemmas.Option.{slice_get-get_or, slice_get_cases, slice_ge
 use Rattle.plain_values.specs.Rising.{RisesWithin}
 use Rattle.fault_system.specs.Truth.{NumberSet, Has, set_of, truth, occurs, occurs_event}
 use Rattle.fault_system.specs.Systems.{System, IsSystem}
-use Rattle.fault_system.specs.Rounds.{AreRounds, FitsTime, time_of, within}
+use Rattle.fault_system.specs.Rounds.{AreRounds, time_of}
+use Rattle.fault_system.specs.inner.Rounds.{FitsTime, within}
 use Rattle.fault_system.specs.declared.formula.FactInfo.{FactInfo}
 use Rattle.fault_system.specs.declared.formula.Formula.{Formula}
 use Rattle.fault_system.proofs.NumberSets.{list_all-made}

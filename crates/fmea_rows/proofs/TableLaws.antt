@@ -8,7 +8,8 @@ use Rattle.plain_values.specs.Rising.{RisesWithin}
 use Rattle.fault_system.specs.Truth.{NumberSet, Has, member, set_of}
 use Rattle.fault_system.specs.Systems.{System}
 use Rattle.fault_system.specs.CutSets.{IsSubset, makes_hold}
-use Rattle.fault_system.specs.Rounds.{FitsFact, IsChecked, IsRoundOf, IsTable, no_event, only, time_of}
+use Rattle.fault_system.specs.Rounds.{IsRoundOf, no_event, only, time_of}
+use Rattle.fault_system.specs.inner.Rounds.{FitsFact, IsChecked, IsTable}
 use Rattle.fault_system.proofs.Elements.{In, In-filter}
 use Rattle.fault_system.proofs.HoldsLaws.{holds_of-exact}
 use Rattle.fault_system.proofs.NumberSets.{RisesWithin-at, RisesWithin-filter, same_rising, same_set, set_of-filter}

@@ -4,7 +4,8 @@ use Rattle.std.specs.List.{flat_map}
 use Rattle.plain_values.specs.Rising.{RisesWithin}
 use Rattle.fault_system.specs.Truth.{NumberSet, Has, member, occurs, occurs_event, set_of}
 use Rattle.fault_system.specs.Systems.{System, IsFact}
-use Rattle.fault_system.specs.Rounds.{FitsFact, IsTable, no_event, only, time_of}
+use Rattle.fault_system.specs.Rounds.{no_event, only, time_of}
+use Rattle.fault_system.specs.inner.Rounds.{FitsFact, IsTable}
 use Rattle.fault_system.specs.declared.formula.FactInfo.{FactInfo}
 use Rattle.fmea_rows.specs.declared.row.Row.{Row}
 use Rattle.fmea_rows.specs.declared.change.Change.{Change}

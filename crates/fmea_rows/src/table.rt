@@ -7,7 +7,8 @@
 ghost use Rattle.std.specs.Prelude.{◌≡◌, ◌≤◌, ◌<◌, ◌+◌, ◌^◌, ◌++◌, ℕ, IfOk, IsTrue, OnOk, length, map, slice_index_or, replicate};
 ghost use Rattle.plain_values.specs.Rising.{RisesWithin};
 ghost use Rattle.fault_system.specs.Truth.{member};
-ghost use Rattle.fault_system.specs.Rounds.{IsTable, no_event, only, time_of};
+ghost use Rattle.fault_system.specs.Rounds.{no_event, only, time_of};
+ghost use Rattle.fault_system.specs.inner.Rounds.{IsTable};
 ghost use Rattle.fmea_rows.specs.Rows.{AreRows, event_rows, rows_of};
 ghost use Rattle.fmea_rows.specs.Tables.{AreUsers, IsBetween, IsKnown, IsRight, changed_rows, is_new, table_rows};
 

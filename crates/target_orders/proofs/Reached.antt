@@ -7,7 +7,7 @@ use Rattle.plain_values.proofs.Rising.{rises-push}
 use Rattle.fault_system.specs.Truth.{NumberSet, Has, set_of}
 use Rattle.fault_system.specs.Systems.{System, Holds}
 use Rattle.fault_system.specs.CutSets.{IsCutSet, IsEventSet}
-use Rattle.fault_system.specs.Listings.{listing}
+use Rattle.fault_system.specs.inner.Listings.{listing}
 use Rattle.fault_system.proofs.CutSetLaws.{Holds-grows}
 use Rattle.fault_system.proofs.ListingLaws.{covers, length_rising, listing-exact}
 use Rattle.fault_system.proofs.NumberSets.{RisesWithin-at, contained-in_set}
