@@ -167,7 +167,7 @@ impl Parts for DottedNames {
     ghost use Rattle.std.specs.Prelude.{[], ◌∷◌, codes};
     ghost use Rattle.grammar_rules.specs.Tokens.{is_sign};
     ghost use Rattle.bindings.specs.Bindings.{dotted_name};
-    ghost use Rattle.bindings.specs.Takes.{dotted_name-takes};
+    ghost use Rattle.bindings.specs.inner.Takes.{dotted_name-takes};
 
     type Part = Identifier;
 
@@ -193,7 +193,7 @@ impl Parts for FurtherPaths {
     ghost use Rattle.std.specs.Prelude.{[], ◌∷◌, codes};
     ghost use Rattle.grammar_rules.specs.Tokens.{is_sign};
     ghost use Rattle.bindings.specs.Bindings.{further_path};
-    ghost use Rattle.bindings.specs.Takes.{further_path-takes};
+    ghost use Rattle.bindings.specs.inner.Takes.{further_path-takes};
 
     type Part = List<Identifier>;
 
@@ -219,7 +219,7 @@ impl Parts for FurtherReferences {
     ghost use Rattle.std.specs.Prelude.{[], ◌∷◌, codes};
     ghost use Rattle.grammar_rules.specs.Tokens.{is_sign};
     ghost use Rattle.bindings.specs.Bindings.{further_reference};
-    ghost use Rattle.bindings.specs.Takes.{further_reference-takes};
+    ghost use Rattle.bindings.specs.inner.Takes.{further_reference-takes};
 
     type Part = List<Identifier>;
 
