@@ -1,7 +1,8 @@
 -- Rows that go by a key: a later row takes the place of an earlier one of its key (AS5506: refinement).
 use Rattle.std.specs.Prelude.{◌≡◌, ℕ, Bool, false, ◌&&◌, List, ◌∷◌, [], ◌++◌, Option, Some, None, option_and_then, position, slice_get, slice_set}
 use Rattle.std.specs.Bool.{beq}
-use Rattle.package_index.specs.Names.{is_same_name, names_of}
+use Rattle.package_index.specs.Names.{is_same_name}
+use Rattle.package_index.specs.inner.Names.{names_of}
 use Rattle.package_index.specs.declared.words.Words.{Words}
 
 -- By what a row goes: its name, or of a propagation the names of its point, its direction and whether it is a `not`.

@@ -21,7 +21,7 @@ impl Model for Walked {
     ghost use Rattle.std.specs.HashMap.{get};
     ghost use Rattle.package_index.specs.declared.id.ClassifierId.{ClassifierId};
     ghost use Rattle.component_extension.specs.Chain.{is_among};
-    ghost use Rattle.package_index.specs.Tables.{same_pair};
+    ghost use Rattle.package_index.specs.inner.Tables.{same_pair};
 
     ghost Value = { List ClassifierId };
 

@@ -5,7 +5,7 @@ ghost use Rattle.plain_values.specs.Order.{least, nearer};
 ghost use Rattle.plain_values.specs.declared.refusal.Code.TheVariants.{DuplicateName};
 ghost use Rattle.std.specs.List.{list_any};
 ghost use Rattle.component_extension.specs.Members.{KnowsMarks, comes_before, duplicates, is_before, is_earlier, mark_of, marks_of};
-ghost use Rattle.package_index.specs.Tables.{same_text};
+ghost use Rattle.package_index.specs.inner.Tables.{same_text};
 
 use crate::declaration::{Declaration, PlainName};
 use crate::member::MemberKind;
@@ -54,7 +54,7 @@ impl<'a> Model for PlainNames<'a> {
     ghost use Rattle.std.specs.Prelude.{List};
     ghost use Rattle.std.specs.HashMap.{get};
     ghost use Rattle.component_extension.specs.Members.{KnowsMarks, Mark};
-    ghost use Rattle.package_index.specs.Tables.{same_text};
+    ghost use Rattle.package_index.specs.inner.Tables.{same_text};
 
     ghost Value = { List Mark };
 

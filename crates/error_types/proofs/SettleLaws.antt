@@ -13,7 +13,7 @@ use Rattle.plain_values.specs.declared.refusal.Code.TheVariants.{UnknownType}
 use Rattle.plain_values.specs.declared.refusal.Refusal.{Refusal}
 use Rattle.plain_values.proofs.OrderLaws.{nearer-none, nearer-assoc}
 use Rattle.plain_values.specs.Refusal.{place_of, refusal}
-use Rattle.package_index.specs.Tables.{same_pair}
+use Rattle.package_index.specs.inner.Tables.{same_pair}
 use Rattle.error_types.specs.declared.id.ItemId.{ItemId}
 use Rattle.error_types.specs.declared.memory.Memory.{Memory}
 use Rattle.error_types.specs.declared.memory.Reached.{Reached}

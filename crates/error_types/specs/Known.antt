@@ -2,7 +2,7 @@
 use Rattle.std.specs.Prelude.{◌≡◌, ℕ, Bool, ◌&&◌, List, [], nat_eq, Option, Some}
 use denote.Ref.{Bor}
 use Rattle.aadl_syntax.specs.declared.core_model.PackageUnit.{PackageUnit}
-use Rattle.package_index.specs.Tables.{same_text}
+use Rattle.package_index.specs.inner.Tables.{same_text}
 use Rattle.error_types.specs.declared.known.Found.{Found}
 use Rattle.error_types.specs.Libraries.{Library, Table}
 use Rattle.error_types.specs.Search.{search}

@@ -5,7 +5,7 @@ use Rattle.std.specs.List.{list_all, list_any}
 use Rattle.plain_values.specs.Order.{nearer}
 use Rattle.aadl_syntax.specs.declared.error_model.TypeItem.{TypeItem}
 use Rattle.plain_values.specs.declared.refusal.Refusal.{Refusal}
-use Rattle.package_index.specs.Tables.{same_pair}
+use Rattle.package_index.specs.inner.Tables.{same_pair}
 use Rattle.error_types.specs.declared.id.ItemId.{ItemId}
 use Rattle.error_types.specs.declared.memory.Memory.{Memory}
 use Rattle.error_types.specs.declared.memory.Reached.{Reached}

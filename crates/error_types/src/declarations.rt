@@ -37,7 +37,7 @@ impl<'i, 'a> Model for Declarations<'i, 'a> {
     ghost use Rattle.std.specs.Coded.{codes};
     ghost use Rattle.std.specs.HashMap.{get};
     ghost use Rattle.aadl_syntax.specs.contracts.error_model.Condition as condition;
-    ghost use Rattle.package_index.specs.Tables.{Knows, same_pair};
+    ghost use Rattle.package_index.specs.inner.Tables.{Knows, same_pair};
     ghost use Rattle.error_types.specs.Known.{AreFound, same_search};
     ghost use Rattle.error_types.specs.Libraries.{Table, table_of};
     ghost use Rattle.error_types.specs.Tables.{has_number};

@@ -1,7 +1,7 @@
 ghost use Rattle.std.specs.Prelude.{◌≡◌, ◌<◌, ◌+◌, ◌-◌, ◌^◌, [], ◌∷◌, IfOk, IsTrue, None, OnOk, reverse, true};
 ghost use Rattle.std.specs.HashMap.{get};
 ghost use Rattle.std.specs.List.{list_any};
-ghost use Rattle.package_index.specs.Tables.{same_pair};
+ghost use Rattle.package_index.specs.inner.Tables.{same_pair};
 ghost use Rattle.error_types.specs.Endings.{AreEnds, EndsIn, IsWay, LeadsTo, Turns, TurnsBy, origin, type_through};
 ghost use Rattle.error_types.specs.Search.{named};
 ghost use Rattle.error_types.specs.Tables.{has_number};
@@ -43,7 +43,7 @@ struct Way {
 impl Model for Way {
     ghost use Rattle.std.specs.Prelude.{List, reverse};
     ghost use Rattle.std.specs.HashMap.{get};
-    ghost use Rattle.package_index.specs.Tables.{same_pair};
+    ghost use Rattle.package_index.specs.inner.Tables.{same_pair};
     ghost use Rattle.error_types.specs.declared.id.ItemId.{ItemId};
     ghost use Rattle.error_types.specs.Tables.{AreAmong};
 

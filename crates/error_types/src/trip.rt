@@ -41,7 +41,7 @@ pub(crate) struct Trip<'a> {
 impl<'a> Model for Trip<'a> {
     ghost use Rattle.std.specs.Prelude.{◌<◌, ◌^◌, length, reverse};
     ghost use Rattle.std.specs.HashMap.{get};
-    ghost use Rattle.package_index.specs.Tables.{same_pair};
+    ghost use Rattle.package_index.specs.inner.Tables.{same_pair};
     ghost use Rattle.error_types.specs.Trip.{Trip as Way, IsTripMarked};
 
     ghost Value = { Way };

@@ -3,7 +3,8 @@ use Rattle.std.specs.Prelude.{◌≡◌, ℕ, cond, List, Option, Some, option_m
 use denote.Ref.{Bor}
 use Rattle.aadl_syntax.specs.declared.error_model.Association.{Association}
 use Rattle.package_index.specs.declared.words.Words.{Words}
-use Rattle.package_index.specs.Names.{is_same_name, names_of}
+use Rattle.package_index.specs.Names.{is_same_name}
+use Rattle.package_index.specs.inner.Names.{names_of}
 use Rattle.event_rates.specs.Associations.{fits, last_fitting}
 
 -- what a table gives

@@ -4,7 +4,7 @@ use denote.Ref.{Bor}
 use Rattle.aadl_syntax.specs.declared.core_model.PackageUnit.{PackageUnit}
 use Rattle.plain_values.specs.declared.refusal.Refusal.{Refusal}
 use Rattle.package_index.specs.declared.id.ClassifierId.{ClassifierId}
-use Rattle.package_index.specs.Tables.{same_text}
+use Rattle.package_index.specs.inner.Tables.{same_text}
 use Rattle.component_extension.specs.Chain.{is_among}
 use Rattle.component_extension.specs.Items.{classifier_refusals}
 use Rattle.instantiator.specs.declared.draft.Draft.{Draft}

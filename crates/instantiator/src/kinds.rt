@@ -42,7 +42,7 @@ impl<'i, 'a> Model for Kinds<'i, 'a> {
     ghost coded = { Prim.hlevel (codes, condition.the_row.coded) };
 
     ghost use Rattle.std.specs.HashMap.{get};
-    ghost use Rattle.package_index.specs.Tables.{same_pair};
+    ghost use Rattle.package_index.specs.inner.Tables.{same_pair};
     ghost use Rattle.instantiator.specs.Tables.{AreKinds};
 
     ghost view = { λ k. record { packages = k.index.now; ids = map (λ kind. kind.classifier) k.list.items } };

@@ -5,7 +5,8 @@ use Rattle.std.proofs.lemmas.List.{take_more}
 use Rattle.std.proofs.lemmas.List.Elements.{filter-append}
 use denote.Ref.{Bor}
 use Rattle.aadl_syntax.specs.declared.core_model.Binding.{Binding}
-use Rattle.package_index.specs.Names.{is_same_name, names_of}
+use Rattle.package_index.specs.Names.{is_same_name}
+use Rattle.package_index.specs.inner.Names.{names_of}
 use Rattle.package_index.specs.declared.words.Words.{Words}
 use Rattle.propagation_links.specs.Bound.{binds, is_of}
 use Rattle.propagation_links.specs.Tables.{AddsBinding, KnowsBindings, PutsAt, held}

@@ -6,7 +6,8 @@ use Rattle.aadl_syntax.specs.declared.core_model.Binding.{Binding}
 use Rattle.aadl_syntax.specs.declared.core_model.PackageUnit.{PackageUnit}
 use Rattle.package_index.specs.declared.id.ClassifierId.{ClassifierId}
 use Rattle.package_index.specs.declared.words.Words.{Words}
-use Rattle.package_index.specs.Names.{is_same_name, names_of}
+use Rattle.package_index.specs.Names.{is_same_name}
+use Rattle.package_index.specs.inner.Names.{names_of}
 use Rattle.instantiator.specs.Effectives.{effective_of}
 use Rattle.propagation_links.specs.Bound.{binds, last_binding}
 

@@ -1,6 +1,6 @@
 ghost use Rattle.std.specs.Prelude.{◌≡◌, IfOk, OnOk, option_copied};
 ghost use Rattle.std.specs.HashMap.{get};
-ghost use Rattle.package_index.specs.Tables.{same_words};
+ghost use Rattle.package_index.specs.inner.Tables.{same_words};
 ghost use Rattle.propagation_links.specs.Bound.{is_of, last_binding};
 ghost use Rattle.propagation_links.specs.Tables.{AddsBinding, KnowsBindings, PutsAt};
 
@@ -27,7 +27,7 @@ impl<'a> Model for BindingTable<'a> {
     ghost use Rattle.std.specs.Prelude.{List, true, false};
     ghost use Rattle.std.specs.HashMap.{get};
     ghost use Rattle.aadl_syntax.specs.declared.core_model.Binding.{Binding as Seen};
-    ghost use Rattle.package_index.specs.Tables.{same_words};
+    ghost use Rattle.package_index.specs.inner.Tables.{same_words};
     ghost use Rattle.propagation_links.specs.Tables.{KnowsBindings};
 
     ghost Value = { List Seen };

@@ -5,7 +5,7 @@ use Rattle.std.specs.Bool.{beq}
 use denote.Ref.{Bor}
 use Rattle.plain_values.specs.Name.{is_same_text}
 use Rattle.aadl_syntax.specs.declared.error_model.PointItem.{PointItem}
-use Rattle.package_index.specs.Tables.{Knows, same_text}
+use Rattle.package_index.specs.inner.Tables.{Knows, same_text}
 use Rattle.component_extension.specs.Items.{Scoped}
 use Rattle.error_types.specs.declared.scope.Scope.{Scope}
 use Rattle.propagation_points.specs.Points.{NamesDiffer, declares}

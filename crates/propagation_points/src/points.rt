@@ -27,7 +27,7 @@ impl<'a> Model for Points<'a> {
     ghost use Rattle.std.specs.Prelude.{List};
     ghost use Rattle.std.specs.Coded.{codes};
     ghost use Rattle.std.specs.HashMap.{get};
-    ghost use Rattle.package_index.specs.Tables.{same_text};
+    ghost use Rattle.package_index.specs.inner.Tables.{same_text};
     ghost use Rattle.propagation_points.specs.contracts.side.Side as side;
     ghost use Rattle.propagation_points.specs.Points.{Point as Sides};
     ghost use Rattle.propagation_points.specs.Tables.{KnowsNames};

@@ -84,7 +84,7 @@ pub struct Sorts<'a> {
 impl<'a> Model for Sorts<'a> {
     ghost use Rattle.std.specs.Prelude.{◌≡◌, List};
     ghost use Rattle.std.specs.HashMap.{get};
-    ghost use Rattle.package_index.specs.Tables.{same_text};
+    ghost use Rattle.package_index.specs.inner.Tables.{same_text};
     ghost use Rattle.propagation_points.specs.States.{Sort as Seen, all_variants};
     ghost use Rattle.propagation_points.specs.Tables.{KnowsNames};
 

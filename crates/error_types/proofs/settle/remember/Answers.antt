@@ -1,7 +1,7 @@
 use Rattle.std.proofs.Common.{ℕ, sym, ap, ◌∙◌, subst}
 use Rattle.std.specs.HashMap.{get}
 use Rattle.std.specs.Map.{lookup}
-use Rattle.package_index.specs.Tables.{same_pair}
+use Rattle.package_index.specs.inner.Tables.{same_pair}
 use Rattle.error_types.specs.declared.id.ItemId.{ItemId}
 use Rattle.error_types.specs.Rows.{IsReached}
 use Rattle.error_types.proofs.Keys.{number_same}

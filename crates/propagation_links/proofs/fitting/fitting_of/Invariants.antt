@@ -1,6 +1,6 @@
 use Rattle.std.proofs.Common.{take}
 use Rattle.std.specs.HashMap.{get}
-use Rattle.package_index.specs.Tables.{same_words}
+use Rattle.package_index.specs.inner.Tables.{same_words}
 use Rattle.propagation_links.specs.Tables.{KnowsBindings}
 use Rattle.propagation_links.proofs.fitting.fitting_of.Given as goal
 

@@ -1,6 +1,6 @@
 use Rattle.std.proofs.Common.{take}
 use Rattle.std.specs.HashMap.{get}
-use Rattle.package_index.specs.Tables.{Knows}
+use Rattle.package_index.specs.inner.Tables.{Knows}
 use Rattle.propagation_points.specs.Tables.{declares_side, same_side}
 use Rattle.propagation_points.proofs.declared.places_of.Given as goal
 

@@ -1,6 +1,6 @@
 use Rattle.std.proofs.Common.{Some, ◌++◌, ◌∷◌, [], cond, length, sym, ap, ◌∙◌, ◌≡◌, subst}
 use Rattle.std.specs.HashMap.{get}
-use Rattle.package_index.specs.Tables.{same_pair}
+use Rattle.package_index.specs.inner.Tables.{same_pair}
 use Rattle.component_extension.specs.Chain.{same_id}
 use Rattle.instantiator.specs.Tables.{AreKinds, kind_of}
 use Rattle.instantiator.specs.Whole.{Kinds, kind_place}

@@ -10,8 +10,9 @@ use Rattle.aadl_syntax.specs.declared.core_model.PackageUnit.{PackageUnit}
 use Rattle.package_index.specs.declared.words.Words.{Words}
 use Rattle.plain_values.specs.declared.refusal.Refusal.{Refusal}
 use Rattle.plain_values.specs.Order.{least, nearer}
-use Rattle.package_index.specs.Duplicates.{classifiers_again}
-use Rattle.package_index.specs.Names.{is_same_name, names_of}
+use Rattle.package_index.specs.inner.Duplicates.{classifiers_again}
+use Rattle.package_index.specs.Names.{is_same_name}
+use Rattle.package_index.specs.inner.Names.{names_of}
 use Rattle.package_index.specs.Lookup.{has_name, is_alias, is_named}
 
 -- The table gives each key the place of the first of the items that has it.
