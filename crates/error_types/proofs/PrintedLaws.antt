@@ -18,7 +18,8 @@ use Rattle.package_index.specs.Names.{is_same_name}
 use Rattle.plain_values.specs.Numbered.{numbered_from}
 use Rattle.error_types.specs.declared.id.ItemId.{ItemId}
 use Rattle.error_types.specs.Libraries.{Library, Table, counted, is_counted, is_place, is_type, is_type_named, item_at, libraries_of, library_of, table_of, types_by, types_in}
-use Rattle.error_types.specs.Printed.{PrintApart, TypeName, item_name, name_of}
+use Rattle.error_types.specs.Printed.{TypeName, item_name, name_of}
+use Rattle.error_types.specs.inner.Printed.{PrintApart}
 
 -- ---- the rows that numbered parts give
 

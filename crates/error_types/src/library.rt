@@ -3,7 +3,7 @@ ghost use Rattle.std.specs.HashMap.{get};
 ghost use Rattle.plain_values.specs.Order.{least, nearer};
 ghost use Rattle.package_index.specs.inner.Tables.{Knows, same_text};
 ghost use Rattle.error_types.specs.Libraries.{extended_by, has_item_name, items_of, libraries_named, library_named, library_of, libraries_of, unknown_libraries, unknown_to, used_by};
-ghost use Rattle.error_types.specs.Tables.{has_item_text};
+ghost use Rattle.error_types.specs.inner.Tables.{has_item_text};
 
 use crate::scope::Scope;
 use aadl_syntax::{PackageUnit, Ref, TypeItem, TypesBlock};
@@ -50,7 +50,7 @@ impl<'a> Model for Library<'a> {
     ghost use Rattle.std.specs.HashMap.{get};
     ghost use Rattle.package_index.specs.inner.Tables.{Knows, same_text};
     ghost use Rattle.error_types.specs.Libraries.{Library as Text};
-    ghost use Rattle.error_types.specs.Tables.{has_item_text};
+    ghost use Rattle.error_types.specs.inner.Tables.{has_item_text};
 
     ghost Value = { Text };
 

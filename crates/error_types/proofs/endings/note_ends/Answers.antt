@@ -3,7 +3,7 @@ use Rattle.std.specs.HashMap.{get}
 use Rattle.std.proofs.lemmas.List.{reverse-append}
 use Rattle.package_index.specs.inner.Tables.{same_pair}
 use Rattle.error_types.specs.declared.id.ItemId.{ItemId}
-use Rattle.error_types.specs.Endings.{EndsIn, IsWay, origin, type_through}
+use Rattle.error_types.specs.inner.Endings.{EndsIn, IsWay, origin, type_through}
 use Rattle.error_types.proofs.EndingLaws.{at-last, one-back}
 use Rattle.error_types.proofs.Keys.{number_same}
 use Rattle.error_types.proofs.Remembering.{remembered-more}

@@ -3,7 +3,7 @@ use Rattle.std.specs.HashMap.{get}
 use Rattle.std.specs.Map.{lookup}
 use Rattle.package_index.specs.inner.Tables.{same_pair}
 use Rattle.error_types.specs.declared.id.ItemId.{ItemId}
-use Rattle.error_types.specs.Rows.{IsReached}
+use Rattle.error_types.specs.inner.Rows.{IsReached}
 use Rattle.error_types.proofs.Keys.{number_same}
 use Rattle.error_types.proofs.Remembering.{remembered-more}
 use Rattle.error_types.proofs.settle.remember.Goals as goal

@@ -1,9 +1,9 @@
 -- The steps of a search for a name, and of a walk through items.
 use Rattle.std.specs.Prelude.{◌≡◌, ℕ, Bool, List, [], ◌∷◌}
-use Rattle.error_types.specs.Course.{Course, IsBack, left}
+use Rattle.error_types.specs.inner.Course.{Course, IsBack, left}
 use Rattle.error_types.specs.Search.{Search}
 use Rattle.error_types.specs.Libraries.{Library, Table}
-use Rattle.error_types.specs.Trip.{IsBackAt, Trip, walk_left, with_names}
+use Rattle.error_types.specs.inner.Trip.{IsBackAt, Trip, walk_left, with_names}
 use Rattle.error_types.specs.Walk.{Walk}
 use Rattle.error_types.specs.declared.needs.NextName.{NextName}
 use Rattle.error_types.specs.declared.needs.NextName.TheVariants.{Name, Passed, End}

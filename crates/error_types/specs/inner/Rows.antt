@@ -11,9 +11,10 @@ use Rattle.error_types.specs.declared.memory.Memory.{Memory}
 use Rattle.error_types.specs.declared.memory.Reached.{Reached}
 use Rattle.error_types.specs.declared.scope.Scope.{Scope}
 use Rattle.error_types.specs.declared.settle.Sum.{Sum}
-use Rattle.error_types.specs.Grounded.{grounded, leads_so, name_first, name_leads_so, name_types, names_first, target_first, target_types}
+use Rattle.error_types.specs.inner.Grounded.{grounded, leads_so, name_first, name_leads_so, name_types, names_first, target_first, target_types}
 use Rattle.error_types.specs.Libraries.{Table, is_type}
-use Rattle.error_types.specs.Types.{is_below, is_below_by}
+use Rattle.error_types.specs.Types.{is_below}
+use Rattle.error_types.specs.inner.Types.{is_below_by}
 use Rattle.plain_values.specs.Numbered.{numbers_below}
 use Rattle.error_types.specs.Walk.{Need, walk_from}
 

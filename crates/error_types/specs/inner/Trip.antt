@@ -3,9 +3,9 @@ use Rattle.std.specs.Prelude.{◌≡◌, ℕ, ◌+◌, ◌-◌, ◌^◌, List, [
 use Rattle.plain_values.specs.Order.{nearer}
 use Rattle.plain_values.specs.declared.refusal.Refusal.{Refusal}
 use Rattle.error_types.specs.declared.id.ItemId.{ItemId}
-use Rattle.error_types.specs.Course.{Marks}
+use Rattle.error_types.specs.inner.Course.{Marks}
 use Rattle.error_types.specs.Libraries.{Table}
-use Rattle.error_types.specs.Tables.{has_number}
+use Rattle.error_types.specs.inner.Tables.{has_number}
 use Rattle.error_types.specs.Walk.{Need, Walk, arrived, follow, library_scope, past_item, walked}
 use Rattle.std.specs.List.{list_any}
 
