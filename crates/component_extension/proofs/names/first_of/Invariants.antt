@@ -1,6 +1,6 @@
 use Rattle.std.proofs.Common.{take}
 use Rattle.std.specs.HashMap.{get}
-use Rattle.component_extension.specs.Members.{KnowsMarks}
+use Rattle.component_extension.specs.inner.Members.{KnowsMarks}
 use Rattle.package_index.specs.inner.Tables.{same_text}
 use Rattle.component_extension.proofs.names.first_of.Given as goal
 
