@@ -11,7 +11,8 @@ use Rattle.plain_values.specs.Numbered.{numbers_below, numbered_from}
 use Rattle.propagation_points.specs.declared.side.Side.{Side}
 use Rattle.propagation_points.specs.declared.side.Side.TheVariants.{Absent, Free}
 use Rattle.propagation_points.specs.declared.side.Side.TheVariants as side
-use Rattle.propagation_points.specs.Points.{NamesDiffer, Point}
+use Rattle.propagation_points.specs.Points.{Point}
+use Rattle.propagation_points.specs.inner.Points.{NamesDiffer}
 use Rattle.propagation_points.specs.States.{Sort, Variant, all_variants}
 use Rattle.propagation_points.specs.Uses.{side_types}
 use Rattle.error_flows.specs.declared.meaning.FlowMeaning.{FlowMeaning}

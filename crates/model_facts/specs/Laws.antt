@@ -9,7 +9,7 @@ use Rattle.package_index.specs.declared.id.ClassifierId.{ClassifierId}
 use Rattle.package_index.specs.Duplicates.{IsDuplicate}
 use Rattle.error_types.specs.Printed.{TypeName, name_of}
 use Rattle.error_types.specs.inner.Printed.{AreIdentifiers}
-use Rattle.propagation_points.specs.Points.{NamesDiffer}
+use Rattle.propagation_points.specs.inner.Points.{NamesDiffer}
 use Rattle.propagation_points.specs.States.{all_variants}
 use Rattle.error_flows.specs.declared.meaning.FlowMeaning.{FlowMeaning}
 use Rattle.error_flows.specs.declared.meaning.FlowMeaning.TheVariants as flow

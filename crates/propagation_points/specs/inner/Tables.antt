@@ -8,7 +8,8 @@ use Rattle.aadl_syntax.specs.declared.error_model.PointItem.{PointItem}
 use Rattle.package_index.specs.inner.Tables.{Knows, same_text}
 use Rattle.component_extension.specs.Items.{Scoped}
 use Rattle.error_types.specs.declared.scope.Scope.{Scope}
-use Rattle.propagation_points.specs.Points.{NamesDiffer, declares}
+use Rattle.propagation_points.specs.Points.{declares}
+use Rattle.propagation_points.specs.inner.Points.{NamesDiffer}
 
 -- The key of a side: its direction, and the name of its point.
 abbrev pub SideKey : Type 0
