@@ -18,8 +18,9 @@ use Rattle.component_extension.specs.Chain.{is_among, same_id}
 use Rattle.component_extension.specs.Items.{classifier_refusals}
 use Rattle.instantiator.specs.declared.kinds.Kind.{Kind}
 use Rattle.instantiator.specs.declared.path.Component.{Component}
-use Rattle.instantiator.specs.Tables.{AreKinds, Entered, kind_of}
-use Rattle.instantiator.specs.Whole.{Kinds, kind_number, kind_place, kinds_of, with_kind}
+use Rattle.instantiator.specs.inner.Tables.{AreKinds, Entered, kind_of}
+use Rattle.instantiator.specs.Whole.{kind_number, kind_place, kinds_of, with_kind}
+use Rattle.instantiator.specs.inner.Whole.{Kinds}
 use Rattle.instantiator.proofs.Lists.{get-last, place-new, place-there}
 
 -- ---- classifiers

@@ -15,8 +15,9 @@ use Rattle.instantiator.specs.Components.{Part, component_of, found, occurrence_
 use Rattle.instantiator.specs.Effectives.{effective_at}
 use Rattle.plain_values.specs.inner.Stops.{StopsAt}
 use Rattle.instantiator.specs.Refused.{component_refusal, first_refusal}
-use Rattle.instantiator.specs.Tables.{Added, Grown}
-use Rattle.instantiator.specs.Whole.{Kinds, with_kind, with_kinds}
+use Rattle.instantiator.specs.inner.Tables.{Added, Grown}
+use Rattle.instantiator.specs.Whole.{with_kind}
+use Rattle.instantiator.specs.inner.Whole.{Kinds, with_kinds}
 use Rattle.instantiator.proofs.Lists.{rest-less}
 
 -- ---- the first refusal

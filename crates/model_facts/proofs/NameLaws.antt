@@ -18,7 +18,7 @@ use Rattle.propagation_points.specs.Uses.{side_types}
 use Rattle.error_flows.specs.declared.meaning.FlowMeaning.{FlowMeaning}
 use Rattle.error_flows.specs.declared.meaning.FlowMeaning.TheVariants as flow
 use Rattle.instantiator.specs.declared.path.Component.{Component}
-use Rattle.instantiator.specs.Whole.{PathsDiffer}
+use Rattle.instantiator.specs.inner.Whole.{PathsDiffer}
 use Rattle.instantiator.proofs.Apart.{Apart, AllPairs-from_Apart, apart-append, apart-map, apart-weaker, each-all, each-append, each-map, each-weaker}
 use Rattle.error_models.specs.declared.model.ErrorModel.{ErrorModel}
 use Rattle.propagation_links.specs.declared.link.Link.{Link}

@@ -3,7 +3,7 @@ use Rattle.std.proofs.lemmas.List.{take_all}
 use Rattle.std.proofs.lemmas.Result.{err_from_is_err_and}
 use Rattle.plain_values.specs.inner.Stops.{StopsAt}
 use Rattle.instantiator.specs.Refused.{first_refusal}
-use Rattle.instantiator.specs.Tables.{Grown}
+use Rattle.instantiator.specs.inner.Tables.{Grown}
 use Rattle.instantiator.proofs.PreorderLaws.{part-added, part-stops, stops-here, walked, whole}
 use Rattle.instantiator.proofs.preorder.+add_all.Goals as goal
 

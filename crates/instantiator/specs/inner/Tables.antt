@@ -14,7 +14,8 @@ use Rattle.instantiator.specs.declared.path.Component.{Component}
 use Rattle.instantiator.specs.Components.{component_below, component_of, found}
 use Rattle.instantiator.specs.Effectives.{effective_of}
 use Rattle.instantiator.specs.Refused.{classifier_refusal, first_refusal}
-use Rattle.instantiator.specs.Whole.{Kinds, ParentsComeFirst, PathsDiffer, kind_place, kinds_of, with_kind, with_kinds}
+use Rattle.instantiator.specs.Whole.{kind_place, kinds_of, with_kind}
+use Rattle.instantiator.specs.inner.Whole.{Kinds, ParentsComeFirst, PathsDiffer, with_kinds}
 
 -- The key of a component: the number of the component of which it is a subcomponent, and its name.
 abbrev pub StepKey : Type 0
