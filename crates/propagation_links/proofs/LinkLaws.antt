@@ -22,7 +22,7 @@ use Rattle.propagation_links.specs.Bound.{all_bounds}
 use Rattle.propagation_links.specs.Ends.{Pointed}
 use Rattle.propagation_links.specs.Links.{all_links, bound_links, component_links, connected, links_in}
 use Rattle.propagation_links.specs.Refused.{component_fault, refusals_in, first_fault, limit_refusal}
-use Rattle.propagation_links.specs.Steps.{Linked}
+use Rattle.propagation_links.specs.inner.Steps.{Linked}
 
 -- ---- the effective classifier of a component
 

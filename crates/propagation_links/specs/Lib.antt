@@ -3,5 +3,4 @@ pub mod Ends
 pub mod Links
 pub mod Refused
 pub mod Stated
-pub mod Steps
-pub mod Tables
+pub mod inner

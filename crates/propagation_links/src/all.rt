@@ -3,7 +3,7 @@ ghost use Rattle.plain_values.specs.inner.Stops.{StopsAt};
 ghost use Rattle.propagation_links.specs.Bound.{all_bounds};
 ghost use Rattle.propagation_links.specs.Links.{links_of};
 ghost use Rattle.propagation_links.specs.Refused.{count_in, count_links, refusals_in, first_fault, limit_refusal, links_refusal};
-ghost use Rattle.propagation_links.specs.Steps.{Linked, AllLinked};
+ghost use Rattle.propagation_links.specs.inner.Steps.{Linked, AllLinked};
 ghost use Rattle.instantiator.specs.Whole.{effective_in};
 ghost use Rattle.plain_values.specs.Order.{least};
 
