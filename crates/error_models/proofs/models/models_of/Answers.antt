@@ -14,7 +14,7 @@ use Rattle.instantiator.specs.inner.Tables.{kind_of}
 use Rattle.error_models.specs.Below.{kind_machine, states_below}
 use Rattle.error_models.specs.Models.{model_of, model_with}
 use Rattle.error_models.specs.Refused.{first_of, model_refusal, refusal_with}
-use Rattle.error_models.specs.Trees.{Tree}
+use Rattle.error_models.specs.inner.Trees.{Tree}
 use Rattle.error_models.proofs.KindLaws.{first-end, first-step, first-stop, made-at}
 use Rattle.error_models.proofs.models.models_of.Goals as goal
 
