@@ -4,7 +4,7 @@ use Rattle.std.specs.HashMap.{get}
 use Rattle.package_index.specs.inner.Tables.{same_words}
 use Rattle.package_index.proofs.Loops.{any-more}
 use Rattle.event_rates.specs.Associations.{is_distribution}
-use Rattle.event_rates.specs.Fitting.{PutsAt}
+use Rattle.event_rates.specs.inner.Fitting.{PutsAt}
 use Rattle.event_rates.proofs.FittingLaws.{HasPut, put-all, put-more}
 use Rattle.event_rates.proofs.table.add_association.Goals as goal
 
