@@ -24,7 +24,8 @@ use Rattle.error_models.specs.declared.model.ErrorModel.{ErrorModel}
 use Rattle.propagation_links.specs.declared.link.Link.{Link}
 use Rattle.model_facts.specs.Assembly.{Assembly, model_at, side_numbers}
 use Rattle.model_facts.specs.Facts.{arrivals, component_events, component_facts, event_in, events_of, fact_in, facts_of, inward_of, is_linked, model_events, model_facts, point_facts, source_events}
-use Rattle.model_facts.specs.Laws.{AreNamed, IsNamed, Lacks}
+use Rattle.model_facts.specs.Laws.{Lacks}
+use Rattle.model_facts.specs.inner.Laws.{AreNamed, IsNamed}
 use Rattle.model_facts.specs.Names.{at_point, behind, event_name, fact_name, in_braces, own_event_name, own_fact_name, path_at, path_text, point_name, source_name, type_text, variant_name, variant_text}
 use Rattle.model_facts.specs.declared.keys.EventKey.{EventKey}
 use Rattle.model_facts.specs.declared.keys.EventKind.{EventKind}

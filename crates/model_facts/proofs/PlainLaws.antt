@@ -17,7 +17,8 @@ use Rattle.instantiator.specs.declared.path.Component.{Component}
 use Rattle.instantiator.proofs.Apart.{each-append, each-weaker}
 use Rattle.error_models.specs.declared.model.ErrorModel.{ErrorModel}
 use Rattle.model_facts.specs.Assembly.{Assembly, model_at}
-use Rattle.model_facts.specs.Laws.{AreNamed, EventNamesArePlain, FactNamesArePlain, IsNamed, IsNamedFlow, IsPlain, Lacks, is_name_byte, separators}
+use Rattle.model_facts.specs.Laws.{IsPlain, Lacks, is_name_byte, separators}
+use Rattle.model_facts.specs.inner.Laws.{AreNamed, EventNamesArePlain, FactNamesArePlain, IsNamed, IsNamedFlow}
 use Rattle.model_facts.specs.Names.{at_point, behind, in_braces, own_event_name, own_fact_name, path_at, point_name, source_name, type_text, variant_name, variant_text}
 use Rattle.model_facts.specs.declared.keys.EventKind.{EventKind}
 use Rattle.model_facts.specs.declared.keys.EventKind.TheVariants.{Declared, Source, Arrival}

@@ -5,7 +5,7 @@ use Rattle.error_types.specs.Libraries.{Table}
 use Rattle.error_types.specs.Printed.{TypeName, name_of}
 use Rattle.error_types.specs.inner.Printed.{AreIdentifiers}
 use Rattle.instantiator.specs.Whole.{Instance}
-use Rattle.model_facts.specs.Laws.{AreNamed, IsNamed}
+use Rattle.model_facts.specs.inner.Laws.{AreNamed, IsNamed}
 use Rattle.model_facts.proofs.named.are_named.Goals as goal
 
 -- what follows from a fact on Ok
