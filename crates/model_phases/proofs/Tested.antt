@@ -14,7 +14,8 @@ use Rattle.phases.specs.inner.Stopped.{status_of}
 use Rattle.phases.specs.declared.status.Status.{Status}
 use Rattle.phases.proofs.Steps.{exits, meets_later}
 use Rattle.error_types.specs.Libraries.{HasTooManyTypes, declared_types, greatest_types, libraries_of}
-use Rattle.model_phases.specs.Tests.{IsIt, MeetsTests}
+use Rattle.model_phases.specs.Tests.{IsIt}
+use Rattle.model_phases.specs.inner.Tests.{MeetsTests}
 
 -- a group of refusals that stops a call
 pub group_stops : (Group : Refusal → Type 0) (why : Stop) → StopsAtFirst Group why → Stops (tests Group) (status_of why) ⊎ IsMemory (status_of why)

@@ -7,7 +7,8 @@ ghost use Rattle.propagation_links.specs.Links.{links_of};
 ghost use Rattle.propagation_links.specs.Refused.{links_refusal};
 ghost use Rattle.model_facts.specs.Assembly.{points_in};
 ghost use Rattle.model_phases.specs.Phases.{flat_model, flat_phase};
-ghost use Rattle.model_phases.specs.Tests.{IsIt, MeetsTests};
+ghost use Rattle.model_phases.specs.Tests.{IsIt};
+ghost use Rattle.model_phases.specs.inner.Tests.{MeetsTests};
 
 use crate::kinds::{Kinds, kinds_of};
 use crate::system::plain_system;
