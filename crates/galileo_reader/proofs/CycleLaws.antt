@@ -8,7 +8,8 @@ use Rattle.fault_system.specs.Truth.{occurs}
 use Rattle.fault_system.specs.Systems.{IsFact}
 use Rattle.fault_system.specs.declared.formula.FactInfo.{FactInfo}
 use Rattle.backward_slice.specs.Slices.{DependsOn}
-use Rattle.dependency_blocks.specs.Blocks.{AreAllBlocks, BlockNumbers, number_of}
+use Rattle.dependency_blocks.specs.Blocks.{BlockNumbers, number_of}
+use Rattle.dependency_blocks.specs.inner.Blocks.{AreAllBlocks}
 use Rattle.dependency_blocks.proofs.AllFacts.{below-contained}
 use Rattle.dependency_blocks.proofs.Passes.{depends_step}
 use Rattle.round_gates.specs.declared.node.GateKind.TheVariants as kinds
