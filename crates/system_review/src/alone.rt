@@ -2,7 +2,7 @@
 
 ghost use Rattle.std.specs.Prelude.{◌≡◌, map, nat_le};
 ghost use Rattle.fault_system.specs.Truth.{count_true, truth};
-ghost use Rattle.system_review.specs.Alone.{made_by_event, made_by_fact};
+ghost use Rattle.system_review.specs.inner.Alone.{made_by_event, made_by_fact};
 
 use fault_system::{FaultSystem, Formula, Numbers};
 

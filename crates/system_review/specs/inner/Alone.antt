@@ -6,7 +6,7 @@ use Rattle.fault_system.specs.Truth.{NumberSet, truth}
 use Rattle.fault_system.specs.Systems.{System, IsFact, Holds}
 use Rattle.fault_system.specs.Rounds.{no_event, only}
 use Rattle.fault_system.specs.declared.formula.FactInfo.{FactInfo}
-use Rattle.system_review.specs.Possible.{IsPossible}
+use Rattle.system_review.specs.inner.Possible.{IsPossible}
 
 -- the set of no fact
 abbrev pub no_fact : NumberSet

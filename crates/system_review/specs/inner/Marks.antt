@@ -3,7 +3,7 @@ use Rattle.std.specs.Prelude.{ℕ, ◌+◌, ◌<◌, ◌≡◌, ◌≢◌, ◌&&
 use Rattle.fault_system.specs.Truth.{NumberSet, Has, member, set_of, count_true, occurs}
 use Rattle.fault_system.specs.Systems.{System, IsFact}
 use Rattle.fault_system.specs.declared.formula.FactInfo.{FactInfo}
-use Rattle.system_review.specs.Occurring.{IsReached}
+use Rattle.system_review.specs.inner.Occurring.{IsReached}
 use Rattle.system_review.specs.declared.reaching.Reaching.{Reaching}
 
 -- whether a fact is marked and does not wait

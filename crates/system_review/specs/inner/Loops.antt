@@ -5,7 +5,7 @@ use Rattle.fault_system.specs.Truth.{NumberSet, occurs, truth}
 use Rattle.fault_system.specs.Systems.{System, IsFact}
 use Rattle.fault_system.specs.declared.formula.FactInfo.{FactInfo}
 use Rattle.backward_slice.specs.Slices.{DependsOn}
-use Rattle.system_review.specs.Listed.{AreAll}
+use Rattle.system_review.specs.inner.Listed.{AreAll}
 use Rattle.system_review.specs.declared.looping.Loop.{Loop}
 
 -- two facts depend on each other
