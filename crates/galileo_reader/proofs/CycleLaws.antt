@@ -16,7 +16,7 @@ use Rattle.round_gates.specs.declared.node.GateKind.TheVariants as kinds
 use Rattle.round_gates.specs.declared.tree.Input.{Input}
 use Rattle.round_gates.specs.declared.tree.Input.TheVariants as inputs
 use Rattle.round_gates.specs.Formulas.{input_formula, kind_formula}
-use Rattle.round_gates.specs.Targets.{IsWithin}
+use Rattle.round_gates.specs.inner.Targets.{IsWithin}
 use Rattle.round_gates.specs.Trees.{has_gate}
 use Rattle.round_gates.proofs.GateFormulas.{kind-occurs}
 use Rattle.galileo_reader.specs.Cycles.{HasOwn, NoneHasOwn, has_own}

@@ -6,7 +6,7 @@ use Rattle.galileo_writer.proofs.Soundness.{text-sound}
 use Rattle.galileo_writer.proofs.TreeNames.{event-within, gate-at-name, good, in-tree}
 use Rattle.property_reader.specs.declared.rate.Rate.{Rate}
 use Rattle.round_gates.specs.declared.tree.Tree.{Tree}
-use Rattle.round_gates.specs.Targets.{IsWellMade}
+use Rattle.round_gates.specs.inner.Targets.{IsWellMade}
 use Rattle.galileo_reader.specs.Trees.{IsRead}
 use Rattle.galileo_reader.specs.Written.{named_tree}
 use Rattle.galileo_reader.proofs.WrittenTrees.{round-trip}

@@ -16,8 +16,8 @@ use Rattle.round_gates.specs.declared.node.GateKind.TheVariants as kinds
 use Rattle.round_gates.specs.declared.tree.Input.{Input}
 use Rattle.round_gates.specs.declared.tree.Input.TheVariants as inputs
 use Rattle.round_gates.specs.Formulas.{input_formula, kind_formula}
-use Rattle.round_gates.specs.Targets.{IsWithin}
-use Rattle.round_gates.specs.Trees.{input_true}
+use Rattle.round_gates.specs.inner.Targets.{IsWithin}
+use Rattle.round_gates.specs.inner.Trees.{input_true}
 use Rattle.round_gates.specs.Truths.{kind_true}
 use Rattle.round_gates.proofs.GateFormulas.{kind-range, kind-truth}
 use Rattle.round_gates.proofs.TreeTruth.{kind-below}

@@ -13,7 +13,7 @@ use Rattle.galileo_writer.proofs.Names.{item-there, named-here}
 use Rattle.plain_values.specs.Name.{is_same_text}
 use Rattle.round_gates.specs.declared.tree.Input.{Input}
 use Rattle.round_gates.specs.declared.tree.Input.TheVariants as inputs
-use Rattle.round_gates.specs.Targets.{IsWithin}
+use Rattle.round_gates.specs.inner.Targets.{IsWithin}
 use Rattle.galileo_reader.specs.declared.statement.PlacedName.{PlacedName}
 use Rattle.galileo_reader.specs.declared.statement.Statement.{Statement}
 use Rattle.galileo_reader.specs.declared.statement.Statement.TheVariants.{Top, Gate, Event}

@@ -17,7 +17,8 @@ use Rattle.fault_system.proofs.NumberSets.{RisesWithin-at, RisesWithin-filter, s
 use Rattle.fault_system.proofs.Orders.{Lower, before_cases, before_made}
 use Rattle.property_reader.specs.declared.rate.Rate.{Rate}
 use Rattle.round_gates.specs.declared.tree.Tree.{Tree}
-use Rattle.round_gates.specs.Targets.{IsTreeFor, IsWellMade}
+use Rattle.round_gates.specs.Targets.{IsTreeFor}
+use Rattle.round_gates.specs.inner.Targets.{IsWellMade}
 use Rattle.round_gates.specs.Trees.{is_event}
 use Rattle.round_gates.proofs.MadeWell.{made-well}
 use Rattle.round_gates.proofs.TreeTruth.{tree-truth}

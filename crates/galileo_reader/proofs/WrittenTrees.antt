@@ -26,7 +26,7 @@ use Rattle.round_gates.specs.declared.tree.Gate.{Gate as TreeGate}
 use Rattle.round_gates.specs.declared.tree.Input.{Input}
 use Rattle.round_gates.specs.declared.tree.Input.TheVariants as inputs
 use Rattle.round_gates.specs.declared.tree.Tree.{Tree}
-use Rattle.round_gates.specs.Targets.{IsWellMade, IsWellMadeGate, IsWithin, MayHave}
+use Rattle.round_gates.specs.inner.Targets.{IsWellMade, IsWellMadeGate, IsWithin, MayHave}
 use Rattle.round_gates.specs.Trees.{has_gate, is_event}
 use Rattle.galileo_reader.specs.declared.statement.Statement.{Statement}
 use Rattle.galileo_reader.specs.declared.statement.Statement.TheVariants.{Top, Gate, Event}

@@ -3,7 +3,7 @@ use Rattle.std.specs.Prelude.{ℕ, ◌<◌, ◌≡◌, ◌⊎◌, true, List, �
 use Rattle.std.specs.List.{AllByRecursion}
 use Rattle.fault_system.specs.Truth.{NumberSet, Has}
 use Rattle.fault_system.specs.Systems.{NamesDiffer}
-use Rattle.round_gates.specs.Targets.{IsWithin}
+use Rattle.round_gates.specs.inner.Targets.{IsWithin}
 use Rattle.round_gates.specs.Trees.{has_gate}
 use Rattle.galileo_reader.specs.declared.statement.PlacedName.{PlacedName}
 use Rattle.galileo_reader.specs.declared.statement.Statement.{Statement}

@@ -14,7 +14,7 @@ use Rattle.round_gates.specs.declared.tree.Gate.{Gate}
 use Rattle.round_gates.specs.declared.tree.Input.{Input}
 use Rattle.round_gates.specs.declared.tree.Input.TheVariants as inputs
 use Rattle.round_gates.specs.declared.tree.Tree.{Tree}
-use Rattle.round_gates.specs.Targets.{IsWellMade, IsWithin}
+use Rattle.round_gates.specs.inner.Targets.{IsWellMade, IsWithin}
 use Rattle.round_gates.specs.Trees.{InputsOnce, is_event}
 use Rattle.galileo_writer.specs.Galileo.{Line}
 use Rattle.galileo_writer.specs.Sound.{HasInputLines, HasLine, IsSound}

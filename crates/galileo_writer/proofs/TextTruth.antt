@@ -17,8 +17,10 @@ use Rattle.round_gates.specs.declared.tree.Gate.{Gate}
 use Rattle.round_gates.specs.declared.tree.Input.{Input}
 use Rattle.round_gates.specs.declared.tree.Input.TheVariants as inputs
 use Rattle.round_gates.specs.declared.tree.Tree.{Tree}
-use Rattle.round_gates.specs.Targets.{IsTreeFor, IsWellMade, IsWithin, MayHave}
-use Rattle.round_gates.specs.Trees.{IsClosedTree, TreeHolds, input_true, is_event}
+use Rattle.round_gates.specs.Targets.{IsTreeFor}
+use Rattle.round_gates.specs.inner.Targets.{IsWellMade, IsWithin, MayHave}
+use Rattle.round_gates.specs.Trees.{is_event}
+use Rattle.round_gates.specs.inner.Trees.{IsClosedTree, TreeHolds, input_true}
 use Rattle.round_gates.specs.Truths.{kind_true}
 use Rattle.round_gates.proofs.MadeWell.{made-well}
 use Rattle.round_gates.proofs.TreeTruth.{kind-below, tree-truth}

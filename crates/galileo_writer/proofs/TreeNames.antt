@@ -10,7 +10,7 @@ use Rattle.round_gates.specs.declared.tree.Gate.{Gate}
 use Rattle.round_gates.specs.declared.tree.Input.{Input}
 use Rattle.round_gates.specs.declared.tree.Input.TheVariants as inputs
 use Rattle.round_gates.specs.declared.tree.Tree.{Tree}
-use Rattle.round_gates.specs.Targets.{IsWellMade, IsWellMadeGate, IsWithin}
+use Rattle.round_gates.specs.inner.Targets.{IsWellMade, IsWellMadeGate, IsWithin}
 use Rattle.round_gates.specs.Trees.{is_event, key_of}
 use Rattle.round_gates.proofs.OneTree.{one-position}
 use Rattle.round_gates.proofs.TreeTruth.{key-there}

@@ -6,7 +6,7 @@ use Rattle.fault_system.specs.declared.formula.FactInfo.{FactInfo}
 use Rattle.round_gates.specs.Formulas.{gate_formula}
 use Rattle.round_gates.specs.declared.tree.Gate.{Gate}
 use Rattle.round_gates.specs.declared.tree.Tree.{Tree}
-use Rattle.round_gates.specs.Trees.{IsClosedTree}
+use Rattle.round_gates.specs.inner.Trees.{IsClosedTree}
 use Rattle.galileo_writer.specs.TreeText.{gate_name}
 
 -- a gate as a fact of its name

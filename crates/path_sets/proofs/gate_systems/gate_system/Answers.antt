@@ -1,7 +1,7 @@
 use Rattle.std.proofs.Common.{ℕ, ◌<◌, ◌↔◌, ◌∙◌, length, sym, subst}
 use Rattle.fault_system.specs.Truth.{NumberSet}
 use Rattle.fault_system.specs.Systems.{System, IsSystem, Holds}
-use Rattle.round_gates.specs.Trees.{TreeHolds}
+use Rattle.round_gates.specs.inner.Trees.{TreeHolds}
 use Rattle.path_sets.specs.Duals.{IsWithoutFeedback}
 use Rattle.path_sets.specs.GateSystems.{GateHolds}
 use Rattle.path_sets.proofs.GateTruth.{gates-free, gates-hold, gates-system, top-inside}

@@ -1,6 +1,6 @@
 use Rattle.std.proofs.Common.{Contains, inl, sym, subst}
 use Rattle.std.proofs.lemmas.Result.{IfErr-weaker, IfOk-weaker}
-use Rattle.round_gates.specs.Targets.{HasNoTree}
+use Rattle.round_gates.specs.inner.Targets.{HasNoTree}
 use Rattle.zdd_store.specs.Family.{Family}
 use Rattle.zdd_store.specs.Store.{family_of}
 use Rattle.path_sets.specs.PathSets.{HasMinimalPathSets}

@@ -5,8 +5,8 @@ use Rattle.round_gates.specs.declared.node.GateKey.{GateKey}
 use Rattle.round_gates.specs.declared.node.Line.{Line}
 use Rattle.round_gates.specs.declared.node.Node.TheVariants.{Gate}
 use Rattle.round_gates.specs.Nodes.{same_key, has_node}
-use Rattle.round_gates.specs.Lines.{is_named}
-use Rattle.round_gates.specs.Truths.{GateSet}
+use Rattle.round_gates.specs.inner.Lines.{is_named}
+use Rattle.round_gates.specs.inner.Truths.{GateSet}
 
 -- whether a name is one of a list
 abbrev pub has_key : List GateKey → GateKey → Bool

@@ -8,9 +8,10 @@ use Rattle.round_gates.specs.declared.node.Line.{Line}
 use Rattle.round_gates.specs.declared.node.Node.{Node}
 use Rattle.round_gates.specs.declared.node.Part.{Part}
 use Rattle.round_gates.specs.declared.node.Stage.{Stage}
-use Rattle.round_gates.specs.Walks.{places, node_in}
+use Rattle.round_gates.specs.Walks.{places}
+use Rattle.round_gates.specs.inner.Walks.{node_in}
 use Rattle.round_gates.specs.Stages.{in_block, fact_walk, last_node, IsGateOf}
-use Rattle.round_gates.specs.Lines.{IsKnown, InOrder}
+use Rattle.round_gates.specs.inner.Lines.{IsKnown, InOrder}
 
 -- the formula of a fact has fewer than 2 ^ 32 places
 abbrev pub IsSmall : System → ℕ → Type 0
