@@ -1,7 +1,8 @@
 -- The text of a well-made tree reads as the tree.
 use Rattle.std.proofs.Common.{◌≤◌, List, length}
 use Rattle.fault_system.specs.Systems.{IsSystem, System}
-use Rattle.galileo_writer.specs.TreeText.{AreRates, HasTextNames, tree_text}
+use Rattle.galileo_writer.specs.TreeText.{tree_text}
+use Rattle.galileo_writer.specs.inner.TreeText.{AreRates, HasTextNames}
 use Rattle.galileo_writer.proofs.Soundness.{text-sound}
 use Rattle.galileo_writer.proofs.TreeNames.{event-within, gate-at-name, good, in-tree}
 use Rattle.property_reader.specs.declared.rate.Rate.{Rate}

@@ -22,7 +22,7 @@ use Rattle.round_gates.specs.inner.Targets.{IsWellMade}
 use Rattle.round_gates.specs.Trees.{is_event}
 use Rattle.round_gates.proofs.MadeWell.{made-well}
 use Rattle.round_gates.proofs.TreeTruth.{tree-truth}
-use Rattle.galileo_writer.specs.TreeText.{HasTextNames}
+use Rattle.galileo_writer.specs.inner.TreeText.{HasTextNames}
 use Rattle.galileo_writer.proofs.Names.{item-there}
 use Rattle.galileo_reader.specs.TreeSystems.{event_info, system_of}
 use Rattle.galileo_reader.specs.Written.{event_at, event_place, events_at, named_event, named_tree}

@@ -13,7 +13,8 @@ use Rattle.fault_system.specs.Systems.{NamesDiffer, System}
 use Rattle.fault_system.proofs.Elements.{In, In-contains}
 use Rattle.galileo_writer.specs.Galileo.{EventLine, GateLine, IsPlainName, Line, inputs_text, kind_text, line_text, quoted, top_text}
 use Rattle.galileo_writer.specs.Sound.{HasInputLines, HasLine, IsSound}
-use Rattle.galileo_writer.specs.TreeText.{AreRates, HasTextNames, event_line, gate_line, gate_name, input_name, name_at, tree_galileo, tree_text}
+use Rattle.galileo_writer.specs.TreeText.{event_line, gate_line, gate_name, input_name, name_at, tree_galileo, tree_text}
+use Rattle.galileo_writer.specs.inner.TreeText.{AreRates, HasTextNames}
 use Rattle.galileo_writer.specs.Truth.{name_of}
 use Rattle.galileo_writer.proofs.Names.{event-plain, gate-plain, item-there}
 use Rattle.plain_values.specs.Name.{is_same_text}

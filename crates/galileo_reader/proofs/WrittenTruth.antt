@@ -24,7 +24,8 @@ use Rattle.round_gates.proofs.MadeWell.{made-well}
 use Rattle.round_gates.proofs.TreeTruth.{tree-truth}
 use Rattle.galileo_writer.specs.Galileo.{Galileo, Line}
 use Rattle.galileo_writer.specs.Truth.{IsClosedText, NameSet, Tells, line_true}
-use Rattle.galileo_writer.specs.TreeText.{AreRates, HasTextNames, names_of, tree_text}
+use Rattle.galileo_writer.specs.TreeText.{names_of, tree_text}
+use Rattle.galileo_writer.specs.inner.TreeText.{AreRates, HasTextNames}
 use Rattle.galileo_writer.proofs.Names.{has-own}
 use Rattle.galileo_writer.proofs.TreeNames.{at-event, event-within, good, in-tree, or-right, or-true}
 use Rattle.galileo_reader.specs.declared.tree.NamedEvent.{NamedEvent}

@@ -26,7 +26,8 @@ use Rattle.round_gates.proofs.MadeWell.{made-well}
 use Rattle.round_gates.proofs.TreeTruth.{kind-below, tree-truth}
 use Rattle.galileo_writer.specs.Galileo.{Galileo, IsKind, IsPlainLine, IsPlainName, IsTextOf, Line}
 use Rattle.galileo_writer.specs.Truth.{IsClosedText, NameSet, Tells, TextTrue, line_true, name_of}
-use Rattle.galileo_writer.specs.TreeText.{AreRates, HasTextNames, event_line, gate_line, gate_name, has_name, input_name, name_at, names_of, tree_galileo, tree_text}
+use Rattle.galileo_writer.specs.TreeText.{event_line, gate_line, gate_name, has_name, input_name, name_at, names_of, tree_galileo, tree_text}
+use Rattle.galileo_writer.specs.inner.TreeText.{AreRates, HasTextNames}
 use Rattle.galileo_writer.proofs.Names.{event-or-gate, event-plain, gate-plain, has-none, has-own, item-there, named-here}
 use Rattle.galileo_writer.proofs.OneText.{one-text}
 use Rattle.galileo_writer.proofs.TreeNames.{event-within, in-tree, or-right, or-true, at-event, at-name, gate-at-name, gates-differ, good}

@@ -11,8 +11,9 @@ ghost use Rattle.round_gates.specs.inner.Trees.{TreeHolds};
 ghost use Rattle.galileo_writer.specs.Galileo.{line_text, top_text};
 ghost use Rattle.galileo_writer.specs.Sound.{IsSound};
 ghost use Rattle.galileo_writer.specs.Truth.{TextTrue};
-ghost use Rattle.galileo_writer.specs.TreeText.{AreRates, HasTextNames, event_line, gate_line, name_at, names_of, tree_galileo, tree_text};
-ghost use Rattle.galileo_writer.specs.Written.{Writes};
+ghost use Rattle.galileo_writer.specs.TreeText.{event_line, gate_line, name_at, names_of, tree_galileo, tree_text};
+ghost use Rattle.galileo_writer.specs.inner.TreeText.{AreRates, HasTextNames};
+ghost use Rattle.galileo_writer.specs.inner.Written.{Writes};
 
 use crate::lines::{push_event, push_gate, push_top};
 use fault_system::FaultSystem;

@@ -18,7 +18,7 @@ use Rattle.round_gates.specs.declared.tree.Tree.{Tree}
 use Rattle.round_gates.proofs.MadeWell.{made-well}
 use Rattle.round_gates.proofs.OneTree.{one-tree, tree-or-large}
 use Rattle.round_gates.proofs.TreeTruth.{tree-truth}
-use Rattle.galileo_writer.specs.TreeText.{HasTextNames}
+use Rattle.galileo_writer.specs.inner.TreeText.{HasTextNames}
 use Rattle.galileo_writer.proofs.TreeNames.{gates-differ}
 use Rattle.zdd_store.specs.Family.{Family, is_within}
 use Rattle.cutset_engine.specs.Families.{HasMinimalCutSets}

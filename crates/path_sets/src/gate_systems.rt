@@ -5,7 +5,7 @@ ghost use Rattle.fault_system.specs.Truth.{NumberSet};
 ghost use Rattle.fault_system.specs.Systems.{Holds};
 ghost use Rattle.round_gates.specs.inner.Targets.{IsWellMade};
 ghost use Rattle.round_gates.specs.inner.Trees.{TreeHolds};
-ghost use Rattle.galileo_writer.specs.TreeText.{HasTextNames};
+ghost use Rattle.galileo_writer.specs.inner.TreeText.{HasTextNames};
 ghost use Rattle.path_sets.specs.Duals.{IsWithoutFeedback};
 ghost use Rattle.path_sets.specs.GateSystems.{GateHolds, gate_fact, gate_system_of};
 

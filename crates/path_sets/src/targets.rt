@@ -5,7 +5,7 @@ ghost use Rattle.plain_values.specs.Order.{IsClear};
 ghost use Rattle.plain_values.specs.inner.Stops.{StopsFor};
 ghost use Rattle.backward_slice.specs.Slices.{HasLargeSlice, IsSlice};
 ghost use Rattle.round_gates.specs.inner.Targets.{IsWellMade};
-ghost use Rattle.galileo_writer.specs.TreeText.{HasTextNames};
+ghost use Rattle.galileo_writer.specs.inner.TreeText.{HasTextNames};
 ghost use Rattle.zdd_store.specs.Family.{is_within};
 ghost use Rattle.zdd_store.specs.Store.{IsIn, Keeps, family_of};
 ghost use Rattle.path_sets.specs.Duals.{dual_of};

@@ -11,7 +11,7 @@ use Rattle.backward_slice.specs.Slices.{HasLargeSlice}
 use Rattle.round_gates.specs.Targets.{IsTreeFor}
 use Rattle.round_gates.specs.declared.tree.Tree.{Tree}
 use Rattle.round_gates.proofs.MadeWell.{made-well}
-use Rattle.galileo_writer.specs.TreeText.{AreRates, HasTextNames}
+use Rattle.galileo_writer.specs.inner.TreeText.{AreRates, HasTextNames}
 use Rattle.galileo_reader.specs.Trees.{IsRead}
 use Rattle.galileo_reader.specs.TreeSystems.{system_of}
 use Rattle.galileo_reader.specs.Written.{event_at, events_at, named_tree}

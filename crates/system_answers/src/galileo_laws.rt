@@ -8,7 +8,7 @@ ghost use Rattle.fault_system.specs.Listings.{IsListing};
 ghost use Rattle.fault_system.specs.Systems.{IsSystem, System};
 ghost use Rattle.galileo_reader.specs.TreeSystems.{system_of};
 ghost use Rattle.galileo_reader.specs.Written.{named_tree};
-ghost use Rattle.galileo_writer.specs.TreeText.{AreRates, HasTextNames};
+ghost use Rattle.galileo_writer.specs.inner.TreeText.{AreRates, HasTextNames};
 ghost use Rattle.phases.specs.Phases.{IsRefusal, Passes, Stops};
 ghost use Rattle.phases.specs.declared.status.Status.{Status};
 ghost use Rattle.property_reader.specs.declared.rate.Rate.{Rate};

@@ -8,7 +8,7 @@ ghost use Rattle.backward_slice.specs.Slices.{IsServed, IsSlice};
 ghost use Rattle.backward_slice.specs.declared.parts.Slice.{Slice as Part};
 ghost use Rattle.cutset_lister.specs.Walks.{all_sets};
 ghost use Rattle.cutset_writer.specs.Pages.{IsReady};
-ghost use Rattle.galileo_writer.specs.TreeText.{HasTextNames};
+ghost use Rattle.galileo_writer.specs.inner.TreeText.{HasTextNames};
 ghost use Rattle.path_sets.specs.Duals.{IsWithoutFeedback, dual_of};
 ghost use Rattle.path_sets.specs.PathSets.{HasLargePaths, IsPathListing};
 ghost use Rattle.system_answers.specs.Prints.{Prints};
