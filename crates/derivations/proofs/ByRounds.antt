@@ -19,7 +19,7 @@ use Rattle.derivations.specs.declared.derivation.Firing.{Firing}
 use Rattle.derivations.specs.Steps.{IsGood, facts_of, is_made_true, is_of, is_right}
 use Rattle.derivations.specs.Text.{HasLine, HaveLines, event_names, fact_names}
 use Rattle.derivations.specs.Derived.{IsDerivation, IsReached, comes_before, is_used_by, numbers_in, of_formula, uses_event, uses_fact}
-use Rattle.derivations.specs.Ordered.{place_at}
+use Rattle.derivations.specs.inner.Ordered.{place_at}
 use Rattle.fault_system.specs.declared.formula.EventInfo.{EventInfo}
 use Rattle.derivations.proofs.Numbers.{none-some}
 use Rattle.derivations.proofs.NumbersIn.{at-found, found-at, numbers-all, numbers-in, numbers-rise, rises-below}

@@ -3,7 +3,8 @@ use Rattle.std.proofs.Common.{◌≡◌, ◌≢◌, ◌<◌, ◌==◌, ℕ, zero
 use Rattle.std.specs.List.{AllByRecursion, list_all}
 use Rattle.std.proofs.lemmas.Bool.{eqb-true, false_from_ne_true}
 use Rattle.std.proofs.lemmas.List.Elements.{All-weaker, recursion_from_All}
-use Rattle.derivations.specs.Text.{AreLineNames, event_names, fact_names, is_line_name, is_plain, name_at}
+use Rattle.derivations.specs.Text.{event_names, fact_names, name_at}
+use Rattle.derivations.specs.inner.Text.{AreLineNames, is_line_name, is_plain}
 use Rattle.plain_values.specs.declared.name.Root.{Root}
 use Rattle.fault_system.specs.Systems.{System}
 use Rattle.fault_system.specs.declared.formula.EventInfo.{EventInfo}

@@ -11,7 +11,8 @@ use Rattle.cutset_lister.specs.SetText.{HasTokenNames, IsSetOfText}
 use Rattle.cutset_lister.proofs.Scans.{one-set}
 use Rattle.derivations.specs.declared.derivation.Firing.{Firing}
 use Rattle.derivations.specs.Steps.{HasWrongEnd, IsFirstWrong, IsGood}
-use Rattle.derivations.specs.Text.{AreLineNames, IsBadAt, IsTextOf, event_names, fact_names, line_of, lines_of}
+use Rattle.derivations.specs.Text.{IsBadAt, IsTextOf, event_names, fact_names, line_of, lines_of}
+use Rattle.derivations.specs.inner.Text.{AreLineNames}
 use Rattle.derivations.proofs.OneDerivation.{long-text, one-bad, one-derivation, one-reading, read-or-bad}
 use Rattle.derivations.proofs.Sound.{good-holds}
 use Rattle.derivations.proofs.WhyText.{confirmed-text}
