@@ -12,7 +12,7 @@ use Rattle.fault_system.specs.declared.formula.FactInfo.{FactInfo}
 use Rattle.fault_system.proofs.Elements.{In-contains, each-at}
 use Rattle.cutset_lister.specs.SetText.{HasTokenNames, IsTokenName}
 use Rattle.galileo_writer.specs.Galileo.{IsPlainName}
-use Rattle.fmea_rows.specs.Text.{HasFieldNames, IsPlainField}
+use Rattle.fmea_rows.specs.inner.Text.{HasFieldNames, IsPlainField}
 use Rattle.galileo_writer.specs.inner.TreeText.{AreRates, HasTextNames}
 use Rattle.phases.specs.inner.Meets.{Meets}
 use Rattle.phases.specs.Phases.{Passed}
