@@ -25,7 +25,7 @@ use Rattle.round_gates.proofs.TreeTruth.{tree-truth}
 use Rattle.galileo_writer.specs.inner.TreeText.{HasTextNames}
 use Rattle.galileo_writer.proofs.Names.{item-there}
 use Rattle.galileo_reader.specs.TreeSystems.{event_info, system_of}
-use Rattle.galileo_reader.specs.Written.{event_at, event_place, events_at, named_event, named_tree}
+use Rattle.galileo_reader.specs.inner.Written.{event_at, event_place, events_at, named_event, named_tree}
 use Rattle.galileo_reader.proofs.WrittenTrees.{event-placed}
 use Rattle.galileo_reader.proofs.WrittenTruth.{got, holds-again, placed-again}
 

@@ -35,7 +35,7 @@ use Rattle.galileo_reader.specs.declared.tree.NamedEvent.{NamedEvent}
 use Rattle.galileo_reader.specs.declared.tree.NamedGate.{NamedGate}
 use Rattle.galileo_reader.specs.Nodes.{asked, bad_count, event_in, first_some, gate_in, input_of, is_second, node_from, node_of, second_after, second_line, tree_of, unknown_name, unknown_node, wrong_count}
 use Rattle.galileo_reader.specs.Trees.{IsAcyclic, IsRead}
-use Rattle.galileo_reader.specs.Written.{event_place, named_event, named_gate, named_input, named_tree}
+use Rattle.galileo_reader.specs.inner.Written.{event_place, named_event, named_gate, named_input, named_tree}
 use Rattle.galileo_reader.proofs.TreeLaws.{own-event, own-gate}
 use Rattle.galileo_reader.proofs.WrittenLines.{IsReadable, IsShort, line_pieces, pieces_text, placed_at, said_at, said_from, text-again, top_pieces, written_statements}
 

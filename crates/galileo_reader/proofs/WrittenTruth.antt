@@ -31,10 +31,11 @@ use Rattle.galileo_writer.proofs.TreeNames.{at-event, event-within, good, in-tre
 use Rattle.galileo_reader.specs.declared.tree.NamedEvent.{NamedEvent}
 use Rattle.galileo_reader.specs.declared.tree.NamedGate.{NamedGate}
 use Rattle.galileo_reader.specs.declared.tree.NamedTree.{NamedTree}
-use Rattle.galileo_reader.specs.Trees.{IsNamedTree}
+use Rattle.galileo_reader.specs.inner.Trees.{IsNamedTree}
 use Rattle.galileo_reader.specs.TreeSystems.{gate_fact, system_of, top_facts}
-use Rattle.galileo_reader.specs.Truth.{StaticTrue, event_line, event_name, gate_line, tree_galileo}
-use Rattle.galileo_reader.specs.Written.{event_at, event_place, named_event, named_gate, named_input, named_tree}
+use Rattle.galileo_reader.specs.Truth.{event_name}
+use Rattle.galileo_reader.specs.inner.Truth.{StaticTrue, event_line, gate_line, tree_galileo}
+use Rattle.galileo_reader.specs.inner.Written.{event_at, event_place, named_event, named_gate, named_input, named_tree}
 use Rattle.galileo_reader.proofs.RoundTrip.{text-read}
 use Rattle.galileo_reader.proofs.SystemLaws.{Made, behind, given-event, made-at, made-from, member-has, named-in, of_one, system-truth}
 use Rattle.galileo_reader.proofs.TreeTexts.{text-truth, tree-named}

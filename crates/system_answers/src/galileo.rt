@@ -3,7 +3,7 @@
 ghost use Rattle.std.specs.Prelude.{◌≡◌, ◌≤◌, IfOk, length};
 ghost use Rattle.phases.specs.inner.Meets.{Meets};
 ghost use Rattle.galileo_reader.specs.TreeSystems.{system_of};
-ghost use Rattle.galileo_reader.specs.Trees.{IsNamedTree};
+ghost use Rattle.galileo_reader.specs.inner.Trees.{IsNamedTree};
 ghost use Rattle.path_sets.specs.Duals.{IsWithoutFeedback};
 ghost use Rattle.system_answers.specs.Galileo.{flaw_refusal};
 ghost use Rattle.system_answers.specs.Prints.{Prints};

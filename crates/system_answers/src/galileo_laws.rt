@@ -7,7 +7,7 @@ ghost use Rattle.cutset_writer.specs.declared.form.SetForm.TheVariants.{Quoted};
 ghost use Rattle.fault_system.specs.Listings.{IsListing};
 ghost use Rattle.fault_system.specs.Systems.{IsSystem, System};
 ghost use Rattle.galileo_reader.specs.TreeSystems.{system_of};
-ghost use Rattle.galileo_reader.specs.Written.{named_tree};
+ghost use Rattle.galileo_reader.specs.inner.Written.{named_tree};
 ghost use Rattle.galileo_writer.specs.inner.TreeText.{AreRates, HasTextNames};
 ghost use Rattle.phases.specs.Phases.{IsRefusal, Passes, Stops};
 ghost use Rattle.phases.specs.declared.status.Status.{Status};
