@@ -12,9 +12,9 @@ use Rattle.fault_system.proofs.HoldsLaws.{holds_of-exact}
 use Rattle.fault_system.proofs.NumberSets.{RisesWithin-each}
 use Rattle.backward_slice.specs.Slices.{IsSlice}
 use Rattle.backward_slice.specs.declared.parts.Slice.{Slice}
-use Rattle.zdd_store.specs.Family.{Family, covers, has, IsRising, IsAntichain}
-use Rattle.zdd_store.specs.Answers.{sets_up_to, IsLeastFamily}
-use Rattle.zdd_store.specs.Store.{Families, IsIn, family_of, family_at, IsSound}
+use Rattle.zdd_store.specs.inner.Family.{Family, covers, has, IsRising, IsAntichain}
+use Rattle.zdd_store.specs.inner.Answers.{sets_up_to, IsLeastFamily}
+use Rattle.zdd_store.specs.inner.Store.{Families, IsIn, family_of, family_at, IsSound}
 use Rattle.zdd_store.specs.declared.id.Id.{Id}
 use lib.ListN.{length-map}
 use Rattle.zdd_families.specs.Steps.{either}

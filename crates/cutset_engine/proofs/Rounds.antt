@@ -12,7 +12,7 @@ use Rattle.fault_system.specs.declared.formula.FactInfo.{FactInfo}
 use Rattle.fault_system.proofs.Marks.{Below-member}
 use Rattle.fault_system.proofs.HoldsLaws.{applied-grows}
 use Rattle.fault_system.proofs.NumberSets.{member-in, member-none}
-use Rattle.zdd_store.specs.Store.{Families, Keeps}
+use Rattle.zdd_store.specs.inner.Store.{Families, Keeps}
 use Rattle.zdd_store.specs.declared.id.Id.{Id}
 use Rattle.zdd_families.proofs.Ways.{Keeps_trans, Keeps_same}
 use Rattle.cutset_engine.specs.Gates.{covers_each, events_of}

@@ -4,9 +4,9 @@ use Rattle.std.specs.List.{AllByRecursion}
 use Rattle.fault_system.specs.Systems.{System}
 use Rattle.fault_system.specs.CutSets.{IsMinimalCutSet}
 use Rattle.fault_system.specs.Listings.{IsWithinOrder}
-use Rattle.zdd_store.specs.Family.{Family, covers, IsRising, IsAntichain}
-use Rattle.zdd_store.specs.Answers.{sets_up_to}
-use Rattle.zdd_store.specs.Store.{Families, IsIn, family_of}
+use Rattle.zdd_store.specs.inner.Family.{Family, covers, IsRising, IsAntichain}
+use Rattle.zdd_store.specs.inner.Answers.{sets_up_to}
+use Rattle.zdd_store.specs.inner.Store.{Families, IsIn, family_of}
 use Rattle.zdd_store.specs.declared.id.Id.{Id}
 
 -- the family has exactly the minimal cut sets of a target, of at most so many events where a greatest order is given

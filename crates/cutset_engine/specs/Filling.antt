@@ -5,7 +5,7 @@ use Rattle.fault_system.specs.Truth.{Has, member, occurs}
 use Rattle.fault_system.specs.Systems.{System, applied, Holds, holds_of, IsFact}
 use Rattle.fault_system.specs.Listings.{IsWithinOrder}
 use Rattle.fault_system.specs.declared.formula.FactInfo.{FactInfo}
-use Rattle.zdd_store.specs.Store.{Families, IsIn, Keeps}
+use Rattle.zdd_store.specs.inner.Store.{Families, IsIn, Keeps}
 use Rattle.zdd_store.specs.declared.id.Id.{Id}
 use Rattle.cutset_engine.specs.Gates.{covers_each, events_of}
 

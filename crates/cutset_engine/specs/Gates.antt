@@ -7,9 +7,9 @@ use Rattle.fault_system.specs.Listings.{IsWithinOrder}
 use Rattle.fault_system.specs.declared.formula.Formula.{Formula}
 use Rattle.cutset_engine.specs.declared.gates.Gate.{Gate}
 use Rattle.cutset_engine.specs.declared.gates.Gate.TheVariants.{And, Or}
-use Rattle.zdd_store.specs.Family.{has, covers}
+use Rattle.zdd_store.specs.inner.Family.{has, covers}
 use Rattle.family_renaming.specs.Renaming.{name_of}
-use Rattle.zdd_store.specs.Store.{Families, IsIn, family_of, Keeps}
+use Rattle.zdd_store.specs.inner.Store.{Families, IsIn, family_of, Keeps}
 use Rattle.zdd_store.specs.declared.id.Id.{Id}
 
 -- the events of a set of variables: the variable of an event stands in a table at its place, or is the event's own number

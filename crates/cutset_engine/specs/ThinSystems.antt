@@ -7,7 +7,7 @@ use Rattle.fault_system.specs.declared.formula.Formula.{Formula, fold-Formula}
 use Rattle.fault_system.specs.declared.formula.Formula.TheVariants.{True, Event, Fact, And, Or, AtLeast}
 use Rattle.fault_system.specs.declared.formula.Formula.TheOpen as open_one
 use Rattle.fault_system.specs.declared.formula.Formula.TheOpen.{Formula-F}
-use Rattle.zdd_store.specs.Family.{Family}
+use Rattle.zdd_store.specs.inner.Family.{Family}
 
 -- an event, or what is never true where it is one of those that are dropped
 abbrev pub thin_event : List Bool → ℕ → Formula

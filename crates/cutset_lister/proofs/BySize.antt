@@ -3,9 +3,9 @@ use Rattle.std.proofs.Common.{◌≡◌, ℕ, zero, suc, ◌+◌, ◌<◌, ◌�
 use Rattle.std.specs.List.{flat_map}
 use Rattle.std.specs.Prelude.{◌==◌}
 use Rattle.fault_system.proofs.Elements.{In, In-filter}
-use Rattle.zdd_store.specs.Family.{Family}
-use Rattle.zdd_store.specs.Answers.{sets_of}
-use Rattle.zdd_store.specs.Store.{Families, IsIn, IsSound, Keeps, family_at, family_of}
+use Rattle.zdd_store.specs.inner.Family.{Family}
+use Rattle.zdd_store.specs.inner.Answers.{sets_of}
+use Rattle.zdd_store.specs.inner.Store.{Families, IsIn, IsSound, Keeps, family_at, family_of}
 use Rattle.zdd_store.specs.declared.id.Id.{Id}
 use Rattle.zdd_families.proofs.Ways.{Keeps_trans}
 use Rattle.zdd_families.proofs.Sizing.{Keeps_is}

@@ -3,8 +3,8 @@ use Rattle.std.proofs.Common.{◌≡◌, ℕ, ◌+◌, ◌-◌, ◌≤◌, ◌�
 use Rattle.std.specs.List.{AllByRecursion, flat_map}
 use Rattle.fault_system.specs.Listings.{IsInListingOrder}
 use Rattle.fault_system.proofs.Elements.{each-made, contains_In}
-use Rattle.zdd_store.specs.Family.{Family, is_within}
-use Rattle.zdd_store.specs.Store.{Families, IsIn, IsSound, family_at, family_of}
+use Rattle.zdd_store.specs.inner.Family.{Family, is_within}
+use Rattle.zdd_store.specs.inner.Store.{Families, IsIn, IsSound, family_at, family_of}
 use Rattle.zdd_store.specs.declared.id.Id.{Id}
 use Rattle.zdd_store.proofs.Orders.{all_contained}
 use Rattle.cutset_lister.specs.Trails.{Trail, IsPlace, SameLeft, left_below, greatest_size}

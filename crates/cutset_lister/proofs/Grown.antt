@@ -1,8 +1,8 @@
 -- A listing in a store that grew.
 use Rattle.std.proofs.Common.{◌≡◌, ℕ, ◌+◌, List, [], ◌∷◌, ◌++◌, drop, zero, suc, refl, ap, ◌∙◌, arith}
 use Rattle.std.specs.List.{AllByRecursion, flat_map}
-use Rattle.zdd_store.specs.Family.{Family, branch}
-use Rattle.zdd_store.specs.Store.{Families, IsIn, Keeps, family_of}
+use Rattle.zdd_store.specs.inner.Family.{Family, branch}
+use Rattle.zdd_store.specs.inner.Store.{Families, IsIn, Keeps, family_of}
 use Rattle.zdd_store.specs.declared.id.Id.{Id}
 use Rattle.cutset_lister.specs.declared.path.Frame.{Frame}
 use Rattle.cutset_lister.specs.Trails.{Trail, IsPlace, left_below, greatest_size}

@@ -2,7 +2,7 @@
 use Rattle.std.specs.Prelude.{ℕ, ◌≡◌, List, [], ◌∷◌, Option, MatchOption, IfNone, ⊤}
 use Rattle.std.specs.Borrow.{MutBor, Bor, Fml, follows_so}
 use mathlib.Core.Option.{none}
-use Rattle.zdd_store.specs.Store.{Families}
+use Rattle.zdd_store.specs.inner.Store.{Families}
 use Rattle.cutset_lister.specs.Walks.{Walk, IsSameListing, sets_left}
 use Rattle.cutset_lister.specs.contracts.walk.Listing.{the_row}
 

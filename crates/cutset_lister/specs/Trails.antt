@@ -1,8 +1,8 @@
 -- The way down from a family to one of its sets, and the sets that are left to list there.
 use Rattle.std.specs.Prelude.{ℕ, ◌≤◌, ◌≡◌, List, [], ◌∷◌, length, map, max}
 use Rattle.std.specs.List.{AllByRecursion}
-use Rattle.zdd_store.specs.Family.{Family, branch}
-use Rattle.zdd_store.specs.Store.{Families, IsIn, IsSound, family_of}
+use Rattle.zdd_store.specs.inner.Family.{Family, branch}
+use Rattle.zdd_store.specs.inner.Store.{Families, IsIn, IsSound, family_of}
 use Rattle.zdd_store.specs.declared.id.Id.{Id}
 use Rattle.cutset_lister.specs.declared.path.Frame.{Frame}
 

@@ -1,9 +1,9 @@
 -- A listing as it goes: all its sets, and those that are left.
 use Rattle.std.specs.Prelude.{ℕ, ◌+◌, ◌≡◌, IsTrue, List, [], ◌∷◌, ◌++◌, length, drop}
 use Rattle.std.specs.List.{AllByRecursion, flat_map}
-use Rattle.zdd_store.specs.Family.{Family, is_within}
-use Rattle.zdd_store.specs.Answers.{sets_of}
-use Rattle.zdd_store.specs.Store.{Families, IsIn, family_of}
+use Rattle.zdd_store.specs.inner.Family.{Family, is_within}
+use Rattle.zdd_store.specs.inner.Answers.{sets_of}
+use Rattle.zdd_store.specs.inner.Store.{Families, IsIn, family_of}
 use Rattle.zdd_store.specs.declared.id.Id.{Id}
 use Rattle.cutset_lister.specs.Trails.{Trail, IsPlace, left_below}
 

@@ -1,6 +1,6 @@
 ghost use Rattle.std.specs.Prelude.{◌≡◌, ℕ, List as Items};
 ghost use Rattle.fault_system.specs.Systems.{System, IsSystem};
-ghost use Rattle.zdd_store.specs.Store.{Families, Keeps};
+ghost use Rattle.zdd_store.specs.inner.Store.{Families, Keeps};
 ghost use Rattle.cutset_lister.specs.SetText.{HasTokenNames, IsSetOfText};
 ghost use Rattle.cutset_lister.specs.Walks.{Walk, IsStarted, StaysStarted};
 

@@ -1,8 +1,8 @@
 ghost use Rattle.std.specs.Prelude.{◌≡◌, ◌+◌, ◌*◌, ◌≤◌, ◌↔◌, ◌∷◌, [], ℕ, List as Items, Contains, length, drop, filter, IfOk, IsTrue, MatchBool, MatchOption};
 ghost use Rattle.std.specs.Borrow.{sem};
 ghost use Rattle.fault_system.specs.Listings.{IsInListingOrder, is_before};
-ghost use Rattle.zdd_store.specs.Family.{Family, is_within};
-ghost use Rattle.zdd_store.specs.Store.{Families, IsIn, IsSound, Keeps, family_of};
+ghost use Rattle.zdd_store.specs.inner.Family.{Family, is_within};
+ghost use Rattle.zdd_store.specs.inner.Store.{Families, IsIn, IsSound, Keeps, family_of};
 
 use crate::moves::{descend, go_back, skip};
 use crate::parts::{next_part, part_of_size, parts_by_size};

@@ -1,8 +1,8 @@
 -- The sets of a family without a number, and those with it, branch by branch.
 use Rattle.std.proofs.Common.{◌≡◌, ◌<◌, ◌≤◌, ℕ, min, Bool, true, false, not, if◌then◌else◌, List, [], ◌∷◌, map, filter, refl, sym, ap, ◌∙◌, subst, arith, eqb-true, eq-eqb}
 use Rattle.std.specs.Prelude.{◌==◌, ◌||◌}
-use Rattle.zdd_store.specs.Family.{Family, branch, least_of, least_number, has}
-use Rattle.zdd_store.specs.Store.{Families, IsIn, family_of, family_with, Keeps, Fits, IsSound}
+use Rattle.zdd_store.specs.inner.Family.{Family, branch, least_of, least_number, has}
+use Rattle.zdd_store.specs.inner.Store.{Families, IsIn, family_of, family_with, Keeps, Fits, IsSound}
 use Rattle.zdd_store.specs.declared.id.Id.{Id}
 use Rattle.zdd_store.specs.declared.id.Node.{Node}
 use Rattle.zdd_store.proofs.Branches.{with_var, branch-with_var, branch-empty}

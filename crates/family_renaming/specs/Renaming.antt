@@ -1,7 +1,7 @@
 -- Families whose numbers are renamed, each set then written as the rising list of its new numbers.
 use Rattle.std.specs.Prelude.{ℕ, ◌<◌, ◌≡◌, ◌≢◌, Bool, List, [], ◌∷◌, length, slice_index_or, Contains, All, AllPairs}
 use Rattle.std.specs.List.{list_any}
-use Rattle.zdd_store.specs.Family.{Family}
+use Rattle.zdd_store.specs.inner.Family.{Family}
 use Rattle.zdd_families.specs.Unions.{with_number}
 
 -- the name of a number: it stands in a table at the number's place; where the table has none it is the number itself

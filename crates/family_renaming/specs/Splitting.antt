@@ -2,8 +2,8 @@
 use Rattle.std.specs.Prelude.{ℕ, ◌<◌, ◌≤◌, ◌≡◌, not, ◌==◌, if◌then◌else◌, List, [], ◌∷◌, map, filter, Option, Some, Result, IfOk}
 use Rattle.std.specs.HashMap.{get}
 use Rattle.std.specs.declared.alloc.AllocError.{AllocError}
-use Rattle.zdd_store.specs.Family.{Family, branch, least_number, has}
-use Rattle.zdd_store.specs.Store.{Families, IsIn, family_of, Keeps}
+use Rattle.zdd_store.specs.inner.Family.{Family, branch, least_number, has}
+use Rattle.zdd_store.specs.inner.Store.{Families, IsIn, family_of, Keeps}
 use Rattle.zdd_store.specs.declared.id.Id.{Id}
 use Rattle.family_renaming.specs.Renaming.{renamed, AreRenamed}
 use Rattle.family_renaming.specs.declared.parting.Parts.{Parts}

@@ -20,7 +20,7 @@ use Rattle.round_gates.proofs.OneTree.{one-tree, tree-or-large}
 use Rattle.round_gates.proofs.TreeTruth.{tree-truth}
 use Rattle.galileo_writer.specs.inner.TreeText.{HasTextNames}
 use Rattle.galileo_writer.proofs.TreeNames.{gates-differ}
-use Rattle.zdd_store.specs.Family.{Family, is_within}
+use Rattle.zdd_store.specs.inner.Family.{Family, is_within}
 use Rattle.cutset_engine.specs.Families.{HasMinimalCutSets}
 use Rattle.cutset_engine.proofs.InSlice.{minimal_in_slice}
 use Rattle.path_sets.specs.Duals.{IsWithoutFeedback, dual_of}

@@ -9,7 +9,7 @@ use Rattle.backward_slice.specs.Slices.{HasLargeSlice, IsServed}
 use Rattle.backward_slice.specs.declared.parts.Slice.{Slice}
 use Rattle.round_gates.specs.Targets.{HasLargeTree, IsTreeFor}
 use Rattle.round_gates.specs.declared.tree.Tree.{Tree}
-use Rattle.zdd_store.specs.Family.{Family}
+use Rattle.zdd_store.specs.inner.Family.{Family}
 use Rattle.path_sets.specs.Duals.{dual_of}
 use Rattle.path_sets.specs.GateSystems.{gate_system_of}
 

@@ -4,7 +4,7 @@ use Rattle.std.specs.Prelude.{IsTrue}
 use Rattle.fault_system.specs.Systems.{System}
 use Rattle.fault_system.specs.CutSets.{IsEventSet, IsMinimalCutSet}
 use Rattle.fault_system.specs.Listings.{IsListing}
-use Rattle.zdd_store.specs.Family.{Family, is_within}
+use Rattle.zdd_store.specs.inner.Family.{Family, is_within}
 use Rattle.cutset_engine.specs.Families.{HasMinimalCutSets}
 use Rattle.cutset_writer.specs.Pages.{Lists}
 use Rattle.fault_system.specs.Systems.{IsSystem}

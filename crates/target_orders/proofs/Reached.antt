@@ -12,8 +12,8 @@ use Rattle.fault_system.proofs.CutSetLaws.{Holds-grows}
 use Rattle.fault_system.proofs.ListingLaws.{covers, length_rising, listing-exact}
 use Rattle.fault_system.proofs.NumberSets.{RisesWithin-at, contained-in_set}
 use Rattle.dependency_blocks.proofs.AllFacts.{below-contained}
-use Rattle.zdd_store.specs.Family.{Family}
-use Rattle.zdd_store.specs.Store.{Families, IsIn, IsSound, family_at, family_of}
+use Rattle.zdd_store.specs.inner.Family.{Family}
+use Rattle.zdd_store.specs.inner.Store.{Families, IsIn, IsSound, family_at, family_of}
 use Rattle.zdd_store.specs.declared.id.Id.{Id}
 use Rattle.zdd_store.proofs.Orders.{contains_first}
 use Rattle.cutset_engine.specs.Families.{HasMinimalCutSets}

@@ -3,9 +3,9 @@ use Rattle.std.proofs.Common.{◌≡◌, ℕ, ◌<◌, ◌≤◌, min, Bool, tru
 use Rattle.std.specs.Prelude.{IfOk, IsTrue}
 use Rattle.std.specs.declared.alloc.AllocError.{AllocError}
 use Rattle.std.proofs.lemmas.Bool.{false≢true}
-use Rattle.zdd_store.specs.Family.{Family, branch, least_number, has, covers, IsAntichain, sets_without}
-use Rattle.zdd_store.specs.Store.{Families, IsIn, family_at, family_of, family_with, Keeps, Fits, IsSound}
-use Rattle.zdd_store.specs.Answers.{IsCovering, IsWide, IsLeastFamily}
+use Rattle.zdd_store.specs.inner.Family.{Family, branch, least_number, has, covers, IsAntichain, sets_without}
+use Rattle.zdd_store.specs.inner.Store.{Families, IsIn, family_at, family_of, family_with, Keeps, Fits, IsSound}
+use Rattle.zdd_store.specs.inner.Answers.{IsCovering, IsWide, IsLeastFamily}
 use Rattle.zdd_store.specs.declared.id.Id.{Id}
 use Rattle.zdd_store.specs.declared.id.Node.{Node}
 use Rattle.zdd_store.proofs.Branches.{branch-empty, same_branch, le-least_number-branch}

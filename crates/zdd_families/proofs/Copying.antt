@@ -2,8 +2,8 @@
 use Rattle.std.proofs.Common.{◌≡◌, ℕ, zero, suc, ◌<◌, ◌≤◌, Bool, true, false, cond, length, Option, Some, Result, Ok, Err, refl, sym, ap, ◌∙◌, subst, arith}
 use Rattle.std.specs.Prelude.{IfOk}
 use Rattle.std.specs.declared.alloc.AllocError.{AllocError}
-use Rattle.zdd_store.specs.Family.{Family, branch, least_number}
-use Rattle.zdd_store.specs.Store.{Families, IsIn, family_at, family_of, family_with, Keeps, Fits, IsSound}
+use Rattle.zdd_store.specs.inner.Family.{Family, branch, least_number}
+use Rattle.zdd_store.specs.inner.Store.{Families, IsIn, family_at, family_of, family_with, Keeps, Fits, IsSound}
 use Rattle.zdd_store.specs.declared.id.Id.{Id}
 use Rattle.zdd_store.specs.declared.id.Node.{Node}
 use Rattle.zdd_families.specs.Copies.{IsCopy, KnowsCopies, Copied}

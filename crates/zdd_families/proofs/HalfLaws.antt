@@ -3,9 +3,9 @@ use Rattle.std.proofs.Common.{◌≡◌, ℕ, ◌<◌, ◌≤◌, min, Bool, tru
 use Rattle.std.specs.Prelude.{IfOk}
 use Rattle.std.specs.declared.alloc.AllocError.{AllocError}
 use Rattle.std.proofs.lemmas.Bool.{false≢true}
-use Rattle.zdd_store.specs.Family.{Family, least_number, is_within, covers, sets_without, IsAntichain}
-use Rattle.zdd_store.specs.Store.{Families, IsIn, family_at, family_of, Keeps, IsSound}
-use Rattle.zdd_store.specs.Answers.{IsLeastFamily, IsAsked, IsLeastUpTo, IsProductUpTo}
+use Rattle.zdd_store.specs.inner.Family.{Family, least_number, is_within, covers, sets_without, IsAntichain}
+use Rattle.zdd_store.specs.inner.Store.{Families, IsIn, family_at, family_of, Keeps, IsSound}
+use Rattle.zdd_store.specs.inner.Answers.{IsLeastFamily, IsAsked, IsLeastUpTo, IsProductUpTo}
 use Rattle.zdd_store.specs.declared.id.Id.{Id}
 use Rattle.zdd_families.specs.Steps.{IsFound, Answered, IsHalved, AreHalves, least_of_halves, of_halves, either, both}
 use Rattle.zdd_families.specs.declared.halving.Halves.{Halves}

@@ -2,9 +2,9 @@
 use Rattle.std.proofs.Common.{◌≡◌, ℕ, ◌+◌, ◌<◌, ◌≤◌, min, Bool, true, false, ◌&&◌, ◌||◌, List, length, Result, Ok, Err, refl, sym, ap, ◌∙◌, subst, arith}
 use Rattle.std.specs.Prelude.{IfOk}
 use Rattle.std.specs.declared.alloc.AllocError.{AllocError}
-use Rattle.zdd_store.specs.Family.{Family, least_number, has, covers, IsAntichain}
-use Rattle.zdd_store.specs.Store.{Families, IsIn, family_at, family_of, Keeps, IsSound}
-use Rattle.zdd_store.specs.Answers.{IsLeastFamily, IsAsked, IsLeastUpTo, IsProductUpTo}
+use Rattle.zdd_store.specs.inner.Family.{Family, least_number, has, covers, IsAntichain}
+use Rattle.zdd_store.specs.inner.Store.{Families, IsIn, family_at, family_of, Keeps, IsSound}
+use Rattle.zdd_store.specs.inner.Answers.{IsLeastFamily, IsAsked, IsLeastUpTo, IsProductUpTo}
 use Rattle.zdd_store.specs.declared.id.Id.{Id}
 use Rattle.zdd_store.proofs.Orders.{contains_none}
 use Rattle.zdd_store.proofs.Terminals.{least-empty}

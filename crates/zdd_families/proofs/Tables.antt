@@ -5,9 +5,9 @@ use Rattle.std.proofs.lemmas.List.{get_or_default, length-map}
 use Rattle.std.proofs.Math.ListN.{get_or-append}
 use Rattle.std.proofs.Math.Seq.{get_or-append_seam}
 use Rattle.std.proofs.lemmas.Bool.{cases_lt}
-use Rattle.zdd_store.specs.Family.{Family, covers, IsAntichain, IsRising}
-use Rattle.zdd_store.specs.Store.{Families, IsIn, family_at, family_of, Keeps, IsSound}
-use Rattle.zdd_store.specs.Answers.{IsAsked, IsLeastUpTo}
+use Rattle.zdd_store.specs.inner.Family.{Family, covers, IsAntichain, IsRising}
+use Rattle.zdd_store.specs.inner.Store.{Families, IsIn, family_at, family_of, Keeps, IsSound}
+use Rattle.zdd_store.specs.inner.Answers.{IsAsked, IsLeastUpTo}
 use Rattle.zdd_store.specs.declared.id.Id.{Id}
 use Rattle.zdd_families.specs.Steps.{IsFound}
 use Rattle.zdd_families.specs.Unions.{some_of}

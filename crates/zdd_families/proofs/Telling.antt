@@ -3,8 +3,8 @@ use Rattle.std.proofs.Common.{◌≡◌, ℕ, zero, suc, ◌+◌, ◌<◌, ◌�
 use Rattle.std.specs.Prelude.{nat_lt, ◌==◌, if◌then◌else◌}
 use Rattle.std.specs.List.{AllByRecursion}
 use Rattle.std.proofs.lemmas.Bool.{false≢true, lt-ltb, ltb-true, cases_lt, eqb-false}
-use Rattle.zdd_store.specs.Family.{Family, least_of, has, is_within, covers, IsRising, IsMinimal}
-use Rattle.zdd_store.specs.Answers.{IsLeastFamily}
+use Rattle.zdd_store.specs.inner.Family.{Family, least_of, has, is_within, covers, IsRising, IsMinimal}
+use Rattle.zdd_store.specs.inner.Answers.{IsLeastFamily}
 use Rattle.zdd_store.proofs.Orders.{all_contained}
 use Rattle.zdd_families.specs.Unions.{with_number, union_of, HasMinimalSets, IsInEither, IsUnionOfBoth, IsUnionOfSome, some_of}
 use Rattle.zdd_families.specs.Steps.{either, both}

@@ -1,8 +1,8 @@
 -- Families that stand in another store too.
 use Rattle.std.specs.Prelude.{ℕ, ◌≡◌, Option, Some, Result, IfOk}
 use Rattle.std.specs.declared.alloc.AllocError.{AllocError}
-use Rattle.zdd_store.specs.Family.{Family}
-use Rattle.zdd_store.specs.Store.{Families, IsIn, family_of, Keeps}
+use Rattle.zdd_store.specs.inner.Family.{Family}
+use Rattle.zdd_store.specs.inner.Store.{Families, IsIn, family_of, Keeps}
 use Rattle.zdd_store.specs.declared.id.Id.{Id}
 
 -- a number of the store that stands for a family

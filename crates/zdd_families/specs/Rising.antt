@@ -1,8 +1,8 @@
 -- The parts of families at a variable, of which that with the variable covers what the other does.
 use Rattle.std.specs.Prelude.{ℕ, ◌<◌, ◌≡◌, List, Result, IfOk, IsTrue}
 use Rattle.std.specs.declared.alloc.AllocError.{AllocError}
-use Rattle.zdd_store.specs.Family.{Family, least_number, covers}
-use Rattle.zdd_store.specs.Store.{Families, IsIn, family_of, Keeps}
+use Rattle.zdd_store.specs.inner.Family.{Family, least_number, covers}
+use Rattle.zdd_store.specs.inner.Store.{Families, IsIn, family_of, Keeps}
 use Rattle.zdd_store.specs.declared.id.Id.{Id}
 use Rattle.zdd_families.specs.Steps.{joined}
 use Rattle.zdd_families.specs.declared.split.Parts.{Parts}

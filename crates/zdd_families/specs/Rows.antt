@@ -1,9 +1,9 @@
 -- Rows of the table of at least so many of some families: the entry at k has the minimal sets of at least k of them, as far as
 -- sets are asked for.
 use Rattle.std.specs.Prelude.{ℕ, zero, suc, ◌<◌, ◌≡◌, Bool, ◌&&◌, ◌||◌, List, length, slice_index_or}
-use Rattle.zdd_store.specs.Family.{Family, covers, IsAntichain}
-use Rattle.zdd_store.specs.Store.{Families, IsIn, family_of}
-use Rattle.zdd_store.specs.Answers.{IsLeastUpTo}
+use Rattle.zdd_store.specs.inner.Family.{Family, covers, IsAntichain}
+use Rattle.zdd_store.specs.inner.Store.{Families, IsIn, family_of}
+use Rattle.zdd_store.specs.inner.Answers.{IsLeastUpTo}
 use Rattle.zdd_store.specs.declared.id.Id.{Id}
 use Rattle.zdd_families.specs.Steps.{IsFound}
 use Rattle.zdd_families.specs.Unions.{some_of}

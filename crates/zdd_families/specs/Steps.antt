@@ -1,8 +1,8 @@
 -- What an operation answers, and how a family is split at a variable.
 use Rattle.std.specs.Prelude.{ℕ, ◌<◌, ◌≤◌, ◌≡◌, min, Bool, true, ◌&&◌, ◌||◌, List, Result, IfOk}
 use Rattle.std.specs.declared.alloc.AllocError.{AllocError}
-use Rattle.zdd_store.specs.Family.{Family, branch, least_number, covers, has, IsAntichain}
-use Rattle.zdd_store.specs.Store.{Families, IsIn, family_of, Keeps}
+use Rattle.zdd_store.specs.inner.Family.{Family, branch, least_number, covers, has, IsAntichain}
+use Rattle.zdd_store.specs.inner.Store.{Families, IsIn, family_of, Keeps}
 use Rattle.zdd_store.specs.declared.id.Id.{Id}
 use Rattle.zdd_families.specs.declared.split.Parts.{Parts}
 use Rattle.zdd_families.specs.declared.halving.Halves.{Halves}

@@ -1,6 +1,6 @@
 -- Unions of sets, and the families that have exactly the minimal sets of a property.
 use Rattle.std.specs.Prelude.{ℕ, zero, suc, ◌≡◌, ◌⊎◌, ◌↔◌, Bool, true, false, ◌&&◌, ◌||◌, List, [], ◌∷◌, Contains, if◌then◌else◌, nat_lt, ◌==◌}
-use Rattle.zdd_store.specs.Family.{Family, IsMinimal, covers}
+use Rattle.zdd_store.specs.inner.Family.{Family, IsMinimal, covers}
 
 -- a rising list with one more number at its place, where it is not there yet
 abbrev pub with_number : ℕ → List ℕ → List ℕ

@@ -1,6 +1,6 @@
 ghost use Rattle.std.specs.Prelude.{◌≡◌, IsTrue};
-ghost use Rattle.zdd_store.specs.Family.{least_number, sets_without};
-ghost use Rattle.zdd_store.specs.Store.{IsIn, family_of};
+ghost use Rattle.zdd_store.specs.inner.Family.{least_number, sets_without};
+ghost use Rattle.zdd_store.specs.inner.Store.{IsIn, family_of};
 ghost use Rattle.zdd_families.specs.Steps.{Answered};
 
 use crate::memory::{known, note};

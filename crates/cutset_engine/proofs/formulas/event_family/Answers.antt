@@ -1,5 +1,5 @@
 use Rattle.std.proofs.Common.{ap}
-use Rattle.zdd_store.specs.Family.{has}
+use Rattle.zdd_store.specs.inner.Family.{has}
 use Rattle.cutset_engine.specs.Gates.{events_of}
 use Rattle.cutset_engine.proofs.Parts.{event_made}
 use Rattle.cutset_engine.proofs.formulas.event_family.Goals as goal

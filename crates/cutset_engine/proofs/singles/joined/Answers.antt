@@ -1,5 +1,5 @@
 use Rattle.std.proofs.Common.{◌<◌, IfOk, length, subst, sym}
-use Rattle.zdd_store.specs.Store.{Families, Keeps, family_of}
+use Rattle.zdd_store.specs.inner.Store.{Families, Keeps, family_of}
 use Rattle.zdd_families.specs.Unions.{HasMinimalSets, IsInEither}
 use Rattle.cutset_engine.proofs.singles.joined.Goals as goal
 

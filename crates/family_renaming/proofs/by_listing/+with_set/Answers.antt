@@ -1,6 +1,6 @@
 use Rattle.std.proofs.Common.{◌≡◌, ◌<◌, ◌∷◌, sym, ap, subst, ◌∙◌}
-use Rattle.zdd_store.specs.Family.{branch, least_of, least_number}
-use Rattle.zdd_store.specs.Store.{family_of, family_at}
+use Rattle.zdd_store.specs.inner.Family.{branch, least_of, least_number}
+use Rattle.zdd_store.specs.inner.Store.{family_of, family_at}
 use Rattle.zdd_store.proofs.Branches.{branch-empty}
 use Rattle.zdd_store.proofs.Growing.{Keeps-same}
 use Rattle.family_renaming.specs.Lists.{HasOneMore}

@@ -1,5 +1,5 @@
 use Rattle.std.proofs.Common.{◌≤◌, length, arith, subst}
-use Rattle.zdd_store.specs.Store.{family_of}
+use Rattle.zdd_store.specs.inner.Store.{family_of}
 use Rattle.zdd_families.proofs.Ways.{Keeps_trans}
 use Rattle.family_renaming.specs.Lists.{HasOneMore}
 use Rattle.family_renaming.proofs.Added.{has_more}

@@ -1,6 +1,6 @@
 use Rattle.std.proofs.Common.{subst, ap, ◌∙◌}
 use Rattle.std.proofs.lemmas.Result.{err_from_is_err_and}
-use Rattle.zdd_store.specs.Store.{family_of}
+use Rattle.zdd_store.specs.inner.Store.{family_of}
 use Rattle.family_renaming.specs.Renaming.{name_of}
 use Rattle.family_renaming.specs.Splitting.{IsParted}
 use Rattle.family_renaming.proofs.Firsts.{at_least_event}

@@ -1,5 +1,5 @@
 use Rattle.std.proofs.lemmas.Result.{err_from_is_err_and}
-use Rattle.zdd_store.specs.Store.{family_of}
+use Rattle.zdd_store.specs.inner.Store.{family_of}
 use Rattle.cutset_lister.specs.Walks.{all_sets}
 use Rattle.path_sets.specs.Duals.{dual_of}
 use Rattle.system_answers.proofs.Listed.{path_listed, slice_stop}

@@ -1,6 +1,6 @@
 use Rattle.std.proofs.Common.{◌≡◌, ◌≤◌, ◌+◌, ◌-◌, ◌<◌, ◌∷◌, List, length, get_or, drop, map, ap, ◌∙◌, sym, subst, arith}
-use Rattle.zdd_store.specs.Family.{Family, covers}
-use Rattle.zdd_store.specs.Store.{family_of}
+use Rattle.zdd_store.specs.inner.Family.{Family, covers}
+use Rattle.zdd_store.specs.inner.Store.{family_of}
 use Rattle.zdd_store.specs.declared.id.Id.{Id}
 use Rattle.zdd_families.specs.Rows.{IsRow}
 use Rattle.zdd_families.proofs.Ways.{Keeps_trans}

@@ -1,6 +1,6 @@
 use Rattle.std.proofs.Common.{◌≡◌, ℕ, ◌<◌, length}
 use Rattle.std.specs.Prelude.{slice_index_or}
-use Rattle.zdd_store.specs.Store.{Keeps}
+use Rattle.zdd_store.specs.inner.Store.{Keeps}
 use Rattle.zdd_store.specs.declared.id.Id.{Id}
 use Rattle.zdd_families.specs.Rows.{IsEntry}
 use Rattle.zdd_families.proofs.choice.next_row.Given as goal

@@ -1,7 +1,7 @@
 use Rattle.std.proofs.Common.{sym, subst}
 use Rattle.std.specs.HashMap.{get}
 use Rattle.std.specs.Prelude.{IfOk}
-use Rattle.zdd_store.specs.Store.{family_of, Keeps}
+use Rattle.zdd_store.specs.inner.Store.{family_of, Keeps}
 use Rattle.zdd_store.specs.contracts.id.IdPartialEq.TheImpl.{eq-value as id_eq}
 use Rattle.zdd_families.proofs.Ways.{Keeps_same, Keeps_trans}
 use Rattle.zdd_families.proofs.Copying.{copied_terminal, copy_kept, copies_kept, copy_above, copy_made}

@@ -1,4 +1,4 @@
-use Rattle.zdd_store.specs.Store.{family_of}
+use Rattle.zdd_store.specs.inner.Store.{family_of}
 use Rattle.zdd_families.specs.Steps.{both}
 use Rattle.zdd_families.specs.Unions.{IsUnionOfBoth}
 use Rattle.zdd_families.proofs.Telling.{minimal_sets_of, tells_both}

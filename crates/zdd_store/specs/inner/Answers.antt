@@ -1,8 +1,8 @@
 -- What the store remembers: questions on its families, each with a right answer; and what is known of families.
 use Rattle.std.specs.Prelude.{ℕ, ◌<◌, ◌≤◌, ◌≡◌, Bool, List, length, filter, min, IsTrue, ◌==◌, ◌&&◌, ◌||◌, nat_le, All, Option, Some}
 use Rattle.std.specs.List.{AllByRecursion}
-use Rattle.zdd_store.specs.Family.{Family, branch, covers, least_number, sets_without, IsAntichain}
-use Rattle.zdd_store.specs.Store.{Families, family_at}
+use Rattle.zdd_store.specs.inner.Family.{Family, branch, covers, least_number, sets_without, IsAntichain}
+use Rattle.zdd_store.specs.inner.Store.{Families, family_at}
 use Rattle.zdd_store.specs.declared.question.Operation.{Operation}
 use Rattle.zdd_store.specs.declared.question.Operation.TheVariants.{Minimal, MinUnion, MinProduct, Without, UpToSize, OfSize, Union, Meet}
 use Rattle.zdd_store.specs.declared.question.Question.{Question}

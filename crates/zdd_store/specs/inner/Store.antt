@@ -1,7 +1,7 @@
 -- What the numbers of a store stand for.
 use Rattle.std.specs.Prelude.{ℕ, ◌<◌, ◌≤◌, ◌≡◌, List, [], ◌∷◌, length, slice_index_or}
 use Rattle.std.specs.List.{AllByRecursion}
-use Rattle.zdd_store.specs.Family.{Family, branch, least_number, IsRising, IsInOrder, HaveSameSets}
+use Rattle.zdd_store.specs.inner.Family.{Family, branch, least_number, IsRising, IsInOrder, HaveSameSets}
 use Rattle.zdd_store.specs.declared.id.Id.{Id}
 use Rattle.zdd_store.specs.declared.id.Node.{Node}
 

@@ -1,7 +1,7 @@
 -- The nodes of a store, and the families that they make.
 use Rattle.std.specs.Prelude.{ℕ, ◌+◌, ◌<◌, ◌≡◌, List, [], ◌∷◌, ◌++◌, length, fold, slice_get, Some}
-use Rattle.zdd_store.specs.Store.{Families, family_at, family_with, no_nodes, Fits, IsSound}
-use Rattle.zdd_store.specs.Answers.{HasShape}
+use Rattle.zdd_store.specs.inner.Store.{Families, family_at, family_with, no_nodes, Fits, IsSound}
+use Rattle.zdd_store.specs.inner.Answers.{HasShape}
 use Rattle.zdd_store.specs.declared.id.Node.{Node}
 use Rattle.zdd_store.specs.declared.shapes.Shape.{Shape}
 
