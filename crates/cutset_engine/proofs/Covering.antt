@@ -11,7 +11,7 @@ use Rattle.zdd_store.specs.inner.Family.{covers, IsRising}
 use Rattle.zdd_store.specs.inner.Store.{Families, IsIn, family_of, Keeps, IsSound}
 use Rattle.zdd_store.specs.inner.Answers.{sets_up_to, IsAsked, IsLeastUpTo}
 use Rattle.zdd_store.specs.declared.id.Id.{Id}
-use Rattle.zdd_families.specs.Unions.{some_of}
+use Rattle.zdd_families.specs.inner.Unions.{some_of}
 use Rattle.zdd_families.proofs.Ways.{Keeps_trans, Keeps_same}
 use Rattle.zdd_families.proofs.Pairs.{covers-empty, covers-unit}
 use Rattle.zdd_families.proofs.Shorter.{covers_cut}

@@ -10,7 +10,7 @@ use Rattle.fault_system.specs.Listings.{IsWithinOrder}
 use Rattle.fault_system.proofs.Occurrences.{occurs_event-in_range, fact-in_range}
 use Rattle.zdd_store.specs.inner.Family.{Family, least_of, has, is_within, covers, IsRising, IsAntichain}
 use Rattle.zdd_store.proofs.Orders.{all_contained}
-use Rattle.zdd_families.specs.Unions.{HasMinimalSets}
+use Rattle.zdd_families.specs.inner.Unions.{HasMinimalSets}
 use Rattle.zdd_families.proofs.Subsets.{has_first, has_rest, has_cases, has_none, least-has, within_has, within_from, within_self, within_trans}
 use Rattle.zdd_families.proofs.Covers.{covers_member, member_covers, covers_more}
 use Rattle.zdd_families.proofs.Telling.{Tells, minimal_sets_of}

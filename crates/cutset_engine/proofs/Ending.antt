@@ -17,7 +17,7 @@ use Rattle.zdd_store.specs.inner.Answers.{sets_up_to, IsLeastFamily}
 use Rattle.zdd_store.specs.inner.Store.{Families, IsIn, family_of, family_at, IsSound}
 use Rattle.zdd_store.specs.declared.id.Id.{Id}
 use lib.ListN.{length-map}
-use Rattle.zdd_families.specs.Steps.{either}
+use Rattle.zdd_families.specs.inner.Steps.{either}
 use Rattle.zdd_families.proofs.Pairs.{covers-empty}
 use Rattle.family_renaming.specs.Renaming.{name_of, renamed, AreInverse, IsRenamedOf}
 use Rattle.cutset_engine.specs.Gates.{covers_each, events_of}

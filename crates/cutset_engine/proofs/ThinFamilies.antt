@@ -10,7 +10,7 @@ use Rattle.zdd_store.specs.inner.Store.{Families, IsIn, family_of, family_with, 
 use Rattle.zdd_store.specs.declared.id.Id.{Id}
 use Rattle.zdd_store.specs.declared.id.Node.{Node}
 use Rattle.zdd_store.proofs.Orders.{contains_first}
-use Rattle.zdd_families.specs.Unions.{HasMinimalSets, IsInEither}
+use Rattle.zdd_families.specs.inner.Unions.{HasMinimalSets, IsInEither}
 use Rattle.zdd_families.proofs.Joins.{lo_in_branch, hi_in_branch}
 use Rattle.zdd_families.proofs.Subsets.{has_first, has_rest, has_cases, has_none, within_has, within_from}
 use Rattle.cutset_engine.specs.Families.{HasMinimalCutSets}

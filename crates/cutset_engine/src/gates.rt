@@ -5,7 +5,7 @@ ghost use Rattle.fault_system.specs.Listings.{IsWithinOrder};
 ghost use Rattle.zdd_store.specs.inner.Family.{covers};
 ghost use Rattle.zdd_store.specs.inner.Store.{IsIn, family_of};
 ghost use Rattle.zdd_store.specs.inner.Answers.{IsAsked};
-ghost use Rattle.zdd_families.specs.Steps.{either, both};
+ghost use Rattle.zdd_families.specs.inner.Steps.{either, both};
 ghost use Rattle.cutset_engine.specs.Gates.{Made, covers_each, of_all, of_both};
 
 use plain_values::Mem;

@@ -5,7 +5,7 @@ ghost use Rattle.fault_system.specs.Truth.{Has, member};
 ghost use Rattle.fault_system.specs.Listings.{IsWithinOrder};
 ghost use Rattle.zdd_store.specs.inner.Family.{IsAntichain};
 ghost use Rattle.zdd_store.specs.inner.Store.{IsIn, family_of, Keeps};
-ghost use Rattle.zdd_families.specs.Unions.{HasMinimalSets, IsInEither};
+ghost use Rattle.zdd_families.specs.inner.Unions.{HasMinimalSets, IsInEither};
 ghost use Rattle.backward_slice.specs.Slices.{IsSlice};
 ghost use Rattle.cutset_engine.specs.Families.{HasMinimalCutSets};
 ghost use Rattle.cutset_engine.specs.ThinSystems.{AreSingles};

@@ -13,7 +13,7 @@ use Rattle.zdd_store.proofs.Terminals.{least-empty, least-unit}
 use Rattle.zdd_families.proofs.Above.{least_number-most}
 use Rattle.zdd_families.proofs.Ways.{Keeps_trans}
 use Rattle.zdd_families.proofs.Splits.{least-terminal}
-use Rattle.zdd_families.specs.Unions.{with_number}
+use Rattle.zdd_families.specs.inner.Unions.{with_number}
 use Rattle.family_renaming.specs.Renaming.{name_of, AreRenamed}
 use Rattle.family_renaming.specs.Lists.{with_names, ListsMore, HasOneMore, OneMore, HasSets}
 use Rattle.family_renaming.proofs.Firsts.{any-branch}

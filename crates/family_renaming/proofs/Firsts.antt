@@ -10,7 +10,7 @@ use Rattle.zdd_store.specs.declared.id.Node.{Node}
 use Rattle.zdd_store.proofs.Branches.{with_var, branch-with_var, le-least_number-branch}
 use Rattle.zdd_store.proofs.Growing.{some_set}
 use Rattle.zdd_families.proofs.Subsets.{has-greater}
-use Rattle.zdd_families.specs.Unions.{with_number}
+use Rattle.zdd_families.specs.inner.Unions.{with_number}
 use Rattle.family_renaming.specs.Renaming.{name_of, renamed, AreInverse, AreRenamed}
 use Rattle.family_renaming.specs.Splitting.{sets_lacking, set_without, sets_having, IsParted, least_event, IsAtEvent, IsOrdered}
 use Rattle.family_renaming.specs.declared.parting.Parts.{Parts}

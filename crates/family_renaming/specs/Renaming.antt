@@ -2,7 +2,7 @@
 use Rattle.std.specs.Prelude.{ℕ, ◌<◌, ◌≡◌, ◌≢◌, Bool, List, [], ◌∷◌, length, slice_index_or, Contains, All, AllPairs}
 use Rattle.std.specs.List.{list_any}
 use Rattle.zdd_store.specs.inner.Family.{Family}
-use Rattle.zdd_families.specs.Unions.{with_number}
+use Rattle.zdd_families.specs.inner.Unions.{with_number}
 
 -- the name of a number: it stands in a table at the number's place; where the table has none it is the number itself
 abbrev pub name_of : List ℕ → ℕ → ℕ

@@ -9,8 +9,8 @@ use Rattle.zdd_store.specs.inner.Answers.{IsCovering, IsWide, IsLeastFamily}
 use Rattle.zdd_store.specs.declared.id.Id.{Id}
 use Rattle.zdd_store.specs.declared.id.Node.{Node}
 use Rattle.zdd_store.proofs.Branches.{branch-empty, same_branch, le-least_number-branch}
-use Rattle.zdd_families.specs.Steps.{IsFound, Answered, IsSplit, joined}
-use Rattle.zdd_families.specs.Rising.{ArePartsOf, AreBothParts}
+use Rattle.zdd_families.specs.inner.Steps.{IsFound, Answered, IsSplit, joined}
+use Rattle.zdd_families.specs.inner.Rising.{ArePartsOf, AreBothParts}
 use Rattle.zdd_families.specs.declared.split.Parts.{Parts}
 use Rattle.zdd_families.specs.declared.wide.BothParts.{BothParts}
 use Rattle.zdd_families.proofs.Booleans.{or_left, or_right, or_cases}

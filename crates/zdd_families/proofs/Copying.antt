@@ -6,7 +6,7 @@ use Rattle.zdd_store.specs.inner.Family.{Family, branch, least_number}
 use Rattle.zdd_store.specs.inner.Store.{Families, IsIn, family_at, family_of, family_with, Keeps, Fits, IsSound}
 use Rattle.zdd_store.specs.declared.id.Id.{Id}
 use Rattle.zdd_store.specs.declared.id.Node.{Node}
-use Rattle.zdd_families.specs.Copies.{IsCopy, KnowsCopies, Copied}
+use Rattle.zdd_families.specs.inner.Copies.{IsCopy, KnowsCopies, Copied}
 use Rattle.zdd_families.proofs.Ways.{Keeps_trans, Keeps_same}
 use Rattle.zdd_families.proofs.Pairs.{found_kept}
 

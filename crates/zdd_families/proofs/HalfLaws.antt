@@ -7,7 +7,7 @@ use Rattle.zdd_store.specs.inner.Family.{Family, least_number, is_within, covers
 use Rattle.zdd_store.specs.inner.Store.{Families, IsIn, family_at, family_of, Keeps, IsSound}
 use Rattle.zdd_store.specs.inner.Answers.{IsLeastFamily, IsAsked, IsLeastUpTo, IsProductUpTo}
 use Rattle.zdd_store.specs.declared.id.Id.{Id}
-use Rattle.zdd_families.specs.Steps.{IsFound, Answered, IsHalved, AreHalves, least_of_halves, of_halves, either, both}
+use Rattle.zdd_families.specs.inner.Steps.{IsFound, Answered, IsHalved, AreHalves, least_of_halves, of_halves, either, both}
 use Rattle.zdd_families.specs.declared.halving.Halves.{Halves}
 use Rattle.zdd_families.proofs.Booleans.{or_left, or_right, same_test}
 use Rattle.zdd_families.proofs.Subsets.{within_self}

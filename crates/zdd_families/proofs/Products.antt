@@ -8,8 +8,8 @@ use Rattle.zdd_store.specs.inner.Answers.{IsLeastFamily, IsAsked, IsLeastUpTo, I
 use Rattle.zdd_store.specs.declared.id.Id.{Id}
 use Rattle.zdd_store.proofs.Orders.{contains_none}
 use Rattle.zdd_store.proofs.Terminals.{least-empty}
-use Rattle.zdd_families.specs.Steps.{IsFound, Answered, IsSplit, CanCross, IsOperand, joined, either, both, across}
-use Rattle.zdd_families.specs.Rows.{with_part}
+use Rattle.zdd_families.specs.inner.Steps.{IsFound, Answered, IsSplit, CanCross, IsOperand, joined, either, both, across}
+use Rattle.zdd_families.specs.inner.Rows.{with_part}
 use Rattle.zdd_families.specs.declared.split.Parts.{Parts}
 use Rattle.zdd_families.proofs.Covers.{covers-branch}
 use Rattle.zdd_families.proofs.Above.{above, above-shorter, covers-above, least_number-most}

@@ -9,7 +9,7 @@ use Rattle.zdd_store.specs.inner.Answers.{HasAtLeast, HasAtMost, sets_up_to, set
 use Rattle.zdd_store.specs.declared.id.Id.{Id}
 use Rattle.zdd_store.proofs.Branches.{branch-empty}
 use Rattle.zdd_store.proofs.Orders.{all_contained}
-use Rattle.zdd_families.specs.Steps.{IsFound, Answered, IsSplit}
+use Rattle.zdd_families.specs.inner.Steps.{IsFound, Answered, IsSplit}
 use Rattle.zdd_families.specs.declared.split.Parts.{Parts}
 use Rattle.zdd_families.proofs.Ways.{answered, Keeps_same}
 use Rattle.zdd_families.proofs.Booleans.{same_test}

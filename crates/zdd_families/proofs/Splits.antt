@@ -8,7 +8,7 @@ use Rattle.zdd_store.proofs.Branches.{branch-empty, least_number-branch}
 use Rattle.zdd_store.proofs.Growing.{some_set}
 use Rattle.zdd_store.proofs.Terminals.{least-empty, least-unit}
 use Rattle.zdd_store.proofs.Orders.{contains_none}
-use Rattle.zdd_families.specs.Steps.{IsSplit}
+use Rattle.zdd_families.specs.inner.Steps.{IsSplit}
 use Rattle.zdd_families.proofs.Joins.{antichain-lo, antichain-hi}
 
 -- the least number of a node's family is its variable

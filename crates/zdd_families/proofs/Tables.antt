@@ -9,9 +9,9 @@ use Rattle.zdd_store.specs.inner.Family.{Family, covers, IsAntichain, IsRising}
 use Rattle.zdd_store.specs.inner.Store.{Families, IsIn, family_at, family_of, Keeps, IsSound}
 use Rattle.zdd_store.specs.inner.Answers.{IsAsked, IsLeastUpTo}
 use Rattle.zdd_store.specs.declared.id.Id.{Id}
-use Rattle.zdd_families.specs.Steps.{IsFound}
-use Rattle.zdd_families.specs.Unions.{some_of}
-use Rattle.zdd_families.specs.Rows.{IsMinimalNumber, IsRow, with_part, IsEntry, IsNextRow}
+use Rattle.zdd_families.specs.inner.Steps.{IsFound}
+use Rattle.zdd_families.specs.inner.Unions.{some_of}
+use Rattle.zdd_families.specs.inner.Rows.{IsMinimalNumber, IsRow, with_part, IsEntry, IsNextRow}
 use Rattle.zdd_store.proofs.Orders.{first_or_rest, contains_none}
 use Rattle.zdd_families.proofs.Pairs.{apart_kept, found_kept, covers-empty, covers-unit}
 use Rattle.zdd_families.proofs.Products.{retest_to}

@@ -7,8 +7,8 @@ ghost use Rattle.std.specs.Prelude.{◌≡◌, ◌<◌, ◌≤◌, min, ℕ, Lis
 ghost use Rattle.zdd_store.specs.inner.Family.{least_number, covers};
 ghost use Rattle.zdd_store.specs.inner.Store.{IsIn, family_of};
 ghost use Rattle.zdd_store.specs.inner.Answers.{IsCovering, IsUnionOf, IsMeetOf};
-ghost use Rattle.zdd_families.specs.Steps.{Answered, joined};
-ghost use Rattle.zdd_families.specs.Rising.{PartsMade, BothMade};
+ghost use Rattle.zdd_families.specs.inner.Steps.{Answered, joined};
+ghost use Rattle.zdd_families.specs.inner.Rising.{PartsMade, BothMade};
 
 use crate::memory::{known, note};
 use crate::split::{Parts, first_var, look};

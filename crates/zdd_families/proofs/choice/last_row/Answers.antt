@@ -2,7 +2,7 @@ use Rattle.std.proofs.Common.{◌≡◌, ◌≤◌, ◌+◌, ◌-◌, ◌<◌, �
 use Rattle.zdd_store.specs.inner.Family.{Family, covers}
 use Rattle.zdd_store.specs.inner.Store.{family_of}
 use Rattle.zdd_store.specs.declared.id.Id.{Id}
-use Rattle.zdd_families.specs.Rows.{IsRow}
+use Rattle.zdd_families.specs.inner.Rows.{IsRow}
 use Rattle.zdd_families.proofs.Ways.{Keeps_trans}
 use Rattle.zdd_families.proofs.Tables.{row_next, row_same, row_kept, row_minimal, drop_map}
 use Rattle.zdd_families.proofs.choice.last_row.Goals as goal

@@ -1,6 +1,6 @@
 use Rattle.std.proofs.Common.{◌≡◌, ◌≤◌, ◌+◌, length, drop, map}
 use Rattle.zdd_store.specs.inner.Store.{Keeps, family_of}
-use Rattle.zdd_families.specs.Rows.{IsRow}
+use Rattle.zdd_families.specs.inner.Rows.{IsRow}
 use Rattle.zdd_families.proofs.choice.last_row.Given as goal
 
 abbrev pub invariant-loop-at : goal.invariant-loop-at

@@ -1,6 +1,6 @@
 use Rattle.std.proofs.Common.{◌≡◌, ℕ, ◌<◌, get_or, ◌++◌, ◌∷◌, [], length, sym, subst, ap, ◌∙◌, arith, length-append}
 use Rattle.zdd_store.specs.declared.id.Id.{Id}
-use Rattle.zdd_families.specs.Rows.{IsEntry}
+use Rattle.zdd_families.specs.inner.Rows.{IsEntry}
 use Rattle.zdd_families.proofs.Ways.{Keeps_trans}
 use Rattle.zdd_families.proofs.Tables.{minimal_kept, entry_made, entries_push}
 use Rattle.zdd_families.proofs.choice.next_row.Goals as goal

@@ -2,7 +2,7 @@ use Rattle.std.proofs.Common.{◌≡◌, ℕ, ◌<◌, length}
 use Rattle.std.specs.Prelude.{slice_index_or}
 use Rattle.zdd_store.specs.inner.Store.{Keeps}
 use Rattle.zdd_store.specs.declared.id.Id.{Id}
-use Rattle.zdd_families.specs.Rows.{IsEntry}
+use Rattle.zdd_families.specs.inner.Rows.{IsEntry}
 use Rattle.zdd_families.proofs.choice.next_row.Given as goal
 
 abbrev pub invariant-loop-at : goal.invariant-loop-at

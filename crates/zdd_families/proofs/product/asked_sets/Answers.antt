@@ -5,7 +5,7 @@ use Rattle.zdd_store.specs.inner.Family.{Family, IsRising, IsAntichain, covers, 
 use Rattle.zdd_store.specs.inner.Store.{Families, family_of}
 use Rattle.zdd_store.specs.inner.Answers.{IsLeastUpTo, sets_up_to}
 use Rattle.zdd_store.specs.declared.id.Id.{Id}
-use Rattle.zdd_families.specs.Steps.{Answered}
+use Rattle.zdd_families.specs.inner.Steps.{Answered}
 use Rattle.zdd_families.proofs.Ways.{answered}
 use Rattle.zdd_families.proofs.Shorter.{up_to-asked, all-asked}
 use Rattle.zdd_families.proofs.product.asked_sets.Goals as goal

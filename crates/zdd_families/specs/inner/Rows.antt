@@ -5,8 +5,8 @@ use Rattle.zdd_store.specs.inner.Family.{Family, covers, IsAntichain}
 use Rattle.zdd_store.specs.inner.Store.{Families, IsIn, family_of}
 use Rattle.zdd_store.specs.inner.Answers.{IsLeastUpTo}
 use Rattle.zdd_store.specs.declared.id.Id.{Id}
-use Rattle.zdd_families.specs.Steps.{IsFound}
-use Rattle.zdd_families.specs.Unions.{some_of}
+use Rattle.zdd_families.specs.inner.Steps.{IsFound}
+use Rattle.zdd_families.specs.inner.Unions.{some_of}
 
 -- a number of the store whose family has no set within another
 pub record IsMinimalNumber (store : Families) (id : Id) : Type 0 where
