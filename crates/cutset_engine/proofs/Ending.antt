@@ -19,7 +19,7 @@ use Rattle.zdd_store.specs.declared.id.Id.{Id}
 use lib.ListN.{length-map}
 use Rattle.zdd_families.specs.inner.Steps.{either}
 use Rattle.zdd_families.proofs.Pairs.{covers-empty}
-use Rattle.family_renaming.specs.Renaming.{name_of, renamed, AreInverse, IsRenamedOf}
+use Rattle.family_renaming.specs.inner.Renaming.{name_of, renamed, AreInverse, IsRenamedOf}
 use Rattle.cutset_engine.specs.Gates.{covers_each, events_of}
 use Rattle.cutset_engine.specs.Filling.{Task, covered, IsFilling, IsFilled, HaveTheirCauses}
 use Rattle.cutset_engine.specs.Families.{HasMinimalCutSets, IsLeast, sets_to}

@@ -8,7 +8,7 @@ use Rattle.fault_system.specs.declared.formula.Formula.{Formula}
 use Rattle.cutset_engine.specs.declared.gates.Gate.{Gate}
 use Rattle.cutset_engine.specs.declared.gates.Gate.TheVariants.{And, Or}
 use Rattle.zdd_store.specs.inner.Family.{has, covers}
-use Rattle.family_renaming.specs.Renaming.{name_of}
+use Rattle.family_renaming.specs.inner.Renaming.{name_of}
 use Rattle.zdd_store.specs.inner.Store.{Families, IsIn, family_of, Keeps}
 use Rattle.zdd_store.specs.declared.id.Id.{Id}
 

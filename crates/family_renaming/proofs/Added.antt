@@ -14,8 +14,8 @@ use Rattle.zdd_families.proofs.Above.{least_number-most}
 use Rattle.zdd_families.proofs.Ways.{Keeps_trans}
 use Rattle.zdd_families.proofs.Splits.{least-terminal}
 use Rattle.zdd_families.specs.inner.Unions.{with_number}
-use Rattle.family_renaming.specs.Renaming.{name_of, AreRenamed}
-use Rattle.family_renaming.specs.Lists.{with_names, ListsMore, HasOneMore, OneMore, HasSets}
+use Rattle.family_renaming.specs.inner.Renaming.{name_of, AreRenamed}
+use Rattle.family_renaming.specs.inner.Lists.{with_names, ListsMore, HasOneMore, OneMore, HasSets}
 use Rattle.family_renaming.proofs.Firsts.{any-branch}
 use Rattle.family_renaming.proofs.Puts.{names_renamed}
 

@@ -11,8 +11,8 @@ use Rattle.zdd_store.proofs.Branches.{with_var, branch-with_var, le-least_number
 use Rattle.zdd_store.proofs.Growing.{some_set}
 use Rattle.zdd_families.proofs.Subsets.{has-greater}
 use Rattle.zdd_families.specs.inner.Unions.{with_number}
-use Rattle.family_renaming.specs.Renaming.{name_of, renamed, AreInverse, AreRenamed}
-use Rattle.family_renaming.specs.Splitting.{sets_lacking, set_without, sets_having, IsParted, least_event, IsAtEvent, IsOrdered}
+use Rattle.family_renaming.specs.inner.Renaming.{name_of, renamed, AreInverse, AreRenamed}
+use Rattle.family_renaming.specs.inner.Splitting.{sets_lacking, set_without, sets_having, IsParted, least_event, IsAtEvent, IsOrdered}
 use Rattle.family_renaming.specs.declared.parting.Parts.{Parts}
 use Rattle.family_renaming.specs.declared.from_top.EventParts.{EventParts}
 use Rattle.family_renaming.proofs.Halves.{other_number}

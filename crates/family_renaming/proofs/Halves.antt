@@ -9,7 +9,7 @@ use Rattle.zdd_store.proofs.Branches.{with_var, branch-with_var, branch-empty}
 use Rattle.zdd_families.proofs.Subsets.{has_first}
 use Rattle.zdd_families.proofs.Covers.{member-greater}
 use Rattle.zdd_families.proofs.Joins.{least-filter, filter-branch, same_filter, filter_keeps, filter_drops}
-use Rattle.family_renaming.specs.Splitting.{sets_lacking, set_without, sets_having, IsParted}
+use Rattle.family_renaming.specs.inner.Splitting.{sets_lacking, set_without, sets_having, IsParted}
 use Rattle.family_renaming.specs.declared.parting.Parts.{Parts}
 
 -- a number that is another one

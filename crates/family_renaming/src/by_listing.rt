@@ -3,8 +3,8 @@ ghost use Rattle.std.specs.List.{insert};
 ghost use Rattle.zdd_store.specs.inner.Family.{IsRising, least_of};
 ghost use Rattle.zdd_store.specs.inner.Store.{IsIn, family_of, Keeps};
 ghost use Rattle.zdd_families.specs.inner.Unions.{with_number};
-ghost use Rattle.family_renaming.specs.Renaming.{AreRenamed};
-ghost use Rattle.family_renaming.specs.Lists.{ListsMore, OneMore, HasSets};
+ghost use Rattle.family_renaming.specs.inner.Renaming.{AreRenamed};
+ghost use Rattle.family_renaming.specs.inner.Lists.{ListsMore, OneMore, HasSets};
 
 use crate::from_top::name;
 use crate::variable_order::VariableOrder;

@@ -5,7 +5,7 @@ use Rattle.std.specs.declared.alloc.AllocError.{AllocError}
 use Rattle.zdd_store.specs.inner.Family.{Family, branch, least_number, has}
 use Rattle.zdd_store.specs.inner.Store.{Families, IsIn, family_of, Keeps}
 use Rattle.zdd_store.specs.declared.id.Id.{Id}
-use Rattle.family_renaming.specs.Renaming.{renamed, AreRenamed}
+use Rattle.family_renaming.specs.inner.Renaming.{renamed, AreRenamed}
 use Rattle.family_renaming.specs.declared.parting.Parts.{Parts}
 use Rattle.family_renaming.specs.declared.parting.Place.{Place}
 use Rattle.family_renaming.specs.declared.from_top.EventParts.{EventParts}

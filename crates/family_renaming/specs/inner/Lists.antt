@@ -6,7 +6,7 @@ use Rattle.zdd_store.specs.inner.Family.{Family, least_of, least_number}
 use Rattle.zdd_store.specs.inner.Store.{Families, IsIn, family_of, Keeps}
 use Rattle.zdd_store.specs.declared.id.Id.{Id}
 use Rattle.zdd_families.specs.inner.Unions.{with_number}
-use Rattle.family_renaming.specs.Renaming.{name_of}
+use Rattle.family_renaming.specs.inner.Renaming.{name_of}
 
 -- a set with the names of another's numbers
 abbrev pub with_names : List ℕ → List ℕ → List ℕ → List ℕ
