@@ -15,7 +15,7 @@ use Rattle.zdd_families.specs.inner.Unions.{some_of}
 use Rattle.zdd_families.proofs.Ways.{Keeps_trans, Keeps_same}
 use Rattle.zdd_families.proofs.Pairs.{covers-empty, covers-unit}
 use Rattle.zdd_families.proofs.Shorter.{covers_cut}
-use Rattle.cutset_engine.specs.Gates.{covers_each, Stands, Made, of_all, of_both}
+use Rattle.cutset_engine.specs.inner.Gates.{covers_each, Stands, Made, of_all, of_both}
 use Rattle.cutset_engine.specs.declared.gates.Gate.{Gate}
 use Rattle.cutset_engine.specs.declared.gates.Gate.TheVariants.{And, Or}
 use Rattle.std.specs.List.Sorted.{IsPermutation}

@@ -20,9 +20,9 @@ use lib.ListN.{length-map}
 use Rattle.zdd_families.specs.inner.Steps.{either}
 use Rattle.zdd_families.proofs.Pairs.{covers-empty}
 use Rattle.family_renaming.specs.inner.Renaming.{name_of, renamed, AreInverse, IsRenamedOf}
-use Rattle.cutset_engine.specs.Gates.{covers_each, events_of}
-use Rattle.cutset_engine.specs.Filling.{Task, covered, IsFilling, IsFilled, HaveTheirCauses}
-use Rattle.cutset_engine.specs.Families.{HasMinimalCutSets, IsLeast, sets_to}
+use Rattle.cutset_engine.specs.inner.Gates.{covers_each, events_of}
+use Rattle.cutset_engine.specs.inner.Filling.{Task, covered, IsFilling, IsFilled, HaveTheirCauses}
+use Rattle.cutset_engine.specs.inner.Families.{HasMinimalCutSets, IsLeast, sets_to}
 use Rattle.zdd_families.proofs.Shorter.{covers_cut}
 use Rattle.cutset_engine.proofs.Covering.{sound_rising}
 use Rattle.cutset_engine.proofs.CutSets.{has_minimal_cut_sets, order-shorter}

@@ -16,7 +16,7 @@ use Rattle.zdd_store.specs.inner.Store.{Families, IsIn, family_of, Keeps, IsSoun
 use Rattle.zdd_store.specs.declared.id.Id.{Id}
 use Rattle.zdd_families.proofs.Ways.{Keeps_same}
 use Rattle.zdd_families.proofs.Pairs.{covers-empty, covers-unit}
-use Rattle.cutset_engine.specs.Gates.{covers_each, events_of, is_true_under, StandEach, Made}
+use Rattle.cutset_engine.specs.inner.Gates.{covers_each, events_of, is_true_under, StandEach, Made}
 use Rattle.cutset_engine.proofs.Covering.{kept_each, kept_in, made_then}
 
 -- the parts so far

@@ -13,8 +13,8 @@ use Rattle.zdd_store.proofs.Orders.{contains_first}
 use Rattle.zdd_families.specs.inner.Unions.{HasMinimalSets, IsInEither}
 use Rattle.zdd_families.proofs.Joins.{lo_in_branch, hi_in_branch}
 use Rattle.zdd_families.proofs.Subsets.{has_first, has_rest, has_cases, has_none, within_has, within_from}
-use Rattle.cutset_engine.specs.Families.{HasMinimalCutSets}
-use Rattle.cutset_engine.specs.ThinSystems.{AreSingles, thin_of}
+use Rattle.cutset_engine.specs.inner.Families.{HasMinimalCutSets}
+use Rattle.cutset_engine.specs.inner.ThinSystems.{AreSingles, thin_of}
 use Rattle.cutset_engine.proofs.CutSets.{has-set_of}
 use Rattle.cutset_engine.proofs.ThinLaws.{left_events, holds-grows, holds-from, holds-to}
 

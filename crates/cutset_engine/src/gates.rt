@@ -6,7 +6,7 @@ ghost use Rattle.zdd_store.specs.inner.Family.{covers};
 ghost use Rattle.zdd_store.specs.inner.Store.{IsIn, family_of};
 ghost use Rattle.zdd_store.specs.inner.Answers.{IsAsked};
 ghost use Rattle.zdd_families.specs.inner.Steps.{either, both};
-ghost use Rattle.cutset_engine.specs.Gates.{Made, covers_each, of_all, of_both};
+ghost use Rattle.cutset_engine.specs.inner.Gates.{Made, covers_each, of_all, of_both};
 
 use plain_values::Mem;
 use std::alloc::Global;

@@ -7,8 +7,8 @@ ghost use Rattle.zdd_store.specs.inner.Family.{IsAntichain};
 ghost use Rattle.zdd_store.specs.inner.Store.{IsIn, family_of, Keeps};
 ghost use Rattle.zdd_families.specs.inner.Unions.{HasMinimalSets, IsInEither};
 ghost use Rattle.backward_slice.specs.Slices.{IsSlice};
-ghost use Rattle.cutset_engine.specs.Families.{HasMinimalCutSets};
-ghost use Rattle.cutset_engine.specs.ThinSystems.{AreSingles};
+ghost use Rattle.cutset_engine.specs.inner.Families.{HasMinimalCutSets};
+ghost use Rattle.cutset_engine.specs.inner.ThinSystems.{AreSingles};
 
 use crate::families::{first_family, raced_family};
 use crate::thinning::thinned;

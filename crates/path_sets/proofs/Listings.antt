@@ -21,7 +21,7 @@ use Rattle.round_gates.proofs.TreeTruth.{tree-truth}
 use Rattle.galileo_writer.specs.inner.TreeText.{HasTextNames}
 use Rattle.galileo_writer.proofs.TreeNames.{gates-differ}
 use Rattle.zdd_store.specs.inner.Family.{Family, is_within}
-use Rattle.cutset_engine.specs.Families.{HasMinimalCutSets}
+use Rattle.cutset_engine.specs.inner.Families.{HasMinimalCutSets}
 use Rattle.cutset_engine.proofs.InSlice.{minimal_in_slice}
 use Rattle.path_sets.specs.Duals.{IsWithoutFeedback, dual_of}
 use Rattle.path_sets.specs.GateSystems.{gate_system_of}

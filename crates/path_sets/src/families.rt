@@ -3,7 +3,7 @@
 ghost use Rattle.std.specs.Prelude.{◌<◌, ℕ, List as Items, Contains, IfErr, IfOk, IsTrue, length};
 ghost use Rattle.plain_values.specs.inner.Stops.{StopsFor};
 ghost use Rattle.backward_slice.specs.Slices.{HasLargeSlice};
-ghost use Rattle.cutset_engine.specs.Families.{HasMinimalCutSets};
+ghost use Rattle.cutset_engine.specs.inner.Families.{HasMinimalCutSets};
 ghost use Rattle.zdd_store.specs.inner.Family.{is_within};
 ghost use Rattle.zdd_store.specs.inner.Store.{IsIn, Keeps, family_of};
 ghost use Rattle.path_sets.specs.Duals.{IsWithoutFeedback, dual_of};

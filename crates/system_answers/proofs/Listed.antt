@@ -5,7 +5,7 @@ use Rattle.fault_system.specs.Systems.{System}
 use Rattle.fault_system.specs.CutSets.{IsEventSet, IsMinimalCutSet}
 use Rattle.fault_system.specs.Listings.{IsListing}
 use Rattle.zdd_store.specs.inner.Family.{Family, is_within}
-use Rattle.cutset_engine.specs.Families.{HasMinimalCutSets}
+use Rattle.cutset_engine.specs.inner.Families.{HasMinimalCutSets}
 use Rattle.cutset_writer.specs.Pages.{Lists}
 use Rattle.fault_system.specs.Systems.{IsSystem}
 use Rattle.path_sets.specs.PathSets.{HasLargePaths, HasMinimalPathSets, IsPathListing}

@@ -7,7 +7,7 @@ use Rattle.fault_system.specs.Listings.{IsWithinOrder}
 use Rattle.fault_system.specs.declared.formula.FactInfo.{FactInfo}
 use Rattle.zdd_store.specs.inner.Store.{Families, IsIn, Keeps}
 use Rattle.zdd_store.specs.declared.id.Id.{Id}
-use Rattle.cutset_engine.specs.Gates.{covers_each, events_of}
+use Rattle.cutset_engine.specs.inner.Gates.{covers_each, events_of}
 
 -- the system, the variables of its events and the greatest order, which stay as they are
 pub record Task : Type 0 where
