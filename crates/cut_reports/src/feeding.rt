@@ -1,6 +1,6 @@
 ghost use Rattle.std.specs.Prelude.{◌≡◌, ◌<◌, [], IfErr, Ok, OnOk, false, length, true, vec_len};
 ghost use Rattle.plain_values.specs.Rising.{RisesWithin};
-ghost use Rattle.cutset_lister.specs.Walks.{IsSameListing, IsStarted, sets_left};
+ghost use Rattle.cutset_lister.specs.inner.Walks.{IsSameListing, IsStarted, sets_left};
 ghost use Rattle.cut_reports.specs.Places.{AtChosen, is_among};
 ghost use Rattle.cut_reports.specs.Feeding.{ChosenTake, Fed, IsKept, RoseAt, TookSets};
 

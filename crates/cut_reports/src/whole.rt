@@ -1,5 +1,5 @@
 ghost use Rattle.std.specs.Prelude.{◌≡◌, ◌++◌, IfErr, OnOk, Some, length, true, vec_len};
-ghost use Rattle.cutset_lister.specs.Walks.{IsStarted, sets_left};
+ghost use Rattle.cutset_lister.specs.inner.Walks.{IsStarted, sets_left};
 ghost use Rattle.cut_reports.specs.Feeding.{IsKept, RoseAt, TakesEach};
 ghost use Rattle.cut_reports.specs.Places.{AtChosen, is_among};
 ghost use Rattle.cut_reports.specs.Texts.{FaultAt, reports_text};

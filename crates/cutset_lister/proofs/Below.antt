@@ -10,7 +10,7 @@ use Rattle.zdd_store.specs.declared.id.Node.{Node}
 use Rattle.zdd_store.proofs.Branches.{branch-empty}
 use Rattle.zdd_store.proofs.Growing.{some_set}
 use Rattle.cutset_lister.specs.declared.path.Frame.{Frame}
-use Rattle.cutset_lister.specs.Trails.{Trail, IsPlace, SameLeft, numbers, left_below, greatest_size}
+use Rattle.cutset_lister.specs.inner.Trails.{Trail, IsPlace, SameLeft, numbers, left_below, greatest_size}
 
 -- one number more on the way
 pub left-push : (store : Families) (frames : List Frame) (frame : Frame) (family : Family)

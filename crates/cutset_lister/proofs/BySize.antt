@@ -9,9 +9,9 @@ use Rattle.zdd_store.specs.inner.Store.{Families, IsIn, IsSound, Keeps, family_a
 use Rattle.zdd_store.specs.declared.id.Id.{Id}
 use Rattle.zdd_families.proofs.Ways.{Keeps_trans}
 use Rattle.zdd_families.proofs.Sizing.{Keeps_is}
-use Rattle.cutset_lister.specs.Listed.{listed}
-use Rattle.cutset_lister.specs.Trails.{greatest_size}
-use Rattle.cutset_lister.specs.Walks.{AreSizes}
+use Rattle.cutset_lister.specs.inner.Listed.{listed}
+use Rattle.cutset_lister.specs.inner.Trails.{greatest_size}
+use Rattle.cutset_lister.specs.inner.Walks.{AreSizes}
 use Rattle.cutset_lister.proofs.Sorted.{listed_more}
 
 -- one size more

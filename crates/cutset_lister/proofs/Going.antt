@@ -7,8 +7,8 @@ use Rattle.zdd_store.specs.inner.Family.{Family, is_within}
 use Rattle.zdd_store.specs.inner.Store.{Families, IsIn, IsSound, family_at, family_of}
 use Rattle.zdd_store.specs.declared.id.Id.{Id}
 use Rattle.zdd_store.proofs.Orders.{all_contained}
-use Rattle.cutset_lister.specs.Trails.{Trail, IsPlace, SameLeft, left_below, greatest_size}
-use Rattle.cutset_lister.specs.Walks.{Walk, AreSizes, IsSameListing, IsStarted, sets_left}
+use Rattle.cutset_lister.specs.inner.Trails.{Trail, IsPlace, SameLeft, left_below, greatest_size}
+use Rattle.cutset_lister.specs.inner.Walks.{Walk, AreSizes, IsSameListing, IsStarted, sets_left}
 use Rattle.cutset_lister.proofs.BySize.{all_listed_sizes, none-most}
 use Rattle.cutset_lister.proofs.Counting.{within-shorter}
 use Rattle.cutset_lister.proofs.Sorted.{all_listed, all_ordered}

@@ -11,8 +11,8 @@ use Rattle.zdd_store.specs.inner.Answers.{sets_of}
 use Rattle.zdd_store.specs.inner.Store.{Families, IsIn, IsSound, family_of}
 use Rattle.zdd_store.specs.declared.id.Id.{Id}
 use Rattle.zdd_families.proofs.Joins.{filter_keeps, filter_drops, same_filter}
-use Rattle.cutset_lister.specs.Trails.{Trail, left_below, greatest_size}
-use Rattle.cutset_lister.specs.Walks.{Walk, AreSizes, IsSameListing, IsStarted, all_sets}
+use Rattle.cutset_lister.specs.inner.Trails.{Trail, left_below, greatest_size}
+use Rattle.cutset_lister.specs.inner.Walks.{Walk, AreSizes, IsSameListing, IsStarted, all_sets}
 use Rattle.cutset_lister.proofs.Below.{size-of}
 use Rattle.cutset_lister.proofs.BySize.{none-most, size-most, sets_of-most, sets_of-size}
 use Rattle.cutset_lister.proofs.Going.{moved}

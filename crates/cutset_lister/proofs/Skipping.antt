@@ -15,7 +15,7 @@ use Rattle.zdd_store.proofs.Orders.{all_contained}
 use Rattle.zdd_families.proofs.Above.{above}
 use Rattle.zdd_families.proofs.Joins.{filter-branch, filter_keeps, filter_drops, same_filter}
 use Rattle.zdd_families.proofs.Subsets.{has_first, has_rest, within_has, within_from}
-use Rattle.cutset_lister.specs.Trails.{Trail, left_below}
+use Rattle.cutset_lister.specs.inner.Trails.{Trail, left_below}
 use Rattle.cutset_lister.proofs.Below.{frames-push, left-push}
 use Rattle.cutset_lister.proofs.Counting.{above-fewer, above-most}
 use Rattle.cutset_lister.proofs.Going.{left-begin}

@@ -11,7 +11,7 @@ use Rattle.zdd_store.specs.inner.Store.{Families, IsIn, Keeps, family_of}
 use Rattle.zdd_store.specs.declared.id.Id.{Id}
 use Rattle.zdd_families.proofs.Ways.{Keeps_trans}
 use Rattle.zdd_families.proofs.Sizing.{Keeps_is}
-use Rattle.cutset_lister.specs.Listed.{listed}
+use Rattle.cutset_lister.specs.inner.Listed.{listed}
 
 or_step : (a b c d : Bool) → a || (b && c) ≡ true → (c ≡ true → d ≡ true) → a || (b && d) ≡ true
 or_step true b c d e f = refl

@@ -27,7 +27,7 @@ pub struct Listing {
 }
 
 impl Model for Listing {
-    ghost use Rattle.cutset_lister.specs.Walks.{Walk};
+    ghost use Rattle.cutset_lister.specs.inner.Walks.{Walk};
 
     ghost Value = { Walk };
 
@@ -35,9 +35,9 @@ impl Model for Listing {
 }
 
 impl Listing {
-    ghost use Rattle.cutset_lister.specs.Trails.{numbers};
-    ghost use Rattle.cutset_lister.specs.Walks.{all_sets, event_count, sets_left, IsSameListing, IsStarted};
-    ghost use Rattle.cutset_lister.specs.Lending.{EndsAfter};
+    ghost use Rattle.cutset_lister.specs.inner.Trails.{numbers};
+    ghost use Rattle.cutset_lister.specs.inner.Walks.{all_sets, event_count, sets_left, IsSameListing, IsStarted};
+    ghost use Rattle.cutset_lister.specs.inner.Lending.{EndsAfter};
 
     /// The listing of a family whose numbers are among these events, at its beginning.
     ///

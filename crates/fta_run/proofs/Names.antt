@@ -10,7 +10,7 @@ use Rattle.fault_system.specs.Systems.{System}
 use Rattle.fault_system.specs.declared.formula.EventInfo.{EventInfo}
 use Rattle.fault_system.specs.declared.formula.FactInfo.{FactInfo}
 use Rattle.fault_system.proofs.Elements.{In-contains, each-at}
-use Rattle.cutset_lister.specs.SetText.{HasTokenNames, IsTokenName}
+use Rattle.cutset_lister.specs.inner.SetText.{HasTokenNames, IsTokenName}
 use Rattle.galileo_writer.specs.Galileo.{IsPlainName}
 use Rattle.fmea_rows.specs.inner.Text.{HasFieldNames, IsPlainField}
 use Rattle.galileo_writer.specs.inner.TreeText.{AreRates, HasTextNames}

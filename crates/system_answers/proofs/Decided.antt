@@ -3,7 +3,7 @@ use Rattle.std.proofs.Common.{◌≡◌, ℕ, Bool, List, Option, Some, None, re
 use Rattle.plain_values.specs.declared.refusal.Refusal.{Refusal}
 use Rattle.fault_system.specs.Systems.{IsSystem, System}
 use Rattle.fault_system.specs.Listings.{IsListing}
-use Rattle.cutset_lister.specs.SetText.{HasTokenNames}
+use Rattle.cutset_lister.specs.inner.SetText.{HasTokenNames}
 use Rattle.cutset_lister.proofs.Scans.{one-set}
 use Rattle.property_reader.specs.declared.rate.Rate.{Rate}
 use Rattle.round_gates.specs.Targets.{IsConstantly}

@@ -7,7 +7,8 @@ use Rattle.plain_values.specs.declared.refusal.Refusal.{Refusal}
 use Rattle.plain_values.specs.Refusal.{refusal}
 use Rattle.fault_system.specs.Truth.{NumberSet, set_of}
 use Rattle.fault_system.specs.Systems.{Holds, IsSystem, System}
-use Rattle.cutset_lister.specs.SetText.{HasTokenNames, IsSetOfText}
+use Rattle.cutset_lister.specs.SetText.{IsSetOfText}
+use Rattle.cutset_lister.specs.inner.SetText.{HasTokenNames}
 use Rattle.cutset_lister.proofs.Scans.{one-set}
 use Rattle.derivations.specs.declared.derivation.Firing.{Firing}
 use Rattle.derivations.specs.Steps.{HasWrongEnd, IsFirstWrong, IsGood}

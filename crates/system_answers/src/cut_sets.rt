@@ -7,11 +7,11 @@ ghost use Rattle.fta_outside.specs.Outside.{Rose, TookPrefix, with_bytes};
 ghost use Rattle.fault_system.specs.CutSets.{IsEventSet};
 ghost use Rattle.fault_system.specs.Listings.{IsListing};
 ghost use Rattle.backward_slice.specs.Slices.{IsSlice};
-ghost use Rattle.cutset_lister.specs.Walks.{IsStarted, all_sets, sets_left};
+ghost use Rattle.cutset_lister.specs.inner.Walks.{IsStarted, all_sets, sets_left};
 ghost use Rattle.cutset_writer.specs.Pages.{IsOpen, IsReady};
 ghost use Rattle.cutset_writer.specs.Text.{listing_page, marked_page};
 ghost use Rattle.cutset_writer.specs.declared.form.SetForm.TheVariants.{Token};
-ghost use Rattle.cutset_lister.specs.SetText.{HasTokenNames};
+ghost use Rattle.cutset_lister.specs.inner.SetText.{HasTokenNames};
 ghost use Rattle.system_answers.specs.Texts.{begin_of, named_key, page_in, page_of, slice_of, start_of};
 ghost use Rattle.system_answers.specs.Prints.{Prints};
 

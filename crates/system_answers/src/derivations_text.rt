@@ -6,7 +6,7 @@ ghost use Rattle.plain_values.specs.declared.refusal.Place.TheVariants.{At as By
 ghost use Rattle.plain_values.specs.Refusal.{refusal};
 ghost use Rattle.fault_system.specs.CutSets.{IsEventSet};
 ghost use Rattle.fault_system.specs.Truth.{member, set_of};
-ghost use Rattle.cutset_lister.specs.SetText.{HasTokenNames};
+ghost use Rattle.cutset_lister.specs.inner.SetText.{HasTokenNames};
 ghost use Rattle.derivations.specs.Text.{IsTextOf, event_names, fact_names};
 ghost use Rattle.derivations.specs.inner.Text.{AreLineNames};
 ghost use Rattle.system_answers.specs.Derivations.{accepted_text, answer_confirmed, confirm_text, derivation_of, good_steps, lines_why, set_of_text, steps_of, why_text};

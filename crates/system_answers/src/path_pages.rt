@@ -6,7 +6,7 @@ ghost use Rattle.phases.specs.Phases.{tests};
 ghost use Rattle.plain_values.specs.Order.{IsClear};
 ghost use Rattle.backward_slice.specs.Slices.{IsServed, IsSlice};
 ghost use Rattle.backward_slice.specs.declared.parts.Slice.{Slice as Part};
-ghost use Rattle.cutset_lister.specs.Walks.{all_sets};
+ghost use Rattle.cutset_lister.specs.inner.Walks.{all_sets};
 ghost use Rattle.cutset_writer.specs.Pages.{IsReady};
 ghost use Rattle.galileo_writer.specs.inner.TreeText.{HasTextNames};
 ghost use Rattle.path_sets.specs.Duals.{IsWithoutFeedback, dual_of};

@@ -1,5 +1,5 @@
 use Rattle.std.proofs.Common.{◌≡◌, ◌+◌, false, [], cond, length, vec_len}
-use Rattle.cutset_lister.specs.Walks.{IsSameListing, sets_left}
+use Rattle.cutset_lister.specs.inner.Walks.{IsSameListing, sets_left}
 use Rattle.cut_reports.specs.Places.{AtChosen}
 use Rattle.cut_reports.specs.Feeding.{Fed, IsKept}
 use Rattle.cut_reports.proofs.feeding.feed.Given as goal

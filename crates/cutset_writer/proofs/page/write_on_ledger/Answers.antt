@@ -1,5 +1,5 @@
 use Rattle.std.proofs.Common.{sym, subst}
-use Rattle.cutset_lister.specs.Walks.{sets_left}
+use Rattle.cutset_lister.specs.inner.Walks.{sets_left}
 use Rattle.cutset_writer.specs.Pages.{HasRoom}
 use Rattle.cutset_writer.proofs.PageTexts.{room-filtered}
 use Rattle.cutset_writer.specs.Lengths.{most_line}

@@ -1,6 +1,6 @@
 use Rattle.std.proofs.Common.{◌≡◌, ◌≤◌, List, Option, ℕ, length}
 use Rattle.std.specs.Prelude.{vec_capacity}
-use Rattle.cutset_lister.specs.Walks.{IsStarted, sets_left}
+use Rattle.cutset_lister.specs.inner.Walks.{IsStarted, sets_left}
 use Rattle.cutset_writer.specs.Lengths.{most_line}
 use Rattle.cutset_writer.specs.Pages.{HasRoom, IsOpenMark, key_of, more_text}
 use Rattle.cutset_writer.specs.Steps.{IsWritten}

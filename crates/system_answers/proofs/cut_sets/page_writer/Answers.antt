@@ -3,7 +3,7 @@ use Rattle.std.specs.Prelude.{IsTrue}
 use Rattle.std.proofs.lemmas.Result.{IfOk-weaker}
 use Rattle.zdd_store.specs.inner.Family.{is_within}
 use Rattle.zdd_store.specs.inner.Store.{family_of}
-use Rattle.cutset_lister.specs.Walks.{all_sets}
+use Rattle.cutset_lister.specs.inner.Walks.{all_sets}
 use Rattle.system_answers.proofs.Listed.{among_events, listed}
 use Rattle.system_answers.proofs.cut_sets.page_writer.Goals as goal
 

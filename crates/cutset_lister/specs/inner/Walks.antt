@@ -5,7 +5,7 @@ use Rattle.zdd_store.specs.inner.Family.{Family, is_within}
 use Rattle.zdd_store.specs.inner.Answers.{sets_of}
 use Rattle.zdd_store.specs.inner.Store.{Families, IsIn, family_of}
 use Rattle.zdd_store.specs.declared.id.Id.{Id}
-use Rattle.cutset_lister.specs.Trails.{Trail, IsPlace, left_below}
+use Rattle.cutset_lister.specs.inner.Trails.{Trail, IsPlace, left_below}
 
 -- A listing: the families of the sets of each size, how many of them were begun, and the place in the last one begun.
 pub record Walk : Type 0 where

@@ -3,7 +3,7 @@ use Rattle.std.specs.Prelude.{ℕ, ◌≡◌, List, [], ◌∷◌, Option, Match
 use Rattle.std.specs.Borrow.{MutBor, Bor, Fml, follows_so}
 use mathlib.Core.Option.{none}
 use Rattle.zdd_store.specs.inner.Store.{Families}
-use Rattle.cutset_lister.specs.Walks.{Walk, IsSameListing, sets_left}
+use Rattle.cutset_lister.specs.inner.Walks.{Walk, IsSameListing, sets_left}
 use Rattle.cutset_lister.specs.contracts.walk.Listing.{the_row}
 
 -- what was left is the set that was given and what is left now; where none was given, nothing was left, and nothing is
