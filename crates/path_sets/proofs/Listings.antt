@@ -23,9 +23,11 @@ use Rattle.galileo_writer.proofs.TreeNames.{gates-differ}
 use Rattle.zdd_store.specs.inner.Family.{Family, is_within}
 use Rattle.cutset_engine.specs.inner.Families.{HasMinimalCutSets}
 use Rattle.cutset_engine.proofs.InSlice.{minimal_in_slice}
-use Rattle.path_sets.specs.Duals.{IsWithoutFeedback, dual_of}
+use Rattle.path_sets.specs.Duals.{dual_of}
+use Rattle.path_sets.specs.inner.Duals.{IsWithoutFeedback}
 use Rattle.path_sets.specs.GateSystems.{gate_system_of}
-use Rattle.path_sets.specs.PathSets.{AreServedEvents, HasLargePaths, HasMinimalPathSets, IsMinimalPathSet, IsPathListing, constant_paths}
+use Rattle.path_sets.specs.PathSets.{HasLargePaths, IsMinimalPathSet, IsPathListing}
+use Rattle.path_sets.specs.inner.PathSets.{AreServedEvents, HasMinimalPathSets, constant_paths}
 use Rattle.path_sets.proofs.GateTruth.{gates-free, gates-paths, gates-system, top-inside}
 use Rattle.path_sets.proofs.PathLaws.{always-paths, minimal-paths, never-paths}
 

@@ -6,8 +6,9 @@ ghost use Rattle.backward_slice.specs.Slices.{HasLargeSlice};
 ghost use Rattle.cutset_engine.specs.inner.Families.{HasMinimalCutSets};
 ghost use Rattle.zdd_store.specs.inner.Family.{is_within};
 ghost use Rattle.zdd_store.specs.inner.Store.{IsIn, Keeps, family_of};
-ghost use Rattle.path_sets.specs.Duals.{IsWithoutFeedback, dual_of};
-ghost use Rattle.path_sets.specs.PathSets.{AreServedEvents, HasMinimalPathSets};
+ghost use Rattle.path_sets.specs.Duals.{dual_of};
+ghost use Rattle.path_sets.specs.inner.Duals.{IsWithoutFeedback};
+ghost use Rattle.path_sets.specs.inner.PathSets.{AreServedEvents, HasMinimalPathSets};
 
 use crate::duals::dual;
 use backward_slice::slice;

@@ -10,7 +10,8 @@ ghost use Rattle.zdd_store.specs.inner.Family.{is_within};
 ghost use Rattle.zdd_store.specs.inner.Store.{IsIn, Keeps, family_of};
 ghost use Rattle.path_sets.specs.Duals.{dual_of};
 ghost use Rattle.path_sets.specs.GateSystems.{gate_system_of};
-ghost use Rattle.path_sets.specs.PathSets.{AreServedEvents, HasLargePaths, HasMinimalPathSets, constant_paths};
+ghost use Rattle.path_sets.specs.PathSets.{HasLargePaths};
+ghost use Rattle.path_sets.specs.inner.PathSets.{AreServedEvents, HasMinimalPathSets, constant_paths};
 
 use crate::families::{PathFamily, paths};
 use crate::gate_systems::gate_system;

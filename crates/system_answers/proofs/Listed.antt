@@ -8,7 +8,8 @@ use Rattle.zdd_store.specs.inner.Family.{Family, is_within}
 use Rattle.cutset_engine.specs.inner.Families.{HasMinimalCutSets}
 use Rattle.cutset_writer.specs.Pages.{Lists}
 use Rattle.fault_system.specs.Systems.{IsSystem}
-use Rattle.path_sets.specs.PathSets.{HasLargePaths, HasMinimalPathSets, IsPathListing}
+use Rattle.path_sets.specs.PathSets.{HasLargePaths, IsPathListing}
+use Rattle.path_sets.specs.inner.PathSets.{HasMinimalPathSets}
 use Rattle.path_sets.proofs.Listings.{one-refusal}
 use Rattle.phases.specs.inner.Meets.{IsMemory, StopsBut}
 use Rattle.phases.specs.Phases.{tests}

@@ -7,7 +7,7 @@ use Rattle.backward_slice.specs.Slices.{HasLargeSlice}
 use Rattle.zdd_store.specs.inner.Store.{family_of}
 use Rattle.cutset_engine.specs.inner.Families.{HasMinimalCutSets}
 use Rattle.path_sets.specs.Duals.{dual_fact}
-use Rattle.path_sets.specs.PathSets.{AreServedEvents}
+use Rattle.path_sets.specs.inner.PathSets.{AreServedEvents}
 use Rattle.path_sets.proofs.Listings.{among-events, if_ok_both, paths-are}
 use Rattle.path_sets.proofs.families.paths.Goals as goal
 

@@ -4,7 +4,7 @@ use Rattle.fault_system.specs.Systems.{System}
 use Rattle.backward_slice.specs.Slices.{HasLargeSlice}
 use Rattle.zdd_store.specs.inner.Store.{family_of}
 use Rattle.path_sets.specs.Duals.{dual_of}
-use Rattle.path_sets.specs.PathSets.{AreServedEvents, HasMinimalPathSets}
+use Rattle.path_sets.specs.inner.PathSets.{AreServedEvents, HasMinimalPathSets}
 use Rattle.path_sets.proofs.targets.tree_paths.Goals as goal
 
 pub returns-clause-exact : goal.returns-clause-exact
