@@ -6,7 +6,7 @@ ghost use Rattle.phases.specs.declared.status.Status.{Status as AnyStatus};
 ghost use Rattle.phases.specs.declared.status.Status.TheVariants.{Refused, Memory};
 ghost use Rattle.plain_values.specs.declared.refusal.Code.TheVariants.{TooManyFiles};
 ghost use Rattle.plain_values.specs.Refusal.{of_words};
-ghost use Rattle.fta_words.specs.Shown.{command_shown};
+ghost use Rattle.fta_words.specs.inner.Shown.{command_shown};
 ghost use Rattle.model_phases.specs.Named.{IsPlainModel};
 ghost use Rattle.fta_run.specs.Line.{status_line};
 ghost use Rattle.fta_run.specs.Answers.{AllTold, AnswersWords, BeginsWithMemory, IsCaused, IsJustified, IsManyAnswer, IsOutput, MayCome, Took};

@@ -6,7 +6,7 @@ use Rattle.fta_words.specs.declared.kind.Kind.TheVariants as kind
 use Rattle.fta_words.specs.declared.options.Options.{Options}
 use Rattle.fta_words.specs.declared.command.Command.{Command as CommandInCode}
 use Rattle.fta_words.specs.declared.command.Paging.{Paging}
-use Rattle.fta_words.specs.Shown.{command_shown}
+use Rattle.fta_words.specs.inner.Shown.{command_shown}
 use Rattle.fta_words.specs.Words.{AreChosen, AreOptions, Check, Command, Confirm, Cuts, Fmea, Galileo, Given, GiveNoCommand, Help, IsAllowed, IsCommand, IsFolded, IsNumberText, Make, NamesModel, Paths, Place, Report, Says, Spelling, Tree, Version, Why, has_flag, name_of, option_words, spelled, value_of}
 
 -- whether letters and digits follow, each perhaps after one `_`: it goes along the bytes, and after a
