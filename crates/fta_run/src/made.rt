@@ -4,7 +4,7 @@ ghost use Rattle.std.specs.Prelude.{◌≡◌, ◌++◌, [], ◌∷◌, IfErr, I
 ghost use Rattle.fta_outside.specs.Outside.{Rose, TookPrefix, with_bytes};
 ghost use Rattle.backward_slice.specs.Slices.{IsSlice};
 ghost use Rattle.cutset_lister.specs.inner.Walks.{all_sets};
-ghost use Rattle.cutset_writer.specs.Pages.{IsReady};
+ghost use Rattle.cutset_writer.specs.inner.Pages.{IsReady};
 ghost use Rattle.cutset_writer.specs.Text.{listing_page};
 ghost use Rattle.cutset_writer.specs.declared.form.SetForm.TheVariants.{Token};
 ghost use Rattle.model_phases.specs.Named.{IsPlainModel};

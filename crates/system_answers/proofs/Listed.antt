@@ -6,7 +6,7 @@ use Rattle.fault_system.specs.CutSets.{IsEventSet, IsMinimalCutSet}
 use Rattle.fault_system.specs.Listings.{IsListing}
 use Rattle.zdd_store.specs.inner.Family.{Family, is_within}
 use Rattle.cutset_engine.specs.inner.Families.{HasMinimalCutSets}
-use Rattle.cutset_writer.specs.Pages.{Lists}
+use Rattle.cutset_writer.specs.inner.Pages.{Lists}
 use Rattle.fault_system.specs.Systems.{IsSystem}
 use Rattle.path_sets.specs.PathSets.{HasLargePaths, IsPathListing}
 use Rattle.path_sets.specs.inner.PathSets.{HasMinimalPathSets}

@@ -8,7 +8,7 @@ ghost use Rattle.fault_system.specs.CutSets.{IsEventSet};
 ghost use Rattle.fault_system.specs.Listings.{IsListing};
 ghost use Rattle.backward_slice.specs.Slices.{IsSlice};
 ghost use Rattle.cutset_lister.specs.inner.Walks.{IsStarted, all_sets, sets_left};
-ghost use Rattle.cutset_writer.specs.Pages.{IsOpen, IsReady};
+ghost use Rattle.cutset_writer.specs.inner.Pages.{IsOpen, IsReady};
 ghost use Rattle.cutset_writer.specs.Text.{listing_page, marked_page};
 ghost use Rattle.cutset_writer.specs.declared.form.SetForm.TheVariants.{Token};
 ghost use Rattle.cutset_lister.specs.inner.SetText.{HasTokenNames};

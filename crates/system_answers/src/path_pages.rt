@@ -7,7 +7,7 @@ ghost use Rattle.plain_values.specs.Order.{IsClear};
 ghost use Rattle.backward_slice.specs.Slices.{IsServed, IsSlice};
 ghost use Rattle.backward_slice.specs.declared.parts.Slice.{Slice as Part};
 ghost use Rattle.cutset_lister.specs.inner.Walks.{all_sets};
-ghost use Rattle.cutset_writer.specs.Pages.{IsReady};
+ghost use Rattle.cutset_writer.specs.inner.Pages.{IsReady};
 ghost use Rattle.galileo_writer.specs.inner.TreeText.{HasTextNames};
 ghost use Rattle.path_sets.specs.Duals.{dual_of};
 ghost use Rattle.path_sets.specs.inner.Duals.{IsWithoutFeedback};

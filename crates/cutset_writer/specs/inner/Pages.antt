@@ -5,7 +5,7 @@ use Rattle.fault_system.specs.Systems.{System}
 use Rattle.fault_system.specs.Listings.{IsInListingOrder}
 use Rattle.zdd_store.specs.inner.Store.{Families}
 use Rattle.cutset_lister.specs.inner.Walks.{IsStarted, all_sets, sets_left}
-use Rattle.cutset_writer.specs.Lengths.{most_line}
+use Rattle.cutset_writer.specs.inner.Lengths.{most_line}
 use Rattle.cutset_writer.specs.Text.{more_line, set_line}
 use Rattle.cutset_writer.specs.declared.form.SetForm.{SetForm}
 use Rattle.cutset_writer.specs.declared.bookmark.Bookmark.{Bookmark}
