@@ -2,7 +2,8 @@ ghost use Rattle.std.specs.Prelude.{◌≡◌, ◌<◌, [], IfErr, Ok, OnOk, fal
 ghost use Rattle.plain_values.specs.Rising.{RisesWithin};
 ghost use Rattle.cutset_lister.specs.inner.Walks.{IsSameListing, IsStarted, sets_left};
 ghost use Rattle.cut_reports.specs.Places.{AtChosen, is_among};
-ghost use Rattle.cut_reports.specs.Feeding.{ChosenTake, Fed, IsKept, RoseAt, TookSets};
+ghost use Rattle.cut_reports.specs.Feeding.{IsKept, RoseAt};
+ghost use Rattle.cut_reports.specs.inner.Feeding.{ChosenTake, Fed, TookSets};
 
 use crate::giving::{FeedFault, give_set};
 use cutset_lister::Listing;

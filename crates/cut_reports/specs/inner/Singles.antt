@@ -1,7 +1,7 @@
 -- The report of the events that alone are one of the sets.
 use Rattle.std.specs.Prelude.{ℕ, ◌≡◌, ◌<◌, ◌==◌, Bool, false, List, [], ◌∷◌, ◌++◌, length, codes, slice_index_or, if◌then◌else◌}
 use Rattle.std.specs.List.{list_any}
-use Rattle.cut_reports.specs.Numbered.{numbered_text}
+use Rattle.cut_reports.specs.inner.Numbered.{numbered_text}
 
 -- whether a set has this event alone
 abbrev pub is_alone : ℕ → List ℕ → Bool

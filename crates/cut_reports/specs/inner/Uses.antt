@@ -1,7 +1,7 @@
 -- The report of the events of the sets.
 use Rattle.std.specs.Prelude.{ℕ, ◌==◌, List, [], ◌++◌, codes, slice_index_or, if◌then◌else◌}
-use Rattle.cut_reports.specs.Counts.{AreCounts, count_end, count_of}
-use Rattle.cut_reports.specs.Numbered.{numbered_text}
+use Rattle.cut_reports.specs.inner.Counts.{AreCounts, count_end, count_of}
+use Rattle.cut_reports.specs.inner.Numbered.{numbered_text}
 use Rattle.cut_reports.specs.Places.{is_among}
 
 -- the line of an event and the count of the sets that have it; none where there is no such set

@@ -1,7 +1,7 @@
 -- The report of the sizes of the sets.
 use Rattle.std.specs.Prelude.{ℕ, ◌≡◌, ◌+◌, ◌==◌, Bool, List, [], ◌++◌, length, codes, decimal, slice_index_or, if◌then◌else◌}
-use Rattle.cut_reports.specs.Counts.{AreCounts, count_end, count_of}
-use Rattle.cut_reports.specs.Numbered.{numbered_text}
+use Rattle.cut_reports.specs.inner.Counts.{AreCounts, count_end, count_of}
+use Rattle.cut_reports.specs.inner.Numbered.{numbered_text}
 
 -- whether a set has so many events
 abbrev pub has_size : ℕ → List ℕ → Bool
