@@ -33,7 +33,7 @@ use Rattle.page_tokens.specs.Forms.{IsMalformed}
 use Rattle.page_tokens.specs.Keys.{asked_digits}
 use Rattle.page_tokens.specs.Starts.{IsStale, LacksStart as LacksBegin}
 use Rattle.path_sets.specs.PathSets.{HasLargePaths}
-use Rattle.system_answers.specs.Prints.{IsReportFault, NoFault, PrintsBut}
+use Rattle.system_answers.specs.inner.Prints.{IsReportFault, NoFault, PrintsBut}
 use Rattle.fta_run.specs.Due.{command_text, confirmed_in, cuts_in, due, first_text, made_root, made_target, make_text, model_of_files, model_of_texts, other_texts, sets_of_tree, sized_text, texts_of, within_limits}
 use Rattle.fta_run.specs.Later.{IsLater}
 use Rattle.system_answers.specs.Voices.{Voice, labels}

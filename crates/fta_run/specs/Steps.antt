@@ -9,7 +9,8 @@ use Rattle.fta_run.specs.Words.{Command, GiveCommand, IsCommand, chosen_of, file
 use Rattle.system_answers.specs.Voices.{Voice, labels}
 use Rattle.fta_run.specs.Due.{command_text, due}
 use Rattle.fta_run.specs.Files.{most_bytes, most_files}
-use Rattle.system_answers.specs.Prints.{IsReportFault, IsWriteEnd, NoFault, TookText}
+use Rattle.system_answers.specs.Prints.{TookText}
+use Rattle.system_answers.specs.inner.Prints.{IsReportFault, IsWriteEnd, NoFault}
 
 -- What was read of each file is the front of what it contains, where that is told: one byte more than a file may have, at most.
 abbrev pub AreFronts : (List ℕ → Option (List ℕ)) → List (List ℕ) → List (List ℕ) → Type 0

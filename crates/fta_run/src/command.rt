@@ -13,7 +13,7 @@ ghost use Rattle.fta_run.specs.Answers.{AllTold, AnswersWords, BeginsWithMemory,
 ghost use Rattle.fta_run.specs.Due.{check_text, cuts_in, due, fmea_text, model_of_files, model_of_texts, sets_of_tree};
 ghost use Rattle.fta_run.specs.Files.{most_files};
 ghost use Rattle.fta_run.specs.Words.{Check, Command as AnyCommand, Confirm, Cuts, Fmea, Galileo, GiveNoCommand, IsCommand, Paths, Place, Report, Tree, Why, chosen_of, file_words, files_of};
-ghost use Rattle.system_answers.specs.Prints.{Prints};
+ghost use Rattle.system_answers.specs.inner.Prints.{Prints};
 ghost use Rattle.system_answers.specs.Voices.{labels, voices_of};
 ghost use Rattle.cut_reports.specs.Feeding.{IsKept, RoseAt};
 ghost use Rattle.cut_reports.specs.Places.{AtChosen};

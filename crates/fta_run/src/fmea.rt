@@ -6,7 +6,7 @@ ghost use Rattle.fmea_rows.specs.inner.Text.{HasFieldNames};
 ghost use Rattle.model_phases.specs.Named.{IsPlainModel};
 ghost use Rattle.fta_run.specs.Due.{fmea_text};
 ghost use Rattle.fta_run.specs.Effects.{asked_effects, is_of_root};
-ghost use Rattle.system_answers.specs.Prints.{Prints};
+ghost use Rattle.system_answers.specs.inner.Prints.{Prints};
 
 use fault_system::FaultSystem;
 use fmea_rows::{rows, write_rows};

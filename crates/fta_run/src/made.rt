@@ -9,7 +9,7 @@ ghost use Rattle.cutset_writer.specs.Text.{listing_page};
 ghost use Rattle.cutset_writer.specs.declared.form.SetForm.TheVariants.{Token};
 ghost use Rattle.model_phases.specs.Named.{IsPlainModel};
 ghost use Rattle.fta_run.specs.Due.{made_model_text, made_paging, made_root, made_target, make_text, sized_page, sized_text};
-ghost use Rattle.system_answers.specs.Prints.{Prints};
+ghost use Rattle.system_answers.specs.inner.Prints.{Prints};
 
 use crate::input::texts_of_one;
 use crate::model::model_of_texts;

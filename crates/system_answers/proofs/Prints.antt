@@ -11,7 +11,7 @@ use Rattle.phases.specs.inner.Stopped.{status_of_write}
 use Rattle.fta_outside.specs.declared.error.WriteError.{WriteError}
 use Rattle.fta_outside.specs.declared.error.WriteError.TheVariants.{Failed, Memory}
 use Rattle.phases.proofs.Steps.{◌passes◌}
-use Rattle.system_answers.specs.Prints.{NoFault, Prints, PrintsBut}
+use Rattle.system_answers.specs.inner.Prints.{NoFault, Prints, PrintsBut}
 
 -- the text of a later phase is that of the whole
 pub prints_but_on : {A T : Type 0} (Faulted : Status → Type 0) (first : Phase A) (later : A → Phase (List ℕ)) (x : A) (result : Result T Status) (t u : Option (List ℕ)) (f g : ℕ) → Passes first x → PrintsBut Faulted (later x) result t u f g → PrintsBut Faulted (chains first later) result t u f g

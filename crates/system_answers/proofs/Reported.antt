@@ -15,7 +15,7 @@ use Rattle.cut_reports.proofs.Places.{all_same}
 use Rattle.cut_reports.proofs.Taken.{kept_same}
 use Rattle.phases.specs.Phases.{Passes, Phase}
 use Rattle.phases.specs.declared.status.Status.{Status}
-use Rattle.system_answers.specs.Prints.{EndsReports, IsReportEnd}
+use Rattle.system_answers.specs.inner.Prints.{EndsReports, IsReportEnd}
 use Rattle.system_answers.specs.Voices.{Voice, labels, voices_of, voices_text}
 
 -- ---- names

@@ -5,3 +5,4 @@ pub mod Trees
 pub mod Galileo
 pub mod Texts
 pub mod Derivations
+pub mod inner

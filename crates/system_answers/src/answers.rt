@@ -7,7 +7,7 @@ ghost use Rattle.cutset_lister.specs.inner.SetText.{HasTokenNames};
 ghost use Rattle.galileo_writer.specs.inner.TreeText.{AreRates, HasTextNames};
 ghost use Rattle.cut_reports.specs.Feeding.{IsKept, RoseAt};
 ghost use Rattle.cut_reports.specs.Places.{AtChosen};
-ghost use Rattle.system_answers.specs.Prints.{IsReportFault, Prints, PrintsBut};
+ghost use Rattle.system_answers.specs.inner.Prints.{IsReportFault, Prints, PrintsBut};
 ghost use Rattle.system_answers.specs.Texts.{cuts_text, paths_text, report_text, tree_text};
 ghost use Rattle.system_answers.specs.Voices.{voices_of};
 

@@ -10,7 +10,7 @@ ghost use Rattle.cutset_lister.specs.inner.SetText.{HasTokenNames};
 ghost use Rattle.derivations.specs.Text.{IsTextOf, event_names, fact_names};
 ghost use Rattle.derivations.specs.inner.Text.{AreLineNames};
 ghost use Rattle.system_answers.specs.Derivations.{accepted_text, answer_confirmed, confirm_text, derivation_of, good_steps, lines_why, set_of_text, steps_of, why_text};
-ghost use Rattle.system_answers.specs.Prints.{Prints};
+ghost use Rattle.system_answers.specs.inner.Prints.{Prints};
 
 use crate::target::find_target;
 use crate::writing::write_bytes;

@@ -12,7 +12,7 @@ ghost use Rattle.galileo_writer.specs.inner.TreeText.{HasTextNames};
 ghost use Rattle.path_sets.specs.Duals.{dual_of};
 ghost use Rattle.path_sets.specs.inner.Duals.{IsWithoutFeedback};
 ghost use Rattle.path_sets.specs.PathSets.{HasLargePaths, IsPathListing};
-ghost use Rattle.system_answers.specs.Prints.{Prints};
+ghost use Rattle.system_answers.specs.inner.Prints.{Prints};
 ghost use Rattle.system_answers.specs.Texts.{dual_page, path_page, slice_of};
 
 use crate::cut_sets::write_listing;

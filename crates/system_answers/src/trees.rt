@@ -10,7 +10,7 @@ ghost use Rattle.property_reader.specs.declared.rate.Rate.{Rate as AnyRate};
 ghost use Rattle.round_gates.specs.Targets.{IsTreeFor};
 ghost use Rattle.round_gates.specs.inner.Targets.{IsWellMade};
 ghost use Rattle.system_answers.specs.Texts.{galileo_of};
-ghost use Rattle.system_answers.specs.Prints.{Prints};
+ghost use Rattle.system_answers.specs.inner.Prints.{Prints};
 ghost use Rattle.system_answers.specs.Trees.{IsTreeText};
 
 use backward_slice::Slice;
