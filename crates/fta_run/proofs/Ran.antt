@@ -40,7 +40,7 @@ use Rattle.system_answers.specs.Voices.{Voice, labels}
 use Rattle.model_maker.specs.Text.{text_of as made_text}
 use Rattle.cut_reports.specs.Places.{AtChosen}
 use Rattle.fta_run.specs.Answers.{AllTold, AnswersWords, BeginsWithMemory, IsCaused, IsJustified, IsManyAnswer, IsOutput, IsSameStatus, MayCome, Took}
-use Rattle.fta_run.specs.Steps.{IsChosenFault, IsReadEnd, Runs, RunsBut, ended}
+use Rattle.fta_run.specs.inner.Steps.{IsChosenFault, IsReadEnd, Runs, RunsBut, ended}
 use Rattle.system_answers.proofs.Prints.{prints_but_on}
 use Rattle.fta_run.proofs.Commands.{file_words_are, one_command}
 use Rattle.fta_run.proofs.OneDue.{one_due}

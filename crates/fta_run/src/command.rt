@@ -18,7 +18,7 @@ ghost use Rattle.system_answers.specs.Voices.{labels, voices_of};
 ghost use Rattle.cut_reports.specs.Feeding.{IsKept, RoseAt};
 ghost use Rattle.cut_reports.specs.Places.{AtChosen};
 ghost use Rattle.plain_values.specs.Rising.{RisesWithin};
-ghost use Rattle.fta_run.specs.Steps.{IsReadEnd, Runs, RunsAlone, RunsWith, ended};
+ghost use Rattle.fta_run.specs.inner.Steps.{IsReadEnd, Runs, RunsAlone, RunsWith, ended};
 
 use crate::confirmed::write_confirmation;
 use crate::fixed::{write_help, write_version};

@@ -10,7 +10,7 @@ ghost use Rattle.phases.specs.inner.Phases.{IsSameEnd};
 ghost use Rattle.phases.specs.declared.status.Status.{Status as AnyStatus};
 ghost use Rattle.fta_run.specs.Answers.{AllTold, IsOutput, IsSameStatus};
 ghost use Rattle.fta_run.specs.Due.{command_text, due, model_of_texts, other_texts, texts_of};
-ghost use Rattle.fta_run.specs.Files.{StandsBefore};
+ghost use Rattle.fta_run.specs.inner.Files.{StandsBefore};
 ghost use Rattle.fta_run.specs.Words.{Confirm, Why};
 ghost use Rattle.model_phases.specs.declared.flat.FlatModel.{FlatModel};
 ghost use Rattle.system_answers.specs.Derivations.{accepted_text};
