@@ -6,7 +6,7 @@ use Rattle.aadl_syntax.specs.declared.token.TokenKind.TheVariants.{Word, Sign}
 use Rattle.grammar_rules.specs.Rules.{Reads}
 use Rattle.grammar_rules.specs.Running.{read, dead, run}
 use Rattle.grammar_rules.specs.Tokens.{is_word, is_sign, is_identifier, word, sign, identifier}
-use Rattle.text_tests.specs.Sample.{reserved, name, further_name, uses}
+use Rattle.text_tests.specs.inner.Sample.{reserved, name, further_name, uses}
 
 abbrev token : TokenKind → List ℕ → Token
 token kind text = record { kind = kind; start = 0; end = 0; text = text }
