@@ -1,4 +1,4 @@
--- In which round a fact comes to hold, and tables of rounds.
+-- In which round a fact comes to hold.
 use Rattle.std.specs.Prelude.{ℕ, zero, suc, ◌<◌, ◌≡◌, ◌==◌, false, List, length, slice_index_or}
 use Rattle.fault_system.specs.Truth.{NumberSet, Has, member}
 use Rattle.fault_system.specs.Systems.{System, Holds, round}

@@ -1,9 +1,7 @@
--- When a static text is true for a set of basic events.
+-- The names of the events of a tree.
 use Rattle.std.specs.Prelude.{ℕ, List, [], slice_get, unwrap_or}
 use Rattle.std.specs.Option.{option_map}
 use Rattle.galileo_reader.specs.declared.tree.NamedTree.{NamedTree}
-
--- ---- a tree as such a text
 
 -- the name of an event by its number
 abbrev pub event_name : NamedTree → ℕ → List ℕ

@@ -1,4 +1,4 @@
--- Parts that stand one after the other, and rules that take at least one token.
+-- Parts that stand one after the other.
 use Rattle.std.specs.Prelude.{List, ◌++◌}
 use Rattle.grammar_rules.specs.Rules.{Test, Rule, gives, repeats, ◌>>=◌}
 

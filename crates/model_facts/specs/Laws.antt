@@ -1,9 +1,7 @@
--- What the names of facts and of events owe to those who look them up and print them.
+-- Names that have no separator.
 use Rattle.std.specs.Prelude.{◌≡◌, ◌≢◌, ◌==◌, ◌||◌, ℕ, Bool, IsTrue, List, [], ◌∷◌, ◌++◌, codes}
 use Rattle.std.specs.List.{AllByRecursion, list_any}
 use Rattle.aadl_syntax.specs.Form.{is_letter_or_digit}
-
--- ---- names are plain
 
 -- whether a byte may stand in a name: letters, digits, and `_`, `.`, `/`, `:`, `{`, `}`
 abbrev pub is_name_byte : ℕ → Bool

@@ -1,4 +1,4 @@
--- What a function promises that does a phase of tests.
+-- The group of one refusal.
 use Rattle.std.specs.Prelude.{◌≡◌, Option, Some}
 use Rattle.plain_values.specs.declared.refusal.Refusal.{Refusal}
 

@@ -1,4 +1,4 @@
--- Duals of formulas and of systems, and systems without feedback.
+-- Duals of formulas and of systems.
 use Rattle.std.specs.Prelude.{ℕ, ◌+◌, ◌-◌, ◌==◌, if◌then◌else◌, List, [], length, map}
 use Rattle.fault_system.specs.Systems.{System}
 use Rattle.fault_system.specs.declared.formula.FactInfo.{FactInfo}

@@ -1,4 +1,4 @@
--- When a target is constant, when its tree may be too large, and what is answered.
+-- When a target is constant, and when its tree may be too large.
 use Rattle.std.specs.Prelude.{ℕ, ◌*◌, ◌<◌, ◌≡◌, Bool, List, length, map, slice_get, Option, Some, None}
 use Rattle.fault_system.specs.Truth.{NumberSet, Has}
 use Rattle.fault_system.specs.Systems.{System}

@@ -1,4 +1,4 @@
--- What each tree is like, and the tree of a target, or why it has none.
+-- The tree of a target, or why it has none.
 use Rattle.std.specs.Prelude.{ℕ, ◌<◌, ◌≤◌, ◌≡◌, Bool, true, false, nat_lt, length}
 use Rattle.plain_values.specs.declared.refusal.Refusal.{Refusal}
 use Rattle.plain_values.specs.Refusal.{of_words}

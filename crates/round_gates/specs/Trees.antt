@@ -1,4 +1,4 @@
--- The tree of a target, and when a tree is true.
+-- The tree of a target.
 use Rattle.std.specs.Prelude.{ℕ, ◌+◌, ◌<◌, ◌≡◌, ◌≢◌, Bool, true, false, List, [], ◌∷◌, length, map, filter, slice_get, slice_index_or, Some, ◌==◌}
 use Rattle.std.specs.List.{AllByRecursion, list_any, range_with_len}
 use Rattle.std.specs.Ordering.{nat_cmp, ordering_then}

@@ -1,4 +1,4 @@
--- When nodes and gates are true, under a set of events and the truth of gates by their names.
+-- When a gate is true.
 use Rattle.std.specs.Prelude.{Bool, List, nat_le}
 use Rattle.std.specs.List.{list_all, list_any}
 use Rattle.fault_system.specs.Truth.{count_true}
