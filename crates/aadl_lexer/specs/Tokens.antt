@@ -28,8 +28,7 @@ IsForm annexes (Some Number) bytes = IsNumber bytes
 IsForm annexes (Some Text) bytes = IsText bytes
 IsForm annexes (Some Sign) bytes = IsSign bytes
 IsForm annexes (Some AnnexBegin) bytes = IsTrue annexes × (bytes ≡ annex_begin)
-IsForm annexes (Some AnnexRaw) bytes = ⊥
-IsForm annexes (Some AnnexEnd) bytes = ⊥
+IsForm annexes _ bytes = ⊥
 
 -- The bytes are of the form, and where `rest` follows them no longer front of the text is of any form.
 pub record IsLongest (annexes : Bool) (kind : Option TokenKind) (bytes rest : List ℕ) : Type 0 where

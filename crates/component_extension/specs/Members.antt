@@ -154,15 +154,11 @@ connections = record {
 
 abbrev pub is_feature_group : FeatureKind → Bool
 is_feature_group feature.Group = true
-is_feature_group feature.Inward = false
-is_feature_group feature.Outward = false
-is_feature_group feature.Both = false
-is_feature_group feature.Access = false
+is_feature_group _ = false
 
 abbrev pub is_group_connection : ConnectionKind → Bool
 is_group_connection connection.Group = true
-is_group_connection connection.Plain = false
-is_group_connection connection.Access = false
+is_group_connection _ = false
 
 -- P2 at an array of a feature, and P3 at a feature group
 abbrev pub feature_limits : Member Feature → List Refusal

@@ -1,5 +1,5 @@
 -- Reports that take the sets of a listing. Each definition is given what it uses of a report's meanings, and names no box.
-use Rattle.std.specs.Prelude.{ℕ, ◌≡◌, ◌≤◌, List, Option, Some, None, slice_get}
+use Rattle.std.specs.Prelude.{ℕ, ◌≡◌, ◌≤◌, List, Option, Some, slice_get}
 use Rattle.fta_outside.specs.Outside.{Rose}
 
 -- What no call changes of a report: its text and its name; and its count of faults never falls.
@@ -10,9 +10,8 @@ pub record IsKept {R : Type 0} (text_of : R → List (List ℕ) → List (List �
 
 -- both are there, and the count of the second is greater, or at the last value of a counter
 abbrev pub Rises : {R : Type 0} → (R → ℕ) → Option R → Option R → Type 0
-Rises faults_of None after = ⊥
-Rises faults_of (Some before) None = ⊥
 Rises faults_of (Some before) (Some after) = Rose (faults_of before) (faults_of after)
+Rises faults_of _ _ = ⊥
 
 -- The count of the report at this place rose.
 abbrev pub RoseAt : {R : Type 0} → (R → ℕ) → ℕ → List R → List R → Type 0

@@ -5,9 +5,8 @@ use Rattle.std.specs.List.{list_any}
 -- these two are there, and so; or neither is there
 abbrev pub Both : {R : Type 0} → (R → R → Type 0) → Option R → Option R → Type 0
 Both P None None = Unit {0}
-Both P None (Some after) = ⊥
-Both P (Some before) None = ⊥
 Both P (Some before) (Some after) = P before after
+Both P _ _ = ⊥
 
 -- The lists are of one length, and at each place their two items are so.
 abbrev pub AtEach : {R : Type 0} → (ℕ → R → R → Type 0) → List R → List R → Type 0

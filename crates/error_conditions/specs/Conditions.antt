@@ -5,7 +5,7 @@ use Rattle.aadl_syntax.specs.declared.error_model.Condition.{Condition, fold-Con
 use Rattle.aadl_syntax.specs.declared.error_model.Condition.TheOpen.{Condition-F}
 use Rattle.aadl_syntax.specs.declared.error_model.Condition.TheOpen as condition
 use Rattle.aadl_syntax.specs.declared.error_model.Term.{Term}
-use Rattle.aadl_syntax.specs.declared.error_model.Term.TheVariants.{NoError, One, Product}
+use Rattle.aadl_syntax.specs.declared.error_model.Term.TheVariants.{NoError}
 use Rattle.aadl_syntax.specs.declared.error_model.TypeSet.{TypeSet}
 use Rattle.plain_values.specs.declared.refusal.Code.TheVariants.{NoErrorCondition, OrLess}
 use Rattle.plain_values.specs.declared.refusal.Refusal.{Refusal}
@@ -60,8 +60,7 @@ point_meaning table setting atom = point_cause (reached_in table setting (atom_u
 -- P6 at a term `noerror`
 abbrev pub no_error_at : Term → List Refusal
 no_error_at (NoError spot) = refusal NoErrorCondition (place_of spot) ∷ []
-no_error_at (One name) = []
-no_error_at (Product spot) = []
+no_error_at _ = []
 
 -- P6 at each `noerror` of the set of a named part
 abbrev pub no_error_refusals : Option TypeSet → List Refusal

@@ -6,7 +6,7 @@ use Rattle.plain_values.specs.Order.{least}
 use Rattle.aadl_syntax.specs.declared.core_model.PackageUnit.{PackageUnit}
 use Rattle.aadl_syntax.specs.declared.error_model.TypeItem.{TypeItem}
 use Rattle.aadl_syntax.specs.declared.error_model.TypeKind.{TypeKind}
-use Rattle.aadl_syntax.specs.declared.error_model.TypeKind.TheVariants.{Plain, Alias, Set, SetAlias}
+use Rattle.aadl_syntax.specs.declared.error_model.TypeKind.TheVariants.{Plain, Set, SetAlias}
 use Rattle.aadl_syntax.specs.declared.error_model.TypesBlock.{TypesBlock}
 use Rattle.aadl_syntax.specs.declared.place.Ref.{Ref}
 use Rattle.plain_values.specs.declared.refusal.Code.TheVariants.{UnknownPackage, TooManyTypes}
@@ -99,16 +99,13 @@ is_item_in ids id = list_any (λ other. is_same_item other id) ids
 -- whether an item declares a type, and no alias or set
 abbrev pub is_type : TypeKind → Bool
 is_type (Plain base) = true
-is_type (Alias target) = false
-is_type (Set set) = false
-is_type (SetAlias target) = false
+is_type _ = false
 
 -- whether an item declares a set, or an alias of one
 abbrev pub is_set : TypeKind → Bool
-is_set (Plain base) = false
-is_set (Alias target) = false
 is_set (Set set) = true
 is_set (SetAlias target) = true
+is_set _ = false
 
 -- whether an item declares a type of this name
 abbrev pub is_type_named : List ℕ → TypeItem → Bool

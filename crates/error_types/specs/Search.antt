@@ -109,8 +109,7 @@ pub record Named : Type 0 where
 -- the item that was found
 abbrev pub item_found : Looked → Option ItemId
 item_found (Found id) = Some id
-item_found Nowhere = None
-item_found Circular = None
+item_found _ = None
 
 -- N7 where a name is found nowhere, N8 where its search is circular, both at the name
 abbrev pub name_fault : Spot → Looked → Option Refusal

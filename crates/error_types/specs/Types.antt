@@ -4,7 +4,7 @@ use Rattle.std.specs.List.{list_any}
 use Rattle.plain_values.specs.Numbered.{numbers_below}
 use Rattle.aadl_syntax.specs.declared.core_model.PackageUnit.{PackageUnit}
 use Rattle.aadl_syntax.specs.declared.error_model.TypeKind.{TypeKind}
-use Rattle.aadl_syntax.specs.declared.error_model.TypeKind.TheVariants.{Plain, Alias, Set, SetAlias}
+use Rattle.aadl_syntax.specs.declared.error_model.TypeKind.TheVariants.{Plain, Alias}
 use Rattle.aadl_syntax.specs.declared.error_model.TypeSet.{TypeSet}
 use Rattle.aadl_syntax.specs.declared.place.Ref.{Ref}
 use Rattle.error_types.specs.declared.id.ItemId.{ItemId}
@@ -25,8 +25,7 @@ text_scope packages number uses = record { «package» = number; libraries = lib
 abbrev pub type_by : (Scope → Ref → Option ℕ) → Table → ItemId → TypeKind → Option ℕ
 type_by look table id (Plain base) = number_of table id
 type_by look table id (Alias target) = look (library_scope table id.«package») target
-type_by look table id (Set set) = None
-type_by look table id (SetAlias target) = None
+type_by look table id _ = None
 
 -- the type that an item is, if it is one
 abbrev pub type_at : (Scope → Ref → Option ℕ) → Table → Option ItemId → Option ℕ
@@ -41,9 +40,7 @@ type_named (suc steps) table scope reference = type_at (type_named steps table) 
 -- the name of the type that an item extends
 abbrev pub extends_in : TypeKind → Option Ref
 extends_in (Plain base) = base
-extends_in (Alias target) = None
-extends_in (Set set) = None
-extends_in (SetAlias target) = None
+extends_in _ = None
 
 -- The type that the type of an item extends. One whose `extends` names no type extends none. No index has as many as 2^64
 -- aliases.

@@ -25,9 +25,8 @@ pub record Need : Type 0 where
 
 -- the name of a term
 abbrev pub need_of_term : Term → List Need
-need_of_term (NoError spot) = []
 need_of_term (One reference) = record { of_type = false; reference = reference } ∷ []
-need_of_term (Product spot) = []
+need_of_term _ = []
 
 -- the name of the type that a type extends, where a walk goes on from types to those
 abbrev pub base_needs : Bool → Option Ref → List Need
@@ -44,16 +43,13 @@ needs_of through (SetAlias target) = record { of_type = false; reference = targe
 
 -- P4 at a product of types
 abbrev pub product_of_term : Term → List Refusal
-product_of_term (NoError spot) = []
-product_of_term (One reference) = []
 product_of_term (Product spot) = refusal TypeProduct (place_of spot) ∷ []
+product_of_term _ = []
 
 -- P4 at each product of a set
 abbrev pub products_of : TypeKind → List Refusal
-products_of (Plain base) = []
-products_of (Alias target) = []
 products_of (Set set) = flat_map product_of_term set.terms
-products_of (SetAlias target) = []
+products_of _ = []
 
 -- what the kind of an item gives, if there is the item
 abbrev pub of_item : {Part : Type 0} → (TypeKind → List Part) → Option TypeItem → List Part
@@ -142,9 +138,8 @@ reached through table (Some id) = walk_from through table id
 -- The types that a term of a written set names, by itself or through aliases and sets, but not by what types extend. Its name
 -- begins a walk of its own.
 abbrev pub term_types : Table → Scope → Term → List ℕ
-term_types table scope (NoError spot) = []
 term_types table scope (One reference) = (reached false table (named table scope reference).target).types
-term_types table scope (Product spot) = []
+term_types table scope _ = []
 
 -- the first refusal of a term, also of what types extend
 abbrev pub term_first : Table → Scope → Term → Option Refusal

@@ -6,9 +6,8 @@ use Rattle.fault_system.specs.CutSets.{IsMinimalCutSet}
 
 -- at the first place where the two differ, a has the smaller number
 abbrev pub is_lower : List ℕ → List ℕ → Bool
-is_lower [] b = false
-is_lower (x ∷ xs) [] = false
 is_lower (x ∷ xs) (y ∷ ys) = nat_lt x y || ((x == y) && is_lower xs ys)
+is_lower _ _ = false
 
 -- the listing order: fewer events first, then the smaller number at the first place where the rising lists differ
 abbrev pub is_before : List ℕ → List ℕ → Bool

@@ -40,12 +40,11 @@ truth events facts = fold-Formula Bool (truth_step events facts)
 
 -- one formula, with whether the number occurs in each part in its place
 abbrev pub occurs_step : ℕ → Formula-F Bool → Bool
-occurs_step number True = false
-occurs_step number (Event n) = false
 occurs_step number (Fact n) = n == number
 occurs_step number (And parts) = list_any (λ part. part) parts
 occurs_step number (Or parts) = list_any (λ part. part) parts
 occurs_step number (AtLeast k parts) = list_any (λ part. part) parts
+occurs_step number _ = false
 
 -- whether a fact of this number occurs in a formula
 abbrev pub occurs : ℕ → Formula → Bool
@@ -53,12 +52,11 @@ occurs number = fold-Formula Bool (occurs_step number)
 
 -- one formula, with whether the event of a number occurs in each part in its place
 abbrev pub occurs_event_step : ℕ → Formula-F Bool → Bool
-occurs_event_step number True = false
 occurs_event_step number (Event n) = n == number
-occurs_event_step number (Fact n) = false
 occurs_event_step number (And parts) = list_any (λ part. part) parts
 occurs_event_step number (Or parts) = list_any (λ part. part) parts
 occurs_event_step number (AtLeast k parts) = list_any (λ part. part) parts
+occurs_event_step number _ = false
 
 -- whether the event of a number occurs in a formula
 abbrev pub occurs_event : ℕ → Formula → Bool

@@ -14,7 +14,7 @@ use Rattle.fault_system.specs.Systems.{System}
 use Rattle.fault_system.specs.declared.formula.EventInfo.{EventInfo}
 use Rattle.fault_system.specs.declared.formula.FactInfo.{FactInfo}
 use Rattle.fault_system.specs.declared.formula.Formula.{Formula, fold-Formula}
-use Rattle.fault_system.specs.declared.formula.Formula.TheOpen.{Formula-F, True, Event, Fact, And, Or, AtLeast}
+use Rattle.fault_system.specs.declared.formula.Formula.TheOpen.{Formula-F, And, Or, AtLeast}
 use Rattle.flattener.specs.Numbered.{Numbered, numbered_of}
 use Rattle.flattener.specs.Facts.{meaning_of}
 
@@ -38,12 +38,10 @@ system_of assembly = system_by (numbered_of assembly)
 
 -- one formula, with the number of places of each part in its place
 abbrev pub places_step : Formula-F ℕ → ℕ
-places_step True = 1
-places_step (Event number) = 1
-places_step (Fact number) = 1
 places_step (And parts) = 1 + sum parts
 places_step (Or parts) = 1 + sum parts
 places_step (AtLeast least parts) = 1 + sum parts
+places_step _ = 1
 
 -- how many places a formula has: itself and those of its parts
 abbrev pub places : Formula → ℕ

@@ -161,21 +161,18 @@ files_of (Cuts root target files paging tokens) = files
 files_of (Tree root target files) = files
 files_of (Fmea root files all) = files
 files_of (Report root target files chosen max_order) = files
-files_of (Make number text) = []
 files_of (Galileo files limit max_order paths) = files
 files_of (Paths root target files paging) = files
 files_of (Why root target files set) = files
 files_of (Confirm root target files set) = files
 files_of (Place files byte) = files
-files_of (Help of) = []
-files_of Version = []
+files_of _ = []
 
 -- what an option says where it is given, and nothing where it is not
 abbrev pub Says : {A : Type 0} → (List ℕ → A → Type 0) → Option (List ℕ) → Option A → Type 0
 Says Is None None = Unit {0}
-Says Is None (Some a) = ⊥
-Says Is (Some text) None = ⊥
 Says Is (Some text) (Some a) = Is text a
+Says Is _ _ = ⊥
 
 -- the letters of a text are folded
 abbrev pub IsFolded : List ℕ → List ℕ → Type 0

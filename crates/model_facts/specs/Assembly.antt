@@ -6,7 +6,7 @@ use Rattle.error_types.specs.Libraries.{Table, table_of}
 use Rattle.error_types.specs.Search.{is_number_in}
 use Rattle.plain_values.specs.Numbered.{numbers_below}
 use Rattle.propagation_points.specs.declared.side.Side.{Side}
-use Rattle.propagation_points.specs.declared.side.Side.TheVariants.{Absent, Free, Declared}
+use Rattle.propagation_points.specs.declared.side.Side.TheVariants.{Declared}
 use Rattle.propagation_points.specs.Points.{Point}
 use Rattle.error_behavior.specs.States.{no_states}
 use Rattle.error_models.specs.declared.model.ErrorModel.{ErrorModel}
@@ -57,9 +57,8 @@ model_at assembly number = kind_model assembly.models (kind_number assembly.inst
 
 -- the types that are declared for a side
 abbrev pub side_numbers : Side → List ℕ
-side_numbers Absent = []
-side_numbers Free = []
 side_numbers (Declared types) = types
+side_numbers _ = []
 
 -- the types that are declared for the sides of a point
 abbrev pub point_numbers : Point → List ℕ

@@ -62,9 +62,7 @@ fact_number facts fact = position (same_fact fact) facts
 -- the event of a flow that has this place among the flows: a source without a state is one, for all its types
 abbrev pub source_events : ℕ → FlowMeaning → List EventKind
 source_events number (flow.Event name reached) = Source number ∷ []
-source_events number (flow.State state reached) = []
-source_events number (flow.Carry start point) = []
-source_events number (flow.Change start point types) = []
+source_events number _ = []
 
 -- whether two sides are the same
 abbrev pub same_side : PointAt → PointAt → Bool

@@ -1,5 +1,5 @@
 -- The names of facts and of events.
-use Rattle.std.specs.Prelude.{ℕ, List, [], ◌∷◌, ◌++◌, codes, flat_map, slice_get, Option, Some, None}
+use Rattle.std.specs.Prelude.{ℕ, List, [], ◌∷◌, ◌++◌, codes, flat_map, slice_get, Option, Some}
 use Rattle.std.specs.Option.{option_map_or}
 use Rattle.error_types.specs.Libraries.{Table}
 use Rattle.error_types.specs.Printed.{name_of, printed}
@@ -59,11 +59,8 @@ at_point types model point type = point_name model point ++ in_braces types type
 
 -- the name of a flow, where it is a source without a state
 abbrev pub source_name : Option FlowMeaning → List ℕ
-source_name None = []
 source_name (Some (flow.Event name reached)) = name
-source_name (Some (flow.State state reached)) = []
-source_name (Some (flow.Carry start point)) = []
-source_name (Some (flow.Change start point types)) = []
+source_name _ = []
 
 -- ---- names
 

@@ -22,6 +22,5 @@ last names = slice_get names (length names - 1)
 
 -- the name, where it is one identifier
 abbrev pub only : List (List ℕ) → Option (List ℕ)
-only [] = None
 only (name ∷ []) = Some name
-only (name ∷ other ∷ names) = None
+only _ = None

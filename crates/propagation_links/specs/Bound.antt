@@ -34,10 +34,9 @@ stated_in instance memory number names = option_map (λ binding. record { compon
 -- The binding that counts for the component to which a path leads: that of the outermost component on the way, from the one of this
 -- number on, that has one of which a target is what is left of the path.
 abbrev pub counting_along : Instance → Bool → Option ℕ → List (List ℕ) → Option Stated
-counting_along instance memory None path = None
-counting_along instance memory (Some number) [] = None
 counting_along instance memory (Some number) (name ∷ path) =
     option_or (stated_in instance memory number (name ∷ path)) (counting_along instance memory (component_below instance.components number (name ∷ [])) path)
+counting_along instance memory _ _ = None
 
 -- the path of the component of a number
 abbrev pub path_in : Instance → ℕ → List (List ℕ)

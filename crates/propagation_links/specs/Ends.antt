@@ -4,7 +4,7 @@ use Rattle.std.specs.Option.{option_map_or, option_or}
 use Rattle.std.specs.List.{list_any}
 use Rattle.plain_values.specs.Name.{is_same_text}
 use Rattle.aadl_syntax.specs.declared.core_model.ConnectionKind.{ConnectionKind}
-use Rattle.aadl_syntax.specs.declared.core_model.ConnectionKind.TheVariants.{Plain, Access, Group}
+use Rattle.aadl_syntax.specs.declared.core_model.ConnectionKind.TheVariants.{Access}
 use Rattle.package_index.specs.Names.{front, last, only}
 use Rattle.propagation_points.specs.Points.{Point, place_named, point_words, side_of}
 use Rattle.propagation_points.specs.Uses.{is_absent}
@@ -70,9 +70,8 @@ is_called_as_word pointed number names = option_map_or is_point_word (only names
 
 -- whether a connection is one of an access
 abbrev pub is_access : ConnectionKind → Bool
-is_access Plain = false
 is_access Access = true
-is_access Group = false
+is_access _ = false
 
 -- what an access connection has besides
 abbrev pub access_or_none : Bool → Pointed → ℕ → List (List ℕ) → Option FoundEnd

@@ -37,9 +37,8 @@ link_between pointed from to = cond (is_there pointed from && is_there pointed t
 
 -- the link between two ends, where both are found
 abbrev pub link_of : Pointed → Option FoundEnd → Option FoundEnd → List Link
-link_of pointed None to = []
-link_of pointed (Some from) None = []
 link_of pointed (Some from) (Some to) = link_between pointed (from_side from) (to_side to)
+link_of pointed _ _ = []
 
 -- ---- connections and paths
 

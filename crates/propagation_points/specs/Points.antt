@@ -5,7 +5,7 @@ use Rattle.std.specs.List.{list_any}
 use Rattle.plain_values.specs.Name.{is_same_text}
 use Rattle.aadl_syntax.specs.declared.core_model.Feature.{Feature}
 use Rattle.aadl_syntax.specs.declared.core_model.FeatureKind.{FeatureKind}
-use Rattle.aadl_syntax.specs.declared.core_model.FeatureKind.TheVariants.{Inward, Outward, Both, Access, Group}
+use Rattle.aadl_syntax.specs.declared.core_model.FeatureKind.TheVariants.{Inward, Outward, Both, Access}
 use Rattle.aadl_syntax.specs.declared.core_model.PackageUnit.{PackageUnit}
 use Rattle.aadl_syntax.specs.declared.error_model.PointItem.{PointItem}
 use Rattle.aadl_syntax.specs.declared.error_model.PointRef.{PointRef}
@@ -103,18 +103,16 @@ pub record OpenPoint : Type 0 where
 -- the inward side of a feature is open where data may come in, and that of an access feature always
 abbrev pub opens_inward : FeatureKind → Bool
 opens_inward Inward = true
-opens_inward Outward = false
 opens_inward Both = true
 opens_inward Access = true
-opens_inward Group = false
+opens_inward _ = false
 
 -- the outward side of a feature is open where data may go out, and that of an access feature always
 abbrev pub opens_outward : FeatureKind → Bool
-opens_outward Inward = false
 opens_outward Outward = true
 opens_outward Both = true
 opens_outward Access = true
-opens_outward Group = false
+opens_outward _ = false
 
 -- the point of a feature
 abbrev pub feature_point : Member Feature → OpenPoint

@@ -37,8 +37,7 @@ covers (Only types) number = is_number_in types number
 abbrev pub is_absent : Option Side → Bool
 is_absent None = true
 is_absent (Some Absent) = true
-is_absent (Some Free) = false
-is_absent (Some (Declared types)) = false
+is_absent _ = false
 
 -- the types that are declared for a side, if any are; a free side has none outside
 abbrev pub declared_for : Option Side → Option (List ℕ)

@@ -27,9 +27,8 @@ field_named name fields = option_map (λ field. field.value) (find (λ field. is
 
 -- the text of tokens that are one token of this kind
 abbrev pub only_text : TokenKind → List Token → Option (List ℕ)
-only_text kind [] = None
 only_text kind (token ∷ []) = if same_kind token.kind kind then Some token.text else None
-only_text kind (token ∷ next ∷ tokens) = None
+only_text kind _ = None
 
 -- what the number of a rate is under a distribution of this name
 abbrev pub distribution_kind : List ℕ → Option RateKind

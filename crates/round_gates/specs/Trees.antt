@@ -99,10 +99,9 @@ event_tree numbers target event =
 
 -- the tree of a node
 abbrev pub IsTreeOf : System → BlockNumbers → ℕ → Tree → Node → Type 0
-IsTreeOf system numbers target tree nodes.Always = ⊥
-IsTreeOf system numbers target tree nodes.Never = ⊥
 IsTreeOf system numbers target tree (nodes.Basic n) = tree ≡ event_tree numbers target n
 IsTreeOf system numbers target tree (nodes.Gate key) = IsGateTree system numbers key tree
+IsTreeOf system numbers target tree _ = ⊥
 
 -- the tree of a target: that of the node of its last stage
 abbrev pub IsTree : System → BlockNumbers → ℕ → Tree → Type 0

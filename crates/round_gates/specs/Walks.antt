@@ -117,12 +117,10 @@ total (n ∷ ns) = n + total ns
 
 -- one formula, with the number of places of each part in its place
 abbrev pub places_step : Formula-F ℕ → ℕ
-places_step True = 1
-places_step (Event n) = 1
-places_step (Fact n) = 1
 places_step (And parts) = total parts + 1
 places_step (Or parts) = total parts + 1
 places_step (AtLeast k parts) = total parts + 1
+places_step _ = 1
 
 -- how many places a formula has
 abbrev pub places : Formula → ℕ
