@@ -73,18 +73,9 @@ chain_or_none (Err refusal) = []
 unfoldable pub effective_of : List PackageUnit → ClassifierId → Effective
 effective_of packages id = effective_along packages (chain_or_none (chain_of packages id))
 
--- nothing at all
+-- nothing at all: what no classifiers have, and no clauses
 abbrev pub no_effective : Effective
-no_effective = record {
-  chain = [];
-  members = record { features = []; subcomponents = []; connections = [] };
-  clauses = [];
-  machine = None;
-  propagations = record { points = []; flows = []; user_points = []; user_paths = [] };
-  behavior = record { events = []; transitions = []; outgoing = []; composites = [] };
-  others = record { associations = []; mappings = []; connection_errors = [] };
-  bindings = [];
-}
+no_effective = effective_with [] [] []
 
 -- The effective classifier of a component: that of its classifier, and nothing at all where it has none.
 abbrev pub effective_at : List PackageUnit → Option ClassifierId → Effective
