@@ -5,3 +5,4 @@ pub mod Refused
 pub mod Stated
 pub mod Steps
 pub mod Tables
+pub mod Unlinked
