@@ -5,7 +5,7 @@ use Rattle.std.proofs.lemmas.List.{length-append, length-drop, take-append-drop,
 use Rattle.aadl_syntax.specs.declared.token.Token.{Token}
 use Rattle.plain_values.specs.declared.refusal.Code.{Code}
 use Rattle.aadl_lexer.specs.Tokens.{Piece, AreCut, IsRead, StopsReading}
-use Rattle.aadl_lexer.specs.Steps.{Takes, TakesAll}
+use Rattle.aadl_lexer.specs.inner.Steps.{Takes, TakesAll}
 
 abbrev pub bytes_of : List Piece → List ℕ
 bytes_of ps = flat_map (λ p. p.bytes) ps

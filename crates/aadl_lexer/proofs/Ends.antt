@@ -7,7 +7,7 @@ use Rattle.aadl_syntax.specs.declared.token.Token.{Token}
 use Rattle.aadl_syntax.specs.declared.token.TokenKind.TheVariants.{AnnexBegin, AnnexEnd}
 use Rattle.aadl_syntax.specs.Token.{token_of}
 use Rattle.aadl_lexer.specs.Tokens.{IsBody, IsAnnex, IsFirstEnd, AfterEmv2, annex_begin, annex_end}
-use Rattle.aadl_lexer.specs.Steps.{EndsAt, TakesBody, Takes, begins_annex_end}
+use Rattle.aadl_lexer.specs.inner.Steps.{EndsAt, TakesBody, Takes, begins_annex_end}
 
 end_at : (text : List ℕ) → begins_annex_end text ≡ true → text ≡ annex_end ++ drop 3 text
 end_at [] t = absurd (false≢true t)

@@ -2,7 +2,8 @@
 use Rattle.std.proofs.Common.{[], refl, arith}
 use Rattle.std.specs.Prelude.{codes}
 use Rattle.aadl_syntax.specs.Form.{IsWord, IsNumber, IsComment}
-use Rattle.aadl_lexer.specs.Scan.{word_rest_len, digits_len, number_len, tail_len, decimals_len, fraction_len, exponent_len, signed_len, based_len, closed_len, line_len}
+use Rattle.aadl_lexer.specs.Scan.{digits_len, number_len, tail_len, decimals_len, fraction_len, exponent_len, signed_len, based_len, closed_len}
+use Rattle.aadl_lexer.specs.inner.Scan.{word_rest_len, line_len}
 use Rattle.aadl_lexer.proofs.Numbers.{number_most}
 use Rattle.aadl_lexer.proofs.Words.{word_most, comment_most}
 

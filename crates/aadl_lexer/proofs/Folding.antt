@@ -8,9 +8,10 @@ use Rattle.aadl_syntax.specs.declared.token.TokenKind.{TokenKind}
 use Rattle.aadl_syntax.specs.declared.token.TokenKind.TheVariants.{Word, Number, Text, Sign, AnnexBegin, AnnexRaw, AnnexEnd}
 use Rattle.aadl_syntax.specs.Form.{One, ◌followed_by◌, Repeated, Perhaps, IsWord, is_letter, is_digit, is_letter_or_digit}
 use Rattle.plain_values.specs.Name.{lower, folded}
-use Rattle.aadl_syntax.specs.Token.{IsTokenText, text_of}
+use Rattle.aadl_syntax.specs.Token.{text_of}
+use Rattle.aadl_syntax.specs.inner.Token.{IsTokenText}
 use Rattle.aadl_lexer.specs.Tokens.{IsForm}
-use Rattle.aadl_lexer.specs.Steps.{HasTokenText}
+use Rattle.aadl_lexer.specs.inner.Steps.{HasTokenText}
 
 and_both : (a b : Bool) → (a && b) ≡ true → (a ≡ true) × (b ≡ true)
 and_both true b e = (refl, e)

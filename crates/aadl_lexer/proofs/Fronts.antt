@@ -10,7 +10,8 @@ use Rattle.aadl_syntax.specs.declared.token.TokenKind.TheVariants.{Word, Number,
 use Rattle.plain_values.specs.declared.refusal.Code.TheVariants.{BadByte, OpenString}
 use Rattle.aadl_syntax.specs.Form.{One, Byte, ◌followed_by◌, Repeated, Digits, IsComment, IsWord, IsNumber, IsText, IsSign, is_blank, is_letter, is_digit, is_sign_byte}
 use Rattle.aadl_lexer.specs.Tokens.{IsForm, NothingBegins, IsStuck, annex_begin}
-use Rattle.aadl_lexer.specs.Scan.{IsFront, IsOther, begins_comment, begins_annex, line_len, word_rest_len, text_rest_len, digits_len, number_len, sign_len}
+use Rattle.aadl_lexer.specs.Scan.{digits_len, number_len}
+use Rattle.aadl_lexer.specs.inner.Scan.{IsFront, IsOther, begins_comment, begins_annex, line_len, word_rest_len, text_rest_len, sign_len}
 use Rattle.aadl_lexer.proofs.Runs.{one_byte}
 use Rattle.aadl_lexer.proofs.Most.{IsMost, most_none, no_such, lead, lead_nil}
 use Rattle.aadl_lexer.proofs.Numbers.{digits_nil, number_most}

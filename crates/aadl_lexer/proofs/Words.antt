@@ -7,7 +7,7 @@ use Rattle.std.proofs.lemmas.Bool.{cases_Bool, cases_lt, cond-true, cond-false, 
 use Rattle.std.proofs.lemmas.List.{length-append, drop_more, drop_all, drop-drop}
 use Rattle.std.proofs.lemmas.List.Sums.{prefix_len-le-length}
 use Rattle.aadl_syntax.specs.Form.{One, Byte, ◌followed_by◌, Repeated, Perhaps, Either, IsWord, IsText, IsSign, IsComment, is_letter, is_letter_or_digit, is_sign_byte}
-use Rattle.aadl_lexer.specs.Scan.{line_len, word_rest_len, text_rest_len, is_pair, is_triple, sign_len}
+use Rattle.aadl_lexer.specs.inner.Scan.{line_len, word_rest_len, text_rest_len, is_pair, is_triple, sign_len}
 use Rattle.aadl_lexer.proofs.Runs.{rep_none, rep_more, rep_first, FirstPart, one_byte, run_is, run_within}
 use Rattle.aadl_lexer.proofs.Most.{IsMost, none_most, no_such, lead, lead_nil, led}
 

@@ -1,3 +1,3 @@
 pub mod Tokens
 pub mod Scan
-pub mod Steps
+pub mod inner

@@ -3,7 +3,8 @@
 ghost use Rattle.std.specs.Prelude.{◌≡◌, ◌<◌, ◌≤◌, length, not, ◌||◌, ◌==◌, slice_index, IsTrue, IfOk, IfErr, IfSome};
 ghost use Rattle.aadl_syntax.specs.Form.{is_digit, is_hexadecimal};
 ghost use Rattle.std.specs.List.{prefix_len};
-ghost use Rattle.aadl_lexer.specs.Scan.{after_one, line_len, word_rest_len, text_rest_len, digits_len, fraction_len, signed_len, exponent_len, decimals_len, closed_len, based_len, tail_len, number_len, sign_len, is_pair, is_triple, begins_comment, begins_annex, IsOther, IsFront};
+ghost use Rattle.aadl_lexer.specs.Scan.{after_one, digits_len, fraction_len, signed_len, exponent_len, decimals_len, closed_len, based_len, tail_len, number_len};
+ghost use Rattle.aadl_lexer.specs.inner.Scan.{line_len, word_rest_len, text_rest_len, sign_len, is_pair, is_triple, begins_comment, begins_annex, IsOther, IsFront};
 ghost use Rattle.aadl_lexer.specs.Tokens.{IsStuck};
 
 use crate::byte::{
@@ -111,7 +112,7 @@ fn begins_annex(text: &[u8]) -> bool
 }
 
 /// How many bytes stand before the next line feed, or the end.
-#[tactic(auto, unfolding(crate::specs::Scan::line_len))]
+#[tactic(auto, unfolding(crate::specs::inner::Scan::line_len))]
 fn line_len(text: &[u8]) -> usize
     ensures within { result ≤ length text.now }
     ensures value { result ≡ line_len text.now }
@@ -303,7 +304,7 @@ fn after_one(len: usize) -> usize
 }
 
 /// How long the longest sign is, or 0.
-#[tactic(auto, unfolding(crate::specs::Scan::sign_len))]
+#[tactic(auto, unfolding(crate::specs::inner::Scan::sign_len))]
 fn sign_len(text: &[u8]) -> usize
     ensures within { result ≤ length text.now }
     ensures value { result ≡ sign_len text.now }

@@ -6,9 +6,10 @@ ghost use Rattle.aadl_syntax.specs.declared.token.Token.{Token};
 ghost use Rattle.plain_values.specs.declared.refusal.Stop.TheVariants.{Refused, Memory};
 ghost use Rattle.plain_values.specs.declared.refusal.Place.TheVariants.{At};
 ghost use Rattle.plain_values.specs.Refusal.{refusal};
-ghost use Rattle.aadl_lexer.specs.Scan.{IsFront};
-ghost use Rattle.aadl_syntax.specs.Token.{IsTokenText, text_of, token_of};
-ghost use Rattle.aadl_lexer.specs.Steps.{Takes, TakesAll, TakesBody, EndsAt, StuckAt, HasTokenText, begins_annex_end};
+ghost use Rattle.aadl_lexer.specs.inner.Scan.{IsFront};
+ghost use Rattle.aadl_syntax.specs.Token.{text_of, token_of};
+ghost use Rattle.aadl_syntax.specs.inner.Token.{IsTokenText};
+ghost use Rattle.aadl_lexer.specs.inner.Steps.{Takes, TakesAll, TakesBody, EndsAt, StuckAt, HasTokenText, begins_annex_end};
 
 use crate::form::{Front, front_of};
 use aadl_syntax::{TokenKind, TokenList};

@@ -4,7 +4,7 @@ use Rattle.grammar_rules.specs.declared.reader.ReadError.{ReadError}
 use Rattle.grammar_rules.specs.declared.reader.Reader.{Reader}
 use Rattle.grammar_rules.specs.Rules.{Rule, joins}
 use Rattle.grammar_rules.specs.Running.{Outcome, run, followed}
-use Rattle.grammar_rules.specs.Reader.{Answers, Gives}
+use Rattle.grammar_rules.specs.inner.Reader.{Answers, Gives}
 
 pub joined : {A B : Type 0} {first : Rule A} {next : A → Rule B} {old middle new : Reader} {x : A} {result : Result B ReadError}
     → Gives (Ok x) first old middle → Gives result (next x) middle new → Gives result (joins first next) old new

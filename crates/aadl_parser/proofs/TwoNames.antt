@@ -1,7 +1,7 @@
 -- Two names or more are some.
 use Rattle.std.proofs.Common.{◌≡◌, ℕ, List, [], ◌∷◌, Ok}
 use Rattle.grammar_rules.specs.declared.reader.Reader.{Reader}
-use Rattle.grammar_rules.specs.Reader.{Gives}
+use Rattle.grammar_rules.specs.inner.Reader.{Gives}
 use Rattle.grammar_rules.proofs.Loops.{reads_so}
 use Rattle.aadl_parser.specs.Names.{two_names, names_after}
 

@@ -1,5 +1,5 @@
 -- The answers of the reading of a file.
-use Rattle.std.specs.Prelude.{◌≡◌, ◌⊎◌, ℕ, List}
+use Rattle.std.specs.Prelude.{◌≡◌, ℕ, List}
 use Rattle.aadl_syntax.specs.declared.token.Token.{Token}
 use Rattle.plain_values.specs.declared.refusal.Code.TheVariants.{TooNested}
 use Rattle.plain_values.specs.declared.refusal.Place.TheVariants.{At}
@@ -22,7 +22,3 @@ IsTooNested file tokens end refusal = (number : ℕ) × NestedAt tokens number �
 -- reading. A place is that of a token, or the end of the file.
 abbrev pub IsSyntaxError : ℕ → List Token → ℕ → Refusal → Type 0
 IsSyntaxError file tokens end refusal = IsShallow tokens × (number : ℕ) × (refusal ≡ syntax_error file (token_place tokens end number)) × Dead file file_units tokens number
-
--- The refusal is that of a file that is nested too deep, or of one that has no reading.
-abbrev pub IsUnread : ℕ → List Token → ℕ → Refusal → Type 0
-IsUnread file tokens end refusal = IsTooNested file tokens end refusal ⊎ IsSyntaxError file tokens end refusal

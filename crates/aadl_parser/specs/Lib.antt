@@ -10,4 +10,4 @@ pub mod Aliases
 pub mod Packages
 pub mod Nesting
 pub mod Files
-pub mod Takes
+pub mod inner

@@ -2,7 +2,7 @@ ghost use Rattle.std.specs.Prelude.{◌∷◌, []};
 ghost use Rattle.aadl_syntax.specs.declared.token.TokenKind.TheVariants.{AnnexEnd};
 ghost use Rattle.grammar_rules.specs.Rules.{gives, joins};
 ghost use Rattle.grammar_rules.specs.Tokens.{kind};
-ghost use Rattle.grammar_rules.specs.Reader.{Gives, given};
+ghost use Rattle.grammar_rules.specs.inner.Reader.{Gives, given};
 ghost use Rattle.aadl_parser.specs.Annexes.{raw_body, other_annex, library_body, library_or_none, library_named, library_annex, ended_clause, clause_body, clause_or_none, clause_named, clause_annex};
 
 use crate::runs::in_modes;

@@ -1,5 +1,5 @@
 ghost use Rattle.std.specs.Prelude.{◌≡◌, [], ◌∷◌, Some, None};
-ghost use Rattle.grammar_rules.specs.Reader.{Gives, given};
+ghost use Rattle.grammar_rules.specs.inner.Reader.{Gives, given};
 ghost use Rattle.grammar_rules.specs.Tokens.{is_one_of};
 ghost use Rattle.aadl_parser.specs.Words.{section_words};
 ghost use Rattle.aadl_parser.specs.Classifiers.{features_section, subcomponents_section, connections_section, annex_section, prototypes_at};
@@ -7,7 +7,7 @@ ghost use Rattle.aadl_parser.specs.Classifiers.{prototypes, first_place, prototy
 ghost use Rattle.aadl_parser.specs.Classifiers.{inner_features, skipped, skipped_part, skipped_section, other_section, section, sections};
 ghost use Rattle.aadl_parser.specs.Classifiers.{extension, optional_extension, bare_decl, decl_of, type_end, component_type};
 ghost use Rattle.aadl_parser.specs.Classifiers.{implementation_end, implementation, classifier, group_type};
-ghost use Rattle.aadl_parser.specs.Takes.{section-takes};
+ghost use Rattle.aadl_parser.specs.inner.Takes.{section-takes};
 
 use crate::annexes::clause_annex;
 use crate::connections::connections_after;

@@ -1,11 +1,11 @@
 ghost use Rattle.std.specs.Prelude.{[], ◌∷◌, codes};
-ghost use Rattle.grammar_rules.specs.Reader.{Gives, given};
+ghost use Rattle.grammar_rules.specs.inner.Reader.{Gives, given};
 ghost use Rattle.grammar_rules.specs.Rules.{gives, joins, chooses};
 ghost use Rattle.grammar_rules.specs.Parts.{parts_after};
 ghost use Rattle.grammar_rules.specs.Tokens.{word, sign, is_word};
 ghost use Rattle.aadl_parser.specs.Words.{is_name};
 ghost use Rattle.aadl_parser.specs.Connections.{feature_connection, optional_accessed, access_connection, connection_kind, end_name, connection_end, arrow, two_ends, ends_of, connection_of, connection, connections_after};
-ghost use Rattle.aadl_parser.specs.Takes.{connection-takes};
+ghost use Rattle.aadl_parser.specs.inner.Takes.{connection-takes};
 
 use crate::features::{accessed, refinement};
 use crate::names::DottedNames;

@@ -1,8 +1,8 @@
 ghost use Rattle.std.specs.Prelude.{[], ◌∷◌};
-ghost use Rattle.grammar_rules.specs.Reader.{Gives, given};
+ghost use Rattle.grammar_rules.specs.inner.Reader.{Gives, given};
 ghost use Rattle.aadl_parser.specs.Words.{is_name};
 ghost use Rattle.aadl_parser.specs.Features.{refinement, inward, direction, event_port, port, plain_feature, directed, accessed, access, feature_kind, feature, features_after};
-ghost use Rattle.aadl_parser.specs.Takes.{feature-takes};
+ghost use Rattle.aadl_parser.specs.inner.Takes.{feature-takes};
 
 use crate::runs::array_tail;
 use crate::words::{core_name, direction_at, either_word, name_at, optional_word};

@@ -1,9 +1,9 @@
 ghost use Rattle.std.specs.Prelude.{◌≡◌, ◌<◌, [], ◌∷◌, codes, IfOk, MatchOption};
-ghost use Rattle.grammar_rules.specs.Reader.{Gives, given};
+ghost use Rattle.grammar_rules.specs.inner.Reader.{Gives, given};
 ghost use Rattle.grammar_rules.specs.Tokens.{is_sign};
 ghost use Rattle.aadl_parser.specs.Words.{is_name};
 ghost use Rattle.aadl_parser.specs.Names.{further_name, names_after, names, two_names, last_name, dotted_name, optional_item, reference, further_names, with_packages, grouped_category, virtual_category, category};
-ghost use Rattle.aadl_parser.specs.Takes.{further_name-takes, further_names-takes, dotted_name-takes};
+ghost use Rattle.aadl_parser.specs.inner.Takes.{further_name-takes, further_names-takes, dotted_name-takes};
 
 use crate::words::{category_word, core_name, either_word, name_at, optional_word};
 use aadl_syntax::{Identifier, Ref};

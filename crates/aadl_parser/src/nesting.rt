@@ -1,5 +1,5 @@
 ghost use Rattle.std.specs.Prelude.{◌≡◌, ◌≤◌, MatchOption};
-ghost use Rattle.aadl_syntax.specs.Token.{shown};
+ghost use Rattle.aadl_syntax.specs.inner.Token.{shown};
 ghost use Rattle.aadl_parser.specs.Nesting.{opens_bracket, closes_bracket, after_token, nesting_limit, IsShallow, NestedAt};
 
 use aadl_syntax::{TokenList, TokenRef};

@@ -1,9 +1,9 @@
 ghost use Rattle.std.specs.Prelude.{◌≡◌, [], ◌∷◌, OnOk};
-ghost use Rattle.grammar_rules.specs.Reader.{Gives, given};
+ghost use Rattle.grammar_rules.specs.inner.Reader.{Gives, given};
 ghost use Rattle.grammar_rules.specs.Tokens.{is_one_of};
 ghost use Rattle.aadl_parser.specs.Words.{unit_words, begins_declaration};
 ghost use Rattle.aadl_parser.specs.Packages.{with_alias, named_alias_part, unnamed_alias_part, classifier_part, annex_part, with_part, group_part, other_declaration, declaration, declarations, package_part, package_properties, package_end, empty_package, package_body, package_unit, property_set_head, property_set, unit, file_units};
-ghost use Rattle.aadl_parser.specs.Takes.{declaration-takes, unit-takes};
+ghost use Rattle.aadl_parser.specs.inner.Takes.{declaration-takes, unit-takes};
 
 use crate::aliases::{named_alias, unnamed_alias};
 use crate::annexes::library_annex;

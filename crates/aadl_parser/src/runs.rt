@@ -1,7 +1,7 @@
 ghost use Rattle.std.specs.Prelude.{◌≡◌, ◌∷◌, [], ◌||◌};
 ghost use Rattle.std.specs.Option.{option_map};
-ghost use Rattle.aadl_syntax.specs.Token.{shown};
-ghost use Rattle.grammar_rules.specs.Reader.{Gives};
+ghost use Rattle.aadl_syntax.specs.inner.Token.{shown};
+ghost use Rattle.grammar_rules.specs.inner.Reader.{Gives};
 ghost use Rattle.grammar_rules.specs.Spans.{until};
 ghost use Rattle.aadl_parser.specs.Runs.{begins_item, ends_past, past, array_place, array_tail, bindings_place, parenthesised, bindings, in_modes};
 

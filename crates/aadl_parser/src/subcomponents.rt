@@ -1,8 +1,8 @@
 ghost use Rattle.std.specs.Prelude.{[], ◌∷◌};
-ghost use Rattle.grammar_rules.specs.Reader.{Gives, given};
+ghost use Rattle.grammar_rules.specs.inner.Reader.{Gives, given};
 ghost use Rattle.aadl_parser.specs.Words.{is_name};
 ghost use Rattle.aadl_parser.specs.Subcomponents.{optional_classifier, subcomponent_of, subcomponent, subcomponents_after};
-ghost use Rattle.aadl_parser.specs.Takes.{subcomponent-takes};
+ghost use Rattle.aadl_parser.specs.inner.Takes.{subcomponent-takes};
 
 use crate::features::refinement;
 use crate::names::{Classifier, category, reference};

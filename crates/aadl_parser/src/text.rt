@@ -4,12 +4,13 @@ ghost use Rattle.std.specs.Prelude.{◌≡◌, ℕ, List as Items, [], Err, IfOk
 ghost use Rattle.aadl_syntax.specs.declared.token.Token.{Token};
 ghost use Rattle.aadl_syntax.specs.declared.core_model.Unit.{Unit as FileUnit};
 ghost use Rattle.plain_values.specs.declared.refusal.Stop.TheVariants.{Refused, Memory};
-ghost use Rattle.plain_values.specs.Stops.{StopsFor};
+ghost use Rattle.plain_values.specs.inner.Stops.{StopsFor};
 ghost use Rattle.grammar_rules.specs.Rules.{Reads};
 ghost use Rattle.grammar_rules.specs.Texts.{token_place};
 ghost use Rattle.aadl_parser.specs.Packages.{file_units};
 ghost use Rattle.aadl_parser.specs.Nesting.{IsShallow, NestedAt};
-ghost use Rattle.aadl_parser.specs.Files.{too_nested, IsUnread};
+ghost use Rattle.aadl_parser.specs.Files.{too_nested};
+ghost use Rattle.aadl_parser.specs.inner.Files.{IsUnread};
 
 use crate::nesting::{NESTING_LIMIT, too_nested_at};
 use crate::packages::file_units;

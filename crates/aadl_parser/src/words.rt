@@ -1,6 +1,6 @@
 ghost use Rattle.std.specs.Prelude.{◌≡◌, [], ◌∷◌, map};
-ghost use Rattle.grammar_rules.specs.Reader.{Gives, Begins};
-ghost use Rattle.aadl_syntax.specs.Token.{shown};
+ghost use Rattle.grammar_rules.specs.inner.Reader.{Gives, Begins};
+ghost use Rattle.aadl_syntax.specs.inner.Token.{shown};
 ghost use Rattle.grammar_rules.specs.Tokens.{is_one_of, one_of};
 ghost use Rattle.aadl_parser.specs.Words.{unit_words, declaration_words, category_words, section_words, skipped_words, inner_words, ending_words, direction_words, processor_words, is_name, begins_declaration, begins_end, any_of, optional_word, either_word};
 ghost use Rattle.aadl_parser.specs.Names.{core_name};

@@ -7,9 +7,10 @@ use Rattle.std.specs.Prelude.{slice_get, MatchOption}
 use Rattle.std.specs.Option.{option_map}
 use Rattle.std.specs.Result.{OnErr}
 use Rattle.std.specs.List.{AllByRecursion, between}
-use Rattle.aadl_syntax.specs.Token.{EndsWith, IsTokenText, shown, text_of, token_of}
+use Rattle.aadl_syntax.specs.Token.{text_of, token_of}
+use Rattle.aadl_syntax.specs.inner.Token.{EndsWith, IsTokenText, shown}
 use Rattle.aadl_syntax.specs.declared.token.TokenRef.{TokenRef}
-use Rattle.aadl_syntax.specs.Marks.{text_at, token_at, tokens_at, IsMark, AreMarks, Grows}
+use Rattle.aadl_syntax.specs.inner.Marks.{text_at, token_at, tokens_at, IsMark, AreMarks, Grows}
 use Rattle.aadl_syntax.specs.declared.token.Token.{Token}
 use Rattle.aadl_syntax.specs.declared.token.TokenKind.{TokenKind}
 use Rattle.aadl_syntax.specs.declared.token.TokenKind.TheVariants.{Word, Number, Text, Sign, AnnexBegin, AnnexRaw, AnnexEnd}

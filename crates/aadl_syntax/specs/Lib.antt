@@ -1,3 +1,3 @@
 pub mod Form
-pub mod Marks
 pub mod Token
+pub mod inner

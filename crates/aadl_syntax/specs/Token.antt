@@ -1,26 +1,9 @@
 -- The text of a token, and the token of some bytes.
-use Rattle.std.specs.Prelude.{◌≡◌, ℕ, ◌+◌, List, [], ◌∷◌, ◌++◌, length}
-use Rattle.aadl_syntax.specs.Form.{IsWord, IsNumber}
+use Rattle.std.specs.Prelude.{ℕ, ◌+◌, List, length}
 use Rattle.plain_values.specs.Name.{folded}
 use Rattle.aadl_syntax.specs.declared.token.Token.{Token}
-use Rattle.aadl_syntax.specs.declared.token.TokenRef.{TokenRef}
 use Rattle.aadl_syntax.specs.declared.token.TokenKind.{TokenKind}
-use Rattle.aadl_syntax.specs.declared.token.TokenKind.TheVariants.{Word, Number, Text, Sign, AnnexBegin, AnnexRaw, AnnexEnd}
-
--- An identifier is the text of a word, with its letters in lower case.
-pub record IsIdentifier (text : List ℕ) : Type 0 where
-  pub word : IsWord text
-  pub lower_case : folded text ≡ text
-
--- A token of this kind may have this text: a word is an identifier, and a number a number.
-abbrev pub IsTokenText : TokenKind → List ℕ → Type 0
-IsTokenText Word text = IsIdentifier text
-IsTokenText Number text = IsNumber text
-IsTokenText Text text = Unit {0}
-IsTokenText Sign text = Unit {0}
-IsTokenText AnnexBegin text = Unit {0}
-IsTokenText AnnexRaw text = Unit {0}
-IsTokenText AnnexEnd text = Unit {0}
+use Rattle.aadl_syntax.specs.declared.token.TokenKind.TheVariants.{Word}
 
 -- the text of a token: a word is folded, and any other token is as it was written
 abbrev pub text_of : TokenKind → List ℕ → List ℕ
@@ -30,12 +13,3 @@ text_of _ bytes = bytes
 -- the token of these bytes, the first of which is byte `at` of the file
 abbrev pub token_of : TokenKind → ℕ → List ℕ → Token
 token_of kind at bytes = record { kind = kind; start = at; end = at + length bytes; text = text_of kind bytes }
-
--- the token that a look at a list of tokens shows
-abbrev pub shown : TokenRef → Token
-shown token = record { kind = token.kind; start = token.start; end = token.end; text = token.text.now }
-
--- The tokens end with this one.
-pub record EndsWith (tokens : List Token) (token : Token) : Type 0 where
-  pub earlier : List Token
-  pub whole : tokens ≡ earlier ++ token ∷ []

@@ -1,6 +1,6 @@
 ghost use Rattle.std.specs.Prelude.{◌≡◌, ◌↔◌, IfOk, IsTrue};
 ghost use Rattle.plain_values.specs.Name.{is_same_text};
-ghost use Rattle.aadl_syntax.specs.Token.{IsIdentifier};
+ghost use Rattle.aadl_syntax.specs.inner.Token.{IsIdentifier};
 
 use plain_values::{List, Mem, Name, is_same};
 use std::alloc::Global;
@@ -17,7 +17,7 @@ impl Model for Identifier {
 
     ghost Value = { List ℕ };
 
-    ghost use Rattle.aadl_syntax.specs.Token.{IsIdentifier};
+    ghost use Rattle.aadl_syntax.specs.inner.Token.{IsIdentifier};
 
     ghost view = { λ i. i.text };
 

@@ -1,6 +1,6 @@
 ghost use Rattle.std.specs.Prelude.{◌≡◌, ◌≤◌, ◌<◌, ◌^◌, ◌+◌, ◌++◌, ◌∷◌, [], length, take, drop, slice_get, IfOk, IfSome, OnOk};
 ghost use Rattle.std.specs.Option.{option_map};
-ghost use Rattle.aadl_syntax.specs.Token.{IsTokenText, shown};
+ghost use Rattle.aadl_syntax.specs.inner.Token.{IsTokenText, shown};
 
 use crate::token::TokenRef;
 use crate::tokens::TokenList;

@@ -1,8 +1,9 @@
 ghost use Rattle.std.specs.Prelude.{◌≡◌, ◌∷◌, ◌++◌, ◌+◌, ◌<◌, ◌^◌, [], length, slice_get, IfSome, OnOk, OnErr, MatchOption};
 ghost use Rattle.std.specs.Option.{option_map};
 ghost use Rattle.plain_values.specs.Name.{folded};
-ghost use Rattle.aadl_syntax.specs.Token.{EndsWith, IsTokenText, shown, text_of, token_of};
-ghost use Rattle.aadl_syntax.specs.Marks.{Grows};
+ghost use Rattle.aadl_syntax.specs.Token.{text_of, token_of};
+ghost use Rattle.aadl_syntax.specs.inner.Token.{EndsWith, IsTokenText, shown};
+ghost use Rattle.aadl_syntax.specs.inner.Marks.{Grows};
 
 use crate::token::{TokenKind, TokenRef};
 use plain_values::{Mem, lower};
@@ -33,7 +34,7 @@ impl Model for TokenList {
 
     ghost Value = { List Token };
 
-    ghost use Rattle.aadl_syntax.specs.Marks.{tokens_at, AreMarks};
+    ghost use Rattle.aadl_syntax.specs.inner.Marks.{tokens_at, AreMarks};
 
     ghost view = { λ t. tokens_at t.text.items t.marks.items };
 

@@ -4,7 +4,7 @@ use Rattle.std.proofs.lemmas.Bool.{false≢true, eqb-true}
 use Rattle.std.proofs.lemmas.List.Folds.{list_any-append}
 use Rattle.fault_system.specs.Truth.{NumberSet, member, set_of, count_true}
 use Rattle.fault_system.proofs.NumberSets.{count-put, member-set}
-use Rattle.backward_slice.specs.Marks.{Adds}
+use Rattle.backward_slice.specs.inner.Marks.{Adds}
 use Rattle.backward_slice.specs.declared.marking.Marking.{Marking}
 
 or_none : (a : Bool) → a ≡ a || false

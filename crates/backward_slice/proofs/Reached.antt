@@ -7,7 +7,7 @@ use Rattle.fault_system.specs.Truth.{NumberSet, Has, member, set_of, occurs, occ
 use Rattle.fault_system.specs.Systems.{System, IsSystem, IsFact}
 use Rattle.fault_system.specs.declared.formula.FactInfo.{FactInfo}
 use Rattle.backward_slice.specs.Slices.{HasItsCauses, DependsOn, DependsOnEvent}
-use Rattle.backward_slice.specs.Marks.{Adds, is_done, IsMarkingBut, IsMarking, IsMarked}
+use Rattle.backward_slice.specs.inner.Marks.{Adds, is_done, IsMarkingBut, IsMarking, IsMarked}
 use Rattle.backward_slice.specs.declared.marking.Marking.{Marking}
 use Rattle.fault_system.proofs.Occurrences.{occurs-in_range, occurs_event-in_range, fact-in_range}
 use Rattle.fault_system.proofs.NumberSets.{member-in}

@@ -5,7 +5,7 @@ use Rattle.fault_system.specs.Truth.{Has, member}
 use Rattle.plain_values.specs.Rising.{RisesWithin}
 use Rattle.plain_values.proofs.Rising.{rises-higher, rises-push}
 use Rattle.fault_system.proofs.Elements.{In, In-contains, contains_In, In-append, In-front, In-back}
-use Rattle.backward_slice.specs.Marks.{IsNumbers}
+use Rattle.backward_slice.specs.inner.Marks.{IsNumbers}
 use Rattle.fault_system.proofs.NumberSets.{member-in}
 
 -- the numbers of a set below a bound

@@ -1,9 +1,9 @@
 ghost use Rattle.std.specs.Prelude.{◌≡◌, ◌<◌, ◌+◌, ◌++◌, ◌∷◌, [], if◌then◌else◌, MatchResult, IfOk, OnOk, length};
-ghost use Rattle.plain_values.specs.Stops.{StopsFor};
+ghost use Rattle.plain_values.specs.inner.Stops.{StopsFor};
 ghost use Rattle.fault_system.specs.Truth.{count_true};
 ghost use Rattle.fault_system.specs.Systems.{IsSystem};
 ghost use Rattle.backward_slice.specs.Slices.{HasLargeSlice, IsSlice, IsServed};
-ghost use Rattle.backward_slice.specs.Marks.{IsMarking, IsMarkingBut, IsMarked, IsNumbers};
+ghost use Rattle.backward_slice.specs.inner.Marks.{IsMarking, IsMarkingBut, IsMarked, IsNumbers};
 
 use crate::marking::{Marking, visit};
 use crate::parts::Slice;

@@ -1,3 +1,3 @@
 pub mod Bindings
 pub mod Pieces
-pub mod Takes
+pub mod inner

@@ -1,5 +1,5 @@
 ghost use Rattle.std.specs.Prelude.{◌≡◌, ◌++◌, [], ◌∷◌, IfOk, OnOk};
-ghost use Rattle.grammar_rules.specs.Reader.{Gives};
+ghost use Rattle.grammar_rules.specs.inner.Reader.{Gives};
 ghost use Rattle.bindings.specs.Bindings.{binding, binding_name, binding_word, binding_end, bindings_in, dotted_name, further_path, further_reference, path, piece_binding, reference, reference_list, references, targets};
 
 use crate::piece::section_pieces;
@@ -167,7 +167,7 @@ impl Parts for DottedNames {
     ghost use Rattle.std.specs.Prelude.{[], ◌∷◌, codes};
     ghost use Rattle.grammar_rules.specs.Tokens.{is_sign};
     ghost use Rattle.bindings.specs.Bindings.{dotted_name};
-    ghost use Rattle.bindings.specs.Takes.{dotted_name-takes};
+    ghost use Rattle.bindings.specs.inner.Takes.{dotted_name-takes};
 
     type Part = Identifier;
 
@@ -193,7 +193,7 @@ impl Parts for FurtherPaths {
     ghost use Rattle.std.specs.Prelude.{[], ◌∷◌, codes};
     ghost use Rattle.grammar_rules.specs.Tokens.{is_sign};
     ghost use Rattle.bindings.specs.Bindings.{further_path};
-    ghost use Rattle.bindings.specs.Takes.{further_path-takes};
+    ghost use Rattle.bindings.specs.inner.Takes.{further_path-takes};
 
     type Part = List<Identifier>;
 
@@ -219,7 +219,7 @@ impl Parts for FurtherReferences {
     ghost use Rattle.std.specs.Prelude.{[], ◌∷◌, codes};
     ghost use Rattle.grammar_rules.specs.Tokens.{is_sign};
     ghost use Rattle.bindings.specs.Bindings.{further_reference};
-    ghost use Rattle.bindings.specs.Takes.{further_reference-takes};
+    ghost use Rattle.bindings.specs.inner.Takes.{further_reference-takes};
 
     type Part = List<Identifier>;
 

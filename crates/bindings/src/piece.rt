@@ -1,5 +1,5 @@
 ghost use Rattle.std.specs.Prelude.{◌≡◌, ◌<◌, ◌≤◌, ◌&&◌, [], ◌∷◌, codes, take, drop, length, IfOk, IfSome, MatchOption};
-ghost use Rattle.aadl_syntax.specs.Token.{shown};
+ghost use Rattle.aadl_syntax.specs.inner.Token.{shown};
 ghost use Rattle.grammar_rules.specs.Spans.{opens};
 ghost use Rattle.grammar_rules.specs.Tokens.{is_sign};
 ghost use Rattle.bindings.specs.Pieces.{section_pieces};

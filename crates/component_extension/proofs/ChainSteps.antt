@@ -6,7 +6,8 @@ use Rattle.plain_values.specs.declared.refusal.Stop.{Stop}
 use Rattle.plain_values.specs.declared.refusal.Stop.TheVariants.{Memory, Refused}
 use Rattle.package_index.specs.declared.id.ClassifierId.{ClassifierId}
 use Rattle.package_index.specs.Lookup.{decl_of}
-use Rattle.component_extension.specs.Chain.{Answers, chain_from, ends_or, is_among, next_of, same_id, then_so}
+use Rattle.component_extension.specs.Chain.{chain_from, ends_or, is_among, next_of, same_id, then_so}
+use Rattle.component_extension.specs.inner.Chain.{Answers}
 
 -- ---- the table of a chain
 

@@ -6,8 +6,9 @@ use Rattle.plain_values.specs.declared.refusal.Stop.TheVariants.{Memory, Refused
 use Rattle.plain_values.specs.Order.{IsFirst}
 use Rattle.plain_values.proofs.OrderLaws.{least-first}
 use Rattle.package_index.specs.declared.id.ClassifierId.{ClassifierId}
-use Rattle.plain_values.specs.Stops.{StopsAtFirst}
-use Rattle.component_extension.specs.Chain.{Answers, chain_of}
+use Rattle.plain_values.specs.inner.Stops.{StopsAtFirst}
+use Rattle.component_extension.specs.Chain.{chain_of}
+use Rattle.component_extension.specs.inner.Chain.{Answers}
 use Rattle.component_extension.specs.Items.{classifier_refusals, refusals_along}
 
 pub chain-refused : (packages : List PackageUnit) (id : ClassifierId) (stop : Stop) → Answers (chain_of packages id) (Err stop) → StopsAtFirst (Contains (classifier_refusals packages id)) stop

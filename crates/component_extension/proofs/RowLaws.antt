@@ -9,7 +9,8 @@ use Rattle.std.proofs.lemmas.List.Quantifiers.{position-Some}
 use Rattle.std.proofs.lemmas.List.{length-set}
 use Rattle.plain_values.specs.Name.{is_same_text}
 use Rattle.package_index.proofs.KnowsLaws.{more-place, some-place}
-use Rattle.component_extension.specs.Rows.{Key, KeyWords, KnowsRows, goes_by, is_same_key, key_of_words, place_by, same_words}
+use Rattle.component_extension.specs.Rows.{Key, goes_by, is_same_key, place_by}
+use Rattle.component_extension.specs.inner.Rows.{KeyWords, KnowsRows, key_of_words, same_words}
 
 -- ---- keys
 

@@ -1,5 +1,5 @@
 -- The chain of a classifier: the classifiers from which it has its parts (AS5506: types, implementations, `extends`).
-use Rattle.std.specs.Prelude.{◌≡◌, ⊤, ℕ, zero, suc, ◌^◌, Bool, true, false, ◌&&◌, not, nat_eq, List, [], ◌∷◌, ◌++◌, Option, Some, None, is_some, slice_get, Result, Ok, Err}
+use Rattle.std.specs.Prelude.{ℕ, zero, suc, ◌^◌, Bool, true, false, ◌&&◌, not, nat_eq, List, [], ◌∷◌, ◌++◌, Option, Some, None, is_some, slice_get, Result, Ok, Err}
 use Rattle.std.specs.Bool.{beq}
 use Rattle.std.specs.List.{list_any}
 use Rattle.aadl_syntax.specs.declared.core_model.Decl.{Decl}
@@ -9,8 +9,6 @@ use Rattle.plain_values.specs.declared.spot.Spot.{Spot}
 use Rattle.plain_values.specs.declared.refusal.Code.{Code}
 use Rattle.plain_values.specs.declared.refusal.Code.TheVariants.{UnknownClassifier, CyclicExtends, Prototype}
 use Rattle.plain_values.specs.declared.refusal.Refusal.{Refusal}
-use Rattle.plain_values.specs.declared.refusal.Stop.{Stop}
-use Rattle.plain_values.specs.declared.refusal.Stop.TheVariants.{Memory, Refused}
 use Rattle.package_index.specs.declared.id.ClassifierId.{ClassifierId}
 use Rattle.package_index.specs.Lookup.{decl_of, look_classifier, refused_at}
 use Rattle.plain_values.specs.Refusal.{place_of, refusal}
@@ -31,12 +29,6 @@ refused_if false code spot rest = rest
 abbrev pub refused_where : {A : Type 0} → Option Spot → Code → Result A Refusal → Result A Refusal
 refused_where (Some spot) code rest = Err (refusal code (place_of spot))
 refused_where None code rest = rest
-
--- The answer of a call whose tests these are: their value or their refusal, or else want of memory.
-abbrev pub Answers : {A : Type 0} → Result A Refusal → Result A Stop → Type 0
-Answers tests (Ok value) = tests ≡ Ok value
-Answers tests (Err (Refused refusal)) = tests ≡ Err refusal
-Answers tests (Err Memory) = ⊤
 
 -- ---- the next classifier
 

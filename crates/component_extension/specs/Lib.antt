@@ -2,4 +2,4 @@ pub mod Chain
 pub mod Rows
 pub mod Members
 pub mod Items
-pub mod Effective
+pub mod inner

@@ -1,8 +1,7 @@
 -- The members of a classifier: features, subcomponents and connections (AS5506: refinement).
-use Rattle.std.specs.Prelude.{◌≡◌, ℕ, Bool, true, false, cond, ◌&&◌, ◌||◌, not, nat_eq, nat_lt, List, [], ◌∷◌, ◌++◌, map, filter, flat_map, fold, Option, Some, None, is_some, option_and_then}
+use Rattle.std.specs.Prelude.{ℕ, Bool, true, false, cond, ◌&&◌, ◌||◌, not, nat_eq, nat_lt, List, [], ◌∷◌, ◌++◌, map, filter, flat_map, fold, Option, Some, None, is_some, option_and_then}
 use Rattle.std.specs.Option.{option_or}
 use Rattle.std.specs.List.{list_any}
-use denote.Ref.{Bor}
 use Rattle.plain_values.specs.Name.{is_same_text}
 use Rattle.aadl_syntax.specs.declared.core_model.Connection.{Connection}
 use Rattle.aadl_syntax.specs.declared.core_model.ConnectionKind.{ConnectionKind}
@@ -69,15 +68,6 @@ is_before time level at = nat_lt time.0 level || (nat_eq time.0 level && nat_lt 
 -- whether the mark is that of the name, and comes before this byte of this level
 abbrev pub is_earlier : List ℕ → ℕ → ℕ → Mark → Bool
 is_earlier name level at mark = is_same_text mark.name name && is_before (mark.level, mark.spot.at) level at
-
--- the same of a table's answer, which is the first level and byte of a name
-abbrev pub comes_before : Option (ℕ × ℕ) → ℕ → ℕ → Bool
-comes_before None level at = false
-comes_before (Some time) level at = is_before time level at
-
--- The table tells of each name whether one of the marks comes before a byte of a level.
-abbrev pub KnowsMarks : List Mark → (Bor (List ℕ) → Option (ℕ × ℕ)) → Type 0
-KnowsMarks marks table = (name : Bor (List ℕ)) (level at : ℕ) → comes_before (table name) level at ≡ list_any (is_earlier name.now level at) marks
 
 -- the mark of a declaration, where it is not `refined to`
 abbrev pub mark_of : {Item : Type 0} → Kind Item → Declared Item → List Mark

@@ -1,8 +1,7 @@
 -- Rows that go by a key: a later row takes the place of an earlier one of its key (AS5506: refinement).
-use Rattle.std.specs.Prelude.{◌≡◌, ℕ, Bool, false, ◌&&◌, List, ◌∷◌, [], ◌++◌, Option, Some, None, option_and_then, position, slice_get, slice_set}
+use Rattle.std.specs.Prelude.{ℕ, Bool, false, ◌&&◌, List, ◌∷◌, [], ◌++◌, Option, Some, None, option_and_then, position, slice_get, slice_set}
 use Rattle.std.specs.Bool.{beq}
-use Rattle.package_index.specs.Names.{is_same_name, names_of}
-use Rattle.package_index.specs.declared.words.Words.{Words}
+use Rattle.package_index.specs.Names.{is_same_name}
 
 -- By what a row goes: its name, or of a propagation the names of its point, its direction and whether it is a `not`.
 pub record Key : Type 0 where
@@ -39,21 +38,3 @@ put_at (Some place) rows row = slice_set rows place row
 -- A row takes the place of the row of its key, or else goes last.
 abbrev pub put : {Row : Type 0} → (Row → Option Key) → List Row → Row → List Row
 put key_of rows row = put_at (option_and_then (place_by key_of rows) (key_of row)) rows row
-
--- ---- the table of rows
-
--- the key as the code holds it
-abbrev pub KeyWords : Type 0
-KeyWords = Words × Bool × Bool
-
--- what the code's key stands for
-abbrev pub key_of_words : KeyWords → Key
-key_of_words key = record { names = names_of key.0; outward = key.1; negative = key.2 }
-
--- whether two of the code's keys are the same
-abbrev pub same_words : KeyWords → KeyWords → Bool
-same_words a b = (is_same_name (names_of a.0) (names_of b.0) && beq a.1 b.1) && beq a.2 b.2
-
--- The table gives each key the place of the first row that goes by it.
-abbrev pub KnowsRows : {Row : Type 0} → (Row → Option Key) → List Row → (KeyWords → Option ℕ) → Type 0
-KnowsRows key_of rows table = (key : KeyWords) → table key ≡ place_by key_of rows (key_of_words key)

@@ -1,6 +1,7 @@
 ghost use Rattle.std.specs.Prelude.{◌≡◌, ◌∷◌, ◌++◌, [], Some, None, IfOk, slice_get};
 ghost use Rattle.package_index.specs.Lookup.{decl_of};
-ghost use Rattle.component_extension.specs.Chain.{Answers, chain_of, extended, first_type, is_among, next_of, onward, own_type, tested, type_of};
+ghost use Rattle.component_extension.specs.Chain.{chain_of, extended, first_type, is_among, next_of, onward, own_type, tested, type_of};
+ghost use Rattle.component_extension.specs.inner.Chain.{Answers};
 
 use aadl_syntax::{Decl, Identifier, Ref};
 use package_index::{ClassifierId, Index};
@@ -21,7 +22,7 @@ impl Model for Walked {
     ghost use Rattle.std.specs.HashMap.{get};
     ghost use Rattle.package_index.specs.declared.id.ClassifierId.{ClassifierId};
     ghost use Rattle.component_extension.specs.Chain.{is_among};
-    ghost use Rattle.package_index.specs.Tables.{same_pair};
+    ghost use Rattle.package_index.specs.inner.Tables.{same_pair};
 
     ghost Value = { List ClassifierId };
 

@@ -1,7 +1,7 @@
 ghost use Rattle.std.specs.Prelude.{◌≡◌, ◌++◌, [], Contains, IfOk, IfErr, OnOk};
 ghost use Rattle.plain_values.specs.Order.{least, nearer};
-ghost use Rattle.plain_values.specs.Stops.{StopsAtFirst};
-ghost use Rattle.component_extension.specs.Effective.{AreMembers, IsEffective};
+ghost use Rattle.plain_values.specs.inner.Stops.{StopsAtFirst};
+ghost use Rattle.component_extension.specs.inner.Effective.{AreMembers, IsEffective};
 ghost use Rattle.component_extension.specs.Items.{classifier_refusals};
 ghost use Rattle.component_extension.specs.Members.{refusals_of, marks_along, member_refusals, members_along};
 

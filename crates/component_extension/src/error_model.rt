@@ -1,5 +1,5 @@
 ghost use Rattle.std.specs.Prelude.{◌≡◌, ◌++◌, Some, IfOk, OnOk, fold};
-ghost use Rattle.component_extension.specs.Effective.{AreOtherItems, ArePropagations, IsBehavior};
+ghost use Rattle.component_extension.specs.inner.Effective.{AreOtherItems, ArePropagations, IsBehavior};
 ghost use Rattle.component_extension.specs.Items.{machine_by, machine_of, spots_of};
 
 use crate::items::{ClauseText, InClause, gathered};

@@ -1,7 +1,8 @@
 ghost use Rattle.std.specs.Prelude.{◌≡◌, ◌++◌, Option, IfOk, OnOk, fold, option_map};
 ghost use Rattle.std.specs.HashMap.{get};
 ghost use Rattle.component_extension.specs.Items.{clauses_in, clauses_of, gathered, perhaps_named, scoped_by};
-ghost use Rattle.component_extension.specs.Rows.{KnowsRows, key_of_words, put, same_words};
+ghost use Rattle.component_extension.specs.Rows.{put};
+ghost use Rattle.component_extension.specs.inner.Rows.{KnowsRows, key_of_words, same_words};
 
 use crate::classifier::Classifier;
 use crate::in_package::InPackage;
@@ -69,7 +70,8 @@ impl<'a, T> InClause<'a, T> {
 pub trait ClauseItem: Sized {
     ghost use Rattle.std.specs.Prelude.{◌≡◌, List, Option, option_map};
     ghost use Rattle.aadl_syntax.specs.declared.error_model.Emv2Clause.{Emv2Clause};
-    ghost use Rattle.component_extension.specs.Rows.{Key, key_of_words};
+    ghost use Rattle.component_extension.specs.Rows.{Key};
+    ghost use Rattle.component_extension.specs.inner.Rows.{key_of_words};
 
     ghost items: { Emv2Clause → List Self };
 

@@ -2,7 +2,7 @@ ghost use Rattle.std.specs.Prelude.{◌≡◌, ◌∷◌, ◌++◌, [], IfOk, On
 ghost use Rattle.std.specs.HashMap.{get};
 ghost use Rattle.plain_values.specs.Order.{least, nearer};
 ghost use Rattle.component_extension.specs.Members.{declarations, declare, declared_by, member_key, members_of, refined_by, stands, unknown_members};
-ghost use Rattle.component_extension.specs.Rows.{KnowsRows, same_words};
+ghost use Rattle.component_extension.specs.inner.Rows.{KnowsRows, same_words};
 
 use crate::classifier::Classifier;
 use crate::declaration::Declaration;

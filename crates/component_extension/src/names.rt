@@ -4,8 +4,9 @@ ghost use Rattle.std.specs.HashMap.{get};
 ghost use Rattle.plain_values.specs.Order.{least, nearer};
 ghost use Rattle.plain_values.specs.declared.refusal.Code.TheVariants.{DuplicateName};
 ghost use Rattle.std.specs.List.{list_any};
-ghost use Rattle.component_extension.specs.Members.{KnowsMarks, comes_before, duplicates, is_before, is_earlier, mark_of, marks_of};
-ghost use Rattle.package_index.specs.Tables.{same_text};
+ghost use Rattle.component_extension.specs.Members.{duplicates, is_before, is_earlier, mark_of, marks_of};
+ghost use Rattle.component_extension.specs.inner.Members.{KnowsMarks, comes_before};
+ghost use Rattle.package_index.specs.inner.Tables.{same_text};
 
 use crate::declaration::{Declaration, PlainName};
 use crate::member::MemberKind;
@@ -53,8 +54,9 @@ pub(crate) struct PlainNames<'a> {
 impl<'a> Model for PlainNames<'a> {
     ghost use Rattle.std.specs.Prelude.{List};
     ghost use Rattle.std.specs.HashMap.{get};
-    ghost use Rattle.component_extension.specs.Members.{KnowsMarks, Mark};
-    ghost use Rattle.package_index.specs.Tables.{same_text};
+    ghost use Rattle.component_extension.specs.Members.{Mark};
+    ghost use Rattle.component_extension.specs.inner.Members.{KnowsMarks};
+    ghost use Rattle.package_index.specs.inner.Tables.{same_text};
 
     ghost Value = { List Mark };
 

@@ -1,6 +1,7 @@
 ghost use Rattle.std.specs.Prelude.{◌≡◌, OnOk, option_map, option_copied, Some};
 ghost use Rattle.std.specs.HashMap.{get};
-ghost use Rattle.component_extension.specs.Rows.{KnowsRows, key_of_words, named, put, row_by, same_words};
+ghost use Rattle.component_extension.specs.Rows.{named, put, row_by};
+ghost use Rattle.component_extension.specs.inner.Rows.{KnowsRows, key_of_words, same_words};
 
 use aadl_syntax::Identifier;
 use package_index::Words;

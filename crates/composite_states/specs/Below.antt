@@ -18,12 +18,6 @@ use Rattle.error_conditions.specs.Conditions.{held_cause, no_error_refusals, poi
 abbrev pub StatesAt : Type 0
 StatesAt = List (List ℕ) → Option (List Sort)
 
--- Where a condition of composite states stands: the points and the states of the component, the text in which it is read, and
--- what lies below the component.
-pub record CompositePlace (Below : Type 0) : Type 0 where
-  pub setting : Setting
-  pub below : Below
-
 -- ---- states below
 
 -- the states of the component below to which these names lead; without a name they lead to none

@@ -39,7 +39,7 @@ pub(crate) struct CompositePlace<'s, 'a, B> {
 impl<'s, 'a, B> Model for CompositePlace<'s, 'a, B> {
     ghost use Rattle.std.specs.Coded.{codes};
     ghost use Rattle.propagation_points.specs.contracts.side.Side as side;
-    ghost use Rattle.composite_states.specs.Below.{CompositePlace as Place};
+    ghost use Rattle.composite_states.specs.inner.Below.{CompositePlace as Place};
 
     ghost Value = { Place B };
 

@@ -8,7 +8,7 @@ use Rattle.std.proofs.lemmas.List.Sums.{length-filter}
 use Rattle.std.proofs.lemmas.List.Elements.{filter-append}
 use Rattle.fta_outside.specs.Reports.{TakesSet}
 use Rattle.plain_values.specs.Rising.{RisesWithin}
-use Rattle.cut_reports.specs.Counts.{capped, count_of}
+use Rattle.cut_reports.specs.inner.Counts.{capped, count_of}
 
 one-filtered : (test : List ℕ → Bool) (set : List ℕ) (b : Bool) → test set ≡ b → length (filter test (set ∷ [])) ≡ cond b 1 0
 one-filtered test set true e = ap (λ b. length (cond b (set ∷ []) [])) e

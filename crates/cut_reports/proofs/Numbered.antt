@@ -1,7 +1,7 @@
 -- Texts that have a line for some of the events.
 use Rattle.std.proofs.Common.{◌≡◌, ℕ, zero, suc, ◌+◌, ◌<◌, List, [], ◌∷◌, ◌++◌, length, take, get_or, Some, None, Bool, true, false, refl, sym, ap, ◌∙◌, append_assoc, append-nil, add-zero, arith, cond}
 use Rattle.std.proofs.lemmas.List.{length-take-le, take_more}
-use Rattle.cut_reports.specs.Numbered.{numbered_text}
+use Rattle.cut_reports.specs.inner.Numbered.{numbered_text}
 
 numbered-last : (line : ℕ → List ℕ → List ℕ) (number : ℕ) (names : List (List ℕ)) (name : List ℕ)
     → numbered_text line number (names ++ name ∷ []) ≡ numbered_text line number names ++ line (number + length names) name

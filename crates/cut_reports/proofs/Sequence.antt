@@ -6,9 +6,12 @@ use Rattle.std.proofs.lemmas.Bool.{false≢true}
 use Rattle.std.proofs.lemmas.List.{take_more}
 use Rattle.std.proofs.lemmas.Grind.{flat_map-append}
 use Rattle.plain_values.specs.Rising.{RisesWithin}
-use Rattle.cut_reports.specs.Feeding.{ChosenTake, IsKept, RoseAt, TakesEach, TookSets}
-use Rattle.cut_reports.specs.Places.{AtChosen, Both, IfThere, SoOrSame, is_among}
-use Rattle.cut_reports.specs.Texts.{Begun, ChosenHave, ChosenStand, FaultAt, report_part, reports_text}
+use Rattle.cut_reports.specs.Feeding.{IsKept, RoseAt}
+use Rattle.cut_reports.specs.inner.Feeding.{ChosenTake, TakesEach, TookSets}
+use Rattle.cut_reports.specs.Places.{AtChosen, Both, SoOrSame, is_among}
+use Rattle.cut_reports.specs.inner.Places.{IfThere}
+use Rattle.cut_reports.specs.Texts.{report_part, reports_text}
+use Rattle.cut_reports.specs.inner.Texts.{Begun, ChosenHave, ChosenStand, FaultAt}
 use Rattle.cut_reports.specs.declared.stop.ReportStop.{ReportStop}
 use Rattle.cut_reports.specs.declared.stop.ReportStop.TheVariants.{Fault, Memory}
 use Rattle.cut_reports.proofs.Places.{among_at, next_unmoved}

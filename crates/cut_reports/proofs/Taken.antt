@@ -6,8 +6,10 @@ use Rattle.std.proofs.lemmas.Bool.{false≢true}
 use Rattle.fta_outside.specs.Outside.{Rose}
 use Rattle.fta_outside.specs.Reports.{TakesSet}
 use Rattle.plain_values.specs.Rising.{RisesWithin}
-use Rattle.cut_reports.specs.Places.{AtChosen, Both, IfThere, SoOrSame, is_among}
-use Rattle.cut_reports.specs.Feeding.{ChosenTake, Fed, IsKept, Rises, RoseAt, TakesEach, TookSets}
+use Rattle.cut_reports.specs.Places.{AtChosen, Both, SoOrSame, is_among}
+use Rattle.cut_reports.specs.inner.Places.{IfThere}
+use Rattle.cut_reports.specs.Feeding.{IsKept, Rises, RoseAt}
+use Rattle.cut_reports.specs.inner.Feeding.{ChosenTake, Fed, TakesEach, TookSets}
 use Rattle.cut_reports.proofs.Places.{all_same, among_at, chained, next_unmoved}
 
 -- ---- the next of the chosen

@@ -4,10 +4,10 @@ use Rattle.std.specs.Prelude.{◌==◌, ◌||◌, slice_index_or, if◌then◌el
 use Rattle.std.proofs.lemmas.Bool.{eqb-true}
 use Rattle.fta_outside.specs.Reports.{TakesSet}
 use Rattle.plain_values.specs.Rising.{RisesWithin}
-use Rattle.cut_reports.specs.Counts.{CountedAt, CountedEach, capped, count_of}
-use Rattle.cut_reports.specs.Numbered.{numbered_text}
+use Rattle.cut_reports.specs.inner.Counts.{CountedAt, CountedEach, capped, count_of}
+use Rattle.cut_reports.specs.inner.Numbered.{numbered_text}
 use Rattle.cut_reports.specs.Places.{is_among}
-use Rattle.cut_reports.specs.Uses.{AreUses, counted_use, use_line, uses_text}
+use Rattle.cut_reports.specs.inner.Uses.{AreUses, counted_use, use_line, uses_text}
 use Rattle.cut_reports.proofs.Counts.{count_no, count_yes}
 use Rattle.cut_reports.proofs.Numbered.{numbered_same}
 use Rattle.cut_reports.proofs.Places.{among_more, before_less}

@@ -1,9 +1,4 @@
 pub mod Places
 pub mod Feeding
-pub mod Numbered
-pub mod Singles
-pub mod Counts
-pub mod Orders
-pub mod Uses
-pub mod Failing
 pub mod Texts
+pub mod inner

@@ -25,8 +25,3 @@ is_among numbers number = list_any (λ n. number == n) numbers
 -- The lists are of one length: their two items are so at each place that is among the chosen, and the same at each other.
 abbrev pub AtChosen : {R : Type 0} → List ℕ → (R → R → Type 0) → List R → List R → Type 0
 AtChosen chosen P before after = AtEach (λ i. SoOrSame (is_among chosen i) P) before after
-
--- where the item is there, it is so
-abbrev pub IfThere : {R : Type 0} → Option R → (R → Type 0) → Type 0
-IfThere None P = Unit {0}
-IfThere (Some item) P = P item

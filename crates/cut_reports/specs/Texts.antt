@@ -1,14 +1,6 @@
 -- The texts of the chosen reports. Each definition is given what it uses of a report's meanings, and names no box.
-use Rattle.std.specs.Prelude.{ℕ, ◌≡◌, List, [], ◌∷◌, ◌++◌, Option, Some, None, true, codes, slice_get}
+use Rattle.std.specs.Prelude.{ℕ, List, [], ◌∷◌, ◌++◌, Option, Some, None, codes, slice_get}
 use Rattle.std.specs.List.{flat_map}
-use Rattle.cut_reports.specs.Places.{IfThere, is_among}
-use Rattle.cut_reports.specs.declared.stop.ReportStop.{ReportStop}
-use Rattle.cut_reports.specs.declared.stop.ReportStop.TheVariants.{Fault, Memory}
-
--- A report was begun for so many events: it stands for no set.
-pub record Begun {R : Type 0} (stands : R → List (List ℕ) → Type 0) (width_of : R → Option ℕ) (events : ℕ) (before after : R) : Type 0 where
-  pub empty : stands after []
-  pub width_is : width_of after ≡ Some events
 
 -- the heading line of a report, and its text of these sets; nothing where no report is
 abbrev pub report_part : {R : Type 0} → (R → List ℕ) → (R → List (List ℕ) → List (List ℕ) → List ℕ) → List (List ℕ) → List (List ℕ) → Option R → List ℕ
@@ -18,16 +10,3 @@ report_part label_of text_of sets names (Some report) = codes "report " ++ label
 -- these parts of the chosen reports, in their order
 abbrev pub reports_text : {R : Type 0} → (R → List ℕ) → (R → List (List ℕ) → List (List ℕ) → List ℕ) → List ℕ → List (List ℕ) → List (List ℕ) → List R → List ℕ
 reports_text label_of text_of chosen sets names reports = flat_map (λ place. report_part label_of text_of sets names (slice_get reports place)) chosen
-
--- Each chosen report stands for these sets.
-abbrev pub ChosenStand : {R : Type 0} → (R → List (List ℕ) → Type 0) → List ℕ → List (List ℕ) → List R → Type 0
-ChosenStand stands chosen sets reports = (i : ℕ) → is_among chosen i ≡ true → IfThere (slice_get reports i) (λ report. stands report sets)
-
--- Each chosen report has this width.
-abbrev pub ChosenHave : {R : Type 0} → (R → Option ℕ) → List ℕ → ℕ → List R → Type 0
-ChosenHave width_of chosen width reports = (i : ℕ) → is_among chosen i ≡ true → IfThere (slice_get reports i) (λ report. width_of report ≡ Some width)
-
--- where it stopped at a report, this is so of its place
-abbrev pub FaultAt : (ℕ → Type 0) → ReportStop → Type 0
-FaultAt P (Fault place) = P place
-FaultAt P Memory = Unit {0}

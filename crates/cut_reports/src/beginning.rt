@@ -2,7 +2,7 @@ ghost use Rattle.std.specs.Prelude.{◌≡◌, ◌<◌, ◌==◌, IfErr, IsErrOf
 ghost use Rattle.fta_outside.specs.Outside.{Rose};
 ghost use Rattle.cut_reports.specs.Feeding.{IsKept, RoseAt};
 ghost use Rattle.cut_reports.specs.Places.{AtChosen, AtEach, SoOrSame, is_among};
-ghost use Rattle.cut_reports.specs.Texts.{Begun, FaultAt};
+ghost use Rattle.cut_reports.specs.inner.Texts.{Begun, FaultAt};
 ghost use Rattle.plain_values.specs.Rising.{RisesWithin};
 
 use crate::stop::ReportStop;

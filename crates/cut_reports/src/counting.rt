@@ -1,5 +1,5 @@
 ghost use Rattle.std.specs.Prelude.{◌≡◌, ◌+◌, ◌<◌, ◌++◌, IfOk, OnOk, replicate, vec_len};
-ghost use Rattle.cut_reports.specs.Counts.{CountedAt, capped, count_end};
+ghost use Rattle.cut_reports.specs.inner.Counts.{CountedAt, capped, count_end};
 
 use itoa::Buffer;
 use plain_values::Mem;

@@ -1,6 +1,6 @@
 ghost use Rattle.std.specs.Prelude.{◌≡◌, ◌≤◌, [], Some, None, IfErr, IfOk, OnErr, codes, is_err};
 ghost use Rattle.fta_outside.specs.Outside.{Rose};
-ghost use Rattle.cut_reports.specs.Failing.{after_call, call_fails};
+ghost use Rattle.cut_reports.specs.inner.Failing.{after_call, call_fails};
 
 use fta_outside::{Report, ReportFailed, WriteError};
 use plain_values::Name;
@@ -21,7 +21,7 @@ pub struct FailingReport {
 }
 
 impl Model for FailingReport {
-    ghost use Rattle.cut_reports.specs.Failing.{Failing};
+    ghost use Rattle.cut_reports.specs.inner.Failing.{Failing};
 
     ghost Value = { Failing };
 

@@ -1,8 +1,9 @@
 ghost use Rattle.std.specs.Prelude.{◌≡◌, ◌<◌, [], IfErr, Ok, OnOk, false, length, true, vec_len};
 ghost use Rattle.plain_values.specs.Rising.{RisesWithin};
-ghost use Rattle.cutset_lister.specs.Walks.{IsSameListing, IsStarted, sets_left};
+ghost use Rattle.cutset_lister.specs.inner.Walks.{IsSameListing, IsStarted, sets_left};
 ghost use Rattle.cut_reports.specs.Places.{AtChosen, is_among};
-ghost use Rattle.cut_reports.specs.Feeding.{ChosenTake, Fed, IsKept, RoseAt, TookSets};
+ghost use Rattle.cut_reports.specs.Feeding.{IsKept, RoseAt};
+ghost use Rattle.cut_reports.specs.inner.Feeding.{ChosenTake, Fed, TookSets};
 
 use crate::giving::{FeedFault, give_set};
 use cutset_lister::Listing;

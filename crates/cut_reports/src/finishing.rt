@@ -1,8 +1,10 @@
 ghost use Rattle.std.specs.Prelude.{◌≡◌, ◌<◌, ◌==◌, ◌++◌, ◌∷◌, [], ℕ, List, IfErr, IsErrOf, OnErr, OnOk, None, Some, codes, length, slice_get, true, vec_len};
 ghost use Rattle.fta_outside.specs.Outside.{Rose};
 ghost use Rattle.cut_reports.specs.Feeding.{IsKept, RoseAt};
-ghost use Rattle.cut_reports.specs.Places.{AtChosen, AtEach, IfThere, SoOrSame, is_among};
-ghost use Rattle.cut_reports.specs.Texts.{ChosenHave, ChosenStand, FaultAt, report_part, reports_text};
+ghost use Rattle.cut_reports.specs.Places.{AtChosen, AtEach, SoOrSame, is_among};
+ghost use Rattle.cut_reports.specs.inner.Places.{IfThere};
+ghost use Rattle.cut_reports.specs.Texts.{report_part, reports_text};
+ghost use Rattle.cut_reports.specs.inner.Texts.{ChosenHave, ChosenStand, FaultAt};
 ghost use Rattle.plain_values.specs.Rising.{RisesWithin};
 
 use crate::stop::ReportStop;

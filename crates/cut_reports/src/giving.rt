@@ -2,8 +2,10 @@ ghost use Rattle.std.specs.Prelude.{◌≡◌, ◌<◌, ◌∷◌, [], ◌==◌,
 ghost use Rattle.fta_outside.specs.Outside.{Rose};
 ghost use Rattle.fta_outside.specs.Reports.{TakesSet};
 ghost use Rattle.plain_values.specs.Rising.{RisesWithin};
-ghost use Rattle.cut_reports.specs.Places.{AtChosen, AtEach, IfThere, SoOrSame, is_among};
-ghost use Rattle.cut_reports.specs.Feeding.{ChosenTake, IsKept, RoseAt, TookSets};
+ghost use Rattle.cut_reports.specs.Places.{AtChosen, AtEach, SoOrSame, is_among};
+ghost use Rattle.cut_reports.specs.inner.Places.{IfThere};
+ghost use Rattle.cut_reports.specs.Feeding.{IsKept, RoseAt};
+ghost use Rattle.cut_reports.specs.inner.Feeding.{ChosenTake, TookSets};
 
 use fta_outside::{Report, ReportFailed};
 

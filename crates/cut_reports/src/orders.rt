@@ -1,6 +1,6 @@
 ghost use Rattle.std.specs.Prelude.{◌≡◌, ◌++◌, Some, None, IfOk, OnOk, codes, cond, decimal, length, vec_len};
-ghost use Rattle.cut_reports.specs.Numbered.{numbered_text};
-ghost use Rattle.cut_reports.specs.Orders.{AreOrders, counted_order, order_line, orders_text};
+ghost use Rattle.cut_reports.specs.inner.Numbered.{numbered_text};
+ghost use Rattle.cut_reports.specs.inner.Orders.{AreOrders, counted_order, order_line, orders_text};
 
 use crate::counting::{count_up, no_counts, one_more, push_count};
 use fta_outside::{Report, ReportFailed, WriteError};

@@ -1,6 +1,6 @@
 ghost use Rattle.std.specs.Prelude.{◌≡◌, ◌++◌, [], Some, None, IfOk, OnOk, codes, cond, if◌then◌else◌, length, vec_len};
-ghost use Rattle.cut_reports.specs.Numbered.{numbered_text};
-ghost use Rattle.cut_reports.specs.Singles.{AreMarks, marked_line, single_line, singles_text};
+ghost use Rattle.cut_reports.specs.inner.Numbered.{numbered_text};
+ghost use Rattle.cut_reports.specs.inner.Singles.{AreMarks, marked_line, single_line, singles_text};
 
 use fta_outside::{Report, ReportFailed, WriteError};
 use plain_values::{Mem, Name};

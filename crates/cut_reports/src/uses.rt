@@ -1,8 +1,8 @@
 ghost use Rattle.std.specs.Prelude.{◌≡◌, ◌++◌, Some, None, IfOk, OnOk, codes, cond, length, vec_len};
 ghost use Rattle.plain_values.specs.Rising.{RisesWithin};
-ghost use Rattle.cut_reports.specs.Counts.{CountedEach};
-ghost use Rattle.cut_reports.specs.Numbered.{numbered_text};
-ghost use Rattle.cut_reports.specs.Uses.{AreUses, counted_use, use_line, uses_text};
+ghost use Rattle.cut_reports.specs.inner.Counts.{CountedEach};
+ghost use Rattle.cut_reports.specs.inner.Numbered.{numbered_text};
+ghost use Rattle.cut_reports.specs.inner.Uses.{AreUses, counted_use, use_line, uses_text};
 
 use crate::counting::{count_up, no_counts, push_count};
 use fta_outside::{Report, ReportFailed, WriteError};

@@ -1,8 +1,10 @@
 ghost use Rattle.std.specs.Prelude.{◌≡◌, ◌++◌, IfErr, OnOk, Some, length, true, vec_len};
-ghost use Rattle.cutset_lister.specs.Walks.{IsStarted, sets_left};
-ghost use Rattle.cut_reports.specs.Feeding.{IsKept, RoseAt, TakesEach};
+ghost use Rattle.cutset_lister.specs.inner.Walks.{IsStarted, sets_left};
+ghost use Rattle.cut_reports.specs.Feeding.{IsKept, RoseAt};
+ghost use Rattle.cut_reports.specs.inner.Feeding.{TakesEach};
 ghost use Rattle.cut_reports.specs.Places.{AtChosen, is_among};
-ghost use Rattle.cut_reports.specs.Texts.{FaultAt, reports_text};
+ghost use Rattle.cut_reports.specs.Texts.{reports_text};
+ghost use Rattle.cut_reports.specs.inner.Texts.{FaultAt};
 ghost use Rattle.plain_values.specs.Rising.{RisesWithin};
 
 use crate::beginning::begin_all;

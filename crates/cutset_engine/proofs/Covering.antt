@@ -8,15 +8,15 @@ use Rattle.std.specs.declared.alloc.AllocError.{AllocError}
 use Rattle.fault_system.specs.Truth.{count_true}
 use Rattle.fault_system.specs.Listings.{IsWithinOrder}
 use Rattle.fault_system.proofs.TruthLaws.{same_answer, nat_le-all, nat_le-any}
-use Rattle.zdd_store.specs.Family.{covers, IsRising}
-use Rattle.zdd_store.specs.Store.{Families, IsIn, family_of, Keeps, IsSound}
-use Rattle.zdd_store.specs.Answers.{sets_up_to, IsAsked, IsLeastUpTo}
+use Rattle.zdd_store.specs.inner.Family.{covers, IsRising}
+use Rattle.zdd_store.specs.inner.Store.{Families, IsIn, family_of, Keeps, IsSound}
+use Rattle.zdd_store.specs.inner.Answers.{sets_up_to, IsAsked, IsLeastUpTo}
 use Rattle.zdd_store.specs.declared.id.Id.{Id}
-use Rattle.zdd_families.specs.Unions.{some_of}
+use Rattle.zdd_families.specs.inner.Unions.{some_of}
 use Rattle.zdd_families.proofs.Ways.{Keeps_trans, Keeps_same}
 use Rattle.zdd_families.proofs.Pairs.{covers-empty, covers-unit}
 use Rattle.zdd_families.proofs.Shorter.{covers_cut}
-use Rattle.cutset_engine.specs.Gates.{covers_each, Stands, Made, of_all, of_both}
+use Rattle.cutset_engine.specs.inner.Gates.{covers_each, Stands, Made, of_all, of_both}
 use Rattle.cutset_engine.specs.declared.gates.Gate.{Gate}
 use Rattle.cutset_engine.specs.declared.gates.Gate.TheVariants.{And, Or}
 use Rattle.std.specs.List.Sorted.{IsPermutation}

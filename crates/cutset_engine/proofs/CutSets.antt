@@ -8,13 +8,13 @@ use Rattle.plain_values.specs.Rising.{RisesWithin}
 use Rattle.fault_system.specs.CutSets.{IsEventSet, IsSubset}
 use Rattle.fault_system.specs.Listings.{IsWithinOrder}
 use Rattle.fault_system.proofs.Occurrences.{occurs_event-in_range, fact-in_range}
-use Rattle.zdd_store.specs.Family.{Family, least_of, has, is_within, covers, IsRising, IsAntichain}
+use Rattle.zdd_store.specs.inner.Family.{Family, least_of, has, is_within, covers, IsRising, IsAntichain}
 use Rattle.zdd_store.proofs.Orders.{all_contained}
-use Rattle.zdd_families.specs.Unions.{HasMinimalSets}
+use Rattle.zdd_families.specs.inner.Unions.{HasMinimalSets}
 use Rattle.zdd_families.proofs.Subsets.{has_first, has_rest, has_cases, has_none, least-has, within_has, within_from, within_self, within_trans}
 use Rattle.zdd_families.proofs.Covers.{covers_member, member_covers, covers_more}
 use Rattle.zdd_families.proofs.Telling.{Tells, minimal_sets_of}
-use Rattle.cutset_engine.specs.Families.{HasMinimalCutSets}
+use Rattle.cutset_engine.specs.inner.Families.{HasMinimalCutSets}
 use Rattle.zdd_families.proofs.Shorter.{within-shorter}
 use Rattle.fault_system.proofs.Occurring.{truth-grows-on}
 use Rattle.cutset_engine.proofs.Rounds.{fact_of}

@@ -12,17 +12,17 @@ use Rattle.fault_system.proofs.HoldsLaws.{holds_of-exact}
 use Rattle.fault_system.proofs.NumberSets.{RisesWithin-each}
 use Rattle.backward_slice.specs.Slices.{IsSlice}
 use Rattle.backward_slice.specs.declared.parts.Slice.{Slice}
-use Rattle.zdd_store.specs.Family.{Family, covers, has, IsRising, IsAntichain}
-use Rattle.zdd_store.specs.Answers.{sets_up_to, IsLeastFamily}
-use Rattle.zdd_store.specs.Store.{Families, IsIn, family_of, family_at, IsSound}
+use Rattle.zdd_store.specs.inner.Family.{Family, covers, has, IsRising, IsAntichain}
+use Rattle.zdd_store.specs.inner.Answers.{sets_up_to, IsLeastFamily}
+use Rattle.zdd_store.specs.inner.Store.{Families, IsIn, family_of, family_at, IsSound}
 use Rattle.zdd_store.specs.declared.id.Id.{Id}
 use lib.ListN.{length-map}
-use Rattle.zdd_families.specs.Steps.{either}
+use Rattle.zdd_families.specs.inner.Steps.{either}
 use Rattle.zdd_families.proofs.Pairs.{covers-empty}
-use Rattle.family_renaming.specs.Renaming.{name_of, renamed, AreInverse, IsRenamedOf}
-use Rattle.cutset_engine.specs.Gates.{covers_each, events_of}
-use Rattle.cutset_engine.specs.Filling.{Task, covered, IsFilling, IsFilled, HaveTheirCauses}
-use Rattle.cutset_engine.specs.Families.{HasMinimalCutSets, IsLeast, sets_to}
+use Rattle.family_renaming.specs.inner.Renaming.{name_of, renamed, AreInverse, IsRenamedOf}
+use Rattle.cutset_engine.specs.inner.Gates.{covers_each, events_of}
+use Rattle.cutset_engine.specs.inner.Filling.{Task, covered, IsFilling, IsFilled, HaveTheirCauses}
+use Rattle.cutset_engine.specs.inner.Families.{HasMinimalCutSets, IsLeast, sets_to}
 use Rattle.zdd_families.proofs.Shorter.{covers_cut}
 use Rattle.cutset_engine.proofs.Covering.{sound_rising}
 use Rattle.cutset_engine.proofs.CutSets.{has_minimal_cut_sets, order-shorter}

@@ -8,7 +8,7 @@ use Rattle.fault_system.proofs.NumberSets.{RisesWithin-filter, member-map}
 use Rattle.fault_system.specs.declared.formula.FactInfo.{FactInfo}
 use Rattle.backward_slice.specs.Slices.{IsSlice}
 use Rattle.backward_slice.specs.declared.parts.Slice.{Slice}
-use Rattle.zdd_store.specs.Family.{has, is_within}
+use Rattle.zdd_store.specs.inner.Family.{has, is_within}
 use Rattle.zdd_store.proofs.Orders.{contains_first, contains_rest, contains_none, first_or_rest}
 use Rattle.zdd_families.proofs.Subsets.{has_first, has_rest, has_cases, has_none, within_from, within_has}
 use Rattle.cutset_engine.proofs.CutSets.{has-set_of, leave, leave-has, leave-none, leave-within}

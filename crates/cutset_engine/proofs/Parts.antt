@@ -11,12 +11,12 @@ use Rattle.fault_system.specs.Truth.{NumberSet, member, truth, count_true}
 use Rattle.fault_system.specs.declared.formula.Formula.TheVariants.{And, Or, AtLeast}
 use Rattle.fault_system.proofs.TruthLaws.{truth-And, truth-Or, truth-AtLeast}
 use Rattle.fault_system.specs.declared.formula.Formula.{Formula}
-use Rattle.zdd_store.specs.Family.{covers, has, is_within}
-use Rattle.zdd_store.specs.Store.{Families, IsIn, family_of, Keeps, IsSound}
+use Rattle.zdd_store.specs.inner.Family.{covers, has, is_within}
+use Rattle.zdd_store.specs.inner.Store.{Families, IsIn, family_of, Keeps, IsSound}
 use Rattle.zdd_store.specs.declared.id.Id.{Id}
 use Rattle.zdd_families.proofs.Ways.{Keeps_same}
 use Rattle.zdd_families.proofs.Pairs.{covers-empty, covers-unit}
-use Rattle.cutset_engine.specs.Gates.{covers_each, events_of, is_true_under, StandEach, Made}
+use Rattle.cutset_engine.specs.inner.Gates.{covers_each, events_of, is_true_under, StandEach, Made}
 use Rattle.cutset_engine.proofs.Covering.{kept_each, kept_in, made_then}
 
 -- the parts so far

@@ -1,12 +1,12 @@
 -- A family over variables and its renaming over events.
 use Rattle.std.proofs.Common.{ℕ, ◌+◌, ◌≡◌, ◌≤◌, ◌↔◌, Bool, true, false, ◌==◌, List, [], ◌∷◌, map, length, Contains, ⊎_elim, inl, inr, ap, ◌∙◌, sym, subst, refl, arith, nat_lt, if◌then◌else◌}
-use Rattle.zdd_store.specs.Family.{Family, has, is_within, covers, IsAntichain}
-use Rattle.zdd_families.specs.Unions.{with_number}
+use Rattle.zdd_store.specs.inner.Family.{Family, has, is_within, covers, IsAntichain}
+use Rattle.zdd_families.specs.inner.Unions.{with_number}
 use Rattle.zdd_families.proofs.Booleans.{same_test}
 use Rattle.zdd_families.proofs.Subsets.{has_first, has_rest, has_cases, has_none, within_has, within_from}
 use Rattle.zdd_families.proofs.Covers.{covers_member, member_covers}
 use Rattle.zdd_families.proofs.Telling.{has_with_number, with_number_has}
-use Rattle.family_renaming.specs.Renaming.{name_of, renamed, AreInverse, IsRenamedOf}
+use Rattle.family_renaming.specs.inner.Renaming.{name_of, renamed, AreInverse, IsRenamedOf}
 
 -- the numbers of the renamed set
 pub named_has : (names : List ℕ) (set : List ℕ) (n : ℕ) → has set n ≡ true → has (renamed names set) (name_of names n) ≡ true

@@ -12,11 +12,11 @@ use Rattle.fault_system.specs.declared.formula.FactInfo.{FactInfo}
 use Rattle.fault_system.proofs.Marks.{Below-member}
 use Rattle.fault_system.proofs.HoldsLaws.{applied-grows}
 use Rattle.fault_system.proofs.NumberSets.{member-in, member-none}
-use Rattle.zdd_store.specs.Store.{Families, Keeps}
+use Rattle.zdd_store.specs.inner.Store.{Families, Keeps}
 use Rattle.zdd_store.specs.declared.id.Id.{Id}
 use Rattle.zdd_families.proofs.Ways.{Keeps_trans, Keeps_same}
-use Rattle.cutset_engine.specs.Gates.{covers_each, events_of}
-use Rattle.cutset_engine.specs.Filling.{Task, covered, IsFilling, IsFilled, IsStep, Grows, Reaches, HaveTheirCauses}
+use Rattle.cutset_engine.specs.inner.Gates.{covers_each, events_of}
+use Rattle.cutset_engine.specs.inner.Filling.{Task, covered, IsFilling, IsFilled, IsStep, Grows, Reaches, HaveTheirCauses}
 use Rattle.cutset_engine.proofs.Covering.{kept_each}
 use Rattle.fault_system.proofs.Occurring.{truth-grows-on}
 

@@ -12,11 +12,11 @@ use Rattle.fault_system.specs.declared.formula.FactInfo.{FactInfo}
 use Rattle.fault_system.proofs.Marks.{Below-member}
 use Rattle.fault_system.proofs.HoldsLaws.{applied-grows}
 use Rattle.fault_system.proofs.NumberSets.{member-in}
-use Rattle.zdd_store.specs.Family.{covers}
-use Rattle.zdd_store.specs.Store.{Families, IsIn, family_of, Keeps}
+use Rattle.zdd_store.specs.inner.Family.{covers}
+use Rattle.zdd_store.specs.inner.Store.{Families, IsIn, family_of, Keeps}
 use Rattle.zdd_store.specs.declared.id.Id.{Id}
-use Rattle.cutset_engine.specs.Gates.{covers_each, events_of, is_true_under, Stands}
-use Rattle.cutset_engine.specs.Filling.{Task, covered, next_covered, IsFilling, IsStep}
+use Rattle.cutset_engine.specs.inner.Gates.{covers_each, events_of, is_true_under, Stands}
+use Rattle.cutset_engine.specs.inner.Filling.{Task, covered, next_covered, IsFilling, IsStep}
 use Rattle.cutset_engine.proofs.Covering.{kept_each, kept_in}
 
 -- the marks of one set, of which one is put anew

@@ -5,16 +5,16 @@ use Rattle.fault_system.specs.Truth.{Has, member, set_of}
 use Rattle.fault_system.specs.Systems.{System}
 use Rattle.fault_system.specs.CutSets.{IsCutSet, IsMinimalCutSet, IsSubset}
 use Rattle.fault_system.specs.Listings.{IsWithinOrder}
-use Rattle.zdd_store.specs.Family.{Family, branch, has, is_within, IsAntichain}
-use Rattle.zdd_store.specs.Store.{Families, IsIn, family_of, family_with, IsSound, Fits}
+use Rattle.zdd_store.specs.inner.Family.{Family, branch, has, is_within, IsAntichain}
+use Rattle.zdd_store.specs.inner.Store.{Families, IsIn, family_of, family_with, IsSound, Fits}
 use Rattle.zdd_store.specs.declared.id.Id.{Id}
 use Rattle.zdd_store.specs.declared.id.Node.{Node}
 use Rattle.zdd_store.proofs.Orders.{contains_first}
-use Rattle.zdd_families.specs.Unions.{HasMinimalSets, IsInEither}
+use Rattle.zdd_families.specs.inner.Unions.{HasMinimalSets, IsInEither}
 use Rattle.zdd_families.proofs.Joins.{lo_in_branch, hi_in_branch}
 use Rattle.zdd_families.proofs.Subsets.{has_first, has_rest, has_cases, has_none, within_has, within_from}
-use Rattle.cutset_engine.specs.Families.{HasMinimalCutSets}
-use Rattle.cutset_engine.specs.ThinSystems.{AreSingles, thin_of}
+use Rattle.cutset_engine.specs.inner.Families.{HasMinimalCutSets}
+use Rattle.cutset_engine.specs.inner.ThinSystems.{AreSingles, thin_of}
 use Rattle.cutset_engine.proofs.CutSets.{has-set_of}
 use Rattle.cutset_engine.proofs.ThinLaws.{left_events, holds-grows, holds-from, holds-to}
 

@@ -14,7 +14,7 @@ use Rattle.fault_system.specs.declared.formula.Formula.TheVariants as shut
 use Rattle.fault_system.proofs.Marks.{Below-member}
 use Rattle.fault_system.proofs.HoldsLaws.{applied-grows}
 use Rattle.fault_system.proofs.TruthLaws.{truth-And, truth-Or, truth-AtLeast, truth-Event, truth-Fact}
-use Rattle.cutset_engine.specs.ThinSystems.{thin_step, thin_formula, thin_fact, thin_of}
+use Rattle.cutset_engine.specs.inner.ThinSystems.{thin_step, thin_formula, thin_fact, thin_of}
 
 -- the events that are not dropped, and the facts but for one
 abbrev pub left_events : List Bool → NumberSet → NumberSet

@@ -1,4 +1,1 @@
-pub mod Gates
-pub mod Filling
-pub mod Families
-pub mod ThinSystems
+pub mod inner

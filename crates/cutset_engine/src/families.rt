@@ -1,8 +1,8 @@
 ghost use Rattle.std.specs.Prelude.{◌≡◌, ◌<◌, All, IfOk, OnOk, length, slice_index_or};
-ghost use Rattle.zdd_store.specs.Store.{IsIn, family_of, Keeps};
+ghost use Rattle.zdd_store.specs.inner.Store.{IsIn, family_of, Keeps};
 ghost use Rattle.backward_slice.specs.Slices.{IsSlice};
-ghost use Rattle.cutset_engine.specs.Filling.{IsFilling, IsFilled};
-ghost use Rattle.cutset_engine.specs.Families.{HasMinimalCutSets, IsLeast, sets_to};
+ghost use Rattle.cutset_engine.specs.inner.Filling.{IsFilling, IsFilled};
+ghost use Rattle.cutset_engine.specs.inner.Families.{HasMinimalCutSets, IsLeast, sets_to};
 
 use crate::agenda::Agenda;
 use crate::filling::{fill, fill_fact};

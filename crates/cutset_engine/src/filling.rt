@@ -1,6 +1,6 @@
 ghost use Rattle.std.specs.Prelude.{◌≡◌, ◌<◌, ◌||◌, Contains, OnOk};
-ghost use Rattle.zdd_store.specs.Store.{Keeps};
-ghost use Rattle.cutset_engine.specs.Filling.{IsFilling, IsFilled, Steps, HaveTheirCauses};
+ghost use Rattle.zdd_store.specs.inner.Store.{Keeps};
+ghost use Rattle.cutset_engine.specs.inner.Filling.{IsFilling, IsFilled, Steps, HaveTheirCauses};
 
 use crate::formulas::formula_family;
 use crate::gates::Form;

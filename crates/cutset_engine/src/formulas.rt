@@ -1,8 +1,8 @@
 ghost use Rattle.std.specs.Prelude.{◌≡◌, All, IfOk, map, true};
 ghost use Rattle.fault_system.specs.Truth.{member};
-ghost use Rattle.zdd_store.specs.Store.{IsIn, Keeps};
-ghost use Rattle.family_renaming.specs.Renaming.{name_of};
-ghost use Rattle.cutset_engine.specs.Gates.{Made, StandEach, covers_each, events_of, is_true_under};
+ghost use Rattle.zdd_store.specs.inner.Store.{IsIn, Keeps};
+ghost use Rattle.family_renaming.specs.inner.Renaming.{name_of};
+ghost use Rattle.cutset_engine.specs.inner.Gates.{Made, StandEach, covers_each, events_of, is_true_under};
 
 use crate::gates::{Form, Gate, of_gate, some_of};
 use fault_system::Formula;

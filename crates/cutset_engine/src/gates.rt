@@ -2,11 +2,11 @@ ghost use Rattle.std.specs.Prelude.{◌≡◌, ◌<◌, ℕ, List, [], All, Some
 ghost use Rattle.std.specs.List.Sorted.{IsPermutation};
 ghost use Rattle.fault_system.specs.Truth.{count_true};
 ghost use Rattle.fault_system.specs.Listings.{IsWithinOrder};
-ghost use Rattle.zdd_store.specs.Family.{covers};
-ghost use Rattle.zdd_store.specs.Store.{IsIn, family_of};
-ghost use Rattle.zdd_store.specs.Answers.{IsAsked};
-ghost use Rattle.zdd_families.specs.Steps.{either, both};
-ghost use Rattle.cutset_engine.specs.Gates.{Made, covers_each, of_all, of_both};
+ghost use Rattle.zdd_store.specs.inner.Family.{covers};
+ghost use Rattle.zdd_store.specs.inner.Store.{IsIn, family_of};
+ghost use Rattle.zdd_store.specs.inner.Answers.{IsAsked};
+ghost use Rattle.zdd_families.specs.inner.Steps.{either, both};
+ghost use Rattle.cutset_engine.specs.inner.Gates.{Made, covers_each, of_all, of_both};
 
 use plain_values::Mem;
 use std::alloc::Global;

@@ -5,7 +5,7 @@ ghost use Rattle.fault_system.specs.Systems.{System};
 ghost use Rattle.fault_system.specs.CutSets.{IsMinimalCutSet};
 ghost use Rattle.backward_slice.specs.Slices.{IsSlice};
 ghost use Rattle.backward_slice.specs.declared.parts.Slice.{Slice};
-ghost use Rattle.zdd_store.specs.Family.{is_within};
+ghost use Rattle.zdd_store.specs.inner.Family.{is_within};
 
 /// A minimal cut set has events of the target's slice alone.
 pub fn in_slice()

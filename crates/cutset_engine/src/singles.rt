@@ -3,12 +3,12 @@
 ghost use Rattle.std.specs.Prelude.{◌≡◌, ◌<◌, ◌⊎◌, ℕ, List, Some, IfOk, IsTrue, length};
 ghost use Rattle.fault_system.specs.Truth.{Has, member};
 ghost use Rattle.fault_system.specs.Listings.{IsWithinOrder};
-ghost use Rattle.zdd_store.specs.Family.{IsAntichain};
-ghost use Rattle.zdd_store.specs.Store.{IsIn, family_of, Keeps};
-ghost use Rattle.zdd_families.specs.Unions.{HasMinimalSets, IsInEither};
+ghost use Rattle.zdd_store.specs.inner.Family.{IsAntichain};
+ghost use Rattle.zdd_store.specs.inner.Store.{IsIn, family_of, Keeps};
+ghost use Rattle.zdd_families.specs.inner.Unions.{HasMinimalSets, IsInEither};
 ghost use Rattle.backward_slice.specs.Slices.{IsSlice};
-ghost use Rattle.cutset_engine.specs.Families.{HasMinimalCutSets};
-ghost use Rattle.cutset_engine.specs.ThinSystems.{AreSingles};
+ghost use Rattle.cutset_engine.specs.inner.Families.{HasMinimalCutSets};
+ghost use Rattle.cutset_engine.specs.inner.ThinSystems.{AreSingles};
 
 use crate::families::{first_family, raced_family};
 use crate::thinning::thinned;

@@ -1,7 +1,7 @@
 //! A system with less in it: some events never occur, and one fact never makes another one hold.
 
 ghost use Rattle.std.specs.Prelude.{◌≡◌, IfOk, map};
-ghost use Rattle.cutset_engine.specs.ThinSystems.{thin_event, thin_fact, thin_formula, thin_of, thin_reference};
+ghost use Rattle.cutset_engine.specs.inner.ThinSystems.{thin_event, thin_fact, thin_formula, thin_of, thin_reference};
 
 use fault_system::{Bits, FactInfo, FaultSystem, Formula, copied_events};
 use plain_values::{List, Mem, copied};

@@ -3,14 +3,14 @@ use Rattle.std.proofs.Common.{◌≡◌, ℕ, ◌+◌, ◌-◌, ◌<◌, ◌≤�
 use Rattle.std.specs.List.{AllByRecursion}
 use Rattle.std.proofs.lemmas.List.{length-map}
 use Rattle.fault_system.proofs.Elements.{In, In-front, In-mapped}
-use Rattle.zdd_store.specs.Family.{Family, branch}
-use Rattle.zdd_store.specs.Store.{Families, IsIn, IsSound, Fits, family_at, family_of, family_with}
+use Rattle.zdd_store.specs.inner.Family.{Family, branch}
+use Rattle.zdd_store.specs.inner.Store.{Families, IsIn, IsSound, Fits, family_at, family_of, family_with}
 use Rattle.zdd_store.specs.declared.id.Id.{Id}
 use Rattle.zdd_store.specs.declared.id.Node.{Node}
 use Rattle.zdd_store.proofs.Branches.{branch-empty}
 use Rattle.zdd_store.proofs.Growing.{some_set}
 use Rattle.cutset_lister.specs.declared.path.Frame.{Frame}
-use Rattle.cutset_lister.specs.Trails.{Trail, IsPlace, SameLeft, numbers, left_below, greatest_size}
+use Rattle.cutset_lister.specs.inner.Trails.{Trail, IsPlace, SameLeft, numbers, left_below, greatest_size}
 
 -- one number more on the way
 pub left-push : (store : Families) (frames : List Frame) (frame : Frame) (family : Family)

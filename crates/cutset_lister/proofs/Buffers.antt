@@ -4,7 +4,7 @@ use Rattle.std.specs.List.{flat_map}
 use Rattle.std.proofs.Math.Seq.{drop-cons, take-append_seam}
 use Rattle.std.proofs.lemmas.List.{take-append-drop, take-take}
 use Rattle.std.proofs.lemmas.List.Concat.{flat_map-append}
-use Rattle.cutset_lister.specs.Scanning.{AddsText, LacksRoom}
+use Rattle.cutset_lister.specs.inner.Scanning.{AddsText, LacksRoom}
 
 -- one text more
 pub adds_more : (first second before middle after : List ℕ) (r0 r1 r2 : ℕ) → AddsText first before middle r0 r1 → AddsText second middle after r1 r2 → AddsText (first ++ second) before after r0 r2

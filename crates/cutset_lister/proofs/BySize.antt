@@ -3,15 +3,15 @@ use Rattle.std.proofs.Common.{◌≡◌, ℕ, zero, suc, ◌+◌, ◌<◌, ◌�
 use Rattle.std.specs.List.{flat_map}
 use Rattle.std.specs.Prelude.{◌==◌}
 use Rattle.fault_system.proofs.Elements.{In, In-filter}
-use Rattle.zdd_store.specs.Family.{Family}
-use Rattle.zdd_store.specs.Answers.{sets_of}
-use Rattle.zdd_store.specs.Store.{Families, IsIn, IsSound, Keeps, family_at, family_of}
+use Rattle.zdd_store.specs.inner.Family.{Family}
+use Rattle.zdd_store.specs.inner.Answers.{sets_of}
+use Rattle.zdd_store.specs.inner.Store.{Families, IsIn, IsSound, Keeps, family_at, family_of}
 use Rattle.zdd_store.specs.declared.id.Id.{Id}
 use Rattle.zdd_families.proofs.Ways.{Keeps_trans}
 use Rattle.zdd_families.proofs.Sizing.{Keeps_is}
-use Rattle.cutset_lister.specs.Listed.{listed}
-use Rattle.cutset_lister.specs.Trails.{greatest_size}
-use Rattle.cutset_lister.specs.Walks.{AreSizes}
+use Rattle.cutset_lister.specs.inner.Listed.{listed}
+use Rattle.cutset_lister.specs.inner.Trails.{greatest_size}
+use Rattle.cutset_lister.specs.inner.Walks.{AreSizes}
 use Rattle.cutset_lister.proofs.Sorted.{listed_more}
 
 -- one size more

@@ -2,7 +2,7 @@
 use Rattle.std.proofs.Common.{◌≡◌, ℕ, ◌+◌, ◌<◌, ◌≤◌, ◌⊎◌, Bool, true, false, cond, List, [], ◌∷◌, length, filter, refl, sym, ◌∙◌, inl, inr, arith}
 use Rattle.std.specs.Prelude.{nat_le}
 use Rattle.std.proofs.lemmas.Bool.{false≢true, leb-true, le-leb}
-use Rattle.zdd_store.specs.Family.{least_of, has, is_within, IsRising}
+use Rattle.zdd_store.specs.inner.Family.{least_of, has, is_within, IsRising}
 use Rattle.zdd_families.proofs.Above.{above}
 use Rattle.zdd_families.proofs.Subsets.{has_cases, has_none, has_first, has_rest, within_has, within_from}
 

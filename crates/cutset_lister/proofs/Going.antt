@@ -3,12 +3,12 @@ use Rattle.std.proofs.Common.{◌≡◌, ℕ, ◌+◌, ◌-◌, ◌≤◌, ◌�
 use Rattle.std.specs.List.{AllByRecursion, flat_map}
 use Rattle.fault_system.specs.Listings.{IsInListingOrder}
 use Rattle.fault_system.proofs.Elements.{each-made, contains_In}
-use Rattle.zdd_store.specs.Family.{Family, is_within}
-use Rattle.zdd_store.specs.Store.{Families, IsIn, IsSound, family_at, family_of}
+use Rattle.zdd_store.specs.inner.Family.{Family, is_within}
+use Rattle.zdd_store.specs.inner.Store.{Families, IsIn, IsSound, family_at, family_of}
 use Rattle.zdd_store.specs.declared.id.Id.{Id}
 use Rattle.zdd_store.proofs.Orders.{all_contained}
-use Rattle.cutset_lister.specs.Trails.{Trail, IsPlace, SameLeft, left_below, greatest_size}
-use Rattle.cutset_lister.specs.Walks.{Walk, AreSizes, IsSameListing, IsStarted, sets_left}
+use Rattle.cutset_lister.specs.inner.Trails.{Trail, IsPlace, SameLeft, left_below, greatest_size}
+use Rattle.cutset_lister.specs.inner.Walks.{Walk, AreSizes, IsSameListing, IsStarted, sets_left}
 use Rattle.cutset_lister.proofs.BySize.{all_listed_sizes, none-most}
 use Rattle.cutset_lister.proofs.Counting.{within-shorter}
 use Rattle.cutset_lister.proofs.Sorted.{all_listed, all_ordered}

@@ -1,12 +1,12 @@
 -- A listing in a store that grew.
 use Rattle.std.proofs.Common.{◌≡◌, ℕ, ◌+◌, List, [], ◌∷◌, ◌++◌, drop, zero, suc, refl, ap, ◌∙◌, arith}
 use Rattle.std.specs.List.{AllByRecursion, flat_map}
-use Rattle.zdd_store.specs.Family.{Family, branch}
-use Rattle.zdd_store.specs.Store.{Families, IsIn, Keeps, family_of}
+use Rattle.zdd_store.specs.inner.Family.{Family, branch}
+use Rattle.zdd_store.specs.inner.Store.{Families, IsIn, Keeps, family_of}
 use Rattle.zdd_store.specs.declared.id.Id.{Id}
 use Rattle.cutset_lister.specs.declared.path.Frame.{Frame}
-use Rattle.cutset_lister.specs.Trails.{Trail, IsPlace, left_below, greatest_size}
-use Rattle.cutset_lister.specs.Walks.{Walk, AreSizes, IsStarted, StaysStarted}
+use Rattle.cutset_lister.specs.inner.Trails.{Trail, IsPlace, left_below, greatest_size}
+use Rattle.cutset_lister.specs.inner.Walks.{Walk, AreSizes, IsStarted, StaysStarted}
 use Rattle.cutset_lister.proofs.BySize.{sizes-kept}
 
 module _ (before after : Families) (kept : Keeps before after) where

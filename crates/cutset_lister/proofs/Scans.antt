@@ -15,8 +15,9 @@ use Rattle.plain_values.specs.Rising.{RisesWithin}
 use Rattle.plain_values.proofs.Rising.{rises-higher, rises-push}
 use Rattle.fault_system.specs.declared.formula.EventInfo.{EventInfo}
 use Rattle.fault_system.proofs.Elements.{contains_In, each-made}
-use Rattle.cutset_lister.specs.SetText.{HasTokenNames, IsTokenName, IsSetOfText, set_text}
-use Rattle.cutset_lister.specs.Scanning.{Ends, GoesOn, IsNext, Scanned, names_text}
+use Rattle.cutset_lister.specs.SetText.{IsSetOfText, set_text}
+use Rattle.cutset_lister.specs.inner.SetText.{HasTokenNames, IsTokenName}
+use Rattle.cutset_lister.specs.inner.Scanning.{Ends, GoesOn, IsNext, Scanned, names_text}
 
 -- whether a text begins with a name
 pub is_next-at : (text name : List ℕ) → length name ≤ length text → (length text ≡ length name → ⊥) → take (length name) text ≡ name → (same : Bool) → (slice_index_or text (length name) 0 ≡ 43 → same ≡ true) → (same ≡ true → slice_index_or text (length name) 0 ≡ 43)

@@ -6,13 +6,13 @@ use Rattle.std.proofs.lemmas.List.Elements.{filter-append}
 use Rattle.std.specs.List.{AllByRecursion, flat_map}
 use Rattle.fault_system.specs.Listings.{is_lower, is_before}
 use Rattle.fault_system.proofs.Elements.{In, In-append, In-contains, In-filter, each-at, each-made}
-use Rattle.zdd_store.specs.Family.{Family, precedes, is_within}
-use Rattle.zdd_store.specs.Answers.{sets_of}
-use Rattle.zdd_store.specs.Store.{Families, IsIn, IsSound, family_of}
+use Rattle.zdd_store.specs.inner.Family.{Family, precedes, is_within}
+use Rattle.zdd_store.specs.inner.Answers.{sets_of}
+use Rattle.zdd_store.specs.inner.Store.{Families, IsIn, IsSound, family_of}
 use Rattle.zdd_store.specs.declared.id.Id.{Id}
 use Rattle.zdd_families.proofs.Joins.{filter_keeps, filter_drops, same_filter}
-use Rattle.cutset_lister.specs.Trails.{Trail, left_below, greatest_size}
-use Rattle.cutset_lister.specs.Walks.{Walk, AreSizes, IsSameListing, IsStarted, all_sets}
+use Rattle.cutset_lister.specs.inner.Trails.{Trail, left_below, greatest_size}
+use Rattle.cutset_lister.specs.inner.Walks.{Walk, AreSizes, IsSameListing, IsStarted, all_sets}
 use Rattle.cutset_lister.proofs.Below.{size-of}
 use Rattle.cutset_lister.proofs.BySize.{none-most, size-most, sets_of-most, sets_of-size}
 use Rattle.cutset_lister.proofs.Going.{moved}

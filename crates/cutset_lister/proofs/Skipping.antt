@@ -5,8 +5,8 @@ use Rattle.std.proofs.Math.Seq.{drop-cons}
 use Rattle.std.proofs.Math.ListN.{drop_of_length-le}
 use Rattle.std.proofs.lemmas.Bool.{false≢true}
 use Rattle.std.specs.List.{AllByRecursion}
-use Rattle.zdd_store.specs.Family.{Family, branch, least_of, least_number, precedes, has, is_within}
-use Rattle.zdd_store.specs.Store.{Families, IsIn, IsSound, Fits, family_at, family_of, family_with}
+use Rattle.zdd_store.specs.inner.Family.{Family, branch, least_of, least_number, precedes, has, is_within}
+use Rattle.zdd_store.specs.inner.Store.{Families, IsIn, IsSound, Fits, family_at, family_of, family_with}
 use Rattle.zdd_store.specs.declared.id.Id.{Id}
 use Rattle.zdd_store.specs.declared.id.Node.{Node}
 use Rattle.zdd_store.proofs.Branches.{with_var, branch-empty, branch-with_var}
@@ -15,7 +15,7 @@ use Rattle.zdd_store.proofs.Orders.{all_contained}
 use Rattle.zdd_families.proofs.Above.{above}
 use Rattle.zdd_families.proofs.Joins.{filter-branch, filter_keeps, filter_drops, same_filter}
 use Rattle.zdd_families.proofs.Subsets.{has_first, has_rest, within_has, within_from}
-use Rattle.cutset_lister.specs.Trails.{Trail, left_below}
+use Rattle.cutset_lister.specs.inner.Trails.{Trail, left_below}
 use Rattle.cutset_lister.proofs.Below.{frames-push, left-push}
 use Rattle.cutset_lister.proofs.Counting.{above-fewer, above-most}
 use Rattle.cutset_lister.proofs.Going.{left-begin}

@@ -5,13 +5,13 @@ use Rattle.std.proofs.lemmas.Bool.{false≢true, cases_lt}
 use Rattle.fault_system.specs.Listings.{is_lower, IsBefore, IsInListingOrder}
 use Rattle.fault_system.proofs.Elements.{In, In-contains, contains_In, In-append, In-front, In-back, In-filter, In-filtered, each-at, each-made}
 use Rattle.fault_system.proofs.Orders.{before_made, order-append}
-use Rattle.zdd_store.specs.Family.{Family, precedes, IsInOrder}
-use Rattle.zdd_store.specs.Answers.{sets_of}
-use Rattle.zdd_store.specs.Store.{Families, IsIn, Keeps, family_of}
+use Rattle.zdd_store.specs.inner.Family.{Family, precedes, IsInOrder}
+use Rattle.zdd_store.specs.inner.Answers.{sets_of}
+use Rattle.zdd_store.specs.inner.Store.{Families, IsIn, Keeps, family_of}
 use Rattle.zdd_store.specs.declared.id.Id.{Id}
 use Rattle.zdd_families.proofs.Ways.{Keeps_trans}
 use Rattle.zdd_families.proofs.Sizing.{Keeps_is}
-use Rattle.cutset_lister.specs.Listed.{listed}
+use Rattle.cutset_lister.specs.inner.Listed.{listed}
 
 or_step : (a b c d : Bool) → a || (b && c) ≡ true → (c ≡ true → d ≡ true) → a || (b && d) ≡ true
 or_step true b c d e f = refl

@@ -1,6 +1,2 @@
-pub mod Listed
-pub mod Trails
-pub mod Walks
-pub mod Lending
 pub mod SetText
-pub mod Scanning
+pub mod inner

@@ -1,8 +1,9 @@
 ghost use Rattle.std.specs.Prelude.{◌≡◌, ℕ, List as Items};
 ghost use Rattle.fault_system.specs.Systems.{System, IsSystem};
-ghost use Rattle.zdd_store.specs.Store.{Families, Keeps};
-ghost use Rattle.cutset_lister.specs.SetText.{HasTokenNames, IsSetOfText};
-ghost use Rattle.cutset_lister.specs.Walks.{Walk, IsStarted, StaysStarted};
+ghost use Rattle.zdd_store.specs.inner.Store.{Families, Keeps};
+ghost use Rattle.cutset_lister.specs.SetText.{IsSetOfText};
+ghost use Rattle.cutset_lister.specs.inner.SetText.{HasTokenNames};
+ghost use Rattle.cutset_lister.specs.inner.Walks.{Walk, IsStarted, StaysStarted};
 
 /// A started listing keeps its sets while its store grows.
 pub fn stays_started()

@@ -2,9 +2,9 @@
 
 ghost use Rattle.std.specs.Prelude.{◌≡◌, ◌+◌, ◌<◌, ◌≤◌, ℕ, IsTrue, List as Items, [], ◌∷◌, ◌++◌, length, filter, IfNone, IfSome};
 ghost use Rattle.std.specs.List.{AllByRecursion};
-ghost use Rattle.zdd_store.specs.Family.{least_number, precedes, is_within};
-ghost use Rattle.zdd_store.specs.Store.{IsIn, Fits, family_of, family_with};
-ghost use Rattle.cutset_lister.specs.Trails.{IsPlace, SameLeft, left_below, numbers};
+ghost use Rattle.zdd_store.specs.inner.Family.{least_number, precedes, is_within};
+ghost use Rattle.zdd_store.specs.inner.Store.{IsIn, Fits, family_of, family_with};
+ghost use Rattle.cutset_lister.specs.inner.Trails.{IsPlace, SameLeft, left_below, numbers};
 
 use crate::path::{Frame, Path};
 use fta_outside::Steps;

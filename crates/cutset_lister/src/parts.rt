@@ -2,10 +2,10 @@
 
 ghost use Rattle.std.specs.Prelude.{◌≡◌, ◌+◌, ◌-◌, ◌<◌, ◌≤◌, ◌++◌, [], length, drop, slice_index_or, IfOk};
 ghost use Rattle.std.specs.List.{flat_map};
-ghost use Rattle.zdd_store.specs.Family.{Family};
-ghost use Rattle.zdd_store.specs.Store.{Families, IsIn, IsSound, Keeps, family_of};
-ghost use Rattle.cutset_lister.specs.Trails.{greatest_size};
-ghost use Rattle.cutset_lister.specs.Walks.{AreSizes};
+ghost use Rattle.zdd_store.specs.inner.Family.{Family};
+ghost use Rattle.zdd_store.specs.inner.Store.{Families, IsIn, IsSound, Keeps, family_of};
+ghost use Rattle.cutset_lister.specs.inner.Trails.{greatest_size};
+ghost use Rattle.cutset_lister.specs.inner.Walks.{AreSizes};
 
 use plain_values::Mem;
 use std::alloc::Global;

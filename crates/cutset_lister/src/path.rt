@@ -1,5 +1,5 @@
 ghost use Rattle.std.specs.Prelude.{◌≡◌, ◌<◌, [], ◌∷◌, ◌++◌, length, IfOk, IfNone, option_to_list};
-ghost use Rattle.cutset_lister.specs.Trails.{numbers};
+ghost use Rattle.cutset_lister.specs.inner.Trails.{numbers};
 
 use plain_values::Mem;
 use std::alloc::Global;
@@ -23,7 +23,7 @@ pub struct Path {
 
 impl Model for Path {
     ghost use Rattle.std.specs.Prelude.{◌≡◌, ◌≤◌, vec_capacity};
-    ghost use Rattle.cutset_lister.specs.Trails.{Trail, numbers};
+    ghost use Rattle.cutset_lister.specs.inner.Trails.{Trail, numbers};
 
     ghost Value = { Trail };
 

@@ -4,8 +4,9 @@ ghost use Rattle.std.specs.List.{flat_map};
 ghost use Rattle.std.specs.Prelude.{◌≡◌, ◌+◌, ◌<◌, ◌≤◌, ◌∷◌, ◌++◌, [], ℕ, List as Items, length, IfOk, IfErr, IsOk, OnOk, OnErr, MatchBool, MatchResult, vec_len, vec_capacity};
 ghost use Rattle.plain_values.specs.declared.refusal.Stop.TheVariants.{Memory};
 ghost use Rattle.fault_system.specs.Systems.{event_name};
-ghost use Rattle.cutset_lister.specs.SetText.{HasTokenNames, IsBadToken, IsSetOfText, quoted_name, quoted_text, set_text};
-ghost use Rattle.cutset_lister.specs.Scanning.{AddsText, IsNext, LacksRoom, Scanned, names_text};
+ghost use Rattle.cutset_lister.specs.SetText.{IsSetOfText, quoted_name, quoted_text, set_text};
+ghost use Rattle.cutset_lister.specs.inner.SetText.{HasTokenNames, IsBadToken};
+ghost use Rattle.cutset_lister.specs.inner.Scanning.{AddsText, IsNext, LacksRoom, Scanned, names_text};
 
 use fault_system::FaultSystem;
 use plain_values::{Answer, Code, List, Mem, Refusal, Stop, is_same};

@@ -1,8 +1,8 @@
 ghost use Rattle.std.specs.Prelude.{◌≡◌, ◌+◌, ◌*◌, ◌≤◌, ◌↔◌, ◌∷◌, [], ℕ, List as Items, Contains, length, drop, filter, IfOk, IsTrue, MatchBool, MatchOption};
 ghost use Rattle.std.specs.Borrow.{sem};
 ghost use Rattle.fault_system.specs.Listings.{IsInListingOrder, is_before};
-ghost use Rattle.zdd_store.specs.Family.{Family, is_within};
-ghost use Rattle.zdd_store.specs.Store.{Families, IsIn, IsSound, Keeps, family_of};
+ghost use Rattle.zdd_store.specs.inner.Family.{Family, is_within};
+ghost use Rattle.zdd_store.specs.inner.Store.{Families, IsIn, IsSound, Keeps, family_of};
 
 use crate::moves::{descend, go_back, skip};
 use crate::parts::{next_part, part_of_size, parts_by_size};
@@ -27,7 +27,7 @@ pub struct Listing {
 }
 
 impl Model for Listing {
-    ghost use Rattle.cutset_lister.specs.Walks.{Walk};
+    ghost use Rattle.cutset_lister.specs.inner.Walks.{Walk};
 
     ghost Value = { Walk };
 
@@ -35,9 +35,9 @@ impl Model for Listing {
 }
 
 impl Listing {
-    ghost use Rattle.cutset_lister.specs.Trails.{numbers};
-    ghost use Rattle.cutset_lister.specs.Walks.{all_sets, event_count, sets_left, IsSameListing, IsStarted};
-    ghost use Rattle.cutset_lister.specs.Lending.{EndsAfter};
+    ghost use Rattle.cutset_lister.specs.inner.Trails.{numbers};
+    ghost use Rattle.cutset_lister.specs.inner.Walks.{all_sets, event_count, sets_left, IsSameListing, IsStarted};
+    ghost use Rattle.cutset_lister.specs.inner.Lending.{EndsAfter};
 
     /// The listing of a family whose numbers are among these events, at its beginning.
     ///

@@ -6,10 +6,10 @@ use Rattle.fta_outside.specs.Outside.{Rose, TookPrefix, with_bytes}
 use Rattle.fta_outside.proofs.Writing.{wrote_both}
 use Rattle.fault_system.specs.Systems.{System}
 use Rattle.fault_system.proofs.Elements.{each-at, each-made, In-filter}
-use Rattle.cutset_writer.specs.Pages.{HasRoom, goes_on, has_room, later, next_line, next_more, one_less}
-use Rattle.cutset_writer.specs.Steps.{IsWritten}
+use Rattle.cutset_writer.specs.inner.Pages.{HasRoom, goes_on, has_room, later, next_line, next_more, one_less}
+use Rattle.cutset_writer.specs.inner.Steps.{IsWritten}
 use Rattle.cutset_writer.specs.Text.{last_line, last_of, marked_text, more_line, set_line}
-use Rattle.cutset_writer.specs.Written.{Writes}
+use Rattle.cutset_writer.specs.inner.Written.{Writes}
 use Rattle.cutset_writer.specs.declared.form.SetForm.{SetForm}
 use Rattle.cutset_writer.proofs.Writing.{wrote_not, wrote_then}
 

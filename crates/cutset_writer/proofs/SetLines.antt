@@ -10,11 +10,11 @@ use Rattle.fault_system.specs.declared.formula.EventInfo.{EventInfo}
 use Rattle.fault_system.proofs.ListingLaws.{length_rising}
 use Rattle.std.specs.List.{flat_map}
 use Rattle.cutset_lister.specs.SetText.{quoted_name, set_text}
-use Rattle.cutset_lister.specs.Scanning.{names_text}
+use Rattle.cutset_lister.specs.inner.Scanning.{names_text}
 use Rattle.cutset_lister.proofs.Scans.{set_text-first}
 use Rattle.page_tokens.specs.Starts.{start_text}
-use Rattle.cutset_writer.specs.Lengths.{most_line, names_room}
-use Rattle.cutset_writer.specs.Pages.{HasRoom}
+use Rattle.cutset_writer.specs.inner.Lengths.{most_line, names_room}
+use Rattle.cutset_writer.specs.inner.Pages.{HasRoom}
 use Rattle.cutset_writer.specs.Text.{form_text, set_line}
 use Rattle.cutset_writer.specs.declared.form.SetForm.{SetForm}
 use Rattle.cutset_writer.specs.declared.form.SetForm.TheVariants.{Token, Quoted}

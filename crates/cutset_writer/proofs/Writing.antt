@@ -4,7 +4,7 @@ use Rattle.std.proofs.lemmas.Result.{MatchResult-weaker}
 use Rattle.std.proofs.lemmas.List.{take_all}
 use Rattle.fta_outside.specs.Outside.{Rose, TookPrefix, with_bytes}
 use Rattle.fta_outside.proofs.Writing.{rose_from, took_more, with_bytes-nil, wrote_both}
-use Rattle.cutset_writer.specs.Written.{Writes}
+use Rattle.cutset_writer.specs.inner.Written.{Writes}
 
 -- a first piece was written, and then what follows it was written or not
 pub wrote_then : {T E : Type 0} (r : Result T E) (t u v : Option (List ℕ)) (f g h : ℕ) (a b text : List ℕ) → text ≡ a ++ b → u ≡ with_bytes t a → f ≤ g → Writes r b u v g h → Writes r text t v f h

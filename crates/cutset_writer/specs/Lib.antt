@@ -1,5 +1,2 @@
 pub mod Text
-pub mod Lengths
-pub mod Written
-pub mod Pages
-pub mod Steps
+pub mod inner

@@ -1,10 +1,10 @@
 //! What the last line of a page names, for the next page to begin there.
 
 ghost use Rattle.std.specs.Prelude.{◌≡◌, ◌+◌, ◌≤◌, IfOk, IfSome, Some, length, option_map};
-ghost use Rattle.cutset_writer.specs.Lengths.{most_line};
-ghost use Rattle.cutset_writer.specs.Pages.{IsOpen, IsOpenMark, key_of, more_text};
+ghost use Rattle.cutset_writer.specs.inner.Lengths.{most_line};
+ghost use Rattle.cutset_writer.specs.inner.Pages.{IsOpen, IsOpenMark, key_of, more_text};
 ghost use Rattle.cutset_writer.specs.Text.{more_line};
-ghost use Rattle.cutset_writer.specs.Written.{Writes};
+ghost use Rattle.cutset_writer.specs.inner.Written.{Writes};
 ghost use Rattle.page_tokens.specs.Starts.{start_text};
 
 use crate::lines::{longest_line, put_more};

@@ -3,7 +3,7 @@ ghost use Rattle.fault_system.specs.Systems.{event_name};
 ghost use Rattle.cutset_lister.specs.SetText.{set_text};
 ghost use Rattle.cutset_writer.specs.Text.{form_text, more_line, set_line};
 ghost use Rattle.page_tokens.specs.Starts.{start_text};
-ghost use Rattle.cutset_writer.specs.Lengths.{most_line};
+ghost use Rattle.cutset_writer.specs.inner.Lengths.{most_line};
 
 use crate::form::SetForm;
 use cutset_lister::{write_quoted, write_token};

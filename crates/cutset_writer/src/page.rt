@@ -1,12 +1,12 @@
 ghost use Rattle.std.specs.Prelude.{◌≡◌, ◌<◌, ◌≤◌, ℕ, List as Items, Contains, IfOk, IfSome, IsTrue, Option as Maybe, Some, option_map, vec_capacity};
 ghost use Rattle.fault_system.specs.CutSets.{IsEventSet};
-ghost use Rattle.zdd_store.specs.Family.{is_within};
-ghost use Rattle.zdd_store.specs.Store.{IsIn, Keeps, family_of};
-ghost use Rattle.cutset_lister.specs.Walks.{IsSameListing, IsStarted, all_sets, sets_left};
-ghost use Rattle.cutset_writer.specs.Lengths.{most_line};
-ghost use Rattle.cutset_writer.specs.Pages.{HasRoom, IsOpen, IsOpenMark, IsReady, Lists, goes_on, has_room, key_of, later, more_text, next_line, next_more, one_less};
+ghost use Rattle.zdd_store.specs.inner.Family.{is_within};
+ghost use Rattle.zdd_store.specs.inner.Store.{IsIn, Keeps, family_of};
+ghost use Rattle.cutset_lister.specs.inner.Walks.{IsSameListing, IsStarted, all_sets, sets_left};
+ghost use Rattle.cutset_writer.specs.inner.Lengths.{most_line};
+ghost use Rattle.cutset_writer.specs.inner.Pages.{HasRoom, IsOpen, IsOpenMark, IsReady, Lists, goes_on, has_room, key_of, later, more_text, next_line, next_more, one_less};
 ghost use Rattle.cutset_writer.specs.Text.{listing_page, marked_page, marked_text, more_line};
-ghost use Rattle.cutset_writer.specs.Written.{Writes};
+ghost use Rattle.cutset_writer.specs.inner.Written.{Writes};
 ghost use Rattle.cutset_writer.specs.declared.form.SetForm.TheVariants.{Token};
 
 use crate::bookmark::{Bookmark, keep_place, write_more};

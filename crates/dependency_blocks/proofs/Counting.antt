@@ -5,7 +5,7 @@ use Rattle.std.proofs.lemmas.Bool.{eq-eqb, ne_eqb, cases_eq, cases_lt}
 use Rattle.std.proofs.lemmas.List.{get_or_past}
 use Rattle.std.proofs.lemmas.List.Sums.{count_by_more_yes, count_by_more_no}
 use Rattle.dependency_blocks.specs.Blocks.{number_of, size_of}
-use Rattle.dependency_blocks.specs.Sizes.{HaveSizes, AreSmall}
+use Rattle.dependency_blocks.specs.inner.Sizes.{HaveSizes, AreSmall}
 
 -- the counts after so many of the numbers
 abbrev pub Counts : List ℕ → List ℕ → ℕ → Type 0

@@ -10,7 +10,7 @@ use Rattle.fault_system.specs.declared.formula.FactInfo.{FactInfo}
 use Rattle.fault_system.proofs.NumberSets.{member-put}
 use Rattle.backward_slice.specs.Slices.{DependsOn}
 use Rattle.dependency_blocks.specs.Blocks.{number_of, IsBlocks}
-use Rattle.dependency_blocks.specs.Checks.{leader_of, HasMarked, MarksOf, LeadToFirst, ComeFromFirst, Fall, IsLow}
+use Rattle.dependency_blocks.specs.inner.Checks.{leader_of, HasMarked, MarksOf, LeadToFirst, ComeFromFirst, Fall, IsLow}
 
 -- of the facts so far
 abbrev pub LowUntil : System → List ℕ → List ℕ → ℕ → Type 0

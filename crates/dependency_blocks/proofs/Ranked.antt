@@ -7,8 +7,8 @@ use Rattle.fault_system.proofs.Marks.{same_marks}
 use Rattle.fault_system.proofs.NumberSets.{contained-in_set, set_of-contained}
 use Rattle.backward_slice.specs.Slices.{DependsOn, HasItsCauses}
 use Rattle.dependency_blocks.specs.Blocks.{number_of, IsBlocks}
-use Rattle.dependency_blocks.specs.Checks.{HasNumbers, IsTable}
-use Rattle.dependency_blocks.specs.Reach.{HaveReaches, IsReach, rank_of}
+use Rattle.dependency_blocks.specs.inner.Checks.{HasNumbers, IsTable}
+use Rattle.dependency_blocks.specs.inner.Reach.{HaveReaches, IsReach, rank_of}
 use Rattle.dependency_blocks.proofs.Passes.{depends_self, depends_then, depends_step}
 use Rattle.dependency_blocks.proofs.Sets.{before-within, rank-at_most, rank-same, rank-small}
 

@@ -8,7 +8,7 @@ use Rattle.fault_system.proofs.Marks.{Below, stay_or_grow}
 use Rattle.backward_slice.specs.Slices.{HasItsCauses}
 use Rattle.fault_system.proofs.NumberSets.{member-in}
 use Rattle.fault_system.proofs.Occurrences.{occurs-in_range, fact-in_range}
-use Rattle.dependency_blocks.specs.Reach.{AllFrom, IsReach}
+use Rattle.dependency_blocks.specs.inner.Reach.{AllFrom, IsReach}
 use Rattle.dependency_blocks.proofs.Passes.{depends_then, depends_step}
 
 -- the formula of a marked fact is marked

@@ -6,7 +6,7 @@ use lib.ListN.{length-map}
 use Rattle.fault_system.specs.Truth.{Has, member, count_true}
 use Rattle.fault_system.proofs.Marks.{Below, Below-count, stay_or_grow}
 use Rattle.fault_system.proofs.TruthLaws.{count_true-le}
-use Rattle.dependency_blocks.specs.Reach.{comes_before, rank_of}
+use Rattle.dependency_blocks.specs.inner.Reach.{comes_before, rank_of}
 
 -- ---- at the ends of sets
 

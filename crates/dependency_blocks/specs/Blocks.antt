@@ -1,6 +1,5 @@
 -- Blocks of facts that depend on one another.
-use Rattle.std.specs.Prelude.{ℕ, ◌<◌, ◌≤◌, ◌≡◌, ◌↔◌, true, List, length, Contains, count_by, slice_index_or, ◌==◌}
-use Rattle.plain_values.specs.Numbered.{numbers_below}
+use Rattle.std.specs.Prelude.{ℕ, ◌<◌, ◌≤◌, ◌≡◌, ◌↔◌, true, List, Contains, count_by, slice_index_or, ◌==◌}
 use Rattle.fault_system.specs.Truth.{occurs}
 use Rattle.fault_system.specs.Systems.{System, IsFact}
 use Rattle.fault_system.specs.declared.formula.FactInfo.{FactInfo}
@@ -24,7 +23,3 @@ pub record IsBlocks (system : System) (facts : List ℕ) (numbers : BlockNumbers
   pub inside : (n : ℕ) → Contains facts n ↔ (number_of numbers n < 4294967295)
   pub mutual_reach : (n m : ℕ) → Contains facts n → Contains facts m → (number_of numbers n ≡ number_of numbers m) ↔ (DependsOn system n m × DependsOn system m n)
   pub falls : (n m : ℕ) (fact : FactInfo) → Contains facts n → IsFact system n fact → occurs m fact.formula ≡ true → number_of numbers m ≤ number_of numbers n
-
--- the blocks of all facts of a system
-abbrev pub AreAllBlocks : System → BlockNumbers → Type 0
-AreAllBlocks system = IsBlocks system (numbers_below (length system.facts))

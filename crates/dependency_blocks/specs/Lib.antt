@@ -1,4 +1,2 @@
 pub mod Blocks
-pub mod Checks
-pub mod Sizes
-pub mod Reach
+pub mod inner

@@ -1,6 +1,6 @@
 ghost use Rattle.std.specs.Prelude.{◌≡◌, ◌<◌, ◌+◌, ◌^◌, ℕ, IfOk, MatchOption, length, slice_index_or, slice_set};
 ghost use Rattle.dependency_blocks.specs.Blocks.{number_of, size_of};
-ghost use Rattle.dependency_blocks.specs.Sizes.{HaveSizes, AreSmall};
+ghost use Rattle.dependency_blocks.specs.inner.Sizes.{HaveSizes, AreSmall};
 
 use crate::checks::number_at;
 use plain_values::Mem;
@@ -23,7 +23,7 @@ impl Model for Blocks {
 
     ghost view = { λ b. b.numbers.items };
 
-    ghost use Rattle.dependency_blocks.specs.Sizes.{HaveSizes};
+    ghost use Rattle.dependency_blocks.specs.inner.Sizes.{HaveSizes};
 
     ghost invariant = { λ b. HaveSizes b.numbers.items b.sizes.items };
 }

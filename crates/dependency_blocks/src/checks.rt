@@ -4,7 +4,7 @@ ghost use Rattle.std.specs.Prelude.{◌≡◌, ◌≤◌, ◌⊎◌, ℕ, Contai
 ghost use Rattle.std.specs.List.{list_any};
 ghost use Rattle.fault_system.specs.Truth.{Has, member, occurs};
 ghost use Rattle.dependency_blocks.specs.Blocks.{number_of};
-ghost use Rattle.dependency_blocks.specs.Checks.{AreBelow, AreTied, HasMarked, MarksOf, LeadToFirst, ComeFromFirst, Fall, IsLow, leader_of};
+ghost use Rattle.dependency_blocks.specs.inner.Checks.{AreBelow, AreTied, HasMarked, MarksOf, LeadToFirst, ComeFromFirst, Fall, IsLow, leader_of};
 ghost use Rattle.backward_slice.specs.Slices.{DependsOn};
 
 use fault_system::{Bits, FaultSystem, Formula};

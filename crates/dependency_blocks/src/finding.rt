@@ -2,9 +2,10 @@ ghost use Rattle.std.specs.Prelude.{◌≡◌, ◌<◌, ◌⊎◌, ◌^◌, ℕ,
 ghost use Rattle.plain_values.specs.Numbered.{numbers_below};
 ghost use Rattle.fault_system.specs.Truth.{set_of};
 ghost use Rattle.backward_slice.specs.Slices.{HasItsCauses, IsSlice};
-ghost use Rattle.dependency_blocks.specs.Blocks.{AreAllBlocks, IsBlocks, number_of};
-ghost use Rattle.dependency_blocks.specs.Checks.{HasNumbers, IsTable};
-ghost use Rattle.dependency_blocks.specs.Sizes.{AreSmall};
+ghost use Rattle.dependency_blocks.specs.Blocks.{IsBlocks, number_of};
+ghost use Rattle.dependency_blocks.specs.inner.Blocks.{AreAllBlocks};
+ghost use Rattle.dependency_blocks.specs.inner.Checks.{HasNumbers, IsTable};
+ghost use Rattle.dependency_blocks.specs.inner.Sizes.{AreSmall};
 
 use crate::block_table::Blocks;
 use crate::checks::{Way, all_marked, fall, number_at, tied};

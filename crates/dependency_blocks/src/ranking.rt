@@ -2,7 +2,7 @@
 
 ghost use Rattle.std.specs.Prelude.{◌≡◌, ◌<◌, ◌^◌, [], ℕ, All, IfOk, length, map, slice_index_or, true};
 ghost use Rattle.fault_system.specs.Truth.{Has, member};
-ghost use Rattle.dependency_blocks.specs.Reach.{HaveReaches, IsReach, comes_before, rank_of};
+ghost use Rattle.dependency_blocks.specs.inner.Reach.{HaveReaches, IsReach, comes_before, rank_of};
 
 use crate::reach::reach;
 use fault_system::{Bits, FaultSystem};

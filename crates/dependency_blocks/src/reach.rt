@@ -6,7 +6,7 @@ ghost use Rattle.fault_system.specs.Truth.{Has, member, count_true, occurs};
 ghost use Rattle.fault_system.specs.declared.formula.FactInfo.{FactInfo};
 ghost use Rattle.fault_system.specs.Systems.{IsFact};
 ghost use Rattle.backward_slice.specs.Slices.{HasItsCauses};
-ghost use Rattle.dependency_blocks.specs.Reach.{AllFrom, IsReach};
+ghost use Rattle.dependency_blocks.specs.inner.Reach.{AllFrom, IsReach};
 
 use fault_system::{Bits, FaultSystem, Formula};
 use plain_values::Mem;

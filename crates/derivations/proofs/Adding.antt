@@ -4,7 +4,7 @@ use Rattle.std.proofs.lemmas.Bool.{false≢true, eqb-true}
 use Rattle.std.proofs.lemmas.List.Folds.{list_any-append}
 use Rattle.fault_system.specs.Truth.{NumberSet, member, set_of, count_true}
 use Rattle.fault_system.proofs.NumberSets.{count-put, member-set}
-use Rattle.derivations.specs.Reaching.{Adds}
+use Rattle.derivations.specs.inner.Reaching.{Adds}
 use Rattle.derivations.specs.declared.marking.Marking.{Marking}
 
 or_none : (a : Bool) → a ≡ a || false

@@ -8,7 +8,8 @@ use Rattle.std.proofs.lemmas.Option.{slice_get-get_or, slice_get_cases, slice_ge
 use Rattle.plain_values.specs.Rising.{RisesWithin}
 use Rattle.fault_system.specs.Truth.{NumberSet, Has, set_of, truth, occurs, occurs_event}
 use Rattle.fault_system.specs.Systems.{System, IsSystem}
-use Rattle.fault_system.specs.Rounds.{AreRounds, FitsTime, time_of, within}
+use Rattle.fault_system.specs.Rounds.{AreRounds, time_of}
+use Rattle.fault_system.specs.inner.Rounds.{FitsTime, within}
 use Rattle.fault_system.specs.declared.formula.FactInfo.{FactInfo}
 use Rattle.fault_system.specs.declared.formula.Formula.{Formula}
 use Rattle.fault_system.proofs.NumberSets.{list_all-made}
@@ -18,7 +19,7 @@ use Rattle.derivations.specs.declared.derivation.Firing.{Firing}
 use Rattle.derivations.specs.Steps.{IsGood, facts_of, is_made_true, is_of, is_right}
 use Rattle.derivations.specs.Text.{HasLine, HaveLines, event_names, fact_names}
 use Rattle.derivations.specs.Derived.{IsDerivation, IsReached, comes_before, is_used_by, numbers_in, of_formula, uses_event, uses_fact}
-use Rattle.derivations.specs.Ordered.{place_at}
+use Rattle.derivations.specs.inner.Ordered.{place_at}
 use Rattle.fault_system.specs.declared.formula.EventInfo.{EventInfo}
 use Rattle.derivations.proofs.Numbers.{none-some}
 use Rattle.derivations.proofs.NumbersIn.{at-found, found-at, numbers-all, numbers-in, numbers-rise, rises-below}

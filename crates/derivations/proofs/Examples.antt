@@ -10,7 +10,7 @@ use Rattle.fault_system.proofs.TruthLaws.{truth-True, truth-And, truth-Or, truth
 use Rattle.derivations.specs.declared.derivation.Firing.{Firing}
 use Rattle.derivations.specs.Steps.{AreRight, IsGood, IsFirstWrong, HasWrongEnd, is_right_at}
 use Rattle.derivations.specs.Text.{behind_blanks, event_names, fact_names, lines_of}
-use Rattle.derivations.specs.Reading.{step_of}
+use Rattle.derivations.specs.inner.Reading.{step_of}
 use Rattle.derivations.proofs.Sound.{good-holds}
 
 abbrev a_fact : List ℕ → Formula → FactInfo

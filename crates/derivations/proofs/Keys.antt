@@ -10,7 +10,7 @@ use Rattle.fault_system.specs.Truth.{Has, member, set_of}
 use Rattle.fault_system.specs.Rounds.{time_of}
 use Rattle.fault_system.proofs.NumberSets.{member-in}
 use Rattle.derivations.specs.Derived.{comes_before}
-use Rattle.derivations.specs.Ordered.{AreKeys, IsOrder, key_of, place_at}
+use Rattle.derivations.specs.inner.Ordered.{AreKeys, IsOrder, key_of, place_at}
 use Rattle.derivations.proofs.NumbersIn.{at-found, set_of-map_from, set_of-mapped}
 
 pub keys-none : (rounds : List ℕ) (marks : List Bool) → AreKeys rounds marks 0 []

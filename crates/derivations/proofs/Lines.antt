@@ -10,8 +10,9 @@ use Rattle.fault_system.specs.Truth.{NumberSet}
 use Rattle.fault_system.specs.Systems.{NamesDiffer}
 use Rattle.plain_values.specs.Rising.{RisesWithin}
 use Rattle.derivations.specs.declared.derivation.Firing.{Firing}
-use Rattle.derivations.specs.Text.{name_at, use_text, is_line_name, is_plain, behind_blanks, later_words, line_of, HasLine, AreLineNames}
-use Rattle.derivations.specs.Reading.{Items, Words, no_items, begins_use, cut, place_of, use_of, with_event, with_use, with_word, with_words, step_with, step_of_fact, step_of_words, step_of}
+use Rattle.derivations.specs.Text.{name_at, use_text, behind_blanks, later_words, line_of, HasLine}
+use Rattle.derivations.specs.inner.Text.{is_line_name, is_plain, AreLineNames}
+use Rattle.derivations.specs.inner.Reading.{Items, Words, no_items, begins_use, cut, place_of, use_of, with_event, with_use, with_word, with_words, step_with, step_of_fact, step_of_words, step_of}
 use Rattle.derivations.proofs.Words.{AreUnblank, unblank, cut-words, cut-joined}
 use Rattle.std.proofs.lemmas.Fmt.{decimal_by_steps}
 use Rattle.std.proofs.lemmas.List.Folds.{list_all-append}

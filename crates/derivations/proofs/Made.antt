@@ -9,8 +9,8 @@ use Rattle.fault_system.specs.declared.formula.FactInfo.{FactInfo}
 use Rattle.fault_system.proofs.Occurrences.{occurs_event-in_range, fact-in_range}
 use Rattle.derivations.specs.declared.derivation.Firing.{Firing}
 use Rattle.derivations.specs.Derived.{IsDerivation, IsReached, comes_before, is_used_by, of_formula, uses_event, uses_fact}
-use Rattle.derivations.specs.Reaching.{AreReached}
-use Rattle.derivations.specs.Ordered.{HasSteps, IsMade, IsOrder, place_at}
+use Rattle.derivations.specs.inner.Reaching.{AreReached}
+use Rattle.derivations.specs.inner.Ordered.{HasSteps, IsMade, IsOrder, place_at}
 use Rattle.derivations.proofs.NumbersIn.{are-numbers, at-found, found-at}
 
 -- an event that occurs in the formula of a fact is one of the system

@@ -7,7 +7,7 @@ use Rattle.std.proofs.lemmas.Slice.Eq.{bytes_eq-Decides}
 use Rattle.std.specs.Str.{IsUtf8}
 use Rattle.std.specs.Str.Parse.{ParsesUnsigned}
 use Rattle.plain_values.specs.Name.{is_same_text}
-use Rattle.derivations.specs.Reading.{use_of}
+use Rattle.derivations.specs.inner.Reading.{use_of}
 
 abbrev pub IsNone32 : List ℕ → Type 0
 IsNone32 digits = (n : ℕ) → n < 2 ^ 32 → digits ≡ decimal n → ⊥

@@ -11,7 +11,7 @@ use Rattle.plain_values.specs.Rising.{RisesWithin}
 use Rattle.fault_system.specs.Truth.{NumberSet, Has, set_of}
 use Rattle.fault_system.proofs.NumberSets.{RisesWithin-at, RisesWithin-filter, contained-in_set, same_rising, set_of-cases, set_of-contained, set_of-filter, set_of-first, set_of-rest}
 use Rattle.derivations.specs.Derived.{numbers_in}
-use Rattle.derivations.specs.Ordered.{place_at}
+use Rattle.derivations.specs.inner.Ordered.{place_at}
 
 -- where a number of a list stands
 pub found-at : (xs : List ℕ) (n : ℕ) → Has (set_of xs) n → (k : ℕ) × (k < length xs) × (place_at xs k ≡ n)

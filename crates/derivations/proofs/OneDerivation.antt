@@ -8,7 +8,8 @@ use Rattle.fault_system.specs.Rounds.{AreRounds, IsRoundOf, time_of}
 use Rattle.fault_system.proofs.HoldsLaws.{round-least}
 use Rattle.derivations.specs.declared.derivation.Firing.{Firing}
 use Rattle.derivations.specs.Derived.{IsByRounds, IsDerivation, comes_before, is_used_by, numbers_in, uses_event, uses_fact}
-use Rattle.derivations.specs.Text.{AreLineNames, IsBadAt, IsTextOf, line_of, lines_of}
+use Rattle.derivations.specs.Text.{IsBadAt, IsTextOf, line_of, lines_of}
+use Rattle.derivations.specs.inner.Text.{AreLineNames}
 use Rattle.derivations.proofs.NumbersIn.{found-at}
 use Rattle.derivations.proofs.Keys.{comes-parts}
 use Rattle.derivations.proofs.Unique.{Follows, follows, never-bad, only-steps}

@@ -8,8 +8,9 @@ use mathlib.Core.List.{append-nil}
 use Rattle.fault_system.specs.Truth.{NumberSet}
 use Rattle.fault_system.specs.Systems.{NamesDiffer}
 use Rattle.derivations.specs.declared.derivation.Firing.{Firing}
-use Rattle.derivations.specs.Text.{line_of, lines_of, HasLine, HaveLines, AreLineNames, IsBadAt, IsTextOf}
-use Rattle.derivations.specs.Reading.{step_of}
+use Rattle.derivations.specs.Text.{line_of, lines_of, HasLine, HaveLines, IsBadAt, IsTextOf}
+use Rattle.derivations.specs.inner.Text.{AreLineNames}
+use Rattle.derivations.specs.inner.Reading.{step_of}
 use Rattle.derivations.proofs.Numbers.{none-some}
 use Rattle.derivations.proofs.Lines.{unfed, line-unfed, line-again, line-sound, fed-at, take-front}
 

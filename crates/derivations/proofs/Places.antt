@@ -5,8 +5,9 @@ use Rattle.std.proofs.lemmas.List.{drop-drop}
 use Rattle.std.specs.List.{prefix_len}
 use Rattle.fault_system.specs.Truth.{NumberSet}
 use Rattle.derivations.specs.declared.derivation.Firing.{Firing}
-use Rattle.derivations.specs.Text.{line_of, lines_of, HaveLines, AreLineNames}
-use Rattle.derivations.specs.Reading.{line_place}
+use Rattle.derivations.specs.Text.{line_of, lines_of, HaveLines}
+use Rattle.derivations.specs.inner.Text.{AreLineNames}
+use Rattle.derivations.specs.inner.Reading.{line_place}
 use Rattle.derivations.proofs.Lines.{unfed, line-unfed, fed-at}
 use Rattle.derivations.proofs.Unique.{after-feed}
 

@@ -7,7 +7,7 @@ use Rattle.fault_system.specs.Systems.{System}
 use Rattle.fault_system.specs.Rounds.{time_of}
 use Rattle.fault_system.proofs.NumberSets.{member-in}
 use Rattle.derivations.specs.Derived.{uses_fact}
-use Rattle.derivations.specs.Reaching.{Adds, AreReached, IsReaching}
+use Rattle.derivations.specs.inner.Reaching.{Adds, AreReached, IsReaching}
 use Rattle.derivations.specs.declared.marking.Marking.{Marking}
 
 -- a number that has a time is one of the table

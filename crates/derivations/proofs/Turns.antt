@@ -8,7 +8,7 @@ use Rattle.derivations.proofs.Numbers.{same-of, of-same}
 use Rattle.std.specs.Option.{option_and_then}
 use Rattle.std.specs.List.{slice_range}
 use Rattle.fault_system.specs.Truth.{NumberSet}
-use Rattle.derivations.specs.Reading.{Items, cut, one_more, words_behind, place_of, with_word, with_words, step_of_fact, step_of_words, step_of}
+use Rattle.derivations.specs.inner.Reading.{Items, cut, one_more, words_behind, place_of, with_word, with_words, step_of_fact, step_of_words, step_of}
 
 turn : (line : List ℕ) (at : ℕ) → at < length line → words_behind (drop at line) ≡ one_more (cut (drop (suc at) line))
 turn [] at l = absurd (omega arith)

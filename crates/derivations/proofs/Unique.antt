@@ -4,8 +4,9 @@ use Rattle.std.specs.List.{list_all, prefix_len}
 use Rattle.fault_system.specs.Truth.{NumberSet}
 use Rattle.fault_system.specs.Systems.{NamesDiffer}
 use Rattle.derivations.specs.declared.derivation.Firing.{Firing}
-use Rattle.derivations.specs.Text.{line_of, lines_of, HasLine, HaveLines, AreLineNames, IsBadAt, IsTextOf}
-use Rattle.derivations.specs.Reading.{step_of}
+use Rattle.derivations.specs.Text.{line_of, lines_of, HasLine, HaveLines, IsBadAt, IsTextOf}
+use Rattle.derivations.specs.inner.Text.{AreLineNames}
+use Rattle.derivations.specs.inner.Reading.{step_of}
 use Rattle.derivations.proofs.Numbers.{some-same}
 use Rattle.derivations.proofs.Lines.{unfed, line-unfed, line-again, fed-at, take-front}
 

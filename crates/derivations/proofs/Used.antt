@@ -5,7 +5,7 @@ use Rattle.std.proofs.lemmas.List.Elements.{All-push}
 use Rattle.fault_system.specs.Truth.{NumberSet, Has, set_of}
 use Rattle.fault_system.specs.Systems.{System}
 use Rattle.derivations.specs.declared.derivation.Firing.{Firing}
-use Rattle.derivations.specs.Ordered.{AreMade, IsMade, place_at}
+use Rattle.derivations.specs.inner.Ordered.{AreMade, IsMade, place_at}
 use Rattle.derivations.proofs.NumbersIn.{set_of-map_from, set_of-mapped}
 
 module _ (places used slice numbers list : List ℕ) (set : NumberSet) (sliced : slice ≡ used) (is : (n : ℕ) → set_of used n ≡ set n) (mapped : numbers ≡ map (place_at places) slice) (same : (n : ℕ) → set_of list n ≡ set_of numbers n) where

@@ -5,7 +5,8 @@ use Rattle.fault_system.specs.Systems.{System, IsSystem, Holds}
 use Rattle.fault_system.specs.Rounds.{time_of}
 use Rattle.fault_system.proofs.RoundLaws.{ever-holds}
 use Rattle.derivations.specs.declared.derivation.Firing.{Firing}
-use Rattle.derivations.specs.Text.{IsConfirmed, event_names, fact_names, line_of, lines_of}
+use Rattle.derivations.specs.Text.{event_names, fact_names, line_of, lines_of}
+use Rattle.derivations.specs.inner.Text.{IsConfirmed}
 use Rattle.derivations.specs.Derived.{IsByRounds}
 use Rattle.derivations.proofs.ByRounds.{derivation-good, derivation-lines}
 

@@ -4,7 +4,7 @@ use Rattle.std.proofs.lemmas.Bool.{false≢true, eqb-true, and_parts}
 use Rattle.std.specs.List.{prefix_len, list_all, slice_range, AllByRecursion}
 use Rattle.std.proofs.lemmas.List.{drop-drop}
 use Rattle.derivations.specs.Text.{behind_blanks}
-use Rattle.derivations.specs.Reading.{Words, cut, one_more, words_behind}
+use Rattle.derivations.specs.inner.Reading.{Words, cut, one_more, words_behind}
 
 -- a byte that is no blank
 abbrev pub unblank : ℕ → Bool

@@ -1,8 +1,4 @@
 pub mod Steps
-pub mod Marked
 pub mod Text
-pub mod Reading
 pub mod Derived
-pub mod Gathered
-pub mod Reaching
-pub mod Ordered
+pub mod inner

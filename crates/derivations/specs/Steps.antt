@@ -5,8 +5,6 @@ use Rattle.fault_system.specs.Truth.{NumberSet, set_of, truth}
 use Rattle.fault_system.specs.Systems.{System}
 use Rattle.fault_system.specs.declared.formula.FactInfo.{FactInfo}
 use Rattle.derivations.specs.declared.derivation.Firing.{Firing}
-use Rattle.derivations.specs.declared.derivation.Finding.{Finding}
-use Rattle.derivations.specs.declared.derivation.Finding.TheVariants.{Good, Wrong, WrongEnd}
 
 -- whether there is a step, and it is of this fact
 abbrev pub is_of : ℕ → Option Firing → Bool
@@ -62,9 +60,3 @@ pub record IsFirstWrong (system : System) (events : NumberSet) (steps : List Fir
 pub record HasWrongEnd (system : System) (target : ℕ) (events : NumberSet) (steps : List Firing) : Type 0 where
   pub right : AreRight system events steps (length steps)
   pub end : ends_with steps target ≡ false
-
--- what is found of a derivation
-abbrev pub IsFinding : System → ℕ → NumberSet → List Firing → Finding → Type 0
-IsFinding system target events steps Good = IsGood system target events steps
-IsFinding system target events steps (Wrong number) = IsFirstWrong system events steps number
-IsFinding system target events steps WrongEnd = HasWrongEnd system target events steps

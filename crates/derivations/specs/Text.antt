@@ -1,11 +1,10 @@
 -- The text of a derivation: a line for each step.
-use Rattle.std.specs.Prelude.{ℕ, ◌+◌, ◌<◌, ◌≤◌, ◌≡◌, ◌==◌, ◌&&◌, not, Bool, true, false, List, [], ◌∷◌, ◌++◌, length, map, decimal, slice_index_or}
+use Rattle.std.specs.Prelude.{ℕ, ◌+◌, ◌<◌, ◌≡◌, true, List, [], ◌∷◌, ◌++◌, length, map, decimal, slice_index_or}
 use Rattle.std.specs.List.{flat_map, list_all}
 use Rattle.plain_values.specs.Rising.{RisesWithin}
 use Rattle.fault_system.specs.Truth.{NumberSet}
 use Rattle.fault_system.specs.Systems.{System}
 use Rattle.derivations.specs.declared.derivation.Firing.{Firing}
-use Rattle.derivations.specs.Steps.{IsGood}
 
 -- the names of the facts of a system, in their order
 abbrev pub fact_names : System → List (List ℕ)
@@ -56,19 +55,6 @@ HaveLines facts names events number [] = Unit {0}
 HaveLines facts names events number (step ∷ steps) =
     HasLine facts names events number step × HaveLines facts names events (number + 1) steps
 
--- neither a blank nor a line feed
-abbrev pub is_plain : ℕ → Bool
-is_plain byte = not (byte == 32) && not (byte == 10)
-
--- a name that can stand in a line: it is not empty, does not begin with `#`, and has no blank and no line feed
-abbrev pub is_line_name : List ℕ → Bool
-is_line_name [] = false
-is_line_name (byte ∷ bytes) = not (byte == 35) && list_all is_plain (byte ∷ bytes)
-
--- each of these names can stand in a line
-abbrev pub AreLineNames : List (List ℕ) → Type 0
-AreLineNames names = (n : ℕ) → n < length names → is_line_name (name_at names n) ≡ true
-
 -- a text is that of steps that have lines
 pub record IsTextOf (facts names : List (List ℕ)) (events : NumberSet) (bytes : List ℕ) (steps : List Firing) : Type 0 where
   pub lines : HaveLines facts names events 0 steps
@@ -85,9 +71,3 @@ pub record IsBadAt (facts names : List (List ℕ)) (events : NumberSet) (bytes :
   pub some : 0 < length rest
   pub bad : (step : Firing) (more : List ℕ) → HasLine facts names events (length steps) step
       → rest ≡ line_of facts names (length steps) step ++ (10 ∷ more) → ⊥
-
--- a text is that of a good derivation of a target, whose steps are no more than its bytes
-pub record IsConfirmed (system : System) (target : ℕ) (events : NumberSet) (bytes : List ℕ) (steps : List Firing) : Type 0 where
-  pub text : IsTextOf (fact_names system) (event_names system) events bytes steps
-  pub good : IsGood system target events steps
-  pub few : length steps ≤ length bytes

@@ -7,7 +7,7 @@ ghost use Rattle.fault_system.specs.Rounds.{AreRounds, time_of};
 ghost use Rattle.derivations.specs.Steps.{IsGood};
 ghost use Rattle.derivations.specs.Text.{HaveLines, event_names, fact_names};
 ghost use Rattle.derivations.specs.Derived.{IsByRounds, IsDerivation, uses_event, uses_fact};
-ghost use Rattle.derivations.specs.Ordered.{AreMade, HasSteps, IsMade, place_at};
+ghost use Rattle.derivations.specs.inner.Ordered.{AreMade, HasSteps, IsMade, place_at};
 
 use crate::derivation::{Derivation, Firing};
 use crate::gathering::{gather_events, round_of};

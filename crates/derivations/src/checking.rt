@@ -2,8 +2,9 @@ ghost use Rattle.std.specs.Prelude.{◌≡◌, ◌<◌, ◌↔◌, ◌^◌, ℕ,
 ghost use Rattle.std.specs.List.{list_all};
 ghost use Rattle.fault_system.specs.Truth.{member, set_of};
 ghost use Rattle.fault_system.specs.Systems.{Holds};
-ghost use Rattle.derivations.specs.Steps.{AreRight, HasWrongEnd, IsFinding, IsFirstWrong, IsGood, ends_with, facts_of, is_made_true, is_right_step};
-ghost use Rattle.derivations.specs.Marked.{IsBlank};
+ghost use Rattle.derivations.specs.Steps.{AreRight, HasWrongEnd, IsFirstWrong, IsGood, ends_with, facts_of, is_made_true, is_right_step};
+ghost use Rattle.derivations.specs.inner.Steps.{IsFinding};
+ghost use Rattle.derivations.specs.inner.Marked.{IsBlank};
 
 use crate::derivation::{Derivation, Finding, Firing};
 use crate::given::{Given, is_true};

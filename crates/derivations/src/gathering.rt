@@ -5,7 +5,7 @@ ghost use Rattle.plain_values.specs.Rising.{RisesWithin};
 ghost use Rattle.fault_system.specs.Truth.{Has, member, occurs, occurs_event, set_of};
 ghost use Rattle.fault_system.specs.Rounds.{time_of};
 ghost use Rattle.derivations.specs.Derived.{is_before_round};
-ghost use Rattle.derivations.specs.Gathered.{HasMore};
+ghost use Rattle.derivations.specs.inner.Gathered.{HasMore};
 
 use fault_system::{Bits, Formula};
 use plain_values::Mem;

@@ -5,7 +5,7 @@ ghost use Rattle.std.specs.Prelude.{◌≡◌, map, nat_le, slice_get};
 ghost use Rattle.std.specs.List.{list_all, list_any};
 ghost use Rattle.fault_system.specs.Truth.{count_true, set_of, truth};
 ghost use Rattle.derivations.specs.Steps.{facts_of, is_of};
-ghost use Rattle.derivations.specs.Marked.{AreMarked};
+ghost use Rattle.derivations.specs.inner.Marked.{AreMarked};
 
 use crate::derivation::Firing;
 use fault_system::Formula;

@@ -5,7 +5,8 @@ ghost use Rattle.fault_system.specs.Truth.{NumberSet};
 ghost use Rattle.fault_system.specs.Systems.{System, Holds, IsSystem, NamesDiffer};
 ghost use Rattle.derivations.specs.declared.derivation.Firing.{Firing};
 ghost use Rattle.derivations.specs.Derived.{IsByRounds};
-ghost use Rattle.derivations.specs.Text.{AreLineNames, IsBadAt, IsConfirmed, IsTextOf, event_names, fact_names, lines_of};
+ghost use Rattle.derivations.specs.Text.{IsBadAt, IsTextOf, event_names, fact_names, lines_of};
+ghost use Rattle.derivations.specs.inner.Text.{AreLineNames, IsConfirmed};
 
 /// The text of the derivation by rounds of a target that holds is the text of a good derivation, and of no more steps than
 /// it has bytes. So `read_steps` gives these steps, and `check_derivation` finds them good.

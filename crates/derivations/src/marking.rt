@@ -4,7 +4,7 @@ ghost use Rattle.fault_system.specs.Truth.{count_true, set_of};
 ghost use Rattle.fault_system.specs.Systems.{IsSystem};
 ghost use Rattle.fault_system.specs.Rounds.{time_of};
 ghost use Rattle.derivations.specs.Derived.{uses_fact};
-ghost use Rattle.derivations.specs.Reaching.{Adds, AreReached, IsReaching};
+ghost use Rattle.derivations.specs.inner.Reaching.{Adds, AreReached, IsReaching};
 
 use crate::gathering::{gather_facts, round_of};
 use fault_system::{Bits, FaultSystem};

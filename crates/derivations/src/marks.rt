@@ -2,7 +2,7 @@
 ghost use Rattle.std.specs.Prelude.{◌≡◌, ◌<◌, ◌==◌, ℕ, cond, length, slice_get};
 ghost use Rattle.fault_system.specs.Truth.{member, set_of};
 ghost use Rattle.derivations.specs.Steps.{facts_of, is_of};
-ghost use Rattle.derivations.specs.Marked.{IsBlank, IsMarked};
+ghost use Rattle.derivations.specs.inner.Marked.{IsBlank, IsMarked};
 
 use crate::derivation::Firing;
 

@@ -2,7 +2,7 @@
 ghost use Rattle.std.specs.Prelude.{◌≡◌, ◌+◌, ◌<◌, ◌^◌, ◌%◌, ◌++◌, ◌∷◌, [], ℕ, IfOk, OnOk, cond, length, map, replicate, slice_index_or};
 ghost use Rattle.std.specs.List.Sorted.{IsStrictlyIncreasing};
 ghost use Rattle.fault_system.specs.Truth.{set_of};
-ghost use Rattle.derivations.specs.Ordered.{AreKeys, ArePlaces, IsOrder, key_of, place_at};
+ghost use Rattle.derivations.specs.inner.Ordered.{AreKeys, ArePlaces, IsOrder, key_of, place_at};
 
 use crate::gathering::round_of;
 use fault_system::Bits;

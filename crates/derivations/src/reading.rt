@@ -1,6 +1,6 @@
 //! Reading the lines of a derivation.
 ghost use Rattle.std.specs.Prelude.{◌≡◌, ◌+◌, ◌<◌, ◌≤◌, ◌^◌, ◌==◌, ◌↔◌, not, ℕ, IsTrue, MatchOption, IfOk, IfSome, cond, decimal, drop, length, slice_range};
-ghost use Rattle.derivations.specs.Reading.{begins_use, cut, no_items, step_of, step_of_fact, step_of_words, step_with, use_of, with_event, with_use, with_word, with_words, words_behind};
+ghost use Rattle.derivations.specs.inner.Reading.{begins_use, cut, no_items, step_of, step_of_fact, step_of_words, step_with, use_of, with_event, with_use, with_word, with_words, words_behind};
 ghost use Rattle.std.specs.List.{prefix_len};
 ghost use Rattle.fault_system.specs.Truth.{member};
 
@@ -79,7 +79,7 @@ struct Items {
 }
 
 impl Model for Items {
-    ghost use Rattle.derivations.specs.Reading.{Items as Read};
+    ghost use Rattle.derivations.specs.inner.Reading.{Items as Read};
 
     ghost Value = { Read };
 

@@ -3,8 +3,9 @@ ghost use Rattle.std.specs.Prelude.{◌≡◌, ◌+◌, ◌<◌, ◌≤◌, ◌^
 ghost use Rattle.std.specs.List.{prefix_len};
 ghost use Rattle.fault_system.specs.Truth.{NumberSet, member};
 ghost use Rattle.fault_system.specs.Systems.{NamesDiffer};
-ghost use Rattle.derivations.specs.Reading.{line_place};
-ghost use Rattle.derivations.specs.Text.{AreLineNames, IsBadAt, IsTextOf, event_names, fact_names, lines_of};
+ghost use Rattle.derivations.specs.inner.Reading.{line_place};
+ghost use Rattle.derivations.specs.Text.{IsBadAt, IsTextOf, event_names, fact_names, lines_of};
+ghost use Rattle.derivations.specs.inner.Text.{AreLineNames};
 
 use crate::derivation::{Derivation, Firing};
 use crate::reading::read_line;

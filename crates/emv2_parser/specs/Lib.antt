@@ -7,4 +7,4 @@ pub mod Machines
 pub mod Propagations
 pub mod Behavior
 pub mod Grammar
-pub mod Takes
+pub mod inner

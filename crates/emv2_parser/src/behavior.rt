@@ -1,5 +1,5 @@
 ghost use Rattle.std.specs.Prelude.{◌≡◌, [], ◌∷◌, ◌++◌};
-ghost use Rattle.grammar_rules.specs.Reader.{Gives, given};
+ghost use Rattle.grammar_rules.specs.inner.Reader.{Gives, given};
 ghost use Rattle.grammar_rules.specs.Rules.{chooses};
 ghost use Rattle.grammar_rules.specs.Tokens.{is_one_of};
 ghost use Rattle.emv2_parser.specs.Words.{is_name, point_words, begins_source, begins_composite, component_words};
@@ -12,7 +12,7 @@ ghost use Rattle.emv2_parser.specs.Behavior.{composite_condition, composite_rule
 ghost use Rattle.emv2_parser.specs.Behavior.{clause_composites, connection_errors, clause_connection, last_word, end_names, path_end};
 ghost use Rattle.emv2_parser.specs.Behavior.{user_point, path_ends, user_path, clause_user_point, clause_user_path, user_item, user_items};
 ghost use Rattle.emv2_parser.specs.Behavior.{paths_head, clause_paths};
-ghost use Rattle.emv2_parser.specs.Takes.{outgoing-takes, composite-takes, component_block-takes, user_item-takes};
+ghost use Rattle.emv2_parser.specs.inner.Takes.{outgoing-takes, composite-takes, component_block-takes, user_item-takes};
 
 use crate::conditions::whole_condition;
 use crate::machines::{events_after, source, transitions_after, use_transformations};

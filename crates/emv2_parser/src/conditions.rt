@@ -1,5 +1,5 @@
 ghost use Rattle.std.specs.Prelude.{◌≡◌, [], ◌∷◌, codes};
-ghost use Rattle.grammar_rules.specs.Reader.{Gives};
+ghost use Rattle.grammar_rules.specs.inner.Reader.{Gives};
 ghost use Rattle.grammar_rules.specs.Parts.{parts_after};
 ghost use Rattle.grammar_rules.specs.Tokens.{is_sign, is_word};
 ghost use Rattle.emv2_parser.specs.Conditions.{inward, atom, bound, further_condition, condition_list, counted, enclosed, primary, and_primary, conjunction, or_conjunction, disjunction, condition_within, whole_condition};

@@ -1,5 +1,5 @@
 ghost use Rattle.std.specs.Prelude.{◌≡◌, [], ◌∷◌, codes};
-ghost use Rattle.grammar_rules.specs.Reader.{Gives, given};
+ghost use Rattle.grammar_rules.specs.inner.Reader.{Gives, given};
 ghost use Rattle.grammar_rules.specs.Tokens.{is_sign, is_one_of};
 ghost use Rattle.emv2_parser.specs.Words.{is_name, begins_source, machine_words};
 ghost use Rattle.emv2_parser.specs.Machines.{error_event, recovery_kind, recovery_event, event_words, event, events_after, initial};
@@ -9,7 +9,7 @@ ghost use Rattle.emv2_parser.specs.Machines.{transition_effect, transition, tran
 ghost use Rattle.emv2_parser.specs.Machines.{machine_uses, machine_transforms, machine_events, machine_states, machine_transitions};
 ghost use Rattle.emv2_parser.specs.Machines.{machine_properties, machine_use, machine_other, machine_block, machine_blocks};
 ghost use Rattle.emv2_parser.specs.Machines.{machine_extends, machine_head, machine};
-ghost use Rattle.emv2_parser.specs.Takes.{event-takes, state-takes, transition-takes, further_branch-takes, machine_block-takes};
+ghost use Rattle.emv2_parser.specs.inner.Takes.{event-takes, state-takes, transition-takes, further_branch-takes, machine_block-takes};
 
 use crate::conditions::whole_condition;
 use crate::names::{

@@ -1,11 +1,11 @@
 ghost use Rattle.std.specs.Prelude.{◌≡◌, [], ◌∷◌, ◌++◌, codes};
-ghost use Rattle.grammar_rules.specs.Reader.{Gives, given};
+ghost use Rattle.grammar_rules.specs.inner.Reader.{Gives, given};
 ghost use Rattle.grammar_rules.specs.Rules.{chooses};
 ghost use Rattle.grammar_rules.specs.Tokens.{is_sign, is_one_of};
 ghost use Rattle.emv2_parser.specs.Words.{is_name, point_words};
 ghost use Rattle.grammar_rules.specs.Tokens.{spot};
 ghost use Rattle.emv2_parser.specs.Names.{further_name, names, reference, further_reference, references_after, use_types_after, block_end, condition_open, condition_close, dotted_name, dotted_names, point_word, point, factor, product, set_term, further_term, type_set, optional_set, flow_end, state_reference, label};
-ghost use Rattle.emv2_parser.specs.Takes.{further_name-takes, further_reference-takes, dotted_name-takes, factor-takes, further_term-takes};
+ghost use Rattle.emv2_parser.specs.inner.Takes.{further_name-takes, further_reference-takes, dotted_name-takes, factor-takes, further_term-takes};
 
 use crate::words::{error_name, name_at, point_name, point_word_at};
 use aadl_syntax::{Identifier, PointRef, Ref, StateRef, Term, TypeSet};

@@ -1,8 +1,8 @@
 ghost use Rattle.std.specs.Prelude.{◌≡◌, [], ◌∷◌};
-ghost use Rattle.grammar_rules.specs.Reader.{Gives, given};
+ghost use Rattle.grammar_rules.specs.inner.Reader.{Gives, given};
 ghost use Rattle.emv2_parser.specs.Words.{is_name, begins_point};
 ghost use Rattle.emv2_parser.specs.Propagations.{negation, outward, direction, propagation_words, point_item, when_part, source_state, source_flow, sink_flow, flow_mappings, path_target, path_flow, flow_kind, flow_words, flow, flows_after, points_after, propagations_head, clause_propagations};
-ghost use Rattle.emv2_parser.specs.Takes.{point_item-takes, flow-takes};
+ghost use Rattle.emv2_parser.specs.inner.Takes.{point_item-takes, flow-takes};
 
 use crate::names::{FlowEnd, block_end, flow_end, names, point, state_reference, type_set};
 use crate::words::{error_name, name_at, point_at};

@@ -1,11 +1,11 @@
 ghost use Rattle.std.specs.Prelude.{◌≡◌, [], ◌∷◌, ◌||◌, IfOk, codes};
-ghost use Rattle.grammar_rules.specs.Reader.{Gives, Begins, given};
+ghost use Rattle.grammar_rules.specs.inner.Reader.{Gives, Begins, given};
 ghost use Rattle.grammar_rules.specs.Spans.{closes};
-ghost use Rattle.aadl_syntax.specs.Token.{shown};
+ghost use Rattle.aadl_syntax.specs.inner.Token.{shown};
 ghost use Rattle.grammar_rules.specs.Tokens.{is_sign, is_word};
 ghost use Rattle.emv2_parser.specs.Words.{is_name};
 ghost use Rattle.emv2_parser.specs.Properties.{begins_value, value, arrow, begins_step, path_sign, path_step, path_steps, further_targets, no_path, with_name, with_dot, with_sign, with_target, whole_path, target_after, further_target, applied_targets, targets, assigned_value, association, properties_after};
-ghost use Rattle.emv2_parser.specs.Takes.{path_step-takes, further_target-takes, association-takes};
+ghost use Rattle.emv2_parser.specs.inner.Takes.{path_step-takes, further_target-takes, association-takes};
 
 use crate::names::names;
 use crate::words::{error_name, name_at, point_at, point_name, point_word_at};

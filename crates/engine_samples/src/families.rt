@@ -1,5 +1,5 @@
 ghost use Rattle.std.specs.Prelude.{◌+◌, ◌<◌, ◌^◌, IfOk};
-ghost use Rattle.zdd_store.specs.Store.{IsIn, Keeps};
+ghost use Rattle.zdd_store.specs.inner.Store.{IsIn, Keeps};
 
 use plain_values::Mem;
 use std::alloc::Global;

@@ -1,6 +1,6 @@
 ghost use Rattle.std.specs.Prelude.{◌≡◌, Some, option_copied, position, slice_get};
 ghost use Rattle.package_index.specs.Lookup.{package_meant};
-ghost use Rattle.package_index.specs.Names.{names_of};
+ghost use Rattle.package_index.specs.inner.Names.{names_of};
 ghost use Rattle.error_behavior.specs.Machines.{find_machine, is_machine_named, look_machine, machine_at, machine_by, machine_in, machine_meant, machine_of, machine_or};
 
 use aadl_syntax::{MachineDecl, Ref};

@@ -13,8 +13,8 @@ use Rattle.plain_values.specs.declared.refusal.Stop.{Stop}
 use Rattle.plain_values.specs.declared.refusal.Stop.TheVariants.{Memory, Refused}
 use Rattle.package_index.specs.declared.id.ClassifierId.{ClassifierId}
 use Rattle.instantiator.specs.declared.kinds.Kind.{Kind}
-use Rattle.plain_values.specs.Stops.{StopsAt}
-use Rattle.instantiator.specs.Tables.{kind_of}
+use Rattle.plain_values.specs.inner.Stops.{StopsAt}
+use Rattle.instantiator.specs.inner.Tables.{kind_of}
 use Rattle.error_models.specs.Refused.{first_of}
 
 -- what is made of kinds is made of their classifiers

@@ -1,4 +1,4 @@
 pub mod Below
 pub mod Models
 pub mod Refused
-pub mod Trees
+pub mod inner

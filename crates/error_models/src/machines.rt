@@ -1,6 +1,6 @@
 ghost use Rattle.std.specs.Prelude.{◌≡◌, None, Some, IfErr, IfOk, MatchResult, OnOk, map};
 ghost use Rattle.error_behavior.specs.Machines.{find_machine};
-ghost use Rattle.plain_values.specs.Stops.{StopsAt};
+ghost use Rattle.plain_values.specs.inner.Stops.{StopsAt};
 ghost use Rattle.error_models.specs.Below.{kind_machine, machine_of};
 ghost use Rattle.error_models.specs.Refused.{fault_of, machines_refusal};
 

@@ -6,7 +6,7 @@ ghost use Rattle.error_flows.specs.Flows.{all_flow_refusals, flows_of};
 ghost use Rattle.error_behavior.specs.Behavior.{behavior_refusals, behavior_of};
 ghost use Rattle.error_behavior.specs.States.{states_of};
 ghost use Rattle.composite_states.specs.Composites.{clauses_of, composite_clause_refusals};
-ghost use Rattle.plain_values.specs.Stops.{StopsAt};
+ghost use Rattle.plain_values.specs.inner.Stops.{StopsAt};
 ghost use Rattle.error_models.specs.Below.{kind_machine, states_below};
 ghost use Rattle.error_models.specs.Models.{is_composite, model_of, model_with};
 ghost use Rattle.error_models.specs.Refused.{models_refusal, refusal_with};

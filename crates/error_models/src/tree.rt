@@ -28,14 +28,14 @@ pub(crate) struct Tree<'t, 'i, 'a> {
 impl<'t, 'i, 'a> Model for Tree<'t, 'i, 'a> {
     ghost use Rattle.std.specs.Coded.{codes};
     ghost use Rattle.aadl_syntax.specs.contracts.error_model.Condition as condition;
-    ghost use Rattle.error_models.specs.Trees.{Tree as Seen};
+    ghost use Rattle.error_models.specs.inner.Trees.{Tree as Seen};
 
     ghost Value = { Seen };
 
     ghost coded = { Prim.hlevel (codes, condition.the_row.coded) };
 
     ghost use Rattle.std.specs.Prelude.{◌≡◌, []};
-    ghost use Rattle.error_models.specs.Trees.{IsTree};
+    ghost use Rattle.error_models.specs.inner.Trees.{IsTree};
 
     ghost view = { λ t. record { packages = t.instance.now.packages; kinds = t.instance.now.kinds } };
 
@@ -210,7 +210,7 @@ pub(crate) struct BelowKind<'b, 't, 'i, 'a> {
 impl<'b, 't, 'i, 'a> Model for BelowKind<'b, 't, 'i, 'a> {
     ghost use Rattle.std.specs.Coded.{codes};
     ghost use Rattle.aadl_syntax.specs.contracts.error_model.Condition as condition;
-    ghost use Rattle.error_models.specs.Trees.{Below};
+    ghost use Rattle.error_models.specs.inner.Trees.{Below};
 
     ghost Value = { Below };
 

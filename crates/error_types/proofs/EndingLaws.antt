@@ -13,10 +13,10 @@ use Rattle.error_types.specs.declared.endings.Turn.{Turn}
 use Rattle.error_types.specs.declared.endings.Turn.TheVariants.{Ended, On}
 use Rattle.error_types.specs.declared.id.ItemId.{ItemId}
 use Rattle.error_types.specs.declared.scope.Scope.{Scope}
-use Rattle.error_types.specs.Endings.{EndsIn, IsWay, Leads, LeadsTo, TurnsBy, type_through}
+use Rattle.error_types.specs.inner.Endings.{EndsIn, IsWay, Leads, LeadsTo, TurnsBy, type_through}
 use Rattle.error_types.specs.Libraries.{Table, item_at, number_of}
 use Rattle.error_types.specs.Search.{named}
-use Rattle.error_types.specs.Tables.{has_number}
+use Rattle.error_types.specs.inner.Tables.{has_number}
 use Rattle.error_types.specs.Types.{type_at, type_by, type_named}
 use Rattle.error_types.specs.Walk.{library_scope}
 use Rattle.error_types.proofs.HierarchyLaws.{named-step}

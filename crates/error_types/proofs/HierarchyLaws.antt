@@ -7,7 +7,8 @@ use Rattle.error_types.specs.Libraries.{Table}
 use Rattle.error_types.specs.Search.{named}
 use Rattle.std.specs.List.{list_any}
 use Rattle.aadl_syntax.specs.declared.error_model.TypeSet.{TypeSet}
-use Rattle.error_types.specs.Types.{base_of, denoted, is_base_so, is_below, is_below_by, is_below_in, type_at, type_named}
+use Rattle.error_types.specs.Types.{base_of, denoted, is_base_so, is_below, is_below_in, type_at, type_named}
+use Rattle.error_types.specs.inner.Types.{is_below_by}
 use Rattle.plain_values.specs.Numbered.{numbers_below}
 use Rattle.error_types.specs.Walk.{set_types}
 

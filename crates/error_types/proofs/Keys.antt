@@ -5,11 +5,11 @@ use Rattle.std.specs.Cmp.{first_so, second_so}
 use Rattle.std.proofs.lemmas.Bool.{false≢true}
 use Rattle.std.proofs.lemmas.Bool.Decides.{Decides-eqb}
 use Rattle.std.proofs.lemmas.List.{take_more}
-use Rattle.package_index.specs.Tables.{Knows, same_pair, same_text}
+use Rattle.package_index.specs.inner.Tables.{Knows, same_pair, same_text}
 use Rattle.package_index.proofs.KnowsLaws.{more-place, some-place}
 use Rattle.error_types.specs.declared.id.ItemId.{ItemId}
 use Rattle.error_types.specs.Libraries.{is_type}
-use Rattle.error_types.specs.Tables.{has_number, has_type_text, has_item_text}
+use Rattle.error_types.specs.inner.Tables.{has_number, has_type_text, has_item_text}
 use Rattle.std.specs.Cmp.Lexicographic.{pointwise}
 use Rattle.std.proofs.lemmas.Slice.Eq.{bytes_eq-Decides}
 use Rattle.plain_values.specs.Name.{is_same_text}

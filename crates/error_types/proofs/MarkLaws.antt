@@ -3,7 +3,7 @@ use Rattle.std.proofs.Common.{ℕ, ◌≡◌, ◌<◌, ◌+◌, Bool, true, fals
 use Rattle.std.specs.List.{list_any}
 use Rattle.std.proofs.lemmas.List.{length-append}
 use Rattle.std.proofs.lemmas.List.Folds.{list_any-append}
-use Rattle.error_types.specs.Course.{Marks, is_vain}
+use Rattle.error_types.specs.inner.Course.{Marks, is_vain}
 
 vain-left : (b d : Bool) (old now : Option Bool) → now ≡ cond b (Some false) old → is_vain old ≡ d → is_vain now ≡ (d || (b || false))
 vain-left true true old now is had = ap is_vain is

@@ -8,7 +8,7 @@ use Rattle.std.proofs.lemmas.Option.{get_or_from_slice_get, none-some, option_an
 use Rattle.std.proofs.lemmas.Slice.Eq.{bytes_eq-Decides}
 use Rattle.aadl_syntax.specs.Form.{Byte, One, Perhaps, ◌followed_by◌, is_letter, is_letter_or_digit}
 use Rattle.plain_values.specs.Order.{IsClear}
-use Rattle.aadl_syntax.specs.Token.{IsIdentifier}
+use Rattle.aadl_syntax.specs.inner.Token.{IsIdentifier}
 use Rattle.aadl_syntax.specs.declared.core_model.PackageUnit.{PackageUnit}
 use Rattle.aadl_syntax.specs.declared.error_model.TypeItem.{TypeItem}
 use Rattle.plain_values.specs.declared.refusal.Code.TheVariants.{DuplicateUnit}
@@ -18,7 +18,8 @@ use Rattle.package_index.specs.Names.{is_same_name}
 use Rattle.plain_values.specs.Numbered.{numbered_from}
 use Rattle.error_types.specs.declared.id.ItemId.{ItemId}
 use Rattle.error_types.specs.Libraries.{Library, Table, counted, is_counted, is_place, is_type, is_type_named, item_at, libraries_of, library_of, table_of, types_by, types_in}
-use Rattle.error_types.specs.Printed.{PrintApart, TypeName, item_name, name_of}
+use Rattle.error_types.specs.Printed.{TypeName, item_name, name_of}
+use Rattle.error_types.specs.inner.Printed.{PrintApart}
 
 -- ---- the rows that numbered parts give
 

@@ -5,7 +5,7 @@ use Rattle.std.proofs.lemmas.Bool.Decides.{Decides-eqb}
 use Rattle.std.proofs.lemmas.Option.{same_Some}
 use Rattle.std.proofs.lemmas.Slice.Eq.{bytes_eq-Decides}
 use Rattle.error_types.specs.declared.known.Found.{Found}
-use Rattle.error_types.specs.Known.{IsFound, SearchKey, same_search}
+use Rattle.error_types.specs.inner.Known.{IsFound, SearchKey, same_search}
 use Rattle.error_types.specs.Libraries.{Library}
 use Rattle.error_types.specs.Search.{search}
 

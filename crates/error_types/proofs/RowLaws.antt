@@ -7,9 +7,9 @@ use Rattle.std.proofs.lemmas.List.{get_or-replicate, get_or-set_other, get_or-se
 use Rattle.std.proofs.lemmas.List.Elements.{filter-append}
 use Rattle.std.proofs.lemmas.Nat.{div-add-mod', div_below, mod_below}
 use Rattle.std.proofs.lemmas.Nat.Bits.{bit_at-lt, bit_at-zero, bit_at_or, bit_at_set_other, bit_at_set_same}
-use Rattle.error_types.specs.Rows.{either, has_bit, numbers_in}
+use Rattle.error_types.specs.inner.Rows.{either, has_bit, numbers_in}
 use Rattle.plain_values.specs.Numbered.{numbers_below}
-use Rattle.error_types.specs.Words.{Joins, bit_in, bits_of, with_bit}
+use Rattle.error_types.specs.inner.Words.{Joins, bit_in, bits_of, with_bit}
 
 -- ---- lists by number
 

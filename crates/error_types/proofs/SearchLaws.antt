@@ -4,7 +4,7 @@ use Rattle.plain_values.specs.Order.{nearer}
 use Rattle.plain_values.specs.declared.refusal.Refusal.{Refusal}
 use Rattle.error_types.specs.declared.id.Looked.{Looked}
 use Rattle.error_types.specs.declared.id.Looked.TheVariants.{Nowhere, Circular}
-use Rattle.error_types.specs.Course.{Course, Frame, before, entered, finished, left, so_far, way_of}
+use Rattle.error_types.specs.inner.Course.{Course, Frame, before, entered, finished, left, so_far, way_of}
 use Rattle.error_types.specs.Libraries.{Library}
 use Rattle.error_types.specs.Search.{Search, at_library, extended, is_number_in, no_search, own_item, past, search, searched, turned, unknown_in, unless_ended}
 

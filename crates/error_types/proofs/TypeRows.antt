@@ -6,8 +6,9 @@ use Rattle.std.proofs.lemmas.List.{get_or_append_left, get_or_push, length-appen
 use Rattle.std.proofs.lemmas.List.Folds.{list_any-append}
 use Rattle.std.proofs.lemmas.Option.{slice_get-get_or}
 use Rattle.error_types.specs.Libraries.{Table}
-use Rattle.error_types.specs.Rows.{AreTypeRows, either, has_bit, numbers_in, row_below, row_of, rows_by, types_below}
-use Rattle.error_types.specs.Types.{base, base_of, is_below, is_below_by, is_below_in}
+use Rattle.error_types.specs.inner.Rows.{AreTypeRows, either, has_bit, numbers_in, row_below, row_of, rows_by, types_below}
+use Rattle.error_types.specs.Types.{base, base_of, is_below, is_below_in}
+use Rattle.error_types.specs.inner.Types.{is_below_by}
 use Rattle.plain_values.specs.Numbered.{numbers_below}
 use Rattle.error_types.proofs.HierarchyLaws.{as-many, by-bases}
 use Rattle.error_types.proofs.RowLaws.{all-below, at-number, bit-past, bit-there, either-map, long, numbers-of, same-below}

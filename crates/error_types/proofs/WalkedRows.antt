@@ -4,9 +4,10 @@ use Rattle.std.specs.List.{slice_get}
 use Rattle.std.proofs.lemmas.List.{map-append}
 use Rattle.std.proofs.lemmas.Option.{get_or_from_slice_get, slice_get_within}
 use Rattle.std.proofs.lemmas.Bool.{cases_eq, cases_lt, lt-ltb, le-ltb}
-use Rattle.error_types.specs.Rows.{put_at, row_below, rows_so_far}
+use Rattle.error_types.specs.inner.Rows.{put_at, row_below, rows_so_far}
 use Rattle.plain_values.specs.Numbered.{numbers_below}
-use Rattle.error_types.specs.Types.{base_in, is_base_so, is_below_by, is_below_in}
+use Rattle.error_types.specs.Types.{is_base_so, is_below_in}
+use Rattle.error_types.specs.inner.Types.{base_in, is_below_by}
 use Rattle.error_types.proofs.HierarchyLaws.{is-other, is-same, no-step, one-step}
 use Rattle.error_types.proofs.RowLaws.{all-below, at-number, long, same-below, set-below}
 

@@ -1,5 +1,5 @@
 -- The error types that libraries declare (EMV2: error type libraries).
-use Rattle.std.specs.Prelude.{◌≡◌, ⊤, ℕ, ◌<◌, Bool, true, false, cond, ◌&&◌, ◌||◌, nat_eq, List, [], ◌∷◌, ◌++◌, length, flat_map, position, slice_get, Option, Some, None, option_and_then, option_to_list, is_none}
+use Rattle.std.specs.Prelude.{◌≡◌, ℕ, ◌<◌, Bool, true, false, cond, ◌&&◌, ◌||◌, nat_eq, List, [], ◌∷◌, ◌++◌, length, flat_map, position, slice_get, Option, Some, None, option_and_then, option_to_list, is_none}
 use Rattle.std.specs.List.{list_any}
 use Rattle.plain_values.specs.Name.{is_same_text}
 use Rattle.plain_values.specs.Order.{least}
@@ -11,8 +11,6 @@ use Rattle.aadl_syntax.specs.declared.error_model.TypesBlock.{TypesBlock}
 use Rattle.aadl_syntax.specs.declared.place.Ref.{Ref}
 use Rattle.plain_values.specs.declared.refusal.Code.TheVariants.{UnknownPackage, TooManyTypes}
 use Rattle.plain_values.specs.declared.refusal.Refusal.{Refusal}
-use Rattle.plain_values.specs.declared.refusal.Stop.{Stop}
-use Rattle.plain_values.specs.declared.refusal.Stop.TheVariants.{Memory, Refused}
 use Rattle.package_index.specs.Lookup.{look_package}
 use Rattle.plain_values.specs.Refusal.{refused_so, of_words}
 use Rattle.plain_values.specs.Numbered.{numbered_from}
@@ -170,8 +168,3 @@ greatest_types = 1024
 pub record HasTooManyTypes (packages : List PackageUnit) (m8 : Refusal) : Type 0 where
   pub many : greatest_types < length (declared_types (libraries_of packages))
   pub is : m8 ≡ of_words TooManyTypes
-
--- It is M8, and more types are declared in these libraries; or memory was wanting.
-abbrev pub IsOver : List Library → Stop → Type 0
-IsOver libraries Memory = ⊤
-IsOver libraries (Refused m8) = (greatest_types < length (declared_types libraries)) × (m8 ≡ of_words TooManyTypes)

@@ -1,12 +1,7 @@
 -- How an error type prints.
-use Rattle.std.specs.Prelude.{◌≡◌, ℕ, List, ◌++◌, codes, flat_map, slice_get, Option, Some, option_and_then, option_map}
-use Rattle.std.specs.List.{AllByRecursion}
-use Rattle.plain_values.specs.Order.{IsClear}
-use Rattle.aadl_syntax.specs.Token.{IsIdentifier}
-use Rattle.aadl_syntax.specs.declared.core_model.PackageUnit.{PackageUnit}
-use Rattle.package_index.specs.Duplicates.{IsDuplicate}
+use Rattle.std.specs.Prelude.{ℕ, List, ◌++◌, codes, flat_map, slice_get, Option, option_and_then, option_map}
 use Rattle.error_types.specs.declared.id.ItemId.{ItemId}
-use Rattle.error_types.specs.Libraries.{Table, item_at, table_of}
+use Rattle.error_types.specs.Libraries.{Table, item_at}
 
 -- The name of a type by its own declaration: the identifiers of the name of its library, which is that of the package, and its
 -- own name.
@@ -26,13 +21,3 @@ name_of table number = option_and_then (item_name table) (slice_get table.types 
 -- A type prints as `lib::t`: each identifier of its library with `::` behind it, and then its own name.
 abbrev pub printed : TypeName → List ℕ
 printed name = flat_map (λ identifier. identifier ++ codes "::") name.library ++ name.name
-
--- The parts of a name are identifiers.
-pub record AreIdentifiers (parts : TypeName) : Type 0 where
-  pub library : AllByRecursion IsIdentifier parts.library
-  pub name : IsIdentifier parts.name
-
--- Types of different numbers print differently, where nothing is declared twice.
-abbrev pub PrintApart : List PackageUnit → Type 0
-PrintApart packages =
-    IsClear (IsDuplicate packages) → (a b : ℕ) (name other : TypeName) → name_of (table_of packages) a ≡ Some name → name_of (table_of packages) b ≡ Some other → AreIdentifiers name → AreIdentifiers other → printed name ≡ printed other → a ≡ b

@@ -70,16 +70,6 @@ is_below_in (suc steps) base low high = nat_eq low high || is_base_so (λ number
 abbrev pub is_below : Table → ℕ → ℕ → Bool
 is_below table low high = (nat_lt low (length table.types) && nat_lt high (length table.types)) && is_below_in (length table.types) (base table) low high
 
--- ---- the table of bases
-
--- the type that the type of a number extends, in a list of these
-abbrev pub base_in : List (Option ℕ) → ℕ → Option ℕ
-base_in bases number = option_and_then (λ base. base) (slice_get bases number)
-
--- whether a type is below another, by the list of what the types extend
-abbrev pub is_below_by : List (Option ℕ) → ℕ → ℕ → Bool
-is_below_by bases low high = (nat_lt low (length bases) && nat_lt high (length bases)) && is_below_in (length bases) (base_in bases) low high
-
 -- ---- written sets
 
 -- The types that a written set denotes in a text, rising: those that are below one that it names.

@@ -1,6 +1,6 @@
 ghost use Rattle.std.specs.Prelude.{◌≡◌, ◌<◌, ◌^◌, ◌∷◌, [], ◌||◌, false, is_some, length, IfOk};
-ghost use Rattle.error_types.specs.Course.{Takes, entered, is_vain, way_of};
-ghost use Rattle.error_types.specs.Leaving.{Leaves};
+ghost use Rattle.error_types.specs.inner.Course.{Takes, entered, is_vain, way_of};
+ghost use Rattle.error_types.specs.inner.Leaving.{Leaves};
 ghost use Rattle.error_types.specs.Search.{is_number_in};
 
 use plain_values::{FirstRefusal, Mem, Refusal};
@@ -16,7 +16,7 @@ struct Frame<'t> {
 }
 
 impl<'t> Model for Frame<'t> {
-    ghost use Rattle.error_types.specs.Course.{Frame as Searched};
+    ghost use Rattle.error_types.specs.inner.Course.{Frame as Searched};
 
     ghost Value = { Searched };
 
@@ -36,7 +36,7 @@ pub(crate) struct Course<'t> {
 impl<'t> Model for Course<'t> {
     ghost use Rattle.std.specs.Prelude.{◌<◌, ◌^◌, length, nat_eq, reverse};
     ghost use Rattle.std.specs.HashMap.{get};
-    ghost use Rattle.error_types.specs.Course.{Course as Way, IsMarked};
+    ghost use Rattle.error_types.specs.inner.Course.{Course as Way, IsMarked};
 
     ghost Value = { Way };
 

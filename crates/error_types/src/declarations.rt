@@ -1,7 +1,7 @@
 ghost use Rattle.std.specs.Prelude.{◌≡◌, ◌<◌, ◌^◌, [], None, Some, length, option_copied, option_map, slice_get, IfOk, OnOk};
 ghost use Rattle.std.specs.HashMap.{get};
 ghost use Rattle.plain_values.specs.Order.{nearer};
-ghost use Rattle.error_types.specs.Known.{AreFound, of_libraries, same_search};
+ghost use Rattle.error_types.specs.inner.Known.{AreFound, of_libraries, same_search};
 ghost use Rattle.error_types.specs.Libraries.{item_at, number_of, table_of};
 ghost use Rattle.error_types.specs.Printed.{item_name};
 ghost use Rattle.error_types.specs.Search.{item_found, last_name, name_fault, named, named_in, search_along};
@@ -37,10 +37,10 @@ impl<'i, 'a> Model for Declarations<'i, 'a> {
     ghost use Rattle.std.specs.Coded.{codes};
     ghost use Rattle.std.specs.HashMap.{get};
     ghost use Rattle.aadl_syntax.specs.contracts.error_model.Condition as condition;
-    ghost use Rattle.package_index.specs.Tables.{Knows, same_pair};
-    ghost use Rattle.error_types.specs.Known.{AreFound, same_search};
+    ghost use Rattle.package_index.specs.inner.Tables.{Knows, same_pair};
+    ghost use Rattle.error_types.specs.inner.Known.{AreFound, same_search};
     ghost use Rattle.error_types.specs.Libraries.{Table, table_of};
-    ghost use Rattle.error_types.specs.Tables.{has_number};
+    ghost use Rattle.error_types.specs.inner.Tables.{has_number};
 
     ghost Value = { Table };
 

@@ -1,6 +1,6 @@
 ghost use Rattle.std.specs.Prelude.{◌≡◌, [], Bool, flat_map, map, slice_get, List as Items, IfOk, OnOk, Some, true, false};
 ghost use Rattle.plain_values.specs.Order.{nearer};
-ghost use Rattle.error_types.specs.Rows.{Adds, AreTypeRows, Remembers, has_bit, row_of, types_below};
+ghost use Rattle.error_types.specs.inner.Rows.{Adds, AreTypeRows, Remembers, has_bit, row_of, types_below};
 ghost use Rattle.error_types.specs.Search.{named};
 ghost use Rattle.error_types.specs.Types.{base_of, is_below};
 ghost use Rattle.error_types.specs.Walk.{reached, term_first, term_types, terms_first};

@@ -1,10 +1,10 @@
 ghost use Rattle.std.specs.Prelude.{◌≡◌, ◌<◌, ◌+◌, ◌-◌, ◌^◌, [], ◌∷◌, IfOk, IsTrue, None, OnOk, reverse, true};
 ghost use Rattle.std.specs.HashMap.{get};
 ghost use Rattle.std.specs.List.{list_any};
-ghost use Rattle.package_index.specs.Tables.{same_pair};
-ghost use Rattle.error_types.specs.Endings.{AreEnds, EndsIn, IsWay, LeadsTo, Turns, TurnsBy, origin, type_through};
+ghost use Rattle.package_index.specs.inner.Tables.{same_pair};
+ghost use Rattle.error_types.specs.inner.Endings.{AreEnds, EndsIn, IsWay, LeadsTo, Turns, TurnsBy, origin, type_through};
 ghost use Rattle.error_types.specs.Search.{named};
-ghost use Rattle.error_types.specs.Tables.{has_number};
+ghost use Rattle.error_types.specs.inner.Tables.{has_number};
 ghost use Rattle.error_types.specs.Walk.{library_scope};
 ghost use Rattle.error_types.specs.declared.endings.Turn.TheVariants.{Ended};
 
@@ -43,9 +43,9 @@ struct Way {
 impl Model for Way {
     ghost use Rattle.std.specs.Prelude.{List, reverse};
     ghost use Rattle.std.specs.HashMap.{get};
-    ghost use Rattle.package_index.specs.Tables.{same_pair};
+    ghost use Rattle.package_index.specs.inner.Tables.{same_pair};
     ghost use Rattle.error_types.specs.declared.id.ItemId.{ItemId};
-    ghost use Rattle.error_types.specs.Tables.{AreAmong};
+    ghost use Rattle.error_types.specs.inner.Tables.{AreAmong};
 
     ghost Value = { List ItemId };
 

@@ -1,9 +1,10 @@
 ghost use Rattle.std.specs.Prelude.{◌≡◌, ◌<◌, ◌+◌, ◌^◌, Bool, List as Items, Some, false, length, map, replicate, slice_get, IfOk};
 ghost use Rattle.std.specs.HashMap.{get};
-ghost use Rattle.package_index.specs.Tables.{same_pair};
-ghost use Rattle.error_types.specs.Endings.{AreEnds};
-ghost use Rattle.error_types.specs.Rows.{put_at, rows_by, rows_so_far};
-ghost use Rattle.error_types.specs.Types.{base_in, base_of, type_named};
+ghost use Rattle.package_index.specs.inner.Tables.{same_pair};
+ghost use Rattle.error_types.specs.inner.Endings.{AreEnds};
+ghost use Rattle.error_types.specs.inner.Rows.{put_at, rows_by, rows_so_far};
+ghost use Rattle.error_types.specs.Types.{base_of, type_named};
+ghost use Rattle.error_types.specs.inner.Types.{base_in};
 ghost use Rattle.error_types.specs.Walk.{library_scope};
 ghost use Rattle.plain_values.specs.Numbered.{numbers_below};
 

@@ -1,6 +1,6 @@
 ghost use Rattle.std.specs.Prelude.{◌≡◌};
 ghost use Rattle.std.specs.HashMap.{get};
-ghost use Rattle.error_types.specs.Known.{AreFound, IsFound, same_search};
+ghost use Rattle.error_types.specs.inner.Known.{AreFound, IsFound, same_search};
 
 use crate::id::Looked;
 use crate::library::Library;

@@ -2,7 +2,7 @@
 
 ghost use Rattle.std.specs.Prelude.{List};
 ghost use Rattle.aadl_syntax.specs.declared.core_model.PackageUnit.{PackageUnit};
-ghost use Rattle.error_types.specs.Printed.{PrintApart};
+ghost use Rattle.error_types.specs.inner.Printed.{PrintApart};
 
 /// Types of different numbers print differently, where nothing is declared twice.
 pub fn types_print_apart()

@@ -1,9 +1,9 @@
 ghost use Rattle.std.specs.Prelude.{◌≡◌, ◌<◌, ◌^◌, ◌∷◌, ◌++◌, length, option_copied, position, slice_get, IfOk, OnOk};
 ghost use Rattle.std.specs.HashMap.{get};
 ghost use Rattle.plain_values.specs.Order.{least, nearer};
-ghost use Rattle.package_index.specs.Tables.{Knows, same_text};
+ghost use Rattle.package_index.specs.inner.Tables.{Knows, same_text};
 ghost use Rattle.error_types.specs.Libraries.{extended_by, has_item_name, items_of, libraries_named, library_named, library_of, libraries_of, unknown_libraries, unknown_to, used_by};
-ghost use Rattle.error_types.specs.Tables.{has_item_text};
+ghost use Rattle.error_types.specs.inner.Tables.{has_item_text};
 
 use crate::scope::Scope;
 use aadl_syntax::{PackageUnit, Ref, TypeItem, TypesBlock};
@@ -48,9 +48,9 @@ pub(crate) struct Library<'a> {
 
 impl<'a> Model for Library<'a> {
     ghost use Rattle.std.specs.HashMap.{get};
-    ghost use Rattle.package_index.specs.Tables.{Knows, same_text};
+    ghost use Rattle.package_index.specs.inner.Tables.{Knows, same_text};
     ghost use Rattle.error_types.specs.Libraries.{Library as Text};
-    ghost use Rattle.error_types.specs.Tables.{has_item_text};
+    ghost use Rattle.error_types.specs.inner.Tables.{has_item_text};
 
     ghost Value = { Text };
 

@@ -1,5 +1,5 @@
 ghost use Rattle.std.specs.Prelude.{◌≡◌};
-ghost use Rattle.error_types.specs.Needs.{Gives, Names, of_one};
+ghost use Rattle.error_types.specs.inner.Needs.{Gives, Names, of_one};
 ghost use Rattle.error_types.specs.Walk.{needs_of};
 
 use aadl_syntax::{Ref, Term, TypeKind};
@@ -46,7 +46,7 @@ pub(crate) struct Needs<'a> {
 
 impl<'a> Model for Needs<'a> {
     ghost use Rattle.std.specs.Prelude.{List, ◌++◌, flat_map};
-    ghost use Rattle.error_types.specs.Needs.{of_one};
+    ghost use Rattle.error_types.specs.inner.Needs.{of_one};
     ghost use Rattle.error_types.specs.Walk.{Need as Name, need_of_term};
 
     ghost Value = { List Name };

@@ -1,8 +1,8 @@
 ghost use Rattle.std.specs.Prelude.{◌≡◌, ◌<◌, ◌+◌, ◌^◌, ◌∷◌, [], ◌++◌, length, take, IfOk, OnOk};
 ghost use Rattle.std.specs.HashMap.{get};
-ghost use Rattle.package_index.specs.Tables.{Knows, same_pair, same_text};
+ghost use Rattle.package_index.specs.inner.Tables.{Knows, same_pair, same_text};
 ghost use Rattle.error_types.specs.Libraries.{is_counted, is_place, is_type, types_by, types_in};
-ghost use Rattle.error_types.specs.Tables.{has_number, has_type_text};
+ghost use Rattle.error_types.specs.inner.Tables.{has_number, has_type_text};
 
 use crate::id::ItemId;
 use crate::library::{ItemText, Library};

@@ -1,7 +1,7 @@
 //! What is reached from an item, as it is remembered, or else as it is then found.
 
 ghost use Rattle.std.specs.Prelude.{◌≡◌, ◌∷◌, [], Bool, List as Items, length, slice_get, IfOk, IfSome, Some};
-ghost use Rattle.error_types.specs.Rows.{Adds, IsReached, Remembers, either, row_of};
+ghost use Rattle.error_types.specs.inner.Rows.{Adds, IsReached, Remembers, either, row_of};
 
 use crate::declarations::Declarations;
 use crate::id::ItemId;

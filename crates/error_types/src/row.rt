@@ -1,6 +1,6 @@
 ghost use Rattle.std.specs.Prelude.{◌≡◌, ◌<◌, ◌*◌, ◌++◌, ◌∷◌, [], false, length, min, replicate, slice_set, true, IfOk, IsTrue};
-ghost use Rattle.error_types.specs.Rows.{either, has_bit, numbers_in};
-ghost use Rattle.error_types.specs.Words.{Joins, bit_in, with_bit};
+ghost use Rattle.error_types.specs.inner.Rows.{either, has_bit, numbers_in};
+ghost use Rattle.error_types.specs.inner.Words.{Joins, bit_in, with_bit};
 
 use plain_values::{List, Mem};
 use std::alloc::Global;
@@ -15,7 +15,7 @@ pub(crate) struct Row {
 
 impl Model for Row {
     ghost use Rattle.std.specs.Prelude.{◌≤◌, ◌*◌, List, Bool, length};
-    ghost use Rattle.error_types.specs.Words.{bits_of};
+    ghost use Rattle.error_types.specs.inner.Words.{bits_of};
 
     ghost Value = { List Bool };
 

@@ -2,10 +2,10 @@ ghost use Rattle.std.specs.Prelude.{◌≡◌, ◌<◌, ◌^◌, ◌∷◌, [], 
 ghost use Rattle.std.specs.HashMap.{get};
 ghost use Rattle.plain_values.specs.Order.{nearer};
 ghost use Rattle.error_types.specs.declared.id.Looked.TheVariants.{Nowhere};
-ghost use Rattle.error_types.specs.Course.{before, left, way_of};
-ghost use Rattle.error_types.specs.Known.{AreFound, IsFound, same_search};
+ghost use Rattle.error_types.specs.inner.Course.{before, left, way_of};
+ghost use Rattle.error_types.specs.inner.Known.{AreFound, IsFound, same_search};
 ghost use Rattle.error_types.specs.Libraries.{Library as Text};
-ghost use Rattle.error_types.specs.Leaving.{Leads};
+ghost use Rattle.error_types.specs.inner.Leaving.{Leads};
 ghost use Rattle.error_types.specs.Search.{extended, found_at, is_number_in, own_item, search, unknown_in};
 
 use crate::course::{Course, Left};

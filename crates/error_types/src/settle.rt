@@ -2,9 +2,9 @@
 
 ghost use Rattle.std.specs.Prelude.{◌≡◌, ◌<◌, ◌++◌, ◌^◌, max, slice_get, length, option_copied, option_to_list, IfOk, IfSome, IsTrue, None, Some, List as Items, Bool, ℕ, true};
 ghost use Rattle.plain_values.specs.Order.{nearer};
-ghost use Rattle.error_types.specs.Grounded.{is_stopped};
+ghost use Rattle.error_types.specs.inner.Grounded.{is_stopped};
 ghost use Rattle.error_types.specs.Libraries.{item_at, number_of};
-ghost use Rattle.error_types.specs.Rows.{IsGathered, IsOfTarget, IsReached, IsSettled, IsSum, Remembers, Stay, either, is_type_item, row_of};
+ghost use Rattle.error_types.specs.inner.Rows.{IsGathered, IsOfTarget, IsReached, IsSettled, IsSum, Remembers, Stay, either, is_type_item, row_of};
 ghost use Rattle.error_types.specs.Walk.{library_scope, needs_of, of_item};
 
 use crate::declarations::Declarations;

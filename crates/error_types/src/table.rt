@@ -1,7 +1,8 @@
 ghost use Rattle.std.specs.Prelude.{◌≡◌, ◌↔◌, ◌≤◌, ◌<◌, ◌^◌, IfOk, IfErr, IsSome, OnOk, length};
 ghost use Rattle.plain_values.specs.Order.{least, nearer};
-ghost use Rattle.plain_values.specs.Stops.{StopsAtFirst};
-ghost use Rattle.error_types.specs.Libraries.{HasTooManyTypes, IsOver, declared_types, greatest_types, libraries_of, table_of, unknown_libraries};
+ghost use Rattle.plain_values.specs.inner.Stops.{StopsAtFirst};
+ghost use Rattle.error_types.specs.Libraries.{HasTooManyTypes, declared_types, greatest_types, libraries_of, table_of, unknown_libraries};
+ghost use Rattle.error_types.specs.inner.Libraries.{IsOver};
 ghost use Rattle.error_types.specs.Printed.{name_of};
 ghost use Rattle.error_types.specs.Types.{denoted, is_below, text_scope};
 ghost use Rattle.error_types.specs.Walk.{set_first};
@@ -31,7 +32,7 @@ impl<'i, 'a> Model for TypeTable<'i, 'a> {
     ghost use Rattle.std.specs.Coded.{codes};
     ghost use Rattle.aadl_syntax.specs.contracts.error_model.Condition as condition;
     ghost use Rattle.error_types.specs.Libraries.{Table};
-    ghost use Rattle.error_types.specs.Rows.{Remembers};
+    ghost use Rattle.error_types.specs.inner.Rows.{Remembers};
 
     ghost Value = { Table };
 

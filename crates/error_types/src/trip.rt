@@ -1,9 +1,9 @@
 ghost use Rattle.std.specs.Prelude.{◌≡◌, ◌<◌, ◌^◌, ◌∷◌, [], ◌++◌, ◌||◌, false, is_some, length, option_to_list, IfOk, OnOk};
 ghost use Rattle.std.specs.List.{list_any};
-ghost use Rattle.error_types.specs.Course.{is_vain};
-ghost use Rattle.error_types.specs.Leaving.{LeavesItem, Offers};
-ghost use Rattle.error_types.specs.Tables.{has_number};
-ghost use Rattle.error_types.specs.Trip.{at_visit, items_on, noting};
+ghost use Rattle.error_types.specs.inner.Course.{is_vain};
+ghost use Rattle.error_types.specs.inner.Leaving.{LeavesItem, Offers};
+ghost use Rattle.error_types.specs.inner.Tables.{has_number};
+ghost use Rattle.error_types.specs.inner.Trip.{at_visit, items_on, noting};
 
 use crate::id::ItemId;
 use crate::needs::{Need, Needs, NextName};
@@ -20,7 +20,7 @@ struct Visit<'a> {
 }
 
 impl<'a> Model for Visit<'a> {
-    ghost use Rattle.error_types.specs.Trip.{Visit as Followed};
+    ghost use Rattle.error_types.specs.inner.Trip.{Visit as Followed};
 
     ghost Value = { Followed };
 
@@ -41,8 +41,8 @@ pub(crate) struct Trip<'a> {
 impl<'a> Model for Trip<'a> {
     ghost use Rattle.std.specs.Prelude.{◌<◌, ◌^◌, length, reverse};
     ghost use Rattle.std.specs.HashMap.{get};
-    ghost use Rattle.package_index.specs.Tables.{same_pair};
-    ghost use Rattle.error_types.specs.Trip.{Trip as Way, IsTripMarked};
+    ghost use Rattle.package_index.specs.inner.Tables.{same_pair};
+    ghost use Rattle.error_types.specs.inner.Trip.{Trip as Way, IsTripMarked};
 
     ghost Value = { Way };
 

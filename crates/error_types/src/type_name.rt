@@ -1,7 +1,8 @@
 ghost use Rattle.std.specs.Prelude.{◌≡◌, ◌++◌, codes, flat_map, OnOk};
 ghost use Rattle.std.specs.List.{AllByRecursion};
-ghost use Rattle.aadl_syntax.specs.Token.{IsIdentifier};
-ghost use Rattle.error_types.specs.Printed.{AreIdentifiers, printed};
+ghost use Rattle.aadl_syntax.specs.inner.Token.{IsIdentifier};
+ghost use Rattle.error_types.specs.Printed.{printed};
+ghost use Rattle.error_types.specs.inner.Printed.{AreIdentifiers};
 
 use aadl_syntax::{Identifier, PackageUnit, TypeItem};
 use plain_values::Mem;

@@ -1,8 +1,8 @@
 ghost use Rattle.std.specs.Prelude.{◌≡◌, ◌<◌, ◌^◌, ◌&&◌, ◌∷◌, [], false, flat_map, length, option_copied, IfOk};
 ghost use Rattle.plain_values.specs.Order.{least, nearer};
-ghost use Rattle.error_types.specs.Leaving.{LeadsWalk};
+ghost use Rattle.error_types.specs.inner.Leaving.{LeadsWalk};
 ghost use Rattle.error_types.specs.Libraries.{is_item_in, item_at};
-ghost use Rattle.error_types.specs.Trip.{arrival, items_on, walk_left, with_names};
+ghost use Rattle.error_types.specs.inner.Trip.{arrival, items_on, walk_left, with_names};
 ghost use Rattle.error_types.specs.Walk.{is_set_item, needs_of, number_met, of_item, product_of_term, products_of, walk_from};
 
 use crate::declarations::Declarations;

@@ -4,7 +4,7 @@ use Rattle.std.proofs.lemmas.Slice.Eq.{bytes_eq-Decides}
 use denote.Ref.{Bor}
 use Rattle.plain_values.specs.Name.{is_same_text}
 use Rattle.plain_values.specs.declared.spot.Spot.{Spot}
-use Rattle.package_index.specs.Tables.{same_text}
+use Rattle.package_index.specs.inner.Tables.{same_text}
 use Rattle.package_index.proofs.KnowsLaws.{find-place}
 use Rattle.event_origins.specs.Named.{Declaration, has_text, spot_named}
 

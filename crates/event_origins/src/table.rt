@@ -1,6 +1,6 @@
 ghost use Rattle.std.specs.Prelude.{◌≡◌, IfOk};
 ghost use Rattle.std.specs.HashMap.{get};
-ghost use Rattle.package_index.specs.Tables.{Knows, same_text};
+ghost use Rattle.package_index.specs.inner.Tables.{Knows, same_text};
 ghost use Rattle.event_origins.specs.Named.{has_text, spot_named};
 
 use crate::declaration::Declaration;
@@ -21,7 +21,7 @@ impl<'a> Model for DeclarationTable<'a> {
     ghost use Rattle.std.specs.Prelude.{List};
     ghost use Rattle.std.specs.HashMap.{get};
     ghost use denote.Ref.{Bor};
-    ghost use Rattle.package_index.specs.Tables.{Knows, same_text};
+    ghost use Rattle.package_index.specs.inner.Tables.{Knows, same_text};
     ghost use Rattle.event_origins.specs.Named.{Declaration as Seen, has_text};
 
     ghost Value = { List Seen };

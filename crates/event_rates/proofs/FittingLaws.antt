@@ -5,10 +5,11 @@ use Rattle.std.proofs.lemmas.List.{take_more}
 use Rattle.std.proofs.lemmas.List.Elements.{filter-append}
 use denote.Ref.{Bor}
 use Rattle.aadl_syntax.specs.declared.error_model.Association.{Association}
-use Rattle.package_index.specs.Names.{is_same_name, names_of}
+use Rattle.package_index.specs.Names.{is_same_name}
+use Rattle.package_index.specs.inner.Names.{names_of}
 use Rattle.package_index.specs.declared.words.Words.{Words}
 use Rattle.event_rates.specs.Associations.{fits, is_distribution}
-use Rattle.event_rates.specs.Fitting.{AddsAssociation, KnowsFitting, PutsAt, held}
+use Rattle.event_rates.specs.inner.Fitting.{AddsAssociation, KnowsFitting, PutsAt, held}
 
 -- an item more
 pub front-more : {A : Type 0} (xs : List A) (i : ℕ) (x : A) → i < length xs → x ≡ get_or xs i x → take (i + 1) xs ≡ take i xs ++ x ∷ []

@@ -1,3 +1,2 @@
 pub mod Associations
-pub mod Fitting
-pub mod Tables
+pub mod inner

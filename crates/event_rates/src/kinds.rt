@@ -4,7 +4,7 @@ ghost use Rattle.error_behavior.specs.Machines.{find_machine, machine_at};
 ghost use Rattle.error_models.specs.Below.{machine_of};
 ghost use Rattle.instantiator.specs.Whole.{classifier_at, effective_in};
 ghost use Rattle.event_rates.specs.Associations.{clause_associations, last_fitting, machine_associations};
-ghost use Rattle.event_rates.specs.Tables.{all_associations, effective_rates, id_found, kind_rates};
+ghost use Rattle.event_rates.specs.inner.Tables.{all_associations, effective_rates, id_found, kind_rates};
 
 use crate::table::AssociationTable;
 use aadl_syntax::{Association, MachineDecl};
@@ -41,7 +41,7 @@ impl<'r> Model for Tables<'r> {
     ghost coded = { Prim.hlevel (codes, condition.the_row.coded) };
 
     ghost use Rattle.std.specs.Prelude.{◌≡◌, map};
-    ghost use Rattle.event_rates.specs.Tables.{all_associations, kind_rates};
+    ghost use Rattle.event_rates.specs.inner.Tables.{all_associations, kind_rates};
 
     ghost view = { λ t. t.instance.now };
 

@@ -1,8 +1,8 @@
 ghost use Rattle.std.specs.Prelude.{◌≡◌, IfOk, OnOk, map, option_copied};
 ghost use Rattle.std.specs.HashMap.{get};
-ghost use Rattle.package_index.specs.Tables.{same_words};
+ghost use Rattle.package_index.specs.inner.Tables.{same_words};
 ghost use Rattle.event_rates.specs.Associations.{is_distribution, is_distribution_behind, is_of_emv2, last_fitting};
-ghost use Rattle.event_rates.specs.Fitting.{AddsAssociation, KnowsFitting, PutsAt};
+ghost use Rattle.event_rates.specs.inner.Fitting.{AddsAssociation, KnowsFitting, PutsAt};
 
 use aadl_syntax::{Association, Identifier};
 use package_index::Words;
@@ -25,8 +25,8 @@ impl<'a> Model for AssociationTable<'a> {
     ghost use Rattle.std.specs.Prelude.{List, map};
     ghost use Rattle.std.specs.HashMap.{get};
     ghost use Rattle.aadl_syntax.specs.declared.error_model.Association.{Association as Seen};
-    ghost use Rattle.package_index.specs.Tables.{same_words};
-    ghost use Rattle.event_rates.specs.Fitting.{KnowsFitting};
+    ghost use Rattle.package_index.specs.inner.Tables.{same_words};
+    ghost use Rattle.event_rates.specs.inner.Fitting.{KnowsFitting};
 
     ghost Value = { List Seen };
 

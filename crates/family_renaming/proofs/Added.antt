@@ -3,8 +3,8 @@ use Rattle.std.proofs.Common.{◌≡◌, ◌<◌, ◌≤◌, ℕ, zero, suc, min
 use Rattle.std.specs.Prelude.{◌||◌, IfOk}
 use Rattle.std.specs.declared.alloc.AllocError.{AllocError}
 use Rattle.std.specs.List.{list_any}
-use Rattle.zdd_store.specs.Family.{Family, branch, least_of, least_number}
-use Rattle.zdd_store.specs.Store.{Families, IsIn, family_at, family_of, family_with, Keeps, Fits, IsSound}
+use Rattle.zdd_store.specs.inner.Family.{Family, branch, least_of, least_number}
+use Rattle.zdd_store.specs.inner.Store.{Families, IsIn, family_at, family_of, family_with, Keeps, Fits, IsSound}
 use Rattle.zdd_store.specs.declared.id.Id.{Id}
 use Rattle.zdd_store.specs.declared.id.Node.{Node}
 use Rattle.zdd_store.proofs.Branches.{branch-empty, le-least_number-branch}
@@ -13,9 +13,9 @@ use Rattle.zdd_store.proofs.Terminals.{least-empty, least-unit}
 use Rattle.zdd_families.proofs.Above.{least_number-most}
 use Rattle.zdd_families.proofs.Ways.{Keeps_trans}
 use Rattle.zdd_families.proofs.Splits.{least-terminal}
-use Rattle.zdd_families.specs.Unions.{with_number}
-use Rattle.family_renaming.specs.Renaming.{name_of, AreRenamed}
-use Rattle.family_renaming.specs.Lists.{with_names, ListsMore, HasOneMore, OneMore, HasSets}
+use Rattle.zdd_families.specs.inner.Unions.{with_number}
+use Rattle.family_renaming.specs.inner.Renaming.{name_of, AreRenamed}
+use Rattle.family_renaming.specs.inner.Lists.{with_names, ListsMore, HasOneMore, OneMore, HasSets}
 use Rattle.family_renaming.proofs.Firsts.{any-branch}
 use Rattle.family_renaming.proofs.Puts.{names_renamed}
 

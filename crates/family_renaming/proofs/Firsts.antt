@@ -3,16 +3,16 @@ use Rattle.std.proofs.Common.{◌≡◌, ◌<◌, ◌≤◌, ℕ, zero, suc, min
 use Rattle.std.specs.Prelude.{◌==◌, ◌||◌, nat_lt}
 use Rattle.std.specs.List.{list_any, AllByRecursion}
 use Rattle.std.proofs.lemmas.Bool.{false≢true, lt-ltb, ltb-true}
-use Rattle.zdd_store.specs.Family.{Family, branch, least_of, least_number, has, IsRising}
-use Rattle.zdd_store.specs.Store.{Families, IsIn, family_at, family_of, family_with, Keeps, Fits, IsSound}
+use Rattle.zdd_store.specs.inner.Family.{Family, branch, least_of, least_number, has, IsRising}
+use Rattle.zdd_store.specs.inner.Store.{Families, IsIn, family_at, family_of, family_with, Keeps, Fits, IsSound}
 use Rattle.zdd_store.specs.declared.id.Id.{Id}
 use Rattle.zdd_store.specs.declared.id.Node.{Node}
 use Rattle.zdd_store.proofs.Branches.{with_var, branch-with_var, le-least_number-branch}
 use Rattle.zdd_store.proofs.Growing.{some_set}
 use Rattle.zdd_families.proofs.Subsets.{has-greater}
-use Rattle.zdd_families.specs.Unions.{with_number}
-use Rattle.family_renaming.specs.Renaming.{name_of, renamed, AreInverse, AreRenamed}
-use Rattle.family_renaming.specs.Splitting.{sets_lacking, set_without, sets_having, IsParted, least_event, IsAtEvent, IsOrdered}
+use Rattle.zdd_families.specs.inner.Unions.{with_number}
+use Rattle.family_renaming.specs.inner.Renaming.{name_of, renamed, AreInverse, AreRenamed}
+use Rattle.family_renaming.specs.inner.Splitting.{sets_lacking, set_without, sets_having, IsParted, least_event, IsAtEvent, IsOrdered}
 use Rattle.family_renaming.specs.declared.parting.Parts.{Parts}
 use Rattle.family_renaming.specs.declared.from_top.EventParts.{EventParts}
 use Rattle.family_renaming.proofs.Halves.{other_number}

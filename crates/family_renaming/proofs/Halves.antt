@@ -1,15 +1,15 @@
 -- The sets of a family without a number, and those with it, branch by branch.
 use Rattle.std.proofs.Common.{◌≡◌, ◌<◌, ◌≤◌, ℕ, min, Bool, true, false, not, if◌then◌else◌, List, [], ◌∷◌, map, filter, refl, sym, ap, ◌∙◌, subst, arith, eqb-true, eq-eqb}
 use Rattle.std.specs.Prelude.{◌==◌, ◌||◌}
-use Rattle.zdd_store.specs.Family.{Family, branch, least_of, least_number, has}
-use Rattle.zdd_store.specs.Store.{Families, IsIn, family_of, family_with, Keeps, Fits, IsSound}
+use Rattle.zdd_store.specs.inner.Family.{Family, branch, least_of, least_number, has}
+use Rattle.zdd_store.specs.inner.Store.{Families, IsIn, family_of, family_with, Keeps, Fits, IsSound}
 use Rattle.zdd_store.specs.declared.id.Id.{Id}
 use Rattle.zdd_store.specs.declared.id.Node.{Node}
 use Rattle.zdd_store.proofs.Branches.{with_var, branch-with_var, branch-empty}
 use Rattle.zdd_families.proofs.Subsets.{has_first}
 use Rattle.zdd_families.proofs.Covers.{member-greater}
 use Rattle.zdd_families.proofs.Joins.{least-filter, filter-branch, same_filter, filter_keeps, filter_drops}
-use Rattle.family_renaming.specs.Splitting.{sets_lacking, set_without, sets_having, IsParted}
+use Rattle.family_renaming.specs.inner.Splitting.{sets_lacking, set_without, sets_having, IsParted}
 use Rattle.family_renaming.specs.declared.parting.Parts.{Parts}
 
 -- a number that is another one

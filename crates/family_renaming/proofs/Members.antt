@@ -3,10 +3,10 @@ use Rattle.std.proofs.Common.{◌≡◌, ◌⊎◌, ◌↔◌, ℕ, Bool, true, 
 use Rattle.std.specs.Prelude.{◌==◌, ◌||◌}
 use Rattle.std.specs.List.{list_any}
 use Rattle.std.proofs.lemmas.Bool.{false≢true}
-use Rattle.zdd_store.specs.Family.{Family}
+use Rattle.zdd_store.specs.inner.Family.{Family}
 use Rattle.zdd_store.proofs.Orders.{first_or_rest, contains_first, contains_rest, contains_none}
 use Rattle.zdd_families.proofs.Booleans.{or_left, or_right, or_cases, and_made, and_cases}
-use Rattle.family_renaming.specs.Renaming.{renamed, AreRenamed, IsRenamedOf}
+use Rattle.family_renaming.specs.inner.Renaming.{renamed, AreRenamed, IsRenamedOf}
 
 -- whether two sets are the same list
 same_set : List ℕ → List ℕ → Bool

@@ -4,9 +4,9 @@ use Rattle.std.specs.Prelude.{◌||◌}
 use Rattle.std.specs.List.{list_any, AllByRecursion}
 use Rattle.std.proofs.lemmas.Bool.{cases_lt}
 use Rattle.std.proofs.lemmas.Option.{slice_get-get_or}
-use Rattle.zdd_store.specs.Family.{Family, IsRising}
-use Rattle.zdd_families.specs.Unions.{with_number}
-use Rattle.family_renaming.specs.Renaming.{name_of, renamed, AreRenamed, NamesItself}
+use Rattle.zdd_store.specs.inner.Family.{Family, IsRising}
+use Rattle.zdd_families.specs.inner.Unions.{with_number}
+use Rattle.family_renaming.specs.inner.Renaming.{name_of, renamed, AreRenamed, NamesItself}
 use Rattle.family_renaming.proofs.Firsts.{with_first}
 use Rattle.family_renaming.proofs.Permutations.{at_place, past_end}
 

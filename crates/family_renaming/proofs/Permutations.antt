@@ -3,8 +3,8 @@ use Rattle.std.proofs.Common.{◌≡◌, ◌<◌, ◌≤◌, ◌⊎◌, ℕ, Lis
 use Rattle.std.proofs.lemmas.Bool.{cases_lt}
 use Rattle.std.proofs.lemmas.Option.{slice_get_past, slice_get_within, slice_get-get_or, unwrap_or-slice_get}
 use Rattle.std.specs.Option.{unwrap_or}
-use Rattle.family_renaming.specs.Renaming.{name_of, AreInverse, IsEventOrder}
-use Rattle.family_renaming.specs.Orders.{Undoes, HasPlaces}
+use Rattle.family_renaming.specs.inner.Renaming.{name_of, AreInverse, IsEventOrder}
+use Rattle.family_renaming.specs.inner.Orders.{Undoes, HasPlaces}
 
 pub at_place : (xs : List ℕ) (i x d : ℕ) → slice_get xs i ≡ Some x → slice_index_or xs i d ≡ x
 at_place xs i x d e = sym (unwrap_or-slice_get xs i d) ∙ ap (λ o. unwrap_or o d) e

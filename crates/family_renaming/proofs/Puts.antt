@@ -3,10 +3,10 @@ use Rattle.std.proofs.Common.{◌≡◌, ◌<◌, ◌≤◌, ◌⊎◌, ℕ, zer
 use Rattle.std.specs.Prelude.{◌==◌}
 use Rattle.std.specs.List.{insert}
 use Rattle.std.proofs.lemmas.Bool.{cases_lt, lt-ltb}
-use Rattle.zdd_store.specs.Family.{least_of, IsRising}
-use Rattle.zdd_families.specs.Unions.{with_number}
-use Rattle.family_renaming.specs.Renaming.{name_of, renamed}
-use Rattle.family_renaming.specs.Lists.{with_names}
+use Rattle.zdd_store.specs.inner.Family.{least_of, IsRising}
+use Rattle.zdd_families.specs.inner.Unions.{with_number}
+use Rattle.family_renaming.specs.inner.Renaming.{name_of, renamed}
+use Rattle.family_renaming.specs.inner.Lists.{with_names}
 use Rattle.family_renaming.proofs.Firsts.{with_later, not_less, least-with}
 
 pub with_less : (n m : ℕ) (ms : List ℕ) → n < m → with_number n (m ∷ ms) ≡ n ∷ m ∷ ms

@@ -1,11 +1,11 @@
 -- What a table knows after one more answer, and in a store that keeps what it had.
 use Rattle.std.proofs.Common.{◌≤◌, ℕ, List, length, Option, sym, ap, ◌∙◌, subst, arith}
 use Rattle.std.specs.HashMap.{get}
-use Rattle.zdd_store.specs.Family.{Family, least_number}
-use Rattle.zdd_store.specs.Store.{Families, IsIn, family_of, Keeps}
+use Rattle.zdd_store.specs.inner.Family.{Family, least_number}
+use Rattle.zdd_store.specs.inner.Store.{Families, IsIn, family_of, Keeps}
 use Rattle.zdd_store.specs.declared.id.Id.{Id}
-use Rattle.family_renaming.specs.Renaming.{AreRenamed}
-use Rattle.family_renaming.specs.Splitting.{IsParted, KnowsParts, least_event, KnowsLeast, IsOrdered, KnowsOrdered, Knows}
+use Rattle.family_renaming.specs.inner.Renaming.{AreRenamed}
+use Rattle.family_renaming.specs.inner.Splitting.{IsParted, KnowsParts, least_event, KnowsLeast, IsOrdered, KnowsOrdered, Knows}
 use Rattle.family_renaming.specs.declared.parting.Parts.{Parts}
 use Rattle.family_renaming.specs.declared.parting.Place.{Place}
 use Rattle.family_renaming.specs.declared.from_top.Known.{Known}

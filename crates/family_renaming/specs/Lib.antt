@@ -1,4 +1,1 @@
-pub mod Renaming
-pub mod Orders
-pub mod Splitting
-pub mod Lists
+pub mod inner

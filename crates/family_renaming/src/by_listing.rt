@@ -1,10 +1,10 @@
 ghost use Rattle.std.specs.Prelude.{◌≡◌, ◌<◌, ◌≤◌, length, All, IfOk, OnOk, IfSome, IfNone, map, [], ◌∷◌};
 ghost use Rattle.std.specs.List.{insert};
-ghost use Rattle.zdd_store.specs.Family.{IsRising, least_of};
-ghost use Rattle.zdd_store.specs.Store.{IsIn, family_of, Keeps};
-ghost use Rattle.zdd_families.specs.Unions.{with_number};
-ghost use Rattle.family_renaming.specs.Renaming.{AreRenamed};
-ghost use Rattle.family_renaming.specs.Lists.{ListsMore, OneMore, HasSets};
+ghost use Rattle.zdd_store.specs.inner.Family.{IsRising, least_of};
+ghost use Rattle.zdd_store.specs.inner.Store.{IsIn, family_of, Keeps};
+ghost use Rattle.zdd_families.specs.inner.Unions.{with_number};
+ghost use Rattle.family_renaming.specs.inner.Renaming.{AreRenamed};
+ghost use Rattle.family_renaming.specs.inner.Lists.{ListsMore, OneMore, HasSets};
 
 use crate::from_top::name;
 use crate::variable_order::VariableOrder;

@@ -1,6 +1,6 @@
 ghost use Rattle.std.specs.Prelude.{◌≡◌, ◌↔◌, ℕ, List, Contains, IfOk, IsTrue};
-ghost use Rattle.zdd_store.specs.Store.{IsIn, family_of, Keeps};
-ghost use Rattle.family_renaming.specs.Renaming.{AreRenamed, IsRenamedOf, NamesItself};
+ghost use Rattle.zdd_store.specs.inner.Store.{IsIn, family_of, Keeps};
+ghost use Rattle.family_renaming.specs.inner.Renaming.{AreRenamed, IsRenamedOf, NamesItself};
 
 use crate::by_listing::by_listing;
 use crate::extents::has_few_sets;

@@ -1,5 +1,5 @@
 ghost use Rattle.std.specs.Prelude.{◌<◌};
-ghost use Rattle.zdd_store.specs.Store.{IsIn};
+ghost use Rattle.zdd_store.specs.inner.Store.{IsIn};
 
 use plain_values::Mem;
 use std::alloc::Global;

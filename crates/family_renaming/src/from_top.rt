@@ -1,8 +1,8 @@
 ghost use Rattle.std.specs.Prelude.{◌≡◌, ◌<◌, ◌^◌, IfSome, IfOk};
 ghost use Rattle.std.specs.HashMap.{get};
-ghost use Rattle.zdd_store.specs.Store.{IsIn, family_of, Keeps};
-ghost use Rattle.family_renaming.specs.Renaming.{name_of, AreRenamed};
-ghost use Rattle.family_renaming.specs.Splitting.{least_event, KnowsLeast, KnowsOrdered, Knows, AtEvent, IsOrdered, Ordered};
+ghost use Rattle.zdd_store.specs.inner.Store.{IsIn, family_of, Keeps};
+ghost use Rattle.family_renaming.specs.inner.Renaming.{name_of, AreRenamed};
+ghost use Rattle.family_renaming.specs.inner.Splitting.{least_event, KnowsLeast, KnowsOrdered, Knows, AtEvent, IsOrdered, Ordered};
 
 use crate::parting::{Parts, Place, parts_at};
 use crate::variable_order::VariableOrder;

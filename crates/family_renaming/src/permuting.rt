@@ -1,5 +1,5 @@
 ghost use Rattle.std.specs.Prelude.{◌≡◌, ◌≤◌, ◌<◌, ◌^◌, ◌↔◌, IfOk, IsTrue, length, slice_get, Some};
-ghost use Rattle.family_renaming.specs.Orders.{Undoes, HasPlaces};
+ghost use Rattle.family_renaming.specs.inner.Orders.{Undoes, HasPlaces};
 
 use plain_values::Mem;
 use std::alloc::Global;

@@ -14,7 +14,7 @@ pub struct VariableOrder {
 }
 
 impl Model for VariableOrder {
-    ghost use Rattle.family_renaming.specs.Renaming.{OrderTables, AreInverse};
+    ghost use Rattle.family_renaming.specs.inner.Renaming.{OrderTables, AreInverse};
 
     ghost Value = { OrderTables };
 
@@ -24,7 +24,7 @@ impl Model for VariableOrder {
 }
 
 impl VariableOrder {
-    ghost use Rattle.family_renaming.specs.Renaming.{AreInverse, IsEventOrder, own_order};
+    ghost use Rattle.family_renaming.specs.inner.Renaming.{AreInverse, IsEventOrder, own_order};
 
     /// The order in which the variable at each place is of the event that stands there, if the list has
     /// each event from 0 on once; else the order of the events themselves. The time goes with the length of the list.

@@ -5,7 +5,8 @@ use Rattle.std.proofs.lemmas.List.{at_drop_more}
 use Rattle.std.specs.List.{list_all}
 use Rattle.fault_system.specs.Truth.{NumberSet, Has, member, set_of}
 use Rattle.fault_system.specs.Systems.{System, Holds}
-use Rattle.fault_system.specs.CutSets.{IsEventSet, IsSubset, IsMinimalCutSet, without, makes_hold, is_minimal}
+use Rattle.fault_system.specs.CutSets.{IsEventSet, IsSubset, IsMinimalCutSet, makes_hold}
+use Rattle.fault_system.specs.inner.CutSets.{without, is_minimal}
 use Rattle.fault_system.proofs.Marks.{Below-member}
 use Rattle.fault_system.proofs.NumberSets.{RisesWithin-filter, list_all-at, list_all-made, same_rising, same_set, set_of-filter}
 use Rattle.fault_system.proofs.HoldsLaws.{applied-grows, holds_of-exact}

@@ -4,7 +4,8 @@ use Rattle.std.proofs.lemmas.Bool.{false≢true}
 use Rattle.fault_system.specs.Truth.{NumberSet, Has, count_true, set_of, truth}
 use Rattle.fault_system.specs.Systems.{System, IsClosed, Holds}
 use Rattle.fault_system.specs.CutSets.{IsCutSet}
-use Rattle.fault_system.specs.Listings.{IsBefore, IsPage}
+use Rattle.fault_system.specs.Listings.{IsBefore}
+use Rattle.fault_system.specs.inner.Listings.{IsPage}
 use Rattle.fault_system.specs.declared.formula.FactInfo.{FactInfo}
 use Rattle.fault_system.specs.declared.formula.EventInfo.{EventInfo}
 use Rattle.fault_system.specs.declared.formula.Formula.{Formula}

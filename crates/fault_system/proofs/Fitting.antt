@@ -2,7 +2,7 @@
 use Rattle.std.proofs.Common.{ℕ, zero, suc, ◌-◌, ◌≡◌, ◌≢◌, ◌≤◌, ◌↔◌, Bool, true, false, not, IsTrue, ap, ◌∙◌, sym, refl, subst, arith}
 use Rattle.std.proofs.lemmas.Bool.{false≢true}
 use Rattle.fault_system.specs.Truth.{NumberSet, truth}
-use Rattle.fault_system.specs.Rounds.{FitsTime, within}
+use Rattle.fault_system.specs.inner.Rounds.{FitsTime, within}
 use Rattle.fault_system.specs.declared.formula.Formula.{Formula}
 use Rattle.fault_system.proofs.RoundLaws.{within_all}
 

@@ -5,8 +5,10 @@ use Rattle.std.specs.List.{list_all}
 use Rattle.fault_system.specs.Truth.{Has, set_of}
 use Rattle.fault_system.specs.Systems.{System, Holds}
 use Rattle.plain_values.specs.Rising.{RisesWithin}
-use Rattle.fault_system.specs.CutSets.{IsEventSet, IsCutSet, IsSubset, IsMinimalCutSet, is_minimal, makes_hold, without}
-use Rattle.fault_system.specs.Listings.{IsBefore, IsInListingOrder, IsListing, IsWithinOrder, choose, rising_sets_up_to, listing}
+use Rattle.fault_system.specs.CutSets.{IsEventSet, IsCutSet, IsSubset, IsMinimalCutSet, makes_hold}
+use Rattle.fault_system.specs.inner.CutSets.{is_minimal, without}
+use Rattle.fault_system.specs.Listings.{IsBefore, IsInListingOrder, IsListing, IsWithinOrder}
+use Rattle.fault_system.specs.inner.Listings.{choose, rising_sets_up_to, listing}
 use Rattle.fault_system.proofs.CutSetLaws.{Holds-grows, makes_hold-exact, is_minimal-exact, is_minimal-sound}
 use Rattle.fault_system.proofs.NumberSets.{RisesWithin-lower, RisesWithin-filter, set_of-filter, set_of-first, set_of-rest, set_of-cases, same_set}
 use Rattle.fault_system.proofs.Elements.{In, In-contains, contains_In, In-append, In-front, In-back, In-map, In-mapped, In-filter, In-filtered, each-at, each-made}

@@ -6,7 +6,8 @@ use Rattle.std.proofs.lemmas.List.{length-replicate, get_or-set_same, get_or-set
 use Rattle.std.proofs.lemmas.Option.{slice_get_within}
 use Rattle.fault_system.specs.Truth.{NumberSet, member, truth}
 use Rattle.fault_system.specs.Systems.{System, round}
-use Rattle.fault_system.specs.Rounds.{IsTableTo, time_of, within}
+use Rattle.fault_system.specs.Rounds.{time_of}
+use Rattle.fault_system.specs.inner.Rounds.{IsTableTo, within}
 use Rattle.fault_system.specs.declared.formula.FactInfo.{FactInfo}
 use Rattle.fault_system.proofs.NumberSets.{member-map, member-past, member-none, same_set}
 use Rattle.fault_system.proofs.HoldsLaws.{round-more}

@@ -4,7 +4,8 @@ use Rattle.std.specs.Prelude.{slice_get, nat_lt, nat_le}
 use Rattle.std.proofs.lemmas.Bool.{false≢true, and_from, and_parts}
 use Rattle.fault_system.specs.Truth.{NumberSet, Has, member, truth}
 use Rattle.fault_system.specs.Systems.{System, Holds, round, holds_of}
-use Rattle.fault_system.specs.Rounds.{FitsTime, IsRoundOf, AreRounds, IsTable, IsTableTo, ever, time_of, within}
+use Rattle.fault_system.specs.Rounds.{IsRoundOf, AreRounds, time_of}
+use Rattle.fault_system.specs.inner.Rounds.{FitsTime, IsTable, IsTableTo, ever, within}
 use Rattle.fault_system.specs.declared.formula.Formula.{Formula}
 use Rattle.fault_system.specs.declared.formula.FactInfo.{FactInfo}
 use Rattle.fault_system.proofs.TruthLaws.{same_answer}

@@ -6,7 +6,8 @@ use Rattle.std.proofs.lemmas.Bool.{false≢true, cases_Bool, or_cases}
 use Rattle.std.proofs.Math.Bool.{or-true}
 use Rattle.fault_system.specs.Truth.{occurs, occurs_event, set_of, truth}
 use Rattle.fault_system.specs.Systems.{System}
-use Rattle.fault_system.specs.Rounds.{FitsTime, IsChanged, IsChecked, IsTable, IsUntouched, no_event, only, time_of}
+use Rattle.fault_system.specs.Rounds.{no_event, only, time_of}
+use Rattle.fault_system.specs.inner.Rounds.{FitsTime, IsChanged, IsChecked, IsTable, IsUntouched}
 use Rattle.fault_system.specs.declared.formula.Formula.{Formula}
 use Rattle.fault_system.proofs.Occurring.{truth-same}
 

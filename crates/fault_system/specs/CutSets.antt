@@ -1,6 +1,5 @@
 -- Cut sets of a target, and the minimal ones (NUREG-0492).
-use Rattle.std.specs.Prelude.{ℕ, ◌≡◌, Bool, List, length, ◌==◌, ◌&&◌, not}
-use Rattle.std.specs.List.{list_all}
+use Rattle.std.specs.Prelude.{ℕ, ◌≡◌, Bool, List, length}
 use Rattle.fault_system.specs.Truth.{NumberSet, Has, member, set_of}
 use Rattle.plain_values.specs.Rising.{RisesWithin}
 use Rattle.fault_system.specs.Systems.{System, Holds, holds_of}
@@ -22,15 +21,6 @@ abbrev pub IsMinimalCutSet : System → ℕ → List ℕ → Type 0
 IsMinimalCutSet system target set =
     IsCutSet system target set × ((other : List ℕ) → IsCutSet system target other → IsSubset other set → other ≡ set)
 
--- a set without one number
-abbrev pub without : NumberSet → ℕ → NumberSet
-without set number n = set n && not (n == number)
-
 -- whether the target holds under a set of events
 abbrev pub makes_hold : System → ℕ → NumberSet → Bool
 makes_hold system target events = member (holds_of system events) target
-
--- whether the target holds under these events, and under them without any one of them does not
-abbrev pub is_minimal : System → ℕ → List ℕ → Bool
-is_minimal system target set =
-    makes_hold system target (set_of set) && list_all (λ n. not (makes_hold system target (without (set_of set) n))) set

@@ -3,3 +3,4 @@ pub mod Systems
 pub mod CutSets
 pub mod Listings
 pub mod Rounds
+pub mod inner

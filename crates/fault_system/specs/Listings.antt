@@ -1,8 +1,8 @@
 -- The order of listed sets, the listing of a target's minimal cut sets, and its pages.
-use Rattle.std.specs.Prelude.{ℕ, zero, suc, ◌+◌, ◌≤◌, ◌≡◌, ◌↔◌, Bool, false, List, [], ◌∷◌, ◌++◌, length, map, take, filter, Option, None, Some, IfSome, unwrap_or, Contains, IsTrue, nat_lt, ◌==◌, ◌&&◌, ◌||◌}
+use Rattle.std.specs.Prelude.{ℕ, ◌≤◌, ◌↔◌, Bool, false, List, [], ◌∷◌, length, take, filter, Option, None, Some, IfSome, Contains, IsTrue, nat_lt, ◌==◌, ◌&&◌, ◌||◌}
 use Rattle.std.specs.List.{AllByRecursion}
 use Rattle.fault_system.specs.Systems.{System}
-use Rattle.fault_system.specs.CutSets.{IsMinimalCutSet, is_minimal}
+use Rattle.fault_system.specs.CutSets.{IsMinimalCutSet}
 
 -- at the first place where the two differ, a has the smaller number
 abbrev pub is_lower : List ℕ → List ℕ → Bool
@@ -31,22 +31,6 @@ pub record IsListing (system : System) (target : ℕ) (most : Option ℕ) (sets 
   pub exact : (set : List ℕ) → Contains sets set ↔ (IsMinimalCutSet system target set × IsWithinOrder most set)
   pub ordered : IsInListingOrder sets
 
--- the sets of `size` of the `count` numbers from low on, each a rising list, in the order of their first difference
-abbrev pub choose : ℕ → ℕ → ℕ → List (List ℕ)
-choose zero low count = [] ∷ []
-choose (suc size) low zero = []
-choose (suc size) low (suc count) = map (λ set. low ∷ set) (choose size (low + 1) count) ++ choose (suc size) (low + 1) count
-
--- the sets of at most `size` of the numbers below `count`, in listing order
-abbrev pub rising_sets_up_to : ℕ → ℕ → List (List ℕ)
-rising_sets_up_to zero count = choose zero 0 count
-rising_sets_up_to (suc size) count = rising_sets_up_to size count ++ choose (suc size) 0 count
-
--- the listing computed: of all sets of events in listing order, those that are minimal
-abbrev pub listing : System → ℕ → Option ℕ → List (List ℕ)
-listing system target most =
-    let count = length system.events in filter (is_minimal system target) (rising_sets_up_to (unwrap_or most count) count)
-
 -- the sets of a listing that a given set is before; all of them where none is given
 abbrev pub sets_after : Option (List ℕ) → List (List ℕ) → List (List ℕ)
 sets_after None sets = sets
@@ -61,8 +45,3 @@ first_of (Some limit) sets = take limit sets
 abbrev pub has_more : Option ℕ → List (List ℕ) → Bool
 has_more None sets = false
 has_more (Some limit) sets = nat_lt limit (length sets)
-
--- a page of a listing: the first sets after a given one, as many as the limit lets, and whether a further one follows
-pub record IsPage (sets : List (List ℕ)) (after : Option (List ℕ)) (limit : Option ℕ) (page : List (List ℕ)) (more : Bool) : Type 0 where
-  pub page_is : page ≡ first_of limit (sets_after after sets)
-  pub more_is : more ≡ has_more limit (sets_after after sets)

@@ -3,9 +3,11 @@
 ghost use Rattle.std.specs.Prelude.{◌≡◌, ◌↔◌, ◌++◌, ◌∷◌, [], ℕ, Bool, List, Option, None, Some, Contains};
 ghost use Rattle.fault_system.specs.Truth.{NumberSet, set_of};
 ghost use Rattle.fault_system.specs.Systems.{System, Holds};
-ghost use Rattle.fault_system.specs.Rounds.{AreRounds, IsChanged, IsChecked, IsTable, no_event, only};
+ghost use Rattle.fault_system.specs.Rounds.{AreRounds, no_event, only};
+ghost use Rattle.fault_system.specs.inner.Rounds.{IsChanged, IsChecked, IsTable};
 ghost use Rattle.fault_system.specs.CutSets.{IsEventSet, IsSubset};
-ghost use Rattle.fault_system.specs.Listings.{IsInListingOrder, IsListing, IsPage, IsWithinOrder, listing};
+ghost use Rattle.fault_system.specs.Listings.{IsInListingOrder, IsListing, IsWithinOrder};
+ghost use Rattle.fault_system.specs.inner.Listings.{IsPage, listing};
 
 /// The computed listing is a listing of the target.
 pub fn computed_listing()

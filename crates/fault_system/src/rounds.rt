@@ -6,7 +6,8 @@
 
 ghost use Rattle.std.specs.Prelude.{◌≡◌, ◌↔◌, ◌<◌, ◌+◌, ◌^◌, ℕ, IfOk, IsTrue, length, replicate};
 ghost use Rattle.fault_system.specs.Truth.{member, truth};
-ghost use Rattle.fault_system.specs.Rounds.{AreRounds, FitsFact, FitsTime, IsTable, IsTableTo, ever, time_of, within};
+ghost use Rattle.fault_system.specs.Rounds.{AreRounds, time_of};
+ghost use Rattle.fault_system.specs.inner.Rounds.{FitsFact, FitsTime, IsTable, IsTableTo, ever, within};
 
 use crate::bits::{Bits, Numbers};
 use crate::formula::Formula;

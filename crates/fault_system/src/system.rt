@@ -32,7 +32,8 @@ impl Model for FaultSystem {
 
 impl FaultSystem {
     ghost use Rattle.fault_system.specs.Systems.{IsSystem, Holds, event_name, fact_name, holds_of};
-    ghost use Rattle.fault_system.specs.CutSets.{IsEventSet, IsMinimalCutSet, is_minimal, makes_hold, without};
+    ghost use Rattle.fault_system.specs.CutSets.{IsEventSet, IsMinimalCutSet, makes_hold};
+    ghost use Rattle.fault_system.specs.inner.CutSets.{is_minimal, without};
 
     /// The system of these facts and events.
     pub fn new(facts: List<FactInfo>, events: List<EventInfo>) -> FaultSystem

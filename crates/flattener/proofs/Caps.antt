@@ -2,7 +2,7 @@
 use Rattle.std.proofs.Common.{◌≡◌, ◌⊎◌, inl, inr, ℕ, ◌+◌, ◌<◌, ◌≤◌, cond, refl, sym, ap, ◌∙◌, arith}
 use Rattle.std.proofs.lemmas.Bool.{cases_lt, le-ltb, lt-ltb}
 use Rattle.flattener.specs.Flat.{most_places}
-use Rattle.flattener.specs.Tables.{capped}
+use Rattle.flattener.specs.inner.Tables.{capped}
 
 -- a count is itself, or over the limit
 pub capped_cases : (n : ℕ) → ((n ≤ most_places) × (capped n ≡ n)) ⊎ ((most_places < n) × (capped n ≡ most_places + 1))

@@ -27,7 +27,7 @@ use Rattle.flattener.specs.Facts.{enter_formula, is_empty, linked_formula, some_
 use Rattle.flattener.specs.Flat.{places, places_step}
 use Rattle.flattener.specs.Formulas.{cause_formula, cause_step, conditions_to, emission_formula, flow_formula, held_formula, in_state, origin_formula, step_formula, steps_to}
 use Rattle.flattener.specs.Numbered.{Numbered, Site, entering, event_formula, fact_formula, own_fact, reached_inward, some_entering}
-use Rattle.flattener.specs.Tables.{capped, places_of}
+use Rattle.flattener.specs.inner.Tables.{capped, places_of}
 use Rattle.flattener.proofs.Caps.{capped_cases}
 
 pub places-True : places True ≡ 1

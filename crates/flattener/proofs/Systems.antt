@@ -12,7 +12,7 @@ use Rattle.fault_system.specs.Truth.{in_range}
 use Rattle.fault_system.specs.Systems.{IsSystem, NamesDiffer}
 use Rattle.fault_system.specs.declared.formula.FactInfo.{FactInfo}
 use Rattle.model_facts.specs.Assembly.{Assembly, assembly_of}
-use Rattle.model_facts.specs.Laws.{AreNamed}
+use Rattle.model_facts.specs.inner.Laws.{AreNamed}
 use Rattle.model_facts.specs.Names.{event_name, fact_name}
 use Rattle.model_facts.specs.declared.keys.FactKey.{FactKey}
 use Rattle.model_facts.proofs.RootLaws.{root-events-differ, root-facts-differ}

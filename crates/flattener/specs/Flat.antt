@@ -1,5 +1,5 @@
 -- A model as a system of facts and events, and when it is too large.
-use Rattle.std.specs.Prelude.{◌≡◌, ℕ, ◌+◌, nat_lt, map, sum, Option, None}
+use Rattle.std.specs.Prelude.{ℕ, ◌+◌, nat_lt, map, sum, Option}
 use Rattle.std.specs.Option.{option_or}
 use Rattle.plain_values.specs.declared.refusal.Code.TheVariants.{TooManyPlaces}
 use Rattle.plain_values.specs.declared.refusal.Place.TheVariants.{Words}
@@ -60,11 +60,6 @@ most_places = 4194304
 -- M9 where the formulas of a model have too many places
 abbrev pub places_refusal : Numbered → Option Refusal
 places_refusal numbered = over_limit (nat_lt most_places (all_places numbered)) TooManyPlaces Words
-
--- This is the system of a model whose facts and events are numbered, and its formulas do not have too many places.
-pub record Flattened (numbered : Numbered) (system : System) : Type 0 where
-  pub equals : system ≡ system_by numbered
-  pub few : places_refusal numbered ≡ None
 
 -- The refusal of a model that is too large: M6, or else M7, or else M9.
 abbrev pub size_refusal : Assembly → Option Refusal

@@ -7,7 +7,7 @@ ghost use Rattle.flattener.specs.Facts.{enter_formula, exit_formula, flow_or_lin
 ghost use Rattle.flattener.specs.Flat.{all_places, places};
 ghost use Rattle.flattener.specs.Formulas.{all_flow_formulas, cause_formula, emission_formula, emission_formulas, flow_formula, flow_formulas, held_formula, origin_formula, step_formula};
 ghost use Rattle.flattener.specs.Numbered.{reached_inward, some_entering};
-ghost use Rattle.flattener.specs.Tables.{capped, flow_seen, places_of};
+ghost use Rattle.flattener.specs.inner.Tables.{capped, flow_seen, places_of};
 
 use crate::exits::covers;
 use crate::facts::{arrival, inward_of, outward_of};

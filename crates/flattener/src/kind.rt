@@ -1,7 +1,7 @@
 ghost use Rattle.std.specs.Prelude.{◌≡◌, ◌++◌, ℕ, IfOk, OnOk, false, filter, map, nat_eq, slice_index_or};
 ghost use Rattle.std.specs.HashMap.{get};
 ghost use Rattle.flattener.specs.Formulas.{branches_to, condition_to, conditions_to, emissions_at, end_of, flow_at, flows_at, steps_to};
-ghost use Rattle.flattener.specs.Tables.{AreConditions, AreEmissions, AreFlows, AreSteps, flow_seen, row_at, values};
+ghost use Rattle.flattener.specs.inner.Tables.{AreConditions, AreEmissions, AreFlows, AreSteps, flow_seen, row_at, values};
 
 use crate::rows::{add, at};
 use composite_states::ClauseMeaning;
@@ -37,7 +37,7 @@ impl<'m> Model for Kind<'m> {
 
     ghost use Rattle.std.specs.Prelude.{nat_eq};
     ghost use Rattle.std.specs.HashMap.{get};
-    ghost use Rattle.flattener.specs.Tables.{AreConditions, AreEmissions, AreFlows, AreSteps};
+    ghost use Rattle.flattener.specs.inner.Tables.{AreConditions, AreEmissions, AreFlows, AreSteps};
 
     ghost view = { λ k. k.model.now };
 

@@ -3,7 +3,7 @@ ghost use Rattle.std.specs.HashMap.{get};
 ghost use Rattle.model_facts.specs.Facts.{event_number, fact_number};
 ghost use Rattle.flattener.specs.Facts.{fact_at, linked_formula, linked_from, perhaps_at};
 ghost use Rattle.flattener.specs.Numbered.{event_formula, fact_formula, site_of};
-ghost use Rattle.flattener.specs.Tables.{AreLinks, SideKey as Key, row_at, same_key, side_of_key};
+ghost use Rattle.flattener.specs.inner.Tables.{AreLinks, SideKey as Key, row_at, same_key, side_of_key};
 
 use crate::kinds::Kinds;
 use crate::rows::{add, at};
@@ -44,7 +44,7 @@ impl<'n> Model for Numbers<'n> {
 
     ghost use Rattle.std.specs.Prelude.{◌≡◌};
     ghost use Rattle.std.specs.HashMap.{get};
-    ghost use Rattle.flattener.specs.Tables.{AreLinks, same_key};
+    ghost use Rattle.flattener.specs.inner.Tables.{AreLinks, same_key};
 
     ghost view = { λ n. record { assembly = n.assembly.now; universe = n.universe.now; facts = n.facts.now; events = n.events.now } };
 

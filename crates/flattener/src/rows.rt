@@ -1,6 +1,6 @@
 ghost use Rattle.std.specs.Prelude.{◌≡◌, ◌++◌, ◌∷◌, [], OnOk, cond};
 ghost use Rattle.std.specs.HashMap.{get};
-ghost use Rattle.flattener.specs.Tables.{row_at};
+ghost use Rattle.flattener.specs.inner.Tables.{row_at};
 
 use plain_values::{List, Mem};
 use std::alloc::Global;

@@ -9,7 +9,7 @@ use Rattle.fault_system.specs.declared.formula.Formula.TheVariants.{Event}
 use Rattle.fault_system.proofs.TruthLaws.{truth-Event}
 use Rattle.property_reader.specs.declared.rate.Rate.{Rate}
 use Rattle.property_reader.specs.declared.rate.RateKind.TheVariants.{Lambda}
-use Rattle.fmea_rows.specs.Rows.{IsRow}
+use Rattle.fmea_rows.specs.inner.Rows.{IsRow}
 use Rattle.fmea_rows.specs.Text.{component_of, header, line_text, table_text}
 
 -- ---- texts

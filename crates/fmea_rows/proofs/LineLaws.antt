@@ -20,8 +20,9 @@ use Rattle.property_reader.specs.Rates.{conservative_rate, rate_word}
 use Rattle.property_reader.specs.declared.rate.Rate.{Rate}
 use Rattle.property_reader.specs.declared.rate.RateKind.{RateKind}
 use Rattle.property_reader.specs.declared.rate.RateKind.TheVariants.{Prob, Lambda}
-use Rattle.fmea_rows.specs.Text.{HasFieldNames, IsPlainField, component_of, header, line_text, rate_of, rate_text, row_fields, table_text}
-use Rattle.fmea_rows.specs.Written.{record_text, row_record}
+use Rattle.fmea_rows.specs.Text.{component_of, header, line_text, rate_of, rate_text, row_fields, table_text}
+use Rattle.fmea_rows.specs.inner.Text.{HasFieldNames, IsPlainField}
+use Rattle.fmea_rows.specs.inner.Written.{record_text, row_record}
 use Rattle.fmea_rows.specs.declared.row.Row.{Row}
 
 -- ---- fields that need no quotes

@@ -14,7 +14,8 @@ use Rattle.fault_system.specs.Rounds.{IsLeastRound, no_event, only}
 use Rattle.fault_system.proofs.Elements.{In, In-append, In-back, In-contains, In-filter, In-filtered, In-front, In-map, In-mapped, contains_In, each-made}
 use Rattle.fault_system.proofs.HoldsLaws.{holds_of-exact, round-least}
 use Rattle.fault_system.proofs.NumberSets.{RisesWithin-at, RisesWithin-filter, contained-in_set}
-use Rattle.fmea_rows.specs.Rows.{AreRows, IsInRowOrder, IsRow, event_rows, is_reached, round_of, row_of, rows_of}
+use Rattle.fmea_rows.specs.Rows.{event_rows, is_reached, round_of, row_of, rows_of}
+use Rattle.fmea_rows.specs.inner.Rows.{AreRows, IsInRowOrder, IsRow}
 use Rattle.fmea_rows.specs.declared.row.Row.{Row}
 use Rattle.fmea_rows.proofs.RowOrder.{IsBefore, before_effect, before_event, one_order, order-append}
 

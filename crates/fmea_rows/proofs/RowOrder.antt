@@ -4,7 +4,7 @@ use Rattle.std.proofs.lemmas.Bool.{and_from, and_parts, or_cases, or_left, or_ri
 use Rattle.std.specs.List.{AllByRecursion}
 use Rattle.std.specs.Prelude.{IsTrue}
 use Rattle.fault_system.proofs.Elements.{In, In-append, each-at, each-made}
-use Rattle.fmea_rows.specs.Rows.{IsInRowOrder, is_row_before}
+use Rattle.fmea_rows.specs.inner.Rows.{IsInRowOrder, is_row_before}
 use Rattle.fmea_rows.specs.declared.row.Row.{Row}
 
 abbrev pub IsBefore : Row → Row → Type 0

@@ -8,14 +8,15 @@ use Rattle.plain_values.specs.Rising.{RisesWithin}
 use Rattle.fault_system.specs.Truth.{NumberSet, Has, member, set_of}
 use Rattle.fault_system.specs.Systems.{System}
 use Rattle.fault_system.specs.CutSets.{IsSubset, makes_hold}
-use Rattle.fault_system.specs.Rounds.{FitsFact, IsChecked, IsRoundOf, IsTable, no_event, only, time_of}
+use Rattle.fault_system.specs.Rounds.{IsRoundOf, no_event, only, time_of}
+use Rattle.fault_system.specs.inner.Rounds.{FitsFact, IsChecked, IsTable}
 use Rattle.fault_system.proofs.Elements.{In, In-filter}
 use Rattle.fault_system.proofs.HoldsLaws.{holds_of-exact}
 use Rattle.fault_system.proofs.NumberSets.{RisesWithin-at, RisesWithin-filter, same_rising, same_set, set_of-filter}
 use Rattle.fault_system.proofs.RoundLaws.{ever-holds, table-rounds}
 use Rattle.fault_system.proofs.TruthLaws.{same_answer}
 use Rattle.fmea_rows.specs.Rows.{event_rows, is_reached, round_of, row_of}
-use Rattle.fmea_rows.specs.Tables.{AreUsers, FitsWhereFelt, IsKnown, IsRight, changed, changed_rows, facts_of, is_new, row_if, table_rows}
+use Rattle.fmea_rows.specs.inner.Tables.{AreUsers, FitsWhereFelt, IsKnown, IsRight, changed, changed_rows, facts_of, is_new, row_if, table_rows}
 use Rattle.fmea_rows.specs.declared.change.Change.{Change}
 use Rattle.fmea_rows.specs.declared.table.Known.{Known}
 use Rattle.fmea_rows.specs.declared.users.Users.{Users}

@@ -5,9 +5,10 @@ use Rattle.std.proofs.lemmas.Bool.{cases_eq}
 use Rattle.std.proofs.lemmas.List.{get_or-set_other, get_or-set_same, map_more, take_more}
 use Rattle.fault_system.specs.Truth.{NumberSet, Has, set_of}
 use Rattle.fault_system.specs.Systems.{System}
-use Rattle.fault_system.specs.Rounds.{FitsFact, time_of}
+use Rattle.fault_system.specs.Rounds.{time_of}
+use Rattle.fault_system.specs.inner.Rounds.{FitsFact}
 use Rattle.fault_system.proofs.NumberSets.{set_of-cases, set_of-first, set_of-rest}
-use Rattle.fmea_rows.specs.Tables.{IsTested, facts_of}
+use Rattle.fmea_rows.specs.inner.Tables.{IsTested, facts_of}
 use Rattle.fmea_rows.specs.declared.change.Change.{Change}
 
 -- a number of a list is one of its front or the last

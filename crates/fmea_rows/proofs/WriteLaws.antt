@@ -6,7 +6,7 @@ use Rattle.fta_outside.specs.Outside.{Rose, TookPrefix, with_bytes}
 use Rattle.fta_outside.proofs.Writing.{rose_from, took_more, with_bytes-nil, wrote_both}
 use Rattle.fta_outside.specs.declared.error.WriteError.{WriteError}
 use Rattle.fta_outside.specs.declared.error.WriteError.TheVariants.{Failed}
-use Rattle.fmea_rows.specs.Written.{Writes}
+use Rattle.fmea_rows.specs.inner.Written.{Writes}
 
 -- nothing was written yet
 pub wrote_none : (t : Option (List ℕ)) → t ≡ with_bytes t []

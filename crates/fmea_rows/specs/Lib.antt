@@ -1,4 +1,3 @@
 pub mod Rows
 pub mod Text
-pub mod Tables
-pub mod Written
+pub mod inner

@@ -1,5 +1,5 @@
 -- The text of an FMEA table: lines of fields with commas between them.
-use Rattle.std.specs.Prelude.{ℕ, ◌==◌, List, [], ◌∷◌, ◌++◌, map, codes, decimal, slice_index_or, All, Contains}
+use Rattle.std.specs.Prelude.{ℕ, ◌==◌, List, [], ◌∷◌, ◌++◌, map, codes, decimal, slice_index_or}
 use Rattle.std.specs.List.{before_first, flat_map, join_with_byte}
 use Rattle.fault_system.specs.Systems.{System, event_name, fact_name}
 use Rattle.property_reader.specs.Rates.{conservative_rate, rate_word}
@@ -35,17 +35,3 @@ line_text fields = join_with_byte 44 fields ++ codes "\n"
 -- a table: the line of the columns, and a line for each row
 abbrev pub table_text : System → List Rate → List Row → List ℕ
 table_text system rates rows = flat_map line_text (header ∷ map (row_fields system rates) rows)
-
--- ---- what is asked of the names
-
--- a field that stands in a line as it is: it holds neither a comma nor a quotation mark, a line feed or a carriage return
-pub record IsPlainField (field : List ℕ) : Type 0 where
-  pub no_comma : Contains field 44 → ⊥
-  pub no_quote : Contains field 34 → ⊥
-  pub no_line_feed : Contains field 10 → ⊥
-  pub no_return : Contains field 13 → ⊥
-
--- the names of facts and of events stand in a line as they are
-pub record HasFieldNames (system : System) : Type 0 where
-  pub facts : All (λ fact. IsPlainField fact.name) system.facts
-  pub events : All (λ event. IsPlainField event.name) system.events

@@ -3,7 +3,7 @@
 ghost use Rattle.std.specs.Prelude.{◌≡◌, IsTrue, length, slice_set};
 ghost use Rattle.plain_values.specs.Rising.{RisesWithin};
 ghost use Rattle.fault_system.specs.Rounds.{time_of};
-ghost use Rattle.fmea_rows.specs.Tables.{changed, facts_of};
+ghost use Rattle.fmea_rows.specs.inner.Tables.{changed, facts_of};
 
 /// A fact that has another time in a table.
 #[derive(Clone, Copy)]

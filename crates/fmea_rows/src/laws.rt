@@ -7,8 +7,10 @@ ghost use Rattle.fault_system.specs.Systems.{System};
 ghost use Rattle.property_reader.specs.declared.rate.Rate.{Rate};
 ghost use Rattle.csv.specs.Reading.{default_config, records_from};
 ghost use Rattle.csv.specs.declared.parser.State.TheVariants.{StartRecord};
-ghost use Rattle.fmea_rows.specs.Rows.{AreRows, rows_of};
-ghost use Rattle.fmea_rows.specs.Text.{HasFieldNames, header, row_fields, table_text};
+ghost use Rattle.fmea_rows.specs.Rows.{rows_of};
+ghost use Rattle.fmea_rows.specs.inner.Rows.{AreRows};
+ghost use Rattle.fmea_rows.specs.Text.{header, row_fields, table_text};
+ghost use Rattle.fmea_rows.specs.inner.Text.{HasFieldNames};
 ghost use Rattle.fmea_rows.specs.declared.row.Row.{Row};
 
 /// The computed rows are the rows: a row stands exactly where its event alone reaches its effect.

@@ -7,9 +7,11 @@
 ghost use Rattle.std.specs.Prelude.{◌≡◌, ◌≤◌, ◌<◌, ◌+◌, ◌^◌, ◌++◌, ℕ, IfOk, IsTrue, OnOk, length, map, slice_index_or, replicate};
 ghost use Rattle.plain_values.specs.Rising.{RisesWithin};
 ghost use Rattle.fault_system.specs.Truth.{member};
-ghost use Rattle.fault_system.specs.Rounds.{IsTable, no_event, only, time_of};
-ghost use Rattle.fmea_rows.specs.Rows.{AreRows, event_rows, rows_of};
-ghost use Rattle.fmea_rows.specs.Tables.{AreUsers, IsBetween, IsKnown, IsRight, changed_rows, is_new, table_rows};
+ghost use Rattle.fault_system.specs.Rounds.{no_event, only, time_of};
+ghost use Rattle.fault_system.specs.inner.Rounds.{IsTable};
+ghost use Rattle.fmea_rows.specs.Rows.{event_rows, rows_of};
+ghost use Rattle.fmea_rows.specs.inner.Rows.{AreRows};
+ghost use Rattle.fmea_rows.specs.inner.Tables.{AreUsers, IsBetween, IsKnown, IsRight, changed_rows, is_new, table_rows};
 
 use crate::change::{Change, are_rising, make_changes, take_back, time_at};
 use crate::proposing::Proposer;

@@ -2,8 +2,9 @@
 
 ghost use Rattle.std.specs.Prelude.{◌≡◌, ◌≤◌, ◌<◌, ◌+◌, ◌^◌, ℕ, IsTrue, length, slice_index_or};
 ghost use Rattle.fault_system.specs.Truth.{Has, member, set_of};
-ghost use Rattle.fault_system.specs.Rounds.{FitsFact, time_of};
-ghost use Rattle.fmea_rows.specs.Tables.{AllFit, FitsAround, FitsWhereFelt, IsTested, facts_of};
+ghost use Rattle.fault_system.specs.Rounds.{time_of};
+ghost use Rattle.fault_system.specs.inner.Rounds.{FitsFact};
+ghost use Rattle.fmea_rows.specs.inner.Tables.{AllFit, FitsAround, FitsWhereFelt, IsTested, facts_of};
 
 use crate::change::Change;
 use crate::users::{Users, users_at};

@@ -3,7 +3,7 @@
 ghost use Rattle.std.specs.Prelude.{◌≡◌, ◌+◌, ◌<◌, ◌||◌, ◌&&◌, ◌==◌, ℕ, [], IfOk, OnOk, length, map, false, slice_index_or};
 ghost use Rattle.std.specs.List.{list_any};
 ghost use Rattle.fault_system.specs.Truth.{occurs, occurs_event};
-ghost use Rattle.fmea_rows.specs.Tables.{AreUsers, AreUsersBelow, Notes, users_at};
+ghost use Rattle.fmea_rows.specs.inner.Tables.{AreUsers, AreUsersBelow, Notes, users_at};
 
 use fault_system::{FaultSystem, Formula};
 use plain_values::{List, Mem};

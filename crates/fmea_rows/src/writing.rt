@@ -5,8 +5,9 @@ ghost use Rattle.aadl_syntax.specs.Form.{IsNumber};
 ghost use Rattle.csv.specs.Records.{fields_of};
 ghost use Rattle.csv.specs.Writing as Csv;
 ghost use Rattle.fta_outside.specs.Outside.{Rose, TookPrefix, with_bytes};
-ghost use Rattle.fmea_rows.specs.Text.{HasFieldNames, header, table_text};
-ghost use Rattle.fmea_rows.specs.Written.{IsAtLine, Writes, record_text, row_record};
+ghost use Rattle.fmea_rows.specs.Text.{header, table_text};
+ghost use Rattle.fmea_rows.specs.inner.Text.{HasFieldNames};
+ghost use Rattle.fmea_rows.specs.inner.Written.{IsAtLine, Writes, record_text, row_record};
 
 use crate::fields::{put_fields, put_header};
 use crate::row::Row;

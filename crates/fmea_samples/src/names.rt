@@ -2,7 +2,7 @@
 
 ghost use Rattle.std.specs.Prelude.{All, Contains, IsTrue};
 ghost use Rattle.plain_values.specs.Rising.{RisesWithin};
-ghost use Rattle.fmea_rows.specs.Text.{HasFieldNames, IsPlainField};
+ghost use Rattle.fmea_rows.specs.inner.Text.{HasFieldNames, IsPlainField};
 
 use fault_system::{EventInfo, FactInfo, FaultSystem};
 

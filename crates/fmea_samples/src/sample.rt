@@ -2,7 +2,7 @@
 
 ghost use Rattle.std.specs.Prelude.{length};
 ghost use Rattle.plain_values.specs.Rising.{RisesWithin};
-ghost use Rattle.fmea_rows.specs.Text.{HasFieldNames};
+ghost use Rattle.fmea_rows.specs.inner.Text.{HasFieldNames};
 
 use crate::compared::print_compared;
 use crate::names::{are_plain, are_rising};

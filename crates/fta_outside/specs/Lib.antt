@@ -1,3 +1,3 @@
-pub mod Memory
 pub mod Outside
 pub mod Reports
+pub mod inner

@@ -11,7 +11,8 @@ use Rattle.system_answers.specs.Targets.{IsFactNamed}
 use Rattle.system_answers.specs.Voices.{Voice}
 use Rattle.system_answers.proofs.Derived.{accepted-holds, why-confirmed}
 use Rattle.fta_run.specs.Due.{command_text, model_of_texts, other_texts, texts_of}
-use Rattle.fta_run.specs.Files.{StandsBefore, too_long_from}
+use Rattle.fta_run.specs.Files.{too_long_from}
+use Rattle.fta_run.specs.inner.Files.{StandsBefore}
 use Rattle.fta_run.specs.Words.{Confirm, Why}
 use Rattle.fta_run.proofs.Inputs.{clear_few, clear_short, from_short, no_refusals, short_of}
 use Rattle.fta_run.proofs.Names.{plain_texts}

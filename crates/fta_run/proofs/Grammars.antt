@@ -11,16 +11,17 @@ use Rattle.grammar_rules.proofs.Texts.{reads_once}
 use Rattle.plain_values.specs.declared.refusal.Stop.{Stop}
 use Rattle.plain_values.specs.declared.refusal.Stop.TheVariants as stop
 use Rattle.plain_values.specs.Refusal.{refusal}
-use Rattle.plain_values.specs.Stops.{StopsFor}
-use Rattle.phases.specs.Meets.{IsMemory}
+use Rattle.plain_values.specs.inner.Stops.{StopsFor}
+use Rattle.phases.specs.inner.Meets.{IsMemory}
 use Rattle.phases.specs.Phases.{Stops, rejects}
-use Rattle.phases.specs.Stopped.{status_of}
+use Rattle.phases.specs.inner.Stopped.{status_of}
 use Rattle.phases.specs.declared.status.Status.TheVariants.{Refused}
 use Rattle.phases.proofs.Steps.{refused}
 use Rattle.grammar_rules.specs.Texts.{token_place}
 use Rattle.aadl_parser.specs.Packages.{file_units}
 use Rattle.aadl_parser.specs.Nesting.{NestedAt}
-use Rattle.aadl_parser.specs.Files.{IsSyntaxError, IsTooNested, IsUnread, too_nested}
+use Rattle.aadl_parser.specs.Files.{IsSyntaxError, IsTooNested, too_nested}
+use Rattle.aadl_parser.specs.inner.Files.{IsUnread}
 use Rattle.fta_run.specs.Files.{AreUnits, AreUnitsOf, HaveUnits, LacksUnits}
 use Rattle.fta_run.specs.Answers.{IsSameStatus}
 

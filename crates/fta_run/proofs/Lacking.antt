@@ -14,9 +14,9 @@ use Rattle.plain_values.specs.Order.{IsClear, IsFirst, refusal_cmp}
 use Rattle.plain_values.proofs.OrderLaws.{earlier_file, itself}
 use Rattle.aadl_lexer.specs.Tokens.{IsFault, RefusedAs, Tokens}
 use Rattle.aadl_lexer.proofs.Single.{list_or_fault, one_fault, one_list}
-use Rattle.phases.specs.Meets.{IsMemory}
+use Rattle.phases.specs.inner.Meets.{IsMemory}
 use Rattle.phases.specs.Phases.{Stops, answers}
-use Rattle.phases.specs.Stopped.{status_of}
+use Rattle.phases.specs.inner.Stopped.{status_of}
 use Rattle.phases.proofs.Steps.{refused}
 use Rattle.fta_run.specs.Files.{AreTokens, LacksTokens}
 

@@ -9,12 +9,12 @@ use Rattle.plain_values.specs.declared.refusal.Stop.{Stop}
 use Rattle.plain_values.specs.declared.refusal.Stop.TheVariants as stop
 use Rattle.plain_values.specs.Order.{IsClear, IsFirst}
 use Rattle.package_index.specs.Duplicates.{IsDuplicate}
-use Rattle.plain_values.specs.Stops.{StopsAtFirst}
+use Rattle.plain_values.specs.inner.Stops.{StopsAtFirst}
 use Rattle.package_index.specs.Lookup.{look_classifier, packages_of, refused_at}
 use Rattle.package_index.specs.declared.id.ClassifierId.{ClassifierId}
-use Rattle.phases.specs.Meets.{IsMemory, Meets}
+use Rattle.phases.specs.inner.Meets.{IsMemory, Meets}
 use Rattle.phases.specs.Phases.{Passes, Phase, Stops, chains, computes, tests}
-use Rattle.phases.specs.Stopped.{status_of}
+use Rattle.phases.specs.inner.Stopped.{status_of}
 use Rattle.phases.specs.declared.status.Status.{Status}
 use Rattle.phases.specs.declared.status.Status.TheVariants.{Refused}
 use Rattle.phases.proofs.Steps.{computed, meets_later}

@@ -3,17 +3,18 @@ use Rattle.std.proofs.Common.{◌≡◌, ◌≢◌, ◌<◌, ◌==◌, ℕ, zero
 use Rattle.std.specs.List.{AllByRecursion, list_all}
 use Rattle.std.proofs.lemmas.Bool.{eqb-true, false_from_ne_true}
 use Rattle.std.proofs.lemmas.List.Elements.{All-weaker, recursion_from_All}
-use Rattle.derivations.specs.Text.{AreLineNames, event_names, fact_names, is_line_name, is_plain, name_at}
+use Rattle.derivations.specs.Text.{event_names, fact_names, name_at}
+use Rattle.derivations.specs.inner.Text.{AreLineNames, is_line_name, is_plain}
 use Rattle.plain_values.specs.declared.name.Root.{Root}
 use Rattle.fault_system.specs.Systems.{System}
 use Rattle.fault_system.specs.declared.formula.EventInfo.{EventInfo}
 use Rattle.fault_system.specs.declared.formula.FactInfo.{FactInfo}
 use Rattle.fault_system.proofs.Elements.{In-contains, each-at}
-use Rattle.cutset_lister.specs.SetText.{HasTokenNames, IsTokenName}
+use Rattle.cutset_lister.specs.inner.SetText.{HasTokenNames, IsTokenName}
 use Rattle.galileo_writer.specs.Galileo.{IsPlainName}
-use Rattle.fmea_rows.specs.Text.{HasFieldNames, IsPlainField}
-use Rattle.galileo_writer.specs.TreeText.{AreRates, HasTextNames}
-use Rattle.phases.specs.Meets.{Meets}
+use Rattle.fmea_rows.specs.inner.Text.{HasFieldNames, IsPlainField}
+use Rattle.galileo_writer.specs.inner.TreeText.{AreRates, HasTextNames}
+use Rattle.phases.specs.inner.Meets.{Meets}
 use Rattle.phases.specs.Phases.{Passed}
 use Rattle.phases.specs.declared.status.Status.{Status}
 use Rattle.model_facts.specs.Laws.{IsPlain, Lacks}

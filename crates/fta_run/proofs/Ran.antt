@@ -6,7 +6,8 @@ use Rattle.plain_values.specs.declared.refusal.Code.TheVariants.{TooManyFiles}
 use Rattle.plain_values.specs.declared.refusal.Refusal.{Refusal}
 use Rattle.plain_values.specs.Order.{IsFirst}
 use Rattle.plain_values.specs.declared.name.Root.{Root}
-use Rattle.phases.specs.Phases.{Phase, Passes, Stops, yields, tells, chains, finds, IsDue, IsRefusal, IsSameEnd}
+use Rattle.phases.specs.Phases.{Phase, Passes, Stops, yields, tells, chains, finds, IsDue, IsRefusal}
+use Rattle.phases.specs.inner.Phases.{IsSameEnd}
 use Rattle.phases.specs.declared.status.Status.{Status}
 use Rattle.phases.specs.declared.status.Status.TheVariants.{Done, Usage, Refused, Constant, StaleToken, ReadFault, WriteFault, ReportFault, Memory}
 use Rattle.phases.proofs.Endings.{StopsOnly, stops_only}
@@ -36,14 +37,14 @@ use Rattle.page_tokens.specs.Forms.{IsMalformed}
 use Rattle.page_tokens.specs.Keys.{asked_digits}
 use Rattle.page_tokens.specs.Starts.{IsStale, LacksStart as LacksBegin}
 use Rattle.path_sets.specs.PathSets.{HasLargePaths}
-use Rattle.system_answers.specs.Prints.{IsReportFault, NoFault, PrintsBut}
+use Rattle.system_answers.specs.inner.Prints.{IsReportFault, NoFault, PrintsBut}
 use Rattle.fta_run.specs.Due.{command_text, confirmed_in, cuts_in, due, first_text, made_of_files, made_of_texts, made_root, made_target, make_text, model_of_files, model_of_texts, other_texts, sets_of_tree, sized_text, texts_of, within_limits}
 use Rattle.fta_run.specs.Later.{IsLater}
 use Rattle.system_answers.specs.Voices.{Voice, labels}
 use Rattle.model_maker.specs.Text.{text_of as made_text}
 use Rattle.cut_reports.specs.Places.{AtChosen}
 use Rattle.fta_run.specs.Answers.{AllTold, AnswersWords, BeginsWithMemory, IsCaused, IsJustified, IsManyAnswer, IsOutput, IsSameStatus, MayCome, Took}
-use Rattle.fta_run.specs.Steps.{IsChosenFault, IsReadEnd, Runs, RunsBut, ended}
+use Rattle.fta_run.specs.inner.Steps.{IsChosenFault, IsReadEnd, Runs, RunsBut, ended}
 use Rattle.system_answers.proofs.Prints.{prints_but_on}
 use Rattle.fta_run.proofs.Commands.{file_words_are, one_command}
 use Rattle.fta_run.proofs.OneDue.{one_due}

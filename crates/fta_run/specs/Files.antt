@@ -1,5 +1,5 @@
 -- The contents of the files, and the refusals of their number, their lengths, their tokens and their grammar.
-use Rattle.std.specs.Prelude.{◌≡◌, ℕ, suc, ◌<◌, ◌≤◌, nat_lt, if◌then◌else◌, List, [], ◌∷◌, ◌++◌, ◌⊎◌, length, sum_by, get_or, Option, Some, IfSome, Contains, slice_get}
+use Rattle.std.specs.Prelude.{◌≡◌, ℕ, suc, ◌<◌, nat_lt, if◌then◌else◌, List, [], ◌∷◌, ◌++◌, ◌⊎◌, length, sum_by, get_or, Option, Some, IfSome, Contains, slice_get}
 use Rattle.std.specs.List.{AllZip}
 use Rattle.plain_values.specs.declared.refusal.Code.TheVariants.{FileTooLong, TooManyFiles, TooMuchText}
 use Rattle.plain_values.specs.declared.refusal.Place.TheVariants.{Whole}
@@ -29,13 +29,6 @@ most_text = 16777216
 -- The files of these names may contain these texts, in order: where what a file contains is told, its text is that.
 abbrev pub MayContain : (List ℕ → Option (List ℕ)) → List (List ℕ) → List (List ℕ) → Type 0
 MayContain contents files texts = AllZip (λ file text. IfSome (contents file) (λ whole. text ≡ whole)) files texts
-
--- A file may contain a text and stand before these files: with it they are not too many, and all together not too long.
-pub record StandsBefore (contents : List ℕ → Option (List ℕ)) (files : List (List ℕ)) (file text : List ℕ) : Type 0 where
-  pub contained : IfSome (contents file) (λ whole. text ≡ whole)
-  pub few : length files < most_files
-  pub short : length text ≤ most_bytes
-  pub little : (texts : List (List ℕ)) → MayContain contents files texts → sum_by length (text ∷ texts) ≤ most_text
 
 -- M2: more files are named than may be.
 abbrev pub NamesTooMany : List (List ℕ) → Refusal → Type 0

@@ -5,6 +5,6 @@ pub mod Effects
 pub mod Files
 pub mod Line
 pub mod Model
-pub mod Steps
 pub mod Text
 pub mod Words
+pub mod inner

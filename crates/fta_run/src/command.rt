@@ -1,12 +1,12 @@
 ghost use Rattle.std.specs.Prelude.{◌≡◌, ◌<◌, ◌≤◌, ℕ, false, List, IfOk, IsErrOf, Result, Err, length, map, vec_len};
 ghost use Rattle.fta_outside.specs.Outside.{Rose, TookPrefix, with_bytes};
 ghost use Rattle.phases.specs.Phases.{IsDue};
-ghost use Rattle.phases.specs.Meets.{Meets, MeetsBut};
+ghost use Rattle.phases.specs.inner.Meets.{Meets, MeetsBut};
 ghost use Rattle.phases.specs.declared.status.Status.{Status as AnyStatus};
 ghost use Rattle.phases.specs.declared.status.Status.TheVariants.{Refused, Memory};
 ghost use Rattle.plain_values.specs.declared.refusal.Code.TheVariants.{TooManyFiles};
 ghost use Rattle.plain_values.specs.Refusal.{of_words};
-ghost use Rattle.fta_words.specs.Shown.{command_shown};
+ghost use Rattle.fta_words.specs.inner.Shown.{command_shown};
 ghost use Rattle.model_phases.specs.Named.{IsPlainModel};
 ghost use Rattle.model_phases.specs.Phases.{origins_phase, review_phase};
 ghost use Rattle.fta_run.specs.Line.{status_line};
@@ -14,12 +14,12 @@ ghost use Rattle.fta_run.specs.Answers.{AllTold, AnswersWords, BeginsWithMemory,
 ghost use Rattle.fta_run.specs.Due.{check_text, cuts_in, due, fmea_text, made_of_files, model_of_files, model_of_texts, sets_of_tree};
 ghost use Rattle.fta_run.specs.Files.{most_files};
 ghost use Rattle.fta_run.specs.Words.{Check, Command as AnyCommand, Confirm, Cuts, Events, Fmea, Galileo, GiveNoCommand, IsCommand, Paths, Place, Report, Review, Targets, Tree, Why, chosen_of, file_words, files_of};
-ghost use Rattle.system_answers.specs.Prints.{Prints};
+ghost use Rattle.system_answers.specs.inner.Prints.{Prints};
 ghost use Rattle.system_answers.specs.Voices.{labels, voices_of};
 ghost use Rattle.cut_reports.specs.Feeding.{IsKept, RoseAt};
 ghost use Rattle.cut_reports.specs.Places.{AtChosen};
 ghost use Rattle.plain_values.specs.Rising.{RisesWithin};
-ghost use Rattle.fta_run.specs.Steps.{IsReadEnd, Runs, RunsAlone, RunsWith, ended};
+ghost use Rattle.fta_run.specs.inner.Steps.{IsReadEnd, Runs, RunsAlone, RunsWith, ended};
 
 use crate::confirmed::write_confirmation;
 use crate::events::write_events;

@@ -1,12 +1,12 @@
 //! The answer on a derivation that stands in a file before those of the model.
 
 ghost use Rattle.std.specs.Prelude.{◌≡◌, ◌≤◌, All, IfOk, length};
-ghost use Rattle.phases.specs.Meets.{Meets};
+ghost use Rattle.phases.specs.inner.Meets.{Meets};
 ghost use Rattle.model_phases.specs.Named.{IsPlainModel};
 ghost use Rattle.fta_run.specs.Due.{confirmed_in, model_of_texts};
 ghost use Rattle.fta_run.specs.Files.{most_bytes, most_files};
 ghost use Rattle.fta_run.specs.Later.{in_later_files, later_place, later_refusal, next_file};
-ghost use Rattle.system_answers.specs.Prints.{Prints};
+ghost use Rattle.system_answers.specs.inner.Prints.{Prints};
 
 use crate::input::Texts;
 use crate::model::model_of_texts;

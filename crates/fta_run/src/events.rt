@@ -1,7 +1,7 @@
 //! The text on the events of a model.
 
 ghost use Rattle.fta_run.specs.Due.{events_text};
-ghost use Rattle.system_answers.specs.Prints.{Prints};
+ghost use Rattle.system_answers.specs.inner.Prints.{Prints};
 
 use event_lines::events_text;
 use fta_outside::Sink;

@@ -2,11 +2,11 @@
 
 ghost use Rattle.std.specs.Prelude.{◌≡◌, ◌||◌, IfOk, length};
 ghost use Rattle.plain_values.specs.Rising.{RisesWithin};
-ghost use Rattle.fmea_rows.specs.Text.{HasFieldNames};
+ghost use Rattle.fmea_rows.specs.inner.Text.{HasFieldNames};
 ghost use Rattle.model_phases.specs.Named.{IsPlainModel};
 ghost use Rattle.fta_run.specs.Due.{fmea_text};
 ghost use Rattle.fta_run.specs.Effects.{asked_effects, is_of_root};
-ghost use Rattle.system_answers.specs.Prints.{Prints};
+ghost use Rattle.system_answers.specs.inner.Prints.{Prints};
 
 use fault_system::FaultSystem;
 use fmea_rows::{rows, write_rows};

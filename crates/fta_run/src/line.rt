@@ -1,5 +1,5 @@
 ghost use Rattle.std.specs.Prelude.{◌≡◌, ◌++◌, codes, decimal, map};
-ghost use Rattle.cutset_writer.specs.Written.{Writes};
+ghost use Rattle.cutset_writer.specs.inner.Written.{Writes};
 ghost use Rattle.event_lines.specs.Text.{file_word};
 ghost use Rattle.fta_run.specs.Line.{constant_text, limit_text, place_text, refusal_text, report_name, stale_text, status_line};
 

@@ -3,13 +3,13 @@
 ghost use Rattle.std.specs.Prelude.{◌≡◌, ◌++◌, [], ◌∷◌, IfErr, IfOk, None, OnErr, OnOk, codes};
 ghost use Rattle.fta_outside.specs.Outside.{Rose, TookPrefix, with_bytes};
 ghost use Rattle.backward_slice.specs.Slices.{IsSlice};
-ghost use Rattle.cutset_lister.specs.Walks.{all_sets};
-ghost use Rattle.cutset_writer.specs.Pages.{IsReady};
+ghost use Rattle.cutset_lister.specs.inner.Walks.{all_sets};
+ghost use Rattle.cutset_writer.specs.inner.Pages.{IsReady};
 ghost use Rattle.cutset_writer.specs.Text.{listing_page};
 ghost use Rattle.cutset_writer.specs.declared.form.SetForm.TheVariants.{Token};
 ghost use Rattle.model_phases.specs.Named.{IsPlainModel};
 ghost use Rattle.fta_run.specs.Due.{made_model_text, made_paging, made_root, made_target, make_text, sized_page, sized_text};
-ghost use Rattle.system_answers.specs.Prints.{Prints};
+ghost use Rattle.system_answers.specs.inner.Prints.{Prints};
 
 use crate::input::texts_of_one;
 use crate::model::model_of_texts;

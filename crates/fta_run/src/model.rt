@@ -1,7 +1,7 @@
 //! The model of the root.
 
 ghost use Rattle.std.specs.Prelude.{◌≤◌, All, length};
-ghost use Rattle.phases.specs.Meets.{Meets};
+ghost use Rattle.phases.specs.inner.Meets.{Meets};
 ghost use Rattle.fta_run.specs.Due.{made_of_texts, made_of_units};
 ghost use Rattle.fta_run.specs.Files.{most_bytes, most_files};
 

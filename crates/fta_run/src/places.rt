@@ -4,7 +4,7 @@ ghost use Rattle.std.specs.Prelude.{◌≡◌, IfOk, IsErrOf, OnErr, OnOk};
 ghost use Rattle.fta_outside.specs.Outside.{Rose, TookPrefix, with_bytes};
 ghost use Rattle.text_places.specs.Places.{place_text};
 ghost use Rattle.fta_run.specs.Due.{first_name, first_text, place_in};
-ghost use Rattle.system_answers.specs.Prints.{Prints};
+ghost use Rattle.system_answers.specs.inner.Prints.{Prints};
 
 use crate::input::Texts;
 use fta_outside::{Sink, WriteError};

@@ -1,7 +1,7 @@
 //! The text of the review of a model.
 
 ghost use Rattle.phases.specs.Phases.{yields};
-ghost use Rattle.system_answers.specs.Prints.{Prints};
+ghost use Rattle.system_answers.specs.inner.Prints.{Prints};
 
 use fta_outside::Sink;
 use phases::Status;

@@ -6,7 +6,7 @@ ghost use Rattle.plain_values.specs.Rising.{RisesWithin};
 ghost use Rattle.model_phases.specs.Named.{IsPlainModel};
 ghost use Rattle.fta_run.specs.Due.{targets_text};
 ghost use Rattle.fta_run.specs.Effects.{asked_targets};
-ghost use Rattle.system_answers.specs.Prints.{Prints};
+ghost use Rattle.system_answers.specs.inner.Prints.{Prints};
 
 use crate::fmea::asked_effects;
 use fault_system::FaultSystem;

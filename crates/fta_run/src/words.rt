@@ -1,7 +1,7 @@
-ghost use Rattle.phases.specs.Meets.{IsMemory, MeetsBut};
+ghost use Rattle.phases.specs.inner.Meets.{IsMemory, MeetsBut};
 ghost use Rattle.phases.specs.Phases.{finds};
 ghost use Rattle.phases.specs.declared.status.Status.TheVariants.{Usage};
-ghost use Rattle.fta_words.specs.Shown.{command_shown};
+ghost use Rattle.fta_words.specs.inner.Shown.{command_shown};
 ghost use Rattle.fta_run.specs.Words.{IsCommand};
 
 use fta_words::{Command, WordsFault};

@@ -10,8 +10,8 @@ use Rattle.clap.proofs.WalkLemmas.{both}
 use Rattle.fta_words.specs.declared.kind.Kind.{Kind}
 use Rattle.fta_words.specs.declared.kind.Kind.TheVariants as kind
 use Rattle.fta_words.specs.Words.{Alone, Apart, Attached, Given, IsAllowed, IsPlainWord, Spelling, option_words, spelled}
-use Rattle.fta_words.specs.Parsed.{all_flags, all_valued}
-use Rattle.fta_words.specs.Reading.{HaveOptions, Say, Values, flags_of, valued_of, values_of}
+use Rattle.fta_words.specs.inner.Parsed.{all_flags, all_valued}
+use Rattle.fta_words.specs.inner.Reading.{HaveOptions, Say, Values, flags_of, valued_of, values_of}
 use Rattle.fta_words.proofs.Places.{each_of, first_of, later_of}
 use Rattle.fta_words.proofs.Spelled.{Allowed, all_apart, among, one_given, text-is}
 

@@ -7,9 +7,9 @@ use Rattle.fta_words.specs.declared.command.Command.{Command as CommandInCode}
 use Rattle.fta_words.specs.declared.command.Paging.{Paging}
 use Rattle.fta_words.specs.declared.kind.Kind.{Kind}
 use Rattle.fta_words.specs.declared.kind.Kind.TheVariants as kind
-use Rattle.fta_words.specs.Shown.{command_shown}
+use Rattle.fta_words.specs.inner.Shown.{command_shown}
 use Rattle.fta_words.specs.Words.{Alone, Apart, AreOptions, AreWords, Attached, Check, Command, Confirm, Cuts, Fmea, Galileo, Given, Help, IsCommand, IsFolded, IsNumberText, IsPlainWord, IsRoot, Make, NamesModel, Paths, Place, Report, Says, Spelling, Tree, Version, Why, before_options, file_words, files_of, is_option, name_of, option_words, spelled, Targets, Events, Review}
-use Rattle.fta_words.specs.Reading.{Answers, HaveOptions, IsRead, ReadsAs, Say, Values, flags_of, kind_of, valued_of, values_of}
+use Rattle.fta_words.specs.inner.Reading.{Answers, HaveOptions, IsRead, ReadsAs, Say, Values, flags_of, kind_of, valued_of, values_of}
 use Rattle.fta_words.proofs.PlainFront.{no_end, no_option}
 use Rattle.fta_words.proofs.Places.{one_chosen}
 use Rattle.fta_words.proofs.Roots.{one_root}

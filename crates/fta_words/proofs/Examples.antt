@@ -1,6 +1,6 @@
 -- Small command lines, worked.
 use Rattle.std.proofs.Common.{◌≡◌, ℕ, List, [], ◌∷◌, Some, None, true, codes, refl, arith}
-use Rattle.fta_words.specs.Reading.{values_of}
+use Rattle.fta_words.specs.inner.Reading.{values_of}
 use Rattle.plain_values.specs.declared.name.Root.{Root}
 use Rattle.fta_words.proofs.AllKinds.{ascii_text}
 use Rattle.fta_words.proofs.Commands.{read_name, to_read}

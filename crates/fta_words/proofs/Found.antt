@@ -15,8 +15,8 @@ use Rattle.clap.specs.Simple.{entered}
 use Rattle.clap.specs.declared.parser.matches.ValueSource.TheVariants.{DefaultValue}
 use Rattle.clap.proofs.OnLiterals.{clap_on_literals}
 use Rattle.fta_words.specs.Words.{Alone, Apart, AreOptions, Attached, Given, IsAllowed, Spelling, has_flag, option_words, value_in, value_of}
-use Rattle.fta_words.specs.Parsed.{ReadsFlag, StandIn, all_flags, all_valued, options_app}
-use Rattle.fta_words.specs.Reading.{Values, values_of}
+use Rattle.fta_words.specs.inner.Parsed.{ReadsFlag, StandIn, all_flags, all_valued, options_app}
+use Rattle.fta_words.specs.inner.Reading.{Values, values_of}
 use Rattle.fta_words.proofs.AllKinds.{a_flag, a_valued}
 use Rattle.fta_words.proofs.Parses.{F, Serves, StandsAt, V, at, at_end, other_bytes, row_for, row_name, rows_for, walks}
 use Rattle.fta_words.proofs.Places.{each_of}

@@ -11,7 +11,7 @@ use Rattle.std.proofs.Math.Seq.{drop-append_seam}
 use Rattle.std.proofs.Math.Nat.{eq-or-lt_of_le}
 use Rattle.aadl_syntax.specs.Form.{Repeated, Perhaps, Byte, One, ◌followed_by◌, IsWord, is_letter, is_letter_or_digit}
 use Rattle.fta_words.specs.Words.{with_colons}
-use Rattle.fta_words.specs.Reading.{follows_well}
+use Rattle.fta_words.specs.inner.Reading.{follows_well}
 
 -- a letter or digit, perhaps after one `_`
 abbrev IsPart : List ℕ → Type 0

@@ -6,7 +6,7 @@ use Rattle.std.proofs.lemmas.Bool.{false≢true, cases_lt}
 use Rattle.std.proofs.lemmas.List.Elements.{Contains-append_cases, Contains-append_right, Contains-append_left, Contains-push_cases, Contains-push}
 use Rattle.std.proofs.lemmas.Option.{slice_get_within}
 use Rattle.fta_words.specs.Words.{AreAll, AreChosen, AreDifferent, AreNames, IsReport, Rise}
-use Rattle.fta_words.specs.Naming.{AreCut, AreInOrder, NamesNoPlaces, NamesPlaces, Stand, Without}
+use Rattle.fta_words.specs.inner.Naming.{AreCut, AreInOrder, NamesNoPlaces, NamesPlaces, Stand, Without}
 use Rattle.fta_words.proofs.Roots.{none_there, one_cut, same_cut}
 
 -- ---- items of lists

@@ -5,9 +5,10 @@ use Rattle.std.specs.Cmp.{first_so, second_so}
 use Rattle.std.proofs.lemmas.Bool.{false≢true, cases_lt}
 use Rattle.plain_values.specs.declared.name.Root.{Root}
 use Rattle.aadl_syntax.specs.Form.{IsWord, is_letter, is_letter_or_digit}
-use Rattle.fta_words.specs.Words.{AreJoined, IsRoot, dotted, with_colons}
-use Rattle.fta_words.specs.Naming.{Without}
-use Rattle.fta_words.specs.Reading.{follows_well}
+use Rattle.fta_words.specs.Words.{IsRoot, dotted, with_colons}
+use Rattle.fta_words.specs.inner.Words.{AreJoined}
+use Rattle.fta_words.specs.inner.Naming.{Without}
+use Rattle.fta_words.specs.inner.Reading.{follows_well}
 use Rattle.fta_words.proofs.Identifiers.{follows_of}
 
 next_byte : (t u v x y : Bool) → cond t x (u && (v && y)) ≡ true → ((t ≡ true) × (x ≡ true)) ⊎ ((u ≡ true) × (y ≡ true))

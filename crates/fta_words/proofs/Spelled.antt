@@ -8,9 +8,9 @@ use Rattle.plain_values.specs.Name.{is_same_text}
 use Rattle.fta_words.specs.declared.kind.Kind.{Kind}
 use Rattle.fta_words.specs.declared.kind.Kind.TheVariants as kind
 use Rattle.fta_words.specs.Words.{Alone, Apart, AreDifferent, Attached, Given, IsAllowed, IsPlainWord, Spelling, has_flag, option_words, spelled}
-use Rattle.fta_words.specs.Reading.{HaveOptions, NoneStandsFirst, StandsFirst, flags_of, valued_of}
-use Rattle.fta_words.specs.Parsed.{all_flags, all_valued}
-use Rattle.fta_words.specs.Naming.{Without}
+use Rattle.fta_words.specs.inner.Reading.{HaveOptions, NoneStandsFirst, StandsFirst, flags_of, valued_of}
+use Rattle.fta_words.specs.inner.Parsed.{all_flags, all_valued}
+use Rattle.fta_words.specs.inner.Naming.{Without}
 use Rattle.fta_words.proofs.Places.{each_of, none_of, one_of}
 use Rattle.fta_words.proofs.Roots.{none_there, one_cut, same_cut}
 

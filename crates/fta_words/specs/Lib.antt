@@ -1,6 +1,2 @@
-pub mod Naming
-pub mod Parsed
-pub mod Reading
-pub mod Reasons
-pub mod Shown
 pub mod Words
+pub mod inner

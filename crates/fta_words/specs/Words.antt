@@ -21,12 +21,6 @@ with_colons [] = []
 with_colons (name ∷ []) = name
 with_colons (name ∷ next ∷ names) = name ++ (58 ∷ 58 ∷ with_colons (next ∷ names))
 
--- A text is one or more identifiers with `::` between them.
-pub record AreJoined (text : List ℕ) (names : List (List ℕ)) : Type 0 where
-  pub text_is : text ≡ with_colons names
-  pub some_name : 0 < length names
-  pub identifiers : AllByRecursion IsWord names
-
 -- the item of an implementation, after a dot
 abbrev pub dotted : Option (List ℕ) → List ℕ
 dotted None = []

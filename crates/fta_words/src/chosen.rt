@@ -1,6 +1,6 @@
 ghost use Rattle.std.specs.Prelude.{◌≡◌, ℕ, List, Some, IfOk, IfSome, MatchOption, Contains, length, option_map, true, false};
 ghost use Rattle.fta_words.specs.Words.{AreAll, AreChosen, IsReport};
-ghost use Rattle.fta_words.specs.Naming.{AreInOrder, NamesNoPlaces, NamesPlaces};
+ghost use Rattle.fta_words.specs.inner.Naming.{AreInOrder, NamesNoPlaces, NamesPlaces};
 
 use crate::text::split_once;
 use plain_values::{List, Mem, Name, is_same};

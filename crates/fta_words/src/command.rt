@@ -1,8 +1,8 @@
 ghost use Rattle.std.specs.Prelude.{◌≡◌, ◌∷◌, List, ℕ, Option, Some, IfOk, IfErr, IfSome, codes, option_map};
 ghost use Rattle.fta_words.specs.Words.{IsCommand, IsFolded, Says, name_of};
-ghost use Rattle.fta_words.specs.Reading.{Answers, ReadsAs, PagesAs, Values, options_shown};
-ghost use Rattle.fta_words.specs.Reasons.{TellsUsage};
-ghost use Rattle.fta_words.specs.Shown.{command_shown};
+ghost use Rattle.fta_words.specs.inner.Reading.{Answers, ReadsAs, PagesAs, Values, options_shown};
+ghost use Rattle.fta_words.specs.inner.Reasons.{TellsUsage};
+ghost use Rattle.fta_words.specs.inner.Shown.{command_shown};
 ghost use Rattle.fta_words.specs.declared.command.Paging.{Paging};
 
 use crate::chosen::chosen_of;

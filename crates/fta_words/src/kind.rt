@@ -1,5 +1,5 @@
 ghost use Rattle.std.specs.Prelude.{◌≡◌, ◌↔◌, IsTrue, MatchOption, Contains};
-ghost use Rattle.fta_words.specs.Reading.{flags_of, valued_of};
+ghost use Rattle.fta_words.specs.inner.Reading.{flags_of, valued_of};
 ghost use Rattle.fta_words.specs.Words.{name_of};
 ghost use Rattle.fta_words.specs.declared.kind.Kind.{Kind};
 

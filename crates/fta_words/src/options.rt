@@ -1,7 +1,7 @@
 ghost use Rattle.std.specs.Prelude.{◌≡◌, ◌↔◌, ◌≤◌, ◌++◌, ℕ, length, List, IsTrue, MatchOption, ◌∷◌};
 ghost use Rattle.std.specs.List.{AllByRecursion};
 ghost use Rattle.fta_words.specs.Words.{Given, IsAllowed, has_flag, option_words};
-ghost use Rattle.fta_words.specs.Reading.{HaveOptions, NoneStandsFirst, StandsFirst, flags_of, valued_of};
+ghost use Rattle.fta_words.specs.inner.Reading.{HaveOptions, NoneStandsFirst, StandsFirst, flags_of, valued_of};
 
 use crate::kind::{Kind, has_flag, has_valued};
 use crate::plain::is_plain;

@@ -1,7 +1,7 @@
 ghost use Rattle.std.specs.Prelude.{◌≡◌, IfOk, false, map, option_map};
 ghost use Rattle.clap.specs.Words.{app_of, found_of, rows_of, rule_of};
-ghost use Rattle.fta_words.specs.Parsed.{StandIn, all_flags, all_valued, flag_rule, options_app, valued_rule};
-ghost use Rattle.fta_words.specs.Reading.{HaveOptions, Say, options_shown};
+ghost use Rattle.fta_words.specs.inner.Parsed.{StandIn, all_flags, all_valued, flag_rule, options_app, valued_rule};
+ghost use Rattle.fta_words.specs.inner.Reading.{HaveOptions, Say, options_shown};
 
 use crate::options::Options;
 use clap::error::ErrorKind;

@@ -3,7 +3,8 @@ ghost use Rattle.std.specs.List.{AllByRecursion};
 ghost use Rattle.aadl_syntax.specs.Form.{IsWord};
 ghost use Rattle.plain_values.specs.Name.{folded};
 ghost use Rattle.plain_values.specs.declared.name.Root.{Root};
-ghost use Rattle.fta_words.specs.Words.{AreJoined, IsRoot, NamesModel, with_colons};
+ghost use Rattle.fta_words.specs.Words.{IsRoot, NamesModel, with_colons};
+ghost use Rattle.fta_words.specs.inner.Words.{AreJoined};
 
 use crate::text::{is_identifier, split_once};
 use plain_values::{List, Mem, Name, Root, Word, fold};

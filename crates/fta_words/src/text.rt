@@ -1,6 +1,6 @@
 ghost use Rattle.std.specs.Prelude.{◌≡◌, ◌<◌, ◌≤◌, ◌++◌, ◌↔◌, ℕ, List, IsSome, IsTrue, IfSome, MatchOption, length, false};
 ghost use Rattle.aadl_syntax.specs.Form.{IsWord};
-ghost use Rattle.fta_words.specs.Reading.{follows_well};
+ghost use Rattle.fta_words.specs.inner.Reading.{follows_well};
 
 use aadl_lexer::{is_letter, is_letter_or_digit};
 

@@ -8,20 +8,22 @@ use Rattle.fault_system.specs.Truth.{occurs}
 use Rattle.fault_system.specs.Systems.{IsFact}
 use Rattle.fault_system.specs.declared.formula.FactInfo.{FactInfo}
 use Rattle.backward_slice.specs.Slices.{DependsOn}
-use Rattle.dependency_blocks.specs.Blocks.{AreAllBlocks, BlockNumbers, number_of}
+use Rattle.dependency_blocks.specs.Blocks.{BlockNumbers, number_of}
+use Rattle.dependency_blocks.specs.inner.Blocks.{AreAllBlocks}
 use Rattle.dependency_blocks.proofs.AllFacts.{below-contained}
 use Rattle.dependency_blocks.proofs.Passes.{depends_step}
 use Rattle.round_gates.specs.declared.node.GateKind.TheVariants as kinds
 use Rattle.round_gates.specs.declared.tree.Input.{Input}
 use Rattle.round_gates.specs.declared.tree.Input.TheVariants as inputs
 use Rattle.round_gates.specs.Formulas.{input_formula, kind_formula}
-use Rattle.round_gates.specs.Targets.{IsWithin}
+use Rattle.round_gates.specs.inner.Targets.{IsWithin}
 use Rattle.round_gates.specs.Trees.{has_gate}
 use Rattle.round_gates.proofs.GateFormulas.{kind-occurs}
-use Rattle.galileo_reader.specs.Cycles.{HasOwn, NoneHasOwn, has_own}
+use Rattle.galileo_reader.specs.inner.Cycles.{HasOwn, NoneHasOwn, has_own}
 use Rattle.galileo_reader.specs.declared.tree.NamedGate.{NamedGate}
 use Rattle.galileo_reader.specs.declared.tree.NamedTree.{NamedTree}
-use Rattle.galileo_reader.specs.Trees.{HasInputs, IsAcyclic, IsFirstCyclic, IsNamedTree, LeadsTo, ReachesItself}
+use Rattle.galileo_reader.specs.Trees.{IsAcyclic, IsFirstCyclic, LeadsTo, ReachesItself}
+use Rattle.galileo_reader.specs.inner.Trees.{HasInputs, IsNamedTree}
 use Rattle.galileo_reader.specs.TreeSystems.{gate_fact, system_of, top_facts}
 use Rattle.galileo_reader.proofs.SystemLaws.{Made, of_one, behind, made-at, made-from}
 

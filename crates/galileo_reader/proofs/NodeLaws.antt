@@ -16,7 +16,7 @@ use Rattle.galileo_reader.specs.declared.statement.PlacedName.{PlacedName}
 use Rattle.galileo_reader.specs.declared.statement.Statement.{Statement}
 use Rattle.galileo_reader.specs.declared.statement.Statement.TheVariants.{Top, Gate, Event}
 use Rattle.galileo_reader.specs.Nodes.{is_second, is_top, node_from, node_of, place_of, second_after, second_line}
-use Rattle.galileo_reader.specs.Tables.{AddsLine, Knows, event_count, gate_count, same_key}
+use Rattle.galileo_reader.specs.inner.Tables.{AddsLine, Knows, event_count, gate_count, same_key}
 
 -- ---- one line more
 

@@ -11,7 +11,8 @@ use Rattle.galileo_reader.specs.declared.tree.NamedGate.{NamedGate}
 use Rattle.galileo_reader.specs.declared.tree.NamedTree.{NamedTree}
 use Rattle.galileo_reader.specs.Nodes.{bad_count, place_of_gate, second_line, top_of, tree_of, unknown_node}
 use Rattle.galileo_reader.specs.Statements.{AreLines, IsBadAt}
-use Rattle.galileo_reader.specs.Trees.{AreFlawed, HasCycleAt, HasNoTree, HaveNoTree, IsCyclicIn, IsFirstCyclic, IsFlawed, IsRead, IsTreeOf}
+use Rattle.galileo_reader.specs.Trees.{AreFlawed, HasCycleAt, IsFirstCyclic, IsFlawed, IsRead, IsTreeOf}
+use Rattle.galileo_reader.specs.inner.Trees.{HasNoTree, HaveNoTree, IsCyclicIn}
 use Rattle.galileo_reader.proofs.TextLaws.{bad-apart, one-bad, one-reading}
 
 some-none : {X : Type 0} (o : Option X) (x : X) → o ≡ Some x → o ≡ None → ⊥

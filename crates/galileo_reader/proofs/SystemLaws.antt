@@ -16,8 +16,8 @@ use Rattle.round_gates.specs.declared.node.GateKind.TheVariants as kinds
 use Rattle.round_gates.specs.declared.tree.Input.{Input}
 use Rattle.round_gates.specs.declared.tree.Input.TheVariants as inputs
 use Rattle.round_gates.specs.Formulas.{input_formula, kind_formula}
-use Rattle.round_gates.specs.Targets.{IsWithin}
-use Rattle.round_gates.specs.Trees.{input_true}
+use Rattle.round_gates.specs.inner.Targets.{IsWithin}
+use Rattle.round_gates.specs.inner.Trees.{input_true}
 use Rattle.round_gates.specs.Truths.{kind_true}
 use Rattle.round_gates.proofs.GateFormulas.{kind-range, kind-truth}
 use Rattle.round_gates.proofs.TreeTruth.{kind-below}
@@ -28,9 +28,10 @@ use Rattle.galileo_writer.proofs.Names.{has-none, has-own, item-there, named-at,
 use Rattle.galileo_reader.specs.declared.tree.NamedEvent.{NamedEvent}
 use Rattle.galileo_reader.specs.declared.tree.NamedGate.{NamedGate}
 use Rattle.galileo_reader.specs.declared.tree.NamedTree.{NamedTree}
-use Rattle.galileo_reader.specs.Trees.{HasInputs, IsNamedTree}
+use Rattle.galileo_reader.specs.inner.Trees.{HasInputs, IsNamedTree}
 use Rattle.galileo_reader.specs.TreeSystems.{event_info, gate_fact, system_of, target_of, top_facts}
-use Rattle.galileo_reader.specs.Truth.{event_line, event_name, gate_line, gate_name, input_name, tree_galileo}
+use Rattle.galileo_reader.specs.Truth.{event_name}
+use Rattle.galileo_reader.specs.inner.Truth.{event_line, gate_line, gate_name, input_name, tree_galileo}
 
 -- ---- items of a list that was made of others
 

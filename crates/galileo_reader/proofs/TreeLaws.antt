@@ -13,7 +13,7 @@ use Rattle.galileo_writer.proofs.Names.{item-there, named-here}
 use Rattle.plain_values.specs.Name.{is_same_text}
 use Rattle.round_gates.specs.declared.tree.Input.{Input}
 use Rattle.round_gates.specs.declared.tree.Input.TheVariants as inputs
-use Rattle.round_gates.specs.Targets.{IsWithin}
+use Rattle.round_gates.specs.inner.Targets.{IsWithin}
 use Rattle.galileo_reader.specs.declared.statement.PlacedName.{PlacedName}
 use Rattle.galileo_reader.specs.declared.statement.Statement.{Statement}
 use Rattle.galileo_reader.specs.declared.statement.Statement.TheVariants.{Top, Gate, Event}
@@ -21,9 +21,9 @@ use Rattle.galileo_reader.specs.declared.tree.NamedEvent.{NamedEvent}
 use Rattle.galileo_reader.specs.declared.tree.NamedGate.{NamedGate}
 use Rattle.galileo_reader.specs.declared.tree.NamedTree.{NamedTree}
 use Rattle.galileo_reader.specs.Nodes.{asked, event_in, events_of, first_some, gate_in, gates_of, input_of, node_from, node_of, second_after, second_line, top_in, top_of, tree_of, unknown_name, unknown_node}
-use Rattle.galileo_reader.specs.Tables.{event_count, gate_count}
-use Rattle.galileo_reader.specs.Trees.{HasInputs, IsNamedTree}
-use Rattle.galileo_reader.specs.Truth.{input_name}
+use Rattle.galileo_reader.specs.inner.Tables.{event_count, gate_count}
+use Rattle.galileo_reader.specs.inner.Trees.{HasInputs, IsNamedTree}
+use Rattle.galileo_reader.specs.inner.Truth.{input_name}
 use Rattle.galileo_reader.proofs.Firsts.{none-has, or-none-left, or-none-right}
 use Rattle.galileo_reader.proofs.NodeLaws.{node-more}
 

@@ -11,8 +11,9 @@ use Rattle.galileo_reader.specs.declared.tree.GalileoFault.{GalileoFault}
 use Rattle.galileo_reader.specs.declared.tree.NamedTree.{NamedTree}
 use Rattle.galileo_reader.specs.Nodes.{input_of, top_of, tree_of, unknown_name, unknown_node}
 use Rattle.galileo_reader.specs.Statements.{AreLines}
-use Rattle.galileo_reader.specs.Trees.{HaveNoTree, IsNamedTree, IsTreeOf}
-use Rattle.galileo_reader.specs.Truth.{StaticTrue, event_line, galileo_of, gate_line, input_name, line_in, tree_galileo}
+use Rattle.galileo_reader.specs.Trees.{IsTreeOf}
+use Rattle.galileo_reader.specs.inner.Trees.{HaveNoTree, IsNamedTree}
+use Rattle.galileo_reader.specs.inner.Truth.{StaticTrue, event_line, galileo_of, gate_line, input_name, line_in, tree_galileo}
 use Rattle.galileo_reader.proofs.Firsts.{none-has}
 use Rattle.galileo_reader.proofs.TextLaws.{one-reading}
 use Rattle.galileo_reader.proofs.TreeLaws.{AreKnown, all-known, gates_in, events_in, inputs-named, named-tree, top-named}

@@ -17,14 +17,15 @@ use Rattle.fault_system.proofs.NumberSets.{RisesWithin-at, RisesWithin-filter, s
 use Rattle.fault_system.proofs.Orders.{Lower, before_cases, before_made}
 use Rattle.property_reader.specs.declared.rate.Rate.{Rate}
 use Rattle.round_gates.specs.declared.tree.Tree.{Tree}
-use Rattle.round_gates.specs.Targets.{IsTreeFor, IsWellMade}
+use Rattle.round_gates.specs.Targets.{IsTreeFor}
+use Rattle.round_gates.specs.inner.Targets.{IsWellMade}
 use Rattle.round_gates.specs.Trees.{is_event}
 use Rattle.round_gates.proofs.MadeWell.{made-well}
 use Rattle.round_gates.proofs.TreeTruth.{tree-truth}
-use Rattle.galileo_writer.specs.TreeText.{HasTextNames}
+use Rattle.galileo_writer.specs.inner.TreeText.{HasTextNames}
 use Rattle.galileo_writer.proofs.Names.{item-there}
 use Rattle.galileo_reader.specs.TreeSystems.{event_info, system_of}
-use Rattle.galileo_reader.specs.Written.{event_at, event_place, events_at, named_event, named_tree}
+use Rattle.galileo_reader.specs.inner.Written.{event_at, event_place, events_at, named_event, named_tree}
 use Rattle.galileo_reader.proofs.WrittenTrees.{event-placed}
 use Rattle.galileo_reader.proofs.WrittenTruth.{got, holds-again, placed-again}
 

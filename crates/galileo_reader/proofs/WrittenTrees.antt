@@ -13,7 +13,8 @@ use Rattle.fault_system.specs.Systems.{NamesDiffer, System}
 use Rattle.fault_system.proofs.Elements.{In, In-contains}
 use Rattle.galileo_writer.specs.Galileo.{EventLine, GateLine, IsPlainName, Line, inputs_text, kind_text, line_text, quoted, top_text}
 use Rattle.galileo_writer.specs.Sound.{HasInputLines, HasLine, IsSound}
-use Rattle.galileo_writer.specs.TreeText.{AreRates, HasTextNames, event_line, gate_line, gate_name, input_name, name_at, tree_galileo, tree_text}
+use Rattle.galileo_writer.specs.TreeText.{event_line, gate_line, gate_name, input_name, name_at, tree_galileo, tree_text}
+use Rattle.galileo_writer.specs.inner.TreeText.{AreRates, HasTextNames}
 use Rattle.galileo_writer.specs.Truth.{name_of}
 use Rattle.galileo_writer.proofs.Names.{event-plain, gate-plain, item-there}
 use Rattle.plain_values.specs.Name.{is_same_text}
@@ -26,7 +27,7 @@ use Rattle.round_gates.specs.declared.tree.Gate.{Gate as TreeGate}
 use Rattle.round_gates.specs.declared.tree.Input.{Input}
 use Rattle.round_gates.specs.declared.tree.Input.TheVariants as inputs
 use Rattle.round_gates.specs.declared.tree.Tree.{Tree}
-use Rattle.round_gates.specs.Targets.{IsWellMade, IsWellMadeGate, IsWithin, MayHave}
+use Rattle.round_gates.specs.inner.Targets.{IsWellMade, IsWellMadeGate, IsWithin, MayHave}
 use Rattle.round_gates.specs.Trees.{has_gate, is_event}
 use Rattle.galileo_reader.specs.declared.statement.Statement.{Statement}
 use Rattle.galileo_reader.specs.declared.statement.Statement.TheVariants.{Top, Gate, Event}
@@ -34,7 +35,7 @@ use Rattle.galileo_reader.specs.declared.tree.NamedEvent.{NamedEvent}
 use Rattle.galileo_reader.specs.declared.tree.NamedGate.{NamedGate}
 use Rattle.galileo_reader.specs.Nodes.{asked, bad_count, event_in, first_some, gate_in, input_of, is_second, node_from, node_of, second_after, second_line, tree_of, unknown_name, unknown_node, wrong_count}
 use Rattle.galileo_reader.specs.Trees.{IsAcyclic, IsRead}
-use Rattle.galileo_reader.specs.Written.{event_place, named_event, named_gate, named_input, named_tree}
+use Rattle.galileo_reader.specs.inner.Written.{event_place, named_event, named_gate, named_input, named_tree}
 use Rattle.galileo_reader.proofs.TreeLaws.{own-event, own-gate}
 use Rattle.galileo_reader.proofs.WrittenLines.{IsReadable, IsShort, line_pieces, pieces_text, placed_at, said_at, said_from, text-again, top_pieces, written_statements}
 

@@ -14,24 +14,28 @@ use Rattle.round_gates.specs.declared.tree.Gate.{Gate}
 use Rattle.round_gates.specs.declared.tree.Input.{Input}
 use Rattle.round_gates.specs.declared.tree.Input.TheVariants as inputs
 use Rattle.round_gates.specs.declared.tree.Tree.{Tree}
-use Rattle.round_gates.specs.Targets.{IsTreeFor, IsWellMade, IsWithin}
-use Rattle.round_gates.specs.Trees.{IsClosedTree, TreeHolds, gate_true, input_true, is_event}
+use Rattle.round_gates.specs.Targets.{IsTreeFor}
+use Rattle.round_gates.specs.inner.Targets.{IsWellMade, IsWithin}
+use Rattle.round_gates.specs.Trees.{is_event}
+use Rattle.round_gates.specs.inner.Trees.{IsClosedTree, TreeHolds, gate_true, input_true}
 use Rattle.round_gates.specs.Truths.{kind_true}
 use Rattle.round_gates.proofs.GateFormulas.{kind-truth}
 use Rattle.round_gates.proofs.MadeWell.{made-well}
 use Rattle.round_gates.proofs.TreeTruth.{tree-truth}
 use Rattle.galileo_writer.specs.Galileo.{Galileo, Line}
 use Rattle.galileo_writer.specs.Truth.{IsClosedText, NameSet, Tells, line_true}
-use Rattle.galileo_writer.specs.TreeText.{AreRates, HasTextNames, names_of, tree_text}
+use Rattle.galileo_writer.specs.TreeText.{names_of, tree_text}
+use Rattle.galileo_writer.specs.inner.TreeText.{AreRates, HasTextNames}
 use Rattle.galileo_writer.proofs.Names.{has-own}
 use Rattle.galileo_writer.proofs.TreeNames.{at-event, event-within, good, in-tree, or-right, or-true}
 use Rattle.galileo_reader.specs.declared.tree.NamedEvent.{NamedEvent}
 use Rattle.galileo_reader.specs.declared.tree.NamedGate.{NamedGate}
 use Rattle.galileo_reader.specs.declared.tree.NamedTree.{NamedTree}
-use Rattle.galileo_reader.specs.Trees.{IsNamedTree}
+use Rattle.galileo_reader.specs.inner.Trees.{IsNamedTree}
 use Rattle.galileo_reader.specs.TreeSystems.{gate_fact, system_of, top_facts}
-use Rattle.galileo_reader.specs.Truth.{StaticTrue, event_line, event_name, gate_line, tree_galileo}
-use Rattle.galileo_reader.specs.Written.{event_at, event_place, named_event, named_gate, named_input, named_tree}
+use Rattle.galileo_reader.specs.Truth.{event_name}
+use Rattle.galileo_reader.specs.inner.Truth.{StaticTrue, event_line, gate_line, tree_galileo}
+use Rattle.galileo_reader.specs.inner.Written.{event_at, event_place, named_event, named_gate, named_input, named_tree}
 use Rattle.galileo_reader.proofs.RoundTrip.{text-read}
 use Rattle.galileo_reader.proofs.SystemLaws.{Made, behind, given-event, made-at, made-from, member-has, named-in, of_one, system-truth}
 use Rattle.galileo_reader.proofs.TreeTexts.{text-truth, tree-named}

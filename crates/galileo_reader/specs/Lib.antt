@@ -4,6 +4,4 @@ pub mod Nodes
 pub mod Trees
 pub mod Truth
 pub mod TreeSystems
-pub mod Tables
-pub mod Cycles
-pub mod Written
+pub mod inner

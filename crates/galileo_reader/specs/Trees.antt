@@ -1,36 +1,17 @@
 -- Trees of named nodes: which gates reach themselves, and what tree a text is of, or what is wrong with it.
-use Rattle.std.specs.Prelude.{ℕ, ◌<◌, ◌≡◌, ◌⊎◌, true, List, ◌++◌, length, map, slice_get, Some, None}
-use Rattle.std.specs.List.{AllByRecursion}
+use Rattle.std.specs.Prelude.{ℕ, ◌<◌, ◌≡◌, ◌⊎◌, true, List, slice_get, Some, None}
 use Rattle.fault_system.specs.Truth.{NumberSet, Has}
-use Rattle.fault_system.specs.Systems.{NamesDiffer}
-use Rattle.round_gates.specs.Targets.{IsWithin}
 use Rattle.round_gates.specs.Trees.{has_gate}
 use Rattle.galileo_reader.specs.declared.statement.PlacedName.{PlacedName}
 use Rattle.galileo_reader.specs.declared.statement.Statement.{Statement}
 use Rattle.galileo_reader.specs.declared.tree.Flaw.{Flaw}
 use Rattle.galileo_reader.specs.declared.tree.Flaw.TheVariants.{BadLine, BadCount, DuplicateNode, NoTop, UnknownNode, Cyclic}
-use Rattle.galileo_reader.specs.declared.tree.GalileoFault.{GalileoFault}
-use Rattle.galileo_reader.specs.declared.tree.GalileoFault.TheVariants.{Refused, Memory}
 use Rattle.galileo_reader.specs.declared.tree.NamedGate.{NamedGate}
 use Rattle.galileo_reader.specs.declared.tree.NamedTree.{NamedTree}
 use Rattle.galileo_reader.specs.Nodes.{bad_count, place_of_gate, second_line, top_of, tree_of, unknown_node}
 use Rattle.galileo_reader.specs.Statements.{AreLines, IsBadAt}
 
 -- ---- trees
-
--- the inputs of a gate are among so many events and so many gates
-abbrev pub HasInputs : ℕ → ℕ → NamedGate → Type 0
-HasInputs events gates gate = AllByRecursion (IsWithin events gates) gate.inputs
-
--- the names of the nodes of a tree: those of its gates, and then those of its events
-abbrev pub node_names : NamedTree → List (List ℕ)
-node_names tree = map (λ gate. gate.name) tree.gates ++ map (λ event. event.name) tree.events
-
--- A tree: its top and its inputs are among its nodes, no two of which have one name.
-pub record IsNamedTree (tree : NamedTree) : Type 0 where
-  pub top_in : IsWithin (length tree.events) (length tree.gates) tree.top
-  pub inputs_in : AllByRecursion (HasInputs (length tree.events) (length tree.gates)) tree.gates
-  pub names_differ : NamesDiffer (node_names tree)
 
 -- with each gate a set of positions has those of its inputs
 abbrev pub HasInputGates : List NamedGate → NumberSet → Type 0
@@ -78,12 +59,6 @@ pub record HasCycleAt (lines : List Statement) (at : ℕ) : Type 0 where
   pub cyclic : IsFirstCyclic (tree_of lines top).gates gate
   pub at_is : at ≡ place_of_gate lines gate
 
--- why the gates of a tree of lines are refused: the first that reaches itself; want of memory says nothing
-abbrev pub IsCyclicIn : List Statement → NamedTree → GalileoFault → Type 0
-IsCyclicIn lines tree (Refused (Cyclic at)) = (n : ℕ) × IsFirstCyclic tree.gates n × (at ≡ place_of_gate lines n)
-IsCyclicIn lines tree (Refused _) = ⊥
-IsCyclicIn lines tree Memory = Unit {0}
-
 -- what is wrong with lines, where nothing is that comes before it
 abbrev pub AreFlawed : List Statement → Flaw → Type 0
 AreFlawed lines (BadLine at) = ⊥
@@ -104,13 +79,3 @@ HasBadLine text flaw = (at : ℕ) × (lines : List Statement) × IsBadAt text 0 
 -- What is wrong with a text: a line has no reading, or else something is wrong with its lines.
 abbrev pub IsFlawed : List ℕ → Flaw → Type 0
 IsFlawed text flaw = HasBadLine text flaw ⊎ ((lines : List Statement) × AreLines text 0 lines × AreFlawed lines flaw)
-
--- why lines have no tree; want of memory says nothing
-abbrev pub HaveNoTree : List Statement → GalileoFault → Type 0
-HaveNoTree lines (Refused flaw) = AreFlawed lines flaw
-HaveNoTree lines Memory = Unit {0}
-
--- why a text has no tree; want of memory says nothing
-abbrev pub HasNoTree : List ℕ → GalileoFault → Type 0
-HasNoTree text (Refused flaw) = IsFlawed text flaw
-HasNoTree text Memory = Unit {0}

@@ -4,8 +4,9 @@ ghost use Rattle.std.specs.Prelude.{◌≡◌, ◌↔◌, ◌≤◌, ◌<◌, �
 ghost use Rattle.galileo_writer.specs.Truth.{NameSet, Tells};
 ghost use Rattle.galileo_reader.specs.Nodes.{bad_count, second_line};
 ghost use Rattle.galileo_reader.specs.Statements.{AreLines};
-ghost use Rattle.galileo_reader.specs.Trees.{HasNoTree, HaveNoTree, IsAcyclic, IsCyclicIn, IsNamedTree, IsRead, IsTreeOf};
-ghost use Rattle.galileo_reader.specs.Truth.{StaticTrue, tree_galileo};
+ghost use Rattle.galileo_reader.specs.Trees.{IsAcyclic, IsRead, IsTreeOf};
+ghost use Rattle.galileo_reader.specs.inner.Trees.{HasNoTree, HaveNoTree, IsCyclicIn, IsNamedTree};
+ghost use Rattle.galileo_reader.specs.inner.Truth.{StaticTrue, tree_galileo};
 
 use crate::building::{gate_places, tree_of};
 use crate::checks::{bad_count, top_of, unknown_node};

@@ -2,8 +2,9 @@
 
 ghost use Rattle.std.specs.Prelude.{◌≡◌, ◌<◌, ◌^◌, IfOk, MatchOption, length};
 ghost use Rattle.dependency_blocks.specs.Blocks.{number_of};
-ghost use Rattle.galileo_reader.specs.Cycles.{HasOwn, NoneHasOwn, has_own, is_with};
-ghost use Rattle.galileo_reader.specs.Trees.{IsAcyclic, IsFirstCyclic, IsNamedTree};
+ghost use Rattle.galileo_reader.specs.inner.Cycles.{HasOwn, NoneHasOwn, has_own, is_with};
+ghost use Rattle.galileo_reader.specs.Trees.{IsAcyclic, IsFirstCyclic};
+ghost use Rattle.galileo_reader.specs.inner.Trees.{IsNamedTree};
 
 use crate::system::to_system;
 use crate::tree::{NamedGate, NamedTree};

@@ -2,8 +2,8 @@
 
 ghost use Rattle.std.specs.Prelude.{◌≡◌, ◌<◌, ◌^◌, None, IfOk, MatchResult, length};
 ghost use Rattle.galileo_reader.specs.Nodes.{bad_count, input_of, node_of, place_of, second_line};
-ghost use Rattle.galileo_reader.specs.Trees.{HaveNoTree};
-ghost use Rattle.galileo_reader.specs.Tables.{AddsLine};
+ghost use Rattle.galileo_reader.specs.inner.Trees.{HaveNoTree};
+ghost use Rattle.galileo_reader.specs.inner.Tables.{AddsLine};
 
 use crate::statement::{PlacedName, Statement};
 use crate::tree::{Flaw, GalileoFault};
@@ -62,7 +62,7 @@ impl<'a> Model for Nodes<'a> {
     ghost use Rattle.std.specs.Prelude.{List};
     ghost use Rattle.indexmap.specs.IndexMap.{get};
     ghost use Rattle.galileo_reader.specs.declared.statement.Statement.{Statement};
-    ghost use Rattle.galileo_reader.specs.Tables.{KnowsNodes, same_key};
+    ghost use Rattle.galileo_reader.specs.inner.Tables.{KnowsNodes, same_key};
 
     ghost Value = { List Statement };
 

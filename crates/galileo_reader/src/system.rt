@@ -6,9 +6,10 @@ ghost use Rattle.fault_system.specs.Systems.{Holds};
 ghost use Rattle.galileo_writer.specs.Truth.{Tells};
 ghost use Rattle.galileo_writer.specs.TreeText.{names_of};
 ghost use Rattle.round_gates.specs.Formulas.{input_formula};
-ghost use Rattle.galileo_reader.specs.Trees.{IsNamedTree};
+ghost use Rattle.galileo_reader.specs.inner.Trees.{IsNamedTree};
 ghost use Rattle.galileo_reader.specs.TreeSystems.{event_info, gate_fact, system_of, target_of, top_facts};
-ghost use Rattle.galileo_reader.specs.Truth.{event_name, tree_galileo};
+ghost use Rattle.galileo_reader.specs.Truth.{event_name};
+ghost use Rattle.galileo_reader.specs.inner.Truth.{tree_galileo};
 
 use crate::tree::{NamedEvent, NamedGate, NamedTree};
 use fault_system::{EventInfo, FactInfo, FaultSystem, Formula};

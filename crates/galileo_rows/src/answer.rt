@@ -1,7 +1,7 @@
 //! What a Galileo text comes to.
 
 ghost use Rattle.std.specs.Prelude.{◌≤◌, length};
-ghost use Rattle.galileo_reader.specs.Trees.{IsNamedTree};
+ghost use Rattle.galileo_reader.specs.inner.Trees.{IsNamedTree};
 
 use fault_system::FaultSystem;
 use galileo_reader::{Flaw, GalileoFault, NamedTree, read, to_system};

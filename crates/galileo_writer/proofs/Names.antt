@@ -14,7 +14,8 @@ use Rattle.fault_system.proofs.Elements.{In, In-append, In-back, In-contains, co
 use Rattle.round_gates.specs.declared.tree.Gate.{Gate}
 use Rattle.round_gates.specs.Trees.{key_of}
 use Rattle.galileo_writer.specs.Galileo.{IsPlainName}
-use Rattle.galileo_writer.specs.TreeText.{HasTextNames, gate_name, has_name}
+use Rattle.galileo_writer.specs.TreeText.{gate_name, has_name}
+use Rattle.galileo_writer.specs.inner.TreeText.{HasTextNames}
 use Rattle.galileo_writer.proofs.Bytes.{IsDigit, cut-first, cut-last, decimal-lacks}
 
 -- ---- names by number

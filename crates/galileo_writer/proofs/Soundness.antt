@@ -14,12 +14,13 @@ use Rattle.round_gates.specs.declared.tree.Gate.{Gate}
 use Rattle.round_gates.specs.declared.tree.Input.{Input}
 use Rattle.round_gates.specs.declared.tree.Input.TheVariants as inputs
 use Rattle.round_gates.specs.declared.tree.Tree.{Tree}
-use Rattle.round_gates.specs.Targets.{IsWellMade, IsWithin}
+use Rattle.round_gates.specs.inner.Targets.{IsWellMade, IsWithin}
 use Rattle.round_gates.specs.Trees.{InputsOnce, is_event}
 use Rattle.galileo_writer.specs.Galileo.{Line}
 use Rattle.galileo_writer.specs.Sound.{HasInputLines, HasLine, IsSound}
 use Rattle.galileo_writer.specs.Truth.{name_of}
-use Rattle.galileo_writer.specs.TreeText.{HasTextNames, event_line, gate_line, gate_name, input_name, name_at, tree_galileo}
+use Rattle.galileo_writer.specs.TreeText.{event_line, gate_line, gate_name, input_name, name_at, tree_galileo}
+use Rattle.galileo_writer.specs.inner.TreeText.{HasTextNames}
 use Rattle.galileo_writer.proofs.Names.{event-or-gate, item-there, named-here}
 use Rattle.galileo_writer.proofs.TreeNames.{event-within, gate-at-name, gates-differ, good, in-tree, one-event, one-input, or-right, or-true}
 

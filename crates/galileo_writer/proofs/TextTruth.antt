@@ -17,14 +17,17 @@ use Rattle.round_gates.specs.declared.tree.Gate.{Gate}
 use Rattle.round_gates.specs.declared.tree.Input.{Input}
 use Rattle.round_gates.specs.declared.tree.Input.TheVariants as inputs
 use Rattle.round_gates.specs.declared.tree.Tree.{Tree}
-use Rattle.round_gates.specs.Targets.{IsTreeFor, IsWellMade, IsWithin, MayHave}
-use Rattle.round_gates.specs.Trees.{IsClosedTree, TreeHolds, input_true, is_event}
+use Rattle.round_gates.specs.Targets.{IsTreeFor}
+use Rattle.round_gates.specs.inner.Targets.{IsWellMade, IsWithin, MayHave}
+use Rattle.round_gates.specs.Trees.{is_event}
+use Rattle.round_gates.specs.inner.Trees.{IsClosedTree, TreeHolds, input_true}
 use Rattle.round_gates.specs.Truths.{kind_true}
 use Rattle.round_gates.proofs.MadeWell.{made-well}
 use Rattle.round_gates.proofs.TreeTruth.{kind-below, tree-truth}
 use Rattle.galileo_writer.specs.Galileo.{Galileo, IsKind, IsPlainLine, IsPlainName, IsTextOf, Line}
 use Rattle.galileo_writer.specs.Truth.{IsClosedText, NameSet, Tells, TextTrue, line_true, name_of}
-use Rattle.galileo_writer.specs.TreeText.{AreRates, HasTextNames, event_line, gate_line, gate_name, has_name, input_name, name_at, names_of, tree_galileo, tree_text}
+use Rattle.galileo_writer.specs.TreeText.{event_line, gate_line, gate_name, has_name, input_name, name_at, names_of, tree_galileo, tree_text}
+use Rattle.galileo_writer.specs.inner.TreeText.{AreRates, HasTextNames}
 use Rattle.galileo_writer.proofs.Names.{event-or-gate, event-plain, gate-plain, has-none, has-own, item-there, named-here}
 use Rattle.galileo_writer.proofs.OneText.{one-text}
 use Rattle.galileo_writer.proofs.TreeNames.{event-within, in-tree, or-right, or-true, at-event, at-name, gate-at-name, gates-differ, good}

@@ -10,11 +10,12 @@ use Rattle.round_gates.specs.declared.tree.Gate.{Gate}
 use Rattle.round_gates.specs.declared.tree.Input.{Input}
 use Rattle.round_gates.specs.declared.tree.Input.TheVariants as inputs
 use Rattle.round_gates.specs.declared.tree.Tree.{Tree}
-use Rattle.round_gates.specs.Targets.{IsWellMade, IsWellMadeGate, IsWithin}
+use Rattle.round_gates.specs.inner.Targets.{IsWellMade, IsWellMadeGate, IsWithin}
 use Rattle.round_gates.specs.Trees.{is_event, key_of}
 use Rattle.round_gates.proofs.OneTree.{one-position}
 use Rattle.round_gates.proofs.TreeTruth.{key-there}
-use Rattle.galileo_writer.specs.TreeText.{HasTextNames, gate_name, input_name, name_at}
+use Rattle.galileo_writer.specs.TreeText.{gate_name, input_name, name_at}
+use Rattle.galileo_writer.specs.inner.TreeText.{HasTextNames}
 use Rattle.galileo_writer.proofs.Names.{event-or-gate, item-there, named-at, named-here, one-gate-name, one-number}
 
 all-at : {X : Type 0} (P : X → Type 0) (xs : List X) → AllByRecursion P xs → (n : ℕ) (x : X) → slice_get xs n ≡ Some x → P x

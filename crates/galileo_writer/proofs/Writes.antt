@@ -6,7 +6,7 @@ use Rattle.std.proofs.lemmas.List.Concat.{flat_map-append}
 use Rattle.fta_outside.specs.Outside.{Rose, TookPrefix, with_bytes}
 use Rattle.fta_outside.proofs.Writing.{rose_from, took_more, with_bytes-nil, wrote_both}
 use Rattle.galileo_writer.specs.Galileo.{Line, line_text}
-use Rattle.galileo_writer.specs.Written.{Writes}
+use Rattle.galileo_writer.specs.inner.Written.{Writes}
 use Rattle.fta_outside.specs.declared.error.WriteError.{WriteError}
 use Rattle.fta_outside.specs.declared.error.WriteError.TheVariants.{Failed}
 

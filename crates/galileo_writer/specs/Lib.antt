@@ -2,4 +2,4 @@ pub mod Galileo
 pub mod Truth
 pub mod Sound
 pub mod TreeText
-pub mod Written
+pub mod inner

@@ -1,7 +1,6 @@
 -- The Galileo text of a tree.
-use Rattle.std.specs.Prelude.{ℕ, suc, ◌≡◌, false, ◌||◌, ◌&&◌, List, [], ◌∷◌, ◌++◌, length, map, codes, decimal, unwrap_or, slice_get, slice_index_or, All, Contains}
+use Rattle.std.specs.Prelude.{ℕ, suc, false, ◌||◌, ◌&&◌, List, [], ◌∷◌, ◌++◌, map, codes, decimal, unwrap_or, slice_get, slice_index_or}
 use Rattle.std.specs.Option.{option_map}
-use Rattle.aadl_syntax.specs.Form.{IsNumber}
 use Rattle.plain_values.specs.Name.{is_same_text}
 use Rattle.fault_system.specs.Truth.{NumberSet}
 use Rattle.fault_system.specs.Systems.{System, event_name, fact_name}
@@ -11,7 +10,7 @@ use Rattle.round_gates.specs.declared.tree.Gate.{Gate}
 use Rattle.round_gates.specs.declared.tree.Input.{Input}
 use Rattle.round_gates.specs.declared.tree.Input.TheVariants as inputs
 use Rattle.round_gates.specs.declared.tree.Tree.{Tree}
-use Rattle.galileo_writer.specs.Galileo.{Line, GateLine, EventLine, Galileo, IsPlainName, galileo_text}
+use Rattle.galileo_writer.specs.Galileo.{Line, GateLine, EventLine, Galileo, galileo_text}
 use Rattle.galileo_writer.specs.Truth.{NameSet}
 
 -- the name of a gate: its fact, `@`, its stage, `.` and its place
@@ -50,19 +49,6 @@ tree_galileo system tree rates =
 -- the bytes of the text of a tree
 abbrev pub tree_text : System → Tree → List Rate → List ℕ
 tree_text system tree rates = galileo_text (tree_galileo system tree rates)
-
--- ---- what is asked of the names and of the rates
-
--- names of facts and of events that may stand between quotes, where no event has the name of a gate: none of them holds `@`
-pub record HasTextNames (system : System) : Type 0 where
-  pub facts : All (λ fact. IsPlainName fact.name) system.facts
-  pub events : All (λ event. IsPlainName event.name) system.events
-  pub no_at : All (λ event. Contains event.name 64 → ⊥) system.events
-
--- one rate for each event, which is a number
-pub record AreRates (system : System) (rates : List Rate) : Type 0 where
-  pub each : length rates ≡ length system.events
-  pub numbers : All (λ rate. IsNumber rate.text) rates
 
 -- ---- sets of events by their names
 

@@ -5,10 +5,12 @@ ghost use Rattle.fault_system.specs.Truth.{NumberSet};
 ghost use Rattle.fault_system.specs.Systems.{System, IsSystem, Holds, NamesDiffer};
 ghost use Rattle.property_reader.specs.declared.rate.Rate.{Rate};
 ghost use Rattle.round_gates.specs.declared.tree.Tree.{Tree};
-ghost use Rattle.round_gates.specs.Targets.{IsTreeFor, IsWellMade};
+ghost use Rattle.round_gates.specs.Targets.{IsTreeFor};
+ghost use Rattle.round_gates.specs.inner.Targets.{IsWellMade};
 ghost use Rattle.galileo_writer.specs.Galileo.{Galileo, IsTextOf};
 ghost use Rattle.galileo_writer.specs.Truth.{TextTrue};
-ghost use Rattle.galileo_writer.specs.TreeText.{AreRates, HasTextNames, gate_name, names_of, tree_galileo, tree_text};
+ghost use Rattle.galileo_writer.specs.TreeText.{gate_name, names_of, tree_galileo, tree_text};
+ghost use Rattle.galileo_writer.specs.inner.TreeText.{AreRates, HasTextNames};
 
 /// Bytes are one text at most.
 pub fn one_text()

@@ -5,8 +5,8 @@ use Rattle.aadl_syntax.specs.declared.token.Token.{Token}
 use Rattle.grammar_rules.specs.declared.reader.Reader.{Reader}
 use Rattle.grammar_rules.specs.Rules.{Test, Rule, gathers, begin}
 use Rattle.grammar_rules.specs.Running.{Outcome, read, dead, looked, followed, gathered, run}
-use Rattle.grammar_rules.specs.Reader.{Gives, Begins}
-use Rattle.grammar_rules.specs.Parts.{TakesTokens}
+use Rattle.grammar_rules.specs.inner.Reader.{Gives, Begins}
+use Rattle.grammar_rules.specs.inner.Parts.{TakesTokens}
 use Rattle.grammar_rules.proofs.Loops.{reads_so, run-same}
 
 module _ {A : Type 0} (tests : List Test) (part : A → List Token → ℕ → Outcome A) where

@@ -5,8 +5,9 @@ use Rattle.aadl_syntax.specs.declared.token.Token.{Token}
 use Rattle.grammar_rules.specs.declared.reader.Reader.{Reader}
 use Rattle.grammar_rules.specs.Rules.{Test, Rule, repeats, begin, Reads}
 use Rattle.grammar_rules.specs.Running.{Outcome, read, dead, looked, followed, repeated, run}
-use Rattle.grammar_rules.specs.Reader.{Gives, Begins}
-use Rattle.grammar_rules.specs.Parts.{TakesTokens, parts_after}
+use Rattle.grammar_rules.specs.inner.Reader.{Gives, Begins}
+use Rattle.grammar_rules.specs.Parts.{parts_after}
+use Rattle.grammar_rules.specs.inner.Parts.{TakesTokens}
 use Rattle.grammar_rules.proofs.Laws.{IsOutcome, is_outcome}
 
 -- what was collected before, and what is still read

@@ -5,7 +5,7 @@ use Rattle.aadl_syntax.specs.declared.token.TokenKind.{TokenKind}
 use Rattle.grammar_rules.specs.Rules.{Test, Rule, takes, joins, chooses, begin, Reads}
 use Rattle.grammar_rules.specs.Running.{Outcome, read, dead, run}
 use Rattle.grammar_rules.specs.Tokens.{kind, word, sign, identifier, one_of}
-use Rattle.grammar_rules.specs.Parts.{TakesTokens}
+use Rattle.grammar_rules.specs.inner.Parts.{TakesTokens}
 use Rattle.grammar_rules.proofs.Laws.{IsOutcome, is_outcome}
 
 -- Reading never adds tokens.

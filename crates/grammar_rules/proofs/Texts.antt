@@ -7,8 +7,9 @@ use Rattle.grammar_rules.specs.declared.reader.ReadError.TheVariants.{Refused}
 use Rattle.grammar_rules.specs.declared.reader.Reader.{Reader}
 use Rattle.grammar_rules.specs.Rules.{Rule, gives, ends, joins, Reads, Dead}
 use Rattle.grammar_rules.specs.Running.{Outcome, read, dead, run}
-use Rattle.grammar_rules.specs.Reader.{Gives}
-use Rattle.grammar_rules.specs.Texts.{StopsDead, syntax_error, token_place}
+use Rattle.grammar_rules.specs.inner.Reader.{Gives}
+use Rattle.grammar_rules.specs.Texts.{syntax_error, token_place}
+use Rattle.grammar_rules.specs.inner.Texts.{StopsDead}
 use Rattle.grammar_rules.proofs.Looks.{SameSeen}
 use Rattle.grammar_rules.proofs.Laws.{IsOutcome, is_outcome}
 

@@ -1,7 +1,7 @@
 pub mod Rules
 pub mod Running
 pub mod Tokens
-pub mod Reader
 pub mod Parts
 pub mod Spans
 pub mod Texts
+pub mod inner

@@ -7,8 +7,8 @@ use plain_values::List;
 pub trait Parts {
     ghost use Rattle.std.specs.Prelude.{List as Items};
     ghost use Rattle.grammar_rules.specs.Rules.{Rule, Test};
-    ghost use Rattle.grammar_rules.specs.Parts.{TakesTokens};
-    ghost use Rattle.grammar_rules.specs.Reader.{Gives, Begins};
+    ghost use Rattle.grammar_rules.specs.inner.Parts.{TakesTokens};
+    ghost use Rattle.grammar_rules.specs.inner.Reader.{Gives, Begins};
 
     /// What a part gives.
     type Part: Drop;
@@ -31,7 +31,7 @@ pub trait Parts {
 impl<'a> Reader<'a> {
     ghost use Rattle.std.specs.Prelude.{[], ◌∷◌};
     ghost use Rattle.grammar_rules.specs.Parts.{parts_after};
-    ghost use Rattle.grammar_rules.specs.Reader.{Gives, given};
+    ghost use Rattle.grammar_rules.specs.inner.Reader.{Gives, given};
 
     /// Reads parts as long as the next tokens begin one, perhaps none.
     pub fn parts<P: Parts>(&mut self) -> Result<List<P::Part>, ReadError>
@@ -70,8 +70,8 @@ impl<'a> Reader<'a> {
 pub trait Gathered {
     ghost use Rattle.std.specs.Prelude.{List as Items};
     ghost use Rattle.grammar_rules.specs.Rules.{Rule, Test};
-    ghost use Rattle.grammar_rules.specs.Parts.{TakesTokens};
-    ghost use Rattle.grammar_rules.specs.Reader.{Gives, Begins, given};
+    ghost use Rattle.grammar_rules.specs.inner.Parts.{TakesTokens};
+    ghost use Rattle.grammar_rules.specs.inner.Reader.{Gives, Begins, given};
 
     /// What the parts give together.
     type Whole: Drop;
@@ -93,7 +93,7 @@ pub trait Gathered {
 
 impl<'a> Reader<'a> {
     ghost use Rattle.grammar_rules.specs.Rules.{gathers};
-    ghost use Rattle.grammar_rules.specs.Reader.{Gives, given};
+    ghost use Rattle.grammar_rules.specs.inner.Reader.{Gives, given};
 
     /// Reads parts as long as the next tokens begin one, perhaps none, and makes `whole` into what it is with them.
     pub fn gather<G: Gathered>(&mut self, whole: &mut G::Whole) -> Result<(), ReadError>

@@ -1,9 +1,9 @@
 ghost use Rattle.std.specs.Prelude.{◌≡◌, ◌+◌, length, slice_get, IfOk, IfSome, IsTrue, map, bytes_eq};
 ghost use Rattle.std.specs.Option.{option_map};
 ghost use Rattle.aadl_syntax.specs.declared.token.TokenKind.TheVariants.{Word};
-ghost use Rattle.aadl_syntax.specs.Token.{IsTokenText, shown};
+ghost use Rattle.aadl_syntax.specs.inner.Token.{IsTokenText, shown};
 ghost use Rattle.std.specs.List.{list_any};
-ghost use Rattle.grammar_rules.specs.Reader.{Gives};
+ghost use Rattle.grammar_rules.specs.inner.Reader.{Gives};
 ghost use Rattle.grammar_rules.specs.Tokens.{is_kind, is_word, is_sign, is_identifier, is_one_of, spot};
 
 use aadl_syntax::{Identifier, TokenKind, TokenList, TokenRef, TokenSlice};
@@ -43,7 +43,7 @@ pub struct Reader<'a> {
 impl<'a> Reader<'a> {
     ghost use Rattle.std.specs.Prelude.{[], ◌∷◌};
     ghost use Rattle.grammar_rules.specs.Rules.{ends};
-    ghost use Rattle.grammar_rules.specs.Reader.{Gives, Begins, LooksAt, Steps};
+    ghost use Rattle.grammar_rules.specs.inner.Reader.{Gives, Begins, LooksAt, Steps};
     ghost use Rattle.grammar_rules.specs.Tokens.{kind, word, sign, identifier, one_of, place};
 
     /// A reader before the first of these tokens, none of which it has looked at; files are numbered from 0.

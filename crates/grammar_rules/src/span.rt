@@ -1,10 +1,10 @@
 ghost use Rattle.std.specs.Prelude.{◌≡◌, ℕ, [], ◌<◌, ◌&&◌, ◌||◌, length, take, drop, IfSome, MatchOption};
 ghost use Rattle.aadl_syntax.specs.declared.token.TokenKind.TheVariants.{AnnexEnd};
 ghost use Rattle.std.specs.Option.{option_map};
-ghost use Rattle.aadl_syntax.specs.Token.{shown};
+ghost use Rattle.aadl_syntax.specs.inner.Token.{shown};
 ghost use Rattle.grammar_rules.specs.Tokens.{is_kind};
 ghost use Rattle.grammar_rules.specs.Running.{spanned, read, dead, seen};
-ghost use Rattle.grammar_rules.specs.Reader.{Gives};
+ghost use Rattle.grammar_rules.specs.inner.Reader.{Gives};
 ghost use Rattle.grammar_rules.specs.Spans.{opens, closes, stopping, tail_end, tail_end_inside};
 
 use crate::reader::{ReadError, Reader, is_kind, is_sign, is_word};
@@ -15,7 +15,7 @@ use aadl_syntax::{TokenKind, TokenRef, TokenSlice};
 pub trait Span {
     ghost use Rattle.std.specs.Prelude.{Option, Bool};
     ghost use Rattle.std.specs.Option.{option_map};
-    ghost use Rattle.aadl_syntax.specs.Token.{shown};
+    ghost use Rattle.aadl_syntax.specs.inner.Token.{shown};
     ghost use Rattle.aadl_syntax.specs.declared.token.Token.{Token};
 
     ghost stops: { Option Token → Token → Bool };
@@ -71,7 +71,7 @@ impl<'a> Reader<'a> {
     ghost use Rattle.std.specs.Prelude.{true, false};
     ghost use Rattle.grammar_rules.specs.Spans.{until, until_inside, stopping};
     ghost use Rattle.grammar_rules.specs.Rules.{spans};
-    ghost use Rattle.grammar_rules.specs.Reader.{Gives};
+    ghost use Rattle.grammar_rules.specs.inner.Reader.{Gives};
 
     /// Takes the tokens of a run of core text, perhaps none. Without a token that ends it, the run is refused at the end.
     #[tactic(auto, unfolding(crate::specs::Spans::until))]

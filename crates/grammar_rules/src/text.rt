@@ -2,8 +2,9 @@ ghost use Rattle.std.specs.Prelude.{◌≡◌, ◌-◌, ℕ, List, [], IfOk, IfE
 ghost use Rattle.aadl_syntax.specs.declared.token.Token.{Token};
 ghost use Rattle.plain_values.specs.declared.refusal.Stop.TheVariants.{Refused, Memory};
 ghost use Rattle.grammar_rules.specs.Rules.{Reads, joins, ends, gives};
-ghost use Rattle.grammar_rules.specs.Reader.{Gives};
-ghost use Rattle.grammar_rules.specs.Texts.{StopsDead, syntax_error, token_place};
+ghost use Rattle.grammar_rules.specs.inner.Reader.{Gives};
+ghost use Rattle.grammar_rules.specs.Texts.{syntax_error, token_place};
+ghost use Rattle.grammar_rules.specs.inner.Texts.{StopsDead};
 
 use crate::reader::{ReadError, Reader};
 use aadl_syntax::TokenList;
@@ -13,7 +14,7 @@ use std::alloc::Global;
 /// A grammar of whole texts.
 pub trait Grammar {
     ghost use Rattle.grammar_rules.specs.Rules.{Rule};
-    ghost use Rattle.grammar_rules.specs.Reader.{Gives};
+    ghost use Rattle.grammar_rules.specs.inner.Reader.{Gives};
 
     /// What a text gives.
     type Value: Drop;

@@ -8,7 +8,7 @@ use Rattle.component_extension.specs.declared.effective.Members.{Members}
 use Rattle.component_extension.specs.declared.error_model.Behavior.{Behavior}
 use Rattle.component_extension.specs.declared.error_model.OtherItems.{OtherItems}
 use Rattle.component_extension.specs.declared.error_model.Propagations.{Propagations}
-use Rattle.component_extension.specs.Effective.{AreMembers, AreOtherItems, ArePropagations, IsBehavior, IsEffective}
+use Rattle.component_extension.specs.inner.Effective.{AreMembers, AreOtherItems, ArePropagations, IsBehavior, IsEffective}
 use Rattle.component_extension.specs.Items.{Clause, classes_of, machine_of}
 use Rattle.component_extension.specs.Members.{Class}
 use Rattle.instantiator.specs.Effectives.{behavior_of, chain_or_none, effective_along, effective_of, members_of, other_items_of, propagations_of}

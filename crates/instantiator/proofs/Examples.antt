@@ -9,7 +9,8 @@ use Rattle.instantiator.specs.declared.path.Component.{Component}
 use Rattle.instantiator.specs.Components.{component_at, component_below, components_of, preorder}
 use Rattle.instantiator.specs.Effectives.{effective_of}
 use Rattle.instantiator.specs.Refused.{instance_refusal}
-use Rattle.instantiator.specs.Whole.{kinds_of, parent_in}
+use Rattle.instantiator.specs.Whole.{kinds_of}
+use Rattle.instantiator.specs.inner.Whole.{parent_in}
 use Rattle.instantiator.proofs.Sample.{endless, id, name_at, two_devices, two_devices_with}
 
 abbrev component : List (List ℕ) → Option ClassifierId → Component

@@ -13,8 +13,9 @@ use Rattle.instantiator.specs.declared.draft.Draft.{Draft}
 use Rattle.instantiator.specs.declared.occurrence.Occurrence.{Occurrence}
 use Rattle.instantiator.specs.Components.{component_of, components_of, occurrences_of, preorder, root_of}
 use Rattle.instantiator.specs.Refused.{classifier_refusal, component_refusal, first_refusal, limit_refusal}
-use Rattle.instantiator.specs.Tables.{Grown, IsInstance, KnowsSteps, StepKey}
-use Rattle.instantiator.specs.Whole.{Kinds, ParentsComeFirst, PathsDiffer, kinds_of}
+use Rattle.instantiator.specs.inner.Tables.{Grown, IsInstance, KnowsSteps, StepKey}
+use Rattle.instantiator.specs.Whole.{kinds_of}
+use Rattle.instantiator.specs.inner.Whole.{Kinds, ParentsComeFirst, PathsDiffer}
 use Rattle.instantiator.proofs.PathLaws.{parents-first, paths-differ}
 
 -- ---- how many there are

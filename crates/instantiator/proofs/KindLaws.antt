@@ -12,14 +12,15 @@ use Rattle.plain_values.specs.declared.refusal.Stop.TheVariants.{Memory, Refused
 use Rattle.plain_values.specs.Order.{IsFirst, least}
 use Rattle.plain_values.proofs.OrderLaws.{first_once, least-first}
 use Rattle.package_index.specs.declared.id.ClassifierId.{ClassifierId}
-use Rattle.plain_values.specs.Stops.{StopsAtFirst, StopsAt}
+use Rattle.plain_values.specs.inner.Stops.{StopsAtFirst, StopsAt}
 use Rattle.package_index.proofs.KnowsLaws.{some-place}
 use Rattle.component_extension.specs.Chain.{is_among, same_id}
 use Rattle.component_extension.specs.Items.{classifier_refusals}
 use Rattle.instantiator.specs.declared.kinds.Kind.{Kind}
 use Rattle.instantiator.specs.declared.path.Component.{Component}
-use Rattle.instantiator.specs.Tables.{AreKinds, Entered, kind_of}
-use Rattle.instantiator.specs.Whole.{Kinds, kind_number, kind_place, kinds_of, with_kind}
+use Rattle.instantiator.specs.inner.Tables.{AreKinds, Entered, kind_of}
+use Rattle.instantiator.specs.Whole.{kind_number, kind_place, kinds_of, with_kind}
+use Rattle.instantiator.specs.inner.Whole.{Kinds}
 use Rattle.instantiator.proofs.Lists.{get-last, place-new, place-there}
 
 -- ---- classifiers

@@ -14,7 +14,7 @@ use Rattle.package_index.proofs.KnowsLaws.{find-place}
 use Rattle.instantiator.specs.declared.occurrence.Occurrence.{Occurrence}
 use Rattle.instantiator.specs.declared.path.Component.{Component}
 use Rattle.instantiator.specs.Components.{Part, component_of, components_of, found, occurrence_of, preorder, root_of}
-use Rattle.instantiator.specs.Reached.{AreInOrder, comes_before, has_name, is_earlier, part_named, part_place, parts_at}
+use Rattle.instantiator.specs.inner.Reached.{AreInOrder, comes_before, has_name, is_earlier, part_named, part_place, parts_at}
 use Rattle.instantiator.proofs.Apart.{AllPairs-from_Apart, Apart, Apart-from_AllPairs, apart-flat_map, apart-map, apart-weaker, each-weaker}
 use Rattle.instantiator.proofs.PathLaws.{Under, all-under, below-each, parts-differ}
 use Rattle.instantiator.proofs.ReachedLaws.{flat_map-map, text-is, text-same}

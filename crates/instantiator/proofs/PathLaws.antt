@@ -15,7 +15,7 @@ use Rattle.instantiator.specs.declared.occurrence.Occurrence.{Occurrence}
 use Rattle.instantiator.specs.declared.path.Component.{Component}
 use Rattle.instantiator.specs.Components.{Part, component_of, components_of, found, occurrence_of, occurrences_in, part_of, parts_of, preorder, root_of}
 use Rattle.instantiator.specs.Effectives.{chain_or_none, effective_at, effective_of}
-use Rattle.instantiator.specs.Whole.{ParentsComeFirst, PathsDiffer}
+use Rattle.instantiator.specs.inner.Whole.{ParentsComeFirst, PathsDiffer}
 use Rattle.instantiator.proofs.Apart.{AllPairs-from_Apart, Apart, apart-flat_map, apart-map, apart-unmap, apart-weaker, each-all, each-flat_map, each-map, each-weaker}
 use Rattle.instantiator.proofs.MemberNames.{members-differ, name-same}
 

@@ -13,10 +13,11 @@ use Rattle.instantiator.specs.declared.occurrence.Occurrence.{Occurrence}
 use Rattle.instantiator.specs.declared.path.Component.{Component}
 use Rattle.instantiator.specs.Components.{Part, component_of, found, occurrence_of, parts_of, preorder}
 use Rattle.instantiator.specs.Effectives.{effective_at}
-use Rattle.plain_values.specs.Stops.{StopsAt}
+use Rattle.plain_values.specs.inner.Stops.{StopsAt}
 use Rattle.instantiator.specs.Refused.{component_refusal, first_refusal}
-use Rattle.instantiator.specs.Tables.{Added, Grown}
-use Rattle.instantiator.specs.Whole.{Kinds, with_kind, with_kinds}
+use Rattle.instantiator.specs.inner.Tables.{Added, Grown}
+use Rattle.instantiator.specs.Whole.{with_kind}
+use Rattle.instantiator.specs.inner.Whole.{Kinds, with_kinds}
 use Rattle.instantiator.proofs.Lists.{rest-less}
 
 -- ---- the first refusal

@@ -16,7 +16,7 @@ use Rattle.package_index.specs.Names.{is_same_name}
 use Rattle.instantiator.specs.declared.occurrence.Occurrence.{Occurrence}
 use Rattle.instantiator.specs.declared.path.Component.{Component}
 use Rattle.instantiator.specs.Components.{Part, component_of, found, occurrence_of, occurrences_in, occurrences_of, preorder, root_of}
-use Rattle.instantiator.specs.Reached.{AreReached, has_name, part_named, parts_at, reached}
+use Rattle.instantiator.specs.inner.Reached.{AreReached, has_name, part_named, parts_at, reached}
 use Rattle.instantiator.specs.Refused.{classifier_refusal, component_refusal, first_refusal, instance_refusal, limit_refusal}
 use Rattle.instantiator.proofs.Apart.{Apart, each-weaker}
 use Rattle.instantiator.proofs.InstanceLaws.{not-over, or-none}

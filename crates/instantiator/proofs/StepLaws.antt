@@ -12,7 +12,7 @@ use Rattle.package_index.specs.Names.{front, is_same_name}
 use Rattle.package_index.proofs.KnowsLaws.{some-place}
 use Rattle.instantiator.specs.declared.path.Component.{Component}
 use Rattle.instantiator.specs.Components.{component_at, component_below}
-use Rattle.instantiator.specs.Whole.{ParentsComeFirst, PathsDiffer, parent_of}
+use Rattle.instantiator.specs.inner.Whole.{ParentsComeFirst, PathsDiffer, parent_of}
 use Rattle.instantiator.proofs.MemberNames.{name-same, same-name}
 use Rattle.instantiator.proofs.PathLaws.{front-snoc}
 

@@ -9,8 +9,8 @@ use Rattle.std.proofs.lemmas.Slice.Eq.{bytes_eq-Decides}
 use Rattle.package_index.specs.Names.{front, is_same_name}
 use Rattle.instantiator.specs.declared.path.Component.{Component}
 use Rattle.instantiator.specs.Components.{component_at, component_below}
-use Rattle.instantiator.specs.Tables.{IsTree, KnowsSteps, StepKey, same_step}
-use Rattle.instantiator.specs.Whole.{ParentsComeFirst, PathsDiffer}
+use Rattle.instantiator.specs.inner.Tables.{IsTree, KnowsSteps, StepKey, same_step}
+use Rattle.instantiator.specs.inner.Whole.{ParentsComeFirst, PathsDiffer}
 use Rattle.instantiator.proofs.Lists.{get-last, place-new}
 use Rattle.instantiator.proofs.MemberNames.{name-same, same-name}
 use Rattle.instantiator.proofs.PathLaws.{front-snoc}

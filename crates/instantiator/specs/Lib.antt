@@ -2,5 +2,4 @@ pub mod Effectives
 pub mod Components
 pub mod Refused
 pub mod Whole
-pub mod Tables
-pub mod Reached
+pub mod inner

@@ -1,12 +1,11 @@
 -- An instance as a whole: its components, and the classifiers that they have.
-use Rattle.std.specs.Prelude.{◌≡◌, ◌≢◌, ◌<◌, ℕ, cond, IsSome, List, [], ◌∷◌, ◌++◌, length, take, fold, position, slice_get, AllPairs, Option, Some, None, option_and_then}
+use Rattle.std.specs.Prelude.{ℕ, cond, List, [], ◌∷◌, ◌++◌, fold, position, slice_get, Option, Some, None, option_and_then}
 use Rattle.aadl_syntax.specs.declared.core_model.PackageUnit.{PackageUnit}
 use Rattle.package_index.specs.declared.id.ClassifierId.{ClassifierId}
-use Rattle.package_index.specs.Names.{front}
 use Rattle.component_extension.specs.Chain.{is_among, same_id}
 use Rattle.component_extension.specs.declared.effective.Effective.{Effective}
 use Rattle.instantiator.specs.declared.path.Component.{Component}
-use Rattle.instantiator.specs.Components.{component_at, components_of}
+use Rattle.instantiator.specs.Components.{components_of}
 use Rattle.instantiator.specs.Effectives.{effective_at}
 
 -- ---- kinds
@@ -19,15 +18,6 @@ with_kind kinds (Some id) = cond (is_among kinds id) kinds (kinds ++ id ∷ [])
 -- The kinds of components: their classifiers, each once, in the order in which they first come.
 abbrev pub kinds_of : List Component → List ClassifierId
 kinds_of components = fold (λ kinds component. with_kind kinds component.classifier) [] components
-
--- Kinds so far, and the packages of which they are.
-pub record Kinds : Type 0 where
-  pub packages : List PackageUnit
-  pub ids : List ClassifierId
-
--- the kinds with those of these components
-abbrev pub with_kinds : Kinds → List Component → Kinds
-with_kinds kinds components = record kinds { ids = fold (λ ids component. with_kind ids component.classifier) kinds.ids components }
 
 -- the number of the kind of a classifier: its place, from 0
 abbrev pub kind_place : List ClassifierId → ClassifierId → Option ℕ
@@ -60,23 +50,3 @@ classifier_at instance number = option_and_then (λ component. component.classif
 -- the effective classifier of the component of a number, with nothing at all where it has none
 abbrev pub effective_in : Instance → ℕ → Effective
 effective_in instance number = effective_at instance.packages (classifier_at instance number)
-
--- the number of the component of which the component of this path is a subcomponent: the root is none of any
-abbrev pub parent_of : List Component → List (List ℕ) → Option ℕ
-parent_of components [] = None
-parent_of components (name ∷ names) = component_at components (front (name ∷ names))
-
--- the same for the component of a number
-abbrev pub parent_in : List Component → ℕ → Option ℕ
-parent_in components number = option_and_then (λ component. parent_of components component.path) (slice_get components number)
-
--- ---- laws
-
--- No two components have one path.
-abbrev pub PathsDiffer : List Component → Type 0
-PathsDiffer components = AllPairs (λ a b. a.path ≢ b.path) components
-
--- The path of each component without its last name is that of an earlier component; the root alone has no name.
-abbrev pub ParentsComeFirst : List Component → Type 0
-ParentsComeFirst components =
-    (number : ℕ) (component : Component) → slice_get components number ≡ Some component → 0 < length component.path → IsSome (component_at (take number components) (front component.path))

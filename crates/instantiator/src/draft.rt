@@ -1,8 +1,8 @@
 ghost use Rattle.std.specs.Prelude.{◌≡◌, ◌≤◌, ◌∷◌, [], length, None, Some, IfOk, MatchResult};
 ghost use Rattle.instantiator.specs.Components.{found};
-ghost use Rattle.plain_values.specs.Stops.{StopsAt};
+ghost use Rattle.plain_values.specs.inner.Stops.{StopsAt};
 ghost use Rattle.instantiator.specs.Refused.{component_refusal, limit_refusal};
-ghost use Rattle.instantiator.specs.Tables.{Added};
+ghost use Rattle.instantiator.specs.inner.Tables.{Added};
 
 use crate::kinds::Kinds;
 use crate::occurrence::{Meant, Occurrence};

@@ -1,10 +1,11 @@
 ghost use Rattle.std.specs.Prelude.{◌≡◌, ◌≤◌, None, IfOk, IfErr, OnOk, length, map, option_and_then, option_copied, option_map, slice_get};
 ghost use Rattle.instantiator.specs.Components.{component_below};
 ghost use Rattle.instantiator.specs.Effectives.{effective_of};
-ghost use Rattle.plain_values.specs.Stops.{StopsAt};
+ghost use Rattle.plain_values.specs.inner.Stops.{StopsAt};
 ghost use Rattle.instantiator.specs.Refused.{instance_refusal};
-ghost use Rattle.instantiator.specs.Tables.{kind_of};
-ghost use Rattle.instantiator.specs.Whole.{ParentsComeFirst, PathsDiffer, classifier_at, instance_of, kind_number, kinds_of, parent_in, parent_of};
+ghost use Rattle.instantiator.specs.inner.Tables.{kind_of};
+ghost use Rattle.instantiator.specs.Whole.{classifier_at, instance_of, kind_number, kinds_of};
+ghost use Rattle.instantiator.specs.inner.Whole.{ParentsComeFirst, PathsDiffer, parent_in, parent_of};
 
 use crate::draft::Draft;
 use crate::kinds::{Kind, Kinds};
@@ -39,7 +40,7 @@ impl<'i, 'a> Model for Instance<'i, 'a> {
     ghost coded = { Prim.hlevel (codes, condition.the_row.coded) };
 
     ghost use Rattle.std.specs.HashMap.{get};
-    ghost use Rattle.instantiator.specs.Tables.{IsInstance, same_step};
+    ghost use Rattle.instantiator.specs.inner.Tables.{IsInstance, same_step};
 
     ghost view = { λ i. record { packages = i.kinds.packages; components = i.components; kinds = i.kinds.ids } };
 

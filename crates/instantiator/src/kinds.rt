@@ -2,9 +2,9 @@ ghost use Rattle.std.specs.Prelude.{◌≡◌, ◌∷◌, ◌++◌, [], length, 
 ghost use Rattle.component_extension.specs.Items.{classifier_refusals};
 ghost use Rattle.instantiator.specs.Components.{parts_of};
 ghost use Rattle.instantiator.specs.Effectives.{effective_at, effective_of};
-ghost use Rattle.plain_values.specs.Stops.{StopsAt};
+ghost use Rattle.plain_values.specs.inner.Stops.{StopsAt};
 ghost use Rattle.instantiator.specs.Refused.{classifier_refusal};
-ghost use Rattle.instantiator.specs.Tables.{Entered, kind_of};
+ghost use Rattle.instantiator.specs.inner.Tables.{Entered, kind_of};
 ghost use Rattle.instantiator.specs.Whole.{kind_place};
 
 use crate::occurrence::{Meant, Part, parts_of};
@@ -35,15 +35,15 @@ impl<'i, 'a> Model for Kinds<'i, 'a> {
     ghost use Rattle.std.specs.Prelude.{map};
     ghost use Rattle.std.specs.Coded.{codes};
     ghost use Rattle.aadl_syntax.specs.contracts.error_model.Condition as condition;
-    ghost use Rattle.instantiator.specs.Whole.{Kinds as Seen};
+    ghost use Rattle.instantiator.specs.inner.Whole.{Kinds as Seen};
 
     ghost Value = { Seen };
 
     ghost coded = { Prim.hlevel (codes, condition.the_row.coded) };
 
     ghost use Rattle.std.specs.HashMap.{get};
-    ghost use Rattle.package_index.specs.Tables.{same_pair};
-    ghost use Rattle.instantiator.specs.Tables.{AreKinds};
+    ghost use Rattle.package_index.specs.inner.Tables.{same_pair};
+    ghost use Rattle.instantiator.specs.inner.Tables.{AreKinds};
 
     ghost view = { λ k. record { packages = k.index.now; ids = map (λ kind. kind.classifier) k.list.items } };
 

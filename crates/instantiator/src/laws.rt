@@ -4,9 +4,9 @@ ghost use Rattle.std.specs.Prelude.{◌≡◌, List, None};
 ghost use Rattle.aadl_syntax.specs.declared.core_model.PackageUnit.{PackageUnit};
 ghost use Rattle.package_index.specs.declared.id.ClassifierId.{ClassifierId};
 ghost use Rattle.instantiator.specs.Components.{components_of};
-ghost use Rattle.instantiator.specs.Reached.{AreInOrder, AreReached};
+ghost use Rattle.instantiator.specs.inner.Reached.{AreInOrder, AreReached};
 ghost use Rattle.instantiator.specs.Refused.{instance_refusal};
-ghost use Rattle.instantiator.specs.Whole.{ParentsComeFirst, PathsDiffer};
+ghost use Rattle.instantiator.specs.inner.Whole.{ParentsComeFirst, PathsDiffer};
 
 /// No two components of an instance have one path.
 pub fn paths_differ()

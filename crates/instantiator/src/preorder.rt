@@ -1,8 +1,8 @@
 ghost use Rattle.std.specs.Prelude.{◌≡◌, ◌≤◌, ◌-◌, length, MatchResult};
 ghost use Rattle.instantiator.specs.Components.{preorder};
-ghost use Rattle.plain_values.specs.Stops.{StopsAt};
+ghost use Rattle.plain_values.specs.inner.Stops.{StopsAt};
 ghost use Rattle.instantiator.specs.Refused.{first_refusal};
-ghost use Rattle.instantiator.specs.Tables.{Grown};
+ghost use Rattle.instantiator.specs.inner.Tables.{Grown};
 
 use crate::draft::Draft;
 use crate::occurrence::Occurrence;

@@ -1,8 +1,8 @@
 ghost use Rattle.std.specs.Prelude.{◌≡◌, ◌<◌, ◌^◌, ◌+◌, ◌∷◌, [], length, map, take, IfOk, OnOk};
 ghost use Rattle.std.specs.HashMap.{get};
 ghost use Rattle.instantiator.specs.Components.{component_below};
-ghost use Rattle.instantiator.specs.Tables.{IsTree, KnowsSteps, same_step};
-ghost use Rattle.instantiator.specs.Whole.{ParentsComeFirst, PathsDiffer};
+ghost use Rattle.instantiator.specs.inner.Tables.{IsTree, KnowsSteps, same_step};
+ghost use Rattle.instantiator.specs.inner.Whole.{ParentsComeFirst, PathsDiffer};
 
 use crate::path::Component;
 use aadl_syntax::Identifier;
@@ -51,7 +51,7 @@ impl<'t, 'a> Model for Steps<'t, 'a> {
     ghost use Rattle.std.specs.Prelude.{List};
     ghost use Rattle.std.specs.HashMap.{get};
     ghost use Rattle.instantiator.specs.declared.path.Component.{Component};
-    ghost use Rattle.instantiator.specs.Tables.{IsTree, same_step};
+    ghost use Rattle.instantiator.specs.inner.Tables.{IsTree, same_step};
 
     ghost Value = { List Component };
 

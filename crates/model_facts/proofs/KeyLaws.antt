@@ -5,7 +5,7 @@ use Rattle.std.proofs.lemmas.Bool.{eq-eqb, eqb-true, false≢true}
 use Rattle.package_index.proofs.Loops.{any-more}
 use Rattle.propagation_links.specs.declared.link.Link.{Link}
 use Rattle.model_facts.specs.Facts.{same_event, same_event_kind, same_fact, same_fact_kind}
-use Rattle.model_facts.specs.Tables.{KnowsSides, SideKey, leads_into, same_side_key}
+use Rattle.model_facts.specs.inner.Tables.{KnowsSides, SideKey, leads_into, same_side_key}
 use Rattle.model_facts.specs.contracts.keys.EventKeyPartialEq.TheImpl.{eq-value as event_eq}
 use Rattle.model_facts.specs.contracts.keys.EventKindPartialEq.TheImpl.{eq-value as event_kind_eq}
 use Rattle.model_facts.specs.contracts.keys.FactKeyPartialEq.TheImpl.{eq-value as fact_eq}

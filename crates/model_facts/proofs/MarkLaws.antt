@@ -7,7 +7,7 @@ use Rattle.std.proofs.lemmas.Grind.{flat_map-append, get_or-set_at}
 use Rattle.error_types.specs.Search.{is_number_in}
 use Rattle.plain_values.specs.Numbered.{numbers_below}
 use Rattle.error_types.proofs.RowLaws.{filter-below}
-use Rattle.model_facts.specs.Steps.{Marks}
+use Rattle.model_facts.specs.inner.Steps.{Marks}
 
 or-none : (b : Bool) → (b || false) ≡ b
 or-none true = refl

@@ -5,25 +5,27 @@ use Rattle.std.specs.Option.{option_map_or}
 use Rattle.std.specs.Prelude.{codes}
 use Rattle.std.proofs.lemmas.List.{append-nil, append_assoc, append_cancel_left, append_cancel_right}
 use Rattle.std.proofs.lemmas.Option.{get_or_from_slice_get, slice_get_within}
-use Rattle.aadl_syntax.specs.Token.{IsIdentifier}
+use Rattle.aadl_syntax.specs.inner.Token.{IsIdentifier}
 use Rattle.error_types.specs.Libraries.{Table}
 use Rattle.plain_values.specs.Numbered.{numbers_below, numbered_from}
 use Rattle.propagation_points.specs.declared.side.Side.{Side}
 use Rattle.propagation_points.specs.declared.side.Side.TheVariants.{Absent, Free}
 use Rattle.propagation_points.specs.declared.side.Side.TheVariants as side
-use Rattle.propagation_points.specs.Points.{NamesDiffer, Point}
+use Rattle.propagation_points.specs.Points.{Point}
+use Rattle.propagation_points.specs.inner.Points.{NamesDiffer}
 use Rattle.propagation_points.specs.States.{Sort, Variant, all_variants}
 use Rattle.propagation_points.specs.Uses.{side_types}
 use Rattle.error_flows.specs.declared.meaning.FlowMeaning.{FlowMeaning}
 use Rattle.error_flows.specs.declared.meaning.FlowMeaning.TheVariants as flow
 use Rattle.instantiator.specs.declared.path.Component.{Component}
-use Rattle.instantiator.specs.Whole.{PathsDiffer}
+use Rattle.instantiator.specs.inner.Whole.{PathsDiffer}
 use Rattle.instantiator.proofs.Apart.{Apart, AllPairs-from_Apart, apart-append, apart-map, apart-weaker, each-all, each-append, each-map, each-weaker}
 use Rattle.error_models.specs.declared.model.ErrorModel.{ErrorModel}
 use Rattle.propagation_links.specs.declared.link.Link.{Link}
 use Rattle.model_facts.specs.Assembly.{Assembly, model_at, side_numbers}
 use Rattle.model_facts.specs.Facts.{arrivals, component_events, component_facts, event_in, events_of, fact_in, facts_of, inward_of, is_linked, model_events, model_facts, point_facts, source_events}
-use Rattle.model_facts.specs.Laws.{AreNamed, IsNamed, Lacks}
+use Rattle.model_facts.specs.Laws.{Lacks}
+use Rattle.model_facts.specs.inner.Laws.{AreNamed, IsNamed}
 use Rattle.model_facts.specs.Names.{at_point, behind, event_name, fact_name, in_braces, own_event_name, own_fact_name, path_at, path_text, point_name, source_name, type_text, variant_name, variant_text}
 use Rattle.model_facts.specs.declared.keys.EventKey.{EventKey}
 use Rattle.model_facts.specs.declared.keys.EventKind.{EventKind}

@@ -6,8 +6,9 @@ use Rattle.std.specs.Prelude.{◌==◌, IsTrue, codes}
 use Rattle.std.proofs.lemmas.Bool.{and_parts, eqb-true, false≢true}
 use Rattle.std.proofs.lemmas.List.{append_assoc}
 use Rattle.aadl_syntax.specs.Form.{Byte, One, Perhaps, ◌followed_by◌, is_digit, is_letter, is_letter_or_digit}
-use Rattle.aadl_syntax.specs.Token.{IsIdentifier}
-use Rattle.error_types.specs.Printed.{AreIdentifiers, TypeName, name_of, printed}
+use Rattle.aadl_syntax.specs.inner.Token.{IsIdentifier}
+use Rattle.error_types.specs.Printed.{TypeName, name_of, printed}
+use Rattle.error_types.specs.inner.Printed.{AreIdentifiers}
 use Rattle.propagation_points.specs.Points.{Point}
 use Rattle.propagation_points.specs.States.{Sort, Variant, all_variants}
 use Rattle.error_flows.specs.declared.meaning.FlowMeaning.{FlowMeaning}
@@ -16,7 +17,8 @@ use Rattle.instantiator.specs.declared.path.Component.{Component}
 use Rattle.instantiator.proofs.Apart.{each-append, each-weaker}
 use Rattle.error_models.specs.declared.model.ErrorModel.{ErrorModel}
 use Rattle.model_facts.specs.Assembly.{Assembly, model_at}
-use Rattle.model_facts.specs.Laws.{AreNamed, EventNamesArePlain, FactNamesArePlain, IsNamed, IsNamedFlow, IsPlain, Lacks, is_name_byte, separators}
+use Rattle.model_facts.specs.Laws.{IsPlain, Lacks, is_name_byte, separators}
+use Rattle.model_facts.specs.inner.Laws.{AreNamed, EventNamesArePlain, FactNamesArePlain, IsNamed, IsNamedFlow}
 use Rattle.model_facts.specs.Names.{at_point, behind, in_braces, own_event_name, own_fact_name, path_at, point_name, source_name, type_text, variant_name, variant_text}
 use Rattle.model_facts.specs.declared.keys.EventKind.{EventKind}
 use Rattle.model_facts.specs.declared.keys.EventKind.TheVariants.{Declared, Source, Arrival}

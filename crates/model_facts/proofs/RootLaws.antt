@@ -17,7 +17,7 @@ use Rattle.instantiator.proofs.PathLaws.{paths-differ}
 use Rattle.error_models.specs.declared.model.ErrorModel.{ErrorModel}
 use Rattle.error_models.specs.Models.{model_of}
 use Rattle.model_facts.specs.Assembly.{Assembly, assembly_of, declared_numbers, kind_model, model_at, no_model, universe_of}
-use Rattle.model_facts.specs.Laws.{AreNamed, EventNamesDiffer, FactNamesDiffer, IsNamed}
+use Rattle.model_facts.specs.inner.Laws.{AreNamed, EventNamesDiffer, FactNamesDiffer, IsNamed}
 use Rattle.model_facts.proofs.NameLaws.{PrintsApart, event-names-differ, fact-names-differ}
 use Rattle.model_facts.proofs.RowLaws.{each-or, rising-filter}
 use Rattle.model_facts.proofs.ShapeLaws.{IsShaped, model-shaped, none-shaped}

@@ -31,7 +31,8 @@ use Rattle.propagation_points.specs.declared.side.Reach.TheVariants.{Whole, Only
 use Rattle.propagation_points.specs.declared.side.Side.{Side}
 use Rattle.propagation_points.specs.declared.side.Side.TheVariants.{Absent, Free, Declared}
 use Rattle.propagation_points.specs.declared.uses.ReachedPoint.{ReachedPoint}
-use Rattle.propagation_points.specs.Points.{NamesDiffer, OpenPoint, Point, declares, keep_at, keep_first, open_points, place_named, points_of, propagated, scopes_of, side_with, types_in, with_sides}
+use Rattle.propagation_points.specs.Points.{OpenPoint, Point, declares, keep_at, keep_first, open_points, place_named, points_of, propagated, scopes_of, side_with, types_in, with_sides}
+use Rattle.propagation_points.specs.inner.Points.{NamesDiffer}
 use Rattle.propagation_points.specs.Settings.{Setting, clause_setting, held_in, reached_in}
 use Rattle.propagation_points.specs.declared.held.Held.{Held}
 use Rattle.propagation_points.specs.States.{Sort, Variant, all_variants, declared_by, keep_sort, place_of_sort, variant_types, variants_named, variants_of}

@@ -14,7 +14,7 @@ use Rattle.error_models.specs.declared.model.ErrorModel.{ErrorModel}
 use Rattle.propagation_links.specs.declared.link.Link.{Link}
 use Rattle.model_facts.specs.Assembly.{side_numbers}
 use Rattle.model_facts.specs.Facts.{arrivals, event_in, fact_in, inward_of, is_linked, model_events, model_facts, point_facts, source_events}
-use Rattle.model_facts.specs.Steps.{Adds, Exceeds, Grows, at_side}
+use Rattle.model_facts.specs.inner.Steps.{Adds, Exceeds, Grows, at_side}
 use Rattle.model_facts.specs.declared.keys.EventKind.TheVariants.{Arrival, Declared}
 use Rattle.model_facts.specs.declared.keys.FactKind.TheVariants.{Enters, Exits, State}
 

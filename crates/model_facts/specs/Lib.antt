@@ -3,6 +3,5 @@ pub mod Effects
 pub mod Facts
 pub mod Names
 pub mod Limits
-pub mod Steps
-pub mod Tables
 pub mod Laws
+pub mod inner

@@ -4,7 +4,7 @@ ghost use Rattle.plain_values.specs.Numbered.{numbers_below, numbered_from};
 ghost use Rattle.model_facts.specs.Assembly.{model_at};
 ghost use Rattle.model_facts.specs.Facts.{arrivals, event_in, events_of, model_events, source_events};
 ghost use Rattle.model_facts.specs.Limits.{most_events};
-ghost use Rattle.model_facts.specs.Steps.{AddsEvents, Exceeds};
+ghost use Rattle.model_facts.specs.inner.Steps.{AddsEvents, Exceeds};
 ghost use Rattle.model_facts.specs.declared.keys.EventKind.TheVariants.{Arrival, Declared};
 
 use crate::assembly::Assembly;

@@ -1,7 +1,7 @@
 ghost use Rattle.std.specs.Prelude.{◌≡◌, ◌<◌, ◌^◌, None, length, IfErr, IfOk, OnOk};
 ghost use Rattle.std.specs.HashMap.{get};
-ghost use Rattle.plain_values.specs.Stops.{StopsAt};
-ghost use Rattle.package_index.specs.Tables.{Knows};
+ghost use Rattle.plain_values.specs.inner.Stops.{StopsAt};
+ghost use Rattle.package_index.specs.inner.Tables.{Knows};
 ghost use Rattle.model_facts.specs.Facts.{event_number, events_of, same_event};
 ghost use Rattle.model_facts.specs.Limits.{many_events};
 
@@ -24,7 +24,7 @@ pub struct EventTable {
 impl Model for EventTable {
     ghost use Rattle.std.specs.Prelude.{List};
     ghost use Rattle.std.specs.HashMap.{get};
-    ghost use Rattle.package_index.specs.Tables.{Knows};
+    ghost use Rattle.package_index.specs.inner.Tables.{Knows};
     ghost use Rattle.model_facts.specs.Facts.{same_event};
     ghost use Rattle.model_facts.specs.declared.keys.EventKey.{EventKey as Key};
 

@@ -5,7 +5,7 @@ ghost use Rattle.propagation_points.specs.Uses.{side_types};
 ghost use Rattle.model_facts.specs.Assembly.{model_at};
 ghost use Rattle.model_facts.specs.Facts.{fact_in, facts_of, model_facts, point_facts};
 ghost use Rattle.model_facts.specs.Limits.{most_facts};
-ghost use Rattle.model_facts.specs.Steps.{AddsFacts, Exceeds, at_side};
+ghost use Rattle.model_facts.specs.inner.Steps.{AddsFacts, Exceeds, at_side};
 ghost use Rattle.model_facts.specs.declared.keys.FactKind.TheVariants.{State};
 
 use crate::assembly::Assembly;

@@ -1,8 +1,8 @@
 ghost use Rattle.std.specs.Prelude.{◌≡◌, ◌<◌, ◌^◌, None, false, length, slice_index_or, IfErr, IfOk, OnOk};
 ghost use Rattle.std.specs.HashMap.{get};
 ghost use Rattle.plain_values.specs.Rising.{RisesWithin};
-ghost use Rattle.plain_values.specs.Stops.{StopsAt};
-ghost use Rattle.package_index.specs.Tables.{Knows};
+ghost use Rattle.plain_values.specs.inner.Stops.{StopsAt};
+ghost use Rattle.package_index.specs.inner.Tables.{Knows};
 ghost use Rattle.model_facts.specs.Assembly.{model_at};
 ghost use Rattle.model_facts.specs.Effects.{effects_among, is_effect};
 ghost use Rattle.model_facts.specs.Facts.{fact_number, facts_of, same_fact};
@@ -27,7 +27,7 @@ pub struct FactTable {
 impl Model for FactTable {
     ghost use Rattle.std.specs.Prelude.{List};
     ghost use Rattle.std.specs.HashMap.{get};
-    ghost use Rattle.package_index.specs.Tables.{Knows};
+    ghost use Rattle.package_index.specs.inner.Tables.{Knows};
     ghost use Rattle.model_facts.specs.Facts.{same_fact};
     ghost use Rattle.model_facts.specs.declared.keys.FactKey.{FactKey as Key};
 

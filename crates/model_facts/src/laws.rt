@@ -4,7 +4,7 @@ ghost use Rattle.std.specs.Prelude.{List};
 ghost use Rattle.aadl_syntax.specs.declared.core_model.PackageUnit.{PackageUnit};
 ghost use Rattle.package_index.specs.declared.id.ClassifierId.{ClassifierId};
 ghost use Rattle.model_facts.specs.Assembly.{Assembly};
-ghost use Rattle.model_facts.specs.Laws.{EventNamesArePlain, EventNamesDiffer, FactNamesArePlain, FactNamesDiffer};
+ghost use Rattle.model_facts.specs.inner.Laws.{EventNamesArePlain, EventNamesDiffer, FactNamesArePlain, FactNamesDiffer};
 
 /// No two facts of the model of a root have one name, where nothing is declared twice and all names are identifiers.
 pub fn fact_names_differ()

@@ -1,7 +1,7 @@
 ghost use Rattle.std.specs.Prelude.{◌≡◌, IfOk};
 ghost use Rattle.std.specs.HashSet.{contains};
 ghost use Rattle.model_facts.specs.Facts.{inward_of, is_linked};
-ghost use Rattle.model_facts.specs.Tables.{KnowsSides, same_side_key};
+ghost use Rattle.model_facts.specs.inner.Tables.{KnowsSides, same_side_key};
 
 use plain_values::Mem;
 use propagation_links::Link;
@@ -20,7 +20,7 @@ impl<'m> Model for LinkedSides<'m> {
     ghost use Rattle.std.specs.Prelude.{List};
     ghost use Rattle.std.specs.HashSet.{contains};
     ghost use Rattle.propagation_links.specs.declared.link.Link.{Link as Leads};
-    ghost use Rattle.model_facts.specs.Tables.{KnowsSides, same_side_key};
+    ghost use Rattle.model_facts.specs.inner.Tables.{KnowsSides, same_side_key};
 
     ghost Value = { List Leads };
 

@@ -1,5 +1,5 @@
 ghost use Rattle.std.specs.Prelude.{◌∷◌, []};
-ghost use Rattle.model_facts.specs.Steps.{Adds};
+ghost use Rattle.model_facts.specs.inner.Steps.{Adds};
 
 use plain_values::{Answer, Code, List, Refusal, Stop};
 

@@ -1,8 +1,9 @@
 ghost use Rattle.std.specs.Prelude.{◌≡◌, ℕ, map, Some, OnOk};
 ghost use Rattle.std.specs.List.{AllByRecursion};
-ghost use Rattle.aadl_syntax.specs.Token.{IsIdentifier};
-ghost use Rattle.error_types.specs.Printed.{AreIdentifiers, TypeName, name_of};
-ghost use Rattle.model_facts.specs.Laws.{AreNamed, IsNamed, IsNamedFlow};
+ghost use Rattle.aadl_syntax.specs.inner.Token.{IsIdentifier};
+ghost use Rattle.error_types.specs.Printed.{TypeName, name_of};
+ghost use Rattle.error_types.specs.inner.Printed.{AreIdentifiers};
+ghost use Rattle.model_facts.specs.inner.Laws.{AreNamed, IsNamed, IsNamedFlow};
 
 use crate::assembly::Assembly;
 use crate::universe::count_types;

@@ -1,7 +1,7 @@
 ghost use Rattle.std.specs.Prelude.{◌≡◌, ◌∷◌, ◌++◌, [], cond, false, filter, flat_map, length, replicate, slice_index_or, IfOk, OnOk};
 ghost use Rattle.plain_values.specs.Numbered.{numbers_below};
 ghost use Rattle.model_facts.specs.Assembly.{declared_numbers, point_numbers, universe_of};
-ghost use Rattle.model_facts.specs.Steps.{Marks};
+ghost use Rattle.model_facts.specs.inner.Steps.{Marks};
 
 use crate::assembly::Assembly;
 use crate::sides::side_numbers;

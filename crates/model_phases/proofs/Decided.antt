@@ -4,7 +4,8 @@ use Rattle.aadl_syntax.specs.declared.core_model.PackageUnit.{PackageUnit}
 use Rattle.plain_values.specs.declared.refusal.Refusal.{Refusal}
 use Rattle.plain_values.specs.Order.{IsFirst}
 use Rattle.package_index.specs.declared.id.ClassifierId.{ClassifierId}
-use Rattle.phases.specs.Phases.{IsDecided, IsRefusal, Phase}
+use Rattle.phases.specs.Phases.{IsRefusal, Phase}
+use Rattle.phases.specs.inner.Phases.{IsDecided}
 use Rattle.phases.specs.declared.status.Status.{Status}
 use Rattle.phases.specs.declared.status.Status.TheVariants.{Refused}
 use Rattle.phases.proofs.Endings.{StopsOnly}

@@ -2,7 +2,7 @@
 use Rattle.std.proofs.Common.{◌≡◌, List, map, Result, ap, ◌∙◌, subst}
 use Rattle.aadl_syntax.specs.declared.core_model.PackageUnit.{PackageUnit}
 use Rattle.package_index.specs.declared.id.ClassifierId.{ClassifierId}
-use Rattle.phases.specs.Meets.{IsMemory, Meets, StopsBut}
+use Rattle.phases.specs.inner.Meets.{IsMemory, Meets, StopsBut}
 use Rattle.phases.specs.Phases.{Passes, Phase, chains, tests}
 use Rattle.phases.specs.declared.status.Status.{Status}
 use Rattle.error_types.specs.Libraries.{Table, table_of}

@@ -6,15 +6,16 @@ use Rattle.plain_values.specs.declared.refusal.Refusal.{Refusal}
 use Rattle.plain_values.specs.declared.refusal.Stop.{Stop}
 use Rattle.plain_values.specs.declared.refusal.Stop.TheVariants as stop
 use Rattle.plain_values.proofs.OrderLaws.{first_alone}
-use Rattle.plain_values.specs.Stops.{StopsAtFirst, StopsAt}
+use Rattle.plain_values.specs.inner.Stops.{StopsAtFirst, StopsAt}
 use Rattle.plain_values.specs.Refusal.{refusal}
-use Rattle.phases.specs.Meets.{IsMemory, MeetsBut}
+use Rattle.phases.specs.inner.Meets.{IsMemory, MeetsBut}
 use Rattle.phases.specs.Phases.{Phase, Passes, Stops, chains, tests}
-use Rattle.phases.specs.Stopped.{status_of}
+use Rattle.phases.specs.inner.Stopped.{status_of}
 use Rattle.phases.specs.declared.status.Status.{Status}
 use Rattle.phases.proofs.Steps.{exits, meets_later}
 use Rattle.error_types.specs.Libraries.{HasTooManyTypes, declared_types, greatest_types, libraries_of}
-use Rattle.model_phases.specs.Tests.{IsIt, MeetsTests}
+use Rattle.model_phases.specs.Tests.{IsIt}
+use Rattle.model_phases.specs.inner.Tests.{MeetsTests}
 
 -- a group of refusals that stops a call
 pub group_stops : (Group : Refusal → Type 0) (why : Stop) → StopsAtFirst Group why → Stops (tests Group) (status_of why) ⊎ IsMemory (status_of why)

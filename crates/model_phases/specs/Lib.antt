@@ -1,3 +1,4 @@
 pub mod Named
 pub mod Tests
 pub mod Phases
+pub mod inner

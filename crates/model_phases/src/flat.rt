@@ -1,5 +1,5 @@
 ghost use Rattle.std.specs.Prelude.{◌≡◌, IfOk};
-ghost use Rattle.phases.specs.Meets.{Meets};
+ghost use Rattle.phases.specs.inner.Meets.{Meets};
 ghost use Rattle.phases.specs.Phases.{tests};
 ghost use Rattle.instantiator.specs.Refused.{instance_refusal};
 ghost use Rattle.instantiator.specs.Whole.{instance_of};
@@ -7,7 +7,8 @@ ghost use Rattle.propagation_links.specs.Links.{links_of};
 ghost use Rattle.propagation_links.specs.Refused.{links_refusal};
 ghost use Rattle.model_facts.specs.Assembly.{points_in};
 ghost use Rattle.model_phases.specs.Phases.{assembled};
-ghost use Rattle.model_phases.specs.Tests.{IsIt, MeetsTests};
+ghost use Rattle.model_phases.specs.Tests.{IsIt};
+ghost use Rattle.model_phases.specs.inner.Tests.{MeetsTests};
 
 use crate::kinds::{Kinds, kinds_of};
 use crate::system::plain_system;
@@ -38,7 +39,7 @@ pub struct FlatModel {
 
 /// What is made of a model that is put together.
 pub trait FromAssembly: Sized {
-    ghost use Rattle.phases.specs.Meets.{Meets};
+    ghost use Rattle.phases.specs.inner.Meets.{Meets};
     ghost use Rattle.phases.specs.Phases.{Phase};
     ghost use Rattle.model_facts.specs.Assembly.{Assembly as Seen};
 

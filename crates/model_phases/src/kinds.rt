@@ -5,7 +5,8 @@ ghost use Rattle.error_models.specs.Below.{kind_machine};
 ghost use Rattle.error_models.specs.Models.{model_of};
 ghost use Rattle.error_models.specs.Refused.{machines_refusal};
 ghost use Rattle.model_phases.specs.Phases.{content_tests, kind_tests};
-ghost use Rattle.model_phases.specs.Tests.{IsIt, MeetsTests};
+ghost use Rattle.model_phases.specs.Tests.{IsIt};
+ghost use Rattle.model_phases.specs.inner.Tests.{MeetsTests};
 
 use error_behavior::UsedMachine;
 use error_models::{ErrorModel, machines_of, models_of, test_sets};

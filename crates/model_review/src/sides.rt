@@ -8,7 +8,7 @@ ghost use Rattle.error_types.specs.Search.{is_number_in};
 ghost use Rattle.propagation_points.specs.Uses.{covers};
 ghost use Rattle.model_facts.specs.Assembly.{model_at};
 ghost use Rattle.model_facts.specs.Facts.{inward_of, is_linked, outward_of};
-ghost use Rattle.model_facts.specs.Tables.{KnowsSides, same_side_key};
+ghost use Rattle.model_facts.specs.inner.Tables.{KnowsSides, same_side_key};
 ghost use Rattle.model_review.specs.Findings.{has_sink, if_any, is_sink_at, is_stopped, never_at, never_out, open_at, open_ends, stop_at, stops_of, takes, types_at, types_where};
 ghost use Rattle.model_review.specs.Seen.{may_come, number_at};
 ghost use Rattle.model_review.specs.declared.finding.Finding.TheVariants.{Never, Open, StopsHere};

@@ -6,8 +6,9 @@ use Rattle.aadl_syntax.specs.declared.core_model.PackageUnit.{PackageUnit}
 use Rattle.plain_values.specs.declared.refusal.Refusal.{Refusal}
 use Rattle.plain_values.specs.Order.{IsClear, IsFirst, least, nearer}
 use Rattle.plain_values.proofs.OrderLaws.{nearer-none, noted-more, noted-all}
-use Rattle.package_index.specs.Duplicates.{IsDuplicate, classifiers_again, duplicates, packages_again}
-use Rattle.package_index.specs.Tables.{Gathered}
+use Rattle.package_index.specs.Duplicates.{IsDuplicate}
+use Rattle.package_index.specs.inner.Duplicates.{classifiers_again, duplicates, packages_again}
+use Rattle.package_index.specs.inner.Tables.{Gathered}
 use Rattle.package_index.proofs.DuplicateLaws.{told}
 
 pub gathered-none : (packages : List PackageUnit) (noted : Option Refusal) → Gathered packages packages noted noted []

@@ -13,8 +13,9 @@ use Rattle.std.specs.List.{list_any}
 use Rattle.aadl_syntax.specs.declared.core_model.PackageUnit.{PackageUnit}
 use Rattle.package_index.specs.declared.words.Words.{Words}
 use Rattle.package_index.specs.Lookup.{has_name, is_named}
-use Rattle.package_index.specs.Names.{is_same_name, names_of}
-use Rattle.package_index.specs.Tables.{AliasKey, Key, has_alias, has_key, has_words, same_alias_key, same_key, same_words}
+use Rattle.package_index.specs.Names.{is_same_name}
+use Rattle.package_index.specs.inner.Names.{names_of}
+use Rattle.package_index.specs.inner.Tables.{AliasKey, Key, has_alias, has_key, has_words, same_alias_key, same_key, same_words}
 
 -- ---- keys of aliases
 

@@ -11,8 +11,8 @@ use Rattle.plain_values.specs.declared.spot.Spot.{Spot}
 use Rattle.plain_values.specs.declared.refusal.Refusal.{Refusal}
 use Rattle.plain_values.specs.Order.{least, nearer}
 use Rattle.plain_values.proofs.OrderLaws.{nearer-none, noted-more}
-use Rattle.package_index.specs.Duplicates.{again_at, again_after}
-use Rattle.package_index.specs.Tables.{Added, Knows}
+use Rattle.package_index.specs.inner.Duplicates.{again_at, again_after}
+use Rattle.package_index.specs.inner.Tables.{Added, Knows}
 
 -- ---- places
 

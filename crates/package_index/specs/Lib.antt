@@ -1,4 +1,4 @@
 pub mod Names
 pub mod Lookup
 pub mod Duplicates
-pub mod Tables
+pub mod inner

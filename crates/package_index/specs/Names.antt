@@ -3,13 +3,6 @@ use Rattle.std.specs.Prelude.{ℕ, ◌-◌, Bool, List, [], ◌∷◌, length, t
 use Rattle.std.specs.Option.{option_eq}
 use Rattle.std.specs.Cmp.Lexicographic.{pointwise}
 use Rattle.plain_values.specs.Name.{is_same_text}
-use Rattle.package_index.specs.declared.words.Words.{Words}
-use Rattle.package_index.specs.declared.words.Words.TheVariants.{Identifiers, Names}
-
--- the names that stand there, in order
-abbrev pub names_of : Words → List (List ℕ)
-names_of (Identifiers identifiers) = identifiers.now
-names_of (Names names) = names.now
 
 -- whether two names of packages are the same: they have the same identifiers in the same order
 abbrev pub is_same_name : List (List ℕ) → List (List ℕ) → Bool

@@ -2,12 +2,13 @@ ghost use Rattle.std.specs.Prelude.{◌≡◌, ◌<◌, ◌^◌, [], length, Non
 ghost use Rattle.std.specs.HashMap.{get};
 ghost use Rattle.plain_values.specs.Order.{IsClear, least, nearer};
 ghost use Rattle.plain_values.specs.declared.refusal.Place.TheVariants.{Words as InWords};
-ghost use Rattle.package_index.specs.Duplicates.{IsDuplicate, packages_again};
-ghost use Rattle.plain_values.specs.Stops.{StopsAtFirst};
+ghost use Rattle.package_index.specs.Duplicates.{IsDuplicate};
+ghost use Rattle.package_index.specs.inner.Duplicates.{packages_again};
+ghost use Rattle.plain_values.specs.inner.Stops.{StopsAtFirst};
 ghost use Rattle.package_index.specs.Lookup.{aliased_in, classifier_in, declared_by, declared_in, declared_package, decl_of, look_classifier, look_in, look_package, package_alias, package_at, package_meant, package_of, packages_of, refused_at};
 ghost use Rattle.plain_values.specs.Refusal.{place_of};
-ghost use Rattle.package_index.specs.Names.{names_of};
-ghost use Rattle.package_index.specs.Tables.{Gathered, Knows, has_words, same_words};
+ghost use Rattle.package_index.specs.inner.Names.{names_of};
+ghost use Rattle.package_index.specs.inner.Tables.{Gathered, Knows, has_words, same_words};
 
 use crate::id::ClassifierId;
 use crate::package::Package;
@@ -40,7 +41,7 @@ impl<'a> Model for Index<'a> {
     ghost view = { λ i. i.packages };
 
     ghost use Rattle.std.specs.HashMap.{get};
-    ghost use Rattle.package_index.specs.Tables.{Knows, has_words, same_words};
+    ghost use Rattle.package_index.specs.inner.Tables.{Knows, has_words, same_words};
 
     ghost invariant = { λ i. Knows has_words i.packages (get same_words i.numbers) };
 }

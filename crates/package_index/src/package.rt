@@ -1,9 +1,9 @@
 ghost use Rattle.std.specs.Prelude.{◌≡◌, ◌<◌, ◌^◌, length, IfOk, OnOk, option_copied, option_map, position, slice_get};
 ghost use Rattle.std.specs.HashMap.{get};
 ghost use Rattle.plain_values.specs.Order.{least, nearer};
-ghost use Rattle.package_index.specs.Duplicates.{classifiers_again};
+ghost use Rattle.package_index.specs.inner.Duplicates.{classifiers_again};
 ghost use Rattle.package_index.specs.Lookup.{alias_in, declared, is_alias};
-ghost use Rattle.package_index.specs.Tables.{Knows, has_alias, has_key, same_alias_key, same_key};
+ghost use Rattle.package_index.specs.inner.Tables.{Knows, has_alias, has_key, same_alias_key, same_key};
 
 use crate::table::add;
 use crate::words::text_of;
@@ -33,7 +33,7 @@ impl<'a> Model for Package<'a> {
     ghost view = { λ p. p.unit.now };
 
     ghost use Rattle.std.specs.HashMap.{get};
-    ghost use Rattle.package_index.specs.Tables.{Knows, has_alias, has_key, same_alias_key, same_key};
+    ghost use Rattle.package_index.specs.inner.Tables.{Knows, has_alias, has_key, same_alias_key, same_key};
 
     ghost invariant = { λ p. Knows has_key p.unit.now.decls (get same_key p.classifiers)
         × Knows has_alias p.unit.now.aliases (get same_alias_key p.aliases) };

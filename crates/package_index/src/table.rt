@@ -1,6 +1,6 @@
 ghost use Rattle.std.specs.Prelude.{IfOk};
 ghost use Rattle.std.specs.HashMap.{get};
-ghost use Rattle.package_index.specs.Tables.{Added};
+ghost use Rattle.package_index.specs.inner.Tables.{Added};
 
 use plain_values::Mem;
 use std::collections::HashMap;

@@ -5,7 +5,8 @@ ghost use Rattle.std.specs.Cmp.Lexicographic.{lists_equiv, nat_list_eq_equiv};
 ghost use Rattle.std.specs.Hash as fed;
 ghost use Rattle.std.specs.Hash.{on_Alike, items_Alike, same_Alike};
 ghost use Rattle.std.proofs.lemmas.Bool.Decides.{Decides-eqb};
-ghost use Rattle.package_index.specs.Names.{front, is_same_name, last, names_of, only};
+ghost use Rattle.package_index.specs.Names.{front, is_same_name, last, only};
+ghost use Rattle.package_index.specs.inner.Names.{names_of};
 
 use aadl_syntax::Identifier;
 use plain_values::{Name, is_same};

@@ -11,10 +11,11 @@ use Rattle.fault_system.specs.Systems.{System, event_name}
 use Rattle.fault_system.specs.declared.formula.EventInfo.{EventInfo}
 use Rattle.phases.specs.Phases.{Passes}
 use Rattle.cutset_lister.specs.SetText.{set_text}
-use Rattle.cutset_lister.specs.Scanning.{Ends, names_text}
+use Rattle.cutset_lister.specs.inner.Scanning.{Ends, names_text}
 use Rattle.cutset_lister.proofs.Scans.{set_text-first}
 use Rattle.page_tokens.specs.Forms.{AreDigits, Said, begins_new, token_text}
-use Rattle.page_tokens.specs.Starts.{HasPageNames, IsPageName, IsStart, SaysStart, page_start, start_text}
+use Rattle.page_tokens.specs.Starts.{IsStart, SaysStart, page_start, start_text}
+use Rattle.page_tokens.specs.inner.Starts.{HasPageNames, IsPageName}
 
 -- the name of an event of a set is one that no token can mean in another way
 named : (events : List EventInfo) (number : ℕ) → number < length events → (event : EventInfo) × (slice_get events number ≡ Some event)

@@ -3,9 +3,10 @@ use Rattle.std.proofs.Common.{◌≡◌, ℕ, false, List, Option, Some, None, r
 use Rattle.std.proofs.lemmas.Bool.{false≢true}
 use Rattle.plain_values.specs.declared.refusal.Refusal.{Refusal}
 use Rattle.fault_system.specs.Systems.{IsSystem, System}
-use Rattle.cutset_lister.specs.SetText.{HasTokenNames}
+use Rattle.cutset_lister.specs.inner.SetText.{HasTokenNames}
 use Rattle.cutset_lister.proofs.Scans.{one-set}
-use Rattle.phases.specs.Phases.{IsDecided, IsDecidedStep, Passes, Stops}
+use Rattle.phases.specs.Phases.{Passes, Stops}
+use Rattle.phases.specs.inner.Phases.{IsDecided, IsDecidedStep}
 use Rattle.phases.specs.declared.status.Status.{Status}
 use Rattle.phases.specs.declared.status.Status.TheVariants.{Refused}
 use Rattle.phases.proofs.Leaves.{decided_rejects}

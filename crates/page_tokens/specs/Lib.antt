@@ -1,4 +1,4 @@
 pub mod Forms
 pub mod Keys
-pub mod Shown
 pub mod Starts
+pub mod inner

@@ -1,5 +1,5 @@
 -- Where a page begins, by the text of a token.
-use Rattle.std.specs.Prelude.{ℕ, ◌≡◌, ◌≢◌, IsSome, List, false, codes, Option, None, Some, All}
+use Rattle.std.specs.Prelude.{ℕ, ◌≡◌, ◌≢◌, IsSome, List, codes, Option, None, Some}
 use Rattle.plain_values.specs.declared.refusal.Code.TheVariants.{BadToken}
 use Rattle.plain_values.specs.declared.refusal.Refusal.{Refusal}
 use Rattle.plain_values.specs.Refusal.{of_words}
@@ -8,7 +8,7 @@ use Rattle.phases.specs.declared.status.Status.{Status}
 use Rattle.phases.specs.declared.status.Status.TheVariants.{StaleToken}
 use Rattle.fault_system.specs.Systems.{System}
 use Rattle.cutset_lister.specs.SetText.{IsSetOfText, set_text}
-use Rattle.page_tokens.specs.Forms.{begins_new, IsMalformed, IsToken, Said}
+use Rattle.page_tokens.specs.Forms.{IsMalformed, IsToken, Said}
 
 -- the text that says where a page begins: that of the set behind which it does, or `start`
 abbrev pub start_text : System → Option (List ℕ) → List ℕ
@@ -57,11 +57,3 @@ page_start key text system = do
   said ← token_of text
   _ ← fresh key said
   start_in said system
-
--- a name that no token can mean in another way: it is not `start`, and does not begin as a token of the second version
-abbrev pub IsPageName : List ℕ → Type 0
-IsPageName name = (name ≢ codes "start") × (begins_new name ≡ false)
-
--- each event of the system has such a name
-abbrev pub HasPageNames : System → Type 0
-HasPageNames system = All (λ event. IsPageName event.name) system.events

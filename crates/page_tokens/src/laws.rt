@@ -5,7 +5,8 @@ ghost use Rattle.phases.specs.Phases.{Passes, Stops};
 ghost use Rattle.phases.specs.declared.status.Status.{Status as AnyStatus};
 ghost use Rattle.cutset_lister.specs.SetText.{set_text};
 ghost use Rattle.page_tokens.specs.Forms.{AreDigits, begins_new, token_text};
-ghost use Rattle.page_tokens.specs.Starts.{HasPageNames, page_start, start_text};
+ghost use Rattle.page_tokens.specs.Starts.{page_start, start_text};
+ghost use Rattle.page_tokens.specs.inner.Starts.{HasPageNames};
 
 /// What is written is read back: a token of the second version, where its digits are those of the key; and the text of a set, which
 /// is a token of the first version.

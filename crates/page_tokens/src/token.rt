@@ -2,10 +2,10 @@
 
 ghost use Rattle.std.specs.Prelude.{◌≡◌, ◌++◌, ◌∷◌, List as Items, Some, ℕ, IfNone, IfSome, IsTrue, ◌↔◌, ◌≤◌, drop, length, take};
 ghost use Rattle.std.specs.List.{AllByRecursion};
-ghost use Rattle.phases.specs.Meets.{IsMemory, Meets, MeetsBut};
-ghost use Rattle.cutset_lister.specs.SetText.{HasTokenNames};
+ghost use Rattle.phases.specs.inner.Meets.{IsMemory, Meets, MeetsBut};
+ghost use Rattle.cutset_lister.specs.inner.SetText.{HasTokenNames};
 ghost use Rattle.page_tokens.specs.Forms.{AreDigits, IsDigit, begins_new};
-ghost use Rattle.page_tokens.specs.Shown.{said};
+ghost use Rattle.page_tokens.specs.inner.Shown.{said};
 ghost use Rattle.page_tokens.specs.Starts.{SaysStart, fresh, page_start, start_in, token_of};
 
 use cutset_lister::read_token;

@@ -8,7 +8,7 @@ use Rattle.fault_system.specs.declared.formula.FactInfo.{FactInfo}
 use Rattle.fault_system.proofs.TruthLaws.{count_true-le}
 use Rattle.fault_system.proofs.NumberSets.{count-put, member-put, member-replicate}
 use Rattle.backward_slice.specs.Slices.{DependsOn}
-use Rattle.path_sets.specs.Duals.{IsWithoutFeedback}
+use Rattle.path_sets.specs.inner.Duals.{IsWithoutFeedback}
 
 length-none : (size : ℕ) → length (replicate size false) ≡ size
 length-none zero = refl

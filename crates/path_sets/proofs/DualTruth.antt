@@ -16,7 +16,8 @@ use Rattle.fault_system.proofs.Marks.{Below, Below-all, Below-any, Below-at_leas
 use Rattle.fault_system.proofs.NumberSets.{member-map, member-past, same_set}
 use Rattle.fault_system.proofs.HoldsLaws.{holds_of-fixed, holds_of-exact}
 use Rattle.fault_system.proofs.Occurrences.{occurs-in_range, fact-in_range}
-use Rattle.path_sets.specs.Duals.{IsWithoutFeedback, dual_fact, dual_of, outside}
+use Rattle.path_sets.specs.Duals.{dual_fact, dual_of}
+use Rattle.path_sets.specs.inner.Duals.{IsWithoutFeedback, outside}
 use Rattle.path_sets.proofs.Opposites.{dual-in_range, dual-opposite, not_not}
 use Rattle.path_sets.proofs.Descents.{Descends, no-descent}
 

@@ -14,13 +14,15 @@ use Rattle.fault_system.proofs.NumberSets.{member-map, member-past}
 use Rattle.backward_slice.specs.Slices.{DependsOn}
 use Rattle.round_gates.specs.declared.tree.Gate.{Gate}
 use Rattle.round_gates.specs.declared.tree.Tree.{Tree}
-use Rattle.round_gates.specs.Targets.{IsWellMade, IsWellMadeGate}
-use Rattle.round_gates.specs.Trees.{IsClosedTree, LeadsTo, TreeHolds, has_gate}
+use Rattle.round_gates.specs.inner.Targets.{IsWellMade, IsWellMadeGate}
+use Rattle.round_gates.specs.Trees.{LeadsTo, has_gate}
+use Rattle.round_gates.specs.inner.Trees.{IsClosedTree, TreeHolds}
 use Rattle.round_gates.proofs.GateFormulas.{kind-occurs, kind-range, kind-truth}
 use Rattle.galileo_writer.specs.TreeText.{gate_name}
-use Rattle.path_sets.specs.Duals.{IsWithoutFeedback}
+use Rattle.path_sets.specs.inner.Duals.{IsWithoutFeedback}
 use Rattle.path_sets.specs.PathSets.{IsPathSet, IsMinimalPathSet}
-use Rattle.path_sets.specs.GateSystems.{GateHolds, gate_fact, gate_system_of}
+use Rattle.path_sets.specs.GateSystems.{gate_fact, gate_system_of}
+use Rattle.path_sets.specs.inner.GateSystems.{GateHolds}
 use Rattle.path_sets.proofs.PathLaws.{paths-carry}
 
 -- the gate of which the fact of a number was made

@@ -2,7 +2,7 @@
 use Rattle.std.proofs.Common.{ℕ, ◌≡◌, ◌<◌, ◌↔◌, Bool, true, false, List, [], ◌∷◌, length, Option, Some, None, Result, Ok, Err, IfOk, OnOk, Contains, inl, inr, ◌∙◌, sym, subst, refl, arith}
 use Rattle.std.specs.Prelude.{IsTrue}
 use Rattle.plain_values.specs.Order.{IsClear}
-use Rattle.plain_values.specs.Stops.{StopsFor}
+use Rattle.plain_values.specs.inner.Stops.{StopsFor}
 use Rattle.plain_values.specs.declared.refusal.Refusal.{Refusal}
 use Rattle.plain_values.specs.declared.refusal.Stop.{Stop}
 use Rattle.plain_values.specs.declared.refusal.Stop.TheVariants.{Memory, Refused}
@@ -18,14 +18,16 @@ use Rattle.round_gates.specs.declared.tree.Tree.{Tree}
 use Rattle.round_gates.proofs.MadeWell.{made-well}
 use Rattle.round_gates.proofs.OneTree.{one-tree, tree-or-large}
 use Rattle.round_gates.proofs.TreeTruth.{tree-truth}
-use Rattle.galileo_writer.specs.TreeText.{HasTextNames}
+use Rattle.galileo_writer.specs.inner.TreeText.{HasTextNames}
 use Rattle.galileo_writer.proofs.TreeNames.{gates-differ}
-use Rattle.zdd_store.specs.Family.{Family, is_within}
-use Rattle.cutset_engine.specs.Families.{HasMinimalCutSets}
+use Rattle.zdd_store.specs.inner.Family.{Family, is_within}
+use Rattle.cutset_engine.specs.inner.Families.{HasMinimalCutSets}
 use Rattle.cutset_engine.proofs.InSlice.{minimal_in_slice}
-use Rattle.path_sets.specs.Duals.{IsWithoutFeedback, dual_of}
+use Rattle.path_sets.specs.Duals.{dual_of}
+use Rattle.path_sets.specs.inner.Duals.{IsWithoutFeedback}
 use Rattle.path_sets.specs.GateSystems.{gate_system_of}
-use Rattle.path_sets.specs.PathSets.{AreServedEvents, HasLargePaths, HasMinimalPathSets, IsMinimalPathSet, IsPathListing, constant_paths}
+use Rattle.path_sets.specs.PathSets.{HasLargePaths, IsMinimalPathSet, IsPathListing}
+use Rattle.path_sets.specs.inner.PathSets.{AreServedEvents, HasMinimalPathSets, constant_paths}
 use Rattle.path_sets.proofs.GateTruth.{gates-free, gates-paths, gates-system, top-inside}
 use Rattle.path_sets.proofs.PathLaws.{always-paths, minimal-paths, never-paths}
 

@@ -8,7 +8,8 @@ use Rattle.fault_system.specs.declared.formula.Formula.{Formula, map-Formula, ro
 use Rattle.fault_system.specs.declared.formula.Formula.TheOpen.{Formula-F, True, Event, Fact, And, Or, AtLeast}
 use Rattle.fault_system.specs.declared.formula.Formula.TheVariants as shut
 use Rattle.fault_system.proofs.TruthLaws.{same_answer, truth-And, truth-Or, truth-AtLeast, truth-Event, truth-Fact}
-use Rattle.path_sets.specs.Duals.{dual_step, dual_formula, outside}
+use Rattle.path_sets.specs.Duals.{dual_step, dual_formula}
+use Rattle.path_sets.specs.inner.Duals.{outside}
 
 pub not_not : (b : Bool) → not (not b) ≡ b
 not_not true = refl

@@ -10,7 +10,8 @@ use Rattle.fault_system.proofs.NumberSets.{RisesWithin-at, RisesWithin-filter, s
 use Rattle.fault_system.proofs.CutSetLaws.{Holds-grows, makes_hold-exact}
 use Rattle.cutset_engine.proofs.CutSets.{holds-range}
 use Rattle.round_gates.specs.Staged.{IsConstant}
-use Rattle.path_sets.specs.Duals.{IsWithoutFeedback, dual_of, outside}
+use Rattle.path_sets.specs.Duals.{dual_of}
+use Rattle.path_sets.specs.inner.Duals.{IsWithoutFeedback, outside}
 use Rattle.path_sets.specs.PathSets.{Meets, IsPathSet, IsMinimalPathSet}
 use Rattle.path_sets.proofs.DualTruth.{dual-holds}
 

@@ -1,13 +1,11 @@
--- Duals of formulas and of systems, and systems without feedback.
-use Rattle.std.specs.Prelude.{ℕ, ◌+◌, ◌-◌, ◌≡◌, true, not, ◌==◌, if◌then◌else◌, List, [], length, map}
-use Rattle.fault_system.specs.Truth.{NumberSet, occurs}
-use Rattle.fault_system.specs.Systems.{System, IsFact}
+-- Duals of formulas and of systems.
+use Rattle.std.specs.Prelude.{ℕ, ◌+◌, ◌-◌, ◌==◌, if◌then◌else◌, List, [], length, map}
+use Rattle.fault_system.specs.Systems.{System}
 use Rattle.fault_system.specs.declared.formula.FactInfo.{FactInfo}
 use Rattle.fault_system.specs.declared.formula.Formula.{Formula, fold-Formula}
 use Rattle.fault_system.specs.declared.formula.Formula.TheVariants.{Event, Fact, And, Or, AtLeast}
 use Rattle.fault_system.specs.declared.formula.Formula.TheOpen as open_one
 use Rattle.fault_system.specs.declared.formula.Formula.TheOpen.{Formula-F}
-use Rattle.backward_slice.specs.Slices.{DependsOn}
 
 -- At least k of n parts are false where at most k - 1 are true, which is where at least n + 1 - k of their duals are true. At least
 -- none is never false, and at least more than there are always is.
@@ -34,12 +32,3 @@ dual_fact fact = record { name = fact.name; owner = fact.owner; formula = dual_f
 -- the dual of a system: of each fact the dual, and the same events
 abbrev pub dual_of : System → System
 dual_of system = record { facts = map dual_fact system.facts; events = system.events }
-
--- the numbers outside of a set
-abbrev pub outside : NumberSet → NumberSet
-outside set n = not (set n)
-
--- No fact reaches itself: none depends on a fact in whose formula it occurs.
-abbrev pub IsWithoutFeedback : System → Type 0
-IsWithoutFeedback system =
-    (n m : ℕ) (fact : FactInfo) → IsFact system n fact → occurs m fact.formula ≡ true → DependsOn system m n → ⊥

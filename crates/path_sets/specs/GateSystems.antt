@@ -1,12 +1,10 @@
 -- The gates of a tree as a system.
-use Rattle.std.specs.Prelude.{ℕ, map}
-use Rattle.fault_system.specs.Truth.{NumberSet, Has}
+use Rattle.std.specs.Prelude.{map}
 use Rattle.fault_system.specs.Systems.{System}
 use Rattle.fault_system.specs.declared.formula.FactInfo.{FactInfo}
 use Rattle.round_gates.specs.Formulas.{gate_formula}
 use Rattle.round_gates.specs.declared.tree.Gate.{Gate}
 use Rattle.round_gates.specs.declared.tree.Tree.{Tree}
-use Rattle.round_gates.specs.Trees.{IsClosedTree}
 use Rattle.galileo_writer.specs.TreeText.{gate_name}
 
 -- a gate as a fact of its name
@@ -16,8 +14,3 @@ gate_fact system gate = record { name = gate_name system gate; owner = 0; formul
 -- the gates of a tree, in order, as facts, with the system's events
 abbrev pub gate_system_of : System → Tree → System
 gate_system_of system tree = record { facts = map (gate_fact system) tree.gates; events = system.events }
-
--- the gate at a position is true under a set of events if each set of positions has it that has each gate which is true under the
--- events and the set; of the top this is the truth of the tree
-abbrev pub GateHolds : Tree → NumberSet → ℕ → Type 0
-GateHolds tree events n = (set : NumberSet) → IsClosedTree tree.gates events set → Has set n

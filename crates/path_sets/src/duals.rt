@@ -3,7 +3,8 @@
 ghost use Rattle.std.specs.Prelude.{◌≡◌, ◌↔◌, ◌<◌, ℕ, IfOk, map, length};
 ghost use Rattle.fault_system.specs.Truth.{NumberSet};
 ghost use Rattle.fault_system.specs.Systems.{Holds};
-ghost use Rattle.path_sets.specs.Duals.{IsWithoutFeedback, dual_count, dual_fact, dual_formula, dual_of, outside};
+ghost use Rattle.path_sets.specs.Duals.{dual_count, dual_fact, dual_formula, dual_of};
+ghost use Rattle.path_sets.specs.inner.Duals.{IsWithoutFeedback, outside};
 
 use fault_system::{FactInfo, FaultSystem, Formula, copied_events};
 use plain_values::{List, Mem, copied};

@@ -1,13 +1,14 @@
 //! The minimal path sets of a target as a family, where no fact reaches itself.
 
 ghost use Rattle.std.specs.Prelude.{◌<◌, ℕ, List as Items, Contains, IfErr, IfOk, IsTrue, length};
-ghost use Rattle.plain_values.specs.Stops.{StopsFor};
+ghost use Rattle.plain_values.specs.inner.Stops.{StopsFor};
 ghost use Rattle.backward_slice.specs.Slices.{HasLargeSlice};
-ghost use Rattle.cutset_engine.specs.Families.{HasMinimalCutSets};
-ghost use Rattle.zdd_store.specs.Family.{is_within};
-ghost use Rattle.zdd_store.specs.Store.{IsIn, Keeps, family_of};
-ghost use Rattle.path_sets.specs.Duals.{IsWithoutFeedback, dual_of};
-ghost use Rattle.path_sets.specs.PathSets.{AreServedEvents, HasMinimalPathSets};
+ghost use Rattle.cutset_engine.specs.inner.Families.{HasMinimalCutSets};
+ghost use Rattle.zdd_store.specs.inner.Family.{is_within};
+ghost use Rattle.zdd_store.specs.inner.Store.{IsIn, Keeps, family_of};
+ghost use Rattle.path_sets.specs.Duals.{dual_of};
+ghost use Rattle.path_sets.specs.inner.Duals.{IsWithoutFeedback};
+ghost use Rattle.path_sets.specs.inner.PathSets.{AreServedEvents, HasMinimalPathSets};
 
 use crate::duals::dual;
 use backward_slice::slice;

@@ -3,11 +3,12 @@
 ghost use Rattle.std.specs.Prelude.{◌≡◌, ◌↔◌, ◌<◌, ℕ, IfOk, length, map};
 ghost use Rattle.fault_system.specs.Truth.{NumberSet};
 ghost use Rattle.fault_system.specs.Systems.{Holds};
-ghost use Rattle.round_gates.specs.Targets.{IsWellMade};
-ghost use Rattle.round_gates.specs.Trees.{TreeHolds};
-ghost use Rattle.galileo_writer.specs.TreeText.{HasTextNames};
-ghost use Rattle.path_sets.specs.Duals.{IsWithoutFeedback};
-ghost use Rattle.path_sets.specs.GateSystems.{GateHolds, gate_fact, gate_system_of};
+ghost use Rattle.round_gates.specs.inner.Targets.{IsWellMade};
+ghost use Rattle.round_gates.specs.inner.Trees.{TreeHolds};
+ghost use Rattle.galileo_writer.specs.inner.TreeText.{HasTextNames};
+ghost use Rattle.path_sets.specs.inner.Duals.{IsWithoutFeedback};
+ghost use Rattle.path_sets.specs.GateSystems.{gate_fact, gate_system_of};
+ghost use Rattle.path_sets.specs.inner.GateSystems.{GateHolds};
 
 use fault_system::{FactInfo, FaultSystem, copied_events};
 use galileo_writer::{gate_name, gates_differ};

@@ -9,10 +9,12 @@ ghost use Rattle.fault_system.specs.Listings.{IsListing};
 ghost use Rattle.round_gates.specs.Staged.{IsConstant};
 ghost use Rattle.round_gates.specs.Targets.{IsTreeFor};
 ghost use Rattle.round_gates.specs.declared.tree.Tree.{Tree};
-ghost use Rattle.galileo_writer.specs.TreeText.{HasTextNames};
-ghost use Rattle.path_sets.specs.Duals.{IsWithoutFeedback, dual_of, outside};
+ghost use Rattle.galileo_writer.specs.inner.TreeText.{HasTextNames};
+ghost use Rattle.path_sets.specs.Duals.{dual_of};
+ghost use Rattle.path_sets.specs.inner.Duals.{IsWithoutFeedback, outside};
 ghost use Rattle.path_sets.specs.GateSystems.{gate_system_of};
-ghost use Rattle.path_sets.specs.PathSets.{HasLargePaths, IsMinimalPathSet, IsPathListing, IsPathSet, Meets, constant_paths};
+ghost use Rattle.path_sets.specs.PathSets.{HasLargePaths, IsMinimalPathSet, IsPathListing, IsPathSet, Meets};
+ghost use Rattle.path_sets.specs.inner.PathSets.{constant_paths};
 
 /// In a system in which no fact reaches itself a fact holds in the dual under some events exactly where it does not hold in the
 /// system under all other events.

@@ -2,15 +2,16 @@
 
 ghost use Rattle.std.specs.Prelude.{◌≡◌, ℕ, List as Items, [], Contains, IfErr, IfOk, IsTrue, OnOk};
 ghost use Rattle.plain_values.specs.Order.{IsClear};
-ghost use Rattle.plain_values.specs.Stops.{StopsFor};
+ghost use Rattle.plain_values.specs.inner.Stops.{StopsFor};
 ghost use Rattle.backward_slice.specs.Slices.{HasLargeSlice, IsSlice};
-ghost use Rattle.round_gates.specs.Targets.{IsWellMade};
-ghost use Rattle.galileo_writer.specs.TreeText.{HasTextNames};
-ghost use Rattle.zdd_store.specs.Family.{is_within};
-ghost use Rattle.zdd_store.specs.Store.{IsIn, Keeps, family_of};
+ghost use Rattle.round_gates.specs.inner.Targets.{IsWellMade};
+ghost use Rattle.galileo_writer.specs.inner.TreeText.{HasTextNames};
+ghost use Rattle.zdd_store.specs.inner.Family.{is_within};
+ghost use Rattle.zdd_store.specs.inner.Store.{IsIn, Keeps, family_of};
 ghost use Rattle.path_sets.specs.Duals.{dual_of};
 ghost use Rattle.path_sets.specs.GateSystems.{gate_system_of};
-ghost use Rattle.path_sets.specs.PathSets.{AreServedEvents, HasLargePaths, HasMinimalPathSets, constant_paths};
+ghost use Rattle.path_sets.specs.PathSets.{HasLargePaths};
+ghost use Rattle.path_sets.specs.inner.PathSets.{AreServedEvents, HasMinimalPathSets, constant_paths};
 
 use crate::families::{PathFamily, paths};
 use crate::gate_systems::gate_system;

@@ -1,6 +1,7 @@
 -- A phase whose parts are decided has one end at most.
 use Rattle.std.proofs.Common.{◌≡◌, inl, inr, Result, Ok, Err, sym, ◌∙◌, subst}
-use Rattle.phases.specs.Phases.{Phase, yields, tells, chains, Passed, Stopped, Passes, Stops, IsDecided, IsDue, IsSameEnd}
+use Rattle.phases.specs.Phases.{Phase, yields, tells, chains, Passed, Stopped, Passes, Stops, IsDue}
+use Rattle.phases.specs.inner.Phases.{IsDecided, IsSameEnd}
 use Rattle.phases.specs.declared.status.Status.{Status}
 
 one_passed : {A : Type 0} (Same : Status → Status → Type 0) (phase : Phase A) → IsDecided Same phase → (a b : A) → Passed phase a → Passed phase b → a ≡ b

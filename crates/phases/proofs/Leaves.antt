@@ -3,7 +3,8 @@ use Rattle.std.proofs.Common.{◌≡◌, Result, Ok, Err, refl, sym, ◌∙◌, 
 use Rattle.plain_values.specs.declared.refusal.Refusal.{Refusal}
 use Rattle.plain_values.specs.Order.{IsClear, IsFirst}
 use Rattle.plain_values.proofs.OrderLaws.{first_once}
-use Rattle.phases.specs.Phases.{IsDecidedStep, IsRefusal}
+use Rattle.phases.specs.Phases.{IsRefusal}
+use Rattle.phases.specs.inner.Phases.{IsDecidedStep}
 use Rattle.phases.specs.declared.status.Status.{Status}
 use Rattle.phases.specs.declared.status.Status.TheVariants.{Refused}
 

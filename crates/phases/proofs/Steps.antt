@@ -4,7 +4,7 @@ use Rattle.std.specs.Prelude.{IsErrAnd}
 use Rattle.std.proofs.lemmas.Result.{err_from_is_err_and}
 use Rattle.plain_values.specs.declared.refusal.Refusal.{Refusal}
 use Rattle.phases.specs.Phases.{Phase, yields, tells, chains, computes, Passes, Stops, IsRefusal}
-use Rattle.phases.specs.Meets.{IsMemory, MeetsBut}
+use Rattle.phases.specs.inner.Meets.{IsMemory, MeetsBut}
 use Rattle.phases.specs.declared.status.Status.TheVariants.{Refused}
 use Rattle.phases.specs.declared.status.Status.{Status}
 

@@ -1,4 +1,2 @@
-pub mod Meets
 pub mod Phases
-pub mod Status
-pub mod Stopped
+pub mod inner

@@ -28,7 +28,7 @@ pub enum Status {
 }
 
 impl Status {
-    ghost use Rattle.phases.specs.Status.{exit_number};
+    ghost use Rattle.phases.specs.inner.Status.{exit_number};
 
     /// The number with which the program ends.
     pub fn exit(&self) -> u8
@@ -69,7 +69,7 @@ impl<T: Drop> From<AllocFailed<T>> for Status {
 }
 
 impl From<WriteError> for Status {
-    ghost use Rattle.phases.specs.Stopped.{status_of_write};
+    ghost use Rattle.phases.specs.inner.Stopped.{status_of_write};
 
     ghost from_gives = { λ error status. status ≡ status_of_write error };
 
@@ -92,7 +92,7 @@ impl From<Refusal> for Status {
 }
 
 impl From<Stop> for Status {
-    ghost use Rattle.phases.specs.Stopped.{status_of};
+    ghost use Rattle.phases.specs.inner.Stopped.{status_of};
 
     ghost from_gives = { λ stop status. status ≡ status_of stop };
 

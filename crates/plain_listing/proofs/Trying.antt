@@ -1,6 +1,6 @@
 -- What is found among the sets that have the chosen numbers and so many more.
 use Rattle.std.proofs.Common.{ℕ, zero, suc, ◌+◌, ◌-◌, ◌≡◌, ◌≢◌, ◌<◌, Bool, true, false, cond, List, [], ◌∷◌, ◌++◌, map, filter, ap, ◌∙◌, sym, refl, arith, ap₂, add-one, append_assoc, append-nil, map-id}
-use Rattle.fault_system.specs.Listings.{choose, rising_sets_up_to}
+use Rattle.fault_system.specs.inner.Listings.{choose, rising_sets_up_to}
 
 module _ (p : List ℕ → Bool) where
   -- the sets that pass, among those that are `chosen` and `more` of the `count` numbers from next on

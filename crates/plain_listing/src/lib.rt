@@ -4,9 +4,11 @@
 #![tactic(auto)]
 
 ghost use Rattle.std.specs.Prelude.{◌≡◌, ◌+◌, ◌-◌, ◌<◌, ◌≤◌, ◌++◌, [], ◌∷◌, if◌then◌else◌, None, IfOk, OnOk, filter, length, map};
-ghost use Rattle.fault_system.specs.CutSets.{IsEventSet, is_minimal};
+ghost use Rattle.fault_system.specs.CutSets.{IsEventSet};
+ghost use Rattle.fault_system.specs.inner.CutSets.{is_minimal};
 ghost use Rattle.plain_values.specs.Rising.{RisesWithin};
-ghost use Rattle.fault_system.specs.Listings.{IsListing, choose};
+ghost use Rattle.fault_system.specs.Listings.{IsListing};
+ghost use Rattle.fault_system.specs.inner.Listings.{choose};
 
 use fault_system::{FaultSystem, computed_listing};
 use plain_values::{List, Mem};

@@ -8,7 +8,7 @@ use Rattle.package_index.proofs.Loops.{numbered-more}
 use Rattle.plain_values.specs.Numbered.{numbered_from}
 use Rattle.instantiator.specs.declared.kinds.Kind.{Kind}
 use Rattle.instantiator.specs.declared.path.Component.{Component}
-use Rattle.instantiator.specs.Tables.{kind_of}
+use Rattle.instantiator.specs.inner.Tables.{kind_of}
 use Rattle.instantiator.specs.Whole.{Instance}
 use Rattle.propagation_links.specs.declared.bound.BoundTo.{BoundTo}
 use Rattle.propagation_links.specs.Bound.{all_bounds, bound_in}

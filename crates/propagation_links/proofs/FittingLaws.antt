@@ -5,10 +5,11 @@ use Rattle.std.proofs.lemmas.List.{take_more}
 use Rattle.std.proofs.lemmas.List.Elements.{filter-append}
 use denote.Ref.{Bor}
 use Rattle.aadl_syntax.specs.declared.core_model.Binding.{Binding}
-use Rattle.package_index.specs.Names.{is_same_name, names_of}
+use Rattle.package_index.specs.Names.{is_same_name}
+use Rattle.package_index.specs.inner.Names.{names_of}
 use Rattle.package_index.specs.declared.words.Words.{Words}
 use Rattle.propagation_links.specs.Bound.{binds, is_of}
-use Rattle.propagation_links.specs.Tables.{AddsBinding, KnowsBindings, PutsAt, held}
+use Rattle.propagation_links.specs.inner.Tables.{AddsBinding, KnowsBindings, PutsAt, held}
 
 -- an item more
 pub front-more : {A : Type 0} (xs : List A) (i : ℕ) (x : A) → i < length xs → x ≡ get_or xs i x → take (i + 1) xs ≡ take i xs ++ x ∷ []

@@ -19,7 +19,8 @@ use Rattle.propagation_links.specs.declared.link.Link.{Link}
 use Rattle.propagation_links.specs.declared.link.PointAt.{PointAt}
 use Rattle.propagation_links.specs.Bound.{all_bounds}
 use Rattle.propagation_links.specs.Ends.{Pointed, connection_end, is_access, is_there, path_end, point_of}
-use Rattle.propagation_links.specs.Links.{AllJoinSides, JoinsSides, all_links, bound_links, bound_word, component_links, connected, connection_links, ends_of, from_side, is_apart, link_between, link_of, links_at_ends, links_both, links_in, path_links, stated_links, target_links, to_side}
+use Rattle.propagation_links.specs.Links.{all_links, bound_links, bound_word, component_links, connected, connection_links, ends_of, from_side, is_apart, link_between, link_of, links_at_ends, links_both, links_in, path_links, stated_links, target_links, to_side}
+use Rattle.propagation_links.specs.inner.Links.{AllJoinSides, JoinsSides}
 use Rattle.propagation_links.specs.Stated.{Stated}
 
 module _ (pointed : Pointed) where

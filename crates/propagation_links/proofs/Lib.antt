@@ -3,5 +3,6 @@ pub mod LinkLaws
 pub mod JoinLaws
 pub mod FittingLaws
 pub mod BoundLaws
+mod UnlinkedLaws
 pub mod Sample
 pub mod Examples

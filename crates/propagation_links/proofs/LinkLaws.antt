@@ -14,7 +14,7 @@ use Rattle.package_index.proofs.Loops.{numbered-more}
 use Rattle.component_extension.specs.declared.effective.Effective.{Effective}
 use Rattle.instantiator.specs.declared.path.Component.{Component}
 use Rattle.instantiator.specs.Effectives.{effective_at, effective_of, no_effective}
-use Rattle.plain_values.specs.Stops.{StopsAt}
+use Rattle.plain_values.specs.inner.Stops.{StopsAt}
 use Rattle.instantiator.specs.Whole.{classifier_at, effective_in}
 use Rattle.propagation_links.specs.declared.bound.BoundTo.{BoundTo}
 use Rattle.propagation_links.specs.declared.link.Link.{Link}
@@ -22,7 +22,7 @@ use Rattle.propagation_links.specs.Bound.{all_bounds}
 use Rattle.propagation_links.specs.Ends.{Pointed}
 use Rattle.propagation_links.specs.Links.{all_links, bound_links, component_links, connected, links_in}
 use Rattle.propagation_links.specs.Refused.{component_fault, refusals_in, first_fault, limit_refusal}
-use Rattle.propagation_links.specs.Steps.{Linked}
+use Rattle.propagation_links.specs.inner.Steps.{Linked}
 
 -- ---- the effective classifier of a component
 

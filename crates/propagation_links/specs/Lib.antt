@@ -3,5 +3,5 @@ pub mod Ends
 pub mod Links
 pub mod Refused
 pub mod Stated
-pub mod Steps
-pub mod Tables
+pub mod Unlinked
+pub mod inner

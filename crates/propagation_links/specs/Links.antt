@@ -1,7 +1,6 @@
 -- The links of an instance: from which side of which point errors propagate to which (EMV2: propagation along connections
 -- and paths).
-use Rattle.std.specs.Prelude.{ℕ, Bool, true, false, cond, ◌&&◌, ◌||◌, not, List, [], ◌∷◌, ◌++◌, flat_map, codes, Option, Some, None, option_and_then, IsTrue}
-use Rattle.std.specs.List.{AllByRecursion}
+use Rattle.std.specs.Prelude.{ℕ, Bool, true, false, cond, ◌&&◌, ◌||◌, not, List, [], ◌∷◌, ◌++◌, flat_map, codes, Option, Some, None, option_and_then}
 use Rattle.plain_values.specs.Name.{is_same_text}
 use Rattle.aadl_syntax.specs.declared.core_model.Connection.{Connection}
 use Rattle.aadl_syntax.specs.declared.core_model.Ends.{Ends}
@@ -128,11 +127,3 @@ all_links pointed = connected pointed ++ flat_map (bound_links pointed) (all_bou
 -- The links of an instance with these points, a list for each of its kinds.
 abbrev pub links_of : Instance → List (List Point) → List Link
 links_of instance points = all_links (record { instance = instance; points = points })
-
--- A link leads from a side that is there to a side that is there.
-abbrev pub JoinsSides : Pointed → Link → Type 0
-JoinsSides pointed link = IsTrue (is_there pointed link.from) × IsTrue (is_there pointed link.to)
-
--- All links of an instance with these points do.
-abbrev pub AllJoinSides : Instance → List (List Point) → Type 0
-AllJoinSides instance points = AllByRecursion (JoinsSides (record { instance = instance; points = points })) (links_of instance points)

@@ -1,9 +1,9 @@
 ghost use Rattle.std.specs.Prelude.{◌≡◌, ◌<◌, ◌≤◌, ◌^◌, length, None, Some, IfOk, IfErr, OnOk, MatchResult, map};
-ghost use Rattle.plain_values.specs.Stops.{StopsAt};
+ghost use Rattle.plain_values.specs.inner.Stops.{StopsAt};
 ghost use Rattle.propagation_links.specs.Bound.{all_bounds};
 ghost use Rattle.propagation_links.specs.Links.{links_of};
 ghost use Rattle.propagation_links.specs.Refused.{count_in, count_links, refusals_in, first_fault, limit_refusal, links_refusal};
-ghost use Rattle.propagation_links.specs.Steps.{Linked, AllLinked};
+ghost use Rattle.propagation_links.specs.inner.Steps.{Linked, AllLinked};
 ghost use Rattle.instantiator.specs.Whole.{effective_in};
 ghost use Rattle.plain_values.specs.Order.{least};
 

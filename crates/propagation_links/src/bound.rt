@@ -2,7 +2,7 @@ ghost use Rattle.std.specs.Prelude.{◌≡◌, ◌≤◌, ◌<◌, ◌^◌, ◌+
 ghost use Rattle.instantiator.specs.Components.{component_below};
 ghost use Rattle.instantiator.specs.Whole.{classifier_at, effective_in};
 ghost use Rattle.propagation_links.specs.Bound.{all_bounds, bound_in, counting_along, last_binding, path_in};
-ghost use Rattle.propagation_links.specs.Tables.{kind_bindings};
+ghost use Rattle.propagation_links.specs.inner.Tables.{kind_bindings};
 
 use crate::fitting::BindingTable;
 use aadl_syntax::{Binding, Identifier};
@@ -74,7 +74,7 @@ impl<'r> Model for BindingTables<'r> {
     ghost coded = { Prim.hlevel (codes, condition.the_row.coded) };
 
     ghost use Rattle.std.specs.Prelude.{◌≡◌, map};
-    ghost use Rattle.propagation_links.specs.Tables.{kind_bindings};
+    ghost use Rattle.propagation_links.specs.inner.Tables.{kind_bindings};
 
     ghost view = { λ t. t.instance.now };
 

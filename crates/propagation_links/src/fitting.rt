@@ -1,8 +1,8 @@
 ghost use Rattle.std.specs.Prelude.{◌≡◌, IfOk, OnOk, option_copied};
 ghost use Rattle.std.specs.HashMap.{get};
-ghost use Rattle.package_index.specs.Tables.{same_words};
+ghost use Rattle.package_index.specs.inner.Tables.{same_words};
 ghost use Rattle.propagation_links.specs.Bound.{is_of, last_binding};
-ghost use Rattle.propagation_links.specs.Tables.{AddsBinding, KnowsBindings, PutsAt};
+ghost use Rattle.propagation_links.specs.inner.Tables.{AddsBinding, KnowsBindings, PutsAt};
 
 use aadl_syntax::{Binding, Identifier};
 use package_index::Words;
@@ -27,8 +27,8 @@ impl<'a> Model for BindingTable<'a> {
     ghost use Rattle.std.specs.Prelude.{List, true, false};
     ghost use Rattle.std.specs.HashMap.{get};
     ghost use Rattle.aadl_syntax.specs.declared.core_model.Binding.{Binding as Seen};
-    ghost use Rattle.package_index.specs.Tables.{same_words};
-    ghost use Rattle.propagation_links.specs.Tables.{KnowsBindings};
+    ghost use Rattle.package_index.specs.inner.Tables.{same_words};
+    ghost use Rattle.propagation_links.specs.inner.Tables.{KnowsBindings};
 
     ghost Value = { List Seen };
 

@@ -2,7 +2,7 @@
 
 ghost use Rattle.std.specs.Prelude.{List};
 ghost use Rattle.instantiator.specs.Whole.{Instance};
-ghost use Rattle.propagation_links.specs.Links.{AllJoinSides};
+ghost use Rattle.propagation_links.specs.inner.Links.{AllJoinSides};
 ghost use Rattle.propagation_points.specs.Points.{Point};
 
 /// Each link leads from a side that is there to a side that is there.

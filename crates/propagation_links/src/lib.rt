@@ -12,7 +12,9 @@ mod link;
 mod links;
 mod pointed;
 mod refused;
+mod unlinked;
 
 pub use all::links_of;
 pub use laws::links_join_sides;
 pub use link::{Link, PointAt};
+pub use unlinked::{Unlinked, find_unlinked};

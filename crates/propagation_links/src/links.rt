@@ -46,7 +46,8 @@ fn add_connections<'a>(
     Ok(())
 }
 
-fn add_connection<'a>(
+/// Adds the links of a connection.
+pub(crate) fn add_connection<'a>(
     links: &mut List<Link>,
     pointed: &Pointed<'_, '_, 'a>,
     number: u32,
@@ -187,7 +188,13 @@ fn add_paths<'a>(
     Ok(())
 }
 
-fn add_path(links: &mut List<Link>, pointed: &Pointed, number: u32, path: &UserPath) -> Mem<()>
+/// Adds the link of a user path.
+pub(crate) fn add_path(
+    links: &mut List<Link>,
+    pointed: &Pointed,
+    number: u32,
+    path: &UserPath,
+) -> Mem<()>
     ensures { OnOk result (links.new ≡ links.old ++ link_of pointed.now (path_end pointed.now number path.now.from.names) (path_end pointed.now number path.now.to.names)) }
 {
     let from = pointed.path_end(number, path.from.names.items());

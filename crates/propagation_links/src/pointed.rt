@@ -1,10 +1,11 @@
 ghost use Rattle.std.specs.Prelude.{◌≡◌, [], map, option_copied, option_map, slice_get, unwrap_or};
 ghost use Rattle.propagation_points.specs.Points.{place_named, side_of};
 ghost use Rattle.propagation_links.specs.Ends.{is_there, points_at};
+ghost use Rattle.propagation_links.specs.Unlinked.{has_types, is_declared};
 
 use crate::link::PointAt;
 use instantiator::Instance;
-use propagation_points::{Points, Side};
+use propagation_points::{Point, Points, Side};
 use std::marker::Model;
 
 /// An instance, and the points of each of its kinds.
@@ -63,6 +64,22 @@ impl<'s, 'i, 'a> Pointed<'s, 'i, 'a> {
         }
     }
 
+    /// Whether types are declared for a side of the point of a component.
+    pub(crate) fn has_types(&self, component: u32, point: u32) -> bool
+        ensures { result ≡ has_types self.now component point }
+    {
+        match self.point(component, point) {
+            Some(point) => is_declared(point.side(false)) || is_declared(point.side(true)),
+            None => false,
+        }
+    }
+
+    fn point(&self, component: u32, point: u32) -> Option<&'s Point<'a>>
+        ensures { option_copied result ≡ slice_get (points_at self.now component) point }
+    {
+        self.points(component)?.list().get(point as usize)
+    }
+
     fn side(&self, side: PointAt) -> Option<&'s Side>
         ensures { option_copied result ≡ option_map (side_of side.outward) (slice_get (points_at self.now side.component) side.point) }
     {
@@ -74,5 +91,15 @@ impl<'s, 'i, 'a> Pointed<'s, 'i, 'a> {
         ensures { unwrap_or (option_copied result) [] ≡ points_at self.now component }
     {
         self.points.get(self.instance.kind(component)?).copied()
+    }
+}
+
+/// Whether types are declared for a side.
+fn is_declared(side: &Side) -> bool
+    ensures { result ≡ is_declared side.now }
+{
+    match side {
+        Side::Absent | Side::Free => false,
+        Side::Declared(types) => !types.items().is_empty(),
     }
 }

@@ -17,7 +17,8 @@ use Rattle.propagation_points.specs.declared.side.Reach.TheVariants.{Only, Whole
 use Rattle.propagation_points.specs.declared.side.Side.TheVariants.{Absent, Free, Declared}
 use Rattle.propagation_points.specs.Points.{Point, point_refusals, points_of, scopes_of}
 use Rattle.propagation_points.specs.States.{Sort, all_variants, keep_sort, selected, state_held, state_refusals}
-use Rattle.propagation_points.specs.Uses.{atom_use, point_use, reached, reached_types, use_refusals}
+use Rattle.propagation_points.specs.Uses.{atom_use, point_use, reached, use_refusals}
+use Rattle.propagation_points.specs.inner.Uses.{reached_types}
 use Rattle.propagation_points.proofs.Sample.{clause_of, device_of, effective_of, feature_of, no_error_at, packages, point_at, propagation_at, set_at, spot, table, user_point_of}
 
 -- ---- points of every kind

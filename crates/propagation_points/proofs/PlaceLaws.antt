@@ -8,11 +8,11 @@ use Rattle.std.proofs.lemmas.List.Folds.{list_any_at}
 use Rattle.std.proofs.lemmas.List.Quantifiers.{all_pairs_push}
 use Rattle.std.proofs.lemmas.Slice.Eq.{bytes_eq-Decides}
 use Rattle.plain_values.specs.Name.{is_same_text}
-use Rattle.package_index.specs.Tables.{Knows, same_text}
+use Rattle.package_index.specs.inner.Tables.{Knows, same_text}
 use Rattle.package_index.proofs.KnowsLaws.{more-place, some-place}
 use Rattle.package_index.proofs.Loops.{fold-more}
-use Rattle.propagation_points.specs.Points.{NamesDiffer}
-use Rattle.propagation_points.specs.Tables.{KnowsNames, or_place}
+use Rattle.propagation_points.specs.inner.Points.{NamesDiffer}
+use Rattle.propagation_points.specs.inner.Tables.{KnowsNames, or_place}
 
 or-cond : (o p : Option ℕ) → option_or o p ≡ cond (is_some o) o p
 or-cond None p = refl

@@ -2,4 +2,4 @@ pub mod Points
 pub mod Uses
 pub mod States
 pub mod Settings
-pub mod Tables
+pub mod inner

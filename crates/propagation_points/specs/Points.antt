@@ -1,5 +1,5 @@
 -- The points of a component and their sides (EMV2: error propagation points, features and paths).
-use Rattle.std.specs.Prelude.{◌≢◌, ℕ, AllPairs, Bool, true, false, cond, ◌&&◌, not, List, [], ◌∷◌, ◌++◌, map, flat_map, fold, find, position, slice_get, Option, Some, None, is_none, option_map, option_and_then, codes}
+use Rattle.std.specs.Prelude.{ℕ, Bool, true, false, cond, ◌&&◌, not, List, [], ◌∷◌, ◌++◌, map, flat_map, fold, find, position, slice_get, Option, Some, None, is_none, option_map, option_and_then, codes}
 use Rattle.std.specs.Bool.{beq}
 use Rattle.std.specs.List.{list_any}
 use Rattle.plain_values.specs.Name.{is_same_text}
@@ -47,10 +47,6 @@ point_named points name = option_and_then (slice_get points) (place_named points
 -- the side of a point in a direction
 abbrev pub side_of : Bool → Point → Side
 side_of outward point = cond outward point.outward point.inward
-
--- no two items have one name
-abbrev pub NamesDiffer : {Item : Type 0} → (Item → List ℕ) → List Item → Type 0
-NamesDiffer name_of items = AllPairs (λ a b. name_of a ≢ name_of b) items
 
 -- ---- written sets
 

@@ -1,5 +1,5 @@
 -- How flows, transitions and conditions name points: on which side, and with which types (EMV2: error flows, conditions).
-use Rattle.std.specs.Prelude.{ℕ, Bool, true, false, cond, not, List, [], ◌++◌, filter, Option, Some, None, option_map, option_and_then}
+use Rattle.std.specs.Prelude.{ℕ, Bool, true, false, cond, not, List, [], ◌++◌, Option, Some, None, option_map, option_and_then}
 use Rattle.std.specs.List.{list_any}
 use Rattle.aadl_syntax.specs.declared.error_model.Atom.{Atom}
 use Rattle.aadl_syntax.specs.declared.error_model.PointRef.{PointRef}
@@ -32,10 +32,6 @@ side_types universe (Declared types) = types
 abbrev pub covers : Reach → ℕ → Bool
 covers Whole number = true
 covers (Only types) number = is_number_in types number
-
--- The types of a side that a reach covers. Types outside the universe select nothing at a free side.
-abbrev pub reached_types : List ℕ → Side → Reach → List ℕ
-reached_types universe side reach = filter (covers reach) (side_types universe side)
 
 -- whether there is no such side
 abbrev pub is_absent : Option Side → Bool

@@ -1,8 +1,8 @@
 ghost use Rattle.std.specs.Prelude.{◌≡◌, ◌<◌, ◌^◌, find, length, position, IfOk, OnOk, option_copied, slice_get};
 ghost use Rattle.std.specs.HashMap.{get};
-ghost use Rattle.package_index.specs.Tables.{Knows};
+ghost use Rattle.package_index.specs.inner.Tables.{Knows};
 ghost use Rattle.propagation_points.specs.Points.{declared_types, declares, propagated, scopes_of, types_in};
-ghost use Rattle.propagation_points.specs.Tables.{SideKey, declares_side, is_side, or_place, same_side};
+ghost use Rattle.propagation_points.specs.inner.Tables.{SideKey, declares_side, is_side, or_place, same_side};
 
 use crate::open_point::only_name;
 use aadl_syntax::{PointItem, TypeSet};
@@ -29,8 +29,8 @@ impl<'e, 'a> Model for DeclaredSides<'e, 'a> {
     ghost use Rattle.std.specs.Coded.{codes};
     ghost use Rattle.aadl_syntax.specs.contracts.error_model.Condition as condition;
     ghost use Rattle.std.specs.HashMap.{get};
-    ghost use Rattle.package_index.specs.Tables.{Knows};
-    ghost use Rattle.propagation_points.specs.Tables.{Propagated, declares_side, same_side};
+    ghost use Rattle.package_index.specs.inner.Tables.{Knows};
+    ghost use Rattle.propagation_points.specs.inner.Tables.{Propagated, declares_side, same_side};
 
     ghost Value = { Propagated };
 

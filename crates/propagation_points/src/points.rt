@@ -1,7 +1,8 @@
 ghost use Rattle.std.specs.Prelude.{◌≡◌, [], IfOk, OnOk, flat_map, map, fold, option_copied, option_map};
 ghost use Rattle.plain_values.specs.Order.{least, nearer};
 ghost use Rattle.package_index.specs.Names.{only};
-ghost use Rattle.propagation_points.specs.Points.{NamesDiffer, fault_at, keep_first, place_named, point_refusals, point_named, points_of, propagation_refusals, side_of, side_with, with_sides};
+ghost use Rattle.propagation_points.specs.Points.{fault_at, keep_first, place_named, point_refusals, point_named, points_of, propagation_refusals, side_of, side_with, with_sides};
+ghost use Rattle.propagation_points.specs.inner.Points.{NamesDiffer};
 
 use crate::declared::DeclaredSides;
 use crate::open_point::{OpenPoint, only_name, open_points};
@@ -27,10 +28,10 @@ impl<'a> Model for Points<'a> {
     ghost use Rattle.std.specs.Prelude.{List};
     ghost use Rattle.std.specs.Coded.{codes};
     ghost use Rattle.std.specs.HashMap.{get};
-    ghost use Rattle.package_index.specs.Tables.{same_text};
+    ghost use Rattle.package_index.specs.inner.Tables.{same_text};
     ghost use Rattle.propagation_points.specs.contracts.side.Side as side;
     ghost use Rattle.propagation_points.specs.Points.{Point as Sides};
-    ghost use Rattle.propagation_points.specs.Tables.{KnowsNames};
+    ghost use Rattle.propagation_points.specs.inner.Tables.{KnowsNames};
 
     ghost Value = { List Sides };
 

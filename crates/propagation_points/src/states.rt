@@ -1,5 +1,5 @@
 ghost use Rattle.std.specs.Prelude.{◌≡◌, ◌++◌, [], IfOk, OnOk, Some, length, map, option_copied};
-ghost use Rattle.propagation_points.specs.Points.{NamesDiffer};
+ghost use Rattle.propagation_points.specs.inner.Points.{NamesDiffer};
 ghost use Rattle.propagation_points.specs.States.{all_variants, declared_by, keep_sort, place_of_sort, sort_named, variants_named};
 
 use crate::declared::types_in;
@@ -84,9 +84,9 @@ pub struct Sorts<'a> {
 impl<'a> Model for Sorts<'a> {
     ghost use Rattle.std.specs.Prelude.{◌≡◌, List};
     ghost use Rattle.std.specs.HashMap.{get};
-    ghost use Rattle.package_index.specs.Tables.{same_text};
+    ghost use Rattle.package_index.specs.inner.Tables.{same_text};
     ghost use Rattle.propagation_points.specs.States.{Sort as Seen, all_variants};
-    ghost use Rattle.propagation_points.specs.Tables.{KnowsNames};
+    ghost use Rattle.propagation_points.specs.inner.Tables.{KnowsNames};
 
     ghost Value = { List Seen };
 

@@ -1,3 +1,3 @@
 pub mod Fields
 pub mod Rates
-pub mod Takes
+pub mod inner

@@ -1,5 +1,5 @@
 ghost use Rattle.std.specs.Prelude.{◌≡◌, [], ◌∷◌, IfOk};
-ghost use Rattle.grammar_rules.specs.Reader.{Gives, Begins};
+ghost use Rattle.grammar_rules.specs.inner.Reader.{Gives, Begins};
 ghost use Rattle.grammar_rules.specs.Tokens.{is_identifier};
 ghost use Rattle.property_reader.specs.Fields.{field, fields, rate_value, value_fields};
 
@@ -69,7 +69,7 @@ impl Parts for Fields {
     ghost use Rattle.std.specs.Prelude.{[], ◌∷◌};
     ghost use Rattle.grammar_rules.specs.Tokens.{is_identifier};
     ghost use Rattle.property_reader.specs.Fields.{field};
-    ghost use Rattle.property_reader.specs.Takes.{field-takes};
+    ghost use Rattle.property_reader.specs.inner.Takes.{field-takes};
 
     type Part = Field;
 

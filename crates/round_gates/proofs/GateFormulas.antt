@@ -12,8 +12,9 @@ use Rattle.round_gates.specs.declared.node.GateKind.TheVariants as kinds
 use Rattle.round_gates.specs.declared.tree.Input.{Input}
 use Rattle.round_gates.specs.declared.tree.Input.TheVariants as inputs
 use Rattle.round_gates.specs.Formulas.{input_formula, kind_formula}
-use Rattle.round_gates.specs.Targets.{IsWithin}
-use Rattle.round_gates.specs.Trees.{has_gate, input_true, is_event}
+use Rattle.round_gates.specs.inner.Targets.{IsWithin}
+use Rattle.round_gates.specs.Trees.{has_gate, is_event}
+use Rattle.round_gates.specs.inner.Trees.{input_true}
 use Rattle.round_gates.specs.Truths.{kind_true}
 
 module _ (events facts : NumberSet) where

@@ -12,7 +12,7 @@ use Rattle.round_gates.specs.declared.node.Node.{Node}
 use Rattle.round_gates.specs.declared.node.Node.TheVariants.{Basic, Gate}
 use Rattle.round_gates.specs.declared.node.Stage.{Stage}
 use Rattle.round_gates.specs.Stages.{in_block, formula_walk, stage_nodes, low_nodes, looks_of, IsStage, IsAmong, gates_of, IsGateOf}
-use Rattle.round_gates.specs.Targets.{MayHave}
+use Rattle.round_gates.specs.inner.Targets.{MayHave}
 use Rattle.round_gates.specs.Walks.{key_at, walk, places}
 use Rattle.round_gates.proofs.Basics.{all-map}
 use Rattle.round_gates.proofs.Once.{From}

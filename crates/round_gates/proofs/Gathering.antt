@@ -6,7 +6,7 @@ use Rattle.std.proofs.lemmas.List.Elements.{filter-append}
 use Rattle.std.proofs.Math.Seq.{take-append_seam}
 use Rattle.dependency_blocks.specs.Blocks.{BlockNumbers}
 use Rattle.round_gates.specs.Stages.{in_block}
-use Rattle.round_gates.specs.Unrolled.{members_of}
+use Rattle.round_gates.specs.inner.Unrolled.{members_of}
 
 pub block-below : (block : Option ℕ) (number bound : ℕ) → MatchOption block (number ≡ 4294967295) (λ b. (b ≡ number) × (b < 4294967295)) → IfSome block (λ b. b < bound) → number < 4294967295 → number < bound
 block-below None number bound is below inside = absurd (omega arith)

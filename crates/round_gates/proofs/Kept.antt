@@ -9,7 +9,8 @@ use Rattle.round_gates.specs.declared.node.Part.{Part}
 use Rattle.round_gates.specs.declared.node.Stage.{Stage}
 use Rattle.round_gates.specs.declared.node.GateKind.TheVariants.{Or}
 use Rattle.round_gates.specs.Walks.{key_at, with_seen, input_of, repeat_of, wrapped, repeats}
-use Rattle.round_gates.specs.Nodes.{same_node, has_node, without, new_ones, kept_key}
+use Rattle.round_gates.specs.Nodes.{same_node, has_node, without, new_ones}
+use Rattle.round_gates.specs.inner.Nodes.{kept_key}
 
 same-eq : (a b : Node) → node_eq.it a b ≡ same_node a b
 same-eq Always Always = refl

@@ -10,7 +10,8 @@ use Rattle.fault_system.proofs.NumberSets.{member-none}
 use Rattle.fault_system.proofs.Marks.{Below, Below-member, stay_or_grow}
 use Rattle.fault_system.proofs.HoldsLaws.{applied-grows, holds_of-closed, holds_of-exact}
 use Rattle.dependency_blocks.specs.Blocks.{BlockNumbers, number_of, size_of}
-use Rattle.round_gates.specs.Stages.{in_block, kept_marks, joined_marks, stage_truth}
+use Rattle.round_gates.specs.Stages.{in_block}
+use Rattle.round_gates.specs.inner.Stages.{kept_marks, joined_marks, stage_truth}
 
 pub member-kept : (inside : NumberSet) (marks : List Bool) (n : ℕ) → member (kept_marks inside marks) n ≡ inside n && member marks n
 member-kept inside [] n = sym (and_right (inside n) false refl)

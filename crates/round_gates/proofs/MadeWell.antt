@@ -20,7 +20,8 @@ use Rattle.round_gates.specs.declared.tree.Input.TheVariants as inputs
 use Rattle.round_gates.specs.declared.tree.Tree.{Tree}
 use Rattle.round_gates.specs.Staged.{fact_places, stage_places, all_places, most_places}
 use Rattle.round_gates.specs.Stages.{last_node}
-use Rattle.round_gates.specs.Targets.{IsTreeFor, IsWellMade, IsWellMadeGate, IsWithin, MayHave}
+use Rattle.round_gates.specs.Targets.{IsTreeFor}
+use Rattle.round_gates.specs.inner.Targets.{IsWellMade, IsWellMadeGate, IsWithin, MayHave}
 use Rattle.round_gates.specs.Trees.{IsGateTree, IsTreeOf, InputsOnce, event_tree, has_gate, line_of, node_of}
 use Rattle.round_gates.specs.Walks.{places, places_step}
 use Rattle.round_gates.proofs.Basics.{or_left, or_right, some_inner}

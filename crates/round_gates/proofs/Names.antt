@@ -14,8 +14,9 @@ use Rattle.round_gates.specs.declared.node.GateKey.{GateKey}
 use Rattle.round_gates.specs.contracts.node.GateKeyPartialEq.TheImpl.{eq-value as key_eq}
 use Rattle.round_gates.specs.contracts.node.GateKeyOrd.TheImpl.{cmp-value}
 use Rattle.round_gates.specs.Nodes.{same_key}
-use Rattle.round_gates.specs.Reached.{has_key}
-use Rattle.round_gates.specs.Trees.{key_cmp, NamesRise, place_of}
+use Rattle.round_gates.specs.inner.Reached.{has_key}
+use Rattle.round_gates.specs.Trees.{key_cmp, NamesRise}
+use Rattle.round_gates.specs.inner.Trees.{place_of}
 use Rattle.round_gates.proofs.Basics.{key_same}
 use Rattle.round_gates.proofs.Rules.{key_exact}
 

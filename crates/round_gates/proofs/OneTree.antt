@@ -20,11 +20,12 @@ use Rattle.round_gates.specs.declared.tree.Input.{Input}
 use Rattle.round_gates.specs.declared.tree.Input.TheVariants as inputs
 use Rattle.round_gates.specs.declared.tree.Tree.{Tree}
 use Rattle.round_gates.specs.Nodes.{same_key, has_node}
-use Rattle.round_gates.specs.Reached.{has_key}
+use Rattle.round_gates.specs.inner.Reached.{has_key}
 use Rattle.round_gates.specs.Staged.{all_places, most_places}
 use Rattle.round_gates.specs.Stages.{last_node}
 use Rattle.round_gates.specs.Targets.{HasLargeTree, IsTreeFor}
-use Rattle.round_gates.specs.Trees.{HasInputGates, IsGateTree, IsTreeOf, NamesRise, events_in, has_gate, key_cmp, is_gate, key_in, key_of, line_of, node_of, place_of}
+use Rattle.round_gates.specs.Trees.{HasInputGates, IsGateTree, IsTreeOf, NamesRise, events_in, has_gate, key_cmp, is_gate, key_in, key_of, line_of, node_of}
+use Rattle.round_gates.specs.inner.Trees.{place_of}
 use Rattle.round_gates.proofs.Basics.{key_same, or_left, or_right}
 use Rattle.round_gates.proofs.GatePlaces.{key-inner, one-gate}
 use Rattle.round_gates.proofs.Names.{has-at, keys_total, place-in}

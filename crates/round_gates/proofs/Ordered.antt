@@ -17,7 +17,7 @@ use Rattle.round_gates.specs.declared.node.Part.{Part}
 use Rattle.round_gates.specs.declared.node.Stage.{Stage}
 use Rattle.round_gates.specs.Nodes.{same_node, has_node, without, new_ones, each_once, gathered, all_of, any_of, always_in, varying, least_left, least_of}
 use Rattle.round_gates.specs.Walks.{Walked, Parts, key_at, parts_of, nodes_of, varying_parts, node_at, line_at, with_seen, repeat_of, wrapped, repeats, counted_lines, walk, walk_step}
-use Rattle.round_gates.specs.Lines.{is_named, has_line, IsKnown, IsInput, InOrder}
+use Rattle.round_gates.specs.inner.Lines.{is_named, has_line, IsKnown, IsInput, InOrder}
 use Rattle.round_gates.proofs.Basics.{or_left, or_right, key_same}
 
 -- what a list of gates has, a longer one has

@@ -17,7 +17,7 @@ use Rattle.round_gates.specs.declared.node.Node.TheVariants.{Always, Never, Basi
 use Rattle.round_gates.specs.declared.node.Part.{Part}
 use Rattle.round_gates.specs.declared.node.Stage.{Stage}
 use Rattle.round_gates.specs.Nodes.{same_node, has_node, without, new_ones, each_once, gathered, all_of, any_of, always_in, varying, least_left, least_of}
-use Rattle.round_gates.specs.Targets.{MayHave}
+use Rattle.round_gates.specs.inner.Targets.{MayHave}
 use Rattle.round_gates.specs.Walks.{Walked, Parts, key_at, parts_of, nodes_of, varying_parts, node_at, line_at, with_seen, wrapped, repeats, counted_lines, walk, walk_step, places, places_step, total}
 use Rattle.round_gates.proofs.Basics.{all-append, all-map}
 use Rattle.round_gates.proofs.Once.{From, from-wider, place-same, PartsFrom, parts-below, parts-nodes, varying-from, Before}

@@ -10,8 +10,8 @@ use Rattle.round_gates.specs.declared.node.Line.{Line}
 use Rattle.round_gates.specs.declared.node.Node.{Node}
 use Rattle.round_gates.specs.declared.node.Node.TheVariants.{Gate}
 use Rattle.round_gates.specs.Nodes.{same_key, same_node, has_node}
-use Rattle.round_gates.specs.Lines.{is_named, has_line, IsInput, InOrder}
-use Rattle.round_gates.specs.Reached.{has_key, place_from, first_line, IsReached, AreReachedFrom, AreReached, AreBehind, is_place, IsVisited}
+use Rattle.round_gates.specs.inner.Lines.{is_named, has_line, IsInput, InOrder}
+use Rattle.round_gates.specs.inner.Reached.{has_key, place_from, first_line, IsReached, AreReachedFrom, AreReached, AreBehind, is_place, IsVisited}
 use Rattle.round_gates.proofs.Rules.{key_exact, node_exact}
 use Rattle.round_gates.proofs.Basics.{some_inner, or_left, or_right, key_same}
 

@@ -11,7 +11,7 @@ use Rattle.round_gates.specs.declared.node.Join.TheVariants.{Plain, Made}
 use Rattle.round_gates.specs.declared.node.Node.{Node}
 use Rattle.round_gates.specs.declared.node.Node.TheVariants.{Always, Never, Basic, Gate}
 use Rattle.round_gates.specs.Nodes.{same_key, same_node, has_node, without, new_ones, each_once, gathered, all_of, any_of, always_in, varying, least_left, least_of}
-use Rattle.round_gates.specs.Truths.{GateSet, node_true, join_true}
+use Rattle.round_gates.specs.inner.Truths.{GateSet, node_true, join_true}
 use Rattle.round_gates.proofs.Basics.{or_false}
 
 pub key_exact : (a b : GateKey) → same_key a b ≡ true → a ≡ b

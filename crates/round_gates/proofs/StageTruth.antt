@@ -13,8 +13,9 @@ use Rattle.round_gates.specs.declared.node.Node.{Node}
 use Rattle.round_gates.specs.declared.node.Node.TheVariants.{Never}
 use Rattle.round_gates.specs.declared.node.Stage.{Stage}
 use Rattle.round_gates.specs.Walks.{walk}
-use Rattle.round_gates.specs.Stages.{in_block, joined_marks, stage_truth, formula_walk, fact_walk, stage_nodes, low_nodes, last_node, looks_of, IsAmong, IsGateOf}
-use Rattle.round_gates.specs.Truths.{GateSet, node_true, IsMet}
+use Rattle.round_gates.specs.Stages.{in_block, formula_walk, fact_walk, stage_nodes, low_nodes, last_node, looks_of, IsAmong, IsGateOf}
+use Rattle.round_gates.specs.inner.Stages.{joined_marks, stage_truth}
+use Rattle.round_gates.specs.inner.Truths.{GateSet, node_true, IsMet}
 use Rattle.round_gates.proofs.LastStage.{member-kept, last-stage}
 use Rattle.round_gates.proofs.WalkTruth.{LooksRight, walk-kept}
 

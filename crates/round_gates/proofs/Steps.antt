@@ -13,10 +13,10 @@ use Rattle.round_gates.specs.declared.node.Node.{Node}
 use Rattle.round_gates.specs.declared.node.Node.TheVariants.{Never}
 use Rattle.round_gates.specs.declared.node.Stage.{Stage}
 use Rattle.fault_system.proofs.NumberSets.{contained-in_set, set_of-filter}
-use Rattle.round_gates.specs.Walks.{node_in}
-use Rattle.round_gates.specs.Lines.{IsKnown, InOrder}
+use Rattle.round_gates.specs.inner.Walks.{node_in}
+use Rattle.round_gates.specs.inner.Lines.{IsKnown, InOrder}
 use Rattle.round_gates.specs.Stages.{in_block, formula_walk, fact_walk, stage_nodes, low_nodes, last_node, looks_of, IsAmong, IsGateOf}
-use Rattle.round_gates.specs.Unrolled.{members_of, stage_at, found_in, lines_in, written, AreUnrolled, IsUnrolling}
+use Rattle.round_gates.specs.inner.Unrolled.{members_of, stage_at, found_in, lines_in, written, AreUnrolled, IsUnrolling}
 use Rattle.round_gates.proofs.Ordered.{known-more, order-append, walk-ordered}
 use Rattle.round_gates.proofs.StageTruth.{stage-out, stage-first, stage-in, low-zero, low-suc}
 use Rattle.round_gates.proofs.Writing.{written-is}

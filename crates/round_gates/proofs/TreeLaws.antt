@@ -14,10 +14,11 @@ use Rattle.round_gates.specs.declared.node.Node.{Node}
 use Rattle.round_gates.specs.declared.node.Node.TheVariants as nodes
 use Rattle.round_gates.specs.declared.tree.Gate.{Gate}
 use Rattle.round_gates.specs.Nodes.{same_key, same_node, has_node}
-use Rattle.round_gates.specs.Lines.{is_named, has_line, IsInput, InOrder}
-use Rattle.round_gates.specs.Reached.{has_key, place_from, first_line, HasInputs, AreReached}
+use Rattle.round_gates.specs.inner.Lines.{is_named, has_line, IsInput, InOrder}
+use Rattle.round_gates.specs.inner.Reached.{has_key, place_from, first_line, HasInputs, AreReached}
 use Rattle.round_gates.specs.Stages.{IsAmong, IsGateOf}
-use Rattle.round_gates.specs.Trees.{NamesRise, key_of, key_in, node_of, line_of, is_gate, has_gate, events_in, LeadsTo, IsGateTree, place_of, input_for, gate_with, gate_for, tree_of}
+use Rattle.round_gates.specs.Trees.{NamesRise, key_of, key_in, node_of, line_of, is_gate, has_gate, events_in, LeadsTo, IsGateTree}
+use Rattle.round_gates.specs.inner.Trees.{place_of, input_for, gate_with, gate_for, tree_of}
 use Rattle.round_gates.proofs.Names.{place-in, place-at, has-at}
 use Rattle.round_gates.proofs.OnceStages.{gate-once, inputs-once}
 use Rattle.round_gates.proofs.Reaches.{found-place, behind-of}

@@ -20,8 +20,10 @@ use Rattle.round_gates.specs.declared.tree.Tree.{Tree}
 use Rattle.round_gates.specs.Staged.{fact_places}
 use Rattle.round_gates.specs.Stages.{last_node}
 use Rattle.round_gates.specs.Targets.{IsTreeFor}
-use Rattle.round_gates.specs.Trees.{IsGateTree, IsTreeOf, TreeHolds, IsClosedTree, gate_true, has_gate, input_true, key_in, key_of, line_of, node_of}
-use Rattle.round_gates.specs.Truths.{GateSet, node_true, kind_true}
+use Rattle.round_gates.specs.Trees.{IsGateTree, IsTreeOf, has_gate, key_in, key_of, line_of, node_of}
+use Rattle.round_gates.specs.inner.Trees.{TreeHolds, IsClosedTree, gate_true, input_true}
+use Rattle.round_gates.specs.Truths.{kind_true}
+use Rattle.round_gates.specs.inner.Truths.{GateSet, node_true}
 use Rattle.round_gates.proofs.Basics.{or_left, or_right, some_inner}
 use Rattle.round_gates.proofs.GatePlaces.{ComesLater, gate-at}
 use Rattle.round_gates.proofs.StageTruth.{gate_values, gate-met, last-right}

@@ -17,7 +17,7 @@ use Rattle.round_gates.specs.declared.node.Part.{Part}
 use Rattle.round_gates.specs.declared.node.Stage.{Stage}
 use Rattle.round_gates.specs.Nodes.{same_node, has_node, without, gathered, each_once, varying, all_of, any_of, least_left, least_of, always_in}
 use Rattle.round_gates.specs.Walks.{Walked, Parts, key_at, parts_of, nodes_of, varying_parts, node_at, line_at, with_seen, wrapped, repeats, counted_lines, walk, walk_step}
-use Rattle.round_gates.specs.Truths.{GateSet, node_true, join_true, IsMet}
+use Rattle.round_gates.specs.inner.Truths.{GateSet, node_true, join_true, IsMet}
 use Rattle.round_gates.proofs.Rules.{all_of-keeps, any_of-keeps, least_of-keeps}
 use Rattle.round_gates.proofs.Basics.{all-append, or_left, or_right, or_false}
 

@@ -13,9 +13,10 @@ use Rattle.round_gates.specs.declared.node.Node.TheVariants as nodes
 use Rattle.round_gates.specs.declared.tree.Gate.{Gate}
 use Rattle.round_gates.specs.Stages.{last_node}
 use Rattle.round_gates.specs.Staged.{fact_places, stage_places, all_places, most_places}
-use Rattle.round_gates.specs.Trees.{TreeHolds, IsClosedTree, gate_true, event_tree}
-use Rattle.round_gates.specs.Truths.{node_true}
-use Rattle.round_gates.specs.Unrolled.{IsSmall}
+use Rattle.round_gates.specs.Trees.{event_tree}
+use Rattle.round_gates.specs.inner.Trees.{TreeHolds, IsClosedTree, gate_true}
+use Rattle.round_gates.specs.inner.Truths.{node_true}
+use Rattle.round_gates.specs.inner.Unrolled.{IsSmall}
 use Rattle.round_gates.specs.Walks.{places, total}
 use Rattle.round_gates.proofs.StageTruth.{gate_values, last-right}
 use Rattle.round_gates.proofs.Basics.{or_false}

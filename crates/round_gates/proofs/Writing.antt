@@ -6,8 +6,8 @@ use Rattle.fault_system.specs.Systems.{System}
 use Rattle.round_gates.specs.declared.node.Node.{Node}
 use Rattle.round_gates.specs.declared.node.Node.TheVariants.{Never}
 use Rattle.round_gates.specs.declared.node.Part.{Part}
-use Rattle.round_gates.specs.Walks.{node_in}
-use Rattle.round_gates.specs.Unrolled.{found_in, written}
+use Rattle.round_gates.specs.inner.Walks.{node_in}
+use Rattle.round_gates.specs.inner.Unrolled.{found_in, written}
 use Rattle.round_gates.proofs.Kept.{split_at}
 
 eqb-false : (a b : ℕ) → (a == b) ≡ false → b ≡ a → ⊥

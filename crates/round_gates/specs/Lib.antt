@@ -2,10 +2,8 @@ pub mod Nodes
 pub mod Walks
 pub mod Stages
 pub mod Truths
-pub mod Lines
-pub mod Unrolled
-pub mod Reached
 pub mod Trees
 pub mod Staged
 pub mod Targets
 pub mod Formulas
+pub mod inner

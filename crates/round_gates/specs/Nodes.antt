@@ -34,10 +34,6 @@ abbrev pub new_ones : List Node → List Node → List Node
 new_ones seen [] = []
 new_ones seen (node ∷ nodes) = if has_node seen node then new_ones seen nodes else node ∷ new_ones (seen ++ node ∷ []) nodes
 
--- the nodes so far with one more, unless it is among them or is one that goes
-abbrev pub kept_key : List Node → Node → Node → List Node
-kept_key seen node dropped = if same_node dropped node then seen else (if has_node seen node then seen else seen ++ node ∷ [])
-
 -- the nodes of a list, each once: a node that is equal to an earlier one goes
 abbrev pub each_once : List Node → List Node
 each_once nodes = new_ones [] nodes

@@ -1,14 +1,10 @@
--- When a target is constant, when its tree may be too large, and what is answered.
+-- When a target is constant, and when its tree may be too large.
 use Rattle.std.specs.Prelude.{ℕ, ◌*◌, ◌<◌, ◌≡◌, Bool, List, length, map, slice_get, Option, Some, None}
-use Rattle.plain_values.specs.declared.refusal.Code.TheVariants.{TooManyGates}
-use Rattle.plain_values.specs.Refusal.{of_words}
 use Rattle.fault_system.specs.Truth.{NumberSet, Has}
 use Rattle.fault_system.specs.Systems.{System}
 use Rattle.fault_system.specs.CutSets.{makes_hold}
 use Rattle.fault_system.specs.declared.formula.FactInfo.{FactInfo}
 use Rattle.dependency_blocks.specs.Blocks.{BlockNumbers, number_of, size_of}
-use Rattle.round_gates.specs.declared.tree.GateAnswer.{GateAnswer}
-use Rattle.round_gates.specs.declared.tree.GateAnswer.TheVariants.{Constant, Refused, Memory}
 use Rattle.round_gates.specs.Walks.{places, total}
 
 -- under each set of events of the system the target holds, or under none
@@ -36,10 +32,3 @@ all_places system numbers facts = total (map (stage_places system numbers) facts
 -- the greatest number of places of all stages
 abbrev pub most_places : ℕ
 most_places = 16000000
-
--- why there is no tree: the target is constant; or it is not, and its stages have too many places; want of memory says nothing
-abbrev pub IsGateAnswer : System → BlockNumbers → ℕ → List ℕ → GateAnswer → Type 0
-IsGateAnswer system numbers target facts (Constant is) = IsConstant system target is
-IsGateAnswer system numbers target facts (Refused refusal) =
-    IsVarying system target × (most_places < all_places system numbers facts) × (refusal ≡ of_words TooManyGates)
-IsGateAnswer system numbers target facts Memory = Unit {0}

@@ -1,38 +1,12 @@
--- When nodes and gates are true, under a set of events and the truth of gates by their names.
-use Rattle.std.specs.Prelude.{◌≡◌, Bool, true, false, List, map, nat_le}
+-- When a gate is true.
+use Rattle.std.specs.Prelude.{Bool, List, nat_le}
 use Rattle.std.specs.List.{list_all, list_any}
-use Rattle.fault_system.specs.Truth.{NumberSet, count_true}
-use Rattle.round_gates.specs.declared.node.GateKey.{GateKey}
+use Rattle.fault_system.specs.Truth.{count_true}
 use Rattle.round_gates.specs.declared.node.GateKind.{GateKind}
 use Rattle.round_gates.specs.declared.node.GateKind.TheVariants.{And, Or, AtLeast}
-use Rattle.round_gates.specs.declared.node.Join.{Join}
-use Rattle.round_gates.specs.declared.node.Join.TheVariants.{Plain, Made}
-use Rattle.round_gates.specs.declared.node.Line.{Line}
-use Rattle.round_gates.specs.declared.node.Node.{Node}
-use Rattle.round_gates.specs.declared.node.Node.TheVariants.{Always, Never, Basic, Gate}
-
--- which gates are true, by their names
-abbrev pub GateSet : Type 0
-GateSet = GateKey → Bool
-
--- whether a node is true
-abbrev pub node_true : NumberSet → GateSet → Node → Bool
-node_true events gates Always = true
-node_true events gates Never = false
-node_true events gates (Basic n) = events n
-node_true events gates (Gate key) = gates key
 
 -- whether a gate of a kind is true, by its inputs
 abbrev pub kind_true : GateKind → List Bool → Bool
 kind_true And inputs = list_all (λ input. input) inputs
 kind_true Or inputs = list_any (λ input. input) inputs
 kind_true (AtLeast k) inputs = nat_le k (count_true inputs)
-
--- whether what a rule gives is true
-abbrev pub join_true : NumberSet → GateSet → Join → Bool
-join_true events gates (Plain node) = node_true events gates node
-join_true events gates (Made kind inputs) = kind_true kind (map (node_true events gates) inputs)
-
--- a gate is true exactly where its kind is true of its inputs
-abbrev pub IsMet : NumberSet → GateSet → Line → Type 0
-IsMet events gates line = gates line.key ≡ kind_true line.kind (map (node_true events gates) line.inputs)

@@ -1,5 +1,5 @@
 -- The node of each place of a formula in a stage, and the gates of the stage.
-use Rattle.std.specs.Prelude.{ℕ, ◌+◌, ◌≡◌, List, [], ◌∷◌, ◌++◌, map, filter, ◌||◌, not, if◌then◌else◌, slice_index_or}
+use Rattle.std.specs.Prelude.{ℕ, ◌+◌, List, [], ◌∷◌, ◌++◌, map, filter, ◌||◌, not, if◌then◌else◌}
 use Rattle.fault_system.specs.declared.formula.Formula.{Formula, fold-Formula}
 use Rattle.fault_system.specs.declared.formula.Formula.TheOpen.{Formula-F, True, Event, Fact, And, Or, AtLeast}
 use Rattle.round_gates.specs.declared.node.GateKey.{GateKey}
@@ -127,19 +127,3 @@ places_step (AtLeast k parts) = total parts + 1
 -- how many places a formula has
 abbrev pub places : Formula → ℕ
 places = fold-Formula ℕ places_step
-
--- the nodes for which facts stand, of a list by number
-abbrev pub node_in : List Node → ℕ → Node
-node_in nodes fact = slice_index_or nodes fact Never
-
--- what the code of a walk answers: the node and the next place, and the lines behind those that were there
-pub record IsWalked (walked : Walked) (node : Node) (next : ℕ) (before after : List Line) : Type 0 where
-  pub node_is : node ≡ walked.node
-  pub next_is : next ≡ walked.next
-  pub lines_are : after ≡ before ++ walked.lines
-
--- the same of the parts of a formula
-pub record ArePartsOf (all : Parts) (parts : List Part) (next : ℕ) (before after : List Line) : Type 0 where
-  pub parts_are : parts ≡ all.parts
-  pub next_is : next ≡ all.next
-  pub lines_are : after ≡ before ++ all.lines

@@ -6,8 +6,9 @@ ghost use Rattle.std.specs.List.{list_any, range_with_len};
 ghost use Rattle.fault_system.specs.Truth.{member};
 ghost use Rattle.round_gates.specs.declared.node.GateKey.{GateKey as Key};
 ghost use Rattle.round_gates.specs.contracts.node.GateKeyPartialEq.TheImpl.{eq-value as key_eq};
-ghost use Rattle.round_gates.specs.Reached.{first_line, place_from};
-ghost use Rattle.round_gates.specs.Trees.{place_of, input_for, gate_with, gate_for, events_in, is_event, tree_of};
+ghost use Rattle.round_gates.specs.inner.Reached.{first_line, place_from};
+ghost use Rattle.round_gates.specs.Trees.{events_in, is_event};
+ghost use Rattle.round_gates.specs.inner.Trees.{place_of, input_for, gate_with, gate_for, tree_of};
 
 use crate::node::{GateKey, GateKind, Line, Node};
 use crate::tree::{Gate, Input, Tree};

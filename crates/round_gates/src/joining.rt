@@ -1,7 +1,8 @@
 //! The rules by which the nodes of a formula's parts become a node or a gate.
 
 ghost use Rattle.std.specs.Prelude.{◌≡◌, ◌++◌, ◌∷◌, [], IfOk, OnOk};
-ghost use Rattle.round_gates.specs.Nodes.{has_node, without, each_once, gathered, all_of, any_of, always_in, varying, least_left, least_of, kept_key};
+ghost use Rattle.round_gates.specs.Nodes.{has_node, without, each_once, gathered, all_of, any_of, always_in, varying, least_left, least_of};
+ghost use Rattle.round_gates.specs.inner.Nodes.{kept_key};
 
 use crate::node::{GateKind, Join, Node};
 use indexmap::IndexSet;

@@ -9,10 +9,13 @@ ghost use Rattle.dependency_blocks.specs.Blocks.{BlockNumbers, number_of, size_o
 ghost use Rattle.round_gates.specs.declared.tree.Gate.{Gate};
 ghost use Rattle.round_gates.specs.declared.tree.Tree.{Tree};
 ghost use Rattle.round_gates.specs.Formulas.{gate_formula};
-ghost use Rattle.round_gates.specs.Stages.{in_block, stage_truth};
+ghost use Rattle.round_gates.specs.Stages.{in_block};
+ghost use Rattle.round_gates.specs.inner.Stages.{stage_truth};
 ghost use Rattle.round_gates.specs.Staged.{IsConstant};
-ghost use Rattle.round_gates.specs.Targets.{HasLargeTree, IsConstantly, IsTreeFor, IsWellMade, IsWithin};
-ghost use Rattle.round_gates.specs.Trees.{TreeHolds, gate_true, has_gate, is_event};
+ghost use Rattle.round_gates.specs.Targets.{HasLargeTree, IsConstantly, IsTreeFor};
+ghost use Rattle.round_gates.specs.inner.Targets.{IsWellMade, IsWithin};
+ghost use Rattle.round_gates.specs.Trees.{has_gate, is_event};
+ghost use Rattle.round_gates.specs.inner.Trees.{TreeHolds, gate_true};
 
 /// The last stage of a fact is true exactly where the fact holds: of a block of facts, however they feed each other, as
 /// many stages are enough as there are facts in the block.

@@ -7,7 +7,7 @@ ghost use Rattle.round_gates.specs.Trees.{NamesRise};
 ghost use Rattle.round_gates.specs.declared.node.GateKey.{GateKey as Key};
 ghost use Rattle.round_gates.specs.contracts.node.GateKeyPartialEq.TheImpl.{eq-value as key_eq};
 ghost use Rattle.round_gates.specs.Nodes.{has_node, same_key};
-ghost use Rattle.round_gates.specs.Reached.{AreBehind, AreReached, IsVisited, first_some, is_place, has_key, place_from, place_if};
+ghost use Rattle.round_gates.specs.inner.Reached.{AreBehind, AreReached, IsVisited, first_some, is_place, has_key, place_from, place_if};
 
 use crate::node::{GateKey, Line, Node};
 use indexmap::IndexSet;

@@ -6,11 +6,14 @@ ghost use Rattle.std.specs.List.{AllByRecursion};
 ghost use Rattle.fault_system.specs.Systems.{Holds};
 ghost use Rattle.backward_slice.specs.Slices.{IsSlice};
 ghost use Rattle.dependency_blocks.specs.Blocks.{IsBlocks, number_of};
-ghost use Rattle.round_gates.specs.Lines.{InOrder, IsKnown, has_line};
+ghost use Rattle.round_gates.specs.inner.Lines.{InOrder, IsKnown, has_line};
 ghost use Rattle.round_gates.specs.Stages.{IsGateOf};
-ghost use Rattle.round_gates.specs.Staged.{IsGateAnswer, IsVarying, all_places, most_places};
-ghost use Rattle.round_gates.specs.Targets.{HasNoTree, IsTreeFor, IsWellMade};
-ghost use Rattle.round_gates.specs.Trees.{IsGateTree, IsTree, IsTreeOf, TreeHolds, event_tree};
+ghost use Rattle.round_gates.specs.Staged.{IsVarying, all_places, most_places};
+ghost use Rattle.round_gates.specs.inner.Staged.{IsGateAnswer};
+ghost use Rattle.round_gates.specs.Targets.{IsTreeFor};
+ghost use Rattle.round_gates.specs.inner.Targets.{HasNoTree, IsWellMade};
+ghost use Rattle.round_gates.specs.Trees.{IsGateTree, IsTree, IsTreeOf, event_tree};
+ghost use Rattle.round_gates.specs.inner.Trees.{TreeHolds};
 
 use crate::building::tree_of;
 use crate::constants::constant;

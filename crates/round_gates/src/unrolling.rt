@@ -2,9 +2,9 @@
 
 ghost use Rattle.std.specs.Prelude.{◌≡◌, ◌+◌, ◌<◌, ◌≤◌, ◌++◌, ◌∷◌, [], ℕ, All, IfOk, IfSome, OnOk, length, map, flat_map, slice_index_or};
 ghost use Rattle.dependency_blocks.specs.Blocks.{IsBlocks, number_of, size_of};
-ghost use Rattle.round_gates.specs.Walks.{node_in};
+ghost use Rattle.round_gates.specs.inner.Walks.{node_in};
 ghost use Rattle.round_gates.specs.Stages.{fact_walk, low_nodes};
-ghost use Rattle.round_gates.specs.Unrolled.{AreUnrolled, IsSmall, IsUnrolling, found_in, lines_in, members_of, written};
+ghost use Rattle.round_gates.specs.inner.Unrolled.{AreUnrolled, IsSmall, IsUnrolling, found_in, lines_in, members_of, written};
 
 use crate::node::{Line, Node, Part, Stage};
 use crate::walking::walk_formula;

@@ -1,7 +1,8 @@
 //! The nodes and the gates of one stage of a fact.
 
 ghost use Rattle.std.specs.Prelude.{◌≡◌, ◌+◌, ◌<◌, ◌^◌, ◌++◌, ◌∷◌, [], IfOk, OnOk, map};
-ghost use Rattle.round_gates.specs.Walks.{walk, parts_of, places, total, node_in, key_at, node_at, line_at, counted_lines, with_seen, input_of, repeat_of, wrapped, repeats, varying_parts, nodes_of, IsWalked, ArePartsOf};
+ghost use Rattle.round_gates.specs.Walks.{walk, parts_of, places, total, key_at, node_at, line_at, counted_lines, with_seen, input_of, repeat_of, wrapped, repeats, varying_parts, nodes_of};
+ghost use Rattle.round_gates.specs.inner.Walks.{node_in, IsWalked, ArePartsOf};
 
 use crate::joining::{all_of, any_of, least_of};
 use crate::node::{GateKey, GateKind, Join, Line, Node, Part, Stage};

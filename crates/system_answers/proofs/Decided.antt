@@ -3,7 +3,7 @@ use Rattle.std.proofs.Common.{◌≡◌, ℕ, Bool, List, Option, Some, None, re
 use Rattle.plain_values.specs.declared.refusal.Refusal.{Refusal}
 use Rattle.fault_system.specs.Systems.{IsSystem, System}
 use Rattle.fault_system.specs.Listings.{IsListing}
-use Rattle.cutset_lister.specs.SetText.{HasTokenNames}
+use Rattle.cutset_lister.specs.inner.SetText.{HasTokenNames}
 use Rattle.cutset_lister.proofs.Scans.{one-set}
 use Rattle.property_reader.specs.declared.rate.Rate.{Rate}
 use Rattle.round_gates.specs.Targets.{IsConstantly}
@@ -16,7 +16,7 @@ use Rattle.fault_system.proofs.Elements.{In-contains, contains_In}
 use Rattle.fault_system.proofs.Orders.{one_order}
 use Rattle.backward_slice.specs.Slices.{HasLargeSlice, IsServed}
 use Rattle.backward_slice.proofs.OneSlice.{one_large, one_served, served_or_large}
-use Rattle.phases.specs.Phases.{IsDecided, IsDecidedStep}
+use Rattle.phases.specs.inner.Phases.{IsDecided, IsDecidedStep}
 use Rattle.phases.specs.declared.status.Status.{Status}
 use Rattle.phases.specs.declared.status.Status.TheVariants.{Refused, Constant}
 use Rattle.page_tokens.proofs.Once.{page_start_decided}

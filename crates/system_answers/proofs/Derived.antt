@@ -7,15 +7,18 @@ use Rattle.plain_values.specs.declared.refusal.Refusal.{Refusal}
 use Rattle.plain_values.specs.Refusal.{refusal}
 use Rattle.fault_system.specs.Truth.{NumberSet, set_of}
 use Rattle.fault_system.specs.Systems.{Holds, IsSystem, System}
-use Rattle.cutset_lister.specs.SetText.{HasTokenNames, IsSetOfText}
+use Rattle.cutset_lister.specs.SetText.{IsSetOfText}
+use Rattle.cutset_lister.specs.inner.SetText.{HasTokenNames}
 use Rattle.cutset_lister.proofs.Scans.{one-set}
 use Rattle.derivations.specs.declared.derivation.Firing.{Firing}
 use Rattle.derivations.specs.Steps.{HasWrongEnd, IsFirstWrong, IsGood}
-use Rattle.derivations.specs.Text.{AreLineNames, IsBadAt, IsTextOf, event_names, fact_names, line_of, lines_of}
+use Rattle.derivations.specs.Text.{IsBadAt, IsTextOf, event_names, fact_names, line_of, lines_of}
+use Rattle.derivations.specs.inner.Text.{AreLineNames}
 use Rattle.derivations.proofs.OneDerivation.{long-text, one-bad, one-derivation, one-reading, read-or-bad}
 use Rattle.derivations.proofs.Sound.{good-holds}
 use Rattle.derivations.proofs.WhyText.{confirmed-text}
-use Rattle.phases.specs.Phases.{IsDecided, Passes}
+use Rattle.phases.specs.Phases.{Passes}
+use Rattle.phases.specs.inner.Phases.{IsDecided}
 use Rattle.phases.specs.declared.status.Status.{Status}
 use Rattle.phases.specs.declared.status.Status.TheVariants.{Refused}
 use Rattle.phases.proofs.Leaves.{decided_rejects}

@@ -4,13 +4,14 @@ use Rattle.std.specs.List.{flat_map}
 use Rattle.std.proofs.lemmas.Bool.{lt-ltb, ltb-true, cases_lt}
 use Rattle.std.proofs.lemmas.List.Elements.{filter-append}
 use Rattle.fault_system.specs.Systems.{System}
-use Rattle.fault_system.specs.Listings.{IsInListingOrder, IsListing, IsPage, IsWithinOrder, is_before, listing, sets_after}
+use Rattle.fault_system.specs.Listings.{IsInListingOrder, IsListing, IsWithinOrder, is_before, sets_after}
+use Rattle.fault_system.specs.inner.Listings.{IsPage, listing}
 use Rattle.fault_system.proofs.Elements.{In, In-append, In-back, In-contains, In-filter, In-filtered, In-front, contains_In}
 use Rattle.fault_system.proofs.ListingLaws.{listing-exact}
 use Rattle.fault_system.proofs.Orders.{before_made, one_order, order-append, order-filter}
-use Rattle.zdd_store.specs.Family.{Family}
-use Rattle.cutset_engine.specs.Families.{HasMinimalCutSets}
-use Rattle.cutset_writer.specs.Pages.{Lists}
+use Rattle.zdd_store.specs.inner.Family.{Family}
+use Rattle.cutset_engine.specs.inner.Families.{HasMinimalCutSets}
+use Rattle.cutset_writer.specs.inner.Pages.{Lists}
 use Rattle.cutset_writer.specs.Text.{last_line, last_of, listing_page, marked_page, more_line, set_line}
 use Rattle.cutset_writer.specs.declared.form.SetForm.{SetForm}
 use Rattle.cutset_writer.specs.declared.form.SetForm.TheVariants.{Token}

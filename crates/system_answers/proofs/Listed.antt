@@ -4,18 +4,19 @@ use Rattle.std.specs.Prelude.{IsTrue}
 use Rattle.fault_system.specs.Systems.{System}
 use Rattle.fault_system.specs.CutSets.{IsEventSet, IsMinimalCutSet}
 use Rattle.fault_system.specs.Listings.{IsListing}
-use Rattle.zdd_store.specs.Family.{Family, is_within}
-use Rattle.cutset_engine.specs.Families.{HasMinimalCutSets}
-use Rattle.cutset_writer.specs.Pages.{Lists}
+use Rattle.zdd_store.specs.inner.Family.{Family, is_within}
+use Rattle.cutset_engine.specs.inner.Families.{HasMinimalCutSets}
+use Rattle.cutset_writer.specs.inner.Pages.{Lists}
 use Rattle.fault_system.specs.Systems.{IsSystem}
-use Rattle.path_sets.specs.PathSets.{HasLargePaths, HasMinimalPathSets, IsPathListing}
+use Rattle.path_sets.specs.PathSets.{HasLargePaths, IsPathListing}
+use Rattle.path_sets.specs.inner.PathSets.{HasMinimalPathSets}
 use Rattle.path_sets.proofs.Listings.{one-refusal}
-use Rattle.phases.specs.Meets.{IsMemory, StopsBut}
+use Rattle.phases.specs.inner.Meets.{IsMemory, StopsBut}
 use Rattle.phases.specs.Phases.{tests}
 use Rattle.backward_slice.specs.Slices.{HasLargeSlice}
 use Rattle.system_answers.specs.Texts.{slice_of}
-use Rattle.phases.specs.Stopped.{status_of}
-use Rattle.plain_values.specs.Stops.{StopsFor}
+use Rattle.phases.specs.inner.Stopped.{status_of}
+use Rattle.plain_values.specs.inner.Stops.{StopsFor}
 use Rattle.plain_values.specs.declared.refusal.Stop.{Stop}
 use Rattle.plain_values.specs.declared.refusal.Stop.TheVariants as stops
 use Rattle.plain_values.proofs.OrderLaws.{first_alone}

@@ -4,14 +4,14 @@ use Rattle.std.specs.Prelude.{IsErrAnd}
 use Rattle.std.proofs.lemmas.Result.{err_from_is_err_and}
 use Rattle.fta_outside.specs.Outside.{Rose, TookPrefix}
 use Rattle.fta_outside.proofs.Writing.{with_bytes-nil}
-use Rattle.phases.specs.Meets.{IsMemory}
+use Rattle.phases.specs.inner.Meets.{IsMemory}
 use Rattle.phases.specs.Phases.{Phase, Passes, Stops, chains}
 use Rattle.phases.specs.declared.status.Status.{Status}
-use Rattle.phases.specs.Stopped.{status_of_write}
+use Rattle.phases.specs.inner.Stopped.{status_of_write}
 use Rattle.fta_outside.specs.declared.error.WriteError.{WriteError}
 use Rattle.fta_outside.specs.declared.error.WriteError.TheVariants.{Failed, Memory}
 use Rattle.phases.proofs.Steps.{◌passes◌}
-use Rattle.system_answers.specs.Prints.{NoFault, Prints, PrintsBut}
+use Rattle.system_answers.specs.inner.Prints.{NoFault, Prints, PrintsBut}
 
 -- the text of a later phase is that of the whole
 pub prints_but_on : {A T : Type 0} (Faulted : Status → Type 0) (first : Phase A) (later : A → Phase (List ℕ)) (x : A) (result : Result T Status) (t u : Option (List ℕ)) (f g : ℕ) → Passes first x → PrintsBut Faulted (later x) result t u f g → PrintsBut Faulted (chains first later) result t u f g

@@ -7,14 +7,15 @@ use Rattle.fault_system.specs.Systems.{System}
 use Rattle.fault_system.specs.Listings.{IsListing}
 use Rattle.fault_system.proofs.Elements.{contains_In, each-made}
 use Rattle.fta_outside.specs.Reports.{TakesSet}
-use Rattle.cut_reports.specs.Feeding.{IsKept, TakesEach}
+use Rattle.cut_reports.specs.Feeding.{IsKept}
+use Rattle.cut_reports.specs.inner.Feeding.{TakesEach}
 use Rattle.cut_reports.specs.Places.{AtChosen, Both, SoOrSame, is_among}
 use Rattle.cut_reports.specs.Texts.{report_part, reports_text}
 use Rattle.cut_reports.proofs.Places.{all_same}
 use Rattle.cut_reports.proofs.Taken.{kept_same}
 use Rattle.phases.specs.Phases.{Passes, Phase}
 use Rattle.phases.specs.declared.status.Status.{Status}
-use Rattle.system_answers.specs.Prints.{EndsReports, IsReportEnd}
+use Rattle.system_answers.specs.inner.Prints.{EndsReports, IsReportEnd}
 use Rattle.system_answers.specs.Voices.{Voice, labels, voices_of, voices_text}
 
 -- ---- names

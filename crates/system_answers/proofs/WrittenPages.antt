@@ -11,10 +11,10 @@ use Rattle.backward_slice.specs.Slices.{HasLargeSlice}
 use Rattle.round_gates.specs.Targets.{IsTreeFor}
 use Rattle.round_gates.specs.declared.tree.Tree.{Tree}
 use Rattle.round_gates.proofs.MadeWell.{made-well}
-use Rattle.galileo_writer.specs.TreeText.{AreRates, HasTextNames}
+use Rattle.galileo_writer.specs.inner.TreeText.{AreRates, HasTextNames}
 use Rattle.galileo_reader.specs.Trees.{IsRead}
 use Rattle.galileo_reader.specs.TreeSystems.{system_of}
-use Rattle.galileo_reader.specs.Written.{event_at, events_at, named_tree}
+use Rattle.galileo_reader.specs.inner.Written.{event_at, events_at, named_tree}
 use Rattle.galileo_reader.proofs.OneAnswer.{one-read, read-apart}
 use Rattle.galileo_reader.proofs.RoundTrip.{text-read}
 use Rattle.galileo_reader.proofs.WrittenSets.{listing-again, name-again, sets-placed}

@@ -2,9 +2,10 @@
 use Rattle.std.specs.Prelude.{ℕ, List, Option, Contains}
 use Rattle.fault_system.specs.Systems.{System}
 use Rattle.fault_system.specs.CutSets.{IsMinimalCutSet}
-use Rattle.fault_system.specs.Listings.{IsListing, IsPage, first_of, has_more, sets_after}
-use Rattle.zdd_store.specs.Family.{Family}
-use Rattle.cutset_writer.specs.Pages.{Lists}
+use Rattle.fault_system.specs.Listings.{IsListing, first_of, has_more, sets_after}
+use Rattle.fault_system.specs.inner.Listings.{IsPage}
+use Rattle.zdd_store.specs.inner.Family.{Family}
+use Rattle.cutset_writer.specs.inner.Pages.{Lists}
 
 -- The page of these sets is that of the target's listing.
 pub record GivesPage (system : System) (target : ℕ) (most : Option ℕ) (start : Option (List ℕ)) (limit : Option ℕ) (sets : List (List ℕ)) : Type 0 where

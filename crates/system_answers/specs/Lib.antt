@@ -6,3 +6,4 @@ pub mod Galileo
 pub mod Texts
 pub mod Fronts
 pub mod Derivations
+pub mod inner

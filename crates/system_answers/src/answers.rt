@@ -3,11 +3,11 @@
 ghost use Rattle.std.specs.Prelude.{◌≡◌, IsErrOf, vec_len};
 ghost use Rattle.phases.specs.declared.status.Status.TheVariants.{Memory};
 ghost use Rattle.plain_values.specs.Rising.{RisesWithin};
-ghost use Rattle.cutset_lister.specs.SetText.{HasTokenNames};
-ghost use Rattle.galileo_writer.specs.TreeText.{AreRates, HasTextNames};
+ghost use Rattle.cutset_lister.specs.inner.SetText.{HasTokenNames};
+ghost use Rattle.galileo_writer.specs.inner.TreeText.{AreRates, HasTextNames};
 ghost use Rattle.cut_reports.specs.Feeding.{IsKept, RoseAt};
 ghost use Rattle.cut_reports.specs.Places.{AtChosen};
-ghost use Rattle.system_answers.specs.Prints.{IsReportFault, Prints, PrintsBut};
+ghost use Rattle.system_answers.specs.inner.Prints.{IsReportFault, Prints, PrintsBut};
 ghost use Rattle.system_answers.specs.Texts.{cuts_text, paths_text, report_text, tree_text};
 ghost use Rattle.system_answers.specs.Voices.{voices_of};
 

@@ -1,20 +1,20 @@
 //! A page of the minimal cut sets of a target.
 
 ghost use Rattle.std.specs.Prelude.{◌≡◌, ◌<◌, IfErr, IfOk, IfSome, IsErrOf, Some, OnErr, OnOk, length, option_map};
-ghost use Rattle.phases.specs.Meets.{Meets};
+ghost use Rattle.phases.specs.inner.Meets.{Meets};
 ghost use Rattle.phases.specs.declared.status.Status.TheVariants as any_status;
 ghost use Rattle.fta_outside.specs.Outside.{Rose, TookPrefix, with_bytes};
 ghost use Rattle.fault_system.specs.CutSets.{IsEventSet};
 ghost use Rattle.fault_system.specs.Listings.{IsListing};
 ghost use Rattle.backward_slice.specs.Slices.{IsSlice};
-ghost use Rattle.cutset_lister.specs.Walks.{IsStarted, all_sets, sets_left};
-ghost use Rattle.cutset_writer.specs.Pages.{IsOpen, IsReady};
+ghost use Rattle.cutset_lister.specs.inner.Walks.{IsStarted, all_sets, sets_left};
+ghost use Rattle.cutset_writer.specs.inner.Pages.{IsOpen, IsReady};
 ghost use Rattle.cutset_writer.specs.Text.{listing_page, marked_page};
 ghost use Rattle.cutset_writer.specs.declared.form.SetForm.TheVariants.{Token};
-ghost use Rattle.cutset_lister.specs.SetText.{HasTokenNames};
+ghost use Rattle.cutset_lister.specs.inner.SetText.{HasTokenNames};
 ghost use Rattle.system_answers.specs.Fronts.{GivesPage};
 ghost use Rattle.system_answers.specs.Texts.{begin_of, named_key, page_in, page_of, slice_of, start_of};
-ghost use Rattle.system_answers.specs.Prints.{Prints};
+ghost use Rattle.system_answers.specs.inner.Prints.{Prints};
 
 use crate::fronts::page_family;
 use backward_slice::{Slice, slice};

@@ -1,15 +1,16 @@
 //! Why a set of events makes a target hold, as text, and the answer on such a text.
 
 ghost use Rattle.std.specs.Prelude.{◌≡◌, ◌<◌, ◌≤◌, ◌^◌, IfOk, OnOk, length};
-ghost use Rattle.phases.specs.Meets.{IsMemory, Meets, MeetsBut};
+ghost use Rattle.phases.specs.inner.Meets.{IsMemory, Meets, MeetsBut};
 ghost use Rattle.plain_values.specs.declared.refusal.Place.TheVariants.{At as Byte};
 ghost use Rattle.plain_values.specs.Refusal.{refusal};
 ghost use Rattle.fault_system.specs.CutSets.{IsEventSet};
 ghost use Rattle.fault_system.specs.Truth.{member, set_of};
-ghost use Rattle.cutset_lister.specs.SetText.{HasTokenNames};
-ghost use Rattle.derivations.specs.Text.{AreLineNames, IsTextOf, event_names, fact_names};
+ghost use Rattle.cutset_lister.specs.inner.SetText.{HasTokenNames};
+ghost use Rattle.derivations.specs.Text.{IsTextOf, event_names, fact_names};
+ghost use Rattle.derivations.specs.inner.Text.{AreLineNames};
 ghost use Rattle.system_answers.specs.Derivations.{accepted_text, answer_confirmed, confirm_text, derivation_of, good_steps, lines_why, set_of_text, steps_of, why_text};
-ghost use Rattle.system_answers.specs.Prints.{Prints};
+ghost use Rattle.system_answers.specs.inner.Prints.{Prints};
 
 use crate::target::find_target;
 use crate::writing::write_bytes;

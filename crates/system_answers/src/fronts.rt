@@ -6,10 +6,10 @@
 ghost use Rattle.std.specs.Prelude.{◌≡◌, ◌<◌, ℕ, List as Items, Contains, IfOk, IfSome, IsTrue, Option as Maybe, Some, length, option_map, suc};
 ghost use Rattle.fault_system.specs.Listings.{IsWithinOrder, sets_after};
 ghost use Rattle.backward_slice.specs.Slices.{IsSlice};
-ghost use Rattle.zdd_store.specs.Family.{is_within};
-ghost use Rattle.zdd_store.specs.Store.{IsIn, Keeps, family_of};
-ghost use Rattle.cutset_lister.specs.Walks.{IsStarted, all_sets, sets_left};
-ghost use Rattle.cutset_writer.specs.Pages.{Lists};
+ghost use Rattle.zdd_store.specs.inner.Family.{is_within};
+ghost use Rattle.zdd_store.specs.inner.Store.{IsIn, Keeps, family_of};
+ghost use Rattle.cutset_lister.specs.inner.Walks.{IsStarted, all_sets, sets_left};
+ghost use Rattle.cutset_writer.specs.inner.Pages.{Lists};
 ghost use Rattle.system_answers.specs.Fronts.{ServesPage};
 
 use backward_slice::Slice;

@@ -1,12 +1,12 @@
 //! The minimal cut sets and the minimal path sets of a tree in Galileo text.
 
 ghost use Rattle.std.specs.Prelude.{◌≡◌, ◌≤◌, IfOk, length};
-ghost use Rattle.phases.specs.Meets.{Meets};
+ghost use Rattle.phases.specs.inner.Meets.{Meets};
 ghost use Rattle.galileo_reader.specs.TreeSystems.{system_of};
-ghost use Rattle.galileo_reader.specs.Trees.{IsNamedTree};
-ghost use Rattle.path_sets.specs.Duals.{IsWithoutFeedback};
+ghost use Rattle.galileo_reader.specs.inner.Trees.{IsNamedTree};
+ghost use Rattle.path_sets.specs.inner.Duals.{IsWithoutFeedback};
 ghost use Rattle.system_answers.specs.Galileo.{flaw_refusal};
-ghost use Rattle.system_answers.specs.Prints.{Prints};
+ghost use Rattle.system_answers.specs.inner.Prints.{Prints};
 ghost use Rattle.system_answers.specs.Texts.{galileo_paths_text, galileo_text, named_tree, tree_paths, tree_sets};
 
 use crate::cut_sets::{find_slice, write_page_in};

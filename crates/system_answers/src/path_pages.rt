@@ -1,17 +1,18 @@
 //! A page of the minimal path sets of a target.
 
 ghost use Rattle.std.specs.Prelude.{◌≡◌, ◌<◌, IfErr, IfOk, OnOk, length};
-ghost use Rattle.phases.specs.Meets.{IsMemory, StopsBut};
+ghost use Rattle.phases.specs.inner.Meets.{IsMemory, StopsBut};
 ghost use Rattle.phases.specs.Phases.{tests};
 ghost use Rattle.plain_values.specs.Order.{IsClear};
 ghost use Rattle.backward_slice.specs.Slices.{IsServed, IsSlice};
 ghost use Rattle.backward_slice.specs.declared.parts.Slice.{Slice as Part};
-ghost use Rattle.cutset_lister.specs.Walks.{all_sets};
-ghost use Rattle.cutset_writer.specs.Pages.{IsReady};
-ghost use Rattle.galileo_writer.specs.TreeText.{HasTextNames};
-ghost use Rattle.path_sets.specs.Duals.{IsWithoutFeedback, dual_of};
+ghost use Rattle.cutset_lister.specs.inner.Walks.{all_sets};
+ghost use Rattle.cutset_writer.specs.inner.Pages.{IsReady};
+ghost use Rattle.galileo_writer.specs.inner.TreeText.{HasTextNames};
+ghost use Rattle.path_sets.specs.Duals.{dual_of};
+ghost use Rattle.path_sets.specs.inner.Duals.{IsWithoutFeedback};
 ghost use Rattle.path_sets.specs.PathSets.{HasLargePaths, IsPathListing};
-ghost use Rattle.system_answers.specs.Prints.{Prints};
+ghost use Rattle.system_answers.specs.inner.Prints.{Prints};
 ghost use Rattle.system_answers.specs.Texts.{dual_page, path_page, slice_of};
 
 use crate::cut_sets::write_listing;

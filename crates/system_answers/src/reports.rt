@@ -6,12 +6,13 @@ ghost use Rattle.phases.specs.declared.status.Status.TheVariants as any_status;
 ghost use Rattle.plain_values.specs.Rising.{RisesWithin};
 ghost use Rattle.fault_system.specs.Listings.{IsListing};
 ghost use Rattle.backward_slice.specs.Slices.{IsSlice};
-ghost use Rattle.cutset_lister.specs.Walks.{IsStarted, all_sets, sets_left};
-ghost use Rattle.cut_reports.specs.Feeding.{IsKept, RoseAt, TakesEach};
+ghost use Rattle.cutset_lister.specs.inner.Walks.{IsStarted, all_sets, sets_left};
+ghost use Rattle.cut_reports.specs.Feeding.{IsKept, RoseAt};
+ghost use Rattle.cut_reports.specs.inner.Feeding.{TakesEach};
 ghost use Rattle.cut_reports.specs.Places.{AtChosen, is_among};
 ghost use Rattle.cut_reports.specs.Texts.{reports_text};
 ghost use Rattle.system_answers.specs.Texts.{reports_of};
-ghost use Rattle.system_answers.specs.Prints.{EndsReports, IsReportEnd};
+ghost use Rattle.system_answers.specs.inner.Prints.{EndsReports, IsReportEnd};
 ghost use Rattle.system_answers.specs.Voices.{labels, voices_of};
 
 use crate::cut_sets::listing_of;

@@ -1,7 +1,7 @@
 //! The fact that the target names.
 
 ghost use Rattle.std.specs.Prelude.{◌↔◌, IsTrue};
-ghost use Rattle.phases.specs.Meets.{Meets};
+ghost use Rattle.phases.specs.inner.Meets.{Meets};
 ghost use Rattle.system_answers.specs.Targets.{HasName};
 ghost use Rattle.system_answers.specs.Texts.{target_of};
 

@@ -1,14 +1,16 @@
 //! The tree of a target.
 
 ghost use Rattle.std.specs.Prelude.{◌≡◌, ℕ, List, IfErr, IfOk, IsErrOf, OnErr, OnOk};
-ghost use Rattle.phases.specs.Meets.{StopsBut, IsMemory};
+ghost use Rattle.phases.specs.inner.Meets.{StopsBut, IsMemory};
 ghost use Rattle.fta_outside.specs.Outside.{Rose, TookPrefix, with_bytes};
 ghost use Rattle.backward_slice.specs.Slices.{IsSlice};
-ghost use Rattle.galileo_writer.specs.TreeText.{AreRates, HasTextNames, tree_text};
+ghost use Rattle.galileo_writer.specs.TreeText.{tree_text};
+ghost use Rattle.galileo_writer.specs.inner.TreeText.{AreRates, HasTextNames};
 ghost use Rattle.property_reader.specs.declared.rate.Rate.{Rate as AnyRate};
-ghost use Rattle.round_gates.specs.Targets.{IsTreeFor, IsWellMade};
+ghost use Rattle.round_gates.specs.Targets.{IsTreeFor};
+ghost use Rattle.round_gates.specs.inner.Targets.{IsWellMade};
 ghost use Rattle.system_answers.specs.Texts.{galileo_of};
-ghost use Rattle.system_answers.specs.Prints.{Prints};
+ghost use Rattle.system_answers.specs.inner.Prints.{Prints};
 ghost use Rattle.system_answers.specs.Trees.{IsTreeText};
 
 use backward_slice::Slice;

@@ -9,8 +9,8 @@ use Rattle.backward_slice.specs.Slices.{HasItsCauses, DependsOn}
 use Rattle.fault_system.proofs.Occurrences.{occurs-in_range, fact-in_range}
 use Rattle.fault_system.proofs.NumberSets.{count-put, member-in, member-set, contained-in_set, set_of-contained}
 use Rattle.dependency_blocks.proofs.Passes.{depends_self, depends_step, depends_then}
-use Rattle.system_review.specs.Occurring.{IsReached}
-use Rattle.system_review.specs.Marks.{Adds, is_done, IsMarking, IsMarkingBut}
+use Rattle.system_review.specs.inner.Occurring.{IsReached}
+use Rattle.system_review.specs.inner.Marks.{Adds, is_done, IsMarking, IsMarkingBut}
 use Rattle.system_review.specs.declared.reaching.Reaching.{Reaching}
 use Rattle.system_review.proofs.Occurs.{one_fact}
 

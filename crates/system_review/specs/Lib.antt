@@ -1,7 +1,1 @@
-pub mod Listed
-pub mod Possible
-pub mod Alone
-pub mod Occurring
-pub mod Loops
-pub mod Marks
-pub mod Steps
+pub mod inner

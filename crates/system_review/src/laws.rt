@@ -2,7 +2,7 @@
 
 ghost use Rattle.std.specs.Prelude.{◌≡◌, ℕ, List, length};
 ghost use Rattle.fault_system.specs.Systems.{System};
-ghost use Rattle.system_review.specs.Alone.{HoldTheSame, IsSaid, Joins};
+ghost use Rattle.system_review.specs.inner.Alone.{HoldTheSame, IsSaid, Joins};
 
 /// Nothing is lost where each event and each fact that may come about of those that a system leaves out makes its fact hold by
 /// itself: the same facts hold in the system that has them beside what the other one says.

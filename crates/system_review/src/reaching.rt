@@ -4,8 +4,8 @@ ghost use Rattle.std.specs.Prelude.{◌≡◌, ◌↔◌, ◌<◌, ◌+◌, ◌=
 ghost use Rattle.std.specs.List.{list_any};
 ghost use Rattle.fault_system.specs.Truth.{Has, member, count_true, occurs, set_of};
 ghost use Rattle.fault_system.specs.Systems.{IsSystem};
-ghost use Rattle.system_review.specs.Occurring.{IsReached};
-ghost use Rattle.system_review.specs.Marks.{Adds, IsMarking, IsMarkingBut};
+ghost use Rattle.system_review.specs.inner.Occurring.{IsReached};
+ghost use Rattle.system_review.specs.inner.Marks.{Adds, IsMarking, IsMarkingBut};
 
 use fault_system::{Bits, FaultSystem, Formula};
 use plain_values::Mem;

@@ -7,17 +7,17 @@ use Rattle.plain_values.proofs.Rising.{rises-push}
 use Rattle.fault_system.specs.Truth.{NumberSet, Has, set_of}
 use Rattle.fault_system.specs.Systems.{System, Holds}
 use Rattle.fault_system.specs.CutSets.{IsCutSet, IsEventSet}
-use Rattle.fault_system.specs.Listings.{listing}
+use Rattle.fault_system.specs.inner.Listings.{listing}
 use Rattle.fault_system.proofs.CutSetLaws.{Holds-grows}
 use Rattle.fault_system.proofs.ListingLaws.{covers, length_rising, listing-exact}
 use Rattle.fault_system.proofs.NumberSets.{RisesWithin-at, contained-in_set}
 use Rattle.dependency_blocks.proofs.AllFacts.{below-contained}
-use Rattle.zdd_store.specs.Family.{Family}
-use Rattle.zdd_store.specs.Store.{Families, IsIn, IsSound, family_at, family_of}
+use Rattle.zdd_store.specs.inner.Family.{Family}
+use Rattle.zdd_store.specs.inner.Store.{Families, IsIn, IsSound, family_at, family_of}
 use Rattle.zdd_store.specs.declared.id.Id.{Id}
 use Rattle.zdd_store.proofs.Orders.{contains_first}
-use Rattle.cutset_engine.specs.Families.{HasMinimalCutSets}
-use Rattle.target_orders.specs.Orders.{HoldsWithin, MayHold, NeedsAtLeast}
+use Rattle.cutset_engine.specs.inner.Families.{HasMinimalCutSets}
+use Rattle.target_orders.specs.inner.Orders.{HoldsWithin, MayHold, NeedsAtLeast}
 
 rises-below : (count : ℕ) → RisesWithin 0 count (numbers_below count)
 rises-below zero = tt

@@ -1,9 +1,9 @@
 //! A table of small texts by the sample grammar: what each gives, or its dead place.
 
 ghost use Rattle.std.specs.Prelude.{[], ◌∷◌, codes};
-ghost use Rattle.grammar_rules.specs.Reader.{Gives, Begins};
+ghost use Rattle.grammar_rules.specs.inner.Reader.{Gives, Begins};
 ghost use Rattle.grammar_rules.specs.Tokens.{is_identifier, is_sign};
-ghost use Rattle.text_tests.specs.Sample.{reserved, name, further_name, further_name-takes, uses, dotted, item, skipped, annexed, sample};
+ghost use Rattle.text_tests.specs.inner.Sample.{reserved, name, further_name, further_name-takes, uses, dotted, item, skipped, annexed, sample};
 
 use aadl_lexer::tokens;
 use aadl_syntax::{Identifier, TokenKind, TokenList};
@@ -15,14 +15,14 @@ use std::alloc::Global;
 
 const RESERVED: [&[u8]; 4] = [b"use", b"item", b"skip", b"end"];
 
-#[tactic(auto, unfolding(crate::specs::Sample::name, crate::specs::Sample::reserved))]
+#[tactic(auto, unfolding(crate::specs::inner::Sample::name, crate::specs::inner::Sample::reserved))]
 fn name(reader: &mut Reader) -> Result<Identifier, ReadError>
     ensures { Gives result name reader.old reader.new }
 {
     reader.identifier(&RESERVED)
 }
 
-#[tactic(auto, unfolding(crate::specs::Sample::reserved))]
+#[tactic(auto, unfolding(crate::specs::inner::Sample::reserved))]
 fn name_at(reader: &mut Reader, k: usize) -> bool
     ensures { Begins result k (is_identifier reserved ∷ []) reader.old reader.new }
 {
@@ -42,7 +42,7 @@ impl Parts for FurtherNames {
         reader.sign_at(0, b"::") && name_at(reader, 1)
     }
 
-    #[tactic(auto, unfolding(crate::specs::Sample::further_name))]
+    #[tactic(auto, unfolding(crate::specs::inner::Sample::further_name))]
     fn part(reader: &mut Reader) -> Result<Identifier, ReadError> {
         reader.sign(b"::")?;
         name(reader)
@@ -51,7 +51,7 @@ impl Parts for FurtherNames {
     ghost takes_tokens = { further_name-takes };
 }
 
-#[tactic(auto, unfolding(crate::specs::Sample::uses))]
+#[tactic(auto, unfolding(crate::specs::inner::Sample::uses))]
 fn uses(reader: &mut Reader) -> Result<List<Identifier>, ReadError>
     ensures { Gives result uses reader.old reader.new }
 {
@@ -62,7 +62,7 @@ fn uses(reader: &mut Reader) -> Result<List<Identifier>, ReadError>
     Ok(names)
 }
 
-#[tactic(auto, unfolding(crate::specs::Sample::dotted))]
+#[tactic(auto, unfolding(crate::specs::inner::Sample::dotted))]
 fn dotted(reader: &mut Reader, first: Identifier) -> Result<List<Identifier>, ReadError>
     ensures { Gives result (dotted first) reader.old reader.new }
 {
@@ -75,7 +75,7 @@ fn dotted(reader: &mut Reader, first: Identifier) -> Result<List<Identifier>, Re
     Ok(names)
 }
 
-#[tactic(auto, unfolding(crate::specs::Sample::item))]
+#[tactic(auto, unfolding(crate::specs::inner::Sample::item))]
 fn item(reader: &mut Reader) -> Result<List<Identifier>, ReadError>
     ensures { Gives result item reader.old reader.new }
 {
@@ -87,7 +87,7 @@ fn item(reader: &mut Reader) -> Result<List<Identifier>, ReadError>
     Ok(names)
 }
 
-#[tactic(auto, unfolding(crate::specs::Sample::skipped))]
+#[tactic(auto, unfolding(crate::specs::inner::Sample::skipped))]
 fn skipped(reader: &mut Reader) -> Result<List<Identifier>, ReadError>
     ensures { Gives result skipped reader.old reader.new }
 {
@@ -98,7 +98,7 @@ fn skipped(reader: &mut Reader) -> Result<List<Identifier>, ReadError>
     Ok(List::new(reader.alloc()))
 }
 
-#[tactic(auto, unfolding(crate::specs::Sample::annexed))]
+#[tactic(auto, unfolding(crate::specs::inner::Sample::annexed))]
 fn annexed(reader: &mut Reader) -> Result<List<Identifier>, ReadError>
     ensures { Gives result annexed reader.old reader.new }
 {
@@ -116,7 +116,7 @@ impl Grammar for Sample {
 
     ghost rule = { sample };
 
-    #[tactic(auto, unfolding(crate::specs::Sample::sample))]
+    #[tactic(auto, unfolding(crate::specs::inner::Sample::sample))]
     fn read(reader: &mut Reader) -> Result<List<Identifier>, ReadError> {
         if reader.word_at(0, b"use") {
             return uses(reader);

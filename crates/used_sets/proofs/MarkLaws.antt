@@ -4,7 +4,7 @@ use Rattle.plain_values.specs.declared.refusal.Refusal.{Refusal}
 use Rattle.plain_values.specs.Order.{least, nearer}
 use Rattle.plain_values.proofs.OrderLaws.{noted-more}
 use Rattle.plain_values.specs.Numbered.{numbered_from}
-use Rattle.used_sets.specs.Marks.{Marked}
+use Rattle.used_sets.specs.inner.Marks.{Marked}
 
 or-assoc : (a b c : Bool) → ((a || b) || c) ≡ (a || (b || c))
 or-assoc true b c = refl

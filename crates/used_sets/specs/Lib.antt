@@ -1,3 +1,3 @@
 pub mod Sets
 pub mod Used
-pub mod Marks
+pub mod inner

@@ -2,7 +2,7 @@ ghost use Rattle.std.specs.Prelude.{◌≡◌, ◌++◌, ◌&&◌, [], cond, fal
 ghost use Rattle.plain_values.specs.Order.{least, nearer};
 ghost use Rattle.error_types.specs.Libraries.{unknown_libraries};
 ghost use Rattle.plain_values.specs.Numbered.{numbered_from};
-ghost use Rattle.used_sets.specs.Marks.{Marked};
+ghost use Rattle.used_sets.specs.inner.Marks.{Marked};
 ghost use Rattle.used_sets.specs.Used.{behavior_refusals, behavior_uses, clause_set_refusals, effective_refusals, refusals_with, is_some_set, is_used, item_refusals, items_refusals, machine_set_refusals, machine_sets, propagation_refusals, propagation_uses, set_fault, sets_refusals, use_clause, used_set_refusals, uses_clause, uses_fault};
 
 use crate::items::HasSets;

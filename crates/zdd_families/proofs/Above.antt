@@ -2,8 +2,8 @@
 use Rattle.std.proofs.Common.{◌≡◌, ℕ, ◌+◌, ◌<◌, ◌≤◌, ◌⊎◌, length, Bool, true, false, cond, List, [], ◌∷◌, filter, Contains, refl, sym, ap, ◌∙◌, subst, inl, inr, arith}
 use Rattle.std.specs.Prelude.{nat_le}
 use Rattle.std.proofs.lemmas.Bool.{false≢true, leb-true, le-leb}
-use Rattle.zdd_store.specs.Family.{Family, least_of, least_number, has, is_within, covers}
-use Rattle.zdd_store.specs.Answers.{IsLeastFamily}
+use Rattle.zdd_store.specs.inner.Family.{Family, least_of, least_number, has, is_within, covers}
+use Rattle.zdd_store.specs.inner.Answers.{IsLeastFamily}
 use Rattle.zdd_store.proofs.Orders.{contains_first, contains_rest}
 use Rattle.zdd_families.proofs.Booleans.{same_test}
 use Rattle.zdd_families.proofs.Subsets.{has_first, has_rest, has_cases, has_none, least-has, within_has, within_from, within_self, within_trans}

@@ -3,14 +3,14 @@ use Rattle.std.proofs.Common.{◌≡◌, ℕ, ◌<◌, ◌≤◌, min, Bool, tru
 use Rattle.std.specs.Prelude.{IsTrue}
 use Rattle.std.specs.declared.alloc.AllocError.{AllocError}
 use Rattle.std.proofs.lemmas.Bool.{false≢true}
-use Rattle.zdd_store.specs.Family.{Family, branch, least_number, has, covers, sets_without}
-use Rattle.zdd_store.specs.Store.{Families, IsIn, family_at, family_of, family_with, Keeps, Fits}
-use Rattle.zdd_store.specs.Answers.{IsCovering, IsWide}
+use Rattle.zdd_store.specs.inner.Family.{Family, branch, least_number, has, covers, sets_without}
+use Rattle.zdd_store.specs.inner.Store.{Families, IsIn, family_at, family_of, family_with, Keeps, Fits}
+use Rattle.zdd_store.specs.inner.Answers.{IsCovering, IsWide}
 use Rattle.zdd_store.specs.declared.id.Id.{Id}
 use Rattle.zdd_store.specs.declared.id.Node.{Node}
 use Rattle.zdd_store.proofs.Branches.{branch-empty, same_branch, le-least_number-branch}
-use Rattle.zdd_families.specs.Steps.{IsFound, Answered, IsSplit, joined}
-use Rattle.zdd_families.specs.Rising.{ArePartsOf, AreBothParts}
+use Rattle.zdd_families.specs.inner.Steps.{IsFound, Answered, IsSplit, joined}
+use Rattle.zdd_families.specs.inner.Rising.{ArePartsOf, AreBothParts}
 use Rattle.zdd_families.specs.declared.split.Parts.{Parts}
 use Rattle.zdd_families.specs.declared.wide.BothParts.{BothParts}
 use Rattle.zdd_families.proofs.Booleans.{or_left, or_right}

@@ -1,10 +1,10 @@
 -- Families brought into another store.
 use Rattle.std.proofs.Common.{◌≡◌, ℕ, zero, suc, ◌<◌, Bool, true, false, cond, length, Option, Some, Ok, refl, sym, ap, ◌∙◌, subst, arith}
-use Rattle.zdd_store.specs.Family.{Family, branch, least_number}
-use Rattle.zdd_store.specs.Store.{Families, IsIn, family_at, family_of, family_with, Keeps, IsSound}
+use Rattle.zdd_store.specs.inner.Family.{Family, branch, least_number}
+use Rattle.zdd_store.specs.inner.Store.{Families, IsIn, family_at, family_of, family_with, Keeps, IsSound}
 use Rattle.zdd_store.specs.declared.id.Id.{Id}
 use Rattle.zdd_store.specs.declared.id.Node.{Node}
-use Rattle.zdd_families.specs.Copies.{IsCopy, KnowsCopies, Copied}
+use Rattle.zdd_families.specs.inner.Copies.{IsCopy, KnowsCopies, Copied}
 use Rattle.zdd_families.proofs.Ways.{Keeps_same}
 use Rattle.zdd_families.proofs.Pairs.{found_kept}
 

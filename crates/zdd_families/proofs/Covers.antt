@@ -1,7 +1,7 @@
 -- What families cover: of branches, of filters, and by their members.
 use Rattle.std.proofs.Common.{◌≡◌, ℕ, ◌<◌, ◌≤◌, ◌⊎◌, min, Bool, true, false, ◌&&◌, ◌||◌, List, [], ◌∷◌, Contains, refl, sym, ap, ◌∙◌, inl, inr, arith}
 use Rattle.std.proofs.lemmas.Bool.{false≢true}
-use Rattle.zdd_store.specs.Family.{Family, branch, least_of, least_number, has, is_within, covers}
+use Rattle.zdd_store.specs.inner.Family.{Family, branch, least_of, least_number, has, is_within, covers}
 use Rattle.zdd_store.proofs.Branches.{with_var, branch-with_var}
 use Rattle.zdd_store.proofs.Orders.{first_or_rest, contains_first, contains_rest, contains_none}
 use Rattle.zdd_families.proofs.Booleans.{or_left, or_right, or_cases, same_test}

@@ -2,11 +2,11 @@
 use Rattle.std.proofs.Common.{◌≡◌, ℕ, ◌≤◌, min, Bool, true, false, not, ◌&&◌, ◌||◌, List, Contains, Result, Ok, Err, refl, sym, ap, ◌∙◌, subst, arith}
 use Rattle.std.specs.declared.alloc.AllocError.{AllocError}
 use Rattle.std.proofs.lemmas.Bool.{false≢true}
-use Rattle.zdd_store.specs.Family.{Family, least_number, is_within, covers, sets_without, IsAntichain}
-use Rattle.zdd_store.specs.Store.{Families, IsIn, family_of, Keeps}
-use Rattle.zdd_store.specs.Answers.{IsLeastFamily, IsAsked, IsLeastUpTo, IsProductUpTo}
+use Rattle.zdd_store.specs.inner.Family.{Family, least_number, is_within, covers, sets_without, IsAntichain}
+use Rattle.zdd_store.specs.inner.Store.{Families, IsIn, family_of, Keeps}
+use Rattle.zdd_store.specs.inner.Answers.{IsLeastFamily, IsAsked, IsLeastUpTo, IsProductUpTo}
 use Rattle.zdd_store.specs.declared.id.Id.{Id}
-use Rattle.zdd_families.specs.Steps.{IsFound, Answered, IsHalved, AreHalves, least_of_halves, of_halves, either, both}
+use Rattle.zdd_families.specs.inner.Steps.{IsFound, Answered, IsHalved, AreHalves, least_of_halves, of_halves, either, both}
 use Rattle.zdd_families.specs.declared.halving.Halves.{Halves}
 use Rattle.zdd_families.proofs.Booleans.{or_left, or_right, same_test}
 use Rattle.zdd_families.proofs.Subsets.{within_self}

@@ -2,11 +2,11 @@
 -- sets that contain those of another family, branch by branch.
 use Rattle.std.proofs.Common.{◌≡◌, ℕ, ◌<◌, ◌≤◌, ◌⊎◌, min, Bool, true, false, not, cond, ◌&&◌, ◌||◌, List, [], ◌∷◌, filter, Contains, refl, sym, ap, ◌∙◌, subst, inl, inr, arith}
 use Rattle.std.proofs.lemmas.Bool.{false≢true}
-use Rattle.zdd_store.specs.Family.{Family, branch, least_of, least_number, has, is_within, covers, IsAntichain, sets_without}
+use Rattle.zdd_store.specs.inner.Family.{Family, branch, least_of, least_number, has, is_within, covers, IsAntichain, sets_without}
 use Rattle.zdd_store.proofs.Branches.{with_var, branch-with_var}
 use Rattle.zdd_store.proofs.Orders.{first_or_rest, contains_first, contains_rest, contains_none}
-use Rattle.zdd_store.specs.Answers.{IsLeastFamily}
-use Rattle.zdd_families.specs.Steps.{joined}
+use Rattle.zdd_store.specs.inner.Answers.{IsLeastFamily}
+use Rattle.zdd_families.specs.inner.Steps.{joined}
 use Rattle.zdd_families.proofs.Booleans.{or_left, or_right, or_cases, not_true, true_or_false, same_test}
 use Rattle.zdd_families.proofs.Subsets.{has_first, has_rest, has_cases, within_has, within_from, within_self, within-without}
 use Rattle.zdd_families.proofs.Covers.{covers_member, member_covers, covers_more, member-greater, covers-with, covers-branch}

@@ -1,10 +1,10 @@
 -- The ways through the operations on two families of minimal sets.
 use Rattle.std.proofs.Common.{◌≡◌, ℕ, ◌<◌, ◌≤◌, min, Bool, true, false, ◌&&◌, ◌||◌, List, length, Result, Ok, Err, refl, sym, ap, ◌∙◌, subst, arith}
-use Rattle.zdd_store.specs.Family.{Family, branch, least_number, has, is_within, covers, IsAntichain}
-use Rattle.zdd_store.specs.Store.{Families, IsIn, family_at, family_of, Keeps, IsSound}
-use Rattle.zdd_store.specs.Answers.{IsLeastFamily}
+use Rattle.zdd_store.specs.inner.Family.{Family, branch, least_number, has, is_within, covers, IsAntichain}
+use Rattle.zdd_store.specs.inner.Store.{Families, IsIn, family_at, family_of, Keeps, IsSound}
+use Rattle.zdd_store.specs.inner.Answers.{IsLeastFamily}
 use Rattle.zdd_store.specs.declared.id.Id.{Id}
-use Rattle.zdd_families.specs.Steps.{IsFound, Answered, IsSplit, CanCross, AnyFamily, joined, either, both}
+use Rattle.zdd_families.specs.inner.Steps.{IsFound, Answered, IsSplit, CanCross, AnyFamily, joined, either, both}
 use Rattle.zdd_families.specs.declared.split.Parts.{Parts}
 use Rattle.zdd_families.proofs.Covers.{covers-branch}
 use Rattle.zdd_families.proofs.Above.{above, covers-above, least-bound, least_number-most}

@@ -1,14 +1,14 @@
 -- The ways through the product of two families of minimal sets, as far as sets are asked for.
 use Rattle.std.proofs.Common.{◌≡◌, ℕ, ◌+◌, ◌<◌, ◌≤◌, min, Bool, true, false, ◌&&◌, ◌||◌, List, length, Result, Ok, Err, refl, sym, ap, ◌∙◌, subst, arith}
 use Rattle.std.specs.declared.alloc.AllocError.{AllocError}
-use Rattle.zdd_store.specs.Family.{Family, least_number, has, covers, IsAntichain}
-use Rattle.zdd_store.specs.Store.{Families, IsIn, family_at, family_of, Keeps, IsSound}
-use Rattle.zdd_store.specs.Answers.{IsLeastFamily, IsAsked, IsLeastUpTo, IsProductUpTo}
+use Rattle.zdd_store.specs.inner.Family.{Family, least_number, has, covers, IsAntichain}
+use Rattle.zdd_store.specs.inner.Store.{Families, IsIn, family_at, family_of, Keeps, IsSound}
+use Rattle.zdd_store.specs.inner.Answers.{IsLeastFamily, IsAsked, IsLeastUpTo, IsProductUpTo}
 use Rattle.zdd_store.specs.declared.id.Id.{Id}
 use Rattle.zdd_store.proofs.Orders.{contains_none}
 use Rattle.zdd_store.proofs.Terminals.{least-empty}
-use Rattle.zdd_families.specs.Steps.{IsFound, Answered, IsSplit, CanCross, IsOperand, joined, either, both, across}
-use Rattle.zdd_families.specs.Rows.{with_part}
+use Rattle.zdd_families.specs.inner.Steps.{IsFound, Answered, IsSplit, CanCross, IsOperand, joined, either, both, across}
+use Rattle.zdd_families.specs.inner.Rows.{with_part}
 use Rattle.zdd_families.specs.declared.split.Parts.{Parts}
 use Rattle.zdd_families.proofs.Covers.{covers-branch}
 use Rattle.zdd_families.proofs.Above.{above, above-shorter, covers-above, least_number-most}

@@ -3,8 +3,8 @@ use Rattle.std.proofs.Common.{◌≡◌, ℕ, ◌+◌, ◌<◌, ◌≤◌, Bool,
 use Rattle.std.specs.Prelude.{nat_le}
 use Rattle.std.specs.List.{list_any, AllByRecursion}
 use Rattle.std.proofs.lemmas.Bool.{leb-false}
-use Rattle.zdd_store.specs.Family.{Family, has, is_within, covers, sets_without, IsRising, IsAntichain}
-use Rattle.zdd_store.specs.Answers.{HasAtLeast, HasAtMost, IsAsked, IsLeastUpTo, sets_up_to}
+use Rattle.zdd_store.specs.inner.Family.{Family, has, is_within, covers, sets_without, IsRising, IsAntichain}
+use Rattle.zdd_store.specs.inner.Answers.{HasAtLeast, HasAtMost, IsAsked, IsLeastUpTo, sets_up_to}
 use Rattle.zdd_store.proofs.Orders.{all_contained}
 use Rattle.zdd_families.proofs.Subsets.{has_first, has_rest, has_cases, has_none, least-has, within_has, within_from}
 use Rattle.zdd_families.proofs.Covers.{member_covers}

@@ -2,13 +2,13 @@
 use Rattle.std.proofs.Common.{◌≡◌, ℕ, zero, suc, ◌-◌, ◌<◌, ◌≤◌, Bool, true, false, List, [], ◌∷◌, length, filter, Contains, Ok, refl, sym, ap, ◌∙◌, subst, arith, eqb-true, eq-eqb}
 use Rattle.std.specs.Prelude.{nat_le, ◌==◌}
 use Rattle.std.proofs.lemmas.Bool.{leb-true, le-leb}
-use Rattle.zdd_store.specs.Family.{Family, branch, least_number}
-use Rattle.zdd_store.specs.Store.{Families, IsIn, family_at, family_of, Keeps, IsSound}
-use Rattle.zdd_store.specs.Answers.{HasAtLeast, HasAtMost, sets_up_to, sets_of}
+use Rattle.zdd_store.specs.inner.Family.{Family, branch, least_number}
+use Rattle.zdd_store.specs.inner.Store.{Families, IsIn, family_at, family_of, Keeps, IsSound}
+use Rattle.zdd_store.specs.inner.Answers.{HasAtLeast, HasAtMost, sets_up_to, sets_of}
 use Rattle.zdd_store.specs.declared.id.Id.{Id}
 use Rattle.zdd_store.proofs.Branches.{branch-empty}
 use Rattle.zdd_store.proofs.Orders.{all_contained}
-use Rattle.zdd_families.specs.Steps.{IsFound, Answered, IsSplit}
+use Rattle.zdd_families.specs.inner.Steps.{IsFound, Answered, IsSplit}
 use Rattle.zdd_families.specs.declared.split.Parts.{Parts}
 use Rattle.zdd_families.proofs.Ways.{answered, Keeps_same}
 use Rattle.zdd_families.proofs.Booleans.{same_test}

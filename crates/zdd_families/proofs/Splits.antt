@@ -1,14 +1,14 @@
 -- The least number of a node's family, and the families of EMPTY and UNIT.
 use Rattle.std.proofs.Common.{◌≡◌, ℕ, zero, suc, ◌<◌, [], ◌∷◌, refl, sym, ap, ◌∙◌, subst, arith}
-use Rattle.zdd_store.specs.Family.{Family, branch, least_number, IsAntichain}
-use Rattle.zdd_store.specs.Store.{Families, IsIn, family_at, family_of, family_with, Fits, IsSound}
+use Rattle.zdd_store.specs.inner.Family.{Family, branch, least_number, IsAntichain}
+use Rattle.zdd_store.specs.inner.Store.{Families, IsIn, family_at, family_of, family_with, Fits, IsSound}
 use Rattle.zdd_store.specs.declared.id.Id.{Id}
 use Rattle.zdd_store.specs.declared.id.Node.{Node}
 use Rattle.zdd_store.proofs.Branches.{branch-empty, least_number-branch}
 use Rattle.zdd_store.proofs.Growing.{some_set}
 use Rattle.zdd_store.proofs.Terminals.{least-empty, least-unit}
 use Rattle.zdd_store.proofs.Orders.{contains_none}
-use Rattle.zdd_families.specs.Steps.{IsSplit}
+use Rattle.zdd_families.specs.inner.Steps.{IsSplit}
 use Rattle.zdd_families.proofs.Joins.{antichain-lo, antichain-hi}
 
 -- the least number of a node's family is its variable

@@ -2,7 +2,7 @@
 use Rattle.std.proofs.Common.{◌≡◌, ℕ, ◌<◌, ◌≤◌, ◌⊎◌, min, Bool, true, false, List, [], ◌∷◌, refl, sym, ap, ◌∙◌, subst, inl, inr, arith, eqb-true, eq-eqb}
 use Rattle.std.specs.Prelude.{◌==◌}
 use Rattle.std.proofs.lemmas.Bool.{false≢true}
-use Rattle.zdd_store.specs.Family.{least_of, has, is_within, IsRising}
+use Rattle.zdd_store.specs.inner.Family.{least_of, has, is_within, IsRising}
 use Rattle.zdd_families.proofs.Booleans.{or_left, or_right, or_cases, and_made, and_cases, same_test}
 
 -- a set that begins with a number has it, and what the rest has

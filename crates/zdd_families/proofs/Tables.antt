@@ -5,13 +5,13 @@ use Rattle.std.proofs.lemmas.List.{get_or_default, get_or-set_same, get_or-set_o
 use Rattle.std.proofs.Math.ListN.{get_or-append}
 use Rattle.std.proofs.Math.Seq.{get_or-append_seam}
 use Rattle.std.proofs.lemmas.Bool.{cases_eq, cases_lt, false≢true}
-use Rattle.zdd_store.specs.Family.{Family, covers, IsAntichain, IsRising}
-use Rattle.zdd_store.specs.Store.{Families, IsIn, family_at, family_of, Keeps, IsSound}
-use Rattle.zdd_store.specs.Answers.{IsLeastUpTo}
+use Rattle.zdd_store.specs.inner.Family.{Family, covers, IsAntichain, IsRising}
+use Rattle.zdd_store.specs.inner.Store.{Families, IsIn, family_at, family_of, Keeps, IsSound}
+use Rattle.zdd_store.specs.inner.Answers.{IsLeastUpTo}
 use Rattle.zdd_store.specs.declared.id.Id.{Id}
-use Rattle.zdd_families.specs.Steps.{IsFound}
-use Rattle.zdd_families.specs.Unions.{some_of}
-use Rattle.zdd_families.specs.Rows.{IsMinimalNumber, IsRow, with_part, IsEntry, IsNextRow}
+use Rattle.zdd_families.specs.inner.Steps.{IsFound}
+use Rattle.zdd_families.specs.inner.Unions.{some_of}
+use Rattle.zdd_families.specs.inner.Rows.{IsMinimalNumber, IsRow, with_part, IsEntry, IsNextRow}
 use Rattle.zdd_store.proofs.Orders.{first_or_rest, contains_none}
 use Rattle.zdd_families.proofs.Pairs.{apart_kept, found_kept, covers-empty, covers-unit}
 use Rattle.zdd_families.proofs.Products.{retest_to}

@@ -3,11 +3,11 @@ use Rattle.std.proofs.Common.{◌≡◌, ℕ, zero, suc, ◌+◌, ◌<◌, ◌�
 use Rattle.std.specs.Prelude.{nat_lt, ◌==◌, if◌then◌else◌}
 use Rattle.std.specs.List.{AllByRecursion}
 use Rattle.std.proofs.lemmas.Bool.{false≢true, lt-ltb, ltb-true, cases_lt, eqb-false}
-use Rattle.zdd_store.specs.Family.{Family, least_of, has, is_within, covers, IsRising, IsMinimal}
-use Rattle.zdd_store.specs.Answers.{IsLeastFamily}
+use Rattle.zdd_store.specs.inner.Family.{Family, least_of, has, is_within, covers, IsRising, IsMinimal}
+use Rattle.zdd_store.specs.inner.Answers.{IsLeastFamily}
 use Rattle.zdd_store.proofs.Orders.{all_contained}
-use Rattle.zdd_families.specs.Unions.{with_number, union_of, HasMinimalSets, IsInEither, IsUnionOfBoth, IsUnionOfSome, some_of}
-use Rattle.zdd_families.specs.Steps.{either, both}
+use Rattle.zdd_families.specs.inner.Unions.{with_number, union_of, HasMinimalSets, IsInEither, IsUnionOfBoth, IsUnionOfSome, some_of}
+use Rattle.zdd_families.specs.inner.Steps.{either, both}
 use Rattle.zdd_families.proofs.Booleans.{or_left, or_right, or_cases, and_made, and_cases}
 use Rattle.zdd_families.proofs.Subsets.{has_first, has_rest, has_cases, has_none, within_has, within_from, within_self, within_trans, same_rising}
 use Rattle.zdd_families.proofs.Covers.{covers_member, member_covers}

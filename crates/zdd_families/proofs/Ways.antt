@@ -2,12 +2,12 @@
 use Rattle.std.proofs.Common.{◌≡◌, ℕ, ◌<◌, ◌≤◌, Bool, ◌&&◌, ◌||◌, List, [], length, Result, Ok, Err, refl, sym, ap, ◌∙◌, subst, arith}
 use Rattle.std.specs.Prelude.{IfOk}
 use Rattle.std.specs.declared.alloc.AllocError.{AllocError}
-use Rattle.zdd_store.specs.Family.{Family, branch, least_number, has, covers, IsAntichain, sets_without}
-use Rattle.zdd_store.specs.Store.{Families, IsIn, family_at, family_of, Keeps, IsSound}
-use Rattle.zdd_store.specs.Answers.{IsLeastFamily, AnswersOne, AnswersTwo}
+use Rattle.zdd_store.specs.inner.Family.{Family, branch, least_number, has, covers, IsAntichain, sets_without}
+use Rattle.zdd_store.specs.inner.Store.{Families, IsIn, family_at, family_of, Keeps, IsSound}
+use Rattle.zdd_store.specs.inner.Answers.{IsLeastFamily, AnswersOne, AnswersTwo}
 use Rattle.zdd_store.specs.declared.id.Id.{Id}
 use Rattle.zdd_store.proofs.Branches.{le-least_number-branch, branch-empty}
-use Rattle.zdd_families.specs.Steps.{IsFound, Answered, IsSplit, joined}
+use Rattle.zdd_families.specs.inner.Steps.{IsFound, Answered, IsSplit, joined}
 use Rattle.zdd_families.specs.declared.split.Parts.{Parts}
 use Rattle.zdd_families.proofs.Joins.{least-filter, without-branch, without-none, without-unit, without-same, least-join}
 use Rattle.zdd_families.proofs.Covers.{covers-branch}

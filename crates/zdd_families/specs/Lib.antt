@@ -1,5 +1,1 @@
-pub mod Unions
-pub mod Steps
-pub mod Rows
-pub mod Copies
-pub mod Rising
+pub mod inner

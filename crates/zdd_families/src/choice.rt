@@ -1,9 +1,9 @@
 ghost use Rattle.std.specs.Prelude.{◌≡◌, ◌+◌, ◌<◌, ◌≤◌, ℕ, [], map, length, slice_index_or, IfOk, OnOk, All};
-ghost use Rattle.zdd_store.specs.Store.{IsIn, family_of, Keeps};
-ghost use Rattle.zdd_store.specs.Answers.{IsLeastFamily, IsLeastUpTo};
-ghost use Rattle.zdd_families.specs.Steps.{Answered};
-ghost use Rattle.zdd_families.specs.Unions.{HasMinimalSets, IsUnionOfSome, some_of};
-ghost use Rattle.zdd_families.specs.Rows.{IsMinimalNumber, IsRow, IsNextRow, with_part};
+ghost use Rattle.zdd_store.specs.inner.Store.{IsIn, family_of, Keeps};
+ghost use Rattle.zdd_store.specs.inner.Answers.{IsLeastFamily, IsLeastUpTo};
+ghost use Rattle.zdd_families.specs.inner.Steps.{Answered};
+ghost use Rattle.zdd_families.specs.inner.Unions.{HasMinimalSets, IsUnionOfSome, some_of};
+ghost use Rattle.zdd_families.specs.inner.Rows.{IsMinimalNumber, IsRow, IsNextRow, with_part};
 
 use crate::families::note_minimal;
 use crate::minimal::minimal_sets;

@@ -2,8 +2,8 @@
 
 ghost use Rattle.std.specs.Prelude.{◌≡◌, ◌<◌, IfOk, IfSome};
 ghost use Rattle.std.specs.HashMap.{get};
-ghost use Rattle.zdd_store.specs.Store.{IsIn, Keeps, family_of};
-ghost use Rattle.zdd_families.specs.Copies.{Copied, IsCopy, KnowsCopies};
+ghost use Rattle.zdd_store.specs.inner.Store.{IsIn, Keeps, family_of};
+ghost use Rattle.zdd_families.specs.inner.Copies.{Copied, IsCopy, KnowsCopies};
 
 use crate::split::look;
 use plain_values::Mem;

@@ -1,9 +1,9 @@
 ghost use Rattle.std.specs.Prelude.{◌≡◌, [], ◌∷◌, IfOk, ℕ, List};
-ghost use Rattle.zdd_store.specs.Family.{IsAntichain, covers, sets_without};
-ghost use Rattle.zdd_store.specs.Store.{IsIn, family_of, Keeps};
-ghost use Rattle.zdd_store.specs.Answers.{IsLeastFamily, IsLeastUpTo};
-ghost use Rattle.zdd_families.specs.Steps.{Answered, either, both};
-ghost use Rattle.zdd_families.specs.Unions.{HasMinimalSets, IsInEither, IsUnionOfBoth};
+ghost use Rattle.zdd_store.specs.inner.Family.{IsAntichain, covers, sets_without};
+ghost use Rattle.zdd_store.specs.inner.Store.{IsIn, family_of, Keeps};
+ghost use Rattle.zdd_store.specs.inner.Answers.{IsLeastFamily, IsLeastUpTo};
+ghost use Rattle.zdd_families.specs.inner.Steps.{Answered, either, both};
+ghost use Rattle.zdd_families.specs.inner.Unions.{HasMinimalSets, IsInEither, IsUnionOfBoth};
 
 use crate::minimal::minimal_sets;
 use crate::narrowing::minimal_of_wide;

@@ -1,8 +1,8 @@
 ghost use Rattle.std.specs.Prelude.{◌≡◌, min, IfOk};
-ghost use Rattle.zdd_store.specs.Family.{least_number, IsAntichain};
-ghost use Rattle.zdd_store.specs.Store.{IsIn, family_of, Keeps};
-ghost use Rattle.zdd_store.specs.Answers.{IsLeastUpTo, IsProductUpTo};
-ghost use Rattle.zdd_families.specs.Steps.{Answered, AreHalves, IsHalved, least_of_halves, of_halves};
+ghost use Rattle.zdd_store.specs.inner.Family.{least_number, IsAntichain};
+ghost use Rattle.zdd_store.specs.inner.Store.{IsIn, family_of, Keeps};
+ghost use Rattle.zdd_store.specs.inner.Answers.{IsLeastUpTo, IsProductUpTo};
+ghost use Rattle.zdd_families.specs.inner.Steps.{Answered, AreHalves, IsHalved, least_of_halves, of_halves};
 
 use crate::product::{asked_sets, product_sets};
 use crate::removal::without_sets;

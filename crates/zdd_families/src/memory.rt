@@ -1,6 +1,6 @@
 //! What the store remembers of the operations.
 ghost use Rattle.std.specs.Prelude.{◌≡◌, IfSome, IfOk};
-ghost use Rattle.zdd_store.specs.Answers.{IsAnswer};
+ghost use Rattle.zdd_store.specs.inner.Answers.{IsAnswer};
 
 use plain_values::Mem;
 use zdd_store::{Id, Question, Store};

@@ -1,8 +1,8 @@
 ghost use Rattle.std.specs.Prelude.{◌≡◌, ◌<◌};
-ghost use Rattle.zdd_store.specs.Family.{least_number, IsAntichain, covers};
-ghost use Rattle.zdd_store.specs.Store.{IsIn, family_of};
-ghost use Rattle.zdd_store.specs.Answers.{IsLeastFamily};
-ghost use Rattle.zdd_families.specs.Steps.{Answered, joined};
+ghost use Rattle.zdd_store.specs.inner.Family.{least_number, IsAntichain, covers};
+ghost use Rattle.zdd_store.specs.inner.Store.{IsIn, family_of};
+ghost use Rattle.zdd_store.specs.inner.Answers.{IsLeastFamily};
+ghost use Rattle.zdd_families.specs.inner.Steps.{Answered, joined};
 
 use crate::memory::{known, note};
 use crate::removal::without_sets;

@@ -1,9 +1,9 @@
 //! The minimal sets of wide families.
 ghost use Rattle.std.specs.Prelude.{◌≡◌, ◌<◌, ℕ, List};
-ghost use Rattle.zdd_store.specs.Family.{least_number, sets_without, IsAntichain, covers};
-ghost use Rattle.zdd_store.specs.Store.{IsIn, family_of};
-ghost use Rattle.zdd_store.specs.Answers.{IsLeastFamily};
-ghost use Rattle.zdd_families.specs.Steps.{Answered, joined};
+ghost use Rattle.zdd_store.specs.inner.Family.{least_number, sets_without, IsAntichain, covers};
+ghost use Rattle.zdd_store.specs.inner.Store.{IsIn, family_of};
+ghost use Rattle.zdd_store.specs.inner.Answers.{IsLeastFamily};
+ghost use Rattle.zdd_families.specs.inner.Steps.{Answered, joined};
 
 use crate::memory::{known, note};
 use crate::removal::{REMEMBERED, are_too_small};

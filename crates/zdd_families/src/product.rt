@@ -1,8 +1,8 @@
 ghost use Rattle.std.specs.Prelude.{◌≡◌, ◌+◌, ◌<◌, ◌≤◌, min, ℕ, List, false, IfNone, IfSome, IsTrue};
-ghost use Rattle.zdd_store.specs.Family.{least_number, IsAntichain, covers};
-ghost use Rattle.zdd_store.specs.Store.{IsIn, family_of};
-ghost use Rattle.zdd_store.specs.Answers.{IsAsked, IsLeastUpTo, IsProductUpTo};
-ghost use Rattle.zdd_families.specs.Steps.{Answered, both, across, CanCross, IsOperand};
+ghost use Rattle.zdd_store.specs.inner.Family.{least_number, IsAntichain, covers};
+ghost use Rattle.zdd_store.specs.inner.Store.{IsIn, family_of};
+ghost use Rattle.zdd_store.specs.inner.Answers.{IsAsked, IsLeastUpTo, IsProductUpTo};
+ghost use Rattle.zdd_families.specs.inner.Steps.{Answered, both, across, CanCross, IsOperand};
 
 use crate::halving::whole_product;
 use crate::memory::{keep, kept, known, note};

@@ -1,7 +1,7 @@
 ghost use Rattle.std.specs.Prelude.{◌≡◌, IsTrue};
-ghost use Rattle.zdd_store.specs.Family.{least_number, sets_without};
-ghost use Rattle.zdd_store.specs.Store.{IsIn, family_of};
-ghost use Rattle.zdd_families.specs.Steps.{Answered};
+ghost use Rattle.zdd_store.specs.inner.Family.{least_number, sets_without};
+ghost use Rattle.zdd_store.specs.inner.Store.{IsIn, family_of};
+ghost use Rattle.zdd_families.specs.inner.Steps.{Answered};
 
 use crate::memory::{known, note};
 use crate::split::{first_var, split};

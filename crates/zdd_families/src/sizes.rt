@@ -1,8 +1,8 @@
 ghost use Rattle.std.specs.Prelude.{◌≡◌, ◌<◌, IfOk, IfSome, IfNone};
-ghost use Rattle.zdd_store.specs.Family.{least_number};
-ghost use Rattle.zdd_store.specs.Store.{IsIn, family_of, Keeps};
-ghost use Rattle.zdd_store.specs.Answers.{sets_up_to, sets_of};
-ghost use Rattle.zdd_families.specs.Steps.{Answered};
+ghost use Rattle.zdd_store.specs.inner.Family.{least_number};
+ghost use Rattle.zdd_store.specs.inner.Store.{IsIn, family_of, Keeps};
+ghost use Rattle.zdd_store.specs.inner.Answers.{sets_up_to, sets_of};
+ghost use Rattle.zdd_families.specs.inner.Steps.{Answered};
 
 use crate::memory::{known, note};
 use crate::split::{first_var, split};

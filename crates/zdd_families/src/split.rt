@@ -1,7 +1,7 @@
 ghost use Rattle.std.specs.Prelude.{◌≡◌, ◌+◌, ◌<◌, ◌≤◌, ◌^◌, min, max, IfSome, IfNone};
-ghost use Rattle.zdd_store.specs.Family.{least_number};
-ghost use Rattle.zdd_store.specs.Store.{IsIn, family_of, family_with, Fits};
-ghost use Rattle.zdd_families.specs.Steps.{IsSplit};
+ghost use Rattle.zdd_store.specs.inner.Family.{least_number};
+ghost use Rattle.zdd_store.specs.inner.Store.{IsIn, family_of, family_with, Fits};
+ghost use Rattle.zdd_families.specs.inner.Steps.{IsSplit};
 
 use fta_outside::Steps;
 use std::marker::Brand;

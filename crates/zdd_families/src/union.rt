@@ -1,8 +1,8 @@
 ghost use Rattle.std.specs.Prelude.{◌≡◌, ◌<◌, min};
-ghost use Rattle.zdd_store.specs.Family.{least_number, IsAntichain};
-ghost use Rattle.zdd_store.specs.Store.{IsIn, family_of};
-ghost use Rattle.zdd_store.specs.Answers.{IsLeastFamily};
-ghost use Rattle.zdd_families.specs.Steps.{Answered, either};
+ghost use Rattle.zdd_store.specs.inner.Family.{least_number, IsAntichain};
+ghost use Rattle.zdd_store.specs.inner.Store.{IsIn, family_of};
+ghost use Rattle.zdd_store.specs.inner.Answers.{IsLeastFamily};
+ghost use Rattle.zdd_families.specs.inner.Steps.{Answered, either};
 
 use crate::memory::{keep, kept, known, note};
 use crate::minimal::join;

@@ -4,11 +4,11 @@
 //! functions are, and no set is looked for that contains another. Any family may be asked for: one that is not known to be
 //! wide is made so on the way.
 ghost use Rattle.std.specs.Prelude.{◌≡◌, ◌<◌, ◌≤◌, min, ℕ, List, IsTrue};
-ghost use Rattle.zdd_store.specs.Family.{least_number, covers};
-ghost use Rattle.zdd_store.specs.Store.{IsIn, family_of};
-ghost use Rattle.zdd_store.specs.Answers.{IsCovering, IsUnionOf, IsMeetOf};
-ghost use Rattle.zdd_families.specs.Steps.{Answered, joined};
-ghost use Rattle.zdd_families.specs.Rising.{PartsMade, BothMade};
+ghost use Rattle.zdd_store.specs.inner.Family.{least_number, covers};
+ghost use Rattle.zdd_store.specs.inner.Store.{IsIn, family_of};
+ghost use Rattle.zdd_store.specs.inner.Answers.{IsCovering, IsUnionOf, IsMeetOf};
+ghost use Rattle.zdd_families.specs.inner.Steps.{Answered, joined};
+ghost use Rattle.zdd_families.specs.inner.Rising.{PartsMade, BothMade};
 
 use crate::memory::{known, note};
 use crate::split::{Parts, first_var, look};

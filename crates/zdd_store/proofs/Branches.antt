@@ -1,7 +1,7 @@
 -- Branches: their least number, that their sets rise, and that they tell their variable and children.
 use Rattle.std.proofs.Common.{◌≡◌, ℕ, ◌<◌, ◌≤◌, List, [], ◌∷◌, refl, sym, ap, ◌∙◌, subst, arith}
 use Rattle.std.specs.List.{AllByRecursion}
-use Rattle.zdd_store.specs.Family.{Family, branch, least_of, least_number, IsRising}
+use Rattle.zdd_store.specs.inner.Family.{Family, branch, least_of, least_number, IsRising}
 
 -- a branch without sets under its variable is its lo
 pub branch-empty : (var : ℕ) (lo : Family) → branch var lo [] ≡ lo

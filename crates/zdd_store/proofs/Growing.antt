@@ -6,10 +6,10 @@ use Rattle.std.proofs.lemmas.List.Sums.{fold-append}
 use Rattle.std.proofs.lemmas.Bool.{false≢true, cases_lt}
 use Rattle.std.proofs.lemmas.Option.{slice_get_within, slice_get-get_or}
 use Rattle.std.specs.List.{list_any, AllByRecursion}
-use Rattle.zdd_store.specs.Family.{Family, branch, least_number, IsRising, IsInOrder, HaveSameSets}
-use Rattle.zdd_store.specs.Store.{Families, family_at, family_with, no_nodes, Keeps, Fits, IsCanonical, IsSound}
-use Rattle.zdd_store.specs.Nodes.{with_node, families, IsNodeAt, IsStore}
-use Rattle.zdd_store.specs.Answers.{IsAnswer, IsAnswerOf, AreRight, KnowsRight, AnswersOne, AnswersTwo}
+use Rattle.zdd_store.specs.inner.Family.{Family, branch, least_number, IsRising, IsInOrder, HaveSameSets}
+use Rattle.zdd_store.specs.inner.Store.{Families, family_at, family_with, no_nodes, Keeps, Fits, IsCanonical, IsSound}
+use Rattle.zdd_store.specs.inner.Nodes.{with_node, families, IsNodeAt, IsStore}
+use Rattle.zdd_store.specs.inner.Answers.{IsAnswer, IsAnswerOf, AreRight, KnowsRight, AnswersOne, AnswersTwo}
 use Rattle.zdd_store.specs.declared.id.Node.{Node}
 use Rattle.zdd_store.specs.declared.question.Operation.{Operation}
 use Rattle.zdd_store.specs.declared.question.Operation.TheVariants.{Minimal, MinUnion, MinProduct, Without, UpToSize, OfSize, Union, Meet}

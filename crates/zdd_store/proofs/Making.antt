@@ -2,9 +2,9 @@
 use Rattle.std.proofs.Common.{◌≡◌, ℕ, ◌+◌, ◌-◌, ◌<◌, ◌≤◌, ◌↔◌, Bool, true, if◌then◌else◌, List, [], ◌∷◌, ◌++◌, length, get_or, slice_get, Option, Some, None, IsSome, IfSome, refl, sym, ap, ◌∙◌, subst, arith}
 use Rattle.std.proofs.lemmas.Option.{slice_get_within, slice_get-get_or}
 use Rattle.std.specs.List.{list_any}
-use Rattle.zdd_store.specs.Store.{Families, family_at, family_with, Keeps, Fits}
-use Rattle.zdd_store.specs.Nodes.{families, AreShapes, IsNodeAt, IsStore}
-use Rattle.zdd_store.specs.Answers.{AreRight, KnowsRight}
+use Rattle.zdd_store.specs.inner.Store.{Families, family_at, family_with, Keeps, Fits}
+use Rattle.zdd_store.specs.inner.Nodes.{families, AreShapes, IsNodeAt, IsStore}
+use Rattle.zdd_store.specs.inner.Answers.{AreRight, KnowsRight}
 use Rattle.zdd_store.specs.declared.id.Node.{Node}
 use Rattle.zdd_store.specs.declared.question.Known.{Known}
 use Rattle.zdd_store.specs.declared.question.Question.{Question}

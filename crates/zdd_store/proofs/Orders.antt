@@ -3,7 +3,7 @@ use Rattle.std.proofs.Common.{◌≡◌, ℕ, zero, suc, ◌<◌, ◌⊎◌, Boo
 use Rattle.std.specs.Prelude.{IsTrue, nat_lt, ◌==◌}
 use Rattle.std.specs.List.{AllByRecursion}
 use Rattle.std.proofs.lemmas.Bool.{false≢true, lt-ltb, ltb-true}
-use Rattle.zdd_store.specs.Family.{Family, branch, least_of, least_number, precedes, IsInOrder, HaveSameSets}
+use Rattle.zdd_store.specs.inner.Family.{Family, branch, least_of, least_number, precedes, IsInOrder, HaveSameSets}
 use Rattle.zdd_store.proofs.Branches.{with_var, branch-with_var}
 
 lt_true : (n m : ℕ) → n < m → nat_lt n m ≡ true

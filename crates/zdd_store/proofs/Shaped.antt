@@ -1,10 +1,10 @@
 -- How large the sets of branches are, and the table of what is known of the nodes.
 use Rattle.std.proofs.Common.{◌≡◌, ℕ, zero, suc, ◌+◌, ◌-◌, ◌<◌, ◌≤◌, ◌⊎◌, Bool, true, false, if◌then◌else◌, List, [], ◌∷◌, ◌++◌, length, get_or, slice_get, Some, refl, sym, ap, ◌∙◌, subst, inl, inr, arith}
 use Rattle.std.specs.List.{AllByRecursion}
-use Rattle.zdd_store.specs.Family.{Family, branch}
-use Rattle.zdd_store.specs.Store.{Families, family_at, Keeps, IsSound}
-use Rattle.zdd_store.specs.Answers.{HasAtLeast, HasAtMost, HasShape}
-use Rattle.zdd_store.specs.Nodes.{HasShapeAt, AreShapes}
+use Rattle.zdd_store.specs.inner.Family.{Family, branch}
+use Rattle.zdd_store.specs.inner.Store.{Families, family_at, Keeps, IsSound}
+use Rattle.zdd_store.specs.inner.Answers.{HasAtLeast, HasAtMost, HasShape}
+use Rattle.zdd_store.specs.inner.Nodes.{HasShapeAt, AreShapes}
 use Rattle.zdd_store.specs.declared.shapes.Shape.{Shape}
 use Rattle.zdd_store.proofs.Branches.{with_var, branch-with_var}
 use Rattle.zdd_store.proofs.Growing.{last_or_before}

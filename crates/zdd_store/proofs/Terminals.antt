@@ -1,7 +1,7 @@
 -- The least numbers of the families of EMPTY, of UNIT and of one number alone.
 use Rattle.std.proofs.Common.{◌≡◌, ℕ, ◌<◌, ◌∙◌, ap, arith, [], ◌∷◌}
-use Rattle.zdd_store.specs.Family.{Family, branch, least_number, least_of}
-use Rattle.zdd_store.specs.Store.{Families, family_at, IsSound}
+use Rattle.zdd_store.specs.inner.Family.{Family, branch, least_number, least_of}
+use Rattle.zdd_store.specs.inner.Store.{Families, family_at, IsSound}
 
 pub least-empty : (store : Families) → IsSound store → least_number (family_at store 0) ≡ 4294967296
 unfolding least_number

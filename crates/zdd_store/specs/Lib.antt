@@ -1,4 +1,1 @@
-pub mod Family
-pub mod Store
-pub mod Nodes
-pub mod Answers
+pub mod inner

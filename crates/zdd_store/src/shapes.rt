@@ -2,10 +2,10 @@
 //! with the first variable cover what the others do.
 
 ghost use Rattle.std.specs.Prelude.{◌≡◌, ◌+◌, ◌<◌, ◌≤◌, ℕ, length, slice_get};
-ghost use Rattle.zdd_store.specs.Family.{Family, branch, IsAntichain};
-ghost use Rattle.zdd_store.specs.Answers.{HasShape, IsWide};
-ghost use Rattle.zdd_store.specs.Store.{Families, IsSound, family_at, family_of};
-ghost use Rattle.zdd_store.specs.Nodes.{AreShapes};
+ghost use Rattle.zdd_store.specs.inner.Family.{Family, branch, IsAntichain};
+ghost use Rattle.zdd_store.specs.inner.Answers.{HasShape, IsWide};
+ghost use Rattle.zdd_store.specs.inner.Store.{Families, IsSound, family_at, family_of};
+ghost use Rattle.zdd_store.specs.inner.Nodes.{AreShapes};
 
 use crate::id::Id;
 

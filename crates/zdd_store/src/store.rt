@@ -1,7 +1,7 @@
 ghost use Rattle.std.specs.Prelude.{◌≡◌, ◌+◌, ◌<◌, ◌↔◌, IsSome, IfSome, IfOk, Ok};
-ghost use Rattle.zdd_store.specs.Family.{branch, least_number, IsAntichain};
-ghost use Rattle.zdd_store.specs.Answers.{HasShape, IsAnswer, IsWide};
-ghost use Rattle.zdd_store.specs.Store.{IsIn, family_of, family_with, no_nodes, Keeps, Fits, IsSound};
+ghost use Rattle.zdd_store.specs.inner.Family.{branch, least_number, IsAntichain};
+ghost use Rattle.zdd_store.specs.inner.Answers.{HasShape, IsAnswer, IsWide};
+ghost use Rattle.zdd_store.specs.inner.Store.{IsIn, family_of, family_with, no_nodes, Keeps, Fits, IsSound};
 
 use crate::answers::{answer_in, make_room, put};
 use crate::id::{Id, Node};
@@ -27,17 +27,17 @@ pub struct Store {
 }
 
 impl Model for Store {
-    ghost use Rattle.zdd_store.specs.Store.{Families};
+    ghost use Rattle.zdd_store.specs.inner.Store.{Families};
 
     ghost Value = { Families };
 
-    ghost use Rattle.zdd_store.specs.Nodes.{families, AreShapes, IsStore};
+    ghost use Rattle.zdd_store.specs.inner.Nodes.{families, AreShapes, IsStore};
 
     ghost view = { λ s. families s.nodes.keys };
 
     ghost use Rattle.std.specs.Prelude.{◌≡◌};
     ghost use Rattle.std.specs.HashMap.{get};
-    ghost use Rattle.zdd_store.specs.Answers.{AreRight, KnowsRight};
+    ghost use Rattle.zdd_store.specs.inner.Answers.{AreRight, KnowsRight};
 
     ghost invariant = { λ s. IsStore s.nodes.keys × AreShapes (families s.nodes.keys) s.shapes.items × AreRight (families s.nodes.keys) s.known.items × KnowsRight (families s.nodes.keys) (get ⟦<Question as PartialEq>⟧.eq s.kept) };
 }

@@ -1,6 +1,6 @@
 use Rattle.std.proofs.Common.{◌∙◌, ◌<◌, ◌≢◌, ◌+◌, length, sym, arith, rules}
 use Rattle.std.proofs.lemmas.Result.{on_ok_weaker}
-use Rattle.fault_system.specs.CutSets.{is_minimal}
+use Rattle.fault_system.specs.inner.CutSets.{is_minimal}
 use Rattle.fault_system.proofs.Elements.{popped}
 use Rattle.plain_values.proofs.Rising.{rises-as, rises-higher, rises-push}
 use Rattle.plain_listing.proofs.Trying.{found-both}

@@ -1,5 +1,5 @@
 use Rattle.std.proofs.Common.{◌≡◌, ◌∙◌, None, length, sym, subst, arith}
-use Rattle.fault_system.specs.CutSets.{is_minimal}
+use Rattle.fault_system.specs.inner.CutSets.{is_minimal}
 use Rattle.fault_system.specs.Listings.{IsListing}
 use Rattle.plain_listing.proofs.Trying.{sized, all_sizes}
 use Rattle.plain_listing.proofs.plain_listing.Goals as goal

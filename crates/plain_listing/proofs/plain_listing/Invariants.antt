@@ -1,5 +1,5 @@
 use Rattle.std.proofs.Common.{◌≡◌, filter, length}
-use Rattle.fault_system.specs.CutSets.{is_minimal}
+use Rattle.fault_system.specs.inner.CutSets.{is_minimal}
 use Rattle.plain_listing.proofs.Trying.{sets_below}
 use Rattle.plain_listing.proofs.plain_listing.Given as goal
 

@@ -1,7 +1,7 @@
 use Rattle.std.proofs.Common.{◌+◌, ℕ, Some, ap, subst, sym, ◌∙◌}
 use Rattle.std.proofs.lemmas.List.{take_rest}
 use Rattle.aadl_syntax.specs.declared.token.TokenKind.TheVariants.{Word, Number}
-use Rattle.aadl_lexer.specs.Scan.{word_rest_len, IsFront}
+use Rattle.aadl_lexer.specs.inner.Scan.{word_rest_len, IsFront}
 use Rattle.aadl_lexer.proofs.Fronts.{front_blank, front_word, front_number}
 use Rattle.aadl_lexer.proofs.form.front_of.Goals as goal
 

@@ -2,7 +2,7 @@ use Rattle.std.proofs.Common.{◌+◌, ℕ, None, Some, ap, subst, sym, ◌∙�
 use Rattle.std.proofs.lemmas.Bool.{both_ways}
 use Rattle.std.proofs.lemmas.List.{take_rest}
 use Rattle.aadl_syntax.specs.declared.token.TokenKind.TheVariants.{Sign}
-use Rattle.aadl_lexer.specs.Scan.{line_len, IsFront}
+use Rattle.aadl_lexer.specs.inner.Scan.{line_len, IsFront}
 use Rattle.aadl_lexer.proofs.Fronts.{front_comment, front_annex, front_sign, stuck_byte}
 use Rattle.aadl_lexer.proofs.form.sign_front.Goals as goal
 use Rattle.aadl_lexer.proofs.form.sign_front.Goals.{else-annexes-via-then-annexes+else-begins_annex, else-annexes-via-else-annexes}

@@ -1,6 +1,6 @@
 use Rattle.std.proofs.Common.{ap, sym, ◌∙◌}
 use Rattle.std.proofs.lemmas.List.{take_rest}
-use Rattle.aadl_lexer.specs.Scan.{text_rest_len}
+use Rattle.aadl_lexer.specs.inner.Scan.{text_rest_len}
 use Rattle.aadl_lexer.proofs.Fronts.{front_text, stuck_text}
 use Rattle.aadl_lexer.proofs.form.text_front.Goals as goal
 

@@ -1,6 +1,6 @@
 use Rattle.std.proofs.Common.{length, ◌-◌, ◌≡◌, ◌≤◌, ◌+◌, drop}
 use Rattle.std.specs.Option.{option_map}
-use Rattle.aadl_lexer.specs.Scan.{text_rest_len}
+use Rattle.aadl_lexer.specs.inner.Scan.{text_rest_len}
 use Rattle.aadl_lexer.proofs.form.text_rest_len.Given as goal
 
 abbrev pub invariant-loop-len : goal.invariant-loop-len

@@ -1,5 +1,5 @@
 use Rattle.std.proofs.Common.{length, ◌-◌, ◌≡◌, ◌≤◌, ◌+◌, drop}
-use Rattle.aadl_lexer.specs.Scan.{word_rest_len}
+use Rattle.aadl_lexer.specs.inner.Scan.{word_rest_len}
 use Rattle.aadl_lexer.proofs.form.word_rest_len.Given as goal
 
 abbrev pub invariant-loop-len : goal.invariant-loop-len

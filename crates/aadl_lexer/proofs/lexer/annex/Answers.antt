@@ -1,6 +1,6 @@
 use Rattle.std.proofs.Common.{◌≡◌, ◌+◌, ◌-◌, List, ℕ, length, take, drop, ap, subst}
 use Rattle.std.proofs.lemmas.List.{take_rest}
-use Rattle.aadl_lexer.specs.Steps.{EndsAt, TakesBody}
+use Rattle.aadl_lexer.specs.inner.Steps.{EndsAt, TakesBody}
 use Rattle.aadl_lexer.proofs.Ends.{annex_takes}
 use Rattle.aadl_lexer.proofs.lexer.annex.Goals as goal
 

@@ -1,7 +1,7 @@
 use Rattle.std.proofs.Common.{◌+◌, false, List, ℕ, subst}
 use Rattle.std.proofs.lemmas.List.{take_rest}
 use Rattle.aadl_lexer.specs.Tokens.{InAnnex, IsPlain}
-use Rattle.aadl_lexer.specs.Steps.{Takes}
+use Rattle.aadl_lexer.specs.inner.Steps.{Takes}
 use Rattle.aadl_lexer.proofs.Cuts.{more_so_far, none_so_far}
 use Rattle.aadl_lexer.proofs.lexer.annex_tokens.Goals as goal
 

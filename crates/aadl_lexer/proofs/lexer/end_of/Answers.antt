@@ -1,6 +1,6 @@
 use Rattle.std.proofs.Common.{sym, ap, ◌∙◌}
 use Rattle.std.proofs.lemmas.List.{take_rest}
-use Rattle.aadl_lexer.specs.Steps.{begins_annex_end}
+use Rattle.aadl_lexer.specs.inner.Steps.{begins_annex_end}
 use Rattle.aadl_lexer.proofs.Ends.{end_found}
 use Rattle.aadl_lexer.proofs.lexer.end_of.Goals as goal
 

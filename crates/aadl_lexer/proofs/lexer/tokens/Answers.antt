@@ -3,7 +3,7 @@ use Rattle.std.proofs.lemmas.Result.{err_from_is_err_and}
 use Rattle.std.proofs.lemmas.List.{take_rest}
 use Rattle.aadl_syntax.specs.declared.token.Token.{Token}
 use Rattle.aadl_lexer.specs.Tokens.{InCore, Tokens}
-use Rattle.aadl_lexer.specs.Steps.{Takes}
+use Rattle.aadl_lexer.specs.inner.Steps.{Takes}
 use Rattle.aadl_lexer.proofs.Cuts.{more_so_far, all_so_far}
 use Rattle.aadl_lexer.proofs.Single.{one_list, no_refusal, refused_there}
 use Rattle.aadl_lexer.proofs.lexer.tokens.Goals as goal

@@ -1,6 +1,6 @@
 use Rattle.std.proofs.Common.{◌<◌, ◌≤◌, length, arith}
 use Rattle.aadl_syntax.specs.declared.token.Token.{Token}
-use Rattle.aadl_syntax.specs.Token.{shown}
+use Rattle.aadl_syntax.specs.inner.Token.{shown}
 use Rattle.aadl_parser.specs.Nesting.{nesting_limit}
 use Rattle.grammar_rules.proofs.Runs.{item_there}
 use Rattle.aadl_parser.proofs.Depths.{is_nested, one_on}

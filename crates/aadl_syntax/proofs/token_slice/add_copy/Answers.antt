@@ -1,5 +1,5 @@
 use Rattle.std.proofs.Common.{List, ℕ, sym, subst}
-use Rattle.aadl_syntax.specs.Token.{IsTokenText}
+use Rattle.aadl_syntax.specs.inner.Token.{IsTokenText}
 use Rattle.aadl_syntax.proofs.Marked.{its_own}
 use Rattle.aadl_syntax.proofs.token_slice.add_copy.Goals as goal
 

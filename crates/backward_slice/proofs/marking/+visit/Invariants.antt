@@ -1,7 +1,7 @@
 use Rattle.std.proofs.Common.{map, take}
 use Rattle.std.specs.List.{list_any}
 use Rattle.fault_system.specs.Truth.{occurs, occurs_event}
-use Rattle.backward_slice.specs.Marks.{Adds}
+use Rattle.backward_slice.specs.inner.Marks.{Adds}
 use Rattle.backward_slice.proofs.marking.+visit.Given as goal
 
 abbrev pub invariant-visit_parts-loop-part : goal.invariant-visit_parts-loop-part

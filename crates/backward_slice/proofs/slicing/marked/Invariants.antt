@@ -1,6 +1,6 @@
 use Rattle.std.proofs.Common.{◌+◌, ◌-◌, length}
 use Rattle.fault_system.specs.Truth.{count_true}
-use Rattle.backward_slice.specs.Marks.{IsMarking}
+use Rattle.backward_slice.specs.inner.Marks.{IsMarking}
 use Rattle.backward_slice.proofs.slicing.marked.Given as goal
 
 abbrev pub invariant-loop-number : goal.invariant-loop-number

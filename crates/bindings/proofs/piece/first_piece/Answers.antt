@@ -1,6 +1,6 @@
 use Rattle.std.proofs.Common.{◌+◌, ◌≡◌, ◌<◌, Bool, false, cond, ap, sym, ◌∙◌, take, length, arith}
 use Rattle.aadl_syntax.specs.declared.token.Token.{Token}
-use Rattle.aadl_syntax.specs.Token.{shown}
+use Rattle.aadl_syntax.specs.inner.Token.{shown}
 use Rattle.grammar_rules.proofs.Runs.{item_there}
 use Rattle.bindings.specs.Pieces.{ends_piece}
 use Rattle.bindings.proofs.PieceLoops.{passes, piece_here, tested}

@@ -1,7 +1,7 @@
 use Rattle.std.proofs.Common.{◌≡◌, take}
 use Rattle.std.specs.HashMap.{get}
 use Rattle.component_extension.specs.Items.{gathered}
-use Rattle.component_extension.specs.Rows.{KnowsRows, same_words}
+use Rattle.component_extension.specs.inner.Rows.{KnowsRows, same_words}
 use Rattle.component_extension.proofs.items.gathered.Given as goal
 
 abbrev pub invariant-loop-scope : goal.invariant-loop-scope

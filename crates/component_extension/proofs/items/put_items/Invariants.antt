@@ -1,6 +1,7 @@
 use Rattle.std.proofs.Common.{◌≡◌, fold, map, take}
 use Rattle.std.specs.HashMap.{get}
-use Rattle.component_extension.specs.Rows.{KnowsRows, put, same_words}
+use Rattle.component_extension.specs.Rows.{put}
+use Rattle.component_extension.specs.inner.Rows.{KnowsRows, same_words}
 use Rattle.component_extension.proofs.items.put_items.Given as goal
 
 abbrev pub invariant-loop-item : goal.invariant-loop-item

@@ -1,7 +1,7 @@
 use Rattle.std.proofs.Common.{◌≡◌, take}
 use Rattle.std.specs.HashMap.{get}
 use Rattle.component_extension.specs.Members.{member_key, members_of}
-use Rattle.component_extension.specs.Rows.{KnowsRows, same_words}
+use Rattle.component_extension.specs.inner.Rows.{KnowsRows, same_words}
 use Rattle.component_extension.proofs.members.members_of.Given as goal
 
 abbrev pub invariant-loop-declaration : goal.invariant-loop-declaration

@@ -1,6 +1,6 @@
 use Rattle.std.proofs.Common.{◌<◌, sym, ap, ◌∙◌, length, cond, Some, subst}
 use Rattle.std.specs.HashMap.{get}
-use Rattle.component_extension.specs.Rows.{KnowsRows, same_words}
+use Rattle.component_extension.specs.inner.Rows.{KnowsRows, same_words}
 use Rattle.component_extension.proofs.RowLaws.{knows-push, knows-set, place-within}
 use Rattle.component_extension.proofs.rows.put_by.Goals as goal
 

@@ -1,7 +1,7 @@
 use Rattle.std.proofs.Common.{refl, arith}
 use Rattle.std.proofs.lemmas.Result.{err_from_is_err_and}
 use Rattle.cut_reports.specs.Feeding.{IsKept}
-use Rattle.cut_reports.specs.Texts.{Begun}
+use Rattle.cut_reports.specs.inner.Texts.{Begun}
 use Rattle.cut_reports.proofs.Places.{none_yet, one_more, some_of_them, rises_at}
 use Rattle.cut_reports.proofs.Sequence.{stopped_there}
 use Rattle.cut_reports.proofs.Taken.{kept_same}

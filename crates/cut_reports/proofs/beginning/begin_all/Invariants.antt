@@ -1,7 +1,7 @@
 use Rattle.std.proofs.Common.{◌≡◌, take, vec_len}
 use Rattle.cut_reports.specs.Feeding.{IsKept}
 use Rattle.cut_reports.specs.Places.{AtChosen}
-use Rattle.cut_reports.specs.Texts.{Begun}
+use Rattle.cut_reports.specs.inner.Texts.{Begun}
 use Rattle.cut_reports.proofs.beginning.begin_all.Given as goal
 
 abbrev pub invariant-loop-place : goal.invariant-loop-place

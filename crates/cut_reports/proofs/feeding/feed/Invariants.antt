@@ -1,7 +1,8 @@
 use Rattle.std.proofs.Common.{◌≡◌, ◌+◌, false, [], cond, length, vec_len}
-use Rattle.cutset_lister.specs.Walks.{IsSameListing, sets_left}
+use Rattle.cutset_lister.specs.inner.Walks.{IsSameListing, sets_left}
 use Rattle.cut_reports.specs.Places.{AtChosen}
-use Rattle.cut_reports.specs.Feeding.{Fed, IsKept}
+use Rattle.cut_reports.specs.Feeding.{IsKept}
+use Rattle.cut_reports.specs.inner.Feeding.{Fed}
 use Rattle.cut_reports.proofs.feeding.feed.Given as goal
 
 abbrev pub invariant-loop-goes_on : goal.invariant-loop-goes_on

@@ -1,7 +1,8 @@
 use Rattle.std.proofs.Common.{◌≡◌, ℕ, List, ◌++◌, take, vec_len}
 use Rattle.cut_reports.specs.Feeding.{IsKept}
 use Rattle.cut_reports.specs.Places.{AtChosen}
-use Rattle.cut_reports.specs.Texts.{ChosenStand, reports_text}
+use Rattle.cut_reports.specs.Texts.{reports_text}
+use Rattle.cut_reports.specs.inner.Texts.{ChosenStand}
 use Rattle.cut_reports.proofs.finishing.finish_all.Given as goal
 
 abbrev pub invariant-loop-place : goal.invariant-loop-place

@@ -1,5 +1,6 @@
 use Rattle.std.proofs.Common.{[], ◌∷◌, refl, arith}
-use Rattle.cut_reports.specs.Feeding.{IsKept, TookSets}
+use Rattle.cut_reports.specs.Feeding.{IsKept}
+use Rattle.cut_reports.specs.inner.Feeding.{TookSets}
 use Rattle.std.proofs.lemmas.Result.{err_from_is_err_and}
 use Rattle.cut_reports.proofs.Places.{none_yet, one_more, rises_at, some_of_them}
 use Rattle.cut_reports.proofs.Taken.{failed_there, kept_same, next_takes}

@@ -1,6 +1,7 @@
 use Rattle.std.proofs.Common.{◌≡◌, [], ◌∷◌, take, vec_len}
 use Rattle.cut_reports.specs.Places.{AtChosen}
-use Rattle.cut_reports.specs.Feeding.{IsKept, TookSets}
+use Rattle.cut_reports.specs.Feeding.{IsKept}
+use Rattle.cut_reports.specs.inner.Feeding.{TookSets}
 use Rattle.cut_reports.proofs.giving.give_set.Given as goal
 
 abbrev pub invariant-loop-place : goal.invariant-loop-place

@@ -1,7 +1,7 @@
 use Rattle.std.proofs.Common.{◌∙◌, ◌++◌, get_or, [], ap, arith}
 use Rattle.std.proofs.lemmas.List.{take_all}
-use Rattle.cut_reports.specs.Numbered.{numbered_text}
-use Rattle.cut_reports.specs.Orders.{counted_order, order_line}
+use Rattle.cut_reports.specs.inner.Numbered.{numbered_text}
+use Rattle.cut_reports.specs.inner.Orders.{counted_order, order_line}
 use Rattle.cut_reports.proofs.Numbered.{get_or_any, numbered_next}
 use Rattle.cut_reports.proofs.orders.text_of.Goals as goal
 

@@ -1,6 +1,6 @@
 use Rattle.std.proofs.Common.{◌≡◌, ◌++◌, take}
-use Rattle.cut_reports.specs.Numbered.{numbered_text}
-use Rattle.cut_reports.specs.Orders.{counted_order, order_line}
+use Rattle.cut_reports.specs.inner.Numbered.{numbered_text}
+use Rattle.cut_reports.specs.inner.Orders.{counted_order, order_line}
 use Rattle.cut_reports.proofs.orders.text_of.Given as goal
 
 abbrev pub invariant-loop-i : goal.invariant-loop-i

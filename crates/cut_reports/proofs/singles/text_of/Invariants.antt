@@ -1,6 +1,6 @@
 use Rattle.std.proofs.Common.{◌≡◌, take}
-use Rattle.cut_reports.specs.Numbered.{numbered_text}
-use Rattle.cut_reports.specs.Singles.{marked_line}
+use Rattle.cut_reports.specs.inner.Numbered.{numbered_text}
+use Rattle.cut_reports.specs.inner.Singles.{marked_line}
 use Rattle.cut_reports.proofs.singles.text_of.Given as goal
 
 abbrev pub invariant-loop-i : goal.invariant-loop-i

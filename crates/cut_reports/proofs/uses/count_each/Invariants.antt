@@ -1,5 +1,5 @@
 use Rattle.std.proofs.Common.{◌≡◌, take, vec_len}
-use Rattle.cut_reports.specs.Counts.{CountedEach}
+use Rattle.cut_reports.specs.inner.Counts.{CountedEach}
 use Rattle.cut_reports.proofs.uses.count_each.Given as goal
 
 abbrev pub invariant-loop-event : goal.invariant-loop-event

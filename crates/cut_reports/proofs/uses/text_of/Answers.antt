@@ -1,7 +1,7 @@
 use Rattle.std.proofs.Common.{◌∙◌, [], ap, arith}
 use Rattle.std.proofs.lemmas.List.{take_all}
-use Rattle.cut_reports.specs.Numbered.{numbered_text}
-use Rattle.cut_reports.specs.Uses.{counted_use}
+use Rattle.cut_reports.specs.inner.Numbered.{numbered_text}
+use Rattle.cut_reports.specs.inner.Uses.{counted_use}
 use Rattle.cut_reports.proofs.Numbered.{numbered_next}
 use Rattle.cut_reports.proofs.uses.text_of.Goals as goal
 

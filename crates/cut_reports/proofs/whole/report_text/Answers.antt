@@ -1,5 +1,5 @@
 use Rattle.std.proofs.Common.{◌∙◌, ◌++◌, ap}
-use Rattle.cutset_lister.specs.Walks.{sets_left}
+use Rattle.cutset_lister.specs.inner.Walks.{sets_left}
 use Rattle.cut_reports.proofs.Taken.{kept_more}
 use Rattle.cut_reports.proofs.Sequence.{begun_take, fed_stand, fed_have, parts_same, stopped_in_all}
 use Rattle.cut_reports.proofs.whole.report_text.Goals as goal

@@ -1,8 +1,8 @@
 use Rattle.std.proofs.Common.{ℕ, ◌≡◌, ◌<◌, List, length, slice_index_or, All, ap, sym, subst, arith}
 use Rattle.std.proofs.lemmas.List.Elements.{All-get_or}
-use Rattle.zdd_store.specs.Store.{IsIn}
+use Rattle.zdd_store.specs.inner.Store.{IsIn}
 use Rattle.zdd_store.specs.declared.id.Id.{Id}
-use Rattle.cutset_engine.specs.Filling.{IsFilled}
+use Rattle.cutset_engine.specs.inner.Filling.{IsFilled}
 use Rattle.cutset_engine.proofs.Ending.{exact-made, target-fact}
 use Rattle.cutset_engine.proofs.families.family_by.Goals as goal
 

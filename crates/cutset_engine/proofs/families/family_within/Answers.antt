@@ -1,5 +1,5 @@
 use Rattle.std.proofs.Common.{sym, subst}
-use Rattle.cutset_engine.specs.Families.{HasMinimalCutSets}
+use Rattle.cutset_engine.specs.inner.Families.{HasMinimalCutSets}
 use Rattle.cutset_engine.proofs.families.family_within.Goals as goal
 
 pub returns-clause-exact : goal.returns-clause-exact

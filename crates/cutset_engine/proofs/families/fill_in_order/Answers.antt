@@ -1,5 +1,5 @@
 use Rattle.std.proofs.Common.{subst, sym}
-use Rattle.cutset_engine.specs.Filling.{Task, HaveTheirCauses}
+use Rattle.cutset_engine.specs.inner.Filling.{Task, HaveTheirCauses}
 use Rattle.cutset_engine.proofs.Ending.{filling-none, slice-causes}
 use Rattle.cutset_engine.proofs.families.fill_in_order.Goals as goal
 

@@ -1,4 +1,4 @@
-use Rattle.zdd_store.specs.Store.{Keeps}
+use Rattle.zdd_store.specs.inner.Store.{Keeps}
 use Rattle.cutset_engine.proofs.families.raced_family.Given as goal
 
 abbrev pub invariant-loop-turn : goal.invariant-loop-turn

@@ -1,6 +1,6 @@
 use Rattle.std.proofs.Common.{refl, subst, arith, ◌≡◌, length, Contains}
 use Rattle.zdd_families.proofs.Ways.{Keeps_trans, Keeps_same}
-use Rattle.cutset_engine.specs.Filling.{Task, IsStep}
+use Rattle.cutset_engine.specs.inner.Filling.{Task, IsStep}
 use Rattle.cutset_engine.proofs.Rounds.{rounds-none, rounds-next, rounds-all, filled-from}
 use Rattle.cutset_engine.proofs.filling.fill.Goals as goal
 

@@ -1,5 +1,5 @@
-use Rattle.zdd_store.specs.Store.{Keeps}
-use Rattle.cutset_engine.specs.Filling.{IsFilling}
+use Rattle.zdd_store.specs.inner.Store.{Keeps}
+use Rattle.cutset_engine.specs.inner.Filling.{IsFilling}
 use Rattle.cutset_engine.proofs.Rounds.{Rounds}
 use Rattle.cutset_engine.proofs.filling.fill.Given as goal
 

@@ -2,7 +2,7 @@ use Rattle.std.proofs.Common.{refl, sym, ◌∙◌, arith}
 use Rattle.std.proofs.lemmas.Bool.{eqb-true, not-false}
 use Rattle.std.proofs.lemmas.Option.{slice_get_within}
 use Rattle.zdd_families.proofs.Ways.{Keeps_same}
-use Rattle.cutset_engine.specs.Filling.{Task}
+use Rattle.cutset_engine.specs.inner.Filling.{Task}
 use Rattle.cutset_engine.proofs.StepLaws.{step-made, step-none, same_family}
 use Rattle.cutset_engine.proofs.filling.fill_fact.Goals as goal
 

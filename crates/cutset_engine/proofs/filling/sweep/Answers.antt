@@ -1,6 +1,6 @@
 use Rattle.std.proofs.Common.{slice_index_or, arith}
 use Rattle.std.proofs.lemmas.Option.{slice_get-get_or}
-use Rattle.cutset_engine.specs.Filling.{Task}
+use Rattle.cutset_engine.specs.inner.Filling.{Task}
 use Rattle.cutset_engine.proofs.Rounds.{swept-none, swept-next, swept-end}
 use Rattle.cutset_engine.proofs.filling.sweep.Goals as goal
 

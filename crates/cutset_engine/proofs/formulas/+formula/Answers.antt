@@ -1,6 +1,6 @@
 use Rattle.std.proofs.Common.{map, nat_le, refl}
 use Rattle.fault_system.specs.Truth.{member, count_true}
-use Rattle.cutset_engine.specs.Gates.{covers_each, events_of, is_true_under, of_all}
+use Rattle.cutset_engine.specs.inner.Gates.{covers_each, events_of, is_true_under, of_all}
 use Rattle.cutset_engine.specs.declared.gates.Gate.TheVariants.{And, Or}
 use Rattle.cutset_engine.proofs.Covering.{keeps_then}
 use Rattle.cutset_engine.proofs.Parts.{parts_next, gate_made, and_true, or_true, least_true}

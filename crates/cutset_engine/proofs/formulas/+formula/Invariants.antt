@@ -1,5 +1,5 @@
 use Rattle.std.proofs.Common.{take}
-use Rattle.zdd_store.specs.Store.{Keeps}
+use Rattle.zdd_store.specs.inner.Store.{Keeps}
 use Rattle.cutset_engine.proofs.Parts.{PartsStand}
 use Rattle.cutset_engine.proofs.formulas.+formula.Given as goal
 

@@ -1,6 +1,6 @@
 use Rattle.std.proofs.Common.{ap}
-use Rattle.zdd_store.specs.Family.{has}
-use Rattle.cutset_engine.specs.Gates.{events_of}
+use Rattle.zdd_store.specs.inner.Family.{has}
+use Rattle.cutset_engine.specs.inner.Gates.{events_of}
 use Rattle.cutset_engine.proofs.Parts.{event_made}
 use Rattle.cutset_engine.proofs.formulas.event_family.Goals as goal
 

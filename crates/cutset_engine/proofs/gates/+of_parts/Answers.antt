@@ -1,6 +1,6 @@
 use Rattle.std.proofs.Common.{◌≡◌, ◌++◌, sym, rules}
 use Rattle.std.proofs.lemmas.List.{take-append-drop}
-use Rattle.cutset_engine.specs.Gates.{of_all, of_both}
+use Rattle.cutset_engine.specs.inner.Gates.{of_all, of_both}
 use Rattle.cutset_engine.proofs.Covering.{halves, of_all-append, none_made, one_made}
 use Rattle.cutset_engine.proofs.gates.+of_parts.Goals as goal
 

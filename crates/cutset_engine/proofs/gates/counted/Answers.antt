@@ -1,7 +1,7 @@
 use Rattle.std.proofs.Common.{List, All, subst, sym}
 use Rattle.std.specs.List.Sorted.{IsPermutation}
 use Rattle.std.proofs.lemmas.List.Sorted.{All-permutation}
-use Rattle.zdd_store.specs.Store.{IsIn}
+use Rattle.zdd_store.specs.inner.Store.{IsIn}
 use Rattle.zdd_store.specs.declared.id.Id.{Id}
 use Rattle.cutset_engine.proofs.Covering.{made_counted}
 use Rattle.cutset_engine.proofs.gates.counted.Goals as goal

@@ -1,5 +1,5 @@
-use Rattle.zdd_families.specs.Steps.{both}
-use Rattle.zdd_store.specs.Store.{family_of}
+use Rattle.zdd_families.specs.inner.Steps.{both}
+use Rattle.zdd_store.specs.inner.Store.{family_of}
 use Rattle.cutset_engine.proofs.Covering.{made_wide}
 use Rattle.cutset_engine.proofs.gates.wide_both.Goals as goal
 

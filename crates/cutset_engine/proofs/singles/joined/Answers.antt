@@ -1,6 +1,6 @@
 use Rattle.std.proofs.Common.{◌<◌, IfOk, length, subst, sym}
-use Rattle.zdd_store.specs.Store.{Families, Keeps, family_of}
-use Rattle.zdd_families.specs.Unions.{HasMinimalSets, IsInEither}
+use Rattle.zdd_store.specs.inner.Store.{Families, Keeps, family_of}
+use Rattle.zdd_families.specs.inner.Unions.{HasMinimalSets, IsInEither}
 use Rattle.cutset_engine.proofs.singles.joined.Goals as goal
 
 pub min_union-requires-clause-a_in : goal.min_union-requires-clause-a_in

@@ -1,6 +1,6 @@
 use Rattle.std.proofs.Common.{ℕ, subst}
-use Rattle.cutset_engine.specs.Families.{HasMinimalCutSets}
-use Rattle.zdd_store.specs.Store.{family_of}
+use Rattle.cutset_engine.specs.inner.Families.{HasMinimalCutSets}
+use Rattle.zdd_store.specs.inner.Store.{family_of}
 use Rattle.cutset_engine.proofs.singles.sliced_family.Goals as goal
 
 pub returns-clause-exact : goal.returns-clause-exact

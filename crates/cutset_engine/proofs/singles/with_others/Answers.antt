@@ -2,10 +2,10 @@ use Rattle.std.proofs.Common.{◌≡◌, ◌<◌, length, Some, sym, subst}
 use Rattle.std.proofs.lemmas.Result.{IfOk-weaker}
 use lib.ListN.{length-map}
 use Rattle.fault_system.specs.Systems.{System}
-use Rattle.zdd_store.specs.Family.{Family}
-use Rattle.zdd_store.specs.Store.{family_of}
-use Rattle.cutset_engine.specs.Families.{HasMinimalCutSets}
-use Rattle.cutset_engine.specs.ThinSystems.{AreSingles, thin_fact}
+use Rattle.zdd_store.specs.inner.Family.{Family}
+use Rattle.zdd_store.specs.inner.Store.{family_of}
+use Rattle.cutset_engine.specs.inner.Families.{HasMinimalCutSets}
+use Rattle.cutset_engine.specs.inner.ThinSystems.{AreSingles, thin_fact}
 use Rattle.cutset_engine.proofs.Ending.{target-fact}
 use Rattle.cutset_engine.proofs.ThinFamilies.{cut-sets-apart, joined-cut-sets}
 use Rattle.cutset_engine.proofs.singles.with_others.Goals as goal

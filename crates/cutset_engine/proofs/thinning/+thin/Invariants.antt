@@ -1,5 +1,5 @@
 use Rattle.std.proofs.Common.{◌≡◌, map, take}
-use Rattle.cutset_engine.specs.ThinSystems.{thin_formula}
+use Rattle.cutset_engine.specs.inner.ThinSystems.{thin_formula}
 use Rattle.cutset_engine.proofs.thinning.+thin.Given as goal
 
 abbrev pub invariant-thin_parts-loop-part : goal.invariant-thin_parts-loop-part

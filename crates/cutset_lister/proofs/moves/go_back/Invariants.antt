@@ -1,5 +1,5 @@
 use Rattle.std.proofs.Common.{length}
-use Rattle.cutset_lister.specs.Trails.{SameLeft}
+use Rattle.cutset_lister.specs.inner.Trails.{SameLeft}
 use Rattle.cutset_lister.proofs.moves.go_back.Given as goal
 
 abbrev pub invariant-loop-path : goal.invariant-loop-path

@@ -1,6 +1,6 @@
 use Rattle.std.proofs.Common.{◌≤◌, ◌+◌, arith, refl, slice_index_or}
-use Rattle.zdd_store.specs.Store.{family_of}
-use Rattle.cutset_lister.specs.Trails.{greatest_size}
+use Rattle.zdd_store.specs.inner.Store.{family_of}
+use Rattle.cutset_lister.specs.inner.Trails.{greatest_size}
 use Rattle.cutset_lister.proofs.BySize.{none-most, sets_of-most, sizes-at}
 use Rattle.cutset_lister.proofs.parts.next_part.Goals as goal
 

@@ -1,6 +1,6 @@
 use Rattle.std.proofs.Common.{◌≡◌, drop}
 use Rattle.std.specs.List.{flat_map}
-use Rattle.zdd_store.specs.Store.{Families, IsSound, family_of}
+use Rattle.zdd_store.specs.inner.Store.{Families, IsSound, family_of}
 use Rattle.cutset_lister.proofs.parts.next_part.Given as goal
 
 abbrev pub invariant-loop-k : goal.invariant-loop-k

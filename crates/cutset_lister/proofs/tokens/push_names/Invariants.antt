@@ -1,6 +1,6 @@
 use Rattle.std.proofs.Common.{take}
 use Rattle.std.specs.Prelude.{vec_capacity}
-use Rattle.cutset_lister.specs.Scanning.{AddsText, names_text}
+use Rattle.cutset_lister.specs.inner.Scanning.{AddsText, names_text}
 use Rattle.cutset_lister.proofs.tokens.push_names.Given as goal
 
 abbrev pub invariant-loop-event : goal.invariant-loop-event

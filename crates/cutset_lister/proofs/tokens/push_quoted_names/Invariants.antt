@@ -1,6 +1,6 @@
 use Rattle.std.proofs.Common.{take}
 use Rattle.std.specs.Prelude.{vec_capacity}
-use Rattle.cutset_lister.specs.Scanning.{AddsText}
+use Rattle.cutset_lister.specs.inner.Scanning.{AddsText}
 use Rattle.cutset_lister.specs.SetText.{quoted_name}
 use Rattle.std.specs.List.{flat_map}
 use Rattle.cutset_lister.proofs.tokens.push_quoted_names.Given as goal

@@ -1,6 +1,6 @@
 use Rattle.std.proofs.Common.{◌≡◌, ◌∷◌, rules}
 use Rattle.std.specs.Prelude.{vec_capacity}
-use Rattle.cutset_lister.specs.Scanning.{names_text}
+use Rattle.cutset_lister.specs.inner.Scanning.{names_text}
 use Rattle.fault_system.specs.Systems.{event_name}
 use Rattle.cutset_lister.specs.SetText.{set_text}
 use Rattle.cutset_lister.proofs.Buffers.{adds_or_lacks}

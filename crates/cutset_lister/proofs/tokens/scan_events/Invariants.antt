@@ -1,4 +1,4 @@
-use Rattle.cutset_lister.specs.Scanning.{Scanned}
+use Rattle.cutset_lister.specs.inner.Scanning.{Scanned}
 use Rattle.cutset_lister.proofs.tokens.scan_events.Given as goal
 
 abbrev pub invariant-loop-number : goal.invariant-loop-number

@@ -1,5 +1,5 @@
 use Rattle.std.proofs.Common.{arith, ap, add-one, take}
-use Rattle.cutset_writer.specs.Lengths.{names_room}
+use Rattle.cutset_writer.specs.inner.Lengths.{names_room}
 use Rattle.cutset_writer.proofs.SetLines.{room_more}
 use Rattle.cutset_writer.proofs.lines.longest_line.Goals as goal
 

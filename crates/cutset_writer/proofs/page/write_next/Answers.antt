@@ -1,4 +1,4 @@
-use Rattle.cutset_writer.specs.Lengths.{most_line}
+use Rattle.cutset_writer.specs.inner.Lengths.{most_line}
 use Rattle.cutset_writer.proofs.SetLines.{first_fits}
 use Rattle.cutset_writer.proofs.page.write_next.Goals as goal
 

@@ -1,8 +1,8 @@
 use Rattle.std.proofs.Common.{sym, subst}
-use Rattle.cutset_lister.specs.Walks.{sets_left}
-use Rattle.cutset_writer.specs.Pages.{HasRoom}
+use Rattle.cutset_lister.specs.inner.Walks.{sets_left}
+use Rattle.cutset_writer.specs.inner.Pages.{HasRoom}
 use Rattle.cutset_writer.proofs.PageTexts.{room-filtered}
-use Rattle.cutset_writer.specs.Lengths.{most_line}
+use Rattle.cutset_writer.specs.inner.Lengths.{most_line}
 use Rattle.fault_system.specs.Listings.{is_before}
 use Rattle.cutset_writer.proofs.page.write_on_ledger.Goals.{in-Some, in_default}
 use Rattle.cutset_writer.proofs.page.write_on_ledger.Goals as goal

@@ -1,8 +1,8 @@
 use Rattle.std.proofs.Common.{Err, ◌∙◌, ap, arith, sym, subst}
 use Rattle.std.proofs.lemmas.Result.{err_from_is_err_and}
-use Rattle.cutset_lister.specs.Walks.{sets_left}
-use Rattle.cutset_writer.specs.Lengths.{most_line}
-use Rattle.cutset_writer.specs.Pages.{HasRoom, next_more}
+use Rattle.cutset_lister.specs.inner.Walks.{sets_left}
+use Rattle.cutset_writer.specs.inner.Lengths.{most_line}
+use Rattle.cutset_writer.specs.inner.Pages.{HasRoom, next_more}
 use Rattle.cutset_writer.proofs.PageTexts.{page_ended, page_stopped, page_went_on, room_later}
 use Rattle.cutset_writer.proofs.page.write_sets.Goals as goal
 

@@ -1,9 +1,9 @@
 use Rattle.std.proofs.Common.{◌≡◌, ◌≤◌, List, Option, ℕ, length}
 use Rattle.std.specs.Prelude.{vec_capacity}
-use Rattle.cutset_lister.specs.Walks.{IsStarted, sets_left}
-use Rattle.cutset_writer.specs.Lengths.{most_line}
-use Rattle.cutset_writer.specs.Pages.{HasRoom, IsOpenMark, key_of, more_text}
-use Rattle.cutset_writer.specs.Steps.{IsWritten}
+use Rattle.cutset_lister.specs.inner.Walks.{IsStarted, sets_left}
+use Rattle.cutset_writer.specs.inner.Lengths.{most_line}
+use Rattle.cutset_writer.specs.inner.Pages.{HasRoom, IsOpenMark, key_of, more_text}
+use Rattle.cutset_writer.specs.inner.Steps.{IsWritten}
 use Rattle.cutset_writer.specs.Text.{more_line}
 use Rattle.cutset_writer.proofs.page.write_sets.Given as goal
 

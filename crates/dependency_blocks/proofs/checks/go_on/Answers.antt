@@ -1,5 +1,5 @@
 use Rattle.std.proofs.Common.{ℕ, ◌∙◌, sym, subst}
-use Rattle.dependency_blocks.specs.Checks.{MarksOf}
+use Rattle.dependency_blocks.specs.inner.Checks.{MarksOf}
 use Rattle.dependency_blocks.proofs.Passes.{come-mark}
 use Rattle.dependency_blocks.proofs.checks.go_on.Goals as goal
 

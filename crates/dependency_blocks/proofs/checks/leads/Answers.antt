@@ -1,5 +1,5 @@
 use Rattle.std.proofs.Common.{ℕ, sym, subst}
-use Rattle.dependency_blocks.specs.Checks.{HasMarked}
+use Rattle.dependency_blocks.specs.inner.Checks.{HasMarked}
 use Rattle.dependency_blocks.proofs.Passes.{leads_by}
 use Rattle.dependency_blocks.proofs.checks.leads.Goals as goal
 

@@ -1,4 +1,4 @@
-use Rattle.dependency_blocks.specs.Checks.{AreTied}
+use Rattle.dependency_blocks.specs.inner.Checks.{AreTied}
 use Rattle.dependency_blocks.proofs.checks.tied.Given as goal
 
 abbrev pub invariant-loop-number : goal.invariant-loop-number

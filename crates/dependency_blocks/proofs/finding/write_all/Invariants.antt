@@ -1,7 +1,7 @@
 use Rattle.std.proofs.Common.{ℕ, ◌≡◌, ◌<◌, length, slice_index_or}
 use Rattle.dependency_blocks.specs.Blocks.{number_of}
-use Rattle.dependency_blocks.specs.Checks.{IsTable}
-use Rattle.dependency_blocks.specs.Sizes.{AreSmall}
+use Rattle.dependency_blocks.specs.inner.Checks.{IsTable}
+use Rattle.dependency_blocks.specs.inner.Sizes.{AreSmall}
 use Rattle.dependency_blocks.proofs.finding.write_all.Given as goal
 
 abbrev pub invariant-loop-fact : goal.invariant-loop-fact

@@ -1,6 +1,6 @@
 use Rattle.std.proofs.Common.{ℕ, nat_lt, length, drop, ap, sym, ◌∙◌, arith}
 use Rattle.std.proofs.lemmas.List.{drop_all}
-use Rattle.dependency_blocks.specs.Reach.{comes_before}
+use Rattle.dependency_blocks.specs.inner.Reach.{comes_before}
 use Rattle.dependency_blocks.proofs.Sets.{before-none, before-end}
 use Rattle.dependency_blocks.proofs.ranking.comes_before.Goals as goal
 

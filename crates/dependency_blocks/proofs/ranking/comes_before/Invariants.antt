@@ -1,5 +1,5 @@
 use Rattle.std.proofs.Common.{◌≡◌, ◌≤◌, drop, length}
-use Rattle.dependency_blocks.specs.Reach.{comes_before}
+use Rattle.dependency_blocks.specs.inner.Reach.{comes_before}
 use Rattle.dependency_blocks.proofs.ranking.comes_before.Given as goal
 
 abbrev pub invariant-loop-number : goal.invariant-loop-number

@@ -1,5 +1,5 @@
 use Rattle.std.proofs.Common.{◌≡◌, ◌≤◌, ◌+◌, drop}
-use Rattle.dependency_blocks.specs.Reach.{rank_of}
+use Rattle.dependency_blocks.specs.inner.Reach.{rank_of}
 use Rattle.dependency_blocks.proofs.ranking.rank.Given as goal
 
 abbrev pub invariant-loop-other : goal.invariant-loop-other

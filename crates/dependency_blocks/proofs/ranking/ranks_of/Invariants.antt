@@ -1,5 +1,5 @@
 use Rattle.std.proofs.Common.{◌≡◌, map, take}
-use Rattle.dependency_blocks.specs.Reach.{rank_of}
+use Rattle.dependency_blocks.specs.inner.Reach.{rank_of}
 use Rattle.dependency_blocks.proofs.ranking.ranks_of.Given as goal
 
 abbrev pub invariant-loop-own : goal.invariant-loop-own

@@ -1,6 +1,6 @@
 use Rattle.std.proofs.Common.{ℕ, ◌≡◌, ◌<◌, [], length, slice_index_or}
 use Rattle.fault_system.specs.Truth.{Has, member}
-use Rattle.dependency_blocks.specs.Reach.{IsReach}
+use Rattle.dependency_blocks.specs.inner.Reach.{IsReach}
 use Rattle.dependency_blocks.proofs.ranking.reaches_in.Given as goal
 
 abbrev pub invariant-loop-number : goal.invariant-loop-number

@@ -1,6 +1,6 @@
 use Rattle.std.proofs.Common.{◌≡◌, ◌-◌, length}
 use Rattle.fault_system.specs.Truth.{Has, count_true, member}
-use Rattle.dependency_blocks.specs.Reach.{AllFrom}
+use Rattle.dependency_blocks.specs.inner.Reach.{AllFrom}
 use Rattle.dependency_blocks.proofs.reach.reach.Given as goal
 
 abbrev pub invariant-loop : goal.invariant-loop

@@ -2,7 +2,7 @@ use Rattle.std.proofs.Common.{ℕ, ◌≡◌, ◌<◌, true, length}
 use Rattle.fault_system.specs.Truth.{Has, member, occurs}
 use Rattle.fault_system.specs.declared.formula.FactInfo.{FactInfo}
 use Rattle.fault_system.specs.Systems.{IsFact}
-use Rattle.dependency_blocks.specs.Reach.{AllFrom}
+use Rattle.dependency_blocks.specs.inner.Reach.{AllFrom}
 use Rattle.dependency_blocks.proofs.reach.sweep.Given as goal
 
 abbrev pub invariant-loop-number : goal.invariant-loop-number

@@ -1,6 +1,6 @@
 use Rattle.std.proofs.Common.{sym, subst, arith}
 use Rattle.fault_system.specs.Truth.{member}
-use Rattle.derivations.specs.Ordered.{IsOrder}
+use Rattle.derivations.specs.inner.Ordered.{IsOrder}
 use Rattle.derivations.proofs.Keys.{order-differs, order-within}
 use Rattle.derivations.proofs.Made.{made-derivation}
 use Rattle.derivations.proofs.ByRounds.{derivation-good, derivation-lines}

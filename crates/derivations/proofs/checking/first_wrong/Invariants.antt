@@ -1,6 +1,6 @@
 use Rattle.fault_system.specs.Truth.{member}
 use Rattle.derivations.specs.Steps.{AreRight}
-use Rattle.derivations.specs.Marked.{IsBlank}
+use Rattle.derivations.specs.inner.Marked.{IsBlank}
 use Rattle.derivations.proofs.checking.first_wrong.Given as goal
 
 abbrev pub invariant-loop-number : goal.invariant-loop-number

@@ -1,7 +1,7 @@
 use Rattle.std.proofs.Common.{◌&&◌, map, take}
 use Rattle.std.specs.List.{list_any}
 use Rattle.fault_system.specs.Truth.{member, occurs_event}
-use Rattle.derivations.specs.Gathered.{HasMore}
+use Rattle.derivations.specs.inner.Gathered.{HasMore}
 use Rattle.derivations.proofs.gathering.+events.Given as goal
 
 abbrev pub invariant-gather_all_events-loop-part : goal.invariant-gather_all_events-loop-part

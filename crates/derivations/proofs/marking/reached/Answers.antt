@@ -1,6 +1,6 @@
 use Rattle.std.proofs.Common.{List, ℕ, ◌≡◌, ◌+◌, ◌-◌, length, take, ap, ◌∙◌, subst, arith, length-append, ◌∷◌, [], ◌++◌}
 use Rattle.fault_system.proofs.TruthLaws.{count_true-le}
-use Rattle.derivations.specs.Reaching.{IsReaching}
+use Rattle.derivations.specs.inner.Reaching.{IsReaching}
 use Rattle.derivations.proofs.Reaching.{reaching-end}
 use Rattle.derivations.proofs.marking.reached.Goals as goal
 

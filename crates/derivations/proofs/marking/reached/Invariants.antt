@@ -1,6 +1,6 @@
 use Rattle.std.proofs.Common.{◌+◌, ◌-◌, length}
 use Rattle.fault_system.specs.Truth.{count_true}
-use Rattle.derivations.specs.Reaching.{IsReaching}
+use Rattle.derivations.specs.inner.Reaching.{IsReaching}
 use Rattle.derivations.proofs.marking.reached.Given as goal
 
 abbrev pub invariant-loop-number : goal.invariant-loop-number

@@ -1,4 +1,4 @@
-use Rattle.derivations.specs.Ordered.{AreKeys}
+use Rattle.derivations.specs.inner.Ordered.{AreKeys}
 use Rattle.derivations.proofs.ordering.keys_of.Given as goal
 
 abbrev pub invariant-loop-fact : goal.invariant-loop-fact

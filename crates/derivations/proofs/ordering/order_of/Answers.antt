@@ -1,5 +1,5 @@
 use Rattle.std.proofs.Common.{length, map, ap, ◌∙◌, sym, subst}
-use Rattle.derivations.specs.Ordered.{IsOrder}
+use Rattle.derivations.specs.inner.Ordered.{IsOrder}
 use Rattle.derivations.proofs.Keys.{fact_in, keys-order, keys-same}
 use Rattle.derivations.proofs.ordering.order_of.Goals as goal
 

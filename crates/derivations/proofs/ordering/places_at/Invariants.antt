@@ -1,5 +1,5 @@
 use Rattle.std.proofs.Common.{◌≡◌, map, take}
-use Rattle.derivations.specs.Ordered.{place_at}
+use Rattle.derivations.specs.inner.Ordered.{place_at}
 use Rattle.derivations.proofs.ordering.places_at.Given as goal
 
 abbrev pub invariant-loop-fact : goal.invariant-loop-fact

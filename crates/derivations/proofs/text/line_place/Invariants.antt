@@ -1,5 +1,5 @@
 use Rattle.std.proofs.Common.{◌≡◌, ◌≤◌, ◌+◌, length, drop}
-use Rattle.derivations.specs.Reading.{line_place}
+use Rattle.derivations.specs.inner.Reading.{line_place}
 use Rattle.derivations.proofs.text.line_place.Given as goal
 
 abbrev pub invariant-loop-more : goal.invariant-loop-more

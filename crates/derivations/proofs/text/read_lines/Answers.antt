@@ -2,7 +2,7 @@ use Rattle.std.proofs.Common.{List, ◌+◌, ◌≡◌, length, sym, refl, ◌�
 use Rattle.fault_system.specs.Truth.{member}
 use Rattle.derivations.specs.declared.derivation.Firing.{Firing}
 use Rattle.derivations.specs.Text.{HaveLines, lines_of}
-use Rattle.derivations.specs.Reading.{step_of}
+use Rattle.derivations.specs.inner.Reading.{step_of}
 use Rattle.derivations.proofs.Outer.{bad-end, bad-line, next-line, whole-text}
 use Rattle.derivations.proofs.Unique.{never-bad, only-steps}
 use Rattle.derivations.proofs.text.read_lines.Goals as goal

@@ -1,5 +1,5 @@
 use Rattle.std.proofs.Common.{◌∙◌, ap, arith}
-use Rattle.derivations.specs.Reading.{line_place}
+use Rattle.derivations.specs.inner.Reading.{line_place}
 use Rattle.derivations.proofs.Places.{place-of}
 use Rattle.derivations.proofs.text.step_place.Goals as goal
 

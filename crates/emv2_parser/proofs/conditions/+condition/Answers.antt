@@ -1,5 +1,5 @@
 use Rattle.grammar_rules.proofs.Loops.{goes_on, smaller}
-use Rattle.emv2_parser.specs.Takes.{and_primary-takes, or_conjunction-takes, further_condition-takes}
+use Rattle.emv2_parser.specs.inner.Takes.{and_primary-takes, or_conjunction-takes, further_condition-takes}
 use Rattle.emv2_parser.proofs.conditions.+condition.Goals as goal
 
 pub and_parts-loop-parts-smaller : goal.and_parts-loop-parts-smaller

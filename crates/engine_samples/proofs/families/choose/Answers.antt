@@ -1,6 +1,6 @@
 use Rattle.std.proofs.Common.{◌≤◌, All, length, sym, subst, arith}
 use Rattle.std.proofs.lemmas.List.Elements.{All-push, All-weaker}
-use Rattle.zdd_store.specs.Store.{IsIn}
+use Rattle.zdd_store.specs.inner.Store.{IsIn}
 use Rattle.engine_samples.proofs.families.choose.Goals as goal
 
 pub loop-var-preserved : goal.loop-var-preserved

@@ -1,5 +1,5 @@
 use Rattle.std.specs.Prelude.{All}
-use Rattle.zdd_store.specs.Store.{IsIn}
+use Rattle.zdd_store.specs.inner.Store.{IsIn}
 use Rattle.engine_samples.proofs.families.choose.Given as goal
 
 abbrev pub invariant-loop-var : goal.invariant-loop-var

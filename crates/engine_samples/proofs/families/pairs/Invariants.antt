@@ -1,5 +1,5 @@
 use Rattle.std.proofs.Common.{◌≤◌}
-use Rattle.zdd_store.specs.Store.{IsIn}
+use Rattle.zdd_store.specs.inner.Store.{IsIn}
 use Rattle.engine_samples.proofs.families.pairs.Given as goal
 
 abbrev pub invariant-loop-at : goal.invariant-loop-at

@@ -7,8 +7,8 @@ use Rattle.package_index.specs.declared.id.ClassifierId.{ClassifierId}
 use Rattle.error_behavior.specs.Machines.{Machine, find_machine}
 use Rattle.error_conditions.proofs.ConditionLaws.{map-more}
 use Rattle.instantiator.specs.declared.kinds.Kind.{Kind}
-use Rattle.plain_values.specs.Stops.{StopsAt}
-use Rattle.instantiator.specs.Tables.{kind_of}
+use Rattle.plain_values.specs.inner.Stops.{StopsAt}
+use Rattle.instantiator.specs.inner.Tables.{kind_of}
 use Rattle.error_models.specs.Below.{kind_machine, machine_of}
 use Rattle.error_models.specs.Refused.{fault_of, first_of, machine_fault}
 use Rattle.error_models.proofs.KindLaws.{first-end, first-step, first-stop, kinds-mapped}

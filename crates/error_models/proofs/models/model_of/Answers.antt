@@ -7,7 +7,7 @@ use Rattle.error_flows.specs.Flows.{all_flow_refusals, flows_of}
 use Rattle.error_behavior.specs.Behavior.{behavior_refusals, behavior_of}
 use Rattle.error_behavior.specs.States.{states_of}
 use Rattle.composite_states.specs.Composites.{clauses_of, composite_clause_refusals}
-use Rattle.plain_values.specs.Stops.{StopsAt}
+use Rattle.plain_values.specs.inner.Stops.{StopsAt}
 use Rattle.error_models.specs.Below.{states_below}
 use Rattle.error_models.specs.Models.{is_composite}
 use Rattle.error_models.proofs.KindLaws.{none-or, none-stops, or-stops}

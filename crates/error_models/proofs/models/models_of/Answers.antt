@@ -9,12 +9,12 @@ use Rattle.error_behavior.specs.Machines.{Machine}
 use Rattle.error_conditions.proofs.ConditionLaws.{map-more}
 use Rattle.instantiator.specs.declared.kinds.Kind.{Kind}
 use Rattle.instantiator.specs.Effectives.{effective_of}
-use Rattle.plain_values.specs.Stops.{StopsAt}
-use Rattle.instantiator.specs.Tables.{kind_of}
+use Rattle.plain_values.specs.inner.Stops.{StopsAt}
+use Rattle.instantiator.specs.inner.Tables.{kind_of}
 use Rattle.error_models.specs.Below.{kind_machine, states_below}
 use Rattle.error_models.specs.Models.{model_of, model_with}
 use Rattle.error_models.specs.Refused.{first_of, model_refusal, refusal_with}
-use Rattle.error_models.specs.Trees.{Tree}
+use Rattle.error_models.specs.inner.Trees.{Tree}
 use Rattle.error_models.proofs.KindLaws.{first-end, first-step, first-stop, made-at}
 use Rattle.error_models.proofs.models.models_of.Goals as goal
 

@@ -6,7 +6,7 @@ use Rattle.package_index.proofs.Loops.{noting-more}
 use Rattle.package_index.specs.declared.id.ClassifierId.{ClassifierId}
 use Rattle.error_types.specs.Libraries.{Table}
 use Rattle.instantiator.specs.Effectives.{effective_of}
-use Rattle.instantiator.specs.Tables.{kind_of}
+use Rattle.instantiator.specs.inner.Tables.{kind_of}
 use Rattle.used_sets.specs.Used.{used_set_refusals}
 use Rattle.error_models.specs.Below.{kind_machine}
 use Rattle.error_models.specs.Refused.{set_refusals}

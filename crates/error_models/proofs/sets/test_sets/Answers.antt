@@ -2,7 +2,7 @@ use Rattle.std.proofs.Common.{[], Contains, Err, IfErr, MatchOption, ap, subst, 
 use Rattle.std.proofs.lemmas.Result.{err_from_is_err_and}
 use Rattle.plain_values.specs.Order.{IsFirst, least, nearer}
 use Rattle.plain_values.proofs.OrderLaws.{noted-all}
-use Rattle.plain_values.specs.Stops.{StopsAtFirst}
+use Rattle.plain_values.specs.inner.Stops.{StopsAtFirst}
 use Rattle.error_models.specs.Refused.{all_set_refusals}
 use Rattle.error_models.proofs.sets.test_sets.Goals as goal
 

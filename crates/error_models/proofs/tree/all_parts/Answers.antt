@@ -4,7 +4,7 @@ use Rattle.aadl_syntax.specs.declared.core_model.PackageUnit.{PackageUnit}
 use Rattle.package_index.specs.declared.id.ClassifierId.{ClassifierId}
 use Rattle.instantiator.specs.declared.kinds.Kind.{Kind}
 use Rattle.instantiator.specs.Components.{Part, parts_of}
-use Rattle.instantiator.specs.Tables.{kind_of}
+use Rattle.instantiator.specs.inner.Tables.{kind_of}
 use Rattle.error_models.specs.Below.{kind_parts}
 use Rattle.error_models.proofs.KindLaws.{kinds-mapped}
 use Rattle.error_models.proofs.tree.all_parts.Goals as goal

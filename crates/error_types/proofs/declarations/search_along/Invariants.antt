@@ -1,7 +1,7 @@
 use Rattle.std.proofs.Common.{◌≡◌, drop}
 use Rattle.std.specs.HashMap.{get}
 use Rattle.plain_values.specs.Order.{nearer}
-use Rattle.error_types.specs.Known.{AreFound, same_search}
+use Rattle.error_types.specs.inner.Known.{AreFound, same_search}
 use Rattle.error_types.specs.Search.{search_along}
 use Rattle.error_types.proofs.declarations.search_along.Given as goal
 

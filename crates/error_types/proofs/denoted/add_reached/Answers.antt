@@ -1,5 +1,5 @@
 use Rattle.std.proofs.Common.{false, ◌++◌, refl, sym, ap, ◌∙◌}
-use Rattle.error_types.specs.Rows.{row_of}
+use Rattle.error_types.specs.inner.Rows.{row_of}
 use Rattle.error_types.specs.Walk.{reached, walk_from}
 use Rattle.error_types.proofs.TypeRows.{rows-joined}
 use Rattle.error_types.proofs.denoted.add_reached.Goals as goal

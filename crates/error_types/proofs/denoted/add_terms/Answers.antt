@@ -1,7 +1,7 @@
 use Rattle.std.proofs.Common.{[], ◌++◌, flat_map, take, refl, ap, ◌∙◌, subst}
 use Rattle.plain_values.specs.Order.{nearer}
 use Rattle.package_index.proofs.Loops.{gathered-more}
-use Rattle.error_types.specs.Rows.{Adds, Remembers, row_of}
+use Rattle.error_types.specs.inner.Rows.{Adds, Remembers, row_of}
 use Rattle.error_types.specs.Walk.{term_first, term_types}
 use Rattle.error_types.proofs.TermLaws.{terms-more}
 use Rattle.error_types.proofs.denoted.add_terms.Goals as goal

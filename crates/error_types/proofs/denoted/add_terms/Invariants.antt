@@ -1,6 +1,6 @@
 use Rattle.std.proofs.Common.{◌≡◌, drop, flat_map, take}
 use Rattle.plain_values.specs.Order.{nearer}
-use Rattle.error_types.specs.Rows.{Remembers, row_of}
+use Rattle.error_types.specs.inner.Rows.{Remembers, row_of}
 use Rattle.error_types.specs.Walk.{term_types, terms_first}
 use Rattle.error_types.proofs.denoted.add_terms.Given as goal
 

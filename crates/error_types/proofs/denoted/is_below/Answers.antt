@@ -1,5 +1,5 @@
 use Rattle.std.proofs.Common.{[], ◌∷◌, ◌<◌, length, ◌∙◌, subst}
-use Rattle.error_types.specs.Rows.{row_of}
+use Rattle.error_types.specs.inner.Rows.{row_of}
 use Rattle.error_types.proofs.TypeRows.{low-in}
 use Rattle.error_types.proofs.denoted.is_below.Goals as goal
 

@@ -1,5 +1,5 @@
 use Rattle.std.proofs.Common.{◌≡◌}
-use Rattle.error_types.specs.Endings.{IsWay, origin}
+use Rattle.error_types.specs.inner.Endings.{IsWay, origin}
 use Rattle.error_types.proofs.endings.follow.Given as goal
 
 abbrev pub invariant-loop : goal.invariant-loop

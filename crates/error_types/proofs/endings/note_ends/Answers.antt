@@ -1,9 +1,9 @@
 use Rattle.std.proofs.Common.{ℕ, ◌≡◌, [], ◌∷◌, ◌++◌, ◌-◌, take, ◌^◌, reverse, sym, ap, ◌∙◌, subst}
 use Rattle.std.specs.HashMap.{get}
 use Rattle.std.proofs.lemmas.List.{reverse-append}
-use Rattle.package_index.specs.Tables.{same_pair}
+use Rattle.package_index.specs.inner.Tables.{same_pair}
 use Rattle.error_types.specs.declared.id.ItemId.{ItemId}
-use Rattle.error_types.specs.Endings.{EndsIn, IsWay, origin, type_through}
+use Rattle.error_types.specs.inner.Endings.{EndsIn, IsWay, origin, type_through}
 use Rattle.error_types.proofs.EndingLaws.{at-last, one-back}
 use Rattle.error_types.proofs.Keys.{number_same}
 use Rattle.error_types.proofs.Remembering.{remembered-more}

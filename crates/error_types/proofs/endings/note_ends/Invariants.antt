@@ -1,7 +1,7 @@
 use Rattle.std.proofs.Common.{◌≡◌, reverse, vec_len}
 use Rattle.std.specs.HashMap.{get}
-use Rattle.package_index.specs.Tables.{same_pair}
-use Rattle.error_types.specs.Endings.{AreEnds, EndsIn, IsWay, origin}
+use Rattle.package_index.specs.inner.Tables.{same_pair}
+use Rattle.error_types.specs.inner.Endings.{AreEnds, EndsIn, IsWay, origin}
 use Rattle.error_types.proofs.endings.note_ends.Given as goal
 
 abbrev pub invariant-loop-id : goal.invariant-loop-id

@@ -1,5 +1,5 @@
 use Rattle.std.proofs.Common.{sym, ◌∙◌, subst}
-use Rattle.error_types.specs.Endings.{TurnsBy}
+use Rattle.error_types.specs.inner.Endings.{TurnsBy}
 use Rattle.error_types.proofs.EndingLaws.{comes-back}
 use Rattle.error_types.proofs.endings.turn_of.Goals as goal
 

@@ -1,7 +1,7 @@
 use Rattle.std.proofs.Common.{◌≡◌, map, take}
 use Rattle.std.specs.HashMap.{get}
-use Rattle.package_index.specs.Tables.{same_pair}
-use Rattle.error_types.specs.Endings.{AreEnds}
+use Rattle.package_index.specs.inner.Tables.{same_pair}
+use Rattle.error_types.specs.inner.Endings.{AreEnds}
 use Rattle.error_types.specs.Types.{base_of}
 use Rattle.error_types.proofs.hierarchy.bases_of.Given as goal
 

@@ -1,5 +1,5 @@
 use Rattle.std.specs.HashMap.{get}
-use Rattle.error_types.specs.Known.{IsFound, SearchKey, same_search}
+use Rattle.error_types.specs.inner.Known.{IsFound, SearchKey, same_search}
 use Rattle.error_types.proofs.Remembering.{found-alike, remembered-more}
 use Rattle.error_types.proofs.known.remember.Goals as goal
 

@@ -1,8 +1,8 @@
 use Rattle.std.proofs.Common.{ap, ◌∙◌}
 use Rattle.std.specs.HashMap.{get}
-use Rattle.package_index.specs.Tables.{same_text}
+use Rattle.package_index.specs.inner.Tables.{same_text}
 use Rattle.package_index.proofs.KnowsLaws.{knows-more}
-use Rattle.error_types.specs.Tables.{has_item_text}
+use Rattle.error_types.specs.inner.Tables.{has_item_text}
 use Rattle.error_types.proofs.Keys.{item_agrees, item_alike}
 use Rattle.error_types.proofs.library.places_of.Goals as goal
 

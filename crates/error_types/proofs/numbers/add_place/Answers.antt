@@ -1,9 +1,9 @@
 use Rattle.std.proofs.Common.{sym, ap, ◌∙◌}
 use Rattle.std.specs.HashMap.{get}
-use Rattle.package_index.specs.Tables.{same_text}
+use Rattle.package_index.specs.inner.Tables.{same_text}
 use Rattle.package_index.proofs.KnowsLaws.{knows-more}
 use Rattle.error_types.specs.Libraries.{is_type}
-use Rattle.error_types.specs.Tables.{has_type_text}
+use Rattle.error_types.specs.inner.Tables.{has_type_text}
 use Rattle.error_types.proofs.Keys.{type_agrees, type_alike}
 use Rattle.error_types.proofs.numbers.add_place.Goals as goal
 

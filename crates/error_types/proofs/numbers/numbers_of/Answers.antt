@@ -1,10 +1,10 @@
 use Rattle.std.proofs.Common.{ℕ, get_or, refl}
 use Rattle.std.proofs.lemmas.List.{get_or_default}
 use Rattle.std.specs.HashMap.{get}
-use Rattle.package_index.specs.Tables.{same_pair}
+use Rattle.package_index.specs.inner.Tables.{same_pair}
 use Rattle.package_index.proofs.KnowsLaws.{knows-more}
 use Rattle.error_types.specs.declared.id.ItemId.{ItemId}
-use Rattle.error_types.specs.Tables.{has_number}
+use Rattle.error_types.specs.inner.Tables.{has_number}
 use Rattle.error_types.proofs.Keys.{number_alike}
 use Rattle.error_types.proofs.numbers.numbers_of.Goals as goal
 

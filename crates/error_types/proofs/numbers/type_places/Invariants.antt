@@ -1,7 +1,7 @@
 use Rattle.std.proofs.Common.{take}
 use Rattle.std.specs.HashMap.{get}
-use Rattle.package_index.specs.Tables.{Knows, same_text}
-use Rattle.error_types.specs.Tables.{has_type_text}
+use Rattle.package_index.specs.inner.Tables.{Knows, same_text}
+use Rattle.error_types.specs.inner.Tables.{has_type_text}
 use Rattle.error_types.proofs.numbers.type_places.Given as goal
 
 abbrev pub invariant-loop-place : goal.invariant-loop-place

@@ -1,5 +1,5 @@
 use Rattle.std.proofs.Common.{◌≡◌}
-use Rattle.error_types.specs.Rows.{Remembers}
+use Rattle.error_types.specs.inner.Rows.{Remembers}
 use Rattle.error_types.proofs.reach.explore.Given as goal
 
 abbrev pub invariant-loop : goal.invariant-loop

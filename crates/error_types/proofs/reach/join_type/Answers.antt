@@ -1,5 +1,5 @@
 use Rattle.std.proofs.Common.{[], ◌∷◌, ◌<◌, length, refl, subst}
-use Rattle.error_types.specs.Rows.{row_of}
+use Rattle.error_types.specs.inner.Rows.{row_of}
 use Rattle.error_types.proofs.TypeRows.{rows-joined}
 use Rattle.error_types.proofs.reach.join_type.Goals as goal
 

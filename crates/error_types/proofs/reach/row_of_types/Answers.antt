@@ -1,6 +1,6 @@
 use Rattle.std.proofs.Common.{false, length, replicate, take, sym, ap, ◌∙◌}
 use Rattle.std.proofs.lemmas.List.{take_more}
-use Rattle.error_types.specs.Rows.{row_of}
+use Rattle.error_types.specs.inner.Rows.{row_of}
 use Rattle.error_types.proofs.TypeRows.{row-none}
 use Rattle.error_types.proofs.reach.row_of_types.Goals as goal
 

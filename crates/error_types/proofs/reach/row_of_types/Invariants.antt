@@ -1,5 +1,5 @@
 use Rattle.std.proofs.Common.{◌≡◌, take}
-use Rattle.error_types.specs.Rows.{row_of}
+use Rattle.error_types.specs.inner.Rows.{row_of}
 use Rattle.error_types.proofs.reach.row_of_types.Given as goal
 
 abbrev pub invariant-loop-number : goal.invariant-loop-number

@@ -1,5 +1,5 @@
 use Rattle.std.proofs.Common.{◌≡◌, ◌<◌, get_or, length, min, refl, subst, arith}
-use Rattle.error_types.specs.Words.{Joins}
+use Rattle.error_types.specs.inner.Words.{Joins}
 use Rattle.error_types.proofs.RowLaws.{joins-more, joins-none}
 use Rattle.error_types.proofs.row.join_words.Goals as goal
 

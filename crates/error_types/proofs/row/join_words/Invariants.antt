@@ -1,4 +1,4 @@
-use Rattle.error_types.specs.Words.{Joins}
+use Rattle.error_types.specs.inner.Words.{Joins}
 use Rattle.error_types.proofs.row.join_words.Given as goal
 
 abbrev pub invariant-loop-place : goal.invariant-loop-place

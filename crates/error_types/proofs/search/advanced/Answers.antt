@@ -1,6 +1,6 @@
 use Rattle.std.proofs.Common.{subst}
-use Rattle.error_types.specs.Course.{left}
-use Rattle.error_types.specs.Leaving.{Leads}
+use Rattle.error_types.specs.inner.Course.{left}
+use Rattle.error_types.specs.inner.Leaving.{Leads}
 use Rattle.std.proofs.lemmas.Result.{IfOk-weaker}
 use Rattle.error_types.proofs.search.advanced.Goals as goal
 

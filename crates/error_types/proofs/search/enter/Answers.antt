@@ -1,6 +1,6 @@
 use Rattle.std.proofs.Common.{sym, ap, ◌∙◌}
 use Rattle.plain_values.specs.Order.{nearer}
-use Rattle.error_types.specs.Course.{entered, left}
+use Rattle.error_types.specs.inner.Course.{entered, left}
 use Rattle.error_types.proofs.Ends.{ends}
 use Rattle.error_types.proofs.SearchLaws.{goes-on, ends-there}
 use Rattle.error_types.proofs.search.enter.Goals as goal

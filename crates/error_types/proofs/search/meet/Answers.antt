@@ -1,5 +1,5 @@
 use Rattle.std.proofs.Common.{◌≡◌, true, false, Some, is_some, ◌||◌, ◌∷◌, sym, ap, ◌∙◌}
-use Rattle.error_types.specs.Course.{is_vain, way_of}
+use Rattle.error_types.specs.inner.Course.{is_vain, way_of}
 use Rattle.error_types.specs.Search.{is_number_in}
 use Rattle.error_types.proofs.SearchLaws.{came-back, passed-by}
 use Rattle.error_types.proofs.search.meet.Goals as goal

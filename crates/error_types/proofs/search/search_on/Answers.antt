@@ -1,7 +1,7 @@
 use Rattle.std.proofs.Common.{◌≡◌, [], sym, ap, ◌∙◌, subst}
 use Rattle.plain_values.specs.Order.{nearer}
-use Rattle.error_types.specs.Course.{left}
-use Rattle.error_types.specs.Leaving.{Leads}
+use Rattle.error_types.specs.inner.Course.{left}
+use Rattle.error_types.specs.inner.Leaving.{Leads}
 use Rattle.error_types.specs.Search.{unknown_in}
 use Rattle.error_types.proofs.SearchLaws.{begins}
 use Rattle.error_types.proofs.search.search_on.Goals as goal

@@ -1,5 +1,5 @@
 use Rattle.std.proofs.Common.{◌≡◌}
-use Rattle.error_types.specs.Course.{left}
+use Rattle.error_types.specs.inner.Course.{left}
 use Rattle.error_types.specs.Search.{search}
 use Rattle.error_types.proofs.search.search_on.Given as goal
 

@@ -1,7 +1,7 @@
 use Rattle.std.proofs.Common.{sym, ◌∙◌, subst}
 use Rattle.std.specs.Prelude.{IfSome}
 use Rattle.std.proofs.lemmas.Option.{IfSome_then}
-use Rattle.error_types.specs.Rows.{IsOfTarget}
+use Rattle.error_types.specs.inner.Rows.{IsOfTarget}
 use Rattle.error_types.proofs.SettleLaws.{settled-target}
 use Rattle.error_types.proofs.settle.look_at.Goals as goal
 

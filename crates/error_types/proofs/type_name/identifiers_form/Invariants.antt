@@ -1,6 +1,6 @@
 use Rattle.std.proofs.Common.{take}
 use Rattle.std.specs.List.{AllByRecursion}
-use Rattle.aadl_syntax.specs.Token.{IsIdentifier}
+use Rattle.aadl_syntax.specs.inner.Token.{IsIdentifier}
 use Rattle.error_types.proofs.type_name.identifiers_form.Given as goal
 
 abbrev pub invariant-loop-identifier : goal.invariant-loop-identifier

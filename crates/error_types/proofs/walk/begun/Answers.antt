@@ -1,7 +1,7 @@
 use Rattle.std.proofs.Common.{[], ◌++◌, option_to_list, ap, ◌∙◌}
 use Rattle.std.proofs.lemmas.Result.{IfOk-weaker}
 use Rattle.plain_values.specs.Order.{least}
-use Rattle.error_types.specs.Trip.{walk_left}
+use Rattle.error_types.specs.inner.Trip.{walk_left}
 use Rattle.error_types.specs.Walk.{needs_of, of_item, products_of}
 use Rattle.error_types.proofs.TripLaws.{starts}
 use Rattle.error_types.proofs.walk.begun.Goals as goal

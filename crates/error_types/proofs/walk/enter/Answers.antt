@@ -1,6 +1,6 @@
 use Rattle.std.proofs.Common.{ap, ◌∙◌}
 use Rattle.plain_values.specs.Order.{least}
-use Rattle.error_types.specs.Trip.{at_visit, walk_left}
+use Rattle.error_types.specs.inner.Trip.{at_visit, walk_left}
 use Rattle.error_types.specs.Walk.{needs_of, of_item, products_of}
 use Rattle.error_types.proofs.TripLaws.{enters}
 use Rattle.error_types.proofs.walk.enter.Goals as goal

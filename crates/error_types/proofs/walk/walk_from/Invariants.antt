@@ -1,5 +1,5 @@
 use Rattle.std.proofs.Common.{◌≡◌}
-use Rattle.error_types.specs.Trip.{walk_left}
+use Rattle.error_types.specs.inner.Trip.{walk_left}
 use Rattle.error_types.specs.Walk.{walk_from}
 use Rattle.error_types.proofs.walk.walk_from.Given as goal
 

@@ -1,6 +1,6 @@
 use Rattle.std.proofs.Common.{◌∙◌}
 use Rattle.std.specs.HashMap.{get}
-use Rattle.package_index.specs.Tables.{same_text}
+use Rattle.package_index.specs.inner.Tables.{same_text}
 use Rattle.package_index.proofs.KnowsLaws.{knows-all, knows-more}
 use Rattle.event_origins.specs.Named.{has_text}
 use Rattle.event_origins.proofs.TableLaws.{name_agrees, name_alike}

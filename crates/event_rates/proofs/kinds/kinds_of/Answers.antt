@@ -3,7 +3,7 @@ use Rattle.std.proofs.lemmas.List.{take_all}
 use Rattle.instantiator.specs.declared.kinds.Kind.{Kind}
 use Rattle.error_models.proofs.KindLaws.{kinds-mapped}
 use Rattle.event_rates.specs.declared.kinds.KindRates.{KindRates}
-use Rattle.event_rates.specs.Tables.{effective_rates, kind_rates}
+use Rattle.event_rates.specs.inner.Tables.{effective_rates, kind_rates}
 use Rattle.event_rates.proofs.kinds.kinds_of.Goals as goal
 
 pub returns : goal.returns

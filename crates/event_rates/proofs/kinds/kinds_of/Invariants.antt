@@ -1,5 +1,5 @@
 use Rattle.std.proofs.Common.{◌≡◌, map, take}
-use Rattle.event_rates.specs.Tables.{effective_rates}
+use Rattle.event_rates.specs.inner.Tables.{effective_rates}
 use Rattle.event_rates.proofs.kinds.kinds_of.Given as goal
 
 abbrev pub invariant-loop-kind : goal.invariant-loop-kind

@@ -1,5 +1,5 @@
 use Rattle.std.proofs.Common.{◌≡◌, map, take}
-use Rattle.event_rates.specs.Tables.{unit_associations}
+use Rattle.event_rates.specs.inner.Tables.{unit_associations}
 use Rattle.event_rates.proofs.kinds.machines_of.Given as goal
 
 abbrev pub invariant-loop-package : goal.invariant-loop-package

@@ -1,10 +1,10 @@
 use Rattle.std.proofs.Common.{ap, sym, subst, ◌∙◌}
 use Rattle.std.proofs.lemmas.List.{take_all}
 use Rattle.std.specs.HashMap.{get}
-use Rattle.package_index.specs.Tables.{same_words}
+use Rattle.package_index.specs.inner.Tables.{same_words}
 use Rattle.package_index.proofs.Loops.{any-more}
 use Rattle.event_rates.specs.Associations.{is_distribution}
-use Rattle.event_rates.specs.Fitting.{PutsAt}
+use Rattle.event_rates.specs.inner.Fitting.{PutsAt}
 use Rattle.event_rates.proofs.FittingLaws.{HasPut, put-all, put-more}
 use Rattle.event_rates.proofs.table.add_association.Goals as goal
 

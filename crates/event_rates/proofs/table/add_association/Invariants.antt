@@ -1,6 +1,6 @@
 use Rattle.std.proofs.Common.{take}
 use Rattle.std.specs.HashMap.{get}
-use Rattle.package_index.specs.Tables.{same_words}
+use Rattle.package_index.specs.inner.Tables.{same_words}
 use Rattle.event_rates.proofs.FittingLaws.{HasPut}
 use Rattle.event_rates.proofs.table.add_association.Given as goal
 

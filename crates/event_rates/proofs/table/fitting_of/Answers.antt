@@ -3,8 +3,8 @@ use Rattle.std.proofs.lemmas.List.{map-append, take_all}
 use Rattle.std.specs.HashMap.{get}
 use denote.Ref.{Bor}
 use Rattle.aadl_syntax.specs.declared.error_model.Association.{Association}
-use Rattle.package_index.specs.Tables.{same_words}
-use Rattle.event_rates.specs.Fitting.{KnowsFitting}
+use Rattle.package_index.specs.inner.Tables.{same_words}
+use Rattle.event_rates.specs.inner.Fitting.{KnowsFitting}
 use Rattle.event_rates.proofs.FittingLaws.{front-more, knows-more}
 use Rattle.event_rates.proofs.table.fitting_of.Goals as goal
 

@@ -1,7 +1,7 @@
 use Rattle.std.proofs.Common.{map, take}
 use Rattle.std.specs.HashMap.{get}
-use Rattle.package_index.specs.Tables.{same_words}
-use Rattle.event_rates.specs.Fitting.{KnowsFitting}
+use Rattle.package_index.specs.inner.Tables.{same_words}
+use Rattle.event_rates.specs.inner.Fitting.{KnowsFitting}
 use Rattle.event_rates.proofs.table.fitting_of.Given as goal
 
 abbrev pub invariant-loop-association : goal.invariant-loop-association

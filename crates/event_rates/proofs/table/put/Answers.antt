@@ -1,5 +1,5 @@
 use Rattle.std.specs.HashMap.{get}
-use Rattle.package_index.specs.Tables.{same_words}
+use Rattle.package_index.specs.inner.Tables.{same_words}
 use Rattle.package_index.specs.declared.words.Words.TheVariants.{Identifiers}
 use Rattle.event_rates.proofs.FittingLaws.{puts}
 use Rattle.event_rates.proofs.table.put.Goals as goal

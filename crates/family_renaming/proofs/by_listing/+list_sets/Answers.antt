@@ -1,9 +1,9 @@
 use Rattle.std.proofs.Common.{◌≡◌, ◌∙◌, map, ap, subst}
 use Rattle.std.proofs.lemmas.Result.{on_ok_weaker}
-use Rattle.zdd_store.specs.Store.{family_of}
-use Rattle.zdd_families.specs.Unions.{with_number}
-use Rattle.family_renaming.specs.Renaming.{name_of}
-use Rattle.family_renaming.specs.Lists.{ListsMore}
+use Rattle.zdd_store.specs.inner.Store.{family_of}
+use Rattle.zdd_families.specs.inner.Unions.{with_number}
+use Rattle.family_renaming.specs.inner.Renaming.{name_of}
+use Rattle.family_renaming.specs.inner.Lists.{ListsMore}
 use Rattle.family_renaming.proofs.Added.{lists_node}
 use Rattle.family_renaming.proofs.by_listing.+list_sets.Goals as goal
 

@@ -1,7 +1,7 @@
 use Rattle.std.proofs.Common.{sym, subst, Ok, arith}
-use Rattle.zdd_store.specs.Store.{family_at}
+use Rattle.zdd_store.specs.inner.Store.{family_at}
 use Rattle.zdd_store.proofs.Growing.{Keeps-same}
-use Rattle.family_renaming.specs.Lists.{OneMore}
+use Rattle.family_renaming.specs.inner.Lists.{OneMore}
 use Rattle.family_renaming.proofs.Added.{one_more_unit, one_more_alone, grown, above_more, empty_above}
 use Rattle.family_renaming.proofs.by_listing.+set_alone.Goals as goal
 

@@ -1,6 +1,6 @@
 use Rattle.std.proofs.Common.{◌<◌, ◌≤◌, [], min, arith}
-use Rattle.zdd_store.specs.Family.{least_of, least_number}
-use Rattle.zdd_store.specs.Store.{family_of}
+use Rattle.zdd_store.specs.inner.Family.{least_of, least_number}
+use Rattle.zdd_store.specs.inner.Store.{family_of}
 use Rattle.family_renaming.proofs.Added.{one_more_unit, one_more_lo, grown, node_fits}
 use Rattle.family_renaming.proofs.by_listing.+with_empty.Goals as goal
 

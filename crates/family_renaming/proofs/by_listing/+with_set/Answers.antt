@@ -1,9 +1,9 @@
 use Rattle.std.proofs.Common.{◌≡◌, ◌<◌, ◌∷◌, sym, ap, subst, ◌∙◌}
-use Rattle.zdd_store.specs.Family.{branch, least_of, least_number}
-use Rattle.zdd_store.specs.Store.{family_of, family_at}
+use Rattle.zdd_store.specs.inner.Family.{branch, least_of, least_number}
+use Rattle.zdd_store.specs.inner.Store.{family_of, family_at}
 use Rattle.zdd_store.proofs.Branches.{branch-empty}
 use Rattle.zdd_store.proofs.Growing.{Keeps-same}
-use Rattle.family_renaming.specs.Lists.{HasOneMore}
+use Rattle.family_renaming.specs.inner.Lists.{HasOneMore}
 use Rattle.family_renaming.proofs.Added.{one_more_lo, one_more_hi, grown, above_more, empty_above, before_first, node_above, terminal_above}
 use Rattle.family_renaming.proofs.by_listing.+with_set.Goals as goal
 use Rattle.family_renaming.proofs.by_listing.+with_set.Goals.{in_default-look-via-in-Some-2+else-node-first-2, in_default-look-via-in_default-look}

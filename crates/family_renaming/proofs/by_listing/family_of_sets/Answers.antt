@@ -1,7 +1,7 @@
 use Rattle.std.proofs.Common.{◌≤◌, length, arith, subst}
-use Rattle.zdd_store.specs.Store.{family_of}
+use Rattle.zdd_store.specs.inner.Store.{family_of}
 use Rattle.zdd_families.proofs.Ways.{Keeps_trans}
-use Rattle.family_renaming.specs.Lists.{HasOneMore}
+use Rattle.family_renaming.specs.inner.Lists.{HasOneMore}
 use Rattle.family_renaming.proofs.Added.{has_more}
 use Rattle.family_renaming.proofs.by_listing.family_of_sets.Goals as goal
 

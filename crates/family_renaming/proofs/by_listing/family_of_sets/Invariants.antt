@@ -1,6 +1,6 @@
 use Rattle.std.proofs.Common.{◌≤◌, length, drop, map}
-use Rattle.zdd_store.specs.Store.{Keeps}
-use Rattle.family_renaming.specs.Lists.{HasSets}
+use Rattle.zdd_store.specs.inner.Store.{Keeps}
+use Rattle.family_renaming.specs.inner.Lists.{HasSets}
 use Rattle.family_renaming.proofs.by_listing.family_of_sets.Given as goal
 
 abbrev pub invariant-loop-at : goal.invariant-loop-at

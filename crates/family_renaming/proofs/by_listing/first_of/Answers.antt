@@ -1,6 +1,6 @@
 use Rattle.std.proofs.Common.{◌≡◌, ◌<◌, ◌-◌, List, [], ◌∷◌, ℕ, length, take, drop, slice_index_or, refl, sym, ap, subst, ◌∙◌, eq-eqb, arith}
 use Rattle.std.proofs.lemmas.Bool.{false≢true}
-use Rattle.zdd_store.specs.Family.{IsRising, least_of}
+use Rattle.zdd_store.specs.inner.Family.{IsRising, least_of}
 use Rattle.std.proofs.Math.Seq.{take-length}
 use Rattle.family_renaming.proofs.by_listing.first_of.Goals as goal
 

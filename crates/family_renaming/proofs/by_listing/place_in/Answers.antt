@@ -1,6 +1,6 @@
 use Rattle.std.proofs.Common.{◌≡◌, ◌<◌, length, subst, arith}
 use Rattle.std.specs.List.{insert}
-use Rattle.zdd_families.specs.Unions.{with_number}
+use Rattle.zdd_families.specs.inner.Unions.{with_number}
 use Rattle.family_renaming.proofs.Puts.{put_there, put_new}
 use Rattle.family_renaming.proofs.by_listing.place_in.Goals as goal
 

@@ -1,7 +1,7 @@
 use Rattle.std.proofs.Common.{◌∙◌, map, sym, ap}
 use Rattle.std.proofs.lemmas.List.Sorted.{All-permutation, IsPermutation-map, list_any-IsPermutation}
-use Rattle.zdd_store.specs.Family.{IsRising}
-use Rattle.zdd_store.specs.Store.{family_of}
+use Rattle.zdd_store.specs.inner.Family.{IsRising}
+use Rattle.zdd_store.specs.inner.Store.{family_of}
 use Rattle.family_renaming.proofs.Added.{all_listed}
 use Rattle.family_renaming.proofs.by_listing.sorted_sets.Goals as goal
 

@@ -1,6 +1,6 @@
 use Rattle.std.proofs.Common.{◌≡◌, sym, subst, rules, arith}
-use Rattle.zdd_store.specs.Family.{IsRising}
-use Rattle.zdd_families.specs.Unions.{with_number}
+use Rattle.zdd_store.specs.inner.Family.{IsRising}
+use Rattle.zdd_families.specs.inner.Unions.{with_number}
 use Rattle.family_renaming.proofs.Puts.{rising_with}
 use Rattle.family_renaming.proofs.by_listing.with.Goals as goal
 

@@ -1,4 +1,4 @@
-use Rattle.zdd_store.specs.Store.{family_of}
+use Rattle.zdd_store.specs.inner.Store.{family_of}
 use Rattle.family_renaming.proofs.Members.{renamed_sets}
 use Rattle.family_renaming.proofs.event_order.in_event_order.Goals as goal
 

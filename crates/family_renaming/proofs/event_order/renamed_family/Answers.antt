@@ -1,6 +1,6 @@
 use Rattle.std.proofs.Common.{subst}
-use Rattle.zdd_store.specs.Store.{family_of}
-use Rattle.family_renaming.specs.Renaming.{AreRenamed}
+use Rattle.zdd_store.specs.inner.Store.{family_of}
+use Rattle.family_renaming.specs.inner.Renaming.{AreRenamed}
 use Rattle.family_renaming.proofs.Own.{own_family}
 use Rattle.family_renaming.proofs.event_order.renamed_family.Goals as goal
 

@@ -1,7 +1,7 @@
 use Rattle.std.proofs.Common.{◌≡◌, ◌∙◌, ap, arith}
-use Rattle.zdd_store.specs.Store.{family_of}
-use Rattle.family_renaming.specs.Renaming.{name_of}
-use Rattle.family_renaming.specs.Splitting.{least_event}
+use Rattle.zdd_store.specs.inner.Store.{family_of}
+use Rattle.family_renaming.specs.inner.Renaming.{name_of}
+use Rattle.family_renaming.specs.inner.Splitting.{least_event}
 use Rattle.family_renaming.proofs.Firsts.{least-node_event, least-terminal_event}
 use Rattle.family_renaming.proofs.from_top.+least.Goals as goal
 

@@ -1,9 +1,9 @@
 use Rattle.std.proofs.Common.{sym, subst}
 use Rattle.std.specs.Prelude.{IfOk}
 use Rattle.std.proofs.lemmas.Result.{err_from_is_err_and}
-use Rattle.zdd_store.specs.Store.{Keeps}
+use Rattle.zdd_store.specs.inner.Store.{Keeps}
 use Rattle.zdd_families.proofs.Ways.{Keeps_four}
-use Rattle.family_renaming.specs.Splitting.{IsOrdered}
+use Rattle.family_renaming.specs.inner.Splitting.{IsOrdered}
 use Rattle.family_renaming.proofs.Firsts.{ordered_made}
 use Rattle.family_renaming.proofs.Tables.{all_kept}
 use Rattle.family_renaming.proofs.from_top.+ordered.Goals as goal

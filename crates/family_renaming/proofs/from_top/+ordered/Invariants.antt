@@ -1,6 +1,6 @@
 use Rattle.std.proofs.Common.{◌-◌}
-use Rattle.zdd_store.specs.Store.{family_of}
-use Rattle.family_renaming.specs.Splitting.{least_event}
+use Rattle.zdd_store.specs.inner.Store.{family_of}
+use Rattle.family_renaming.specs.inner.Splitting.{least_event}
 use Rattle.family_renaming.proofs.from_top.+ordered.Given as goal
 
 abbrev pub decreases-ordered : goal.decreases-ordered

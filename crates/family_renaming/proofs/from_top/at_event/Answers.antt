@@ -1,8 +1,8 @@
 use Rattle.std.proofs.Common.{subst, ap, ◌∙◌}
 use Rattle.std.proofs.lemmas.Result.{err_from_is_err_and}
-use Rattle.zdd_store.specs.Store.{family_of}
-use Rattle.family_renaming.specs.Renaming.{name_of}
-use Rattle.family_renaming.specs.Splitting.{IsParted}
+use Rattle.zdd_store.specs.inner.Store.{family_of}
+use Rattle.family_renaming.specs.inner.Renaming.{name_of}
+use Rattle.family_renaming.specs.inner.Splitting.{IsParted}
 use Rattle.family_renaming.proofs.Firsts.{at_least_event}
 use Rattle.family_renaming.proofs.Tables.{knows_in}
 use Rattle.family_renaming.proofs.from_top.at_event.Goals as goal

@@ -1,10 +1,10 @@
 use Rattle.std.proofs.Common.{◌≡◌, true, sym, ap, ◌∙◌, rules}
 use Rattle.std.specs.HashMap.{get}
 use Rattle.std.specs.Map.{lookup}
-use Rattle.zdd_store.specs.Store.{IsIn, family_of}
+use Rattle.zdd_store.specs.inner.Store.{IsIn, family_of}
 use Rattle.zdd_store.specs.declared.id.Id.{Id}
 use Rattle.zdd_store.specs.contracts.id.IdPartialEq.TheImpl.{eq-value as id_eq}
-use Rattle.family_renaming.specs.Splitting.{IsOrdered}
+use Rattle.family_renaming.specs.inner.Splitting.{IsOrdered}
 use Rattle.zdd_families.proofs.Copying.{knows_more}
 use Rattle.family_renaming.proofs.from_top.note_ordered.Goals as goal
 

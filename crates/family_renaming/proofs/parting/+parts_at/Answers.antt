@@ -1,12 +1,12 @@
 use Rattle.std.proofs.Common.{◌≡◌, ◌<◌, sym, subst, arith}
 use Rattle.std.specs.HashMap.{get}
 use Rattle.std.specs.Prelude.{IfOk}
-use Rattle.zdd_store.specs.Family.{least_number}
-use Rattle.zdd_store.specs.Store.{family_of, Keeps}
+use Rattle.zdd_store.specs.inner.Family.{least_number}
+use Rattle.zdd_store.specs.inner.Store.{family_of, Keeps}
 use Rattle.zdd_store.proofs.Growing.{Keeps-same}
 use Rattle.zdd_families.proofs.Ways.{Keeps_trans, Keeps_four}
 use Rattle.zdd_families.proofs.Splits.{least-terminal}
-use Rattle.family_renaming.specs.Splitting.{IsParted}
+use Rattle.family_renaming.specs.inner.Splitting.{IsParted}
 use Rattle.family_renaming.specs.contracts.parting.PlacePartialEq.TheImpl.{eq-value as place_eq}
 use Rattle.family_renaming.proofs.Tables.{parts_kept}
 use Rattle.family_renaming.proofs.Halves.{parted_greater, parted_at, parted_made}

@@ -1,6 +1,6 @@
 use Rattle.std.proofs.Common.{◌-◌}
-use Rattle.zdd_store.specs.Family.{least_number}
-use Rattle.zdd_store.specs.Store.{family_of}
+use Rattle.zdd_store.specs.inner.Family.{least_number}
+use Rattle.zdd_store.specs.inner.Store.{family_of}
 use Rattle.family_renaming.proofs.parting.+parts_at.Given as goal
 
 abbrev pub decreases-parts_at : goal.decreases-parts_at

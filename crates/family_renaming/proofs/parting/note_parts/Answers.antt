@@ -1,8 +1,8 @@
 use Rattle.std.proofs.Common.{◌≡◌, true, sym, ap, ◌∙◌, rules}
 use Rattle.std.specs.HashMap.{get}
 use Rattle.std.specs.Map.{lookup}
-use Rattle.zdd_store.specs.Store.{IsIn, family_of}
-use Rattle.family_renaming.specs.Splitting.{IsParted}
+use Rattle.zdd_store.specs.inner.Store.{IsIn, family_of}
+use Rattle.family_renaming.specs.inner.Splitting.{IsParted}
 use Rattle.family_renaming.specs.declared.parting.Place.{Place}
 use Rattle.family_renaming.specs.contracts.parting.PlacePartialEq.TheImpl.{eq-value as place_eq}
 use Rattle.zdd_families.proofs.Copying.{knows_more}

@@ -1,4 +1,4 @@
-use Rattle.family_renaming.specs.Orders.{HasPlaces}
+use Rattle.family_renaming.specs.inner.Orders.{HasPlaces}
 use Rattle.family_renaming.proofs.permuting.fill_places.Given as goal
 
 abbrev pub invariant-loop-place : goal.invariant-loop-place

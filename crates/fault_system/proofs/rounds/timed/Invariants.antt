@@ -1,6 +1,7 @@
 use Rattle.std.proofs.Common.{ℕ, ◌≡◌, ◌<◌, ◌≤◌, false, length}
 use Rattle.fault_system.specs.Truth.{member}
-use Rattle.fault_system.specs.Rounds.{ever, time_of}
+use Rattle.fault_system.specs.Rounds.{time_of}
+use Rattle.fault_system.specs.inner.Rounds.{ever}
 use Rattle.fault_system.proofs.rounds.timed.Given as goal
 
 abbrev pub invariant-loop-number : goal.invariant-loop-number

@@ -2,7 +2,7 @@ use Rattle.std.proofs.Common.{ap, sym, ◌∙◌, map, List}
 use Rattle.error_conditions.specs.declared.cause.Cause.{Cause}
 use Rattle.flattener.specs.Flat.{places}
 use Rattle.flattener.specs.Formulas.{cause_formula}
-use Rattle.flattener.specs.Tables.{capped, places_of}
+use Rattle.flattener.specs.inner.Tables.{capped, places_of}
 use Rattle.flattener.proofs.Caps.{one-of}
 use Rattle.flattener.proofs.Places.{cause-all, cause-any, cause-atleast, cause-event, cause-state}
 use Rattle.flattener.proofs.counts.+places.Goals as goal

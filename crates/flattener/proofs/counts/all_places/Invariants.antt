@@ -1,7 +1,7 @@
 use Rattle.std.proofs.Common.{◌≡◌, map, take, sum}
 use Rattle.flattener.specs.Flat.{places}
 use Rattle.flattener.specs.Facts.{meaning_of}
-use Rattle.flattener.specs.Tables.{capped}
+use Rattle.flattener.specs.inner.Tables.{capped}
 use Rattle.flattener.proofs.counts.all_places.Given as goal
 
 abbrev pub invariant-loop-fact : goal.invariant-loop-fact

@@ -1,6 +1,6 @@
 use Rattle.std.proofs.Common.{◌≡◌, map, take}
 use Rattle.flattener.specs.Formulas.{cause_formula}
-use Rattle.flattener.specs.Tables.{capped, places_of}
+use Rattle.flattener.specs.inner.Tables.{capped, places_of}
 use Rattle.flattener.proofs.counts.conditions_places.Given as goal
 
 abbrev pub invariant-loop-cause : goal.invariant-loop-cause

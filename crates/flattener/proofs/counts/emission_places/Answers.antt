@@ -1,5 +1,5 @@
 use Rattle.std.proofs.Common.{ap, sym, ◌∙◌}
-use Rattle.flattener.specs.Tables.{capped}
+use Rattle.flattener.specs.inner.Tables.{capped}
 use Rattle.flattener.proofs.Places.{emission-none, emission-some}
 use Rattle.flattener.proofs.counts.emission_places.Goals as goal
 

@@ -1,6 +1,6 @@
 use Rattle.std.proofs.Common.{◌≡◌, map, take}
 use Rattle.flattener.specs.Formulas.{emission_formulas}
-use Rattle.flattener.specs.Tables.{capped, places_of}
+use Rattle.flattener.specs.inner.Tables.{capped, places_of}
 use Rattle.flattener.proofs.counts.emissions_places.Given as goal
 
 abbrev pub invariant-loop-emission : goal.invariant-loop-emission

@@ -3,7 +3,7 @@ use Rattle.error_models.specs.declared.model.ErrorModel.{ErrorModel}
 use Rattle.flattener.specs.Formulas.{FlowAt, all_flow_formulas, flows_at}
 use Rattle.flattener.specs.Facts.{linked_formula}
 use Rattle.model_facts.specs.Facts.{outward_of}
-use Rattle.flattener.specs.Tables.{capped, places_of}
+use Rattle.flattener.specs.inner.Tables.{capped, places_of}
 use Rattle.flattener.proofs.Places.{some-empty, some-full}
 use Rattle.flattener.proofs.counts.flow_or_link_places.Goals as goal
 

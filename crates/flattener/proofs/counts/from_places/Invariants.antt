@@ -1,6 +1,6 @@
 use Rattle.std.proofs.Common.{◌≡◌, flat_map, take}
 use Rattle.flattener.specs.Facts.{perhaps_at}
-use Rattle.flattener.specs.Tables.{capped, places_of}
+use Rattle.flattener.specs.inner.Tables.{capped, places_of}
 use Rattle.flattener.proofs.counts.from_places.Given as goal
 
 abbrev pub invariant-loop-from : goal.invariant-loop-from

@@ -1,5 +1,5 @@
 use Rattle.std.proofs.Common.{ap, sym, ◌∙◌}
-use Rattle.flattener.specs.Tables.{capped}
+use Rattle.flattener.specs.inner.Tables.{capped}
 use Rattle.std.proofs.Common.{flat_map}
 use Rattle.flattener.proofs.Places.{places-Or}
 use Rattle.flattener.specs.Facts.{linked_from, perhaps_at}

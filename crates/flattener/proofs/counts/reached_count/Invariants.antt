@@ -1,6 +1,6 @@
 use Rattle.std.proofs.Common.{◌≡◌, filter, length, take}
 use Rattle.propagation_points.specs.Uses.{covers}
-use Rattle.flattener.specs.Tables.{capped}
+use Rattle.flattener.specs.inner.Tables.{capped}
 use Rattle.flattener.proofs.counts.reached_count.Given as goal
 
 abbrev pub invariant-loop-number : goal.invariant-loop-number

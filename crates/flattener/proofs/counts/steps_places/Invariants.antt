@@ -1,6 +1,6 @@
 use Rattle.std.proofs.Common.{◌≡◌, map, take}
 use Rattle.flattener.specs.Formulas.{step_formula}
-use Rattle.flattener.specs.Tables.{capped, places_of}
+use Rattle.flattener.specs.inner.Tables.{capped, places_of}
 use Rattle.flattener.proofs.counts.steps_places.Given as goal
 
 abbrev pub invariant-loop-step : goal.invariant-loop-step

@@ -1,6 +1,6 @@
 use Rattle.std.proofs.Common.{◌≡◌, map, take}
 use Rattle.flattener.specs.Formulas.{all_flow_formulas}
-use Rattle.flattener.specs.Tables.{flow_seen}
+use Rattle.flattener.specs.inner.Tables.{flow_seen}
 use Rattle.flattener.proofs.exits.flows.Given as goal
 
 abbrev pub invariant-loop-place : goal.invariant-loop-place

@@ -1,6 +1,6 @@
 use Rattle.std.proofs.Common.{◌≡◌, ◌++◌, ℕ, map, filter, take, nat_eq}
 use Rattle.std.specs.HashMap.{get}
-use Rattle.flattener.specs.Tables.{values}
+use Rattle.flattener.specs.inner.Tables.{values}
 use Rattle.flattener.proofs.kind.add_step.Given as goal
 
 abbrev pub invariant-loop-target : goal.invariant-loop-target

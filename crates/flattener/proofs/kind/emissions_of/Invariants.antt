@@ -1,7 +1,7 @@
 use Rattle.std.proofs.Common.{◌≡◌, ℕ, take, nat_eq}
 use Rattle.std.specs.HashMap.{get}
 use Rattle.flattener.specs.Formulas.{emissions_at}
-use Rattle.flattener.specs.Tables.{values}
+use Rattle.flattener.specs.inner.Tables.{values}
 use Rattle.flattener.proofs.kind.emissions_of.Given as goal
 
 abbrev pub invariant-loop-emission : goal.invariant-loop-emission

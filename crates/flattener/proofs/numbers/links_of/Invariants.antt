@@ -1,6 +1,6 @@
 use Rattle.std.proofs.Common.{take}
 use Rattle.std.specs.HashMap.{get}
-use Rattle.flattener.specs.Tables.{AreLinks, same_key}
+use Rattle.flattener.specs.inner.Tables.{AreLinks, same_key}
 use Rattle.flattener.proofs.numbers.links_of.Given as goal
 
 abbrev pub invariant-loop-link : goal.invariant-loop-link

@@ -1,6 +1,6 @@
 use Rattle.std.proofs.Common.{drop}
 use Rattle.plain_values.specs.Rising.{RisesWithin}
-use Rattle.fmea_rows.specs.Tables.{facts_of}
+use Rattle.fmea_rows.specs.inner.Tables.{facts_of}
 use Rattle.fmea_rows.proofs.change.are_rising.Given as goal
 
 abbrev pub invariant-loop-change : goal.invariant-loop-change

@@ -1,5 +1,5 @@
 use Rattle.std.proofs.Common.{◌≡◌, ◌++◌, take}
-use Rattle.fmea_rows.specs.Tables.{changed_rows}
+use Rattle.fmea_rows.specs.inner.Tables.{changed_rows}
 use Rattle.fmea_rows.proofs.table.add_changed.Given as goal
 
 abbrev pub invariant-loop-change : goal.invariant-loop-change

@@ -1,7 +1,8 @@
 use Rattle.std.proofs.Common.{◌++◌, ◌∙◌, ap, subst}
 use Rattle.fault_system.specs.Truth.{NumberSet}
-use Rattle.fault_system.specs.Rounds.{AreRounds, IsTable, only}
-use Rattle.fmea_rows.specs.Tables.{table_rows}
+use Rattle.fault_system.specs.Rounds.{AreRounds, only}
+use Rattle.fault_system.specs.inner.Rounds.{IsTable}
+use Rattle.fmea_rows.specs.inner.Tables.{table_rows}
 use Rattle.fmea_rows.proofs.TableLaws.{table-rows}
 use Rattle.fmea_rows.proofs.table.add_plain.Goals as goal
 

@@ -1,5 +1,5 @@
 use Rattle.std.proofs.Common.{◌≡◌, ◌++◌, take}
-use Rattle.fmea_rows.specs.Tables.{table_rows}
+use Rattle.fmea_rows.specs.inner.Tables.{table_rows}
 use Rattle.fmea_rows.proofs.table.add_reached.Given as goal
 
 abbrev pub invariant-loop-effect : goal.invariant-loop-effect

@@ -1,5 +1,5 @@
 use Rattle.std.proofs.Common.{◌++◌, ◌∙◌, List, ap, subst}
-use Rattle.fmea_rows.specs.Tables.{IsRight, changed, changed_rows}
+use Rattle.fmea_rows.specs.inner.Tables.{IsRight, changed, changed_rows}
 use Rattle.fmea_rows.specs.declared.change.Change.{Change}
 use Rattle.fmea_rows.proofs.TableLaws.{changed-rows, table-rows}
 use Rattle.fmea_rows.proofs.table.add_rows.Goals as goal

@@ -2,7 +2,7 @@ use Rattle.std.proofs.Common.{ℕ, ◌≡◌, ◌∙◌, List, ap, length, subst
 use Rattle.std.proofs.lemmas.List.{with_items_is}
 use Rattle.plain_values.specs.Rising.{RisesWithin}
 use Rattle.fault_system.specs.Truth.{member}
-use Rattle.fmea_rows.specs.Tables.{FitsWhereFelt, changed, facts_of}
+use Rattle.fmea_rows.specs.inner.Tables.{FitsWhereFelt, changed, facts_of}
 use Rattle.fmea_rows.proofs.TableLaws.{checked}
 use Rattle.fmea_rows.proofs.table.is_right.Goals as goal
 

@@ -1,7 +1,8 @@
 use Rattle.std.proofs.Common.{ℕ, ◌≡◌, ◌∙◌, ap, length, subst, sym, arith}
 use Rattle.std.specs.List.{flat_map}
 use Rattle.plain_values.specs.Numbered.{numbers_below}
-use Rattle.fmea_rows.specs.Rows.{AreRows, event_rows, rows_of}
+use Rattle.fmea_rows.specs.Rows.{event_rows, rows_of}
+use Rattle.fmea_rows.specs.inner.Rows.{AreRows}
 use Rattle.fmea_rows.proofs.RowLaws.{rows-exact, rows-next}
 use Rattle.fmea_rows.proofs.table.rows.Goals as goal
 

@@ -2,7 +2,7 @@ use Rattle.std.proofs.Common.{◌≡◌}
 use Rattle.std.specs.List.{flat_map}
 use Rattle.plain_values.specs.Numbered.{numbers_below}
 use Rattle.fmea_rows.specs.Rows.{event_rows}
-use Rattle.fmea_rows.specs.Tables.{IsBetween}
+use Rattle.fmea_rows.specs.inner.Tables.{IsBetween}
 use Rattle.fmea_rows.proofs.table.rows.Given as goal
 
 abbrev pub invariant-loop-event : goal.invariant-loop-event

@@ -1,7 +1,8 @@
 use Rattle.std.proofs.Common.{ℕ, ◌≤◌, List, length, sym, subst, ⊎_elim, arith}
 use Rattle.std.proofs.lemmas.List.{take_all}
 use Rattle.fault_system.specs.Truth.{Has, member, set_of}
-use Rattle.fault_system.specs.Rounds.{FitsFact, time_of}
+use Rattle.fault_system.specs.Rounds.{time_of}
+use Rattle.fault_system.specs.inner.Rounds.{FitsFact}
 use Rattle.fmea_rows.proofs.TestLaws.{among-more}
 use Rattle.fmea_rows.proofs.testing.all_fit.Goals as goal
 

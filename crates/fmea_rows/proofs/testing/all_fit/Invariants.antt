@@ -1,6 +1,6 @@
 use Rattle.std.proofs.Common.{take}
 use Rattle.fault_system.specs.Truth.{member, set_of}
-use Rattle.fmea_rows.specs.Tables.{AllFit, IsTested}
+use Rattle.fmea_rows.specs.inner.Tables.{AllFit, IsTested}
 use Rattle.fmea_rows.proofs.testing.all_fit.Given as goal
 
 abbrev pub invariant-loop-fact : goal.invariant-loop-fact

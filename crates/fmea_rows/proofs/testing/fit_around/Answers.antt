@@ -1,7 +1,7 @@
 use Rattle.std.proofs.Common.{◌≤◌, List, length, sym, subst, ⊎_elim, arith}
 use Rattle.std.proofs.lemmas.List.{take_all}
 use Rattle.fault_system.specs.Truth.{Has, member, set_of}
-use Rattle.fmea_rows.specs.Tables.{FitsAround, facts_of}
+use Rattle.fmea_rows.specs.inner.Tables.{FitsAround, facts_of}
 use Rattle.fmea_rows.specs.declared.change.Change.{Change}
 use Rattle.fmea_rows.proofs.TestLaws.{among-changes}
 use Rattle.fmea_rows.proofs.testing.fit_around.Goals as goal

@@ -1,6 +1,6 @@
 use Rattle.std.proofs.Common.{ℕ, take}
 use Rattle.fault_system.specs.Truth.{Has, member, set_of}
-use Rattle.fmea_rows.specs.Tables.{FitsAround, IsTested, facts_of}
+use Rattle.fmea_rows.specs.inner.Tables.{FitsAround, IsTested, facts_of}
 use Rattle.fmea_rows.proofs.testing.fit_around.Given as goal
 
 abbrev pub invariant-loop-change : goal.invariant-loop-change

@@ -1,4 +1,4 @@
-use Rattle.fmea_rows.specs.Tables.{AreUsersBelow}
+use Rattle.fmea_rows.specs.inner.Tables.{AreUsersBelow}
 use Rattle.fmea_rows.proofs.users.users_of.Given as goal
 
 abbrev pub invariant-loop-number : goal.invariant-loop-number

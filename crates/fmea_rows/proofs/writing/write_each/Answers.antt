@@ -1,6 +1,6 @@
 use Rattle.std.proofs.Common.{Err, ◌∙◌, ap}
 use Rattle.std.proofs.lemmas.Result.{err_from_is_err_and}
-use Rattle.fmea_rows.specs.Written.{row_record}
+use Rattle.fmea_rows.specs.inner.Written.{row_record}
 use Rattle.fmea_rows.specs.declared.row.Row.{Row}
 use Rattle.fmea_rows.proofs.WriteLaws.{wrote_part}
 use Rattle.fmea_rows.proofs.writing.write_each.Goals as goal

@@ -1,7 +1,7 @@
 use Rattle.std.proofs.Common.{◌≡◌, ◌≤◌, take}
 use Rattle.std.specs.List.{flat_map}
 use Rattle.fta_outside.specs.Outside.{with_bytes}
-use Rattle.fmea_rows.specs.Written.{IsAtLine, row_record}
+use Rattle.fmea_rows.specs.inner.Written.{IsAtLine, row_record}
 use Rattle.fmea_rows.proofs.writing.write_each.Given as goal
 
 abbrev pub invariant-loop-row : goal.invariant-loop-row

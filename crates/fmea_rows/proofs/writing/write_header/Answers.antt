@@ -1,5 +1,5 @@
 use Rattle.std.proofs.Common.{ℕ, List, subst}
-use Rattle.fmea_rows.specs.Written.{Writes, record_text}
+use Rattle.fmea_rows.specs.inner.Written.{Writes, record_text}
 use Rattle.fmea_rows.proofs.writing.write_header.Goals as goal
 
 pub returns-clause-wrote : goal.returns-clause-wrote

@@ -2,7 +2,7 @@ use Rattle.std.proofs.Common.{Err, ap, refl, ◌∙◌}
 use Rattle.std.specs.List.{flat_map}
 use Rattle.std.proofs.lemmas.Result.{err_from_is_err_and}
 use Rattle.fmea_rows.specs.Text.{header}
-use Rattle.fmea_rows.specs.Written.{record_text, row_record}
+use Rattle.fmea_rows.specs.inner.Written.{record_text, row_record}
 use Rattle.fmea_rows.proofs.WriteLaws.{wrote_not, wrote_then}
 use Rattle.fmea_rows.proofs.writing.write_lines.Goals as goal
 

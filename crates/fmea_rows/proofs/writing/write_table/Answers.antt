@@ -1,5 +1,5 @@
 use Rattle.std.proofs.Common.{ℕ, List, subst}
-use Rattle.fmea_rows.specs.Written.{Writes}
+use Rattle.fmea_rows.specs.inner.Written.{Writes}
 use Rattle.fmea_rows.proofs.LineLaws.{table-lines}
 use Rattle.fmea_rows.proofs.writing.write_table.Goals as goal
 

@@ -2,7 +2,7 @@ use Rattle.std.proofs.Common.{ℕ, ◌≡◌, ◌∙◌, ap, arith, get_or, subs
 use Rattle.std.proofs.lemmas.Bool.{cases_eq}
 use Rattle.std.proofs.lemmas.List.{get_or_default}
 use Rattle.fault_system.specs.declared.formula.EventInfo.{EventInfo}
-use Rattle.fmea_rows.specs.Text.{IsPlainField}
+use Rattle.fmea_rows.specs.inner.Text.{IsPlainField}
 use Rattle.fmea_samples.proofs.names.events_are_plain.Goals as goal
 
 pub loop-event-preserved : goal.loop-event-preserved

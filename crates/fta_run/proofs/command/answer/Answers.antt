@@ -3,7 +3,7 @@ use lib.ListN.{length-map}
 use Rattle.plain_values.specs.Rising.{RisesWithin}
 use Rattle.phases.specs.Phases.{Passes, finds}
 use Rattle.phases.specs.declared.status.Status.TheVariants.{Usage}
-use Rattle.fta_words.specs.Shown.{command_shown}
+use Rattle.fta_words.specs.inner.Shown.{command_shown}
 use Rattle.fta_run.specs.Words.{IsCommand, chosen_of}
 use Rattle.system_answers.specs.Voices.{labels, voices_of}
 use Rattle.system_answers.proofs.Reported.{labels_are, names_kept}

@@ -1,6 +1,6 @@
-use Rattle.fta_run.specs.Steps.{IsReadEnd}
+use Rattle.fta_run.specs.inner.Steps.{IsReadEnd}
 use Rattle.fta_run.specs.Due.{check_text, model_of_files}
-use Rattle.system_answers.specs.Prints.{NoFault}
+use Rattle.system_answers.specs.inner.Prints.{NoFault}
 use Rattle.fta_run.proofs.Ran.{ran_on, ran_stopped}
 use Rattle.fta_run.proofs.command.check.Goals as goal
 

@@ -1,7 +1,7 @@
 use Rattle.std.proofs.Common.{List, ℕ}
 use Rattle.fta_run.specs.Due.{cuts_in, texts_of}
-use Rattle.fta_run.specs.Steps.{IsReadEnd}
-use Rattle.system_answers.specs.Prints.{NoFault}
+use Rattle.fta_run.specs.inner.Steps.{IsReadEnd}
+use Rattle.system_answers.specs.inner.Prints.{NoFault}
 use Rattle.fta_run.proofs.Ran.{ran_on, ran_stopped}
 use Rattle.fta_run.proofs.command.cuts.Goals as goal
 

@@ -1,8 +1,8 @@
 use Rattle.fta_run.specs.Due.{events_text, made_of_files}
 use Rattle.model_phases.specs.Phases.{origins_phase}
 use Rattle.model_phases.specs.declared.events.EventModel.{EventModel}
-use Rattle.fta_run.specs.Steps.{IsReadEnd}
-use Rattle.system_answers.specs.Prints.{NoFault}
+use Rattle.fta_run.specs.inner.Steps.{IsReadEnd}
+use Rattle.system_answers.specs.inner.Prints.{NoFault}
 use Rattle.fta_run.proofs.Ran.{ran_on, ran_stopped}
 use Rattle.fta_run.proofs.command.events.Goals as goal
 

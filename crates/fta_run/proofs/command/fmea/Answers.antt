@@ -1,7 +1,7 @@
 use Rattle.fta_run.specs.Due.{model_of_files, fmea_text}
 use Rattle.model_phases.specs.declared.flat.FlatModel.{FlatModel}
-use Rattle.fta_run.specs.Steps.{IsReadEnd}
-use Rattle.system_answers.specs.Prints.{NoFault}
+use Rattle.fta_run.specs.inner.Steps.{IsReadEnd}
+use Rattle.system_answers.specs.inner.Prints.{NoFault}
 use Rattle.fta_run.proofs.Ran.{ran_on, ran_stopped}
 use Rattle.fta_run.proofs.command.fmea.Goals as goal
 

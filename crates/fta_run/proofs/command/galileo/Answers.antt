@@ -1,6 +1,6 @@
 use Rattle.fta_run.specs.Due.{first_text, sets_of_tree, texts_of}
-use Rattle.fta_run.specs.Steps.{IsReadEnd}
-use Rattle.system_answers.specs.Prints.{NoFault, Prints}
+use Rattle.fta_run.specs.inner.Steps.{IsReadEnd}
+use Rattle.system_answers.specs.inner.Prints.{NoFault, Prints}
 use Rattle.fta_run.proofs.Ran.{ran_on, ran_stopped}
 use Rattle.fta_run.proofs.command.galileo.Goals as goal
 use Rattle.std.proofs.Common.{List, ℕ, subst}

@@ -1,9 +1,9 @@
 use Rattle.std.proofs.Common.{inl, subst}
-use Rattle.phases.specs.Meets.{Meets}
+use Rattle.phases.specs.inner.Meets.{Meets}
 use Rattle.phases.proofs.Steps.{ends, exits, meets_later}
 use Rattle.model_phases.specs.Phases.{origins_phase}
 use Rattle.fta_run.specs.Due.{made_of_texts, texts_of}
-use Rattle.fta_run.specs.Steps.{IsReadEnd}
+use Rattle.fta_run.specs.inner.Steps.{IsReadEnd}
 use Rattle.fta_run.proofs.command.read_events.Goals as goal
 
 pub returns-in_err-texts-clause-meets : goal.returns-in_err-texts-clause-meets

@@ -1,8 +1,8 @@
 use Rattle.std.proofs.Common.{inl, subst}
-use Rattle.phases.specs.Meets.{Meets}
+use Rattle.phases.specs.inner.Meets.{Meets}
 use Rattle.phases.proofs.Steps.{ends, exits, meets_later}
 use Rattle.fta_run.specs.Due.{model_of_texts, texts_of}
-use Rattle.fta_run.specs.Steps.{IsReadEnd}
+use Rattle.fta_run.specs.inner.Steps.{IsReadEnd}
 use Rattle.fta_run.proofs.command.read_model.Goals as goal
 
 pub returns-in_err-texts-clause-meets : goal.returns-in_err-texts-clause-meets

@@ -2,7 +2,7 @@ use Rattle.model_phases.specs.declared.flat.FlatModel.{FlatModel}
 use Rattle.system_answers.specs.Texts.{report_text}
 use Rattle.system_answers.specs.Voices.{voices_of}
 use Rattle.fta_run.specs.Due.{model_of_files}
-use Rattle.fta_run.specs.Steps.{IsReadEnd}
+use Rattle.fta_run.specs.inner.Steps.{IsReadEnd}
 use Rattle.fta_run.proofs.Ran.{ran_on, ran_stopped}
 use Rattle.fta_run.proofs.command.report.Goals as goal
 

@@ -3,8 +3,8 @@ use Rattle.phases.specs.Phases.{yields}
 use Rattle.fta_run.specs.Due.{made_of_files}
 use Rattle.model_phases.specs.Phases.{review_phase}
 use Rattle.model_phases.specs.declared.review.ReviewedModel.{ReviewedModel}
-use Rattle.fta_run.specs.Steps.{IsReadEnd}
-use Rattle.system_answers.specs.Prints.{NoFault, Prints}
+use Rattle.fta_run.specs.inner.Steps.{IsReadEnd}
+use Rattle.system_answers.specs.inner.Prints.{NoFault, Prints}
 use Rattle.fta_run.proofs.Ran.{ran_on, ran_stopped}
 use Rattle.fta_run.proofs.command.review.Goals as goal
 

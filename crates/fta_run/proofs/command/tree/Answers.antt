@@ -3,8 +3,8 @@ use Rattle.property_reader.specs.declared.rate.Rate.{Rate}
 use Rattle.fta_run.specs.Due.{model_of_files}
 use Rattle.system_answers.specs.Texts.{tree_text}
 use Rattle.model_phases.specs.declared.flat.FlatModel.{FlatModel}
-use Rattle.fta_run.specs.Steps.{IsReadEnd}
-use Rattle.system_answers.specs.Prints.{NoFault, Prints}
+use Rattle.fta_run.specs.inner.Steps.{IsReadEnd}
+use Rattle.system_answers.specs.inner.Prints.{NoFault, Prints}
 use Rattle.fta_run.proofs.Ran.{ran_on, ran_stopped}
 use Rattle.fta_run.proofs.command.tree.Goals as goal
 

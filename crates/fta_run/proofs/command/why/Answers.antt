@@ -2,8 +2,8 @@ use Rattle.fta_run.proofs.Names.{model_token_names}
 use Rattle.fta_run.specs.Due.{model_of_files}
 use Rattle.system_answers.specs.Derivations.{why_text}
 use Rattle.model_phases.specs.declared.flat.FlatModel.{FlatModel}
-use Rattle.fta_run.specs.Steps.{IsReadEnd}
-use Rattle.system_answers.specs.Prints.{NoFault}
+use Rattle.fta_run.specs.inner.Steps.{IsReadEnd}
+use Rattle.system_answers.specs.inner.Prints.{NoFault}
 use Rattle.fta_run.proofs.Ran.{ran_on, ran_stopped}
 use Rattle.fta_run.proofs.command.why.Goals as goal
 

@@ -3,7 +3,7 @@ use Rattle.phases.proofs.Steps.{ends}
 use Rattle.model_phases.specs.declared.flat.FlatModel.{FlatModel}
 use Rattle.page_tokens.specs.Keys.{asked_digits}
 use Rattle.fta_run.specs.Due.{cuts_in, model_of_texts}
-use Rattle.system_answers.specs.Prints.{NoFault, Prints}
+use Rattle.system_answers.specs.inner.Prints.{NoFault, Prints}
 use Rattle.system_answers.specs.Texts.{cuts_text}
 use Rattle.system_answers.proofs.Prints.{prints_on, prints_stop}
 use Rattle.fta_run.proofs.Names.{model_token_names}

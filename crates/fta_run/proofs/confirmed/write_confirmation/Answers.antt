@@ -1,11 +1,11 @@
 use Rattle.std.proofs.Common.{List, ℕ, ◌⊎◌, inl, inr, subst}
-use Rattle.phases.specs.Meets.{IsMemory}
+use Rattle.phases.specs.inner.Meets.{IsMemory}
 use Rattle.phases.specs.Phases.{Passes, Stops}
 use Rattle.model_phases.specs.declared.flat.FlatModel.{FlatModel}
 use Rattle.fta_run.specs.Due.{confirmed_in, first_text, model_of_texts, other_texts}
 use Rattle.fta_run.specs.Later.{in_later_files}
 use Rattle.system_answers.specs.Derivations.{confirm_text}
-use Rattle.system_answers.specs.Prints.{NoFault, Prints}
+use Rattle.system_answers.specs.inner.Prints.{NoFault, Prints}
 use Rattle.system_answers.proofs.Prints.{prints_on, prints_stop}
 use Rattle.fta_run.proofs.Names.{event_line_names, fact_line_names, model_token_names}
 use Rattle.fta_run.proofs.confirmed.write_confirmation.Goals as goal

@@ -2,7 +2,7 @@ use Rattle.std.proofs.Common.{ap, refl, subst, ◌∙◌}
 use Rattle.fta_outside.specs.Outside.{TookPrefix, with_bytes}
 use Rattle.event_lines.specs.Text.{events_text as text_of_events}
 use Rattle.fta_run.specs.Due.{events_text}
-use Rattle.system_answers.specs.Prints.{NoFault}
+use Rattle.system_answers.specs.inner.Prints.{NoFault}
 use Rattle.system_answers.proofs.Prints.{prints_front}
 use Rattle.fta_run.proofs.events.write_events.Goals as goal
 

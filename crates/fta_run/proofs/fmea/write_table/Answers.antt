@@ -5,7 +5,7 @@ use Rattle.fmea_rows.specs.Rows.{rows_of}
 use Rattle.fmea_rows.specs.Text.{table_text}
 use Rattle.fta_run.specs.Due.{fmea_text}
 use Rattle.fta_run.specs.Effects.{asked_effects}
-use Rattle.system_answers.specs.Prints.{NoFault}
+use Rattle.system_answers.specs.inner.Prints.{NoFault}
 use Rattle.system_answers.proofs.Prints.{prints_front}
 use Rattle.fta_run.proofs.fmea.write_table.Goals as goal
 

@@ -1,5 +1,5 @@
 use Rattle.std.proofs.Common.{◌∙◌, ◌++◌, ◌∷◌, [], ap, subst}
-use Rattle.phases.specs.Meets.{Meets}
+use Rattle.phases.specs.inner.Meets.{Meets}
 use Rattle.fta_run.specs.Due.{within_limits}
 use Rattle.fta_run.proofs.input.texts_of_one.Goals as goal
 

@@ -1,6 +1,6 @@
 use Rattle.std.proofs.Common.{◌≡◌, ◌<◌, ◌+◌, length, get_or, sym, subst, add-one, take}
 use Rattle.aadl_lexer.specs.Tokens.{Tokens}
-use Rattle.phases.specs.Stopped.{status_of}
+use Rattle.phases.specs.inner.Stopped.{status_of}
 use Rattle.phases.proofs.Steps.{exits}
 use Rattle.fta_run.specs.Files.{AreTokens}
 use Rattle.fta_run.proofs.Lacking.{tokens_stop, zip-more}

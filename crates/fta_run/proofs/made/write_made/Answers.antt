@@ -1,9 +1,9 @@
 use Rattle.std.proofs.Common.{◌∷◌, ◌⊎◌, [], subst}
-use Rattle.phases.specs.Meets.{IsMemory}
+use Rattle.phases.specs.inner.Meets.{IsMemory}
 use Rattle.phases.specs.Phases.{Passes, Stops, chains}
 use Rattle.phases.proofs.Steps.{◌beyond◌, ends}
 use Rattle.fta_run.specs.Due.{made_model_text, made_root, model_of_texts, sized_text, within_limits}
-use Rattle.system_answers.specs.Prints.{NoFault}
+use Rattle.system_answers.specs.inner.Prints.{NoFault}
 use Rattle.system_answers.proofs.Prints.{prints_on, prints_stop}
 use Rattle.fta_run.proofs.made.write_made.Goals as goal
 

@@ -3,7 +3,7 @@ use Rattle.fta_outside.specs.Outside.{TookPrefix}
 use Rattle.phases.specs.Phases.{yields}
 use Rattle.model_maker.specs.Text.{text_of}
 use Rattle.fta_run.specs.Due.{made_model_text}
-use Rattle.system_answers.specs.Prints.{NoFault, Prints}
+use Rattle.system_answers.specs.inner.Prints.{NoFault, Prints}
 use Rattle.system_answers.proofs.Prints.{prints_front}
 use Rattle.fta_run.proofs.made.write_make.Goals as goal
 

@@ -1,5 +1,5 @@
 use Rattle.phases.proofs.Steps.{meets_later}
-use Rattle.phases.specs.Meets.{IsMemory}
+use Rattle.phases.specs.inner.Meets.{IsMemory}
 use Rattle.fta_run.specs.Due.{made_of_units, units_of}
 use Rattle.fta_run.proofs.model.model_of_texts.Goals as goal
 

@@ -1,6 +1,6 @@
 use Rattle.std.proofs.Common.{◌∙◌}
 use Rattle.phases.proofs.Steps.{◌beyond◌, ends, exits, not_computed}
-use Rattle.phases.specs.Stopped.{status_of}
+use Rattle.phases.specs.inner.Stopped.{status_of}
 use Rattle.phases.specs.declared.status.Status.TheVariants.{Refused}
 use Rattle.fta_run.specs.Due.{made_of_units}
 use Rattle.fta_run.proofs.Models.{index_stop, model_in, no_duplicate, root_is}

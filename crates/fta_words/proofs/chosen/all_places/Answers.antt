@@ -1,5 +1,5 @@
 use Rattle.std.proofs.Common.{◌≡◌, ◌∷◌, ◌++◌, ◌+◌, [], length, sym, subst, rules}
-use Rattle.fta_words.specs.Naming.{AreInOrder}
+use Rattle.fta_words.specs.inner.Naming.{AreInOrder}
 use Rattle.fta_words.proofs.Places.{all_from_order, one_in_order}
 use Rattle.fta_words.proofs.chosen.all_places.Goals as goal
 

@@ -1,4 +1,4 @@
-use Rattle.fta_words.specs.Naming.{AreInOrder}
+use Rattle.fta_words.specs.inner.Naming.{AreInOrder}
 use Rattle.fta_words.proofs.chosen.all_places.Given as goal
 
 abbrev pub invariant-loop-place : goal.invariant-loop-place

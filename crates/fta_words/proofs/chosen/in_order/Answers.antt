@@ -1,6 +1,6 @@
 use Rattle.std.proofs.Common.{◌≡◌, ◌∷◌, ◌++◌, ◌+◌, [], length, sym, subst, rules}
 use Rattle.std.specs.Prelude.{Contains}
-use Rattle.fta_words.specs.Naming.{AreInOrder}
+use Rattle.fta_words.specs.inner.Naming.{AreInOrder}
 use Rattle.fta_words.proofs.Places.{one_in_order, other_in_order}
 use Rattle.fta_words.proofs.chosen.in_order.Goals.{then-is_among+in_ok-push, else-is_among}
 use Rattle.fta_words.proofs.chosen.in_order.Goals as goal

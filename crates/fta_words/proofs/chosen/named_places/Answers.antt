@@ -1,6 +1,6 @@
 use Rattle.std.proofs.Common.{ℕ, List, Some, length, ap, subst}
 use Rattle.std.specs.Prelude.{Contains}
-use Rattle.fta_words.specs.Naming.{AreInOrder}
+use Rattle.fta_words.specs.inner.Naming.{AreInOrder}
 use Rattle.fta_words.proofs.Places.{names_from, not_named, one_chosen}
 use Rattle.fta_words.proofs.chosen.named_places.Goals as goal
 

@@ -1,6 +1,6 @@
 use Rattle.std.proofs.Common.{◌≡◌, ◌∷◌, ◌++◌, ℕ, List, Bor, [], sym, subst, rules}
 use Rattle.std.specs.Prelude.{Contains}
-use Rattle.fta_words.specs.Naming.{NamesPlaces}
+use Rattle.fta_words.specs.inner.Naming.{NamesPlaces}
 use Rattle.fta_words.proofs.Places.{AreNamed, first_there, named_twice, no_place, one_named}
 use Rattle.fta_words.proofs.chosen.places_of.Goals as goal
 

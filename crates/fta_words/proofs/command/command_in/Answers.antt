@@ -4,8 +4,8 @@ use Rattle.std.specs.List.{AllByRecursion}
 use Rattle.std.proofs.lemmas.Bool.{false≢true}
 use Rattle.std.proofs.lemmas.Result.{IfOk-weaker}
 use Rattle.fta_words.specs.Words.{IsPlainWord, before_options, name_of}
-use Rattle.fta_words.specs.Parsed.{all_flags, all_valued}
-use Rattle.fta_words.specs.Reading.{HaveOptions, Say, flags_of, options_shown, valued_of}
+use Rattle.fta_words.specs.inner.Parsed.{all_flags, all_valued}
+use Rattle.fta_words.specs.inner.Reading.{HaveOptions, Say, flags_of, options_shown, valued_of}
 use Rattle.fta_words.proofs.AllKinds.{among_all, are_text, said_of}
 use Rattle.fta_words.proofs.Commands.{answers_from, no_name, no_options, to_read}
 use Rattle.fta_words.proofs.command.command_in.Goals as goal

@@ -1,7 +1,7 @@
 use Rattle.std.proofs.Common.{◌≡◌, ◌<◌, List, ℕ, [], length, false, not, ◌∷◌, sym, ◌∙◌, ap, refl, arith, rules}
 use Rattle.std.proofs.lemmas.Bool.{false≢true}
 use Rattle.fta_words.specs.Words.{option_words}
-use Rattle.fta_words.specs.Reading.{flags_of, valued_of}
+use Rattle.fta_words.specs.inner.Reading.{flags_of, valued_of}
 use Rattle.fta_words.proofs.Spelled.{kinds_apart, none_given, options_fewer, options_more}
 use Rattle.fta_words.proofs.options.+are_options.Goals as goal
 

@@ -1,7 +1,7 @@
 use Rattle.std.proofs.Common.{sym, ◌∙◌, ap}
 use Rattle.plain_values.specs.Name.{is_same_text}
 use Rattle.fta_words.specs.Words.{has_flag}
-use Rattle.fta_words.specs.Reading.{flags_of, valued_of}
+use Rattle.fta_words.specs.inner.Reading.{flags_of, valued_of}
 use Rattle.fta_words.proofs.Spelled.{first_is, kinds_apart, none_given, said_here, said_later}
 use Rattle.fta_words.proofs.options.is_said.Goals as goal
 

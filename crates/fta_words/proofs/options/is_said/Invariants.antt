@@ -1,6 +1,6 @@
 use Rattle.std.proofs.Common.{◌≡◌, List, length}
 use Rattle.fta_words.specs.Words.{Given, has_flag, option_words}
-use Rattle.fta_words.specs.Reading.{flags_of, valued_of}
+use Rattle.fta_words.specs.inner.Reading.{flags_of, valued_of}
 use Rattle.fta_words.proofs.Spelled.{Allowed}
 use Rattle.fta_words.proofs.options.is_said.Given as goal
 

@@ -2,7 +2,7 @@ use Rattle.std.proofs.Common.{◌≡◌, ◌∙◌, ap₂, ap, true}
 use Rattle.std.proofs.lemmas.Result.{IfOk-weaker}
 use Rattle.clap.specs.Words.{app_of, with_rule}
 use Rattle.clap.specs.Simple.{app_of_fields, on_top}
-use Rattle.fta_words.specs.Parsed.{bare_app}
+use Rattle.fta_words.specs.inner.Parsed.{bare_app}
 use Rattle.fta_words.proofs.parsed.options_line.Goals as goal
 
 pub returns : goal.returns

@@ -1,8 +1,8 @@
 use Rattle.std.proofs.Common.{◌≡◌, ◌∙◌, ap, ap₂, subst, sym}
 use Rattle.clap.specs.Words.{is_simple, matches_of, takes}
 use Rattle.clap.specs.declared.error.kind.ErrorKind.TheVariants as kind
-use Rattle.fta_words.specs.Parsed.{StandIn}
-use Rattle.fta_words.specs.Reading.{options_shown}
+use Rattle.fta_words.specs.inner.Parsed.{StandIn}
+use Rattle.fta_words.specs.inner.Reading.{options_shown}
 use Rattle.fta_words.proofs.Found.{is_simple_line, rows_are, takes_options, values_are}
 use Rattle.std.proofs.lemmas.Bool.{false≢true}
 use Rattle.fta_words.proofs.parsed.options_said.Goals.{in-OutOfMemory, in_default}

@@ -1,7 +1,7 @@
 use Rattle.std.proofs.Common.{◌≡◌, ◌++◌, ◌∷◌, [], ℕ, List, length}
 use Rattle.std.specs.List.{AllByRecursion, flat_map}
 use Rattle.aadl_syntax.specs.Form.{IsWord}
-use Rattle.fta_words.specs.Words.{AreJoined}
+use Rattle.fta_words.specs.inner.Words.{AreJoined}
 use Rattle.fta_words.proofs.root.names_of.Given as goal
 
 abbrev pub invariant-loop-name : goal.invariant-loop-name

@@ -1,5 +1,5 @@
 use Rattle.std.proofs.Common.{◌≡◌, false, drop}
-use Rattle.fta_words.specs.Reading.{follows_well}
+use Rattle.fta_words.specs.inner.Reading.{follows_well}
 use Rattle.fta_words.proofs.text.follows_well.Given as goal
 
 abbrev pub invariant-loop-byte : goal.invariant-loop-byte

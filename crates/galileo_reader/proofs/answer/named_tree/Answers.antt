@@ -1,6 +1,6 @@
 use Rattle.std.proofs.Common.{◌∙◌, subst, sym}
 use Rattle.std.proofs.lemmas.Result.{err_from_is_err_and}
-use Rattle.galileo_reader.specs.Trees.{IsCyclicIn, IsNamedTree}
+use Rattle.galileo_reader.specs.inner.Trees.{IsCyclicIn, IsNamedTree}
 use Rattle.galileo_reader.proofs.OneAnswer.{cycle-none, none-left, top-found}
 use Rattle.galileo_reader.proofs.TreeLaws.{named-tree}
 use Rattle.galileo_reader.proofs.answer.named_tree.Goals as goal

@@ -1,6 +1,6 @@
 use Rattle.std.proofs.Common.{List, MatchOption, length, subst}
-use Rattle.dependency_blocks.specs.Blocks.{AreAllBlocks}
-use Rattle.galileo_reader.specs.Cycles.{HasOwn, NoneHasOwn}
+use Rattle.dependency_blocks.specs.inner.Blocks.{AreAllBlocks}
+use Rattle.galileo_reader.specs.inner.Cycles.{HasOwn, NoneHasOwn}
 use Rattle.galileo_reader.specs.declared.tree.NamedGate.{NamedGate}
 use Rattle.galileo_reader.proofs.CycleLaws.{cyclic-found}
 use Rattle.galileo_reader.proofs.cycles.first_cyclic.Goals as goal

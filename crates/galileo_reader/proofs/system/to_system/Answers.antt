@@ -4,7 +4,7 @@ use Rattle.fault_system.specs.Systems.{Holds, IsSystem, System}
 use Rattle.galileo_writer.specs.Truth.{Tells}
 use Rattle.galileo_writer.specs.TreeText.{names_of}
 use Rattle.galileo_reader.specs.TreeSystems.{event_info, system_of}
-use Rattle.galileo_reader.specs.Truth.{tree_galileo}
+use Rattle.galileo_reader.specs.inner.Truth.{tree_galileo}
 use Rattle.galileo_reader.proofs.SystemLaws.{system-truth, tree-system}
 use Rattle.galileo_reader.proofs.system.to_system.Goals as goal
 

@@ -4,7 +4,7 @@ use Rattle.std.proofs.lemmas.Result.{err_from_is_err_and}
 use Rattle.galileo_writer.specs.Galileo.{line_text, top_text}
 use Rattle.galileo_writer.specs.TreeText.{event_line, gate_line, name_at}
 use Rattle.fta_outside.specs.Outside.{with_bytes}
-use Rattle.galileo_writer.specs.Written.{Writes}
+use Rattle.galileo_writer.specs.inner.Written.{Writes}
 use Rattle.galileo_writer.proofs.Writes.{parts-text, wrote_not, wrote_then}
 use Rattle.galileo_writer.proofs.writing.write_lines.Goals as goal
 

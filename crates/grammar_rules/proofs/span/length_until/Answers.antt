@@ -1,6 +1,6 @@
 use Rattle.std.proofs.Common.{◌∙◌, ◌+◌, ◌≡◌, ◌<◌, Bool, false, cond, ap, sym, take, length, arith}
 use Rattle.aadl_syntax.specs.declared.token.Token.{Token}
-use Rattle.aadl_syntax.specs.Token.{shown}
+use Rattle.aadl_syntax.specs.inner.Token.{shown}
 use Rattle.grammar_rules.specs.Spans.{stopping}
 use Rattle.grammar_rules.proofs.Runs.{stops_here, tested, passes, item_there, is_there}
 use Rattle.grammar_rules.proofs.span.length_until.Goals as goal

@@ -1,5 +1,5 @@
 use Rattle.std.specs.Option.{option_map}
-use Rattle.aadl_syntax.specs.Token.{shown}
+use Rattle.aadl_syntax.specs.inner.Token.{shown}
 use Rattle.grammar_rules.proofs.Runs.{Passed}
 use Rattle.grammar_rules.proofs.span.length_until.Given as goal
 

@@ -1,9 +1,9 @@
 use Rattle.std.proofs.Common.{◌∙◌, ◌-◌, length, sym, subst}
 use Rattle.std.proofs.lemmas.List.{take_all}
 use Rattle.std.proofs.lemmas.Result.{err_from_is_err_and}
-use Rattle.plain_values.specs.Stops.{StopsAt}
+use Rattle.plain_values.specs.inner.Stops.{StopsAt}
 use Rattle.instantiator.specs.Refused.{first_refusal}
-use Rattle.instantiator.specs.Tables.{Grown}
+use Rattle.instantiator.specs.inner.Tables.{Grown}
 use Rattle.instantiator.proofs.PreorderLaws.{part-added, part-stops, stops-here, walked, whole}
 use Rattle.instantiator.proofs.preorder.+add_all.Goals as goal
 

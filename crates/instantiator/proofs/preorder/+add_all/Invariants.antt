@@ -1,5 +1,5 @@
 use Rattle.std.proofs.Common.{◌-◌, length, take}
-use Rattle.instantiator.specs.Tables.{Grown}
+use Rattle.instantiator.specs.inner.Tables.{Grown}
 use Rattle.instantiator.proofs.PreorderLaws.{walked}
 use Rattle.instantiator.proofs.preorder.+add_all.Given as goal
 

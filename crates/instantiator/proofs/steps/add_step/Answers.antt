@@ -3,7 +3,7 @@ use Rattle.std.proofs.lemmas.List.{map-append}
 use Rattle.std.specs.HashMap.{get}
 use Rattle.instantiator.specs.declared.path.Component.{Component}
 use Rattle.instantiator.specs.Components.{component_below}
-use Rattle.instantiator.specs.Tables.{same_step}
+use Rattle.instantiator.specs.inner.Tables.{same_step}
 use Rattle.instantiator.proofs.StepMore.{map-empty, parent-is, root-more, step-added, tree-before}
 use Rattle.instantiator.proofs.steps.add_step.Goals as goal
 

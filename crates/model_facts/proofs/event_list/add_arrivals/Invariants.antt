@@ -1,7 +1,7 @@
 use Rattle.std.proofs.Common.{map, take}
 use Rattle.model_facts.specs.Facts.{event_in}
 use Rattle.model_facts.specs.Limits.{most_events}
-use Rattle.model_facts.specs.Steps.{Grows}
+use Rattle.model_facts.specs.inner.Steps.{Grows}
 use Rattle.model_facts.specs.declared.keys.EventKind.TheVariants.{Arrival}
 use Rattle.model_facts.proofs.event_list.add_arrivals.Given as goal
 

@@ -2,7 +2,7 @@ use Rattle.std.proofs.Common.{map}
 use Rattle.plain_values.specs.Numbered.{numbers_below}
 use Rattle.model_facts.specs.Facts.{event_in}
 use Rattle.model_facts.specs.Limits.{most_events}
-use Rattle.model_facts.specs.Steps.{Grows}
+use Rattle.model_facts.specs.inner.Steps.{Grows}
 use Rattle.model_facts.specs.declared.keys.EventKind.TheVariants.{Declared}
 use Rattle.model_facts.proofs.event_list.add_declared.Given as goal
 

@@ -4,7 +4,7 @@ use Rattle.plain_values.specs.declared.refusal.Code.TheVariants.{TooManyEvents}
 use Rattle.plain_values.specs.Numbered.{numbers_below, numbered_from}
 use Rattle.model_facts.specs.Facts.{arrivals, event_in, source_events}
 use Rattle.model_facts.specs.Limits.{most_events}
-use Rattle.model_facts.specs.Steps.{AddsEvents, Exceeds}
+use Rattle.model_facts.specs.inner.Steps.{AddsEvents, Exceeds}
 use Rattle.model_facts.specs.declared.keys.EventKind.TheVariants.{Declared}
 use Rattle.model_facts.proofs.StepLaws.{adds-then, events-parts, exceeds-first, exceeds-then}
 use Rattle.model_facts.proofs.event_list.add_model.Goals as goal

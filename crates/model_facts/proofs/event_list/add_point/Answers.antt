@@ -1,7 +1,7 @@
 use Rattle.std.proofs.Common.{map, ap, sym, ◌∙◌, subst}
 use Rattle.model_facts.specs.Assembly.{side_numbers}
 use Rattle.model_facts.specs.Facts.{event_in}
-use Rattle.model_facts.specs.Steps.{AddsEvents}
+use Rattle.model_facts.specs.inner.Steps.{AddsEvents}
 use Rattle.model_facts.specs.declared.keys.EventKind.TheVariants.{Arrival}
 use Rattle.model_facts.proofs.StepLaws.{arrivals-free}
 use Rattle.model_facts.proofs.event_list.add_point.Goals as goal

@@ -2,7 +2,7 @@ use Rattle.std.proofs.Common.{map, take}
 use Rattle.plain_values.specs.Numbered.{numbered_from}
 use Rattle.model_facts.specs.Facts.{event_in, source_events}
 use Rattle.model_facts.specs.Limits.{most_events}
-use Rattle.model_facts.specs.Steps.{Grows}
+use Rattle.model_facts.specs.inner.Steps.{Grows}
 use Rattle.model_facts.proofs.event_list.add_sources.Given as goal
 
 abbrev pub invariant-loop-number : goal.invariant-loop-number

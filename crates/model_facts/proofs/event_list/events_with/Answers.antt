@@ -6,7 +6,7 @@ use Rattle.instantiator.specs.declared.path.Component.{Component}
 use Rattle.instantiator.specs.Whole.{Instance}
 use Rattle.model_facts.specs.Facts.{component_events}
 use Rattle.model_facts.specs.Limits.{most_events}
-use Rattle.model_facts.specs.Steps.{Exceeds, Grows}
+use Rattle.model_facts.specs.inner.Steps.{Exceeds, Grows}
 use Rattle.model_facts.proofs.StepLaws.{exceeds-numbered, grows-numbered}
 use Rattle.model_facts.proofs.event_list.events_with.Goals as goal
 

@@ -3,7 +3,7 @@ use Rattle.plain_values.specs.declared.refusal.Code.TheVariants.{TooManyFacts}
 use Rattle.plain_values.specs.Numbered.{numbers_below, numbered_from}
 use Rattle.model_facts.specs.Facts.{fact_in, point_facts}
 use Rattle.model_facts.specs.Limits.{most_facts}
-use Rattle.model_facts.specs.Steps.{AddsFacts}
+use Rattle.model_facts.specs.inner.Steps.{AddsFacts}
 use Rattle.model_facts.specs.declared.keys.FactKind.TheVariants.{State}
 use Rattle.model_facts.proofs.StepLaws.{adds-then, facts-parts}
 use Rattle.model_facts.proofs.fact_list.add_model.Goals as goal

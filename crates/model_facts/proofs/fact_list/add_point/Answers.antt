@@ -3,7 +3,7 @@ use Rattle.plain_values.specs.declared.refusal.Code.TheVariants.{TooManyFacts}
 use Rattle.propagation_points.specs.Uses.{side_types}
 use Rattle.model_facts.specs.Facts.{fact_in}
 use Rattle.model_facts.specs.Limits.{most_facts}
-use Rattle.model_facts.specs.Steps.{AddsFacts, at_side}
+use Rattle.model_facts.specs.inner.Steps.{AddsFacts, at_side}
 use Rattle.model_facts.proofs.StepLaws.{adds-then, two-sides}
 use Rattle.model_facts.proofs.fact_list.add_point.Goals as goal
 

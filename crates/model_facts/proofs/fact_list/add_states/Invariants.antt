@@ -2,7 +2,7 @@ use Rattle.std.proofs.Common.{map}
 use Rattle.plain_values.specs.Numbered.{numbers_below}
 use Rattle.model_facts.specs.Facts.{fact_in}
 use Rattle.model_facts.specs.Limits.{most_facts}
-use Rattle.model_facts.specs.Steps.{Grows}
+use Rattle.model_facts.specs.inner.Steps.{Grows}
 use Rattle.model_facts.specs.declared.keys.FactKind.TheVariants.{State}
 use Rattle.model_facts.proofs.fact_list.add_states.Given as goal
 

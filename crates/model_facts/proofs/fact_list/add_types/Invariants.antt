@@ -1,7 +1,7 @@
 use Rattle.std.proofs.Common.{map, take}
 use Rattle.model_facts.specs.Facts.{fact_in}
 use Rattle.model_facts.specs.Limits.{most_facts}
-use Rattle.model_facts.specs.Steps.{Grows, at_side}
+use Rattle.model_facts.specs.inner.Steps.{Grows, at_side}
 use Rattle.model_facts.proofs.fact_list.add_types.Given as goal
 
 abbrev pub invariant-loop-number : goal.invariant-loop-number

@@ -1,7 +1,7 @@
 use Rattle.std.proofs.Common.{get_or, subst}
 use Rattle.std.specs.HashMap.{get}
 use Rattle.std.proofs.lemmas.List.{get_or_default}
-use Rattle.package_index.specs.Tables.{Added}
+use Rattle.package_index.specs.inner.Tables.{Added}
 use Rattle.package_index.proofs.KnowsLaws.{knows-all, knows-more}
 use Rattle.model_facts.specs.Facts.{same_fact}
 use Rattle.model_facts.specs.declared.keys.FactKey.{FactKey}

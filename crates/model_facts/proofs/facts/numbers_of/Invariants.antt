@@ -1,6 +1,6 @@
 use Rattle.std.proofs.Common.{take}
 use Rattle.std.specs.HashMap.{get}
-use Rattle.package_index.specs.Tables.{Knows}
+use Rattle.package_index.specs.inner.Tables.{Knows}
 use Rattle.model_facts.specs.Facts.{same_fact}
 use Rattle.model_facts.proofs.facts.numbers_of.Given as goal
 

@@ -2,7 +2,7 @@ use Rattle.std.proofs.Common.{false, get_or, subst}
 use Rattle.std.specs.HashSet.{contains}
 use Rattle.std.proofs.lemmas.List.{get_or_default, take_all}
 use Rattle.propagation_links.specs.declared.link.Link.{Link}
-use Rattle.model_facts.specs.Tables.{KnowsSides, same_side_key}
+use Rattle.model_facts.specs.inner.Tables.{KnowsSides, same_side_key}
 use Rattle.model_facts.proofs.KeyLaws.{sides-more}
 use Rattle.model_facts.proofs.linked.sides_of.Goals as goal
 

@@ -1,6 +1,6 @@
 use Rattle.std.proofs.Common.{take}
 use Rattle.std.specs.List.{AllByRecursion}
-use Rattle.model_facts.specs.Laws.{IsNamed}
+use Rattle.model_facts.specs.inner.Laws.{IsNamed}
 use Rattle.model_facts.proofs.named.models_form.Given as goal
 
 abbrev pub invariant-loop-model : goal.invariant-loop-model

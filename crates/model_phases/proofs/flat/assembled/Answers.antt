@@ -1,4 +1,4 @@
-use Rattle.phases.specs.Meets.{IsMemory}
+use Rattle.phases.specs.inner.Meets.{IsMemory}
 use Rattle.phases.proofs.Steps.{◌beyond◌, ends, exits}
 use Rattle.model_phases.specs.Phases.{assembled}
 use Rattle.model_phases.proofs.Made.{kinds_stop, kinds_pass, links_stop, model_met}

@@ -1,7 +1,7 @@
 use Rattle.std.proofs.Common.{List, Bor, map, sym, ap, ◌∙◌, subst}
 use Rattle.phases.specs.Phases.{tests}
-use Rattle.phases.specs.Stopped.{status_of}
-use Rattle.plain_values.specs.Stops.{StopsAt}
+use Rattle.phases.specs.inner.Stopped.{status_of}
+use Rattle.plain_values.specs.inner.Stops.{StopsAt}
 use Rattle.propagation_points.specs.Points.{Point}
 use Rattle.propagation_links.specs.Links.{links_of}
 use Rattle.propagation_links.specs.Refused.{links_refusal}

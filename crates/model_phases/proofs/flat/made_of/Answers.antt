@@ -1,5 +1,5 @@
 use Rattle.std.proofs.Common.{◌≡◌, ◌∙◌, subst}
-use Rattle.phases.specs.Meets.{Meets}
+use Rattle.phases.specs.inner.Meets.{Meets}
 use Rattle.model_facts.specs.Assembly.{Assembly}
 use Rattle.model_phases.proofs.flat.made_of.Goals as goal
 

@@ -1,5 +1,5 @@
 use Rattle.std.proofs.Common.{subst}
-use Rattle.phases.specs.Meets.{IsMemory, StopsBut}
+use Rattle.phases.specs.inner.Meets.{IsMemory, StopsBut}
 use Rattle.phases.specs.Phases.{Passes}
 use Rattle.phases.proofs.Steps.{◌beyond◌, ◌passes◌}
 use Rattle.error_types.specs.Libraries.{Table}

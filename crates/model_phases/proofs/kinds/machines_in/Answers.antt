@@ -1,5 +1,5 @@
 use Rattle.phases.specs.Phases.{tests}
-use Rattle.phases.specs.Stopped.{status_of}
+use Rattle.phases.specs.inner.Stopped.{status_of}
 use Rattle.error_models.specs.Refused.{machines_refusal}
 use Rattle.model_phases.specs.Tests.{IsIt}
 use Rattle.model_phases.proofs.Tested.{one_stops, tests_stop}

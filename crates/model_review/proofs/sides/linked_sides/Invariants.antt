@@ -1,6 +1,6 @@
 use Rattle.std.proofs.Common.{take}
 use Rattle.std.specs.HashSet.{contains}
-use Rattle.model_facts.specs.Tables.{KnowsSides, same_side_key}
+use Rattle.model_facts.specs.inner.Tables.{KnowsSides, same_side_key}
 use Rattle.model_review.proofs.sides.linked_sides.Given as goal
 
 abbrev pub invariant-loop-link : goal.invariant-loop-link

@@ -1,6 +1,6 @@
 use Rattle.std.proofs.Common.{take, flat_map}
 use Rattle.package_index.specs.Lookup.{package_of}
-use Rattle.package_index.specs.Tables.{Gathered}
+use Rattle.package_index.specs.inner.Tables.{Gathered}
 use Rattle.package_index.proofs.index.add_file.Given as goal
 
 abbrev pub invariant-loop-unit : goal.invariant-loop-unit

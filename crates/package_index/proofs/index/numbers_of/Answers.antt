@@ -3,10 +3,10 @@ use Rattle.std.specs.HashMap.{get}
 use Rattle.plain_values.specs.Order.{least, nearer}
 use Rattle.package_index.specs.declared.words.Words.{Words}
 use Rattle.package_index.specs.declared.words.Words.TheVariants.{Identifiers}
-use Rattle.package_index.specs.Duplicates.{again_at}
+use Rattle.package_index.specs.inner.Duplicates.{again_at}
 use Rattle.package_index.specs.Lookup.{has_name}
-use Rattle.package_index.specs.Names.{names_of}
-use Rattle.package_index.specs.Tables.{has_words, same_words}
+use Rattle.package_index.specs.inner.Names.{names_of}
+use Rattle.package_index.specs.inner.Tables.{has_words, same_words}
 use Rattle.package_index.proofs.Keys.{same_packages, words_agrees, words_alike}
 use Rattle.package_index.proofs.KnowsLaws.{again-end, again-is, again-more, knows-all, knows-more}
 use Rattle.package_index.proofs.index.numbers_of.Goals as goal

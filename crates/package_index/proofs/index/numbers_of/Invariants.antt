@@ -1,9 +1,9 @@
 use Rattle.std.proofs.Common.{◌≡◌, take, drop}
 use Rattle.std.specs.HashMap.{get}
 use Rattle.plain_values.specs.Order.{least, nearer}
-use Rattle.package_index.specs.Duplicates.{again_after, packages_again}
+use Rattle.package_index.specs.inner.Duplicates.{again_after, packages_again}
 use Rattle.package_index.specs.Lookup.{has_name}
-use Rattle.package_index.specs.Tables.{Knows, has_words, same_words}
+use Rattle.package_index.specs.inner.Tables.{Knows, has_words, same_words}
 use Rattle.package_index.proofs.index.numbers_of.Given as goal
 
 abbrev pub invariant-loop-number : goal.invariant-loop-number

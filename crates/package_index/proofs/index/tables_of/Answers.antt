@@ -1,6 +1,6 @@
 use Rattle.std.proofs.Common.{flat_map, subst}
 use Rattle.package_index.specs.Lookup.{package_of}
-use Rattle.package_index.specs.Tables.{Gathered}
+use Rattle.package_index.specs.inner.Tables.{Gathered}
 use Rattle.package_index.proofs.Gathering.{gathered-step}
 use Rattle.package_index.proofs.index.tables_of.Goals as goal
 

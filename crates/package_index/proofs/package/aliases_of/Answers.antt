@@ -1,6 +1,6 @@
 use Rattle.std.proofs.Common.{refl}
 use Rattle.std.specs.HashMap.{get}
-use Rattle.package_index.specs.Tables.{has_alias, AliasKey, same_alias_key}
+use Rattle.package_index.specs.inner.Tables.{has_alias, AliasKey, same_alias_key}
 use Rattle.package_index.proofs.Keys.{alias_agrees, alias_alike}
 use Rattle.package_index.proofs.KnowsLaws.{knows-more, knows-all}
 use Rattle.package_index.proofs.package.aliases_of.Goals as goal

@@ -1,9 +1,9 @@
 use Rattle.std.proofs.Common.{ap, ◌∙◌, take}
 use Rattle.std.specs.HashMap.{get}
 use Rattle.plain_values.specs.Order.{least, nearer}
-use Rattle.package_index.specs.Duplicates.{again_at}
+use Rattle.package_index.specs.inner.Duplicates.{again_at}
 use Rattle.package_index.specs.Lookup.{is_named}
-use Rattle.package_index.specs.Tables.{has_key, Key, same_key}
+use Rattle.package_index.specs.inner.Tables.{has_key, Key, same_key}
 use Rattle.package_index.proofs.Keys.{key_agrees, key_alike, same_names}
 use Rattle.package_index.proofs.KnowsLaws.{again-is, again-more, again-end, knows-more, knows-all}
 use Rattle.package_index.proofs.package.classifiers_of.Goals as goal

@@ -1,5 +1,6 @@
 use Rattle.std.proofs.Common.{◌≡◌, drop, length}
-use Rattle.package_index.specs.Names.{is_same_name, names_of}
+use Rattle.package_index.specs.Names.{is_same_name}
+use Rattle.package_index.specs.inner.Names.{names_of}
 use Rattle.package_index.proofs.words.are_same.Given as goal
 
 abbrev pub invariant-loop-place : goal.invariant-loop-place

@@ -1,7 +1,7 @@
-use Rattle.phases.specs.Meets.{IsMemory}
+use Rattle.phases.specs.inner.Meets.{IsMemory}
 use Rattle.phases.specs.Phases.{chains}
 use Rattle.phases.proofs.Steps.{◌beyond◌, ends, exits, meets_later}
-use Rattle.page_tokens.specs.Shown.{said}
+use Rattle.page_tokens.specs.inner.Shown.{said}
 use Rattle.page_tokens.specs.Starts.{fresh, page_start, start_in, token_of}
 use Rattle.page_tokens.proofs.token.read_page_token.Goals as goal
 

@@ -1,7 +1,7 @@
 use Rattle.std.proofs.Common.{ℕ, length, ◌<◌, ◌↔◌, ◌∙◌, sym, subst}
 use Rattle.fault_system.specs.Truth.{NumberSet}
 use Rattle.fault_system.specs.Systems.{System, IsSystem, Holds}
-use Rattle.path_sets.specs.Duals.{outside}
+use Rattle.path_sets.specs.inner.Duals.{outside}
 use Rattle.path_sets.proofs.DualTruth.{dual-holds, dual-system}
 use Rattle.path_sets.proofs.Made.{dual-made}
 use Rattle.path_sets.proofs.duals.dual.Goals as goal

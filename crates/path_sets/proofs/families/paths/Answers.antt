@@ -1,13 +1,13 @@
 use Rattle.std.proofs.Common.{◌<◌, IfErr, IfOk, length, sym, subst}
 use Rattle.std.proofs.lemmas.Result.{IfOk-weaker}
 use lib.ListN.{length-map}
-use Rattle.plain_values.specs.Stops.{StopsFor}
+use Rattle.plain_values.specs.inner.Stops.{StopsFor}
 use Rattle.fault_system.specs.Systems.{System}
 use Rattle.backward_slice.specs.Slices.{HasLargeSlice}
-use Rattle.zdd_store.specs.Store.{family_of}
-use Rattle.cutset_engine.specs.Families.{HasMinimalCutSets}
+use Rattle.zdd_store.specs.inner.Store.{family_of}
+use Rattle.cutset_engine.specs.inner.Families.{HasMinimalCutSets}
 use Rattle.path_sets.specs.Duals.{dual_fact}
-use Rattle.path_sets.specs.PathSets.{AreServedEvents}
+use Rattle.path_sets.specs.inner.PathSets.{AreServedEvents}
 use Rattle.path_sets.proofs.Listings.{among-events, if_ok_both, paths-are}
 use Rattle.path_sets.proofs.families.paths.Goals as goal
 

@@ -1,9 +1,9 @@
 use Rattle.std.proofs.Common.{ℕ, ◌<◌, ◌↔◌, ◌∙◌, length, sym, subst}
 use Rattle.fault_system.specs.Truth.{NumberSet}
 use Rattle.fault_system.specs.Systems.{System, IsSystem, Holds}
-use Rattle.round_gates.specs.Trees.{TreeHolds}
-use Rattle.path_sets.specs.Duals.{IsWithoutFeedback}
-use Rattle.path_sets.specs.GateSystems.{GateHolds}
+use Rattle.round_gates.specs.inner.Trees.{TreeHolds}
+use Rattle.path_sets.specs.inner.Duals.{IsWithoutFeedback}
+use Rattle.path_sets.specs.inner.GateSystems.{GateHolds}
 use Rattle.path_sets.proofs.GateTruth.{gates-free, gates-hold, gates-system, top-inside}
 use Rattle.path_sets.proofs.Made.{gates-made}
 use Rattle.path_sets.proofs.gate_systems.gate_system.Goals as goal

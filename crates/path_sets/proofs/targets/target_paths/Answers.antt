@@ -1,9 +1,9 @@
 use Rattle.std.proofs.Common.{Contains, inl, sym, subst}
 use Rattle.std.proofs.lemmas.Result.{IfErr-weaker, IfOk-weaker}
-use Rattle.round_gates.specs.Targets.{HasNoTree}
-use Rattle.zdd_store.specs.Family.{Family}
-use Rattle.zdd_store.specs.Store.{family_of}
-use Rattle.path_sets.specs.PathSets.{HasMinimalPathSets}
+use Rattle.round_gates.specs.inner.Targets.{HasNoTree}
+use Rattle.zdd_store.specs.inner.Family.{Family}
+use Rattle.zdd_store.specs.inner.Store.{family_of}
+use Rattle.path_sets.specs.inner.PathSets.{HasMinimalPathSets}
 use Rattle.path_sets.proofs.Listings.{clear-constant, clear-tree, constant-among, constant-exact, on_ok, target-exact, tree-refused}
 use Rattle.path_sets.proofs.targets.target_paths.Goals as goal
 

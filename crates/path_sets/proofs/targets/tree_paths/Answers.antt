@@ -1,10 +1,10 @@
 use Rattle.std.proofs.Common.{IfErr, IfOk, subst}
-use Rattle.plain_values.specs.Stops.{StopsFor}
+use Rattle.plain_values.specs.inner.Stops.{StopsFor}
 use Rattle.fault_system.specs.Systems.{System}
 use Rattle.backward_slice.specs.Slices.{HasLargeSlice}
-use Rattle.zdd_store.specs.Store.{family_of}
+use Rattle.zdd_store.specs.inner.Store.{family_of}
 use Rattle.path_sets.specs.Duals.{dual_of}
-use Rattle.path_sets.specs.PathSets.{AreServedEvents, HasMinimalPathSets}
+use Rattle.path_sets.specs.inner.PathSets.{AreServedEvents, HasMinimalPathSets}
 use Rattle.path_sets.proofs.targets.tree_paths.Goals as goal
 
 pub returns-clause-exact : goal.returns-clause-exact

@@ -2,7 +2,7 @@ use Rattle.std.proofs.Common.{List, map, refl, ap, ◌∙◌}
 use Rattle.std.proofs.lemmas.List.{take_all}
 use Rattle.aadl_syntax.specs.declared.core_model.Binding.{Binding}
 use Rattle.instantiator.specs.declared.kinds.Kind.{Kind}
-use Rattle.propagation_links.specs.Tables.{kind_bindings}
+use Rattle.propagation_links.specs.inner.Tables.{kind_bindings}
 use Rattle.propagation_links.proofs.BoundLaws.{kinds-mapped}
 use Rattle.propagation_links.proofs.bound.kinds_of.Goals as goal
 

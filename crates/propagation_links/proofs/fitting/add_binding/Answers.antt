@@ -1,9 +1,9 @@
 use Rattle.std.proofs.Common.{sym, subst, ◌∙◌}
 use Rattle.std.proofs.lemmas.List.{take_all}
 use Rattle.std.specs.HashMap.{get}
-use Rattle.package_index.specs.Tables.{same_words}
+use Rattle.package_index.specs.inner.Tables.{same_words}
 use Rattle.package_index.proofs.Loops.{any-more}
-use Rattle.propagation_links.specs.Tables.{PutsAt}
+use Rattle.propagation_links.specs.inner.Tables.{PutsAt}
 use Rattle.propagation_links.proofs.FittingLaws.{HasPut, put-all, put-more}
 use Rattle.propagation_links.proofs.fitting.add_binding.Goals as goal
 

@@ -1,6 +1,6 @@
 use Rattle.std.proofs.Common.{take}
 use Rattle.std.specs.HashMap.{get}
-use Rattle.package_index.specs.Tables.{same_words}
+use Rattle.package_index.specs.inner.Tables.{same_words}
 use Rattle.propagation_links.proofs.FittingLaws.{HasPut}
 use Rattle.propagation_links.proofs.fitting.add_binding.Given as goal
 

@@ -1,8 +1,8 @@
 use Rattle.std.proofs.Common.{subst, sym}
 use Rattle.std.proofs.lemmas.List.{take_all}
 use Rattle.std.specs.HashMap.{get}
-use Rattle.package_index.specs.Tables.{same_words}
-use Rattle.propagation_links.specs.Tables.{KnowsBindings}
+use Rattle.package_index.specs.inner.Tables.{same_words}
+use Rattle.propagation_links.specs.inner.Tables.{KnowsBindings}
 use Rattle.propagation_links.proofs.FittingLaws.{front-more, knows-more}
 use Rattle.propagation_links.proofs.fitting.fitting_of.Goals as goal
 

@@ -1,7 +1,7 @@
 use Rattle.std.proofs.Common.{take}
 use Rattle.std.specs.HashMap.{get}
-use Rattle.package_index.specs.Tables.{same_words}
-use Rattle.propagation_links.specs.Tables.{KnowsBindings}
+use Rattle.package_index.specs.inner.Tables.{same_words}
+use Rattle.propagation_links.specs.inner.Tables.{KnowsBindings}
 use Rattle.propagation_links.proofs.fitting.fitting_of.Given as goal
 
 abbrev pub invariant-loop-binding : goal.invariant-loop-binding

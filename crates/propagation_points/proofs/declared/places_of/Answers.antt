@@ -1,5 +1,5 @@
 use Rattle.std.specs.HashMap.{get}
-use Rattle.propagation_points.specs.Tables.{declares_side, same_side}
+use Rattle.propagation_points.specs.inner.Tables.{declares_side, same_side}
 use Rattle.propagation_points.proofs.PlaceLaws.{knows-or-more}
 use Rattle.propagation_points.proofs.declared.places_of.Goals as goal
 

@@ -1,7 +1,7 @@
 use Rattle.std.proofs.Common.{take}
 use Rattle.std.specs.HashMap.{get}
-use Rattle.package_index.specs.Tables.{Knows}
-use Rattle.propagation_points.specs.Tables.{declares_side, same_side}
+use Rattle.package_index.specs.inner.Tables.{Knows}
+use Rattle.propagation_points.specs.inner.Tables.{declares_side, same_side}
 use Rattle.propagation_points.proofs.declared.places_of.Given as goal
 
 abbrev pub invariant-loop-number : goal.invariant-loop-number

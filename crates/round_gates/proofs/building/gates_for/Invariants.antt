@@ -1,5 +1,5 @@
 use Rattle.std.proofs.Common.{◌≡◌, map, take}
-use Rattle.round_gates.specs.Trees.{gate_for}
+use Rattle.round_gates.specs.inner.Trees.{gate_for}
 use Rattle.round_gates.proofs.building.gates_for.Given as goal
 
 abbrev pub invariant-loop-key : goal.invariant-loop-key

@@ -2,7 +2,7 @@ use Rattle.std.proofs.Common.{◌≡◌, ◌+◌, ◌-◌, ◌<◌, ◌∷◌, �
 use Rattle.std.specs.List.{list_any}
 use Rattle.round_gates.specs.declared.node.GateKey.{GateKey}
 use Rattle.round_gates.specs.contracts.node.GateKeyPartialEq.TheImpl.{eq-value as key_eq}
-use Rattle.round_gates.specs.Reached.{AreReachedFrom, is_place}
+use Rattle.round_gates.specs.inner.Reached.{AreReachedFrom, is_place}
 use Rattle.round_gates.proofs.Reaches.{reached-start, reached-next, reached-end}
 use Rattle.round_gates.proofs.reaching.reached.Goals as goal
 

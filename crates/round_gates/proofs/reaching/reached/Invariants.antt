@@ -1,5 +1,5 @@
 use Rattle.std.proofs.Common.{◌-◌, length}
-use Rattle.round_gates.specs.Reached.{AreReachedFrom}
+use Rattle.round_gates.specs.inner.Reached.{AreReachedFrom}
 use Rattle.round_gates.proofs.reaching.reached.Given as goal
 
 abbrev pub invariant-loop-done : goal.invariant-loop-done

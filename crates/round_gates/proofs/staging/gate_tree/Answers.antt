@@ -1,6 +1,7 @@
 use Rattle.std.proofs.Common.{◌≡◌, ◌∙◌, ℕ, length, ap, sym, subst, refl}
 use Rattle.round_gates.specs.declared.tree.Tree.{Tree}
-use Rattle.round_gates.specs.Trees.{IsGateTree, tree_of}
+use Rattle.round_gates.specs.Trees.{IsGateTree}
+use Rattle.round_gates.specs.inner.Trees.{tree_of}
 use Rattle.round_gates.proofs.Reaches.{behind-of}
 use Rattle.round_gates.proofs.TreeLaws.{gate-tree}
 use Rattle.round_gates.proofs.Wholes.{if_ok}

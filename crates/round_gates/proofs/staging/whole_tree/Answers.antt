@@ -2,7 +2,7 @@ use Rattle.std.proofs.Common.{◌∙◌, List, IfOk, ap, subst}
 use Rattle.round_gates.specs.declared.node.Node.{Node}
 use Rattle.round_gates.specs.declared.tree.Tree.{Tree}
 use Rattle.round_gates.specs.Trees.{IsTreeOf}
-use Rattle.round_gates.specs.Walks.{node_in}
+use Rattle.round_gates.specs.inner.Walks.{node_in}
 use Rattle.fault_system.proofs.NumberSets.{RisesWithin-each}
 use Rattle.round_gates.proofs.Wholes.{few-small, target-inside}
 use Rattle.round_gates.proofs.staging.whole_tree.Goals as goal

@@ -1,5 +1,5 @@
 use Rattle.std.proofs.Common.{◌≡◌, ◌<◌, ℕ, [], length, take, slice_index_or}
-use Rattle.round_gates.specs.Unrolled.{members_of}
+use Rattle.round_gates.specs.inner.Unrolled.{members_of}
 use Rattle.round_gates.proofs.unrolling.add_members.Given as goal
 
 abbrev pub invariant-loop-fact : goal.invariant-loop-fact

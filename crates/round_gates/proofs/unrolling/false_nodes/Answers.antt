@@ -1,7 +1,7 @@
 use Rattle.std.proofs.Common.{◌+◌, ◌∙◌, ◌∷◌, [], List, length, ap, length-append}
 use Rattle.round_gates.specs.declared.node.Node.{Node}
 use Rattle.round_gates.specs.declared.node.Node.TheVariants.{Never}
-use Rattle.round_gates.specs.Walks.{node_in}
+use Rattle.round_gates.specs.inner.Walks.{node_in}
 use Rattle.round_gates.proofs.Gathering.{push-default}
 use Rattle.round_gates.proofs.unrolling.false_nodes.Goals as goal
 

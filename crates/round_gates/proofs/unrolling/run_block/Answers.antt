@@ -1,7 +1,7 @@
 use Rattle.std.proofs.Common.{◌≡◌, ◌<◌, ℕ, List, filter, length, All, subst, sym, arith}
 use Rattle.std.proofs.lemmas.List.Elements.{All-filter}
 use Rattle.round_gates.specs.Stages.{in_block}
-use Rattle.round_gates.specs.Unrolled.{IsSmall}
+use Rattle.round_gates.specs.inner.Unrolled.{IsSmall}
 use Rattle.round_gates.proofs.Steps.{block-first, block-last, stage-next-of}
 use Rattle.round_gates.proofs.unrolling.run_block.Goals as goal
 

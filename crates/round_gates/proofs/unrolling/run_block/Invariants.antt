@@ -1,5 +1,5 @@
 use Rattle.round_gates.specs.Stages.{stage_nodes, low_nodes}
-use Rattle.round_gates.specs.Unrolled.{AreUnrolled}
+use Rattle.round_gates.specs.inner.Unrolled.{AreUnrolled}
 use Rattle.round_gates.proofs.unrolling.run_block.Given as goal
 
 abbrev pub invariant-loop-stage : goal.invariant-loop-stage

@@ -1,5 +1,5 @@
 use Rattle.round_gates.specs.Stages.{low_nodes}
-use Rattle.round_gates.specs.Unrolled.{AreUnrolled}
+use Rattle.round_gates.specs.inner.Unrolled.{AreUnrolled}
 use Rattle.round_gates.proofs.unrolling.run_blocks.Given as goal
 
 abbrev pub invariant-loop-block : goal.invariant-loop-block

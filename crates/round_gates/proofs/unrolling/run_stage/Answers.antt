@@ -1,5 +1,5 @@
 use Rattle.std.proofs.Common.{◌∙◌}
-use Rattle.round_gates.specs.Walks.{node_in}
+use Rattle.round_gates.specs.inner.Walks.{node_in}
 use Rattle.round_gates.proofs.Writing.{places-inside}
 use Rattle.round_gates.proofs.unrolling.run_stage.Goals as goal
 

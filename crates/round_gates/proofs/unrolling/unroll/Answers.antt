@@ -2,7 +2,7 @@ use Rattle.std.proofs.Common.{◌≡◌, ◌<◌, ◌∙◌, [], ℕ, List, All,
 use Rattle.dependency_blocks.specs.Blocks.{number_of}
 use Rattle.round_gates.specs.declared.node.Node.{Node}
 use Rattle.round_gates.specs.Stages.{low_nodes}
-use Rattle.round_gates.specs.Unrolled.{AreUnrolled, IsUnrolling}
+use Rattle.round_gates.specs.inner.Unrolled.{AreUnrolled, IsUnrolling}
 use Rattle.round_gates.proofs.Gathering.{taken}
 use Rattle.round_gates.proofs.Steps.{unrolled-none, unrolling-of}
 use Rattle.round_gates.proofs.unrolling.unroll.Goals as goal

@@ -1,7 +1,7 @@
 use Rattle.std.proofs.Common.{◌≡◌, ◌++◌, map, take}
 use Rattle.std.specs.List.{flat_map}
-use Rattle.round_gates.specs.Walks.{node_in}
-use Rattle.round_gates.specs.Unrolled.{found_in, lines_in}
+use Rattle.round_gates.specs.inner.Walks.{node_in}
+use Rattle.round_gates.specs.inner.Unrolled.{found_in, lines_in}
 use Rattle.round_gates.proofs.unrolling.walk_facts.Given as goal
 
 abbrev pub invariant-loop-fact : goal.invariant-loop-fact

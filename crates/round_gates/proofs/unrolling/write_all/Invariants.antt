@@ -1,6 +1,6 @@
 use Rattle.std.proofs.Common.{◌≡◌, ℕ, drop}
-use Rattle.round_gates.specs.Walks.{node_in}
-use Rattle.round_gates.specs.Unrolled.{written}
+use Rattle.round_gates.specs.inner.Walks.{node_in}
+use Rattle.round_gates.specs.inner.Unrolled.{written}
 use Rattle.round_gates.proofs.unrolling.write_all.Given as goal
 
 abbrev pub invariant-loop-part : goal.invariant-loop-part

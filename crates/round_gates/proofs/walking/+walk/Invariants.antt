@@ -1,5 +1,6 @@
 use Rattle.std.proofs.Common.{◌≡◌, ◌+◌, ◌++◌, map, drop}
-use Rattle.round_gates.specs.Walks.{walk, parts_of, places, total, node_in}
+use Rattle.round_gates.specs.Walks.{walk, parts_of, places, total}
+use Rattle.round_gates.specs.inner.Walks.{node_in}
 use Rattle.round_gates.proofs.walking.+walk.Given as goal
 
 abbrev pub invariant-walk_parts-loop-part : goal.invariant-walk_parts-loop-part

@@ -2,7 +2,7 @@ use Rattle.std.proofs.Common.{subst}
 use Rattle.phases.specs.Phases.{chains}
 use Rattle.phases.proofs.Steps.{◌beyond◌, ends}
 use Rattle.system_answers.specs.Texts.{begin_of, cuts_text, named_key, page_of, slice_of, target_of}
-use Rattle.system_answers.specs.Prints.{NoFault, Prints}
+use Rattle.system_answers.specs.inner.Prints.{NoFault, Prints}
 use Rattle.system_answers.proofs.Begins.{begin_events}
 use Rattle.system_answers.proofs.Prints.{prints_on, prints_stop}
 use Rattle.system_answers.proofs.answers.write_cuts.Goals as goal

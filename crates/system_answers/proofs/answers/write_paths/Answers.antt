@@ -2,7 +2,7 @@ use Rattle.std.proofs.Common.{subst}
 use Rattle.phases.specs.Phases.{chains}
 use Rattle.phases.proofs.Steps.{◌beyond◌, ends}
 use Rattle.system_answers.specs.Texts.{paths_text, path_page, slice_of, start_of, target_of}
-use Rattle.system_answers.specs.Prints.{NoFault, Prints}
+use Rattle.system_answers.specs.inner.Prints.{NoFault, Prints}
 use Rattle.system_answers.proofs.Prints.{prints_on, prints_stop}
 use Rattle.system_answers.proofs.answers.write_paths.Goals as goal
 

@@ -1,7 +1,7 @@
 use Rattle.std.proofs.Common.{subst}
 use Rattle.phases.specs.Phases.{chains}
 use Rattle.system_answers.specs.Texts.{galileo_of, slice_of, target_of}
-use Rattle.system_answers.specs.Prints.{Prints}
+use Rattle.system_answers.specs.inner.Prints.{Prints}
 use Rattle.system_answers.proofs.Prints.{prints_on}
 use Rattle.system_answers.proofs.answers.write_tree.Goals as goal
 

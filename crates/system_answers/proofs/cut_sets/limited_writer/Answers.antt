@@ -1,8 +1,8 @@
 use Rattle.std.proofs.Common.{sym, subst}
 use Rattle.std.specs.Prelude.{IsTrue}
 use Rattle.std.proofs.lemmas.Result.{IfOk-weaker}
-use Rattle.zdd_store.specs.Family.{is_within}
-use Rattle.cutset_lister.specs.Walks.{all_sets}
+use Rattle.zdd_store.specs.inner.Family.{is_within}
+use Rattle.cutset_lister.specs.inner.Walks.{all_sets}
 use Rattle.system_answers.proofs.cut_sets.limited_writer.Goals as goal
 
 pub start-requires-clause-sets : goal.start-requires-clause-sets

@@ -1,8 +1,8 @@
 use Rattle.std.proofs.Common.{sym, subst}
 use Rattle.std.specs.Prelude.{IsTrue}
-use Rattle.zdd_store.specs.Family.{is_within}
-use Rattle.zdd_store.specs.Store.{family_of}
-use Rattle.cutset_lister.specs.Walks.{all_sets}
+use Rattle.zdd_store.specs.inner.Family.{is_within}
+use Rattle.zdd_store.specs.inner.Store.{family_of}
+use Rattle.cutset_lister.specs.inner.Walks.{all_sets}
 use Rattle.system_answers.proofs.Listed.{among_events, listed, ok_both}
 use Rattle.system_answers.proofs.cut_sets.listing_of.Goals as goal
 

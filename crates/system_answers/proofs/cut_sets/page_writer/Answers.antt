@@ -1,9 +1,9 @@
 use Rattle.std.proofs.Common.{sym, subst}
 use Rattle.std.specs.Prelude.{IsTrue}
 use Rattle.std.proofs.lemmas.Result.{IfOk-weaker}
-use Rattle.zdd_store.specs.Family.{is_within}
-use Rattle.zdd_store.specs.Store.{family_of}
-use Rattle.cutset_lister.specs.Walks.{all_sets}
+use Rattle.zdd_store.specs.inner.Family.{is_within}
+use Rattle.zdd_store.specs.inner.Store.{family_of}
+use Rattle.cutset_lister.specs.inner.Walks.{all_sets}
 use Rattle.system_answers.proofs.Listed.{among_events, listed}
 use Rattle.system_answers.proofs.cut_sets.page_writer.Goals as goal
 

@@ -1,6 +1,6 @@
 use Rattle.std.proofs.Common.{ℕ, List, Option, subst}
 use Rattle.fta_outside.specs.Outside.{TookPrefix}
-use Rattle.cutset_lister.specs.Walks.{all_sets}
+use Rattle.cutset_lister.specs.inner.Walks.{all_sets}
 use Rattle.cutset_writer.specs.Text.{listing_page}
 use Rattle.system_answers.proofs.Listed.{on_err}
 use Rattle.system_answers.proofs.cut_sets.write_listing.Goals as goal

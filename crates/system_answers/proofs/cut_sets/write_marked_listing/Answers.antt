@@ -2,7 +2,7 @@ use Rattle.std.proofs.Common.{ℕ, List, Option, Some, sym, subst}
 use Rattle.std.specs.Prelude.{IfSome}
 use Rattle.fta_outside.specs.Outside.{TookPrefix}
 use Rattle.fault_system.specs.CutSets.{IsEventSet}
-use Rattle.cutset_lister.specs.Walks.{all_sets}
+use Rattle.cutset_lister.specs.inner.Walks.{all_sets}
 use Rattle.cutset_writer.specs.Text.{marked_page}
 use Rattle.cutset_writer.specs.declared.form.SetForm.TheVariants.{Token}
 use Rattle.system_answers.proofs.Listed.{on_err}

@@ -1,6 +1,6 @@
 use Rattle.std.proofs.Common.{◌≡◌, ℕ, List, Some, subst}
 use Rattle.fta_outside.specs.Outside.{with_bytes}
-use Rattle.cutset_lister.specs.Walks.{all_sets}
+use Rattle.cutset_lister.specs.inner.Walks.{all_sets}
 use Rattle.cutset_writer.specs.Text.{marked_page}
 use Rattle.cutset_writer.specs.declared.form.SetForm.TheVariants.{Token}
 use Rattle.system_answers.proofs.FirstSets.{given-marked}

@@ -1,5 +1,5 @@
 use Rattle.std.proofs.Common.{Bool, sym, subst}
-use Rattle.system_answers.specs.Prints.{Prints}
+use Rattle.system_answers.specs.inner.Prints.{Prints}
 use Rattle.system_answers.specs.Texts.{named_key, page_of}
 use Rattle.system_answers.proofs.cut_sets.write_page.Goals as goal
 

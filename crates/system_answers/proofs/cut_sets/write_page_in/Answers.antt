@@ -1,4 +1,4 @@
-use Rattle.cutset_lister.specs.Walks.{all_sets}
+use Rattle.cutset_lister.specs.inner.Walks.{all_sets}
 use Rattle.cutset_writer.specs.Text.{listing_page}
 use Rattle.system_answers.proofs.FirstSets.{given-page}
 use Rattle.system_answers.proofs.cut_sets.write_page_in.Goals as goal

@@ -1,5 +1,5 @@
 use Rattle.std.proofs.Common.{Global, Vec, ap, subst, ◌∙◌, ℕ}
-use Rattle.phases.specs.Meets.{IsMemory, MeetsBut}
+use Rattle.phases.specs.inner.Meets.{IsMemory, MeetsBut}
 use Rattle.phases.specs.Phases.{chains}
 use Rattle.phases.proofs.Steps.{meets_later}
 use Rattle.fault_system.specs.Truth.{set_of}

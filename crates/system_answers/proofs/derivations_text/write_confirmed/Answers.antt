@@ -1,5 +1,5 @@
 use Rattle.system_answers.specs.Derivations.{confirm_text}
-use Rattle.system_answers.specs.Prints.{NoFault}
+use Rattle.system_answers.specs.inner.Prints.{NoFault}
 use Rattle.system_answers.proofs.Prints.{prints_stop}
 use Rattle.system_answers.proofs.derivations_text.write_confirmed.Goals as goal
 

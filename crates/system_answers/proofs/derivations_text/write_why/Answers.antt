@@ -1,5 +1,5 @@
 use Rattle.system_answers.specs.Derivations.{why_text}
-use Rattle.system_answers.specs.Prints.{NoFault}
+use Rattle.system_answers.specs.inner.Prints.{NoFault}
 use Rattle.system_answers.proofs.Prints.{prints_stop}
 use Rattle.system_answers.proofs.derivations_text.write_why.Goals as goal
 

@@ -1,5 +1,5 @@
 use Rattle.std.proofs.Common.{◌≡◌, ◌+◌, length}
-use Rattle.cutset_lister.specs.Walks.{IsStarted, sets_left}
+use Rattle.cutset_lister.specs.inner.Walks.{IsStarted, sets_left}
 use Rattle.system_answers.proofs.fronts.has_more_left.Given as goal
 
 abbrev pub invariant-loop-passed : goal.invariant-loop-passed

@@ -1,8 +1,8 @@
 use Rattle.std.proofs.Common.{ℕ, ◌<◌, List, length, subst}
 use Rattle.fault_system.specs.Listings.{sets_after}
-use Rattle.zdd_store.specs.Store.{family_of}
-use Rattle.cutset_lister.specs.Walks.{all_sets}
-use Rattle.cutset_writer.specs.Pages.{Lists}
+use Rattle.zdd_store.specs.inner.Store.{family_of}
+use Rattle.cutset_lister.specs.inner.Walks.{all_sets}
+use Rattle.cutset_writer.specs.inner.Pages.{Lists}
 use Rattle.system_answers.proofs.FirstSets.{one-list}
 use Rattle.system_answers.proofs.fronts.has_more_sets.Goals as goal
 

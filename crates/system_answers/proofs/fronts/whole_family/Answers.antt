@@ -1,5 +1,5 @@
 use Rattle.std.proofs.lemmas.Result.{IfOk-weaker}
-use Rattle.zdd_store.specs.Store.{family_of}
+use Rattle.zdd_store.specs.inner.Store.{family_of}
 use Rattle.system_answers.proofs.FirstSets.{serves-whole}
 use Rattle.system_answers.proofs.fronts.whole_family.Goals as goal
 

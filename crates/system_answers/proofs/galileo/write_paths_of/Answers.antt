@@ -2,8 +2,8 @@ use Rattle.std.proofs.Common.{ℕ, sym, subst}
 use Rattle.phases.specs.Phases.{Passes}
 use Rattle.fault_system.specs.Systems.{System}
 use Rattle.galileo_reader.specs.TreeSystems.{system_of, target_of as top_of_tree}
-use Rattle.path_sets.specs.Duals.{IsWithoutFeedback}
-use Rattle.system_answers.specs.Prints.{Prints}
+use Rattle.path_sets.specs.inner.Duals.{IsWithoutFeedback}
+use Rattle.system_answers.specs.inner.Prints.{Prints}
 use Rattle.system_answers.specs.Texts.{dual_page, slice_of}
 use Rattle.system_answers.proofs.Prints.{prints_on}
 use Rattle.system_answers.proofs.galileo.write_paths_of.Goals as goal

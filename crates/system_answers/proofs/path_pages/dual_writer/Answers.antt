@@ -1,6 +1,6 @@
 use Rattle.std.proofs.lemmas.Result.{err_from_is_err_and}
-use Rattle.zdd_store.specs.Store.{family_of}
-use Rattle.cutset_lister.specs.Walks.{all_sets}
+use Rattle.zdd_store.specs.inner.Store.{family_of}
+use Rattle.cutset_lister.specs.inner.Walks.{all_sets}
 use Rattle.path_sets.specs.Duals.{dual_of}
 use Rattle.system_answers.proofs.Listed.{path_listed, slice_stop}
 use Rattle.system_answers.proofs.path_pages.dual_writer.Goals as goal

@@ -1,5 +1,5 @@
 use Rattle.std.proofs.Common.{inl, inr}
-use Rattle.system_answers.specs.Prints.{NoFault}
+use Rattle.system_answers.specs.inner.Prints.{NoFault}
 use Rattle.system_answers.specs.Texts.{path_page}
 use Rattle.system_answers.proofs.Prints.{prints_stop}
 use Rattle.system_answers.proofs.path_pages.write_path_page.Goals as goal

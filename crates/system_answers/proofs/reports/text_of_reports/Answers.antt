@@ -1,7 +1,7 @@
 use Rattle.std.proofs.Common.{◌∙◌, Some, length, sym, ap, subst}
 use Rattle.std.proofs.lemmas.Result.{IfErr-weaker, IfOk-weaker}
-use Rattle.cutset_lister.specs.Walks.{all_sets}
-use Rattle.cut_reports.specs.Feeding.{TakesEach}
+use Rattle.cutset_lister.specs.inner.Walks.{all_sets}
+use Rattle.cut_reports.specs.inner.Feeding.{TakesEach}
 use Rattle.cut_reports.specs.Texts.{reports_text}
 use Rattle.system_answers.specs.Voices.{voices_of, voices_text}
 use Rattle.system_answers.proofs.Reported.{reports_end, takes_listing, texts_are}

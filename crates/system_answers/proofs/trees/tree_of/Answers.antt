@@ -1,5 +1,5 @@
 use Rattle.std.proofs.Common.{inl, refl, subst}
-use Rattle.round_gates.specs.Targets.{HasNoTree}
+use Rattle.round_gates.specs.inner.Targets.{HasNoTree}
 use Rattle.round_gates.proofs.Growing.{constantly}
 use Rattle.system_answers.proofs.trees.tree_of.Goals as goal
 

@@ -2,7 +2,7 @@ use Rattle.std.proofs.Common.{Err, ap}
 use Rattle.galileo_writer.specs.TreeText.{tree_text}
 use Rattle.system_answers.specs.Texts.{galileo_of}
 use Rattle.fta_outside.specs.declared.error.WriteError.{WriteError}
-use Rattle.system_answers.specs.Prints.{NoFault}
+use Rattle.system_answers.specs.inner.Prints.{NoFault}
 use Rattle.system_answers.proofs.Prints.{prints_front, prints_stop}
 use Rattle.system_answers.proofs.trees.write_galileo.Goals as goal
 

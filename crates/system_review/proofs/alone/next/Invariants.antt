@@ -1,5 +1,5 @@
 use Rattle.std.proofs.Common.{◌≡◌, filter, take}
-use Rattle.system_review.specs.Steps.{is_next}
+use Rattle.system_review.specs.inner.Steps.{is_next}
 use Rattle.system_review.proofs.alone.next.Given as goal
 
 abbrev pub invariant-loop-number : goal.invariant-loop-number

@@ -1,7 +1,7 @@
 use Rattle.std.proofs.Common.{nat_eq}
 use Rattle.std.specs.HashSet.{contains}
 use Rattle.fault_system.specs.Systems.{IsSystem}
-use Rattle.dependency_blocks.specs.Blocks.{AreAllBlocks}
+use Rattle.dependency_blocks.specs.inner.Blocks.{AreAllBlocks}
 use Rattle.system_review.proofs.LoopLaws.{Gathered}
 use Rattle.system_review.proofs.looping.loops_among.Given as goal
 

@@ -2,7 +2,7 @@ use Rattle.std.proofs.Common.{ℕ, ◌≡◌, ◌<◌, ◌⊎◌, true, length}
 use Rattle.fault_system.specs.Truth.{Has, member, occurs}
 use Rattle.fault_system.specs.Systems.{IsFact}
 use Rattle.fault_system.specs.declared.formula.FactInfo.{FactInfo}
-use Rattle.system_review.specs.Occurring.{IsUsedFact}
+use Rattle.system_review.specs.inner.Occurring.{IsUsedFact}
 use Rattle.system_review.proofs.occurring.mark_used.Given as goal
 
 abbrev pub invariant-loop-number : goal.invariant-loop-number

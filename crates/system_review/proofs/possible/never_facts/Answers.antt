@@ -1,6 +1,6 @@
 use Rattle.std.proofs.Common.{true, refl}
 use Rattle.fault_system.specs.Truth.{member}
-use Rattle.system_review.specs.Possible.{IsNever, IsPossible}
+use Rattle.system_review.specs.inner.Possible.{IsNever, IsPossible}
 use Rattle.system_review.proofs.Rising.{missing-as}
 use Rattle.system_review.proofs.possible.never_facts.Goals as goal
 

@@ -1,7 +1,7 @@
 use Rattle.std.proofs.Common.{map, take}
 use Rattle.std.specs.List.{list_any}
 use Rattle.fault_system.specs.Truth.{occurs}
-use Rattle.system_review.specs.Marks.{Adds}
+use Rattle.system_review.specs.inner.Marks.{Adds}
 use Rattle.system_review.proofs.reaching.+visit.Given as goal
 
 abbrev pub invariant-visit_parts-loop-part : goal.invariant-visit_parts-loop-part

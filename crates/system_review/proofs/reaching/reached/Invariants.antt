@@ -1,6 +1,6 @@
 use Rattle.std.proofs.Common.{◌+◌, ◌-◌, length}
 use Rattle.fault_system.specs.Truth.{count_true}
-use Rattle.system_review.specs.Marks.{IsMarking}
+use Rattle.system_review.specs.inner.Marks.{IsMarking}
 use Rattle.system_review.proofs.reaching.reached.Given as goal
 
 abbrev pub invariant-loop-number : goal.invariant-loop-number

@@ -1,6 +1,6 @@
 use Rattle.std.proofs.Common.{◌≡◌, drop, take}
 use Rattle.plain_values.specs.Order.{least, nearer}
-use Rattle.used_sets.specs.Marks.{Marked}
+use Rattle.used_sets.specs.inner.Marks.{Marked}
 use Rattle.used_sets.specs.Used.{items_refusals, use_clause}
 use Rattle.used_sets.proofs.faults.note_items.Given as goal
 

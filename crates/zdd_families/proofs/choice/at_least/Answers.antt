@@ -1,6 +1,6 @@
 use Rattle.std.proofs.Common.{map}
-use Rattle.zdd_store.specs.Store.{family_of}
-use Rattle.zdd_families.specs.Unions.{IsUnionOfSome, some_of}
+use Rattle.zdd_store.specs.inner.Store.{family_of}
+use Rattle.zdd_families.specs.inner.Unions.{IsUnionOfSome, some_of}
 use Rattle.zdd_families.proofs.Telling.{minimal_sets_of, tells_some}
 use Rattle.zdd_families.proofs.Tables.{parts_rise}
 use Rattle.zdd_families.proofs.Products.{least_of_all}

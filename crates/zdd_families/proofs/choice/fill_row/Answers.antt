@@ -1,9 +1,9 @@
 use Rattle.std.proofs.Common.{◌≡◌, ◌≤◌, ◌+◌, ◌-◌, ◌<◌, ◌++◌, ℕ, List, length, get_or, drop, replicate, map, ap, ◌∙◌, sym, subst, arith}
 use Rattle.std.proofs.lemmas.List.{get_or_default, length-drop, length-map}
-use Rattle.zdd_store.specs.Family.{Family, covers}
-use Rattle.zdd_store.specs.Store.{family_of}
+use Rattle.zdd_store.specs.inner.Family.{Family, covers}
+use Rattle.zdd_store.specs.inner.Store.{family_of}
 use Rattle.zdd_store.specs.declared.id.Id.{Id}
-use Rattle.zdd_families.specs.Rows.{IsRow}
+use Rattle.zdd_families.specs.inner.Rows.{IsRow}
 use Rattle.zdd_families.proofs.Ways.{Keeps_trans}
 use Rattle.zdd_families.proofs.Tables.{minimal_kept, next_minimal, row_next, row_kept, drop_run}
 use Rattle.zdd_families.proofs.choice.fill_row.Goals as goal

@@ -1,6 +1,6 @@
 use Rattle.std.proofs.Common.{◌≡◌, ◌≤◌, ◌+◌, ◌-◌, length, drop, map, All}
-use Rattle.zdd_store.specs.Store.{Keeps, family_of}
-use Rattle.zdd_families.specs.Rows.{IsMinimalNumber, IsRow}
+use Rattle.zdd_store.specs.inner.Store.{Keeps, family_of}
+use Rattle.zdd_families.specs.inner.Rows.{IsMinimalNumber, IsRow}
 use Rattle.zdd_families.proofs.choice.fill_row.Given as goal
 
 abbrev pub invariant-loop-at : goal.invariant-loop-at

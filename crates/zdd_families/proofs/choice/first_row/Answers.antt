@@ -1,6 +1,6 @@
 use Rattle.std.proofs.Common.{◌≡◌, ◌+◌, ◌++◌, ◌∷◌, [], List, length, ap, ◌∙◌, sym, subst, arith, length-append}
 use Rattle.zdd_store.specs.declared.id.Id.{Id}
-use Rattle.zdd_families.specs.Rows.{IsRow}
+use Rattle.zdd_families.specs.inner.Rows.{IsRow}
 use Rattle.zdd_families.proofs.Tables.{row_start, row_none}
 use Rattle.zdd_families.proofs.choice.first_row.Goals as goal
 

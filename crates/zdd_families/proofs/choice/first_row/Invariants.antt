@@ -1,5 +1,5 @@
 use Rattle.std.proofs.Common.{◌≡◌, ◌+◌, [], length}
-use Rattle.zdd_families.specs.Rows.{IsRow}
+use Rattle.zdd_families.specs.inner.Rows.{IsRow}
 use Rattle.zdd_families.proofs.choice.first_row.Given as goal
 
 abbrev pub invariant-loop-filled : goal.invariant-loop-filled

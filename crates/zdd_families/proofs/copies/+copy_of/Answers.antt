@@ -1,5 +1,5 @@
 use Rattle.std.specs.HashMap.{get}
-use Rattle.zdd_store.specs.Store.{family_of}
+use Rattle.zdd_store.specs.inner.Store.{family_of}
 use Rattle.zdd_store.specs.contracts.id.IdPartialEq.TheImpl.{eq-value as id_eq}
 use Rattle.zdd_families.proofs.Ways.{Keeps_same, Keeps_trans}
 use Rattle.zdd_families.proofs.Copying.{copied_terminal, copy_kept, copies_kept, copy_above, copy_made}

@@ -1,10 +1,10 @@
 use Rattle.std.proofs.Common.{◌≡◌, true, sym, ap, ◌∙◌, rules}
 use Rattle.std.specs.HashMap.{get}
 use Rattle.std.specs.Map.{lookup}
-use Rattle.zdd_store.specs.Store.{family_of}
+use Rattle.zdd_store.specs.inner.Store.{family_of}
 use Rattle.zdd_store.specs.declared.id.Id.{Id}
 use Rattle.zdd_store.specs.contracts.id.IdPartialEq.TheImpl.{eq-value as id_eq}
-use Rattle.zdd_families.specs.Copies.{IsCopy}
+use Rattle.zdd_families.specs.inner.Copies.{IsCopy}
 use Rattle.zdd_families.proofs.Copying.{knows_more}
 use Rattle.zdd_families.proofs.copies.note_copy.Goals as goal
 

@@ -1,6 +1,6 @@
-use Rattle.zdd_store.specs.Store.{family_of}
-use Rattle.zdd_families.specs.Steps.{both}
-use Rattle.zdd_families.specs.Unions.{IsUnionOfBoth}
+use Rattle.zdd_store.specs.inner.Store.{family_of}
+use Rattle.zdd_families.specs.inner.Steps.{both}
+use Rattle.zdd_families.specs.inner.Unions.{IsUnionOfBoth}
 use Rattle.zdd_families.proofs.Telling.{minimal_sets_of, tells_both}
 use Rattle.zdd_families.proofs.Products.{least_of_all}
 use Rattle.zdd_families.proofs.families.min_product.Goals as goal

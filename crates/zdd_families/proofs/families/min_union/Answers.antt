@@ -1,6 +1,6 @@
-use Rattle.zdd_store.specs.Store.{family_of}
-use Rattle.zdd_families.specs.Steps.{either}
-use Rattle.zdd_families.specs.Unions.{IsInEither}
+use Rattle.zdd_store.specs.inner.Store.{family_of}
+use Rattle.zdd_families.specs.inner.Steps.{either}
+use Rattle.zdd_families.specs.inner.Unions.{IsInEither}
 use Rattle.zdd_families.proofs.Telling.{minimal_sets_of, tells_either}
 use Rattle.zdd_families.proofs.families.min_union.Goals as goal
 

@@ -1,8 +1,8 @@
 use Rattle.std.proofs.Common.{◌≡◌, [], ◌∷◌, Result, Ok, Err, ◌∙◌, arith}
 use Rattle.std.specs.Prelude.{IfOk}
 use Rattle.std.specs.declared.alloc.AllocError.{AllocError}
-use Rattle.zdd_store.specs.Family.{branch}
-use Rattle.zdd_store.specs.Store.{Families, family_at, family_of, IsSound}
+use Rattle.zdd_store.specs.inner.Family.{branch}
+use Rattle.zdd_store.specs.inner.Store.{Families, family_at, family_of, IsSound}
 use Rattle.zdd_store.specs.declared.id.Id.{Id}
 use Rattle.zdd_store.proofs.Terminals.{least-empty, least-unit}
 use Rattle.zdd_families.proofs.Splits.{single-family}

@@ -1,6 +1,6 @@
 use Rattle.std.proofs.Common.{◌-◌}
-use Rattle.zdd_store.specs.Family.{least_number}
-use Rattle.zdd_store.specs.Store.{family_of}
+use Rattle.zdd_store.specs.inner.Family.{least_number}
+use Rattle.zdd_store.specs.inner.Store.{family_of}
 use Rattle.zdd_families.proofs.minimal.+minimal_sets.Given as goal
 
 abbrev pub decreases-minimal_sets : goal.decreases-minimal_sets

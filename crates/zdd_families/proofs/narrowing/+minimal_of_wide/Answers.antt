@@ -1,7 +1,7 @@
 use Rattle.std.proofs.Common.{refl, sym, subst, Ok, arith}
-use Rattle.zdd_store.specs.Family.{least_number, covers}
-use Rattle.zdd_store.specs.Store.{family_of, Keeps}
-use Rattle.zdd_store.specs.Answers.{IsLeastFamily}
+use Rattle.zdd_store.specs.inner.Family.{least_number, covers}
+use Rattle.zdd_store.specs.inner.Store.{family_of, Keeps}
+use Rattle.zdd_store.specs.inner.Answers.{IsLeastFamily}
 use Rattle.zdd_families.proofs.Ways.{answered, finish_one, answers_one, least-minimal, Keeps_same, Keeps_trans, minimal_made}
 use Rattle.zdd_families.proofs.narrowing.+minimal_of_wide.Goals as goal
 

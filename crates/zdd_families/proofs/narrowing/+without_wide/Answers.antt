@@ -1,6 +1,6 @@
 use Rattle.std.proofs.Common.{◌≡◌, ◌≤◌, ◌∙◌, sym, subst, eqb-true}
-use Rattle.zdd_store.specs.Family.{least_number, sets_without}
-use Rattle.zdd_store.specs.Store.{family_of, Keeps}
+use Rattle.zdd_store.specs.inner.Family.{least_number, sets_without}
+use Rattle.zdd_store.specs.inner.Store.{family_of, Keeps}
 use Rattle.zdd_families.proofs.Branchwise.{without_wide_made}
 use Rattle.zdd_families.proofs.Ways.{answered_without, least-without, without_empty_first, without_empty_second, without_same, without_unit, without_skip, Keeps_four, answers_two, finish_two}
 use Rattle.zdd_families.proofs.narrowing.+without_wide.Goals as goal

@@ -1,5 +1,5 @@
 use Rattle.std.proofs.Common.{◌∙◌}
-use Rattle.zdd_store.specs.Store.{family_of}
+use Rattle.zdd_store.specs.inner.Store.{family_of}
 use Rattle.zdd_families.proofs.Branchwise.{without-same_covers}
 use Rattle.zdd_families.proofs.Ways.{joined_finish}
 use Rattle.zdd_families.proofs.narrowing.join_above.Goals as goal

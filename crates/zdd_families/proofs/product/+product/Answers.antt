@@ -1,7 +1,7 @@
 use Rattle.std.proofs.Common.{◌≤◌, min, sym, subst, Ok, arith}
-use Rattle.zdd_store.specs.Family.{least_number}
-use Rattle.zdd_store.specs.Store.{family_of, Keeps}
-use Rattle.zdd_store.specs.Answers.{IsProductUpTo}
+use Rattle.zdd_store.specs.inner.Family.{least_number}
+use Rattle.zdd_store.specs.inner.Store.{family_of, Keeps}
+use Rattle.zdd_store.specs.inner.Answers.{IsProductUpTo}
 use Rattle.zdd_families.proofs.Ways.{Keeps_same, Keeps_trans, answers_two, finish_two}
 use Rattle.zdd_families.proofs.Pairs.{apart_kept, found_kept, least_kept, can_cross}
 use Rattle.zdd_families.proofs.Products.{operand_asked, none_asked, product_told, product_turned, both_made, across_none, across_made}

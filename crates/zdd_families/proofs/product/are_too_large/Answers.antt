@@ -1,5 +1,5 @@
 use Rattle.std.proofs.Common.{arith}
-use Rattle.zdd_store.specs.Store.{family_of}
+use Rattle.zdd_store.specs.inner.Store.{family_of}
 use Rattle.zdd_families.proofs.Shorter.{both-short, both-short-second}
 use Rattle.zdd_families.proofs.product.are_too_large.Goals as goal
 

@@ -1,11 +1,11 @@
 use Rattle.std.proofs.Common.{◌≡◌, ℕ, ◌<◌, Result, Ok, Err, arith}
 use Rattle.std.specs.declared.alloc.AllocError.{AllocError}
 use Rattle.std.specs.List.{AllByRecursion}
-use Rattle.zdd_store.specs.Family.{Family, IsRising, IsAntichain, covers, least_number}
-use Rattle.zdd_store.specs.Store.{Families, family_of}
-use Rattle.zdd_store.specs.Answers.{IsLeastUpTo, sets_up_to}
+use Rattle.zdd_store.specs.inner.Family.{Family, IsRising, IsAntichain, covers, least_number}
+use Rattle.zdd_store.specs.inner.Store.{Families, family_of}
+use Rattle.zdd_store.specs.inner.Answers.{IsLeastUpTo, sets_up_to}
 use Rattle.zdd_store.specs.declared.id.Id.{Id}
-use Rattle.zdd_families.specs.Steps.{Answered}
+use Rattle.zdd_families.specs.inner.Steps.{Answered}
 use Rattle.zdd_families.proofs.Ways.{answered}
 use Rattle.zdd_families.proofs.Shorter.{up_to-asked, all-asked}
 use Rattle.zdd_families.proofs.product.asked_sets.Goals as goal

@@ -1,7 +1,7 @@
 use Rattle.std.proofs.Common.{min, sym, subst, Ok}
-use Rattle.zdd_store.specs.Family.{least_number}
-use Rattle.zdd_store.specs.Store.{family_of, Keeps}
-use Rattle.zdd_store.specs.Answers.{IsProductUpTo}
+use Rattle.zdd_store.specs.inner.Family.{least_number}
+use Rattle.zdd_store.specs.inner.Store.{family_of, Keeps}
+use Rattle.zdd_store.specs.inner.Answers.{IsProductUpTo}
 use Rattle.zdd_families.proofs.Ways.{Keeps_same, answers_two, finish_two}
 use Rattle.zdd_families.proofs.product.kept_product.Goals as goal
 

@@ -1,6 +1,6 @@
 use Rattle.std.proofs.Common.{◌≡◌, ◌≤◌, ◌∙◌, sym, subst, eqb-true}
-use Rattle.zdd_store.specs.Family.{least_number, sets_without}
-use Rattle.zdd_store.specs.Store.{family_of, Keeps}
+use Rattle.zdd_store.specs.inner.Family.{least_number, sets_without}
+use Rattle.zdd_store.specs.inner.Store.{family_of, Keeps}
 use Rattle.zdd_families.proofs.Ways.{answered_without, least-without, without_empty_first, without_empty_second, without_same, without_unit, without_made, without_skip, Keeps_four, answers_two, finish_two}
 use Rattle.zdd_families.proofs.removal.+without_sets.Goals as goal
 use Rattle.zdd_families.proofs.removal.+without_sets.Goals.{then-eq-via-then-eq, then-eq-via-else-eq+then-eq-2, then-eq-3-via-then-eq-3, then-eq-3-via-else-eq-3+then-eq-4}

@@ -1,6 +1,6 @@
 use Rattle.std.proofs.Common.{◌-◌, min}
-use Rattle.zdd_store.specs.Family.{least_number}
-use Rattle.zdd_store.specs.Store.{family_of}
+use Rattle.zdd_store.specs.inner.Family.{least_number}
+use Rattle.zdd_store.specs.inner.Store.{family_of}
 use Rattle.zdd_families.proofs.removal.+without_sets.Given as goal
 
 abbrev pub decreases-without_sets : goal.decreases-without_sets

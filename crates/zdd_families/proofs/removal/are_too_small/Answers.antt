@@ -1,5 +1,5 @@
 use Rattle.std.proofs.Common.{arith}
-use Rattle.zdd_store.specs.Store.{family_of}
+use Rattle.zdd_store.specs.inner.Store.{family_of}
 use Rattle.zdd_families.proofs.Shorter.{without-larger}
 use Rattle.zdd_families.proofs.removal.are_too_small.Goals as goal
 

@@ -1,7 +1,7 @@
 use Rattle.std.proofs.Common.{◌≡◌, ◌-◌, sym, subst, Ok, arith}
-use Rattle.zdd_store.specs.Family.{branch, least_number}
-use Rattle.zdd_store.specs.Store.{family_of, Keeps}
-use Rattle.zdd_store.specs.Answers.{sets_of}
+use Rattle.zdd_store.specs.inner.Family.{branch, least_number}
+use Rattle.zdd_store.specs.inner.Store.{family_of, Keeps}
+use Rattle.zdd_store.specs.inner.Answers.{sets_of}
 use Rattle.zdd_families.proofs.Ways.{Keeps_same, Keeps_trans, answers_one, finish_one}
 use Rattle.zdd_families.proofs.Sizing.{told_answer, filter_lo, filter_made, least_filtered, of-branch, of-none, least-of}
 use Rattle.zdd_families.proofs.sizes.+sets_of_size.Goals as goal

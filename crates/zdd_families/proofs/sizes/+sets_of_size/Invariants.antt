@@ -1,6 +1,6 @@
 use Rattle.std.proofs.Common.{◌-◌}
-use Rattle.zdd_store.specs.Family.{least_number}
-use Rattle.zdd_store.specs.Store.{family_of}
+use Rattle.zdd_store.specs.inner.Family.{least_number}
+use Rattle.zdd_store.specs.inner.Store.{family_of}
 use Rattle.zdd_families.proofs.sizes.+sets_of_size.Given as goal
 
 abbrev pub decreases-sets_of_size : goal.decreases-sets_of_size

@@ -1,7 +1,7 @@
 use Rattle.std.proofs.Common.{◌≡◌, ◌-◌, sym, subst, Ok, arith}
-use Rattle.zdd_store.specs.Family.{branch, least_number}
-use Rattle.zdd_store.specs.Store.{family_of, Keeps}
-use Rattle.zdd_store.specs.Answers.{sets_up_to}
+use Rattle.zdd_store.specs.inner.Family.{branch, least_number}
+use Rattle.zdd_store.specs.inner.Store.{family_of, Keeps}
+use Rattle.zdd_store.specs.inner.Answers.{sets_up_to}
 use Rattle.zdd_families.proofs.Ways.{Keeps_same, Keeps_trans, answers_one, finish_one}
 use Rattle.zdd_families.proofs.Sizing.{told_answer, filter_lo, filter_made, least_filtered, up_to-branch, up_to-none, least-up_to}
 use Rattle.zdd_families.proofs.sizes.+sets_within.Goals as goal

@@ -1,6 +1,6 @@
 use Rattle.std.proofs.Common.{◌≡◌, ◌<◌, ◌∷◌, [], ◌∙◌, ap, sym, subst, length, arith}
-use Rattle.zdd_store.specs.Store.{family_at, family_of}
-use Rattle.zdd_store.specs.Answers.{HasAtLeast, HasAtMost, sets_of}
+use Rattle.zdd_store.specs.inner.Store.{family_at, family_of}
+use Rattle.zdd_store.specs.inner.Answers.{HasAtLeast, HasAtMost, sets_of}
 use Rattle.zdd_families.proofs.Sizing.{of_empty, of_unit, of_unit_none, none_of_more, none_of_less, all_of}
 use Rattle.zdd_families.proofs.sizes.exact_by_size.Goals as goal
 

@@ -1,5 +1,5 @@
 use Rattle.std.proofs.Common.{◌<◌, ◌∙◌, length, arith}
-use Rattle.zdd_store.specs.Store.{family_of}
+use Rattle.zdd_store.specs.inner.Store.{family_of}
 use Rattle.zdd_families.proofs.Sizing.{told_up_to, all_up_to, none_up_to}
 use Rattle.zdd_families.proofs.sizes.within_by_size.Goals as goal
 

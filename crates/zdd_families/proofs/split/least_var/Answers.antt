@@ -1,5 +1,5 @@
 use Rattle.std.proofs.Common.{sym}
-use Rattle.zdd_store.specs.Store.{family_of}
+use Rattle.zdd_store.specs.inner.Store.{family_of}
 use Rattle.zdd_families.proofs.Splits.{least-node, least-terminal}
 use Rattle.zdd_families.proofs.split.least_var.Goals as goal
 

@@ -1,6 +1,6 @@
 use Rattle.std.proofs.Common.{◌≡◌, Option, None, Some, IfSome}
-use Rattle.zdd_store.specs.Family.{Family, least_number}
-use Rattle.zdd_store.specs.Store.{Families, family_of, family_with, Fits, IsSound}
+use Rattle.zdd_store.specs.inner.Family.{Family, least_number}
+use Rattle.zdd_store.specs.inner.Store.{Families, family_of, family_with, Fits, IsSound}
 use Rattle.zdd_store.specs.declared.id.Node.{Node}
 use Rattle.zdd_families.proofs.Splits.{least-node}
 use Rattle.zdd_families.proofs.split.look.Goals as goal

@@ -1,6 +1,6 @@
 use Rattle.std.proofs.Common.{◌≡◌, ◌<◌, ◌≤◌, arith}
-use Rattle.zdd_store.specs.Store.{family_of}
-use Rattle.zdd_store.specs.Family.{least_number}
+use Rattle.zdd_store.specs.inner.Store.{family_of}
+use Rattle.zdd_store.specs.inner.Family.{least_number}
 use Rattle.zdd_families.proofs.Splits.{least-node, least-terminal, split-greater, split-node}
 use Rattle.zdd_families.proofs.split.split.Goals as goal
 

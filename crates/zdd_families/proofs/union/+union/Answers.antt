@@ -1,8 +1,8 @@
 use Rattle.std.proofs.Common.{min, ◌∙◌, sym, subst, Ok, arith, eqb-true}
-use Rattle.zdd_store.specs.Family.{least_number}
-use Rattle.zdd_store.specs.Store.{family_of, Keeps}
-use Rattle.zdd_store.specs.Answers.{IsLeastFamily}
-use Rattle.zdd_families.specs.Steps.{either}
+use Rattle.zdd_store.specs.inner.Family.{least_number}
+use Rattle.zdd_store.specs.inner.Store.{family_of, Keeps}
+use Rattle.zdd_store.specs.inner.Answers.{IsLeastFamily}
+use Rattle.zdd_families.specs.inner.Steps.{either}
 use Rattle.zdd_families.proofs.Ways.{Keeps_same, Keeps_trans, answers_two, finish_two}
 use Rattle.zdd_families.proofs.Pairs.{apart_kept, least_kept, found_kept, operand, either_same, either_second_empty, either_first_unit, either_first_empty, either_second_unit, least-either, either_made}
 use Rattle.zdd_families.proofs.union.+union.Goals as goal

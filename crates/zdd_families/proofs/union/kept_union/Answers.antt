@@ -1,8 +1,8 @@
 use Rattle.std.proofs.Common.{min, sym, subst, Ok}
-use Rattle.zdd_store.specs.Family.{least_number}
-use Rattle.zdd_store.specs.Store.{family_of, Keeps}
-use Rattle.zdd_store.specs.Answers.{IsLeastFamily}
-use Rattle.zdd_families.specs.Steps.{either}
+use Rattle.zdd_store.specs.inner.Family.{least_number}
+use Rattle.zdd_store.specs.inner.Store.{family_of, Keeps}
+use Rattle.zdd_store.specs.inner.Answers.{IsLeastFamily}
+use Rattle.zdd_families.specs.inner.Steps.{either}
 use Rattle.zdd_families.proofs.Ways.{Keeps_same, answers_two, finish_two}
 use Rattle.zdd_families.proofs.Pairs.{least-either}
 use Rattle.zdd_families.proofs.union.kept_union.Goals as goal

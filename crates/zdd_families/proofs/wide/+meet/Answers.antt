@@ -1,8 +1,8 @@
 use Rattle.std.proofs.Common.{◌≤◌, ◌&&◌, min, sym, subst, Ok, arith}
-use Rattle.zdd_store.specs.Family.{least_number}
-use Rattle.zdd_store.specs.Store.{family_of, Keeps}
-use Rattle.zdd_store.specs.Answers.{IsMeetOf}
-use Rattle.zdd_families.specs.Steps.{both}
+use Rattle.zdd_store.specs.inner.Family.{least_number}
+use Rattle.zdd_store.specs.inner.Store.{family_of, Keeps}
+use Rattle.zdd_store.specs.inner.Answers.{IsMeetOf}
+use Rattle.zdd_families.specs.inner.Steps.{both}
 use Rattle.zdd_families.proofs.Branchwise.{wide_operand, meet_turned, parts_rise, parts_joined, meet_bits, meet_grows}
 use Rattle.zdd_families.proofs.Pairs.{both_first_empty, both_first_unit, both_second_empty, both_second_unit}
 use Rattle.zdd_families.proofs.Ways.{Keeps_same, Keeps_four, answers_two, finish_two}

@@ -1,6 +1,6 @@
 use Rattle.std.proofs.Common.{◌-◌, ◌+◌, ◌*◌, min}
-use Rattle.zdd_store.specs.Family.{least_number}
-use Rattle.zdd_store.specs.Store.{family_of}
+use Rattle.zdd_store.specs.inner.Family.{least_number}
+use Rattle.zdd_store.specs.inner.Store.{family_of}
 use Rattle.zdd_families.proofs.wide.+meet.Given as goal
 
 abbrev pub decreases-meet_wide_anew : goal.decreases-meet_wide_anew

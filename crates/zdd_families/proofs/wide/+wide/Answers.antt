@@ -1,8 +1,8 @@
 use Rattle.std.proofs.Common.{◌≡◌, ◌<◌, ◌≤◌, ◌||◌, min, sym, subst, Ok, arith}
-use Rattle.zdd_store.specs.Family.{least_number}
-use Rattle.zdd_store.specs.Store.{family_of, Keeps}
-use Rattle.zdd_store.specs.Answers.{IsUnionOf}
-use Rattle.zdd_families.specs.Steps.{either}
+use Rattle.zdd_store.specs.inner.Family.{least_number}
+use Rattle.zdd_store.specs.inner.Store.{family_of, Keeps}
+use Rattle.zdd_store.specs.inner.Answers.{IsUnionOf}
+use Rattle.zdd_families.specs.inner.Steps.{either}
 use Rattle.zdd_families.proofs.Branchwise.{wide_operand, union_turned, parts_rise, parts_joined, union_bits, union_grows, same_parts, wide_node, made_wide}
 use Rattle.zdd_families.proofs.Pairs.{either_first_empty, either_first_unit, either_second_empty, either_second_unit}
 use Rattle.zdd_families.proofs.Splits.{least-terminal}

@@ -1,7 +1,7 @@
 use Rattle.std.proofs.Common.{Ok, sym, subst}
-use Rattle.zdd_store.specs.Store.{family_of}
-use Rattle.zdd_store.specs.Answers.{IsCovering}
-use Rattle.zdd_families.specs.Steps.{Answered, joined}
+use Rattle.zdd_store.specs.inner.Store.{family_of}
+use Rattle.zdd_store.specs.inner.Answers.{IsCovering}
+use Rattle.zdd_families.specs.inner.Steps.{Answered, joined}
 use Rattle.zdd_families.proofs.Branchwise.{wide-branch, wide_made}
 use Rattle.zdd_families.proofs.wide.wide_make.Goals as goal
 

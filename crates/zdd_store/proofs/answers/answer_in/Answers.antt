@@ -1,5 +1,5 @@
 use Rattle.std.proofs.Common.{◌≡◌, true, sym, subst, ◌∙◌, rules}
-use Rattle.zdd_store.specs.Answers.{IsAnswer}
+use Rattle.zdd_store.specs.inner.Answers.{IsAnswer}
 use Rattle.zdd_store.specs.declared.question.Question.{Question}
 use Rattle.zdd_store.specs.contracts.question.QuestionPartialEq.TheImpl.{eq-value as question_eq}
 use Rattle.zdd_store.proofs.Entries.{right_at}

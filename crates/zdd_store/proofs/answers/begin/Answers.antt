@@ -1,6 +1,6 @@
 use Rattle.std.proofs.Common.{sym, subst}
 use Rattle.std.specs.Prelude.{is_ok}
-use Rattle.zdd_store.specs.Answers.{AreRight}
+use Rattle.zdd_store.specs.inner.Answers.{AreRight}
 use Rattle.zdd_store.proofs.Entries.{none_right, right_pushed}
 use Rattle.zdd_store.proofs.answers.begin.Goals as goal
 

@@ -1,5 +1,5 @@
-use Rattle.zdd_store.specs.Answers.{AreRight}
-use Rattle.zdd_store.specs.Store.{Families, IsSound}
+use Rattle.zdd_store.specs.inner.Answers.{AreRight}
+use Rattle.zdd_store.specs.inner.Store.{Families, IsSound}
 use Rattle.zdd_store.proofs.answers.begin.Given as goal
 
 abbrev pub invariant-loop-filled : goal.invariant-loop-filled

@@ -1,6 +1,6 @@
 use Rattle.std.proofs.Common.{◌≤◌, length}
-use Rattle.zdd_store.specs.Answers.{AreRight}
-use Rattle.zdd_store.specs.Store.{Families}
+use Rattle.zdd_store.specs.inner.Answers.{AreRight}
+use Rattle.zdd_store.specs.inner.Store.{Families}
 use Rattle.zdd_store.proofs.answers.double.Given as goal
 
 abbrev pub invariant-loop-place : goal.invariant-loop-place

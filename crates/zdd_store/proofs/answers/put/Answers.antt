@@ -1,5 +1,5 @@
 use Rattle.std.proofs.lemmas.List.Elements.{All-set}
-use Rattle.zdd_store.specs.Answers.{IsAnswer}
+use Rattle.zdd_store.specs.inner.Answers.{IsAnswer}
 use Rattle.zdd_store.specs.declared.question.Known.{Known}
 use Rattle.zdd_store.proofs.answers.put.Goals as goal
 

@@ -1,8 +1,8 @@
 use Rattle.std.proofs.Common.{◌≡◌, ◌-◌, ◌+◌, ◌≤◌, true, sym, subst, arith}
 use Rattle.std.proofs.lemmas.Option.{slice_get_within}
-use Rattle.zdd_store.specs.Family.{IsAntichain}
-use Rattle.zdd_store.specs.Store.{family_at}
-use Rattle.zdd_store.specs.Nodes.{HasShapeAt}
+use Rattle.zdd_store.specs.inner.Family.{IsAntichain}
+use Rattle.zdd_store.specs.inner.Store.{family_at}
+use Rattle.zdd_store.specs.inner.Nodes.{HasShapeAt}
 use Rattle.zdd_store.proofs.Shaped.{shapes-set}
 use Rattle.zdd_store.proofs.shapes.note_apart.Goals as goal
 

@@ -1,9 +1,9 @@
 use Rattle.std.proofs.Common.{◌≡◌, length, ap, sym, subst, ◌∙◌, arith}
 use Rattle.std.specs.Prelude.{is_ok}
-use Rattle.zdd_store.specs.Family.{branch}
-use Rattle.zdd_store.specs.Store.{family_at, family_of}
-use Rattle.zdd_store.specs.Answers.{HasShape}
-use Rattle.zdd_store.specs.Nodes.{AreShapes, HasShapeAt}
+use Rattle.zdd_store.specs.inner.Family.{branch}
+use Rattle.zdd_store.specs.inner.Store.{family_at, family_of}
+use Rattle.zdd_store.specs.inner.Answers.{HasShape}
+use Rattle.zdd_store.specs.inner.Nodes.{AreShapes, HasShapeAt}
 use Rattle.zdd_store.proofs.Shaped.{shapes-pushed}
 use Rattle.zdd_store.proofs.shapes.note_shape.Goals as goal
 

@@ -1,8 +1,8 @@
 use Rattle.std.proofs.Common.{◌≡◌, ◌-◌, ◌+◌, ◌≤◌, true, sym, subst, arith}
 use Rattle.std.proofs.lemmas.Option.{slice_get_within}
-use Rattle.zdd_store.specs.Answers.{IsWide}
-use Rattle.zdd_store.specs.Store.{family_at}
-use Rattle.zdd_store.specs.Nodes.{HasShapeAt}
+use Rattle.zdd_store.specs.inner.Answers.{IsWide}
+use Rattle.zdd_store.specs.inner.Store.{family_at}
+use Rattle.zdd_store.specs.inner.Nodes.{HasShapeAt}
 use Rattle.zdd_store.proofs.Shaped.{shapes-set}
 use Rattle.zdd_store.proofs.shapes.note_wide.Goals as goal
 

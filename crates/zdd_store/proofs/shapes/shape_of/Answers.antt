@@ -1,5 +1,5 @@
 use Rattle.std.proofs.Common.{refl, sym}
-use Rattle.zdd_store.specs.Store.{family_of}
+use Rattle.zdd_store.specs.inner.Store.{family_of}
 use Rattle.zdd_store.proofs.Shaped.{shape-empty, shape-unit, shape-any, shape-node}
 use Rattle.zdd_store.proofs.shapes.shape_of.Goals as goal
 

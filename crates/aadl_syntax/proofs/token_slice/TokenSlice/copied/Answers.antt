@@ -1,6 +1,6 @@
 use Rattle.std.proofs.Common.{List, ◌∷◌, ◌++◌, [], ◌∙◌, ap, sym, arith}
 use Rattle.aadl_syntax.specs.declared.token.Token.{Token}
-use Rattle.aadl_syntax.specs.Token.{shown}
+use Rattle.aadl_syntax.specs.inner.Token.{shown}
 use Rattle.aadl_syntax.proofs.Marked.{take-more, none-there}
 use Rattle.aadl_syntax.proofs.token_slice.TokenSlice.copied.Goals as goal
 use Rattle.aadl_syntax.proofs.token_slice.TokenSlice.copied.Goals.{in-Some+in_ok-add_copy, in_default}

@@ -1,5 +1,5 @@
 use Rattle.std.proofs.Common.{◌≡◌, ◌∷◌, ◌++◌, ◌+◌, [], List, length, arith, ap, sym, ◌∙◌, refl, subst}
-use Rattle.aadl_syntax.specs.Marks.{AreMarks, tokens_at, token_at}
+use Rattle.aadl_syntax.specs.inner.Marks.{AreMarks, tokens_at, token_at}
 use Rattle.aadl_syntax.specs.declared.tokens.Mark.{Mark}
 use Rattle.aadl_syntax.specs.declared.token.Token.{Token}
 use Rattle.aadl_syntax.proofs.Marked.{still_marks, same_tokens, is_mark, its_token, one_more, one_token_more, on_err}

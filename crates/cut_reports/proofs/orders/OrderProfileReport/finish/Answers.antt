@@ -1,6 +1,6 @@
 use Rattle.std.proofs.Common.{◌≡◌, ◌++◌, ◌∙◌, sym, ap, length}
-use Rattle.cut_reports.specs.Numbered.{numbered_text}
-use Rattle.cut_reports.specs.Orders.{counted_order, order_line}
+use Rattle.cut_reports.specs.inner.Numbered.{numbered_text}
+use Rattle.cut_reports.specs.inner.Orders.{counted_order, order_line}
 use Rattle.cut_reports.proofs.Numbered.{begun_width}
 use Rattle.cut_reports.proofs.Sizes.{orders_right}
 use Rattle.cut_reports.proofs.orders.OrderProfileReport.finish.Goals as goal

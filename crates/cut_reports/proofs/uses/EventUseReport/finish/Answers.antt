@@ -1,6 +1,6 @@
 use Rattle.std.proofs.Common.{◌≡◌, ◌∙◌, sym, ap, length}
-use Rattle.cut_reports.specs.Numbered.{numbered_text}
-use Rattle.cut_reports.specs.Uses.{counted_use}
+use Rattle.cut_reports.specs.inner.Numbered.{numbered_text}
+use Rattle.cut_reports.specs.inner.Uses.{counted_use}
 use Rattle.cut_reports.proofs.Numbered.{begun_width}
 use Rattle.cut_reports.proofs.UseLaws.{uses_right}
 use Rattle.cut_reports.proofs.uses.EventUseReport.finish.Goals as goal

@@ -1,4 +1,4 @@
-use Rattle.zdd_store.specs.Store.{family_of}
+use Rattle.zdd_store.specs.inner.Store.{family_of}
 use Rattle.cutset_lister.proofs.Going.{begins, begins_left, begins_listed, begins_ordered}
 use Rattle.cutset_lister.proofs.walk.Listing.start.Goals as goal
 use Rattle.std.proofs.Common.{length}

@@ -1,6 +1,6 @@
 use Rattle.std.proofs.Common.{arith}
 use Rattle.fault_system.proofs.Elements.{contains_In, each-made}
-use Rattle.cutset_lister.specs.Walks.{all_sets}
+use Rattle.cutset_lister.specs.inner.Walks.{all_sets}
 use Rattle.cutset_writer.proofs.SetLines.{line_fits}
 use Rattle.cutset_writer.proofs.page.PageWriter.start.Goals as goal
 

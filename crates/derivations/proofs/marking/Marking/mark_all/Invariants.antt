@@ -1,6 +1,6 @@
 use Rattle.std.proofs.Common.{take}
 use Rattle.fault_system.specs.Truth.{set_of}
-use Rattle.derivations.specs.Reaching.{Adds}
+use Rattle.derivations.specs.inner.Reaching.{Adds}
 use Rattle.derivations.proofs.marking.Marking.mark_all.Given as goal
 
 abbrev pub invariant-loop-number : goal.invariant-loop-number

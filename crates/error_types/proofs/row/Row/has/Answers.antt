@@ -1,7 +1,7 @@
 use Rattle.std.proofs.Common.{sym, ap, ◌∙◌}
 use Rattle.std.proofs.lemmas.Bool.{le-ltb}
-use Rattle.error_types.specs.Rows.{has_bit}
-use Rattle.error_types.specs.Words.{bit_in}
+use Rattle.error_types.specs.inner.Rows.{has_bit}
+use Rattle.error_types.specs.inner.Words.{bit_in}
 use Rattle.error_types.proofs.RowLaws.{bit-past, bit-there}
 use Rattle.error_types.proofs.row.Row.has.Goals as goal
 

@@ -1,7 +1,7 @@
 use Rattle.std.proofs.Common.{◌≡◌, ◌≤◌, ◌*◌, length, sym, ap, ◌∙◌, arith}
 use Rattle.std.proofs.lemmas.List.{with_items_is}
-use Rattle.error_types.specs.Rows.{either}
-use Rattle.error_types.specs.Words.{bits_of}
+use Rattle.error_types.specs.inner.Rows.{either}
+use Rattle.error_types.specs.inner.Words.{bits_of}
 use Rattle.error_types.proofs.RowLaws.{joined-rows}
 use Rattle.error_types.proofs.row.Row.join.Goals as goal
 

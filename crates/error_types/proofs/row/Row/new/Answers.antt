@@ -1,5 +1,5 @@
 use Rattle.std.proofs.Common.{ap, ◌∙◌}
-use Rattle.error_types.specs.Words.{bits_of}
+use Rattle.error_types.specs.inner.Words.{bits_of}
 use Rattle.error_types.proofs.RowLaws.{empty-words}
 use Rattle.error_types.proofs.row.Row.new.Goals as goal
 

@@ -1,7 +1,7 @@
 use Rattle.std.proofs.Common.{◌≡◌, filter, sym, ap, ◌∙◌, arith}
-use Rattle.error_types.specs.Rows.{numbers_in}
+use Rattle.error_types.specs.inner.Rows.{numbers_in}
 use Rattle.plain_values.specs.Numbered.{numbers_below}
-use Rattle.error_types.specs.Words.{bit_in}
+use Rattle.error_types.specs.inner.Words.{bit_in}
 use Rattle.error_types.proofs.RowLaws.{numbers-of}
 use Rattle.error_types.proofs.row.Row.numbers.Goals as goal
 

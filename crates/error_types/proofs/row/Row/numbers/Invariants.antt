@@ -1,6 +1,6 @@
 use Rattle.std.proofs.Common.{◌≡◌, filter}
 use Rattle.plain_values.specs.Numbered.{numbers_below}
-use Rattle.error_types.specs.Words.{bit_in}
+use Rattle.error_types.specs.inner.Words.{bit_in}
 use Rattle.error_types.proofs.row.Row.numbers.Given as goal
 
 abbrev pub invariant-loop-number : goal.invariant-loop-number

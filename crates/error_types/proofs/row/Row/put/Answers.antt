@@ -1,6 +1,6 @@
 use Rattle.std.proofs.Common.{◌≡◌, ◌<◌, ◌≤◌, ◌*◌, true, length, set, sym, ap, ◌∙◌, arith}
 use Rattle.std.proofs.lemmas.List.{with_items_is}
-use Rattle.error_types.specs.Words.{bit_in, bits_of}
+use Rattle.error_types.specs.inner.Words.{bit_in, bits_of}
 use Rattle.error_types.proofs.RowLaws.{in-words, long, mark}
 use Rattle.error_types.proofs.row.Row.put.Goals as goal
 

@@ -1,6 +1,6 @@
 use Rattle.std.proofs.Common.{flat_map, ◌∙◌}
 use Rattle.std.proofs.lemmas.Result.{IfOk-weaker}
-use Rattle.error_types.specs.Rows.{types_below}
+use Rattle.error_types.specs.inner.Rows.{types_below}
 use Rattle.error_types.specs.Walk.{term_types}
 use Rattle.error_types.proofs.table.TypeTable.denote.Goals as goal
 

@@ -3,9 +3,9 @@ use Rattle.std.specs.HashMap.{get}
 use Rattle.std.specs.Map.{lookup}
 use Rattle.std.specs.Prelude.{reverse}
 use Rattle.std.proofs.lemmas.Grind.{common_steps}
-use Rattle.package_index.specs.Tables.{same_pair}
+use Rattle.package_index.specs.inner.Tables.{same_pair}
 use Rattle.error_types.specs.declared.id.ItemId.{ItemId}
-use Rattle.error_types.specs.Tables.{has_number}
+use Rattle.error_types.specs.inner.Tables.{has_number}
 use Rattle.error_types.proofs.MarkLaws.{marks-first}
 use Rattle.error_types.proofs.trip.Trip.at.Goals as goal
 

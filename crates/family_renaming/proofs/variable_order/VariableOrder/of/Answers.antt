@@ -1,6 +1,6 @@
 use Rattle.std.proofs.Common.{ap, sym, subst, ◌∙◌, length}
 use Rattle.std.proofs.lemmas.Bool.{false≢true}
-use Rattle.family_renaming.specs.Orders.{HasPlaces}
+use Rattle.family_renaming.specs.inner.Orders.{HasPlaces}
 use Rattle.family_renaming.proofs.Permutations.{are_inverse, event_order, order_undone, order_redone, both_undone}
 use Rattle.family_renaming.proofs.variable_order.VariableOrder.of.Goals as goal
 

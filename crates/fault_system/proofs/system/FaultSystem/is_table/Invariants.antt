@@ -1,6 +1,7 @@
 use Rattle.std.proofs.Common.{ℕ, ◌<◌}
 use Rattle.fault_system.specs.Truth.{member}
-use Rattle.fault_system.specs.Rounds.{FitsFact, time_of}
+use Rattle.fault_system.specs.Rounds.{time_of}
+use Rattle.fault_system.specs.inner.Rounds.{FitsFact}
 use Rattle.fault_system.proofs.system.FaultSystem.is_table.Given as goal
 
 abbrev pub invariant-loop-number : goal.invariant-loop-number

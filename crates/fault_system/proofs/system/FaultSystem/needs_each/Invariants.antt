@@ -1,7 +1,8 @@
 use Rattle.std.proofs.Common.{◌≡◌, ℕ, drop, not}
 use Rattle.std.specs.List.{list_all}
 use Rattle.fault_system.specs.Truth.{member, set_of}
-use Rattle.fault_system.specs.CutSets.{makes_hold, without}
+use Rattle.fault_system.specs.CutSets.{makes_hold}
+use Rattle.fault_system.specs.inner.CutSets.{without}
 use Rattle.fault_system.proofs.system.FaultSystem.needs_each.Given as goal
 
 abbrev pub invariant-loop-event : goal.invariant-loop-event

@@ -1,6 +1,7 @@
 use Rattle.std.proofs.Common.{◌≡◌, ℕ, List, length, sym, subst, arith}
 use Rattle.fault_system.specs.Truth.{member}
-use Rattle.fault_system.specs.Rounds.{AreRounds, IsTableTo}
+use Rattle.fault_system.specs.Rounds.{AreRounds}
+use Rattle.fault_system.specs.inner.Rounds.{IsTableTo}
 use Rattle.fault_system.proofs.RoundLaws.{table-made, table-rounds}
 use Rattle.fault_system.proofs.NextRound.{table-none}
 use Rattle.fault_system.proofs.system.FaultSystem.plain_rounds.Goals as goal

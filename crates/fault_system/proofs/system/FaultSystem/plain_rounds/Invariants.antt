@@ -1,5 +1,5 @@
 use Rattle.fault_system.specs.Truth.{member}
-use Rattle.fault_system.specs.Rounds.{IsTableTo}
+use Rattle.fault_system.specs.inner.Rounds.{IsTableTo}
 use Rattle.fault_system.proofs.system.FaultSystem.plain_rounds.Given as goal
 
 abbrev pub invariant-loop-round : goal.invariant-loop-round

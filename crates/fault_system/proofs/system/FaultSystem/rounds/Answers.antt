@@ -1,6 +1,6 @@
 use Rattle.std.proofs.Common.{subst}
 use Rattle.fault_system.specs.Truth.{member}
-use Rattle.fault_system.specs.Rounds.{IsTable}
+use Rattle.fault_system.specs.inner.Rounds.{IsTable}
 use Rattle.fault_system.proofs.RoundLaws.{table-rounds}
 use Rattle.fault_system.proofs.system.FaultSystem.rounds.Goals as goal
 

@@ -1,6 +1,6 @@
 use Rattle.std.proofs.Common.{◌≡◌, drop, take}
 use Rattle.galileo_reader.specs.Nodes.{second_after, second_line}
-use Rattle.galileo_reader.specs.Tables.{Knows}
+use Rattle.galileo_reader.specs.inner.Tables.{Knows}
 use Rattle.galileo_reader.proofs.nodes.Nodes.of.Given as goal
 
 abbrev pub invariant-loop-line : goal.invariant-loop-line

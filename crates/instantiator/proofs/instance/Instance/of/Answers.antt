@@ -1,7 +1,7 @@
 use Rattle.std.proofs.Common.{subst, sym}
 use Rattle.std.specs.HashMap.{get}
-use Rattle.instantiator.specs.Tables.{KnowsSteps, same_step}
-use Rattle.instantiator.specs.Whole.{ParentsComeFirst, PathsDiffer}
+use Rattle.instantiator.specs.inner.Tables.{KnowsSteps, same_step}
+use Rattle.instantiator.specs.inner.Whole.{ParentsComeFirst, PathsDiffer}
 use Rattle.instantiator.proofs.InstanceLaws.{made-behind, made-differ, made-instance}
 use Rattle.instantiator.proofs.instance.Instance.of.Goals as goal
 

@@ -1,9 +1,10 @@
 use Rattle.std.proofs.Common.{Some, ◌++◌, ◌∷◌, [], cond, length, sym, ap, ◌∙◌, ◌≡◌, subst}
 use Rattle.std.specs.HashMap.{get}
-use Rattle.package_index.specs.Tables.{same_pair}
+use Rattle.package_index.specs.inner.Tables.{same_pair}
 use Rattle.component_extension.specs.Chain.{same_id}
-use Rattle.instantiator.specs.Tables.{AreKinds, kind_of}
-use Rattle.instantiator.specs.Whole.{Kinds, kind_place}
+use Rattle.instantiator.specs.inner.Tables.{AreKinds, kind_of}
+use Rattle.instantiator.specs.Whole.{kind_place}
+use Rattle.instantiator.specs.inner.Whole.{Kinds}
 use Rattle.component_extension.specs.Items.{classifier_refusals}
 use Rattle.instantiator.proofs.KindLaws.{kinds-more}
 use Rattle.instantiator.proofs.kinds.Kinds.add.Goals as goal

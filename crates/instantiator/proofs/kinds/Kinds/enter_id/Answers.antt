@@ -2,9 +2,9 @@ use Rattle.std.proofs.Common.{◌≡◌, sym, ap, ◌∙◌, subst}
 use Rattle.std.proofs.lemmas.Result.{err_from_is_err_and}
 use Rattle.plain_values.specs.Order.{least}
 use Rattle.component_extension.specs.Items.{classifier_refusals}
-use Rattle.component_extension.specs.Effective.{IsEffective}
-use Rattle.plain_values.specs.Stops.{StopsAt}
-use Rattle.instantiator.specs.Whole.{Kinds}
+use Rattle.component_extension.specs.inner.Effective.{IsEffective}
+use Rattle.plain_values.specs.inner.Stops.{StopsAt}
+use Rattle.instantiator.specs.inner.Whole.{Kinds}
 use Rattle.instantiator.proofs.EffectiveIs.{effective-is}
 use Rattle.instantiator.proofs.KindLaws.{entered-again, entered-new, refused-stops}
 use Rattle.instantiator.proofs.kinds.Kinds.enter_id.Goals as goal

@@ -1,7 +1,7 @@
 use Rattle.std.proofs.Common.{◌≡◌, ◌+◌, [], ◌∷◌, None, Some, ap, ◌∙◌, sym, subst, drop, map}
 use Rattle.std.proofs.lemmas.List.{drop_all}
 use Rattle.instantiator.specs.Components.{component_below}
-use Rattle.instantiator.specs.Whole.{ParentsComeFirst, PathsDiffer}
+use Rattle.instantiator.specs.inner.Whole.{ParentsComeFirst, PathsDiffer}
 use Rattle.instantiator.proofs.Lists.{rest-less}
 use Rattle.instantiator.proofs.StepLaws.{stay, step-none, step-some}
 use Rattle.instantiator.proofs.steps.Steps.below.Goals as goal

@@ -1,5 +1,5 @@
-use Rattle.phases.specs.Meets.{IsMemory}
-use Rattle.phases.specs.Stopped.{status_of}
+use Rattle.phases.specs.inner.Meets.{IsMemory}
+use Rattle.phases.specs.inner.Stopped.{status_of}
 use Rattle.phases.proofs.Steps.{ends, exits}
 use Rattle.flattener.specs.Flat.{size_refusal}
 use Rattle.model_phases.specs.declared.flat.FlatModel.{FlatModel}

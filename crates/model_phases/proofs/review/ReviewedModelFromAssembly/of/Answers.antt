@@ -1,5 +1,5 @@
 use Rattle.std.proofs.Common.{ap, ◌∙◌, subst}
-use Rattle.phases.specs.Meets.{IsMemory}
+use Rattle.phases.specs.inner.Meets.{IsMemory}
 use Rattle.phases.proofs.Steps.{◌passes◌, ends, exits}
 use Rattle.model_phases.specs.declared.flat.FlatModel.{FlatModel}
 use Rattle.model_phases.specs.declared.review.ReviewedModel.{ReviewedModel}

@@ -1,6 +1,6 @@
 use Rattle.std.proofs.Common.{ap, sym, ◌∙◌, option_copied}
 use Rattle.package_index.specs.Lookup.{declared_package, or_itself}
-use Rattle.package_index.specs.Names.{names_of}
+use Rattle.package_index.specs.inner.Names.{names_of}
 use Rattle.package_index.proofs.index.Index.look_package.Goals as goal
 
 pub returns-in-None : goal.returns-in-None

@@ -1,8 +1,9 @@
 use Rattle.std.proofs.Common.{◌≡◌, Err, IfErr, MatchOption, ap, subst, sym, ◌∙◌}
 use Rattle.std.proofs.lemmas.Result.{err_from_is_err_and}
 use Rattle.plain_values.specs.Order.{IsClear, IsFirst, least, nearer}
-use Rattle.package_index.specs.Duplicates.{IsDuplicate, packages_again}
-use Rattle.plain_values.specs.Stops.{StopsAtFirst}
+use Rattle.package_index.specs.Duplicates.{IsDuplicate}
+use Rattle.package_index.specs.inner.Duplicates.{packages_again}
+use Rattle.plain_values.specs.inner.Stops.{StopsAtFirst}
 use Rattle.package_index.specs.Lookup.{packages_of}
 use Rattle.package_index.proofs.Gathering.{noted-duplicates}
 use Rattle.package_index.proofs.index.Index.new.Goals as goal

@@ -1,7 +1,7 @@
 use Rattle.std.proofs.Common.{◌≡◌, ◌≤◌, take, length, fold}
 use Rattle.std.specs.List.{flat_map}
 use Rattle.std.specs.Hash as fed
-use Rattle.package_index.specs.Names.{names_of}
+use Rattle.package_index.specs.inner.Names.{names_of}
 use Rattle.package_index.proofs.words.WordsHash.hash.Given as goal
 
 abbrev pub invariant-loop-place : goal.invariant-loop-place

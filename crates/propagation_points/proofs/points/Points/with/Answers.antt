@@ -1,8 +1,8 @@
 use Rattle.std.proofs.Common.{◌≡◌, length, None, Some, cond, is_some, subst, sym, ap, ◌∙◌}
 use Rattle.std.specs.HashMap.{get}
-use Rattle.package_index.specs.Tables.{same_text}
+use Rattle.package_index.specs.inner.Tables.{same_text}
 use Rattle.propagation_points.specs.Points.{place_named}
-use Rattle.propagation_points.specs.Tables.{KnowsNames}
+use Rattle.propagation_points.specs.inner.Tables.{KnowsNames}
 use Rattle.propagation_points.proofs.PlaceLaws.{named-more, none-of}
 use Rattle.propagation_points.proofs.points.Points.with.Goals as goal
 

@@ -2,9 +2,9 @@ use Rattle.std.proofs.Common.{◌≡◌, ◌++◌, ◌∷◌, [], length, None, 
 use Rattle.std.proofs.lemmas.Grind.{flat_map-append}
 use Rattle.std.proofs.lemmas.List.{append-nil}
 use Rattle.std.specs.HashMap.{get}
-use Rattle.package_index.specs.Tables.{same_text}
+use Rattle.package_index.specs.inner.Tables.{same_text}
 use Rattle.propagation_points.specs.States.{Sort, all_variants, place_of_sort, variants_named, variants_of}
-use Rattle.propagation_points.specs.Tables.{KnowsNames}
+use Rattle.propagation_points.specs.inner.Tables.{KnowsNames}
 use Rattle.propagation_points.proofs.PlaceLaws.{named-more, none-of}
 use Rattle.propagation_points.proofs.states.Sorts.with.Goals as goal
 

@@ -1,6 +1,6 @@
 use Rattle.std.proofs.Common.{◌≡◌, ◌<◌, List, length, sym, ap, subst, arith}
-use Rattle.zdd_store.specs.Nodes.{families, AreShapes, IsStore}
-use Rattle.zdd_store.specs.Answers.{AreRight}
+use Rattle.zdd_store.specs.inner.Nodes.{families, AreShapes, IsStore}
+use Rattle.zdd_store.specs.inner.Answers.{AreRight}
 use Rattle.zdd_store.specs.declared.question.Known.{Known}
 use Rattle.zdd_store.specs.declared.shapes.Shape.{Shape}
 use Rattle.zdd_store.proofs.Growing.{no_nodes_store}

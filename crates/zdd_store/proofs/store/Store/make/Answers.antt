@@ -1,13 +1,13 @@
 use Rattle.std.proofs.Common.{◌≡◌, ℕ, zero, suc, ◌<◌, true, false, eqb, sym, ap, subst, ◌∙◌, arith, rules, eqb-true}
-use Rattle.zdd_store.specs.Family.{branch}
-use Rattle.zdd_store.specs.Store.{family_at, IsSound}
+use Rattle.zdd_store.specs.inner.Family.{branch}
+use Rattle.zdd_store.specs.inner.Store.{family_at, IsSound}
 use Rattle.zdd_store.specs.declared.id.Node.{Node}
 use Rattle.zdd_store.proofs.Branches.{branch-empty}
 use Rattle.zdd_store.proofs.Making.{Made, made}
 use Rattle.zdd_store.specs.contracts.id.NodePartialEq.TheImpl.{eq-value as node_eq}
 use Rattle.std.specs.HashMap.{get}
 use Rattle.zdd_store.specs.contracts.question.QuestionPartialEq.TheImpl.{eq-value as question_eq}
-use Rattle.zdd_store.specs.Nodes.{families}
+use Rattle.zdd_store.specs.inner.Nodes.{families}
 use Rattle.zdd_store.proofs.store.Store.make.Goals as goal
 
 -- without sets under the variable the family is that of lo

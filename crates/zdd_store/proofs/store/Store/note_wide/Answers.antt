@@ -1,8 +1,8 @@
 use Rattle.std.proofs.Common.{sym, subst, ◌∙◌}
 use Rattle.std.proofs.lemmas.List.{with_items_is}
-use Rattle.zdd_store.specs.Answers.{IsWide}
-use Rattle.zdd_store.specs.Store.{family_of}
-use Rattle.zdd_store.specs.Nodes.{families, AreShapes}
+use Rattle.zdd_store.specs.inner.Answers.{IsWide}
+use Rattle.zdd_store.specs.inner.Store.{family_of}
+use Rattle.zdd_store.specs.inner.Nodes.{families, AreShapes}
 use Rattle.zdd_store.proofs.store.Store.note_wide.Goals as goal
 
 pub invariant_of-self : goal.invariant_of-self

@@ -1,7 +1,7 @@
 use Rattle.std.proofs.Common.{sym, subst}
 use Rattle.std.specs.Prelude.{IfSome}
-use Rattle.zdd_store.specs.Answers.{AreRight, IsAnswer}
-use Rattle.zdd_store.specs.Nodes.{families}
+use Rattle.zdd_store.specs.inner.Answers.{AreRight, IsAnswer}
+use Rattle.zdd_store.specs.inner.Nodes.{families}
 use Rattle.zdd_store.proofs.store.Store.recall.Goals as goal
 
 pub returns : goal.returns

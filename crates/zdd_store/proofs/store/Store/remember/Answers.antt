@@ -1,7 +1,7 @@
 use Rattle.std.proofs.Common.{sym, subst, ◌∙◌}
 use Rattle.std.proofs.lemmas.List.{with_items_is}
-use Rattle.zdd_store.specs.Answers.{AreRight, IsAnswer}
-use Rattle.zdd_store.specs.Nodes.{families}
+use Rattle.zdd_store.specs.inner.Answers.{AreRight, IsAnswer}
+use Rattle.zdd_store.specs.inner.Nodes.{families}
 use Rattle.zdd_store.proofs.store.Store.remember.Goals as goal
 
 pub invariant_of-self-2 : goal.invariant_of-self-2

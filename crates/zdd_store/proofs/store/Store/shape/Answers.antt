@@ -1,7 +1,7 @@
 use Rattle.std.proofs.Common.{sym, subst}
-use Rattle.zdd_store.specs.Store.{family_of}
-use Rattle.zdd_store.specs.Answers.{HasShape}
-use Rattle.zdd_store.specs.Nodes.{families, AreShapes}
+use Rattle.zdd_store.specs.inner.Store.{family_of}
+use Rattle.zdd_store.specs.inner.Answers.{HasShape}
+use Rattle.zdd_store.specs.inner.Nodes.{families, AreShapes}
 use Rattle.zdd_store.proofs.store.Store.shape.Goals as goal
 
 pub returns : goal.returns

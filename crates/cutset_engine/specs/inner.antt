@@ -1,0 +1,4 @@
+pub mod Gates
+pub mod Filling
+pub mod Families
+pub mod ThinSystems

@@ -1,0 +1,4 @@
+pub mod Lengths
+pub mod Written
+pub mod Pages
+pub mod Steps

@@ -1,0 +1,4 @@
+pub mod Renaming
+pub mod Orders
+pub mod Splitting
+pub mod Lists

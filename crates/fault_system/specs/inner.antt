@@ -1,0 +1,3 @@
+pub mod CutSets
+pub mod Listings
+pub mod Rounds

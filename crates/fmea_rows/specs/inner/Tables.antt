@@ -1,0 +1,103 @@
+-- What the functions that find rows owe each other: tables that change, the users of facts and events, tests, and rows of tables.
+use Rattle.std.specs.Prelude.{ℕ, ◌<◌, ◌≤◌, ◌≡◌, ◌==◌, ◌&&◌, ◌||◌, Bool, true, if◌then◌else◌, List, [], ◌∷◌, length, map, slice_index_or, slice_set, nat_lt}
+use Rattle.std.specs.List.{flat_map}
+use Rattle.plain_values.specs.Rising.{RisesWithin}
+use Rattle.fault_system.specs.Truth.{NumberSet, Has, member, occurs, occurs_event, set_of}
+use Rattle.fault_system.specs.Systems.{System, IsFact}
+use Rattle.fault_system.specs.Rounds.{no_event, only, time_of}
+use Rattle.fault_system.specs.inner.Rounds.{FitsFact, IsTable}
+use Rattle.fault_system.specs.declared.formula.FactInfo.{FactInfo}
+use Rattle.fmea_rows.specs.declared.row.Row.{Row}
+use Rattle.fmea_rows.specs.declared.change.Change.{Change}
+use Rattle.fmea_rows.specs.declared.users.Users.{Users}
+use Rattle.fmea_rows.specs.declared.table.Known.{Known}
+
+-- ---- changes of a table
+
+-- the facts that change
+abbrev pub facts_of : List Change → List ℕ
+facts_of changes = map (λ change. change.fact) changes
+
+-- a table with changes, one after the other
+abbrev pub changed : List ℕ → List Change → List ℕ
+changed times [] = times
+changed times (change ∷ changes) = changed (slice_set times change.fact change.time) changes
+
+-- a table of no event with changes, each of another fact, is that of an event alone
+pub record IsRight (system : System) (event : ℕ) (base : List ℕ) (changes : List Change) : Type 0 where
+  pub rise : RisesWithin 0 (length system.facts) (facts_of changes)
+  pub table : IsTable system (only event) (changed base changes)
+
+-- ---- users
+
+-- the users of a number: those at its place
+abbrev pub users_at : List (List ℕ) → ℕ → NumberSet
+users_at lists number = set_of (slice_index_or lists number [])
+
+-- A user was noted with all facts of one set and all events of another that have a place, and nothing else was.
+pub record Notes (user : ℕ) (facts events : NumberSet) (old new : Users) : Type 0 where
+  pub facts_size : length new.facts.items ≡ length old.facts.items
+  pub events_size : length new.events.items ≡ length old.events.items
+  pub facts_are : (g n : ℕ) → g < length old.facts.items → users_at new.facts.items g n ≡ users_at old.facts.items g n || (facts g && (user == n))
+  pub events_are : (e n : ℕ) → e < length old.events.items → users_at new.events.items e n ≡ users_at old.events.items e n || (events e && (user == n))
+
+-- the facts below a number are among the users of each fact and of each event that occurs in their formulas
+pub record AreUsersBelow (system : System) (bound : ℕ) (users : Users) : Type 0 where
+  pub facts_size : length users.facts.items ≡ length system.facts
+  pub events_size : length users.events.items ≡ length system.events
+  pub facts : (n g : ℕ) (fact : FactInfo) → n < bound → IsFact system n fact → g < length system.facts → occurs g fact.formula ≡ true → Has (users_at users.facts.items g) n
+  pub events : (n e : ℕ) (fact : FactInfo) → n < bound → IsFact system n fact → e < length system.events → occurs_event e fact.formula ≡ true → Has (users_at users.events.items e) n
+
+-- all facts are
+abbrev pub AreUsers : System → Users → Type 0
+AreUsers system users = AreUsersBelow system (length system.facts) users
+
+-- what is known of all events: the table of no event, which facts are effects, and the users
+pub record IsKnown (system : System) (effects : List ℕ) (known : Known) : Type 0 where
+  pub base : IsTable system no_event known.base
+  pub effects_are : (n : ℕ) → member known.effects n ≡ set_of effects n
+  pub users_are : AreUsers system known.users
+
+-- ---- tests
+
+-- the times of these facts fit
+abbrev pub AllFit : System → NumberSet → List ℕ → NumberSet → Type 0
+AllFit system events times facts = (n : ℕ) → Has facts n → FitsFact system events (time_of times) n
+
+-- the time of a fact fits, and those of its users do
+abbrev pub FitsAround : System → NumberSet → List ℕ → List (List ℕ) → ℕ → Type 0
+FitsAround system events times users fact = FitsFact system events (time_of times) fact × AllFit system events times (users_at users fact)
+
+-- no mark is higher than this one, and the times of the facts that have it fit
+pub record IsTested (system : System) (events : NumberSet) (times : List ℕ) (mark : ℕ) (marks : List ℕ) : Type 0 where
+  pub low : (n : ℕ) → slice_index_or marks n 0 ≤ mark
+  pub fit : (n : ℕ) → slice_index_or marks n 0 ≡ mark → FitsFact system events (time_of times) n
+
+-- the times fit wherever changes or an event may be felt
+pub record FitsWhereFelt (system : System) (users : Users) (event : ℕ) (events : NumberSet) (times : List ℕ) (changes : List Change) : Type 0 where
+  pub around : (g : ℕ) → Has (set_of (facts_of changes)) g → FitsAround system events times users.facts.items g
+  pub at_event : AllFit system events times (users_at users.events.items event)
+
+-- between two events: the table is that of no event, and no mark is higher than the number of events that are done
+pub record IsBetween (base : List ℕ) (done : ℕ) (times marks : List ℕ) : Type 0 where
+  pub same : times ≡ base
+  pub low : (n : ℕ) → slice_index_or marks n 0 ≤ done
+
+-- ---- rows of tables
+
+-- what a table of no event and one of an event say of a fact: it has no time in the one, and one in the other
+abbrev pub is_new : List ℕ → ℕ → ℕ → Bool
+is_new base fact time = (time_of base fact == 0) && nat_lt 0 time
+
+-- a row, where this is so
+abbrev pub row_if : Bool → ℕ → ℕ → ℕ → List Row
+row_if is_so event fact time = if is_so then record { event = event; effect = fact; round = time } ∷ [] else []
+
+-- the rows of an event over some facts, as its table says
+abbrev pub table_rows : List ℕ → List ℕ → ℕ → List ℕ → List Row
+table_rows base times event facts = flat_map (λ n. row_if (is_new base n (time_of times n)) event n (time_of times n)) facts
+
+-- the rows of an event over what changes
+abbrev pub changed_rows : Known → ℕ → List Change → List Row
+changed_rows known event changes =
+    flat_map (λ change. row_if (member known.effects change.fact && is_new known.base change.fact change.time) event change.fact change.time) changes

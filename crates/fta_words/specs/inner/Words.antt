@@ -1,0 +1,13 @@
+-- Beside specs/Words.antt: what no clause of `run` reaches.
+use Rattle.std.specs.Prelude.{◌≡◌, ◌<◌, ℕ, List, length}
+use Rattle.std.specs.List.{AllByRecursion}
+use Rattle.aadl_syntax.specs.Form.{IsWord}
+use Rattle.fta_words.specs.Words.{with_colons}
+
+-- ---- plain words
+
+-- A text is one or more identifiers with `::` between them.
+pub record AreJoined (text : List ℕ) (names : List (List ℕ)) : Type 0 where
+  pub text_is : text ≡ with_colons names
+  pub some_name : 0 < length names
+  pub identifiers : AllByRecursion IsWord names

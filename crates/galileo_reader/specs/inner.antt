@@ -1,0 +1,5 @@
+pub mod Trees
+pub mod Truth
+pub mod Tables
+pub mod Cycles
+pub mod Written

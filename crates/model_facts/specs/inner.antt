@@ -1,0 +1,4 @@
+pub mod Assembly
+pub mod Steps
+pub mod Tables
+pub mod Laws

@@ -1,0 +1,4 @@
+pub mod Meets
+pub mod Phases
+pub mod Status
+pub mod Stopped

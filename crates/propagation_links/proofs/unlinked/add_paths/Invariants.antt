@@ -1,0 +1,7 @@
+use Rattle.std.proofs.Common.{◌≡◌, ◌++◌, take}
+use Rattle.plain_values.specs.Numbered.{numbered_from}
+use Rattle.propagation_links.specs.Unlinked.{told_path}
+use Rattle.propagation_links.proofs.unlinked.add_paths.Given as goal
+
+abbrev pub invariant-loop-place : goal.invariant-loop-place
+invariant-loop-place l = l.found ≡ l.fn.found ++ numbered_from (told_path l.pointed l.number) 0 (take l.place l.paths)

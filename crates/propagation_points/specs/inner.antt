@@ -1,0 +1,3 @@
+pub mod Points
+pub mod Uses
+pub mod Tables

@@ -1,0 +1,10 @@
+pub mod Nodes
+pub mod Walks
+pub mod Stages
+pub mod Truths
+pub mod Lines
+pub mod Unrolled
+pub mod Reached
+pub mod Trees
+pub mod Staged
+pub mod Targets

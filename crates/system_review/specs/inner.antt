@@ -1,0 +1,7 @@
+pub mod Listed
+pub mod Possible
+pub mod Alone
+pub mod Occurring
+pub mod Loops
+pub mod Marks
+pub mod Steps

@@ -1,0 +1,5 @@
+pub mod Unions
+pub mod Steps
+pub mod Rows
+pub mod Copies
+pub mod Rising

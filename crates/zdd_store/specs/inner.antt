@@ -1,0 +1,4 @@
+pub mod Family
+pub mod Store
+pub mod Nodes
+pub mod Answers
