@@ -6,7 +6,8 @@ use Rattle.plain_values.specs.Name.{is_same_text}
 use Rattle.plain_values.specs.declared.spot.Spot.{Spot}
 use Rattle.package_index.specs.inner.Tables.{same_text}
 use Rattle.package_index.proofs.KnowsLaws.{find-place}
-use Rattle.event_origins.specs.Named.{Declaration, has_text, spot_named}
+use Rattle.event_origins.specs.Named.{Declaration, spot_named}
+use Rattle.event_origins.specs.inner.Named.{has_text}
 
 -- the place where the declaration at a place stands, if there is one
 abbrev pub spot_there : List Declaration → Option ℕ → Option Spot

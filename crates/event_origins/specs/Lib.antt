@@ -1,3 +1,4 @@
 pub mod Named
 pub mod Declarations
 pub mod Origins
+pub mod inner

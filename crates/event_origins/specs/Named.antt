@@ -1,6 +1,5 @@
 -- Declarations by their names.
 use Rattle.std.specs.Prelude.{ℕ, Bool, List, find, Option, option_map}
-use denote.Ref.{Bor}
 use Rattle.plain_values.specs.Name.{is_same_text}
 use Rattle.plain_values.specs.declared.spot.Spot.{Spot}
 
@@ -12,10 +11,6 @@ pub record Declaration : Type 0 where
 -- whether a declaration has the name
 abbrev pub has_name : List ℕ → Declaration → Bool
 has_name name declaration = is_same_text declaration.name name
-
--- the same of a name that is lent
-abbrev pub has_text : Bor (List ℕ) → Declaration → Bool
-has_text name declaration = has_name name.now declaration
 
 -- where the first declaration of a name stands
 abbrev pub spot_named : List Declaration → List ℕ → Option Spot

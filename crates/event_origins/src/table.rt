@@ -1,7 +1,8 @@
 ghost use Rattle.std.specs.Prelude.{◌≡◌, IfOk};
 ghost use Rattle.std.specs.HashMap.{get};
 ghost use Rattle.package_index.specs.inner.Tables.{Knows, same_text};
-ghost use Rattle.event_origins.specs.Named.{has_text, spot_named};
+ghost use Rattle.event_origins.specs.Named.{spot_named};
+ghost use Rattle.event_origins.specs.inner.Named.{has_text};
 
 use crate::declaration::Declaration;
 use package_index::add;
@@ -22,7 +23,8 @@ impl<'a> Model for DeclarationTable<'a> {
     ghost use Rattle.std.specs.HashMap.{get};
     ghost use denote.Ref.{Bor};
     ghost use Rattle.package_index.specs.inner.Tables.{Knows, same_text};
-    ghost use Rattle.event_origins.specs.Named.{Declaration as Seen, has_text};
+    ghost use Rattle.event_origins.specs.Named.{Declaration as Seen};
+    ghost use Rattle.event_origins.specs.inner.Named.{has_text};
 
     ghost Value = { List Seen };
 

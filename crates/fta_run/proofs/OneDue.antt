@@ -32,7 +32,7 @@ use Rattle.system_answers.proofs.Derived.{confirm_decided, why_decided}
 use Rattle.system_answers.proofs.Decided.{cuts_decided, galileo_paths_text_decided, galileo_text_decided, listing_decided, paths_decided, report_decided, slice_decided, target_decided, tree_decided}
 use Rattle.page_tokens.specs.Keys.{asked_digits}
 use Rattle.fta_run.specs.Due.{command_text, confirmed_in, cuts_in, due, first_text, made_of_files, made_of_texts, made_root, made_target, make_text, model_of_files, model_of_texts, other_texts, sets_of_tree, sized_text, texts_of, units_of, within_limits}
-use Rattle.target_orders.specs.inner.Text.{TellsOrders}
+use Rattle.target_orders.specs.Text.{TellsOrders}
 use Rattle.target_orders.proofs.Said.{one-text}
 use Rattle.fta_run.specs.Effects.{asked_targets}
 use Rattle.fta_run.specs.Later.{IsLater, in_later_files, later_refusal, next_file}

@@ -21,7 +21,7 @@ use Rattle.model_phases.specs.declared.events.EventModel.{EventModel}
 use Rattle.event_lines.specs.Text.{events_text as text_of_events}
 use Rattle.model_phases.specs.declared.flat.FlatModel.{FlatModel}
 use Rattle.fta_run.specs.Words.{Command, Check, Cuts, Tree, Fmea, Targets, Events, Review, Report, Make, Galileo, Paths, Why, Confirm, Place, Help, Version, IsCommand}
-use Rattle.target_orders.specs.inner.Text.{TellsOrders}
+use Rattle.target_orders.specs.Text.{TellsOrders}
 use Rattle.fta_run.specs.Effects.{asked_effects, asked_targets}
 use Rattle.fta_run.specs.Later.{in_later_files}
 use Rattle.fta_run.specs.Files.{MayContain, NamesTooMany, HasTooLong, HasTooMuch, AreTokens, LacksTokens, AreUnits, LacksUnits}

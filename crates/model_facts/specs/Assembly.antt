@@ -1,5 +1,5 @@
 -- A model put together: the components of an instance, the error model of each, and the links between them.
-use Rattle.std.specs.Prelude.{ℕ, false, List, [], ◌++◌, map, filter, flat_map, length, slice_index_or, Option, Some, None}
+use Rattle.std.specs.Prelude.{ℕ, false, List, [], ◌++◌, map, filter, flat_map, length, slice_get, slice_index_or, Option, Some, None, option_map}
 use Rattle.aadl_syntax.specs.declared.core_model.PackageUnit.{PackageUnit}
 use Rattle.package_index.specs.declared.id.ClassifierId.{ClassifierId}
 use Rattle.error_types.specs.Libraries.{Table, table_of}
@@ -7,12 +7,13 @@ use Rattle.error_types.specs.Search.{is_number_in}
 use Rattle.plain_values.specs.Numbered.{numbers_below}
 use Rattle.propagation_points.specs.declared.side.Side.{Side}
 use Rattle.propagation_points.specs.declared.side.Side.TheVariants.{Absent, Free, Declared}
-use Rattle.propagation_points.specs.Points.{Point}
+use Rattle.propagation_points.specs.Points.{Point, side_of}
 use Rattle.error_behavior.specs.States.{no_states}
 use Rattle.error_models.specs.declared.model.ErrorModel.{ErrorModel}
 use Rattle.error_models.specs.Models.{model_of}
 use Rattle.instantiator.specs.Whole.{Instance, classifier_at, instance_of, kind_number}
 use Rattle.propagation_links.specs.declared.link.Link.{Link}
+use Rattle.propagation_links.specs.declared.link.PointAt.{PointAt}
 use Rattle.propagation_links.specs.Links.{links_of}
 
 -- An instance, the types that its packages declare, the error model of each of its kinds, and its links.
@@ -76,3 +77,9 @@ declared_numbers models = flat_map model_numbers models
 -- The universe: all types that are declared for a point of some component, rising. They are what may be at a free side.
 abbrev pub universe_of : Assembly → List ℕ
 universe_of assembly = filter (is_number_in (declared_numbers assembly.models)) (numbers_below (length assembly.types.types))
+
+-- ---- sides
+
+-- the side of a point of a component, if there is such a point
+abbrev pub side_at : Assembly → PointAt → Option Side
+side_at assembly at = option_map (side_of at.outward) (slice_get (model_at assembly at.component).points at.point)

@@ -1,4 +1,3 @@
-pub mod Assembly
 pub mod Steps
 pub mod Tables
 pub mod Laws

@@ -1,6 +1,6 @@
 -- A model has one review.
 use Rattle.std.proofs.Common.{◌≡◌, ℕ, ◌++◌, List, length, ap, sym, ◌∙◌}
-use Rattle.system_review.specs.inner.Occurring.{IsUnreachedEvent, IsUnusedEvent}
+use Rattle.system_review.specs.Occurring.{IsUnreachedEvent, IsUnusedEvent}
 use Rattle.system_review.proofs.OneReview.{one-listed, one-loops}
 use Rattle.model_facts.specs.Assembly.{Assembly}
 use Rattle.model_review.specs.Findings.{model_findings}

@@ -1,9 +1,9 @@
 -- What is told of the loops and the events of a model, once they are found.
 use Rattle.std.proofs.Common.{ℕ, ◌≡◌, ◌++◌, List, filter, length, map, ◌∙◌, append_assoc, subst}
 use Rattle.fault_system.specs.Systems.{System}
-use Rattle.system_review.specs.inner.Listed.{AreAll}
-use Rattle.system_review.specs.inner.Loops.{AreLoops}
-use Rattle.system_review.specs.inner.Occurring.{IsUnreachedEvent, IsUnusedEvent}
+use Rattle.system_review.specs.Listed.{AreAll}
+use Rattle.system_review.specs.Loops.{AreLoops}
+use Rattle.system_review.specs.Occurring.{IsUnreachedEvent, IsUnusedEvent}
 use Rattle.system_review.specs.declared.looping.Loop.{Loop}
 use Rattle.model_review.specs.Seen.{Seen, is_error_event, is_of_root, root_effects}
 use Rattle.model_review.specs.Told.{IsTold, effect_findings, system_findings}

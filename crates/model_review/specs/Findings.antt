@@ -1,5 +1,5 @@
 -- What a review tells of a model but for its loops and its events: what it leaves without effect, and where its errors stop (EMV2).
-use Rattle.std.specs.Prelude.{ℕ, Bool, true, false, cond, ◌&&◌, ◌==◌, not, nat_eq, List, [], ◌∷◌, ◌++◌, filter, flat_map, length, slice_index_or}
+use Rattle.std.specs.Prelude.{ℕ, Bool, true, false, cond, ◌&&◌, ◌==◌, not, nat_eq, List, [], ◌∷◌, ◌++◌, filter, flat_map, length, map, slice_index_or}
 use Rattle.std.specs.List.{list_any}
 use Rattle.std.specs.Option.{option_map_or}
 use Rattle.aadl_syntax.specs.declared.error_model.FlowKind.{FlowKind}
@@ -16,14 +16,15 @@ use Rattle.error_flows.specs.declared.meaning.FlowMeaning.TheVariants as flow
 use Rattle.error_behavior.specs.declared.steps.Step.{Step}
 use Rattle.error_models.specs.declared.model.ErrorModel.{ErrorModel}
 use Rattle.instantiator.specs.Whole.{effective_in}
+use Rattle.propagation_links.specs.Unlinked.{unlinked_of}
 use Rattle.propagation_links.specs.declared.link.Link.{Link}
 use Rattle.propagation_links.specs.declared.link.PointAt.{PointAt}
-use Rattle.model_facts.specs.Assembly.{model_at}
+use Rattle.model_facts.specs.Assembly.{model_at, points_in}
 use Rattle.model_facts.specs.Facts.{inward_of, is_linked, outward_of}
 use Rattle.flattener.specs.Formulas.{end_of}
 use Rattle.model_review.specs.Seen.{Seen, declared_for, is_lost_event, is_lost_fact, may_come, number_at, side_in, source_number, state_number, states_of, stops, types_in}
 use Rattle.model_review.specs.declared.finding.Finding.{Finding}
-use Rattle.model_review.specs.declared.finding.Finding.TheVariants.{HiddenLink, HiddenPath, HiddenSource, HiddenTransitions, Never, NeverState, NotDeclared, Open, StopsHere}
+use Rattle.model_review.specs.declared.finding.Finding.TheVariants.{HiddenLink, HiddenPath, HiddenSource, HiddenTransitions, Never, NeverState, NoLink, NotDeclared, Open, StopsHere}
 use Rattle.model_review.specs.declared.finding.TypesAt.{TypesAt}
 
 -- types at a side
@@ -159,6 +160,12 @@ stop_at seen owner number point =
 abbrev pub stops_of : Seen → ℕ → ErrorModel → List Finding
 stops_of seen owner model = numbered_from (stop_at seen owner) 0 model.points
 
+-- ---- connections and user paths without a link
+
+-- Each connection and each user path is told that gives no link, where types are declared for a point that it names.
+abbrev pub no_links : Seen → List Finding
+no_links seen = map NoLink (unlinked_of seen.numbered.assembly.instance (points_in seen.numbered.assembly.models))
+
 -- ---- open ends
 
 -- A point is told with the types that are declared for its inward side, if no link leads there.
@@ -203,6 +210,7 @@ model_findings seen =
     ++ (of_components seen hidden_transitions
     ++ (flat_map (not_declared seen) seen.numbered.assembly.links
     ++ (of_components seen (stops_of seen)
+    ++ (no_links seen
     ++ (of_components seen (open_ends seen)
     ++ (of_components seen (never_out seen)
-    ++ never_states seen (model_at seen.numbered.assembly 0))))))))
+    ++ never_states seen (model_at seen.numbered.assembly 0)))))))))

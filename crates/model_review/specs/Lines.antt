@@ -1,13 +1,15 @@
 -- The lines of a review.
-use Rattle.std.specs.Prelude.{ℕ, Bool, true, false, List, [], ◌∷◌, ◌++◌, codes, decimal, filter, flat_map, slice_get, Option, option_map}
+use Rattle.std.specs.Prelude.{ℕ, Bool, true, false, cond, List, [], ◌∷◌, ◌++◌, codes, decimal, filter, flat_map, slice_get, Option, option_map}
 use Rattle.std.specs.Option.{option_map_or}
 use Rattle.aadl_syntax.specs.declared.error_model.Flow.{Flow}
 use Rattle.aadl_syntax.specs.declared.error_model.FlowKind.{FlowKind}
 use Rattle.aadl_syntax.specs.declared.error_model.FlowKind.TheVariants as kind
 use Rattle.component_extension.specs.Items.{Scoped}
+use Rattle.component_extension.specs.declared.effective.Effective.{Effective}
 use Rattle.error_types.specs.Libraries.{Table}
 use Rattle.instantiator.specs.Whole.{effective_in}
 use Rattle.propagation_links.specs.declared.link.PointAt.{PointAt}
+use Rattle.propagation_links.specs.declared.unlinked.Unlinked.{Unlinked}
 use Rattle.model_facts.specs.Assembly.{Assembly, model_at}
 use Rattle.model_facts.specs.Facts.{fact_in}
 use Rattle.model_facts.specs.Names.{behind, fact_name as its_fact_name, path_at, path_text, point_name, type_text}
@@ -15,7 +17,7 @@ use Rattle.model_facts.specs.declared.keys.FactKind.TheVariants.{State}
 use Rattle.fault_system.specs.Systems.{event_name, fact_name}
 use Rattle.model_review.specs.Seen.{Seen}
 use Rattle.model_review.specs.declared.finding.Finding.{Finding}
-use Rattle.model_review.specs.declared.finding.Finding.TheVariants.{HiddenLink, HiddenPath, HiddenSource, HiddenTransitions, InLoop, Never, NeverState, NoEffect, NotDeclared, Open, StopsHere, UnreachedEvent, UnusedEvent}
+use Rattle.model_review.specs.declared.finding.Finding.TheVariants.{HiddenLink, HiddenPath, HiddenSource, HiddenTransitions, InLoop, Never, NeverState, NoEffect, NoLink, NotDeclared, Open, StopsHere, UnreachedEvent, UnusedEvent}
 use Rattle.model_review.specs.declared.finding.TypesAt.{TypesAt}
 
 -- ---- sides
@@ -59,6 +61,24 @@ abbrev pub flow_text : Assembly → ℕ → ℕ → List ℕ
 flow_text assembly owner number =
     option_map_or (λ flow. behind assembly owner flow.name) (flow_at number (effective_in assembly.instance owner).propagations.flows) []
 
+-- ---- connections and user paths
+
+-- the name of the connection of a place
+abbrev pub connection_name : Effective → ℕ → List ℕ
+connection_name effective number = option_map_or (λ member. member.nearest.item.name) (slice_get effective.members.connections number) []
+
+-- the name of the user path of a place
+abbrev pub user_path_name : Effective → ℕ → List ℕ
+user_path_name effective number = option_map_or (λ path. path.item.name) (slice_get effective.propagations.user_paths number) []
+
+-- the name of a connection or a user path that gives no link
+abbrev pub unlinked_name : Effective → Unlinked → List ℕ
+unlinked_name effective one = cond one.is_path (user_path_name effective one.number) (connection_name effective one.number)
+
+-- The same, behind that of its component: `root.a/c1`.
+abbrev pub unlinked_text : Assembly → Unlinked → List ℕ
+unlinked_text assembly one = behind assembly one.component (unlinked_name (effective_in assembly.instance one.component) one)
+
 -- ---- lines
 
 -- what a line says
@@ -69,6 +89,7 @@ finding_text seen (HiddenLink from at) = codes "hidden-link " ++ (side_text seen
 finding_text seen (HiddenTransitions owner count) = codes "hidden-transitions " ++ (path_text (path_at seen.numbered.assembly owner) ++ (codes " " ++ decimal count))
 finding_text seen (NotDeclared at to) = codes "not-declared " ++ (types_text seen.numbered.assembly at ++ (codes " -> " ++ side_text seen.numbered.assembly to))
 finding_text seen (StopsHere at) = codes "stops-here " ++ types_text seen.numbered.assembly at
+finding_text seen (NoLink one) = codes "no-link " ++ unlinked_text seen.numbered.assembly one
 finding_text seen (Open at) = codes "open " ++ types_text seen.numbered.assembly at
 finding_text seen (Never at) = codes "never " ++ types_text seen.numbered.assembly at
 finding_text seen (NeverState state) = codes "never " ++ its_fact_name seen.numbered.assembly (fact_in 0 (State state))

@@ -8,7 +8,7 @@ use Rattle.propagation_points.specs.States.{all_variants}
 use Rattle.propagation_points.specs.Uses.{side_types}
 use Rattle.propagation_links.specs.declared.link.PointAt.{PointAt}
 use Rattle.model_facts.specs.Assembly.{Assembly, model_at}
-use Rattle.model_facts.specs.inner.Assembly.{side_at}
+use Rattle.model_facts.specs.Assembly.{side_at}
 use Rattle.model_facts.specs.Effects.{effects_of}
 use Rattle.model_facts.specs.Facts.{event_in, event_number, fact_in, fact_number}
 use Rattle.model_facts.specs.declared.keys.EventKind.{EventKind}
@@ -18,9 +18,9 @@ use Rattle.fault_system.specs.Systems.{System}
 use Rattle.flattener.specs.Facts.{fact_at}
 use Rattle.flattener.specs.Flat.{system_by}
 use Rattle.flattener.specs.Numbered.{Numbered, numbered_of}
-use Rattle.system_review.specs.inner.Alone.{made_by_event, made_by_fact}
-use Rattle.system_review.specs.inner.Occurring.{used_in}
-use Rattle.system_review.specs.inner.Possible.{possible_in}
+use Rattle.system_review.specs.Alone.{made_by_event, made_by_fact}
+use Rattle.system_review.specs.Occurring.{used_in}
+use Rattle.system_review.specs.Possible.{possible_in}
 
 -- what a review looks at: a model whose facts and events are numbered, its system, and those of its facts that are effects
 pub record Seen : Type 0 where

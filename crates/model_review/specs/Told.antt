@@ -1,8 +1,8 @@
 -- What a review tells of the loops and the events of a model.
 use Rattle.std.specs.Prelude.{ℕ, ◌≡◌, ◌==◌, cond, List, [], ◌∷◌, ◌++◌, filter, length, map}
-use Rattle.system_review.specs.inner.Listed.{AreAll}
-use Rattle.system_review.specs.inner.Loops.{AreLoops}
-use Rattle.system_review.specs.inner.Occurring.{IsUnreachedEvent, IsUnusedEvent}
+use Rattle.system_review.specs.Listed.{AreAll}
+use Rattle.system_review.specs.Loops.{AreLoops}
+use Rattle.system_review.specs.Occurring.{IsUnreachedEvent, IsUnusedEvent}
 use Rattle.system_review.specs.declared.looping.Loop.{Loop}
 use Rattle.model_review.specs.Findings.{model_findings}
 use Rattle.model_review.specs.Seen.{Seen, is_error_event, root_effects}

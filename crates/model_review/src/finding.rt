@@ -3,7 +3,7 @@ ghost use Rattle.model_review.specs.Findings.{if_any, types_at};
 ghost use Rattle.model_review.specs.declared.finding.Finding.TheVariants.{HiddenLink, HiddenPath, HiddenSource, Never, NotDeclared, Open, StopsHere};
 
 use plain_values::{List, Mem};
-use propagation_links::PointAt;
+use propagation_links::{PointAt, Unlinked};
 use system_review::Loop;
 
 /// Types at a side of a point, by their numbers.
@@ -28,6 +28,8 @@ pub enum Finding {
     NotDeclared(TypesAt, PointAt),
     /// These types may come in at this side, where nothing of the component looks at them.
     StopsHere(TypesAt),
+    /// A connection or a user path gives no link, and types are declared for a point that it names.
+    NoLink(Unlinked),
     /// These types arrive from outside of the model: they are declared, and no link leads there.
     Open(TypesAt),
     /// These types are declared, and never come out.

@@ -8,18 +8,18 @@ ghost use Rattle.model_facts.specs.Assembly.{model_at};
 ghost use Rattle.model_facts.specs.Facts.{fact_in};
 ghost use Rattle.model_facts.specs.Names.{behind, fact_name as its_fact_name, path_at, path_text, point_name, type_text};
 ghost use Rattle.model_facts.specs.declared.keys.FactKind.TheVariants.{State};
-ghost use Rattle.model_review.specs.Lines.{direction, finding_line, finding_text, flow_at, flow_text, further_types, is_no_sink, review_text, side_text, type_list, types_text};
+ghost use Rattle.model_review.specs.Lines.{connection_name, direction, finding_line, finding_text, flow_at, flow_text, further_types, is_no_sink, review_text, side_text, type_list, types_text, unlinked_name, unlinked_text, user_path_name};
 
 use crate::finding::{Finding, TypesAt};
 use crate::view::View;
 use aadl_syntax::{Flow, FlowKind, Identifier};
-use component_extension::InClause;
+use component_extension::{Effective, InClause};
 use error_types::TypeTable;
 use fault_system::FaultSystem;
 use itoa::Buffer;
 use model_facts::{Assembly, FactKey, FactKind, fact_name};
 use plain_values::{List, Mem, Name};
-use propagation_links::PointAt;
+use propagation_links::{PointAt, Unlinked};
 use propagation_points::Point;
 use std::alloc::Global;
 use system_review::Loop;
@@ -67,6 +67,7 @@ fn push_text(alloc: Global, text: &mut Vec<u8>, view: &View, finding: &Finding) 
         Finding::HiddenTransitions(owner, count) => push_count(text, assembly, *owner, *count),
         Finding::NotDeclared(at, to) => push_other(text, assembly, at, *to),
         Finding::StopsHere(at) => push_at(text, b"stops-here ", assembly, at),
+        Finding::NoLink(one) => push_unlinked(text, assembly, *one),
         Finding::Open(at) => push_at(text, b"open ", assembly, at),
         Finding::Never(at) => push_at(text, b"never ", assembly, at),
         Finding::NeverState(state) => push_state(alloc, text, assembly, *state),
@@ -338,5 +339,53 @@ fn is_no_sink(kind: &FlowKind) -> bool
         FlowKind::Source(_, _, _) => true,
         FlowKind::Sink(_, _) => false,
         FlowKind::Path(_, _, _, _, _) => true,
+    }
+}
+
+// ---- connections and user paths
+
+/// Adds that a connection or a user path gives no link.
+fn push_unlinked(text: &mut Vec<u8>, assembly: &Assembly, one: Unlinked) -> Mem<()>
+    ensures { OnOk result (text.new.items ≡ text.old.items ++ (codes "no-link " ++ unlinked_text assembly.now one)) }
+{
+    text.extend_from_slice(b"no-link ")?;
+    push_own(text, assembly, one.component, name_of_unlinked(assembly, one))
+}
+
+/// The name of a connection or a user path that gives no link, or nothing.
+fn name_of_unlinked<'m>(assembly: &Assembly<'m>, one: Unlinked) -> &'m [u8]
+    ensures { result.now ≡ unlinked_name (effective_in assembly.now.instance one.component) one }
+{
+    match assembly.instance().effective(one.component) {
+        Some(effective) => unlinked_name(effective, one),
+        None => &[],
+    }
+}
+
+fn unlinked_name<'m>(effective: &Effective<'m>, one: Unlinked) -> &'m [u8]
+    ensures { result.now ≡ unlinked_name effective.now one }
+{
+    if one.is_path {
+        user_path_name(effective, one.number)
+    } else {
+        connection_name(effective, one.number)
+    }
+}
+
+fn user_path_name<'m>(effective: &Effective<'m>, number: u32) -> &'m [u8]
+    ensures { result.now ≡ user_path_name effective.now number }
+{
+    match effective.propagations.user_paths.items().get(number as usize) {
+        Some(path) => path.item().name.text(),
+        None => &[],
+    }
+}
+
+fn connection_name<'m>(effective: &Effective<'m>, number: u32) -> &'m [u8]
+    ensures { result.now ≡ connection_name effective.now number }
+{
+    match effective.members.connections.items().get(number as usize) {
+        Some(connection) => connection.nearest().item().name.text(),
+        None => &[],
     }
 }

@@ -1,10 +1,11 @@
 //! What is told of a model, in order.
 
-ghost use Rattle.std.specs.Prelude.{◌≡◌, ◌++◌, IfOk, OnOk, false, flat_map, length, true};
+ghost use Rattle.std.specs.Prelude.{◌≡◌, ◌++◌, IfOk, OnOk, false, flat_map, length, map, true};
 ghost use Rattle.plain_values.specs.Rising.{RisesWithin};
 ghost use Rattle.model_facts.specs.Assembly.{model_at};
-ghost use Rattle.model_review.specs.Findings.{hidden_flows, hidden_link, hidden_transitions, model_findings, never_out, never_states, of_components, open_ends, stops_of};
+ghost use Rattle.model_review.specs.Findings.{hidden_flows, hidden_link, hidden_transitions, model_findings, never_out, never_states, no_links, of_components, open_ends, stops_of};
 ghost use Rattle.model_review.specs.Told.{AreFindings};
+ghost use Rattle.model_review.specs.declared.finding.Finding.TheVariants.{NoLink};
 
 use crate::finding::Finding;
 use crate::flows::add_hidden_flows;
@@ -13,7 +14,9 @@ use crate::sides::{add_never, add_open, add_stops, linked_sides};
 use crate::states::{add_hidden_transitions, add_never_states};
 use crate::told::add_told;
 use crate::view::View;
+use model_facts::points_of_models;
 use plain_values::{List, Mem};
+use propagation_links::{Unlinked, find_unlinked};
 use std::alloc::Global;
 
 /// What is told of a model, in order.
@@ -54,11 +57,13 @@ fn add_hidden(alloc: Global, found: &mut List<Finding>, view: &View) -> Mem<()>
 fn add_ends(alloc: Global, found: &mut List<Finding>, view: &View) -> Mem<()>
     ensures { OnOk result (found.new ≡ found.old
         ++ (of_components view.now (stops_of view.now)
+        ++ (no_links view.now
         ++ (of_components view.now (open_ends view.now)
         ++ (of_components view.now (never_out view.now)
-        ++ never_states view.now (model_at view.now.numbered.assembly 0))))) }
+        ++ never_states view.now (model_at view.now.numbered.assembly 0)))))) }
 {
     add_all_stops(alloc, found, view)?;
+    add_no_links(alloc, found, view)?;
     add_open_ends(alloc, found, view)?;
     add_never_out(alloc, found, view)?;
     add_never_states(found, view)
@@ -87,6 +92,24 @@ fn add_all_stops(alloc: Global, found: &mut List<Finding>, view: &View) -> Mem<(
 {
     for owner in 0..view.instance().components().len() {
         add_stops(alloc, found, view, owner as u32)?;
+    }
+    Ok(())
+}
+
+fn add_no_links(alloc: Global, found: &mut List<Finding>, view: &View) -> Mem<()>
+    ensures { OnOk result (found.new ≡ found.old ++ no_links view.now) }
+{
+    let assembly = view.assembly();
+    let points = points_of_models(alloc, assembly.models())?;
+    let unlinked = find_unlinked(alloc, assembly.instance(), points.items())?;
+    add_unlinked(found, unlinked.items())
+}
+
+fn add_unlinked(found: &mut List<Finding>, unlinked: &[Unlinked]) -> Mem<()>
+    ensures { OnOk result (found.new ≡ found.old ++ map NoLink unlinked.now) }
+{
+    for one in unlinked {
+        found.push(Finding::NoLink(*one))?;
     }
     Ok(())
 }

@@ -3,13 +3,13 @@ ghost use Rattle.std.specs.Option.{option_map_or};
 ghost use Rattle.fault_system.specs.Truth.{member};
 ghost use Rattle.propagation_points.specs.States.{all_variants};
 ghost use Rattle.model_facts.specs.Assembly.{model_at, no_model};
-ghost use Rattle.model_facts.specs.inner.Assembly.{side_at};
+ghost use Rattle.model_facts.specs.Assembly.{side_at};
 ghost use Rattle.flattener.specs.Facts.{fact_at};
 ghost use Rattle.propagation_points.specs.Uses.{side_types};
 ghost use Rattle.model_review.specs.Seen.{declared_for, is_error, is_error_event, is_lost_event, is_lost_fact, may_come, number_at, side_in, source_number, state_number, states_of, stops, types_in};
-ghost use Rattle.system_review.specs.inner.Alone.{made_by_fact};
-ghost use Rattle.system_review.specs.inner.Occurring.{used_in};
-ghost use Rattle.system_review.specs.inner.Possible.{possible_in};
+ghost use Rattle.system_review.specs.Alone.{made_by_fact};
+ghost use Rattle.system_review.specs.Occurring.{used_in};
+ghost use Rattle.system_review.specs.Possible.{possible_in};
 
 use error_models::ErrorModel;
 use fault_system::{Bits, FaultSystem};
@@ -43,8 +43,8 @@ impl<'v> Model for View<'v> {
     ghost use Rattle.error_conditions.specs.contracts.cause.Cause as cause;
     ghost use Rattle.fault_system.specs.contracts.formula.Formula as formula;
     ghost use Rattle.fault_system.specs.Truth.{member};
-    ghost use Rattle.system_review.specs.inner.Occurring.{used_in};
-    ghost use Rattle.system_review.specs.inner.Possible.{possible_in};
+    ghost use Rattle.system_review.specs.Occurring.{used_in};
+    ghost use Rattle.system_review.specs.Possible.{possible_in};
     ghost use Rattle.model_review.specs.Seen.{Seen};
 
     ghost Value = { Seen };

@@ -18,7 +18,7 @@ use Rattle.cutset_writer.specs.declared.form.SetForm.TheVariants.{Token}
 use Rattle.phases.specs.Phases.{Passes}
 use Rattle.fta_words.specs.declared.command.Paging.{Paging}
 use Rattle.system_answers.specs.Texts.{page_in, page_of}
-use Rattle.system_answers.specs.Fronts.{GivesPage, ServesPage}
+use Rattle.system_answers.specs.inner.Fronts.{GivesPage, ServesPage}
 use Rattle.system_answers.proofs.Listed.{listed}
 
 -- the sets of two listings, one behind the other, that stand behind a set

@@ -4,6 +4,5 @@ pub mod Targets
 pub mod Trees
 pub mod Galileo
 pub mod Texts
-pub mod Fronts
 pub mod Derivations
 pub mod inner

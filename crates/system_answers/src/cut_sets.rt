@@ -12,7 +12,7 @@ ghost use Rattle.cutset_writer.specs.inner.Pages.{IsOpen, IsReady};
 ghost use Rattle.cutset_writer.specs.Text.{listing_page, marked_page};
 ghost use Rattle.cutset_writer.specs.declared.form.SetForm.TheVariants.{Token};
 ghost use Rattle.cutset_lister.specs.inner.SetText.{HasTokenNames};
-ghost use Rattle.system_answers.specs.Fronts.{GivesPage};
+ghost use Rattle.system_answers.specs.inner.Fronts.{GivesPage};
 ghost use Rattle.system_answers.specs.Texts.{begin_of, named_key, page_in, page_of, slice_of, start_of};
 ghost use Rattle.system_answers.specs.inner.Prints.{Prints};
 

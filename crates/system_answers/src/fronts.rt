@@ -10,7 +10,7 @@ ghost use Rattle.zdd_store.specs.inner.Family.{is_within};
 ghost use Rattle.zdd_store.specs.inner.Store.{IsIn, Keeps, family_of};
 ghost use Rattle.cutset_lister.specs.inner.Walks.{IsStarted, all_sets, sets_left};
 ghost use Rattle.cutset_writer.specs.inner.Pages.{Lists};
-ghost use Rattle.system_answers.specs.Fronts.{ServesPage};
+ghost use Rattle.system_answers.specs.inner.Fronts.{ServesPage};
 
 use backward_slice::Slice;
 use cutset_engine::{family_in_rounds, in_slice};

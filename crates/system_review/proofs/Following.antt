@@ -7,7 +7,7 @@ use Rattle.fault_system.specs.Rounds.{no_event, only}
 use Rattle.std.proofs.lemmas.Bool.{eq-eqb, eqb-true}
 use Rattle.fault_system.proofs.TruthLaws.{same_answer}
 use Rattle.fault_system.proofs.NumberSets.{same_set, set_of-filter}
-use Rattle.system_review.specs.inner.Alone.{and_next, following}
+use Rattle.system_review.specs.Alone.{and_next, following}
 use Rattle.system_review.specs.inner.Steps.{is_next}
 
 or_none : (b : Bool) → b || false ≡ b

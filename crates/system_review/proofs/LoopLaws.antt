@@ -20,8 +20,9 @@ use Rattle.dependency_blocks.specs.Blocks.{number_of, size_of}
 use Rattle.dependency_blocks.specs.inner.Blocks.{AreAllBlocks}
 use Rattle.dependency_blocks.proofs.AllFacts.{below-contained}
 use Rattle.dependency_blocks.proofs.Passes.{depends_self, depends_then, depends_step}
-use Rattle.system_review.specs.inner.Listed.{AreAll}
-use Rattle.system_review.specs.inner.Loops.{AreLoops, AreMutual, HasOneMeaning, IsInLoop, IsLoop}
+use Rattle.system_review.specs.Listed.{AreAll}
+use Rattle.system_review.specs.Loops.{AreLoops, AreMutual, IsInLoop, IsLoop}
+use Rattle.system_review.specs.inner.Loops.{HasOneMeaning}
 use Rattle.system_review.specs.inner.Steps.{is_looped, loop_at, occurs_in_own}
 use Rattle.system_review.specs.declared.looping.Loop.{Loop}
 use Rattle.system_review.proofs.Rising.{Listed, listed-none, listed-next, next_or_below, all-as}

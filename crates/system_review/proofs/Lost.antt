@@ -11,7 +11,8 @@ use Rattle.fault_system.specs.declared.formula.FactInfo.{FactInfo}
 use Rattle.fault_system.proofs.Elements.{In, contains_In}
 use Rattle.fault_system.proofs.HoldsLaws.{holds_of-closed, holds_of-exact}
 use Rattle.fault_system.proofs.Occurring.{truth-grows}
-use Rattle.system_review.specs.inner.Alone.{IsSaid, Joins, following, made_by_event, made_by_fact, no_fact}
+use Rattle.system_review.specs.Alone.{following, made_by_event, made_by_fact, no_fact}
+use Rattle.system_review.specs.inner.Alone.{IsSaid, Joins}
 use Rattle.system_review.proofs.More.{applied-fact, applied-is}
 
 any-in : (test : NumberSet) (ns : List ℕ) → list_any test ns ≡ true → (n : ℕ) × In n ns × Has test n

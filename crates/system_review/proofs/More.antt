@@ -10,7 +10,8 @@ use Rattle.fault_system.proofs.HoldsLaws.{holds_of-exact}
 use Rattle.fault_system.proofs.TruthLaws.{same_answer}
 use Rattle.fault_system.proofs.Occurring.{truth-grows-on}
 use Rattle.fault_system.proofs.Occurrences.{occurs_event-in_range, fact-in_range}
-use Rattle.system_review.specs.inner.Possible.{IsPossible, possible_in}
+use Rattle.system_review.specs.Possible.{possible_in}
+use Rattle.system_review.specs.inner.Possible.{IsPossible}
 
 -- what the formulas say of a fact is what its own one says
 pub applied-is : (system : System) (events facts : NumberSet) (n : ℕ) (fact : FactInfo) → IsFact system n fact → member (applied system events facts) n ≡ truth events facts fact.formula

@@ -6,7 +6,8 @@ use Rattle.fault_system.specs.Truth.{NumberSet, Has, member, occurs}
 use Rattle.fault_system.specs.Systems.{System, IsFact}
 use Rattle.fault_system.specs.declared.formula.FactInfo.{FactInfo}
 use Rattle.fault_system.proofs.TruthLaws.{same_answer}
-use Rattle.system_review.specs.inner.Occurring.{IsUsedFact, used_in}
+use Rattle.system_review.specs.Occurring.{used_in}
+use Rattle.system_review.specs.inner.Occurring.{IsUsedFact}
 use Rattle.fault_system.proofs.NumberSets.{member-in, member-replicate}
 
 -- marks after those of one formula were added

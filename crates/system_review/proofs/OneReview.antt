@@ -5,8 +5,8 @@ use Rattle.fault_system.specs.CutSets.{IsSubset}
 use Rattle.fault_system.specs.Systems.{System}
 use Rattle.fault_system.proofs.Elements.{In, In-contains, contains_In, In-map, In-mapped}
 use Rattle.fault_system.proofs.NumberSets.{contained-in_set, same_rising, set_of-contained}
-use Rattle.system_review.specs.inner.Listed.{AreAll}
-use Rattle.system_review.specs.inner.Loops.{AreLoops, AreMutual, IsLoop}
+use Rattle.system_review.specs.Listed.{AreAll}
+use Rattle.system_review.specs.Loops.{AreLoops, AreMutual, IsLoop}
 use Rattle.system_review.specs.declared.looping.Loop.{Loop}
 
 -- all numbers of one list are of the other

@@ -5,7 +5,7 @@ use Rattle.fault_system.specs.Truth.{NumberSet}
 use Rattle.plain_values.specs.Rising.{RisesWithin}
 use Rattle.plain_values.proofs.Rising.{rises-higher, rises-push}
 use Rattle.fault_system.proofs.Elements.{In, In-contains, contains_In, In-append, In-front, In-back}
-use Rattle.system_review.specs.inner.Listed.{AreAll}
+use Rattle.system_review.specs.Listed.{AreAll}
 
 -- the numbers below a bound at which a test is true
 pub record Listed (test : NumberSet) (bound : ℕ) (list : List ℕ) : Type 0 where

@@ -1,4 +1,3 @@
-pub mod Listed
 pub mod Possible
 pub mod Alone
 pub mod Occurring

@@ -4,7 +4,7 @@ ghost use Rattle.std.specs.Prelude.{◌≡◌, ◌++◌, IfOk, OnOk, false, filt
 ghost use Rattle.fault_system.specs.Truth.{count_true, member, set_of, truth};
 ghost use Rattle.fault_system.specs.Systems.{applied};
 ghost use Rattle.fault_system.specs.Rounds.{no_event};
-ghost use Rattle.system_review.specs.inner.Alone.{and_next, following, made_by_event, made_by_fact};
+ghost use Rattle.system_review.specs.Alone.{and_next, following, made_by_event, made_by_fact};
 ghost use Rattle.system_review.specs.inner.Steps.{is_next};
 
 use fault_system::{FaultSystem, Formula, Numbers};

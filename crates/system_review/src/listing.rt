@@ -2,7 +2,7 @@
 
 ghost use Rattle.std.specs.Prelude.{◌≡◌, ◌<◌, ◌&&◌, IfOk, false, not};
 ghost use Rattle.fault_system.specs.Truth.{Has, member};
-ghost use Rattle.system_review.specs.inner.Listed.{AreAll};
+ghost use Rattle.system_review.specs.Listed.{AreAll};
 
 use fault_system::{Bits, Numbers};
 use plain_values::{List, Mem};

@@ -6,7 +6,8 @@ ghost use Rattle.std.specs.List.{list_any};
 ghost use Rattle.fault_system.specs.Truth.{occurs};
 ghost use Rattle.dependency_blocks.specs.Blocks.{number_of, size_of};
 ghost use Rattle.dependency_blocks.specs.inner.Blocks.{AreAllBlocks};
-ghost use Rattle.system_review.specs.inner.Loops.{AreLoops, HasOneMeaning};
+ghost use Rattle.system_review.specs.Loops.{AreLoops};
+ghost use Rattle.system_review.specs.inner.Loops.{HasOneMeaning};
 ghost use Rattle.system_review.specs.inner.Steps.{AddsLoop, is_looped, occurs_in_own};
 
 use dependency_blocks::{Blocks, all_blocks};

@@ -5,7 +5,8 @@ ghost use Rattle.std.specs.List.{list_any};
 ghost use Rattle.fault_system.specs.Truth.{Has, member, occurs, occurs_event};
 ghost use Rattle.fault_system.specs.Systems.{IsFact};
 ghost use Rattle.fault_system.specs.declared.formula.FactInfo.{FactInfo};
-ghost use Rattle.system_review.specs.inner.Occurring.{IsUsedFact, OccursAmong, used_in};
+ghost use Rattle.system_review.specs.Occurring.{used_in};
+ghost use Rattle.system_review.specs.inner.Occurring.{IsUsedFact, OccursAmong};
 
 use fault_system::{Bits, FaultSystem, Formula, Numbers};
 use plain_values::Mem;

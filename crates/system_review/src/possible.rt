@@ -2,8 +2,9 @@
 
 ghost use Rattle.std.specs.Prelude.{◌≡◌, ◌↔◌, ◌<◌, ℕ, IfOk, length};
 ghost use Rattle.fault_system.specs.Truth.{Has, member};
-ghost use Rattle.system_review.specs.inner.Listed.{AreAll};
-ghost use Rattle.system_review.specs.inner.Possible.{IsNever, IsPossible, possible_in};
+ghost use Rattle.system_review.specs.Listed.{AreAll};
+ghost use Rattle.system_review.specs.Possible.{possible_in};
+ghost use Rattle.system_review.specs.inner.Possible.{IsNever, IsPossible};
 
 use crate::listing::{Everything, missing};
 use fault_system::{Bits, FaultSystem};

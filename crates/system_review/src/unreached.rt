@@ -1,8 +1,8 @@
 //! The events that have no effect.
 
 ghost use Rattle.std.specs.Prelude.{◌<◌, All, IfOk, length};
-ghost use Rattle.system_review.specs.inner.Listed.{AreAll};
-ghost use Rattle.system_review.specs.inner.Occurring.{IsUnreachedEvent, IsUnusedEvent};
+ghost use Rattle.system_review.specs.Listed.{AreAll};
+ghost use Rattle.system_review.specs.Occurring.{IsUnreachedEvent, IsUnusedEvent};
 
 use crate::listing::{Everything, missing};
 use crate::occurring::events_among;

@@ -17,7 +17,7 @@ use Rattle.zdd_store.specs.inner.Store.{Families, IsIn, IsSound, family_at, fami
 use Rattle.zdd_store.specs.declared.id.Id.{Id}
 use Rattle.zdd_store.proofs.Orders.{contains_first}
 use Rattle.cutset_engine.specs.inner.Families.{HasMinimalCutSets}
-use Rattle.target_orders.specs.inner.Orders.{HoldsWithin, MayHold, NeedsAtLeast}
+use Rattle.target_orders.specs.Orders.{HoldsWithin, MayHold, NeedsAtLeast}
 
 rises-below : (count : ℕ) → RisesWithin 0 count (numbers_below count)
 rises-below zero = tt

@@ -4,8 +4,8 @@ use Rattle.std.specs.List.{AllZip}
 use Rattle.fault_system.specs.Systems.{System}
 use Rattle.target_orders.specs.declared.order.Order.{Order}
 use Rattle.target_orders.specs.declared.order.Order.TheVariants.{Always, Never, Large, Least}
-use Rattle.target_orders.specs.inner.Orders.{HoldsWithin, IsOrder, NeedsAtLeast}
-use Rattle.target_orders.specs.inner.Text.{TellsOrders, order_line, order_lines}
+use Rattle.target_orders.specs.Orders.{HoldsWithin, IsOrder, NeedsAtLeast}
+use Rattle.target_orders.specs.Text.{TellsOrders, order_line, order_lines}
 
 one-count : (system : System) (fact a b : ℕ) → HoldsWithin system fact a → NeedsAtLeast system fact a → HoldsWithin system fact b → NeedsAtLeast system fact b → a ≡ b
 one-count system fact a b (set, cut, few) least (other, other_cut, other_few) other_least =

@@ -2,8 +2,8 @@
 
 ghost use Rattle.std.specs.Prelude.{◌≡◌, ℕ, List};
 ghost use Rattle.fault_system.specs.Systems.{System};
-ghost use Rattle.target_orders.specs.inner.Orders.{IsOrder};
-ghost use Rattle.target_orders.specs.inner.Text.{TellsOrders};
+ghost use Rattle.target_orders.specs.Orders.{IsOrder};
+ghost use Rattle.target_orders.specs.Text.{TellsOrders};
 ghost use Rattle.target_orders.specs.declared.order.Order.{Order};
 
 /// One thing is said of a fact.

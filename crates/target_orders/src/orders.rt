@@ -3,8 +3,8 @@ ghost use Rattle.fault_system.specs.Truth.{Has, member};
 ghost use Rattle.fault_system.specs.CutSets.{IsCutSet};
 ghost use Rattle.backward_slice.specs.Slices.{IsSlice};
 ghost use Rattle.dependency_blocks.specs.Blocks.{IsBlocks};
-ghost use Rattle.target_orders.specs.inner.Orders.{HoldsWithin, IsOrder, MayHold, NeedsAtLeast};
-ghost use Rattle.target_orders.specs.inner.Text.{TellsOrders, order_line, order_text};
+ghost use Rattle.target_orders.specs.Orders.{HoldsWithin, IsOrder, MayHold, NeedsAtLeast};
+ghost use Rattle.target_orders.specs.Text.{TellsOrders, order_line, order_text};
 
 use crate::order::Order;
 use backward_slice::{Slice, slice};

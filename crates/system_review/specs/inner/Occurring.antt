@@ -1,40 +1,19 @@
--- Which facts and events have an effect: what occurs in formulas, and what some facts depend on.
-use Rattle.std.specs.Prelude.{ℕ, ◌<◌, ◌≡◌, true, List, length, Contains}
-use Rattle.std.specs.List.{list_any}
+-- Beside specs/Occurring.antt: what no clause of `run` reaches.
+use Rattle.std.specs.Prelude.{ℕ, ◌≡◌, true, List, Contains}
 use Rattle.fault_system.specs.Truth.{NumberSet, Has, occurs, occurs_event}
 use Rattle.fault_system.specs.Systems.{System, IsFact}
 use Rattle.fault_system.specs.declared.formula.FactInfo.{FactInfo}
-use Rattle.backward_slice.specs.Slices.{DependsOn, DependsOnEvent}
+use Rattle.backward_slice.specs.Slices.{DependsOn}
 
 -- a fact occurs in the formula of a fact
 abbrev pub IsUsedFact : System → ℕ → Type 0
 IsUsedFact system number = (n : ℕ) × (fact : FactInfo) × IsFact system n fact × (occurs number fact.formula ≡ true)
-
--- the facts that occur in formulas, as a test
-abbrev pub used_in : System → NumberSet
-used_in system number = list_any (λ fact. occurs number fact.formula) system.facts
 
 -- an event occurs in the formula of one of some facts
 abbrev pub OccursAmong : System → NumberSet → ℕ → Type 0
 OccursAmong system facts event =
     (n : ℕ) × (fact : FactInfo) × IsFact system n fact × Has facts n × (occurs_event event fact.formula ≡ true)
 
--- an event occurs in the formula of a fact
-abbrev pub IsUsedEvent : System → ℕ → Type 0
-IsUsedEvent system event = (n : ℕ) × (fact : FactInfo) × IsFact system n fact × (occurs_event event fact.formula ≡ true)
-
--- an event of a system occurs in the formula of no fact
-abbrev pub IsUnusedEvent : System → ℕ → Type 0
-IsUnusedEvent system event = (event < length system.events) × (IsUsedEvent system event → ⊥)
-
 -- one of these facts depends on a fact
 abbrev pub IsReached : System → List ℕ → ℕ → Type 0
 IsReached system from number = (target : ℕ) × Contains from target × DependsOn system target number
-
--- one of these facts depends on an event
-abbrev pub IsReachedEvent : System → List ℕ → ℕ → Type 0
-IsReachedEvent system from event = (target : ℕ) × Contains from target × DependsOnEvent system target event
-
--- an event occurs in the formula of a fact, and none of these facts depends on it
-abbrev pub IsUnreachedEvent : System → List ℕ → ℕ → Type 0
-IsUnreachedEvent system from event = IsUsedEvent system event × (IsReachedEvent system from event → ⊥)

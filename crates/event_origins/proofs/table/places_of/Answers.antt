@@ -2,7 +2,7 @@ use Rattle.std.proofs.Common.{◌∙◌}
 use Rattle.std.specs.HashMap.{get}
 use Rattle.package_index.specs.inner.Tables.{same_text}
 use Rattle.package_index.proofs.KnowsLaws.{knows-all, knows-more}
-use Rattle.event_origins.specs.Named.{has_text}
+use Rattle.event_origins.specs.inner.Named.{has_text}
 use Rattle.event_origins.proofs.TableLaws.{name_agrees, name_alike}
 use Rattle.event_origins.proofs.table.places_of.Goals as goal
 

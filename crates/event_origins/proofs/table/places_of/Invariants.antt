@@ -1,7 +1,7 @@
 use Rattle.std.proofs.Common.{take}
 use Rattle.std.specs.HashMap.{get}
 use Rattle.package_index.specs.inner.Tables.{Knows, same_text}
-use Rattle.event_origins.specs.Named.{has_text}
+use Rattle.event_origins.specs.inner.Named.{has_text}
 use Rattle.event_origins.proofs.table.places_of.Given as goal
 
 abbrev pub invariant-loop-number : goal.invariant-loop-number

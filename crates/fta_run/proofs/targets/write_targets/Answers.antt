@@ -2,7 +2,7 @@ use Rattle.std.proofs.Common.{◌∙◌, ℕ, List, ap, sym, subst}
 use Rattle.std.specs.Prelude.{All, ◌<◌, length}
 use Rattle.fta_outside.specs.Outside.{TookPrefix, with_bytes}
 use Rattle.phases.specs.Phases.{Passes}
-use Rattle.target_orders.specs.inner.Text.{TellsOrders}
+use Rattle.target_orders.specs.Text.{TellsOrders}
 use Rattle.fta_run.specs.Due.{targets_text}
 use Rattle.system_answers.specs.inner.Prints.{NoFault}
 use Rattle.system_answers.proofs.Prints.{prints_front}

@@ -2,7 +2,7 @@ use Rattle.std.proofs.Common.{◌≡◌, Some, sym, subst}
 use Rattle.std.specs.Prelude.{IsTrue}
 use Rattle.zdd_store.specs.inner.Family.{Family, is_within}
 use Rattle.zdd_store.specs.inner.Store.{family_of}
-use Rattle.system_answers.specs.Fronts.{ServesPage}
+use Rattle.system_answers.specs.inner.Fronts.{ServesPage}
 use Rattle.system_answers.proofs.FirstSets.{serves-front}
 use Rattle.system_answers.proofs.fronts.front_of_order.Goals as goal
 

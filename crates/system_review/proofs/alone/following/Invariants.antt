@@ -1,6 +1,6 @@
 use Rattle.std.proofs.Common.{◌≡◌}
 use Rattle.fault_system.specs.Truth.{set_of}
-use Rattle.system_review.specs.inner.Alone.{following}
+use Rattle.system_review.specs.Alone.{following}
 use Rattle.system_review.proofs.alone.following.Given as goal
 
 abbrev pub invariant-loop-round : goal.invariant-loop-round

@@ -1,7 +1,8 @@
 use Rattle.std.proofs.Common.{refl}
 use Rattle.fault_system.specs.Truth.{member}
 use Rattle.fault_system.proofs.Occurrences.{occurs_event-in_range, fact-in_range}
-use Rattle.system_review.specs.inner.Occurring.{IsUnreachedEvent, OccursAmong}
+use Rattle.system_review.specs.Occurring.{IsUnreachedEvent}
+use Rattle.system_review.specs.inner.Occurring.{OccursAmong}
 use Rattle.system_review.proofs.Rising.{missing-as}
 use Rattle.system_review.proofs.unreached.unreached_events.Goals as goal
 

@@ -1,6 +1,7 @@
 use Rattle.std.proofs.Common.{true, refl}
 use Rattle.fault_system.specs.Truth.{member}
-use Rattle.system_review.specs.inner.Occurring.{IsUnusedEvent, OccursAmong}
+use Rattle.system_review.specs.Occurring.{IsUnusedEvent}
+use Rattle.system_review.specs.inner.Occurring.{OccursAmong}
 use Rattle.system_review.proofs.Rising.{missing-as}
 use Rattle.system_review.proofs.unreached.unused_events.Goals as goal
 

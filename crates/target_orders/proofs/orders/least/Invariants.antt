@@ -1,5 +1,5 @@
 use Rattle.std.proofs.Common.{◌-◌, length}
-use Rattle.target_orders.specs.inner.Orders.{NeedsAtLeast}
+use Rattle.target_orders.specs.Orders.{NeedsAtLeast}
 use Rattle.target_orders.proofs.orders.least.Given as goal
 
 abbrev pub invariant-loop-count : goal.invariant-loop-count

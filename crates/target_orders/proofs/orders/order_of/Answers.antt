@@ -1,7 +1,7 @@
 use Rattle.std.proofs.Common.{ℕ, sym, subst, ◌∙◌}
 use Rattle.std.proofs.lemmas.Bool.{false≢true}
 use Rattle.backward_slice.proofs.OneSlice.{served_or_large}
-use Rattle.target_orders.specs.inner.Orders.{HoldsWithin, NeedsAtLeast}
+use Rattle.target_orders.specs.Orders.{HoldsWithin, NeedsAtLeast}
 use Rattle.target_orders.proofs.Reached.{needs-one}
 use Rattle.target_orders.proofs.orders.order_of.Goals as goal
 

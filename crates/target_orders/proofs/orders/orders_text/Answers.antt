@@ -5,8 +5,8 @@ use Rattle.std.proofs.lemmas.List.{get_or_default}
 use Rattle.fault_system.specs.Truth.{Has, member, set_of}
 use Rattle.fault_system.proofs.CutSetLaws.{Holds-grows}
 use Rattle.fault_system.proofs.NumberSets.{member-in, member-replicate}
-use Rattle.target_orders.specs.inner.Orders.{IsOrder}
-use Rattle.target_orders.specs.inner.Text.{order_line, order_lines}
+use Rattle.target_orders.specs.Orders.{IsOrder}
+use Rattle.target_orders.specs.Text.{order_line, order_lines}
 use Rattle.target_orders.proofs.Reached.{all-from_some, some-from_all}
 use Rattle.target_orders.proofs.Said.{lines-more, zip-more}
 use Rattle.target_orders.proofs.orders.orders_text.Goals as goal

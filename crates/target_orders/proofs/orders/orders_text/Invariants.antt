@@ -1,7 +1,7 @@
 use Rattle.std.proofs.Common.{◌≡◌, List, take}
 use Rattle.std.specs.List.{AllZip}
-use Rattle.target_orders.specs.inner.Orders.{IsOrder}
-use Rattle.target_orders.specs.inner.Text.{order_lines}
+use Rattle.target_orders.specs.Orders.{IsOrder}
+use Rattle.target_orders.specs.Text.{order_lines}
 use Rattle.target_orders.specs.declared.order.Order.{Order}
 use Rattle.target_orders.proofs.orders.orders_text.Given as goal
 

@@ -1,5 +1,5 @@
 use Rattle.std.proofs.Common.{ap, ◌∙◌}
-use Rattle.system_review.specs.inner.Possible.{possible_in}
+use Rattle.system_review.specs.Possible.{possible_in}
 use Rattle.model_review.specs.Seen.{Seen}
 use Rattle.model_review.proofs.view.View.is_possible.Goals as goal
 

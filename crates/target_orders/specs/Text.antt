@@ -2,7 +2,7 @@
 use Rattle.std.specs.Prelude.{ℕ, ◌≡◌, List, [], ◌∷◌, ◌++◌, codes, decimal}
 use Rattle.std.specs.List.{AllZip}
 use Rattle.fault_system.specs.Systems.{System, fact_name}
-use Rattle.target_orders.specs.inner.Orders.{IsOrder}
+use Rattle.target_orders.specs.Orders.{IsOrder}
 use Rattle.target_orders.specs.declared.order.Order.{Order}
 use Rattle.target_orders.specs.declared.order.Order.TheVariants.{Always, Never, Large, Least}
 
