@@ -1,7 +1,8 @@
 //! The program: the real words, files and streams, and the exit status.
 #![tactic(auto)]
 
-ghost use Rattle.std.specs.Prelude.{◌≡◌, IfOk, map, string_bytes};
+ghost use Rattle.std.specs.Prelude.{◌≡◌, IfOk, false, map, string_bytes, true};
+ghost use Rattle.phases.specs.declared.status.Status.TheVariants.{Done, WriteFault};
 
 use cut_reports::{EventUse, OrderProfile, SinglePoints};
 use fta_outside::{DiskFiles, Report, Sink, StdSink};
@@ -9,9 +10,12 @@ use fta_run::{Status, run, write_line};
 use plain_values::{List, Word};
 use std::alloc::{AllocError, Global};
 use std::env;
-use std::io::ErrorKind;
+use std::io::{BufWriter, ErrorKind, Write};
 use std::process::ExitCode;
 use std::rt::Env;
+
+/// How many bytes of the output wait until they are written together.
+const WAITING_BYTES: usize = 65_536;
 
 fn main(rt: HostRuntime) -> ExitCode {
     let mut err = StdSink::new(rt.stderr());
@@ -39,8 +43,23 @@ fn run_words<E: Sink>(rt: &HostRuntime, words: &[Word], err: &mut E) -> Result<S
     reports.push(Box::new(alloc, EventUse::new(alloc))?)?;
     reports.push(Box::new(alloc, SinglePoints::new(alloc))?)?;
     let mut files = DiskFiles::new(rt);
-    let mut out = StdSink::new(rt.stdout());
-    Ok(run(alloc, words, &mut files, &mut out, err, &mut reports))
+    let Ok(mut waiting) = BufWriter::with_capacity(alloc, WAITING_BYTES, rt.stdout()) else {
+        return Err(AllocError);
+    };
+    let mut out = StdSink::new(&mut waiting);
+    let status = run(alloc, words, &mut files, &mut out, err, &mut reports);
+    Ok(ended(alloc, status, waiting.flush().is_ok(), err))
+}
+
+/// The status of a run, of whose output the last bytes were written, or were not.
+fn ended<E: Sink>(alloc: Global, status: Status, is_written: bool, err: &mut E) -> Status
+    ensures written { is_written ≡ true → result ≡ status }
+    ensures lost { is_written ≡ false → status ≡ Done → result ≡ WriteFault }
+{
+    match status {
+        Status::Done if !is_written => stopped(alloc, Status::WriteFault, err),
+        _ => status,
+    }
 }
 
 /// The words after the program's name. A word that is not UTF-8 gives no command.
