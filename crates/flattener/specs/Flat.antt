@@ -1,6 +1,6 @@
 -- A model as a system of facts and events, and when it is too large.
-use Rattle.std.specs.Prelude.{ℕ, ◌+◌, nat_lt, map, sum, Option}
-use Rattle.std.specs.Option.{option_or}
+use Rattle.std.specs.Prelude.{ℕ, ◌+◌, Bool, false, nat_eq, nat_lt, map, slice_get, sum, Option}
+use Rattle.std.specs.Option.{option_map_or, option_or}
 use Rattle.plain_values.specs.declared.refusal.Code.TheVariants.{TooManyPlaces}
 use Rattle.plain_values.specs.declared.refusal.Place.TheVariants.{Words}
 use Rattle.plain_values.specs.declared.refusal.Refusal.{Refusal}
@@ -64,3 +64,7 @@ places_refusal numbered = over_limit (nat_lt most_places (all_places numbered)) 
 -- The refusal of a model that is too large: M6, or else M7, or else M9.
 abbrev pub size_refusal : Assembly → Option Refusal
 size_refusal assembly = option_or (facts_refusal assembly) (option_or (events_refusal assembly) (places_refusal (numbered_of assembly)))
+
+-- whether a fact is one of the root, which is the component of the number 0
+abbrev pub is_of_root : System → ℕ → Bool
+is_of_root system number = option_map_or (λ fact. nat_eq fact.owner 0) (slice_get system.facts number) false

@@ -182,7 +182,7 @@ impl<'n> Numbers<'n> {
 }
 
 /// The fact that a type is at a side.
-fn fact_at(number: u32, side: PointAt) -> FactKey
+pub fn fact_at(number: u32, side: PointAt) -> FactKey
     ensures { result ≡ fact_at number side }
 {
     let kind = if side.outward {

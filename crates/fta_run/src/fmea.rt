@@ -4,11 +4,13 @@ ghost use Rattle.std.specs.Prelude.{◌≡◌, ◌||◌, IfOk, length};
 ghost use Rattle.plain_values.specs.Rising.{RisesWithin};
 ghost use Rattle.fmea_rows.specs.inner.Text.{HasFieldNames};
 ghost use Rattle.model_phases.specs.Named.{IsPlainModel};
+ghost use Rattle.flattener.specs.Flat.{is_of_root};
 ghost use Rattle.fta_run.specs.Due.{fmea_text};
-ghost use Rattle.fta_run.specs.Effects.{asked_effects, is_of_root};
+ghost use Rattle.fta_run.specs.Effects.{asked_effects};
 ghost use Rattle.system_answers.specs.inner.Prints.{Prints};
 
 use fault_system::FaultSystem;
+use flattener::is_of_root;
 use fmea_rows::{rows, write_rows};
 use fta_outside::Sink;
 use model_phases::FlatModel;
@@ -51,14 +53,4 @@ fn is_asked(system: &FaultSystem, number: u32, all: bool) -> bool
     ensures { result ≡ (all || is_of_root system.now number) }
 {
     all || is_of_root(system, number)
-}
-
-/// Whether a fact is one of the root.
-fn is_of_root(system: &FaultSystem, number: u32) -> bool
-    ensures { result ≡ is_of_root system.now number }
-{
-    match system.fact(number) {
-        Some(fact) => fact.owner == 0,
-        None => false,
-    }
 }

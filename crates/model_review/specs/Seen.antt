@@ -1,5 +1,5 @@
 -- A model with its system: which facts may come about, which occur in formulas, and which are effects.
-use Rattle.std.specs.Prelude.{ℕ, Bool, true, false, ◌&&◌, not, nat_eq, List, filter, flat_map, length, slice_get, unwrap_or, Option, Some, None, option_to_list}
+use Rattle.std.specs.Prelude.{ℕ, Bool, true, false, ◌&&◌, not, List, filter, flat_map, length, slice_get, unwrap_or, Option, Some, None, option_to_list}
 use Rattle.std.specs.Option.{option_map_or}
 use Rattle.propagation_points.specs.declared.side.Side.{Side}
 use Rattle.propagation_points.specs.declared.side.Side.TheVariants.{Absent, Free, Declared}
@@ -16,7 +16,7 @@ use Rattle.model_facts.specs.declared.keys.EventKind.TheVariants.{Arrival, Decla
 use Rattle.model_facts.specs.declared.keys.FactKind.TheVariants.{State}
 use Rattle.fault_system.specs.Systems.{System}
 use Rattle.flattener.specs.Facts.{fact_at}
-use Rattle.flattener.specs.Flat.{system_by}
+use Rattle.flattener.specs.Flat.{is_of_root, system_by}
 use Rattle.flattener.specs.Numbered.{Numbered, numbered_of}
 use Rattle.system_review.specs.Alone.{made_by_event, made_by_fact}
 use Rattle.system_review.specs.Occurring.{used_in}
@@ -80,10 +80,6 @@ states_of seen owner =
     flat_map (λ state. option_to_list (state_number seen owner state)) (numbers_below (length (all_variants (model_at seen.numbered.assembly owner).states.sorts)))
 
 -- ---- effects and events
-
--- whether a fact is one of the root, which is the component of the number 0
-abbrev pub is_of_root : System → ℕ → Bool
-is_of_root system number = option_map_or (λ fact. nat_eq fact.owner 0) (slice_get system.facts number) false
 
 -- the effects of the root: those of which its table of effects asks
 abbrev pub root_effects : Seen → List ℕ

@@ -2,13 +2,15 @@
 
 ghost use Rattle.std.specs.Prelude.{◌≡◌, ◌++◌, IfOk, OnOk, filter, length, map};
 ghost use Rattle.plain_values.specs.Rising.{RisesWithin};
-ghost use Rattle.model_review.specs.Seen.{is_error_event, is_of_root, root_effects};
+ghost use Rattle.flattener.specs.Flat.{is_of_root};
+ghost use Rattle.model_review.specs.Seen.{is_error_event, root_effects};
 ghost use Rattle.model_review.specs.Told.{AddsTold, effect_findings};
 ghost use Rattle.model_review.specs.declared.finding.Finding.TheVariants.{InLoop, UnreachedEvent, UnusedEvent};
 
 use crate::finding::Finding;
 use crate::view::View;
 use fault_system::FaultSystem;
+use flattener::is_of_root;
 use plain_values::{List, Mem};
 use std::alloc::Global;
 use system_review::{Loop, loops, unreached_events, unused_events};
@@ -42,16 +44,6 @@ fn root_effects(alloc: Global, system: &FaultSystem, effects: &[u32]) -> Mem<Lis
         found.push_if(*effect, is_of_root(system, *effect))?;
     }
     Ok(found)
-}
-
-/// Whether a fact is one of the root.
-fn is_of_root(system: &FaultSystem, number: u32) -> bool
-    ensures { result ≡ is_of_root system.now number }
-{
-    match system.fact(number) {
-        Some(fact) => fact.owner == 0,
-        None => false,
-    }
 }
 
 fn add_loops(found: &mut List<Finding>, loops: &[Loop]) -> Mem<()>

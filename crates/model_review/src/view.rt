@@ -13,6 +13,7 @@ ghost use Rattle.system_review.specs.Possible.{possible_in};
 
 use error_models::ErrorModel;
 use fault_system::{Bits, FaultSystem};
+use flattener::fact_at;
 use instantiator::Instance;
 use model_facts::{Assembly, EventKey, EventKind, EventTable, FactKey, FactKind, FactTable};
 use plain_values::{List, Mem};
@@ -317,21 +318,6 @@ pub(crate) fn declared_for(side: &Side) -> Option<&[u32]>
     match side {
         Side::Absent | Side::Free => None,
         Side::Declared(types) => Some(types.items()),
-    }
-}
-
-/// The fact that a type is at a side.
-fn fact_at(number: u32, side: PointAt) -> FactKey
-    ensures { result ≡ fact_at number side }
-{
-    let kind = if side.outward {
-        FactKind::Exits(side.point, number)
-    } else {
-        FactKind::Enters(side.point, number)
-    };
-    FactKey {
-        owner: side.component,
-        kind,
     }
 }
 
