@@ -2,13 +2,11 @@
 
 ghost use Rattle.std.specs.Prelude.{◌≡◌, ◌↔◌, ◌<◌, ℕ, IfOk, length};
 ghost use Rattle.fault_system.specs.Truth.{Has, member};
-ghost use Rattle.system_review.specs.Listed.{AreAll};
 ghost use Rattle.system_review.specs.Possible.{possible_in};
-ghost use Rattle.system_review.specs.inner.Possible.{IsNever, IsPossible};
+ghost use Rattle.system_review.specs.inner.Possible.{IsPossible};
 
-use crate::listing::{Everything, missing};
 use fault_system::{Bits, FaultSystem};
-use plain_values::{List, Mem};
+use plain_values::Mem;
 use std::alloc::Global;
 
 /// The facts that hold under some set of events.
@@ -20,15 +18,6 @@ pub fn possible_facts(alloc: Global, system: &FaultSystem) -> Mem<Bits>
     let events = all_events(alloc, system.events())?;
     let facts = system.holds(alloc, &events)?;
     Ok(facts)
-}
-
-/// The facts that hold under no set of events, rising.
-pub fn never_facts(alloc: Global, system: &FaultSystem) -> Mem<List<u32>>
-    ensures { IfOk result (AreAll (IsNever system.now) (length system.now.facts)) }
-{
-    let possible = possible_facts(alloc, system)?;
-    let never = missing(alloc, system.facts(), &Everything, &possible)?;
-    Ok(never)
 }
 
 // The set of all events, of which there are so many.
