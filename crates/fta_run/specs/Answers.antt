@@ -37,81 +37,53 @@ IsSameStatus a b = (a ≡ b) ⊎ ((file : ℕ) × (here : ℕ) × (there : ℕ) 
 -- What may come where this text or this status is due: Done for a text, and that status; want of memory, and a fault of a
 -- file; and, where a text is due, a fault of the output or of a report.
 abbrev pub MayCome : Result (List ℕ) Status → Status → Type 0
-MayCome its_due Done = IsOk its_due
 MayCome its_due Usage = its_due ≡ Err Usage
 MayCome its_due (Refused refusal) = IsErrAnd its_due (λ status. IsSameStatus status (Refused refusal))
 MayCome its_due (Constant always) = its_due ≡ Err (Constant always)
 MayCome its_due (StaleToken token input) = its_due ≡ Err (StaleToken token input)
 MayCome its_due (ReadFault file) = Unit {0}
-MayCome its_due WriteFault = IsOk its_due
-MayCome its_due (ReportFault place) = IsOk its_due
 MayCome its_due Memory = Unit {0}
+MayCome its_due _ = IsOk its_due
 
 -- ---- what came
 
 -- Usage comes exactly where the words give no command; want of memory may come at any point.
 abbrev pub AnswersWords : Status → List (List ℕ) → List (List ℕ) → Type 0
-AnswersWords Done names words = GiveCommand names words
 AnswersWords Usage names words = GiveNoCommand names words
-AnswersWords (Refused refusal) names words = GiveCommand names words
-AnswersWords (Constant always) names words = GiveCommand names words
-AnswersWords (StaleToken token input) names words = GiveCommand names words
-AnswersWords (ReadFault file) names words = GiveCommand names words
-AnswersWords WriteFault names words = GiveCommand names words
-AnswersWords (ReportFault place) names words = GiveCommand names words
 AnswersWords Memory names words = Unit {0}
+AnswersWords _ names words = GiveCommand names words
 
 -- A refusal is the verdict, and so is that a target is constant, or a token stale.
 abbrev pub IsJustified : List (List ℕ) → (List ℕ → Option (List ℕ)) → List Voice → Status → Type 0
-IsJustified words contents voices Done = Unit {0}
-IsJustified words contents voices Usage = Unit {0}
 IsJustified words contents voices (Refused refusal) = IsVerdict words contents voices refusal
 IsJustified words contents voices (Constant always) = Stops (due words contents voices) (Constant always)
 IsJustified words contents voices (StaleToken token input) = Stops (due words contents voices) (StaleToken token input)
-IsJustified words contents voices (ReadFault file) = Unit {0}
-IsJustified words contents voices WriteFault = Unit {0}
-IsJustified words contents voices (ReportFault place) = Unit {0}
-IsJustified words contents voices Memory = Unit {0}
+IsJustified words contents voices _ = Unit {0}
 
 -- What a sink took where a run ended so, if the command's text is of this sort: under Done the text, after a fault of the output or
 -- want of memory a front of it, and else nothing.
 abbrev pub Took : (List ℕ → Type 0) → Status → Option (List ℕ) → Option (List ℕ) → Type 0
 Took IsText Done before after = TookText IsText before after
-Took IsText Usage before after = after ≡ before
-Took IsText (Refused refusal) before after = after ≡ before
-Took IsText (Constant always) before after = after ≡ before
-Took IsText (StaleToken token input) before after = after ≡ before
-Took IsText (ReadFault file) before after = after ≡ before
 Took IsText WriteFault before after = TookFront IsText before after
-Took IsText (ReportFault place) before after = after ≡ before
 Took IsText Memory before after = (after ≡ before) ⊎ TookFront IsText before after
+Took IsText _ before after = after ≡ before
 
 -- A fault comes only where its count rose: that of the name of the file word, of which there are not too many, that of the output,
 -- or that of a report that is chosen.
 abbrev pub IsCaused : Status → List (List ℕ) → List (List ℕ) → (List ℕ → ℕ) → (List ℕ → ℕ) → ℕ → ℕ → (ℕ → Type 0) → Type 0
-IsCaused Done names words before after out_before out_after RoseThere = Unit {0}
-IsCaused Usage names words before after out_before out_after RoseThere = Unit {0}
-IsCaused (Refused refusal) names words before after out_before out_after RoseThere = Unit {0}
-IsCaused (Constant always) names words before after out_before out_after RoseThere = Unit {0}
-IsCaused (StaleToken token input) names words before after out_before out_after RoseThere = Unit {0}
 IsCaused (ReadFault file) names words before after out_before out_after RoseThere =
     (length (file_words words) ≤ most_files) × (name : List ℕ) × (slice_get (file_words words) file ≡ Some name) × Rose (before name) (after name)
 IsCaused WriteFault names words before after out_before out_after RoseThere = Rose out_before out_after
 IsCaused (ReportFault place) names words before after out_before out_after RoseThere =
     (command : Command) × IsCommand names words command × (is_among (chosen_of command) place ≡ true) × RoseThere place
-IsCaused Memory names words before after out_before out_after RoseThere = Unit {0}
+IsCaused _ names words before after out_before out_after RoseThere = Unit {0}
 
 -- What may come where too many files are named: that refusal, no command, or want of memory.
 abbrev pub IsManyAnswer : Status → Type 0
-IsManyAnswer Done = ⊥
 IsManyAnswer Usage = Unit {0}
 IsManyAnswer (Refused refusal) = refusal ≡ of_words TooManyFiles
-IsManyAnswer (Constant always) = ⊥
-IsManyAnswer (StaleToken token input) = ⊥
-IsManyAnswer (ReadFault file) = ⊥
-IsManyAnswer WriteFault = ⊥
-IsManyAnswer (ReportFault place) = ⊥
 IsManyAnswer Memory = Unit {0}
+IsManyAnswer _ = ⊥
 
 -- Once a page of `cuts` was begun, no memory is wanting: where it is, the sink took nothing.
 abbrev pub BeginsWithMemory : Command → Status → Option (List ℕ) → Option (List ℕ) → Type 0

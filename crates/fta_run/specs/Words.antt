@@ -4,19 +4,5 @@ pub use Rattle.fta_words.specs.Words.{Command, Check, Cuts, Tree, Fmea, Targets,
 
 -- the places of the reports that a command chooses
 abbrev pub chosen_of : Command → List ℕ
-chosen_of (Check root files) = []
-chosen_of (Cuts root target files paging tokens) = []
-chosen_of (Tree root target files) = []
-chosen_of (Fmea root files all) = []
-chosen_of (Targets root files all) = []
-chosen_of (Events root files) = []
-chosen_of (Review root files) = []
 chosen_of (Report root target files chosen max_order) = chosen
-chosen_of (Make number text) = []
-chosen_of (Galileo files limit max_order paths) = []
-chosen_of (Paths root target files paging) = []
-chosen_of (Why root target files set) = []
-chosen_of (Confirm root target files set) = []
-chosen_of (Place files byte) = []
-chosen_of (Help of) = []
-chosen_of Version = []
+chosen_of _ = []
