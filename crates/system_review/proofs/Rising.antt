@@ -1,5 +1,5 @@
 -- Rising lists of the numbers at which a test is true.
-use Rattle.std.proofs.Common.{ℕ, ◌+◌, ◌≡◌, ◌<◌, ◌⊎◌, Bool, true, false, not, ◌&&◌, cond, List, [], ◌∷◌, ◌++◌, inl, inr, ⊎_elim, ap, ◌∙◌, sym, subst, append-nil, arith, refl}
+use Rattle.std.proofs.Common.{ℕ, ◌+◌, ◌≡◌, ◌<◌, ◌⊎◌, ◌↔◌, Bool, true, false, not, ◌&&◌, cond, List, [], ◌∷◌, ◌++◌, inl, inr, ⊎_elim, ap, ◌∙◌, sym, subst, append-nil, arith, refl}
 use Rattle.std.proofs.lemmas.Bool.{false≢true, cases_order, and_parts, and_from}
 use Rattle.fault_system.specs.Truth.{NumberSet}
 use Rattle.plain_values.specs.Rising.{RisesWithin}
@@ -63,3 +63,16 @@ missing-end wanted found bound list is =
     listed-end (is_missing wanted found) (λ n. (n < bound) × (wanted n ≡ true) × (found n ≡ false)) bound list
     (λ n h t. let both = and_parts (wanted n) (not (found n)) t in (h, both.0, not-is (found n) both.1))
     (λ n so. (so.0, and_from (wanted n) (not (found n)) so.1 (ap not so.2))) is
+
+false-from : (b : Bool) → (b ≡ true → ⊥) → b ≡ false
+false-from true none = absurd (none refl)
+false-from false none = refl
+
+-- what is said of the numbers that are in one set and not in another
+pub missing-as : (F Q : ℕ → Type 0) (wanted found : NumberSet) (bound high : ℕ) (list : List ℕ) → bound ≡ high → ((n : ℕ) → (found n ≡ true) ↔ F n)
+    → ((n : ℕ) → n < high → wanted n ≡ true → (F n → ⊥) → Q n) → ((n : ℕ) → Q n → (n < high) × (wanted n ≡ true) × (F n → ⊥))
+    → AreAll (λ n. (n < bound) × (wanted n ≡ true) × (found n ≡ false)) bound list → AreAll Q high list
+missing-as F Q wanted found bound high list same exact to back are =
+    all-as (λ n. (n < bound) × (wanted n ≡ true) × (found n ≡ false)) Q bound high list same
+    (λ n so. let low = so.0 in to n (omega arith) so.1 (λ f. false≢true (sym so.2 ∙ (exact n).1 f)))
+    (λ n q. let so = back n q in let low = so.0 in (omega arith, so.1, false-from (found n) (λ h. so.2 ((exact n).0 h)))) are
