@@ -4,3 +4,9 @@ pub mod Telling
 pub mod Whole
 pub mod OneText
 pub mod Counting
+pub mod Parts
+pub mod Causes
+pub mod Kept
+pub mod Saying
+pub mod Untold
+pub mod Written

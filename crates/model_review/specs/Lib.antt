@@ -3,3 +3,4 @@ pub mod Findings
 pub mod Told
 pub mod Lines
 pub mod Review
+pub mod inner

@@ -3,6 +3,7 @@
 
 mod finding;
 mod flows;
+mod laws;
 mod lines;
 mod links;
 mod list;
@@ -12,4 +13,5 @@ mod states;
 mod told;
 mod view;
 
+pub use laws::nothing_is_hidden;
 pub use reviewing::review;
