@@ -349,7 +349,12 @@ fn push_unlinked(text: &mut Vec<u8>, assembly: &Assembly, one: Unlinked) -> Mem<
     ensures { OnOk result (text.new.items ≡ text.old.items ++ (codes "no-link " ++ unlinked_text assembly.now one)) }
 {
     text.extend_from_slice(b"no-link ")?;
-    push_own(text, assembly, one.component, name_of_unlinked(assembly, one))
+    push_own(
+        text,
+        assembly,
+        one.component,
+        name_of_unlinked(assembly, one),
+    )
 }
 
 /// The name of a connection or a user path that gives no link, or nothing.
@@ -375,7 +380,12 @@ fn unlinked_name<'m>(effective: &Effective<'m>, one: Unlinked) -> &'m [u8]
 fn user_path_name<'m>(effective: &Effective<'m>, number: u32) -> &'m [u8]
     ensures { result.now ≡ user_path_name effective.now number }
 {
-    match effective.propagations.user_paths.items().get(number as usize) {
+    match effective
+        .propagations
+        .user_paths
+        .items()
+        .get(number as usize)
+    {
         Some(path) => path.item().name.text(),
         None => &[],
     }
