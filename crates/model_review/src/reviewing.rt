@@ -5,7 +5,10 @@ ghost use Rattle.plain_values.specs.Rising.{RisesWithin};
 ghost use Rattle.model_facts.specs.Effects.{effects_of};
 ghost use Rattle.model_facts.specs.Facts.{events_of, facts_of};
 ghost use Rattle.flattener.specs.Flat.{system_of};
+ghost use Rattle.flattener.specs.Numbered.{numbered_of};
 ghost use Rattle.model_review.specs.Review.{IsReview, Reviews};
+ghost use Rattle.model_review.specs.inner.Joined.{HasNoHiddenLine, joined_by};
+ghost use Rattle.system_review.specs.inner.Alone.{HoldTheSame};
 
 use crate::lines::text_of;
 use crate::list::findings;
@@ -17,7 +20,8 @@ use std::alloc::{AllocError, Global};
 use system_review::{possible_facts, used_facts};
 
 /// The text of the review of a model that is put together, of which this is the system, and these are the numbers of its facts that are
-/// effects of failures, rising. It is a line a finding and then `end`, in the order of docs/REVIEW_FINDINGS.md.
+/// effects of failures, rising. It is a line a finding and then `end`, in the order of docs/REVIEW_FINDINGS.md. Where it has no line on
+/// what is hidden, nothing is lost to the order of conditions, flows and links.
 pub fn review(
     alloc: Global,
     assembly: &Assembly,
@@ -27,7 +31,8 @@ pub fn review(
     requires system { system.now ≡ system_of assembly.now }
     requires effects { effects.now ≡ effects_of assembly.now }
     requires rise { RisesWithin 0 (length system.now.facts) effects.now }
-    ensures { IfOk result (IsReview assembly.now) }
+    ensures exact { IfOk result (IsReview assembly.now) }
+    ensures nothing_lost { IfOk result (λ text. HasNoHiddenLine text → HoldTheSame (system_of assembly.now) (joined_by (numbered_of assembly.now))) }
 {
     let universe = universe_of(alloc, assembly)?;
     let facts = facts_of(alloc, assembly, universe.items())?;

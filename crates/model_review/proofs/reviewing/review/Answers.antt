@@ -1,16 +1,24 @@
-use Rattle.std.proofs.Common.{◌≡◌, length, sym, ◌∙◌, subst}
-use Rattle.std.specs.Prelude.{IfOk}
+use Rattle.std.proofs.Common.{ℕ, ◌≡◌, List, length, sym, ◌∙◌, subst}
+use Rattle.std.specs.Prelude.{IfOk, Result, Ok, Err}
 use Rattle.plain_values.specs.Rising.{RisesWithin}
-use Rattle.model_review.specs.Review.{Reviews}
+use Rattle.model_facts.specs.Assembly.{Assembly, universe_of}
+use Rattle.model_facts.specs.Effects.{effects_of}
+use Rattle.flattener.specs.Flat.{system_of}
+use Rattle.flattener.specs.Numbered.{numbered_of}
+use Rattle.system_review.specs.inner.Alone.{HoldTheSame}
+use Rattle.model_review.specs.Review.{IsReview, Reviews}
 use Rattle.model_review.specs.Seen.{Seen, seen_of}
+use Rattle.model_review.specs.inner.Joined.{HasNoHiddenLine, joined_by}
+use Rattle.model_review.proofs.Saying.{nothing-hidden}
 use Rattle.model_review.proofs.Whole.{all-seen}
+use Rattle.model_review.proofs.Written.{none-written}
 use Rattle.model_review.proofs.reviewing.review.Goals as goal
 
 pub review_seen-requires : goal.review_seen-requires
 review_seen-requires c = subst (λ (seen : Seen). RisesWithin 0 (length seen.system.facts) seen.effects) (sym c.new-view.ensures) c.requires.rise
 
-pub returns : goal.returns
-returns c =
+pub returns-clause-exact : goal.returns-clause-exact
+returns-clause-exact c =
     let assembly = c.args.assembly.now in
     let universe = c.items.ensures.items ∙ c.in_ok-universe.ensures in
     let same : c.new-view.result ≡ seen_of assembly =
@@ -18,3 +26,12 @@ returns c =
     ∙ (λ i. record { numbered = record { assembly = assembly; universe = (c.items-2.ensures.items ∙ sym c.items.ensures.items) i; facts = c.in_ok-facts.facts; events = c.in_ok-events.events }; system = c.args.system.now; effects = c.args.effects.now })
     ∙ all-seen assembly c.items.result.now c.in_ok-facts.facts c.in_ok-events.events c.args.system.now c.args.effects.now universe c.in_ok-facts.ensures c.in_ok-events.ensures c.requires.system c.requires.effects in
     subst (λ (seen : Seen). IfOk c.review_seen.result (Reviews seen)) same c.review_seen.ensures
+
+-- what a text that is a review says of what is lost
+none-lost : {E : Type 0} (assembly : Assembly) (answer : Result (List ℕ) E) → IfOk answer (IsReview assembly)
+    → IfOk answer (λ text. HasNoHiddenLine text → HoldTheSame (system_of assembly) (joined_by (numbered_of assembly)))
+none-lost assembly (Ok text) reviews = λ none. nothing-hidden assembly (universe_of assembly) (effects_of assembly) (none-written (seen_of assembly) text reviews none)
+none-lost assembly (Err error) is = tt
+
+pub returns-clause-nothing_lost : goal.returns-clause-nothing_lost
+returns-clause-nothing_lost c = none-lost c.args.assembly.now c.review_seen.result (returns-clause-exact c)
