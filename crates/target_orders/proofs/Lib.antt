@@ -1,2 +1,4 @@
 pub mod Reached
 pub mod Said
+pub mod Reachable
+pub mod LargeLaws

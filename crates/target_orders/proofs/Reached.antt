@@ -6,7 +6,7 @@ use Rattle.plain_values.specs.Rising.{RisesWithin}
 use Rattle.plain_values.proofs.Rising.{rises-push}
 use Rattle.fault_system.specs.Truth.{NumberSet, Has, set_of}
 use Rattle.fault_system.specs.Systems.{System, Holds}
-use Rattle.fault_system.specs.CutSets.{IsCutSet, IsEventSet}
+use Rattle.fault_system.specs.CutSets.{IsCutSet}
 use Rattle.fault_system.specs.inner.Listings.{listing}
 use Rattle.fault_system.proofs.CutSetLaws.{Holds-grows}
 use Rattle.fault_system.proofs.ListingLaws.{covers, length_rising, listing-exact}
@@ -19,7 +19,7 @@ use Rattle.zdd_store.proofs.Orders.{contains_first}
 use Rattle.cutset_engine.specs.inner.Families.{HasMinimalCutSets}
 use Rattle.target_orders.specs.Orders.{HoldsWithin, MayHold, NeedsAtLeast}
 
-rises-below : (count : ℕ) → RisesWithin 0 count (numbers_below count)
+pub rises-below : (count : ℕ) → RisesWithin 0 count (numbers_below count)
 rises-below zero = tt
 rises-below (suc count) =
     let same : count + 1 ≡ suc count = omega arith in
@@ -36,6 +36,11 @@ module _ (system : System) (fact : ℕ) (all : NumberSet) where
   pub all-from_some : ((n : ℕ) → n < length system.events → Has all n) → MayHold system fact → Holds system all fact
   all-from_some full (set, (rises, holds)) =
       Holds-grows system fact (set_of set) all (λ n has. full n (RisesWithin-at 0 (length system.events) set n rises has).1) fact holds
+
+-- a fact that holds under the set of one event holds within one
+pub alone-within : (system : System) (event fact : ℕ) (events : NumberSet) → event < length system.events → ((n : ℕ) → events n ≡ set_of (event ∷ []) n) → Holds system events fact → HoldsWithin system fact 1
+alone-within system event fact events there same holds =
+    (event ∷ [], ((omega arith, there, tt), Holds-grows system fact events (set_of (event ∷ [])) (λ n has. sym (same n) ∙ has) fact holds), omega arith)
 
 -- a set of events has no more than there are
 pub some-within : (system : System) (fact : ℕ) → MayHold system fact → HoldsWithin system fact (length system.events)

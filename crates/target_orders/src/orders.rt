@@ -5,8 +5,11 @@ ghost use Rattle.backward_slice.specs.Slices.{IsSlice};
 ghost use Rattle.dependency_blocks.specs.Blocks.{IsBlocks};
 ghost use Rattle.target_orders.specs.Orders.{HoldsWithin, IsOrder, MayHold, NeedsAtLeast};
 ghost use Rattle.target_orders.specs.Text.{TellsOrders, order_line, order_text};
+ghost use Rattle.target_orders.specs.inner.Sizes.{AreAlone, KnowsSizes};
 
+use crate::alone::alone;
 use crate::order::Order;
+use crate::sizes::{Sizes, known_sizes};
 use backward_slice::{Slice, slice};
 use cutset_engine::family;
 use dependency_blocks::{Blocks, blocks};
@@ -17,15 +20,19 @@ use std::alloc::{AllocError, Global};
 use zdd_store::{Id, Store};
 
 /// The text of what it takes to make each of some facts hold, a line each, in their order, and the line `end`.
+///
+/// Where a fact is large, or holds under one event alone, no sets are sought for it.
 pub fn orders_text(alloc: Global, system: &FaultSystem, facts: &[u32]) -> Mem<Vec<u8>>
     requires { All (λ fact. fact < length system.now.facts) facts.now }
     ensures { IfOk result (λ text. TellsOrders system.now facts.now text.items) }
 {
     let always = system.holds(alloc, &Bits::new(alloc, system.events())?)?;
     let perhaps = system.holds(alloc, &all_events(alloc, system)?)?;
+    let alone = alone(alloc, system, facts.len())?;
+    let sizes = known_sizes(alloc, system, facts)?;
     let mut text = Vec::new(alloc);
     for fact in facts {
-        let order = order_of(alloc, system, &always, &perhaps, *fact)?;
+        let order = order_of(alloc, system, &always, &perhaps, &alone, &sizes, *fact)?;
         push_line(&mut text, system, *fact, order)?;
     }
     text.extend_from_slice(b"end\n")?;
@@ -70,17 +77,22 @@ fn all_events(alloc: Global, system: &FaultSystem) -> Mem<Bits>
     Ok(events)
 }
 
-/// What it takes to make a fact hold, where these are the facts that hold under no event, and those that hold under some.
+/// What it takes to make a fact hold, where these are the facts that hold under no event, those that hold under some, facts
+/// that hold under one alone, and facts of which it is known whether they are large.
 fn order_of(
     alloc: Global,
     system: &FaultSystem,
     always: &Bits,
     perhaps: &Bits,
+    alone: &Bits,
+    sizes: &Sizes,
     fact: u32,
 ) -> Mem<Order>
     requires fact { fact < length system.now.facts }
     requires always { Has (member always.now) fact ↔ IsCutSet system.now fact [] }
     requires perhaps { Has (member perhaps.now) fact ↔ MayHold system.now fact }
+    requires alone { AreAlone system.now alone.now }
+    requires sizes { KnowsSizes system.now sizes.now }
     ensures { IfOk result (IsOrder system.now fact) }
 {
     if always.has(fact) {
@@ -88,6 +100,12 @@ fn order_of(
     }
     if !perhaps.has(fact) {
         return Ok(Order::Never);
+    }
+    if sizes.large.has(fact) {
+        return Ok(Order::Large);
+    }
+    if alone.has(fact) && sizes.small.has(fact) {
+        return Ok(Order::Least(1));
     }
     match slice(alloc, system, fact) {
         Ok(part) => Ok(Order::Least(least(alloc, system, &part)?)),

@@ -1,6 +1,7 @@
-use Rattle.std.proofs.Common.{ℕ, sym, subst, ◌∙◌}
+use Rattle.std.proofs.Common.{ℕ, [], sym, subst, ◌∙◌}
 use Rattle.std.proofs.lemmas.Bool.{false≢true}
 use Rattle.backward_slice.proofs.OneSlice.{served_or_large}
+use Rattle.fault_system.specs.CutSets.{IsCutSet}
 use Rattle.target_orders.specs.Orders.{HoldsWithin, NeedsAtLeast}
 use Rattle.target_orders.proofs.Reached.{needs-one}
 use Rattle.target_orders.proofs.orders.order_of.Goals as goal
@@ -17,3 +18,12 @@ returns-in_ok-least-in-Ok c = (
   subst (λ (n : ℕ). HoldsWithin c.args.system.now n c.in_ok-least-in-Ok.field-0) c.in-Ok.ensures.is_slice.target_is c.in_ok-least-in-Ok.ensures.within,
   subst (λ (n : ℕ). NeedsAtLeast c.args.system.now n c.in_ok-least-in-Ok.field-0) c.in-Ok.ensures.is_slice.target_is c.in_ok-least-in-Ok.ensures.fewest,
 )
+
+pub returns-then-has-4 : goal.returns-then-has-4
+returns-then-has-4 c =
+    let never : IsCutSet c.args.system.now c.args.fact [] → ⊥ = λ (cut : IsCutSet c.args.system.now c.args.fact []). absurd (false≢true (sym c.if-has.false ∙ c.has.ensures ∙ c.requires.always.1 cut)) in (
+      never,
+      c.requires.sizes.small_are c.args.fact (sym c.has-then-has-3.ensures ∙ c.if-has-4.true),
+      c.requires.alone c.args.fact (sym c.has-4.ensures ∙ c.if-has-3.true),
+      needs-one c.args.system.now c.args.fact never,
+    )
