@@ -2,3 +2,4 @@ pub mod Reached
 pub mod Said
 pub mod Reachable
 pub mod LargeLaws
+pub mod AloneLaws

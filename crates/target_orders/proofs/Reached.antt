@@ -37,11 +37,6 @@ module _ (system : System) (fact : ℕ) (all : NumberSet) where
   all-from_some full (set, (rises, holds)) =
       Holds-grows system fact (set_of set) all (λ n has. full n (RisesWithin-at 0 (length system.events) set n rises has).1) fact holds
 
--- a fact that holds under the set of one event holds within one
-pub alone-within : (system : System) (event fact : ℕ) (events : NumberSet) → event < length system.events → ((n : ℕ) → events n ≡ set_of (event ∷ []) n) → Holds system events fact → HoldsWithin system fact 1
-alone-within system event fact events there same holds =
-    (event ∷ [], ((omega arith, there, tt), Holds-grows system fact events (set_of (event ∷ [])) (λ n has. sym (same n) ∙ has) fact holds), omega arith)
-
 -- a set of events has no more than there are
 pub some-within : (system : System) (fact : ℕ) → MayHold system fact → HoldsWithin system fact (length system.events)
 some-within system fact (set, (rises, holds)) = (set, (rises, holds), omega (arith, length_rising 0 (length system.events) set (omega arith) rises))

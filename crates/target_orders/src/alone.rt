@@ -1,53 +1,289 @@
 //! The facts that hold under one event alone.
+//!
+//! For each event it is gone from the facts in whose formulas it stands to those in whose formulas these stand, as far as
+//! the formulas are true. Each fact that is found holds; that all are found is not claimed.
 
-ghost use Rattle.std.specs.Prelude.{◌<◌, IfOk, OnOk, length};
-ghost use Rattle.target_orders.specs.inner.Sizes.{AreAlone};
+ghost use Rattle.std.specs.Prelude.{◌≡◌, ◌+◌, ◌≤◌, ◌<◌, ◌⊎◌, ℕ, IfOk, IsTrue, OnOk, length, replicate};
+ghost use Rattle.fault_system.specs.Truth.{member};
+ghost use Rattle.fault_system.specs.Systems.{Holds};
+ghost use Rattle.fault_system.specs.Rounds.{time_of};
+ghost use Rattle.target_orders.specs.inner.Alone.{AreAlone, AreAlways, IsRest, IsWalk};
 
-use crate::marks::put_all;
-use fault_system::{Bits, FaultSystem};
+use crate::marks::{put, take};
+use crate::sizes::Sizes;
+use crate::uses::{Uses, uses_of};
+use fault_system::{Bits, FaultSystem, Numbers};
 use plain_values::Mem;
 use std::alloc::Global;
 
-/// The facts that hold under one event alone, where so many facts are asked of; no fact, where it takes too long.
+/// Where the search stands. An event has its number from 1 as its stamp.
+#[derive(Drop)]
+pub(crate) struct Walk {
+    // the event that is looked at
+    pub events: Bits,
+    // for each fact the stamp of the last event under which it was found to hold; 0 before
+    pub stamps: Vec<u32>,
+    // found facts whose users were not looked at yet
+    pub waiting: Vec<u32>,
+    // whether the users of facts that were found before are looked at again
+    pub is_whole: bool,
+    // how many times a formula was looked at
+    pub steps: u64,
+}
+
+/// The facts that hold under no event, and those with one stamp.
+#[derive(Clone, Copy)]
+struct Held<'a, 'b> {
+    always: &'a Bits,
+    stamps: &'b [u32],
+    stamp: u32,
+}
+
+impl<'a, 'b> Numbers for Held<'a, 'b> {
+    ghost use Rattle.fault_system.specs.Truth.{member};
+    ghost use Rattle.target_orders.specs.inner.Alone.{held_set};
+
+    ghost set = { λ set. held_set (member set.always.now) set.stamps.now set.stamp };
+
+    fn is_in(&self, number: u32) -> bool {
+        self.always.has(number) || stamp_at(self.stamps, number) == self.stamp
+    }
+}
+
+fn stamp_at(stamps: &[u32], fact: u32) -> u32
+    ensures { result ≡ time_of stamps.now fact }
+{
+    stamps.get(fact as usize).copied().unwrap_or(0)
+}
+
+fn write_stamp(stamps: &mut Vec<u32>, fact: u32, stamp: u32)
+    ensures { (n : ℕ) → (time_of stamps.new.items n ≡ time_of stamps.old.items n) ⊎ ((n ≡ fact) × (time_of stamps.new.items n ≡ stamp)) }
+{
+    if (fact as usize) < stamps.len() {
+        stamps[fact as usize] = stamp;
+    }
+}
+
+/// Facts that hold under one event alone, of those that hold under some event and are not known to be large. These hold under
+/// no event, and those under some; of these it is known whether they are large; and of the list it is asked.
 ///
-/// It takes one pass over the system for each event. So it is done where there are no more events than facts that are
-/// asked of, each of which would take a pass over the system else, and where events and facts are not too many.
-pub(crate) fn alone(alloc: Global, system: &FaultSystem, asked: usize) -> Mem<Bits>
+/// First each fact is gone on from under one event alone, so that each formula is looked at as often as it has places. What
+/// is found is all where a fact holds if one fact of its formula does. Where some are left, all events are gone on from
+/// once more, through all facts, for a number of steps that goes with how many are left. For few facts nothing is sought.
+pub(crate) fn alone(
+    alloc: Global,
+    system: &FaultSystem,
+    always: &Bits,
+    perhaps: &Bits,
+    sizes: &Sizes,
+    facts: &[u32],
+) -> Mem<Bits>
+    requires { AreAlways system.now always.now }
     ensures { IfOk result (AreAlone system.now) }
 {
-    let mut facts = Bits::new(alloc, system.facts())?;
-    if is_short(system, asked) {
-        add_all(alloc, system, &mut facts)?;
+    let mut found = Bits::new(alloc, system.facts())?;
+    if left(always, perhaps, sizes, &found, facts) < 16 {
+        return Ok(found);
     }
-    Ok(facts)
+    let uses = uses_of(alloc, system)?;
+    look_at_all(alloc, system, &uses, always, &mut found, false, u64::MAX)?;
+    let left = left(always, perhaps, sizes, &found, facts);
+    let most = left.saturating_mul(u64::from(system.facts())) / 8;
+    look_at_all(
+        alloc,
+        system,
+        &uses,
+        always,
+        &mut found,
+        true,
+        most.min(16_777_216),
+    )?;
+    Ok(found)
 }
 
-fn is_short(system: &FaultSystem, asked: usize) -> bool {
-    match system.events().checked_mul(system.facts()) {
-        Some(steps) => steps <= 16_777_216 && system.events() as usize <= asked,
+// How many of some facts hold under some event and are not large, as far as it is known, and are not found yet.
+fn left(always: &Bits, perhaps: &Bits, sizes: &Sizes, found: &Bits, facts: &[u32]) -> u64 {
+    let mut left = 0u64;
+    for fact in facts {
+        if is_left(always, perhaps, sizes, found, *fact) {
+            left = left.saturating_add(1);
+        }
+    }
+    left
+}
+
+fn is_left(always: &Bits, perhaps: &Bits, sizes: &Sizes, found: &Bits, fact: u32) -> bool {
+    let is_known = always.has(fact) || sizes.large.has(fact) || found.has(fact);
+    perhaps.has(fact) && !is_known
+}
+
+// Finds facts event by event, for so many steps.
+fn look_at_all(
+    alloc: Global,
+    system: &FaultSystem,
+    uses: &Uses,
+    always: &Bits,
+    found: &mut Bits,
+    is_whole: bool,
+    most: u64,
+) -> Mem<()>
+    requires always { AreAlways system.now always.now }
+    requires found { AreAlone system.now found.old }
+    ensures { OnOk result (AreAlone system.now found.new) }
+{
+    let mut walk = first_walk(alloc, system, is_whole)?;
+    for event in 0..system.events() {
+        if walk.steps >= most {
+            return Ok(());
+        }
+        look_at(system, uses, always, &mut walk, found, event)?;
+    }
+    Ok(())
+}
+
+fn first_walk(alloc: Global, system: &FaultSystem, is_whole: bool) -> Mem<Walk>
+    ensures { IfOk result (IsRest 0) }
+{
+    let events = Bits::new(alloc, system.events())?;
+    let stamps = no_stamps(alloc, system.facts())?;
+    Ok(Walk {
+        events,
+        stamps,
+        waiting: Vec::new(alloc),
+        is_whole,
+        steps: 0,
+    })
+}
+
+fn no_stamps(alloc: Global, size: u32) -> Mem<Vec<u32>>
+    ensures { IfOk result (λ stamps. stamps.items ≡ replicate size 0) }
+{
+    Ok(vec![in alloc; 0u32; size as usize]?)
+}
+
+// Finds facts that hold under this event alone.
+fn look_at(
+    system: &FaultSystem,
+    uses: &Uses,
+    always: &Bits,
+    walk: &mut Walk,
+    found: &mut Bits,
+    event: u32,
+) -> Mem<()>
+    requires always { AreAlways system.now always.now }
+    requires rest { IsRest event walk.old }
+    requires found { AreAlone system.now found.old }
+    requires event { event < length system.now.events }
+    ensures rest { OnOk result (IsRest (event + 1) walk.new) }
+    ensures found { OnOk result (AreAlone system.now found.new) }
+{
+    let _events = system.events();
+    put(&mut walk.events, event);
+    spread(system, uses, always, walk, found, event + 1)?;
+    take(&mut walk.events, event);
+    Ok(())
+}
+
+// Goes from an event to its users, and from each fact that is found to its own.
+fn spread(
+    system: &FaultSystem,
+    uses: &Uses,
+    always: &Bits,
+    walk: &mut Walk,
+    found: &mut Bits,
+    stamp: u32,
+) -> Mem<()>
+    requires always { AreAlways system.now always.now }
+    requires walk { IsWalk system.now stamp walk.old }
+    requires found { AreAlone system.now found.old }
+    ensures walk { OnOk result (IsWalk system.now stamp walk.new) }
+    ensures found { OnOk result (AreAlone system.now found.new) }
+{
+    tell(
+        system,
+        always,
+        walk,
+        found,
+        stamp,
+        uses.of_event(stamp.saturating_sub(1)),
+    )?;
+    for step in 0..u64::MAX {
+        let Some(fact) = walk.waiting.pop() else {
+            return Ok(());
+        };
+        tell(system, always, walk, found, stamp, uses.of_fact(fact))?;
+    }
+    Ok(())
+}
+
+fn tell(
+    system: &FaultSystem,
+    always: &Bits,
+    walk: &mut Walk,
+    found: &mut Bits,
+    stamp: u32,
+    users: &[u32],
+) -> Mem<()>
+    requires always { AreAlways system.now always.now }
+    requires walk { IsWalk system.now stamp walk.old }
+    requires found { AreAlone system.now found.old }
+    ensures walk { OnOk result (IsWalk system.now stamp walk.new) }
+    ensures found { OnOk result (AreAlone system.now found.new) }
+{
+    for user in users {
+        add_if(system, always, walk, found, stamp, *user)?;
+    }
+    Ok(())
+}
+
+// Adds a fact, if its formula is true over the facts that were found under the event, and those that hold under none.
+fn add_if(
+    system: &FaultSystem,
+    always: &Bits,
+    walk: &mut Walk,
+    found: &mut Bits,
+    stamp: u32,
+    fact: u32,
+) -> Mem<()>
+    requires always { AreAlways system.now always.now }
+    requires walk { IsWalk system.now stamp walk.old }
+    requires found { AreAlone system.now found.old }
+    ensures walk { OnOk result (IsWalk system.now stamp walk.new) }
+    ensures found { OnOk result (AreAlone system.now found.new) }
+{
+    walk.steps = walk.steps.saturating_add(1);
+    if is_made(system, always, walk, stamp, fact) {
+        let goes_on = walk.is_whole || !found.has(fact);
+        put(found, fact);
+        write_stamp(&mut walk.stamps, fact, stamp);
+        wait_if(&mut walk.waiting, fact, goes_on)?;
+    }
+    Ok(())
+}
+
+fn wait_if(waiting: &mut Vec<u32>, fact: u32, goes_on: bool) -> Mem<()> {
+    if goes_on {
+        waiting.push(fact)?;
+    }
+    Ok(())
+}
+
+fn is_made(system: &FaultSystem, always: &Bits, walk: &Walk, stamp: u32, fact: u32) -> bool
+    requires always { AreAlways system.now always.now }
+    requires walk { IsWalk system.now stamp walk.now }
+    ensures { IsTrue result → Holds system.now (member walk.now.events) fact }
+{
+    let stamps = walk.stamps.as_slice();
+    if always.has(fact) || stamp_at(stamps, fact) == stamp {
+        return false;
+    }
+    let held = Held {
+        always,
+        stamps,
+        stamp,
+    };
+    match system.fact(fact) {
+        Some(info) => info.formula.is_true(&walk.events, &held),
         None => false,
     }
-}
-
-// Adds the facts that hold under one event alone.
-fn add_all(alloc: Global, system: &FaultSystem, facts: &mut Bits) -> Mem<()>
-    requires { AreAlone system.now facts.old }
-    ensures { OnOk result (AreAlone system.now facts.new) }
-{
-    for event in 0..system.events() {
-        add(alloc, system, facts, event)?;
-    }
-    Ok(())
-}
-
-// Adds the facts that hold under this event alone.
-fn add(alloc: Global, system: &FaultSystem, facts: &mut Bits, event: u32) -> Mem<()>
-    requires before { AreAlone system.now facts.old }
-    requires event { event < length system.now.events }
-    ensures { OnOk result (AreAlone system.now facts.new) }
-{
-    let events = Bits::of(alloc, system.events(), &[event])?;
-    let held = system.holds(alloc, &events)?;
-    put_all(facts, &held);
-    Ok(())
 }

@@ -34,8 +34,8 @@ impl Part {
         }
     }
 
-    // Whether there are more facts or events than a slice may have.
-    fn is_over(&self) -> bool {
+    /// Whether there are more facts or events than a slice may have.
+    pub fn is_over(&self) -> bool {
         self.members.len() > 32_768 || self.count > 1_024
     }
 

@@ -10,6 +10,7 @@ mod order;
 mod orders;
 mod settling;
 mod sizes;
+mod uses;
 
 pub use laws::{one_order, one_text};
 pub use order::Order;

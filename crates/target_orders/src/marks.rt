@@ -1,6 +1,6 @@
 //! Sets of numbers that grow.
 
-ghost use Rattle.std.specs.Prelude.{◌≡◌, ◌⊎◌, ℕ, true};
+ghost use Rattle.std.specs.Prelude.{◌≡◌, ◌≢◌, ◌⊎◌, ℕ, true};
 ghost use Rattle.fault_system.specs.Truth.{Has, count_true, member, set_of};
 
 use fault_system::Bits;
@@ -13,6 +13,15 @@ pub(crate) fn put(marks: &mut Bits, number: u32)
 {
     if number < marks.size() {
         marks.put(number);
+    }
+}
+
+/// Takes a number out of a set.
+pub(crate) fn take(marks: &mut Bits, number: u32)
+    ensures { (n : ℕ) → Has (member marks.new) n → Has (member marks.old) n × (n ≢ number) }
+{
+    if number < marks.size() {
+        marks.take(number);
     }
 }
 

@@ -5,7 +5,8 @@ ghost use Rattle.backward_slice.specs.Slices.{IsSlice};
 ghost use Rattle.dependency_blocks.specs.Blocks.{IsBlocks};
 ghost use Rattle.target_orders.specs.Orders.{HoldsWithin, IsOrder, MayHold, NeedsAtLeast};
 ghost use Rattle.target_orders.specs.Text.{TellsOrders, order_line, order_text};
-ghost use Rattle.target_orders.specs.inner.Sizes.{AreAlone, KnowsSizes};
+ghost use Rattle.target_orders.specs.inner.Alone.{AreAlone};
+ghost use Rattle.target_orders.specs.inner.Sizes.{KnowsSizes};
 
 use crate::alone::alone;
 use crate::order::Order;
@@ -28,8 +29,8 @@ pub fn orders_text(alloc: Global, system: &FaultSystem, facts: &[u32]) -> Mem<Ve
 {
     let always = system.holds(alloc, &Bits::new(alloc, system.events())?)?;
     let perhaps = system.holds(alloc, &all_events(alloc, system)?)?;
-    let alone = alone(alloc, system, facts.len())?;
     let sizes = known_sizes(alloc, system, facts)?;
+    let alone = alone(alloc, system, &always, &perhaps, &sizes, facts)?;
     let mut text = Vec::new(alloc);
     for fact in facts {
         let order = order_of(alloc, system, &always, &perhaps, &alone, &sizes, *fact)?;

@@ -161,6 +161,9 @@ fn are_found_small(
     ensures { OnOk result (KnowsSizes system.now sizes.new) }
 {
     let part = part_of(alloc, system, asked, sizes, facts)?;
+    if part.is_over() {
+        return Ok(false);
+    }
     if !is_small_part(system, &part.facts, &part.events) {
         return Ok(false);
     }

@@ -5,12 +5,8 @@ use Rattle.fault_system.specs.Systems.{System, IsFact}
 use Rattle.fault_system.specs.declared.formula.Formula.{Formula}
 use Rattle.fault_system.specs.declared.formula.FactInfo.{FactInfo}
 use Rattle.backward_slice.specs.Slices.{most_slice_events, most_slice_facts}
-use Rattle.target_orders.specs.Orders.{HoldsWithin, IsLarge}
+use Rattle.target_orders.specs.Orders.{IsLarge}
 use Rattle.target_orders.specs.declared.sizes.Sizes.{Sizes}
-
--- each marked fact holds under one event, or under none
-abbrev pub AreAlone : System → List Bool → Type 0
-AreAlone system marks = (n : ℕ) → Has (member marks) n → HoldsWithin system n 1
 
 -- each marked fact is large
 abbrev pub AreLarge : System → List Bool → Type 0

@@ -11,6 +11,12 @@ use Rattle.target_orders.proofs.Reached.{all-from_some, some-from_all}
 use Rattle.target_orders.proofs.Said.{lines-more, zip-more}
 use Rattle.target_orders.proofs.orders.orders_text.Goals as goal
 
+pub alone-requires : goal.alone-requires
+alone-requires c n has =
+    let system = c.args.system.now in
+    let none = member c.in_ok-new.field-0 in
+    (tt, Holds-grows system n none (set_of []) (λ k here. absurd (false≢true (sym (member-replicate _ k) ∙ subst (λ (bs : List Bool). Has (member bs) k) c.in_ok-new.ensures here))) n ((c.in_ok-always.ensures.exact n).0 has))
+
 pub order_of-requires-clause-always : goal.order_of-requires-clause-always
 order_of-requires-clause-always c =
     let system = c.args.system.now in
