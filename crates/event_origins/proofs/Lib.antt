@@ -1,1 +1,2 @@
 mod TableLaws
+pub mod PlaceLaws

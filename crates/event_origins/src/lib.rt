@@ -3,9 +3,11 @@
 
 mod declaration;
 mod kinds;
+mod laws;
 mod origin;
 mod origins;
 mod table;
 
+pub use laws::each_event_is_placed;
 pub use origin::{EventOrigin, OriginKind};
 pub use origins::origins_of;

@@ -2,6 +2,7 @@ ghost use Rattle.std.specs.Prelude.{◌≡◌, IfOk, map, option_copied};
 ghost use Rattle.instantiator.specs.Whole.{classifier_at};
 ghost use Rattle.event_origins.specs.Origins.{kind_of, origin_of, spot_at, spot_in};
 ghost use Rattle.event_origins.specs.Declarations.{declarations_of};
+ghost use Rattle.event_origins.specs.inner.Placed.{ArePlaced};
 
 use crate::kinds::{Declarations, declarations_of_kinds};
 use crate::origin::{EventOrigin, OriginKind};
@@ -9,9 +10,11 @@ use model_facts::{Assembly, EventKey, EventKind, event_key};
 use plain_values::{List, Mem, Name, Spot};
 use std::alloc::Global;
 
-/// Of which kind each of some events of a model is, and where its declaration stands, in their order.
+/// Of which kind each of some events of a model is, and where its declaration stands, in their order. Where the error models of the
+/// model are those of its kinds, each has such a place.
 pub fn origins_of(alloc: Global, assembly: &Assembly, events: &[EventKey]) -> Mem<List<EventOrigin>>
-    ensures { IfOk result (λ origins. origins ≡ map (origin_of assembly.now) events.now) }
+    ensures origins { IfOk result (λ origins. origins ≡ map (origin_of assembly.now) events.now) }
+    ensures placed { IfOk result (ArePlaced assembly.now events.now) }
 {
     let kinds = declarations_of_kinds(alloc, assembly.instance())?;
     let mut origins = List::new(alloc);
