@@ -30,7 +30,9 @@ fn main(rt: HostRuntime) -> ExitCode {
 }
 
 /// Writes the line of a status, where nothing was run; a fault of the error stream changes no status.
-fn stopped<E: Sink>(alloc: Global, status: Status, err: &mut E) -> Status {
+fn stopped<E: Sink>(alloc: Global, status: Status, err: &mut E) -> Status
+    ensures { result ≡ status }
+{
     let _written = write_line(err, &[], &Vec::new(alloc), &status);
     status
 }
