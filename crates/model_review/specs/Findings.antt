@@ -24,7 +24,7 @@ use Rattle.model_facts.specs.Facts.{inward_of, is_linked, outward_of}
 use Rattle.flattener.specs.Formulas.{end_of}
 use Rattle.model_review.specs.Seen.{Seen, declared_for, is_lost_event, is_lost_fact, may_come, number_at, side_in, source_number, state_number, states_of, stops, types_in}
 use Rattle.model_review.specs.declared.finding.Finding.{Finding}
-use Rattle.model_review.specs.declared.finding.Finding.TheVariants.{HiddenLink, HiddenPath, HiddenSource, HiddenTransitions, Never, NeverState, NoLink, NotDeclared, Open, StopsHere}
+use Rattle.model_review.specs.declared.finding.Finding.TheVariants.{HiddenLink, HiddenPath, HiddenSource, HiddenTransitions, Never, NeverState, NoLink, NotDeclared, Open, StopsHere, UnusedState}
 use Rattle.model_review.specs.declared.finding.TypesAt.{TypesAt}
 
 -- types at a side
@@ -198,10 +198,24 @@ never_state seen model state = cond (is_never seen model state) (NeverState stat
 abbrev pub never_states : Seen → ErrorModel → List Finding
 never_states seen model = flat_map (never_state seen model) (numbers_below (length (all_variants model.states.sorts)))
 
+-- ---- states that nothing looks at
+
+-- whether a component that is not the root may be in a state that is not initial, and the state occurs in no formula
+abbrev pub is_unused_state : Seen → ℕ → ErrorModel → ℕ → Bool
+is_unused_state seen owner model state = (not (owner == 0) && not (slice_index_or model.states.always state false)) && stops seen (state_number seen owner state)
+
+-- a state of a component, if it is one
+abbrev pub unused_state : Seen → ℕ → ErrorModel → ℕ → List Finding
+unused_state seen owner model state = cond (is_unused_state seen owner model state) (UnusedState owner state ∷ []) []
+
+-- those of a component
+abbrev pub unused_states : Seen → ℕ → ErrorModel → List Finding
+unused_states seen owner model = flat_map (unused_state seen owner model) (numbers_below (length (all_variants model.states.sorts)))
+
 -- ---- in order
 
--- What is told of a model but for its loops and its events, in this order: what is hidden, where errors stop, and what never comes
--- about.
+-- What is told of a model but for its loops and its events, in this order: what is hidden, where errors stop, what never comes
+-- about, and states that nothing looks at.
 abbrev pub model_findings : Seen → List Finding
 model_findings seen =
     of_components seen (hidden_flows false seen)
@@ -213,4 +227,5 @@ model_findings seen =
     ++ (no_links seen
     ++ (of_components seen (open_ends seen)
     ++ (of_components seen (never_out seen)
-    ++ never_states seen (model_at seen.numbered.assembly 0)))))))))
+    ++ (never_states seen (model_at seen.numbered.assembly 0)
+    ++ of_components seen (unused_states seen))))))))))

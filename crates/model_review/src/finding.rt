@@ -36,6 +36,8 @@ pub enum Finding {
     Never(TypesAt),
     /// The root is never in this state.
     NeverState(u32),
+    /// A component other than the root may be in this state, and nothing looks at it.
+    UnusedState(u32, u32),
     /// Facts depend on one another.
     InLoop(Loop),
     /// An error event occurs in no formula.

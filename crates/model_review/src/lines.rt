@@ -70,7 +70,10 @@ fn push_text(alloc: Global, text: &mut Vec<u8>, view: &View, finding: &Finding) 
         Finding::NoLink(one) => push_unlinked(text, assembly, *one),
         Finding::Open(at) => push_at(text, b"open ", assembly, at),
         Finding::Never(at) => push_at(text, b"never ", assembly, at),
-        Finding::NeverState(state) => push_state(alloc, text, assembly, *state),
+        Finding::NeverState(state) => push_state(alloc, text, b"never ", assembly, 0, *state),
+        Finding::UnusedState(owner, state) => {
+            push_state(alloc, text, b"unused-state ", assembly, *owner, *state)
+        }
         Finding::InLoop(one) => push_loop(text, view.system(), *one),
         Finding::UnusedEvent(event) => push_event(text, b"unused-event ", view.system(), *event),
         Finding::NoEffect => push_two(text, b"no-effect ", b"root"),
@@ -112,16 +115,23 @@ fn push_event(text: &mut Vec<u8>, word: &[u8], system: &FaultSystem, event: u32)
     push_two(text, word, system.event_name(event))
 }
 
-/// Adds that the root is never in a state.
-fn push_state(alloc: Global, text: &mut Vec<u8>, assembly: &Assembly, state: u32) -> Mem<()>
-    ensures { OnOk result (text.new.items ≡ text.old.items ++ (codes "never " ++ its_fact_name assembly.now (fact_in 0 (State state)))) }
+/// Adds a word, and that a component is in a state.
+fn push_state(
+    alloc: Global,
+    text: &mut Vec<u8>,
+    word: &[u8],
+    assembly: &Assembly,
+    owner: u32,
+    state: u32,
+) -> Mem<()>
+    ensures { OnOk result (text.new.items ≡ text.old.items ++ (word.now ++ its_fact_name assembly.now (fact_in owner (State state)))) }
 {
     let fact = FactKey {
-        owner: 0,
+        owner,
         kind: FactKind::State(state),
     };
     let name = fact_name(alloc, assembly, fact)?;
-    push_two(text, b"never ", name.items())
+    push_two(text, word, name.items())
 }
 
 /// Adds how many transitions of a component are hidden.

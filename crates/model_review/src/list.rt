@@ -3,7 +3,7 @@
 ghost use Rattle.std.specs.Prelude.{◌≡◌, ◌++◌, IfOk, OnOk, false, flat_map, length, map, true};
 ghost use Rattle.plain_values.specs.Rising.{RisesWithin};
 ghost use Rattle.model_facts.specs.Assembly.{model_at};
-ghost use Rattle.model_review.specs.Findings.{hidden_flows, hidden_link, hidden_transitions, model_findings, never_out, never_states, no_links, of_components, open_ends, stops_of};
+ghost use Rattle.model_review.specs.Findings.{hidden_flows, hidden_link, hidden_transitions, model_findings, never_out, never_states, no_links, of_components, open_ends, stops_of, unused_states};
 ghost use Rattle.model_review.specs.Told.{AreFindings};
 ghost use Rattle.model_review.specs.declared.finding.Finding.TheVariants.{NoLink};
 
@@ -11,7 +11,7 @@ use crate::finding::Finding;
 use crate::flows::add_hidden_flows;
 use crate::links::{add_hidden_links, add_not_declared};
 use crate::sides::{add_never, add_open, add_stops, linked_sides};
-use crate::states::{add_hidden_transitions, add_never_states};
+use crate::states::{add_hidden_transitions, add_never_states, add_unused_states};
 use crate::told::add_told;
 use crate::view::View;
 use model_facts::points_of_models;
@@ -53,20 +53,40 @@ fn add_hidden(alloc: Global, found: &mut List<Finding>, view: &View) -> Mem<()>
     add_hidden_links(alloc, found, view)
 }
 
-/// Adds where errors stop, where they come from outside, and what never comes about.
+/// Adds where errors stop, where they come from outside, what never comes about, and states that nothing looks at.
 fn add_ends(alloc: Global, found: &mut List<Finding>, view: &View) -> Mem<()>
     ensures { OnOk result (found.new ≡ found.old
         ++ (of_components view.now (stops_of view.now)
         ++ (no_links view.now
         ++ (of_components view.now (open_ends view.now)
         ++ (of_components view.now (never_out view.now)
-        ++ never_states view.now (model_at view.now.numbered.assembly 0)))))) }
+        ++ (never_states view.now (model_at view.now.numbered.assembly 0)
+        ++ of_components view.now (unused_states view.now))))))) }
 {
     add_all_stops(alloc, found, view)?;
     add_no_links(alloc, found, view)?;
     add_open_ends(alloc, found, view)?;
     add_never_out(alloc, found, view)?;
-    add_never_states(found, view)
+    add_states(found, view)
+}
+
+/// Adds the states of the root in which it never is, and those of its parts at which nothing looks.
+fn add_states(found: &mut List<Finding>, view: &View) -> Mem<()>
+    ensures { OnOk result (found.new ≡ found.old
+        ++ (never_states view.now (model_at view.now.numbered.assembly 0)
+        ++ of_components view.now (unused_states view.now))) }
+{
+    add_never_states(found, view)?;
+    add_all_unused(found, view)
+}
+
+fn add_all_unused(found: &mut List<Finding>, view: &View) -> Mem<()>
+    ensures { OnOk result (found.new ≡ found.old ++ of_components view.now (unused_states view.now)) }
+{
+    for owner in 0..view.instance().components().len() {
+        add_unused_states(found, view, owner as u32)?;
+    }
+    Ok(())
 }
 
 fn add_flows(alloc: Global, found: &mut List<Finding>, view: &View, paths: bool) -> Mem<()>

@@ -1,9 +1,9 @@
-//! Transitions that are hidden, and states that never come about.
+//! Transitions that are hidden, states that never come about, and states that nothing looks at.
 
 ghost use Rattle.std.specs.Prelude.{◌≡◌, ◌++◌, OnOk, false, flat_map, slice_index_or};
 ghost use Rattle.plain_values.specs.Numbered.{numbers_below};
 ghost use Rattle.model_facts.specs.Assembly.{model_at};
-ghost use Rattle.model_review.specs.Findings.{count_steps, hidden_transitions, is_never, leads_on, never_state, never_states};
+ghost use Rattle.model_review.specs.Findings.{count_steps, hidden_transitions, is_never, is_unused_state, leads_on, never_state, never_states, unused_state, unused_states};
 
 use crate::finding::Finding;
 use crate::view::View;
@@ -112,4 +112,66 @@ fn is_never(view: &View, model: &ErrorModel, state: u32) -> bool
     ensures { result ≡ is_never view.now model.now state }
 {
     !is_marked(model.states.always.items(), state) && !view.may_come(view.state(0, state))
+}
+
+/// Adds the states of a component other than the root in which it may be, and at which nothing looks.
+pub(crate) fn add_unused_states(found: &mut List<Finding>, view: &View, owner: u32) -> Mem<()>
+    ensures { OnOk result (found.new ≡ found.old ++ unused_states view.now owner (model_at view.now.numbered.assembly owner)) }
+{
+    match view.model(owner) {
+        Some(model) => add_unused(found, view, owner, model),
+        None => Ok(()),
+    }
+}
+
+fn add_unused(found: &mut List<Finding>, view: &View, owner: u32, model: &ErrorModel) -> Mem<()>
+    ensures { OnOk result (found.new ≡ found.old ++ unused_states view.now owner model.now) }
+{
+    add_unused_below(
+        found,
+        view,
+        owner,
+        model,
+        model.states.sorts.variants().len(),
+    )
+}
+
+fn add_unused_below(
+    found: &mut List<Finding>,
+    view: &View,
+    owner: u32,
+    model: &ErrorModel,
+    count: usize,
+) -> Mem<()>
+    ensures { OnOk result (found.new ≡ found.old ++ flat_map (unused_state view.now owner model.now) (numbers_below count)) }
+{
+    for state in 0..count {
+        add_unused_state(found, view, owner, model, state)?;
+    }
+    Ok(())
+}
+
+fn add_unused_state(
+    found: &mut List<Finding>,
+    view: &View,
+    owner: u32,
+    model: &ErrorModel,
+    state: usize,
+) -> Mem<()>
+    ensures { OnOk result (found.new ≡ found.old ++ unused_state view.now owner model.now state) }
+{
+    if state > 4_294_967_295 {
+        return Err(AllocError);
+    }
+    let is_unused = is_unused_state(view, owner, model, state as u32);
+    found.push_if(Finding::UnusedState(owner, state as u32), is_unused)?;
+    Ok(())
+}
+
+/// Whether a component that is not the root may be in a state that is not initial, and nothing looks at it.
+fn is_unused_state(view: &View, owner: u32, model: &ErrorModel, state: u32) -> bool
+    ensures { result ≡ is_unused_state view.now owner model.now state }
+{
+    let is_asked = owner != 0 && !is_marked(model.states.always.items(), state);
+    is_asked && view.stops(view.state(owner, state))
 }
