@@ -2,7 +2,7 @@
 use Rattle.std.specs.Prelude.{ℕ, Bool, true, false, List, [], ◌∷◌, ◌++◌, length, codes, slice_index_or, drop, Option, None, Some}
 use Rattle.plain_values.specs.declared.name.Root.{Root}
 use Rattle.aadl_syntax.specs.declared.core_model.Unit.{Unit as FileUnit}
-use Rattle.phases.specs.Phases.{Phase, yields, tells, accepts, tests, answers, rejects, computes, finds, ◌>>=◌}
+use Rattle.phases.specs.Phases.{Phase, yields, accepts, tests, answers, rejects, computes, finds, ◌>>=◌}
 use Rattle.phases.specs.declared.status.Status.TheVariants.{Usage}
 use Rattle.package_index.specs.Lookup.{packages_of}
 use Rattle.fault_system.specs.Listings.{IsListing}

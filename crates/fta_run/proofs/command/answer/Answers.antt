@@ -1,4 +1,4 @@
-use Rattle.std.proofs.Common.{◌∙◌, ◌≡◌, length, map, sym, ap, subst}
+use Rattle.std.proofs.Common.{◌∙◌, ◌≡◌, length, sym, ap, subst}
 use lib.ListN.{length-map}
 use Rattle.plain_values.specs.Rising.{RisesWithin}
 use Rattle.phases.specs.Phases.{Passes, finds}

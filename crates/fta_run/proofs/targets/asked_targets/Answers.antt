@@ -1,7 +1,6 @@
-use Rattle.std.proofs.Common.{◌<◌, ◌≡◌, ◌∙◌, All, length, ap, subst, sym}
+use Rattle.std.proofs.Common.{length}
 use Rattle.std.proofs.lemmas.Result.{IfOk-weaker}
 use Rattle.fault_system.proofs.NumberSets.{RisesWithin-each}
-use Rattle.fta_run.specs.Effects.{asked_targets}
 use Rattle.fta_run.proofs.Below.{all_below}
 use Rattle.fta_run.proofs.targets.asked_targets.Goals as goal
 

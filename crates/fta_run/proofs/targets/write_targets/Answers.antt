@@ -1,7 +1,6 @@
-use Rattle.std.proofs.Common.{◌∙◌, ℕ, List, ap, sym, subst}
+use Rattle.std.proofs.Common.{◌∙◌, ap, sym, subst}
 use Rattle.std.specs.Prelude.{All, ◌<◌, length}
 use Rattle.fta_outside.specs.Outside.{TookPrefix, with_bytes}
-use Rattle.phases.specs.Phases.{Passes}
 use Rattle.target_orders.specs.Text.{TellsOrders}
 use Rattle.fta_run.specs.Due.{targets_text}
 use Rattle.system_answers.specs.inner.Prints.{NoFault}

@@ -1,9 +1,9 @@
-use Rattle.std.proofs.Common.{ap, ◌∙◌, subst}
+use Rattle.std.proofs.Common.{ap, ◌∙◌}
 use Rattle.phases.specs.inner.Meets.{IsMemory}
-use Rattle.phases.proofs.Steps.{◌passes◌, ends, exits}
+use Rattle.phases.proofs.Steps.{ends, exits}
 use Rattle.model_phases.specs.declared.flat.FlatModel.{FlatModel}
 use Rattle.model_phases.specs.declared.review.ReviewedModel.{ReviewedModel}
-use Rattle.model_phases.specs.Phases.{flat_of, review_phase}
+use Rattle.model_phases.specs.Phases.{review_phase}
 use Rattle.model_phases.proofs.review.ReviewedModelFromAssembly.of.Goals as goal
 
 pub review-requires-clause-system : goal.review-requires-clause-system
