@@ -57,6 +57,7 @@ fn run_words<E: Sink>(rt: &HostRuntime, words: &[Word], err: &mut E) -> Result<S
 fn ended<E: Sink>(alloc: Global, status: Status, is_written: bool, err: &mut E) -> Status
     ensures written { is_written ≡ true → result ≡ status }
     ensures lost { is_written ≡ false → status ≡ Done → result ≡ WriteFault }
+    ensures other { (status ≡ Done → ⊥) → result ≡ status }
 {
     match status {
         Status::Done if !is_written => stopped(alloc, Status::WriteFault, err),
