@@ -1,5 +1,6 @@
 use composite_states::ClauseMeaning;
-use error_behavior::{ErrorBehavior, States};
+use error_behavior::ErrorBehavior;
+use error_machines::States;
 use error_flows::FlowMeaning;
 use plain_values::List;
 use propagation_points::Points;

@@ -1,7 +1,7 @@
 -- What conditions, transitions, outgoing conditions and flows of a component say (EMV2).
 use Rattle.std.specs.Prelude.{ℕ, ◌∷◌, Bool, cond, ◌&&◌, nat_eq, List, [], map, filter, flat_map, Option, Some, None, option_map, option_to_list}
 use Rattle.plain_values.specs.Numbered.{numbered_from}
-use Rattle.error_types.specs.Search.{is_number_in}
+use Rattle.error_libraries.specs.Search.{is_number_in}
 use Rattle.propagation_points.specs.declared.held.Held.{Held}
 use Rattle.propagation_points.specs.declared.held.Held.TheVariants as held
 use Rattle.propagation_points.specs.declared.uses.ReachedPoint.{ReachedPoint}

@@ -1,5 +1,5 @@
 ghost use Rattle.std.specs.Prelude.{◌≡◌, ◌++◌, ◌∷◌, [], IfOk, OnOk, filter, map};
-ghost use Rattle.error_types.specs.Search.{is_number_in};
+ghost use Rattle.error_libraries.specs.Search.{is_number_in};
 ghost use Rattle.propagation_points.specs.Uses.{covers, side_types};
 ghost use Rattle.flattener.specs.Formulas.{below_in_state, held_formula, in_variant, is_reached, origin_formula};
 ghost use Rattle.flattener.specs.Numbered.{entering, inward_types, own_event, own_fact, some_entering};

@@ -10,7 +10,7 @@ use Rattle.phases.specs.declared.status.Status.{Status}
 use Rattle.phases.specs.declared.status.Status.TheVariants.{Refused}
 use Rattle.phases.proofs.Endings.{StopsOnly}
 use Rattle.phases.proofs.Leaves.{decided_accepts, decided_tests}
-use Rattle.error_types.specs.Libraries.{HasTooManyTypes, Table, table_of}
+use Rattle.error_libraries.specs.Libraries.{HasTooManyTypes, Table, table_of}
 use Rattle.error_models.specs.Refused.{all_set_refusals, machines_refusal, models_refusal}
 use Rattle.instantiator.specs.Refused.{instance_refusal}
 use Rattle.instantiator.specs.Whole.{Instance, instance_of}

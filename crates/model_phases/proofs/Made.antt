@@ -5,7 +5,7 @@ use Rattle.package_index.specs.declared.id.ClassifierId.{ClassifierId}
 use Rattle.phases.specs.inner.Meets.{IsMemory, Meets, StopsBut}
 use Rattle.phases.specs.Phases.{Passes, Phase, chains, tests}
 use Rattle.phases.specs.declared.status.Status.{Status}
-use Rattle.error_types.specs.Libraries.{Table, table_of}
+use Rattle.error_libraries.specs.Libraries.{Table, table_of}
 use Rattle.error_models.specs.declared.model.ErrorModel.{ErrorModel}
 use Rattle.error_models.specs.Models.{model_of}
 use Rattle.instantiator.specs.Refused.{instance_refusal}

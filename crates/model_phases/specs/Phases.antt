@@ -3,7 +3,7 @@ use Rattle.std.specs.Prelude.{◌≡◌, List, length, map, Contains}
 use Rattle.aadl_syntax.specs.declared.core_model.PackageUnit.{PackageUnit}
 use Rattle.phases.specs.Phases.{Phase, accepts, tests, yields, ◌>>=◌}
 use Rattle.package_index.specs.declared.id.ClassifierId.{ClassifierId}
-use Rattle.error_types.specs.Libraries.{HasTooManyTypes, Table, table_of}
+use Rattle.error_libraries.specs.Libraries.{HasTooManyTypes, Table, table_of}
 use Rattle.instantiator.specs.Refused.{instance_refusal}
 use Rattle.instantiator.specs.Whole.{Instance, instance_of}
 use Rattle.error_models.specs.Refused.{all_set_refusals, machines_refusal, models_refusal}

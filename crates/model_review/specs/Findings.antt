@@ -7,7 +7,7 @@ use Rattle.aadl_syntax.specs.declared.error_model.FlowKind.TheVariants as kind
 use Rattle.plain_values.specs.Name.{is_same_text}
 use Rattle.plain_values.specs.Numbered.{numbered_from, numbers_below}
 use Rattle.package_index.specs.Names.{only}
-use Rattle.error_types.specs.Search.{is_number_in}
+use Rattle.error_libraries.specs.Search.{is_number_in}
 use Rattle.propagation_points.specs.Points.{Point}
 use Rattle.propagation_points.specs.States.{all_variants, held_numbers}
 use Rattle.propagation_points.specs.Uses.{covers}
