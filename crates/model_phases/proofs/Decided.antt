@@ -16,7 +16,7 @@ use Rattle.instantiator.specs.Refused.{instance_refusal}
 use Rattle.instantiator.specs.Whole.{Instance, instance_of}
 use Rattle.propagation_links.specs.Refused.{links_refusal}
 use Rattle.model_facts.specs.Assembly.{Assembly, assembly_of, points_in}
-use Rattle.flattener.specs.Flat.{size_refusal}
+use Rattle.fact_formulas.specs.Flat.{size_refusal}
 use Rattle.model_phases.specs.Phases.{IsFlat, assembled, content_tests, flat_phase, kind_tests, origins_phase, review_phase}
 use Rattle.model_review.specs.Review.{IsReview}
 use Rattle.model_review.proofs.OneText.{one_review}

@@ -10,7 +10,7 @@ use Rattle.error_models.specs.Refused.{all_set_refusals, machines_refusal, model
 use Rattle.propagation_links.specs.Refused.{links_refusal}
 use Rattle.model_facts.specs.Assembly.{Assembly, assembly_of, points_in}
 use Rattle.model_facts.specs.Effects.{effects_of}
-use Rattle.flattener.specs.Flat.{size_refusal, system_of}
+use Rattle.fact_formulas.specs.Flat.{size_refusal, system_of}
 use Rattle.event_rates.specs.Associations.{rate_in}
 use Rattle.model_facts.specs.Facts.{events_of}
 use Rattle.event_origins.specs.Origins.{origin_of}

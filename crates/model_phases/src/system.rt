@@ -2,7 +2,7 @@ ghost use Rattle.std.specs.Prelude.{◌≡◌, IfErr, IfOk, None, OnOk, length};
 ghost use Rattle.plain_values.specs.Rising.{RisesWithin};
 ghost use Rattle.plain_values.specs.inner.Stops.{StopsAt};
 ghost use Rattle.model_facts.specs.Effects.{effects_of};
-ghost use Rattle.flattener.specs.Flat.{size_refusal, system_of};
+ghost use Rattle.fact_formulas.specs.Flat.{size_refusal, system_of};
 ghost use Rattle.model_phases.specs.Named.{IsPlainSystem};
 
 use fault_system::FaultSystem;

@@ -15,8 +15,8 @@ use Rattle.model_facts.specs.Assembly.{model_at}
 use Rattle.model_facts.specs.Facts.{inward_of, same_side}
 use Rattle.model_facts.specs.declared.keys.FactKind.TheVariants.{Enters, State}
 use Rattle.fault_system.specs.Systems.{System}
-use Rattle.flattener.specs.Formulas.{covers_type}
-use Rattle.flattener.specs.Numbered.{Site, inward_types, site_of}
+use Rattle.fact_formulas.specs.Formulas.{covers_type}
+use Rattle.fact_formulas.specs.Numbered.{Site, inward_types, site_of}
 use Rattle.system_review.specs.Alone.{made_by_event, made_by_fact}
 use Rattle.system_review.specs.Possible.{possible_in}
 use Rattle.system_review.specs.inner.Possible.{IsPossible}

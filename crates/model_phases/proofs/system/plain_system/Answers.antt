@@ -3,8 +3,8 @@ use Rattle.std.specs.Prelude.{All}
 use Rattle.std.proofs.lemmas.List.Elements.{All-map}
 use Rattle.fault_system.specs.Systems.{System}
 use Rattle.model_facts.specs.Laws.{IsPlain}
-use Rattle.flattener.specs.Flat.{event_info, fact_info}
-use Rattle.flattener.specs.Numbered.{numbered_of}
+use Rattle.fact_formulas.specs.Flat.{event_info, fact_info}
+use Rattle.fact_formulas.specs.Numbered.{numbered_of}
 use Rattle.model_phases.proofs.system.plain_system.Goals as goal
 
 pub returns-clause-plain : goal.returns-clause-plain

@@ -3,8 +3,8 @@ use Rattle.std.specs.Prelude.{IfOk, Result, Ok, Err}
 use Rattle.plain_values.specs.Rising.{RisesWithin}
 use Rattle.model_facts.specs.Assembly.{Assembly, universe_of}
 use Rattle.model_facts.specs.Effects.{effects_of}
-use Rattle.flattener.specs.Flat.{system_of}
-use Rattle.flattener.specs.Numbered.{numbered_of}
+use Rattle.fact_formulas.specs.Flat.{system_of}
+use Rattle.fact_formulas.specs.Numbered.{numbered_of}
 use Rattle.system_review.specs.inner.Alone.{HoldTheSame}
 use Rattle.model_review.specs.Review.{IsReview, Reviews}
 use Rattle.model_review.specs.Seen.{Seen, seen_of}

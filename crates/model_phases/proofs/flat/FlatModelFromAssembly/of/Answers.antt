@@ -1,7 +1,7 @@
 use Rattle.phases.specs.inner.Meets.{IsMemory}
 use Rattle.phases.specs.inner.Stopped.{status_of}
 use Rattle.phases.proofs.Steps.{ends, exits}
-use Rattle.flattener.specs.Flat.{size_refusal}
+use Rattle.fact_formulas.specs.Flat.{size_refusal}
 use Rattle.model_phases.specs.declared.flat.FlatModel.{FlatModel}
 use Rattle.model_phases.specs.Phases.{flat_phase}
 use Rattle.model_phases.proofs.Tested.{one_stops}

@@ -1,8 +1,8 @@
 use Rattle.std.proofs.Common.{[], ◌∷◌, codes, ◌+◌, ◌*◌, length}
 use Rattle.grammar_rules.specs.Tokens.{is_word, is_sign}
 use Rattle.grammar_rules.proofs.Loops.{Collects}
-use Rattle.emv2_parser.specs.Conditions.{and_primary, or_conjunction, further_condition, condition_within}
-use Rattle.emv2_parser.proofs.conditions.+condition.Given as goal
+use Rattle.emv2_parts.specs.Conditions.{and_primary, or_conjunction, further_condition, condition_within}
+use Rattle.emv2_parts.proofs.conditions.+condition.Given as goal
 
 abbrev pub decreases-condition_within : goal.decreases-condition_within
 decreases-condition_within l = 13 * l.levels

@@ -1,6 +1,6 @@
 use Rattle.std.proofs.Common.{ℕ, ◌<◌, ◌≤◌, ◌^◌, arith}
 use Rattle.std.proofs.Math.Nat.{pow-le-pow_right}
-use Rattle.emv2_parser.proofs.words.decimal.Goals as goal
+use Rattle.emv2_parts.proofs.words.decimal.Goals as goal
 
 few : (n i : ℕ) → n < 10 ^ i → i < 9 → n < 100000000
 few n i h w =

@@ -2,10 +2,10 @@ ghost use Rattle.std.specs.Prelude.{◌≡◌, [], ◌∷◌, ◌++◌, codes};
 ghost use Rattle.grammar_rules.specs.inner.Reader.{Gives, given};
 ghost use Rattle.grammar_rules.specs.Rules.{chooses};
 ghost use Rattle.grammar_rules.specs.Tokens.{is_sign, is_one_of};
-ghost use Rattle.emv2_parser.specs.Words.{is_name, point_words};
+ghost use Rattle.emv2_parts.specs.Words.{is_name, point_words};
 ghost use Rattle.grammar_rules.specs.Tokens.{spot};
-ghost use Rattle.emv2_parser.specs.Names.{further_name, names, reference, further_reference, references_after, use_types_after, block_end, condition_open, condition_close, dotted_name, dotted_names, point_word, point, factor, product, set_term, further_term, type_set, optional_set, flow_end, state_reference, label};
-ghost use Rattle.emv2_parser.specs.inner.Takes.{further_name-takes, further_reference-takes, dotted_name-takes, factor-takes, further_term-takes};
+ghost use Rattle.emv2_parts.specs.Names.{further_name, names, reference, further_reference, references_after, use_types_after, block_end, condition_open, condition_close, dotted_name, dotted_names, point_word, point, factor, product, set_term, further_term, type_set, optional_set, flow_end, state_reference, label};
+ghost use Rattle.emv2_parts.specs.inner.Takes.{further_name-takes, further_reference-takes, dotted_name-takes, factor-takes, further_term-takes};
 
 use crate::words::{error_name, name_at, point_name, point_word_at};
 use aadl_syntax::{Identifier, PointRef, Ref, StateRef, Term, TypeSet};
@@ -14,14 +14,14 @@ use plain_values::{List, Spot};
 
 /// A point, perhaps with a set of types.
 #[derive(Drop)]
-pub(crate) struct FlowEnd {
-    pub(crate) point: PointRef,
-    pub(crate) set: Option<TypeSet>,
+pub struct FlowEnd {
+    pub point: PointRef,
+    pub set: Option<TypeSet>,
 }
 
 /// Reads identifiers with `::` between them.
 #[tactic(auto, unfolding(crate::specs::Names::names))]
-pub(crate) fn names(reader: &mut Reader) -> Result<List<Identifier>, ReadError>
+pub fn names(reader: &mut Reader) -> Result<List<Identifier>, ReadError>
     ensures { Gives result names reader.old reader.new }
 {
     let first = error_name(reader)?;
@@ -38,7 +38,7 @@ fn further_name(reader: &mut Reader) -> Result<Identifier, ReadError>
 
 /// Reads names as a reference.
 #[tactic(auto, unfolding(crate::specs::Names::reference))]
-pub(crate) fn reference(reader: &mut Reader) -> Result<Ref, ReadError>
+pub fn reference(reader: &mut Reader) -> Result<Ref, ReadError>
     ensures { Gives result reference reader.old reader.new }
 {
     let spot = spot(reader)?;
@@ -70,7 +70,7 @@ pub(crate) fn references_after(reader: &mut Reader, refs: &mut List<Ref>) -> Res
 
 /// Reads a `use types`, and gives its libraries after others.
 #[tactic(auto, unfolding(crate::specs::Names::use_types_after))]
-pub(crate) fn use_types_after(reader: &mut Reader, uses: &mut List<Ref>) -> Result<(), ReadError>
+pub fn use_types_after(reader: &mut Reader, uses: &mut List<Ref>) -> Result<(), ReadError>
     ensures { Gives (given result uses.new) (use_types_after uses.old) reader.old reader.new }
 {
     reader.word(b"use")?;
@@ -82,7 +82,7 @@ pub(crate) fn use_types_after(reader: &mut Reader, uses: &mut List<Ref>) -> Resu
 
 /// Reads the end of a block of this word.
 #[tactic(auto, unfolding(crate::specs::Names::block_end))]
-pub(crate) fn block_end(reader: &mut Reader, name: &[u8]) -> Result<(), ReadError>
+pub fn block_end(reader: &mut Reader, name: &[u8]) -> Result<(), ReadError>
     ensures { Gives result (block_end name.now) reader.old reader.new }
 {
     reader.word(b"end")?;
@@ -92,7 +92,7 @@ pub(crate) fn block_end(reader: &mut Reader, name: &[u8]) -> Result<(), ReadErro
 
 /// Reads what stands before the condition of a transition or of an outgoing condition.
 #[tactic(auto, unfolding(crate::specs::Names::condition_open))]
-pub(crate) fn condition_open(reader: &mut Reader) -> Result<(), ReadError>
+pub fn condition_open(reader: &mut Reader) -> Result<(), ReadError>
     ensures { Gives result condition_open reader.old reader.new }
 {
     reader.sign(b"-")?;
@@ -101,7 +101,7 @@ pub(crate) fn condition_open(reader: &mut Reader) -> Result<(), ReadError>
 
 /// Reads what stands after a condition that leads to something.
 #[tactic(auto, unfolding(crate::specs::Names::condition_close))]
-pub(crate) fn condition_close(reader: &mut Reader) -> Result<(), ReadError>
+pub fn condition_close(reader: &mut Reader) -> Result<(), ReadError>
     ensures { Gives result condition_close reader.old reader.new }
 {
     reader.sign(b"]")?;
@@ -118,7 +118,7 @@ fn dotted_name(reader: &mut Reader) -> Result<Identifier, ReadError>
 
 /// Reads identifiers with dots between them.
 #[tactic(auto, unfolding(crate::specs::Names::dotted_names))]
-pub(crate) fn dotted_names(reader: &mut Reader) -> Result<List<Identifier>, ReadError>
+pub fn dotted_names(reader: &mut Reader) -> Result<List<Identifier>, ReadError>
     ensures { Gives result dotted_names reader.old reader.new }
 {
     let first = error_name(reader)?;
@@ -127,7 +127,7 @@ pub(crate) fn dotted_names(reader: &mut Reader) -> Result<List<Identifier>, Read
 
 /// Reads a word that names a point.
 #[tactic(auto, unfolding(crate::specs::Names::point_word))]
-pub(crate) fn point_word(reader: &mut Reader) -> Result<List<Identifier>, ReadError>
+pub fn point_word(reader: &mut Reader) -> Result<List<Identifier>, ReadError>
     ensures { Gives result point_word reader.old reader.new }
 {
     let mut names = List::new(reader.alloc());
@@ -147,7 +147,7 @@ fn point_names(reader: &mut Reader) -> Result<List<Identifier>, ReadError>
 
 /// Reads a point.
 #[tactic(auto, unfolding(crate::specs::Names::point))]
-pub(crate) fn point(reader: &mut Reader) -> Result<PointRef, ReadError>
+pub fn point(reader: &mut Reader) -> Result<PointRef, ReadError>
     ensures { Gives result point reader.old reader.new }
 {
     let spot = spot(reader)?;
@@ -201,7 +201,7 @@ fn further_term(reader: &mut Reader) -> Result<Term, ReadError>
 
 /// Reads a set of types.
 #[tactic(auto, unfolding(crate::specs::Names::type_set))]
-pub(crate) fn type_set(reader: &mut Reader) -> Result<TypeSet, ReadError>
+pub fn type_set(reader: &mut Reader) -> Result<TypeSet, ReadError>
     ensures { Gives result type_set reader.old reader.new }
 {
     let spot = spot(reader)?;
@@ -214,7 +214,7 @@ pub(crate) fn type_set(reader: &mut Reader) -> Result<TypeSet, ReadError>
 
 /// Reads a set of types where a `{` stands.
 #[tactic(auto, unfolding(crate::specs::Names::optional_set))]
-pub(crate) fn optional_set(reader: &mut Reader) -> Result<Option<TypeSet>, ReadError>
+pub fn optional_set(reader: &mut Reader) -> Result<Option<TypeSet>, ReadError>
     ensures { Gives result optional_set reader.old reader.new }
 {
     if reader.sign_at(0, b"{") {
@@ -225,7 +225,7 @@ pub(crate) fn optional_set(reader: &mut Reader) -> Result<Option<TypeSet>, ReadE
 
 /// Reads a point, perhaps with a set of types.
 #[tactic(auto, unfolding(crate::specs::Names::flow_end))]
-pub(crate) fn flow_end(reader: &mut Reader) -> Result<FlowEnd, ReadError>
+pub fn flow_end(reader: &mut Reader) -> Result<FlowEnd, ReadError>
     ensures { Gives result flow_end reader.old reader.new }
 {
     let point = point(reader)?;
@@ -235,7 +235,7 @@ pub(crate) fn flow_end(reader: &mut Reader) -> Result<FlowEnd, ReadError>
 
 /// Reads a state, perhaps with a set of types.
 #[tactic(auto, unfolding(crate::specs::Names::state_reference))]
-pub(crate) fn state_reference(reader: &mut Reader) -> Result<StateRef, ReadError>
+pub fn state_reference(reader: &mut Reader) -> Result<StateRef, ReadError>
     ensures { Gives result state_reference reader.old reader.new }
 {
     let spot = spot(reader)?;
@@ -246,7 +246,7 @@ pub(crate) fn state_reference(reader: &mut Reader) -> Result<StateRef, ReadError
 
 /// Reads a name and a colon where both stand.
 #[tactic(auto, unfolding(crate::specs::Names::label))]
-pub(crate) fn label(reader: &mut Reader) -> Result<Option<Identifier>, ReadError>
+pub fn label(reader: &mut Reader) -> Result<Option<Identifier>, ReadError>
     ensures { Gives result label reader.old reader.new }
 {
     if name_at(reader, 0) && reader.sign_at(1, b":") {

@@ -22,7 +22,7 @@ use Rattle.model_facts.specs.declared.keys.EventKind.TheVariants.{Declared, Sour
 use Rattle.model_facts.specs.declared.keys.FactKind.TheVariants.{State}
 use Rattle.fault_system.specs.declared.formula.Formula.{Formula}
 use Rattle.fault_system.specs.declared.formula.Formula.TheVariants.{True, And, Or, AtLeast}
-use Rattle.flattener.specs.Numbered.{Numbered, Site, entering, fact_formula, inward_types, own_event, own_fact, some_entering}
+use Rattle.fact_formulas.specs.Numbered.{Numbered, Site, entering, fact_formula, inward_types, own_event, own_fact, some_entering}
 
 -- ---- conditions
 

@@ -10,8 +10,8 @@ use Rattle.model_facts.specs.declared.keys.FactKind.{FactKind}
 use Rattle.model_facts.specs.declared.keys.FactKind.TheVariants.{State, Enters, Exits}
 use Rattle.fault_system.specs.declared.formula.Formula.{Formula}
 use Rattle.fault_system.specs.declared.formula.Formula.TheVariants.{True, Event, Fact, Or}
-use Rattle.flattener.specs.Numbered.{Numbered, Site, site_of}
-use Rattle.flattener.specs.Formulas.{all_flow_formulas, cause_formula, conditions_to, emission_formulas, emissions_at, flows_at, step_formula, steps_to}
+use Rattle.fact_formulas.specs.Numbered.{Numbered, Site, site_of}
+use Rattle.fact_formulas.specs.Formulas.{all_flow_formulas, cause_formula, conditions_to, emission_formulas, emissions_at, flows_at, step_formula, steps_to}
 
 -- ---- links
 

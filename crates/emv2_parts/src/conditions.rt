@@ -2,7 +2,7 @@ ghost use Rattle.std.specs.Prelude.{◌≡◌, [], ◌∷◌, codes};
 ghost use Rattle.grammar_rules.specs.inner.Reader.{Gives};
 ghost use Rattle.grammar_rules.specs.Parts.{parts_after};
 ghost use Rattle.grammar_rules.specs.Tokens.{is_sign, is_word};
-ghost use Rattle.emv2_parser.specs.Conditions.{inward, atom, bound, further_condition, condition_list, counted, enclosed, primary, and_primary, conjunction, or_conjunction, disjunction, condition_within, whole_condition};
+ghost use Rattle.emv2_parts.specs.Conditions.{inward, atom, bound, further_condition, condition_list, counted, enclosed, primary, and_primary, conjunction, or_conjunction, disjunction, condition_within, whole_condition};
 
 use crate::names::{optional_set, point};
 use crate::words::{count, count_at};
@@ -15,7 +15,7 @@ const LEVELS: usize = 65;
 
 /// Reads a condition.
 #[tactic(auto, unfolding(crate::specs::Conditions::whole_condition))]
-pub(crate) fn whole_condition(reader: &mut Reader) -> Result<Condition, ReadError>
+pub fn whole_condition(reader: &mut Reader) -> Result<Condition, ReadError>
     ensures { Gives result whole_condition reader.old reader.new }
 {
     condition_within(reader, LEVELS)

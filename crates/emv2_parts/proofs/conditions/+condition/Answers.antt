@@ -1,6 +1,6 @@
 use Rattle.grammar_rules.proofs.Loops.{goes_on, smaller}
-use Rattle.emv2_parser.specs.inner.Takes.{and_primary-takes, or_conjunction-takes, further_condition-takes}
-use Rattle.emv2_parser.proofs.conditions.+condition.Goals as goal
+use Rattle.emv2_parts.specs.inner.Takes.{and_primary-takes, or_conjunction-takes, further_condition-takes}
+use Rattle.emv2_parts.proofs.conditions.+condition.Goals as goal
 
 pub and_parts-loop-parts-smaller : goal.and_parts-loop-parts-smaller
 and_parts-loop-parts-smaller t c = smaller (and_primary-takes _) c.loop-parts-test.ensures c.in_ok-and_primary.ensures

@@ -15,8 +15,8 @@ use Rattle.fault_system.specs.declared.formula.EventInfo.{EventInfo}
 use Rattle.fault_system.specs.declared.formula.FactInfo.{FactInfo}
 use Rattle.fault_system.specs.declared.formula.Formula.{Formula, fold-Formula}
 use Rattle.fault_system.specs.declared.formula.Formula.TheOpen.{Formula-F, True, Event, Fact, And, Or, AtLeast}
-use Rattle.flattener.specs.Numbered.{Numbered, numbered_of}
-use Rattle.flattener.specs.Facts.{meaning_of}
+use Rattle.fact_formulas.specs.Numbered.{Numbered, numbered_of}
+use Rattle.fact_formulas.specs.Facts.{meaning_of}
 
 -- a fact with its name and what makes it hold
 abbrev pub fact_info : Numbered → FactKey → FactInfo

@@ -10,10 +10,10 @@ use Rattle.grammar_rules.specs.Rules.{Rule, gives, chooses, gathers, ◌>>=◌}
 use Rattle.grammar_rules.specs.Parts.{parts_after}
 use Rattle.grammar_rules.specs.Spans.{until_inside, ends_tail}
 use Rattle.grammar_rules.specs.Tokens.{word, sign, is_word, is_sign}
-use Rattle.emv2_parser.specs.Words.{is_name}
+use Rattle.emv2_parts.specs.Words.{is_name}
 use Rattle.grammar_rules.specs.Tokens.{spot}
-use Rattle.emv2_parser.specs.Names.{error_name, reference, references_after, use_types_after, type_set, block_end}
-use Rattle.emv2_parser.specs.Properties.{properties_after}
+use Rattle.emv2_parts.specs.Names.{error_name, reference, references_after, use_types_after, type_set, block_end}
+use Rattle.emv2_parts.specs.Properties.{properties_after}
 
 -- ":" "type" "set" tset tail
 unfoldable pub set_kind : Rule TypeKind

@@ -1,5 +1,5 @@
 ghost use Rattle.std.specs.Prelude.{◌≡◌};
-ghost use Rattle.flattener.specs.Flat.{is_of_root};
+ghost use Rattle.fact_formulas.specs.Flat.{is_of_root};
 
 use fault_system::FaultSystem;
 

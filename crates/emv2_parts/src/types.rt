@@ -1,11 +1,11 @@
 ghost use Rattle.std.specs.Prelude.{◌≡◌, [], ◌∷◌, codes};
 ghost use Rattle.grammar_rules.specs.inner.Reader.{Gives};
 ghost use Rattle.grammar_rules.specs.Tokens.{is_word};
-ghost use Rattle.emv2_parser.specs.Words.{is_name};
-ghost use Rattle.emv2_parser.specs.Names.{use_types_after};
-ghost use Rattle.emv2_parser.specs.Properties.{properties_after};
-ghost use Rattle.emv2_parser.specs.Types.{set_kind, extended_type, plain_kind, renamed, alias_kind, type_kind, type_item, used_types, types_extends, types_properties, types_body, types_block};
-ghost use Rattle.emv2_parser.specs.inner.Takes.{use_types-takes, type_item-takes};
+ghost use Rattle.emv2_parts.specs.Words.{is_name};
+ghost use Rattle.emv2_parts.specs.Names.{use_types_after};
+ghost use Rattle.emv2_parts.specs.Properties.{properties_after};
+ghost use Rattle.emv2_parts.specs.Types.{set_kind, extended_type, plain_kind, renamed, alias_kind, type_kind, type_item, used_types, types_extends, types_properties, types_body, types_block};
+ghost use Rattle.emv2_parts.specs.inner.Takes.{use_types-takes, type_item-takes};
 
 use crate::names::{block_end, reference, references_after, type_set, use_types_after};
 use crate::properties::properties_after;
@@ -150,7 +150,7 @@ fn types_body(reader: &mut Reader) -> Result<TypesBlock, ReadError>
 
 /// Reads a block of error types.
 #[tactic(auto, unfolding(crate::specs::Types::types_block))]
-pub(crate) fn types_block(reader: &mut Reader) -> Result<TypesBlock, ReadError>
+pub fn types_block(reader: &mut Reader) -> Result<TypesBlock, ReadError>
     ensures { Gives result types_block reader.old reader.new }
 {
     reader.word(b"error")?;

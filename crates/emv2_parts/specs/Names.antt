@@ -10,8 +10,8 @@ use Rattle.aadl_syntax.specs.declared.error_model.StateRef.{StateRef}
 use Rattle.grammar_rules.specs.Rules.{Rule, gives, chooses, ◌>>=◌}
 use Rattle.grammar_rules.specs.Parts.{parts_after}
 use Rattle.grammar_rules.specs.Tokens.{spot, word, sign, identifier, one_of, is_word, is_sign, is_one_of}
-use Rattle.emv2_parser.specs.declared.names.FlowEnd.{FlowEnd}
-use Rattle.emv2_parser.specs.Words.{error_words, point_words, is_name}
+use Rattle.emv2_parts.specs.declared.names.FlowEnd.{FlowEnd}
+use Rattle.emv2_parts.specs.Words.{error_words, point_words, is_name}
 
 -- ID
 unfoldable pub error_name : Rule (List ℕ)

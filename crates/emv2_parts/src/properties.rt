@@ -3,9 +3,9 @@ ghost use Rattle.grammar_rules.specs.inner.Reader.{Gives, Begins, given};
 ghost use Rattle.grammar_rules.specs.Spans.{closes};
 ghost use Rattle.aadl_syntax.specs.inner.Token.{shown};
 ghost use Rattle.grammar_rules.specs.Tokens.{is_sign, is_word};
-ghost use Rattle.emv2_parser.specs.Words.{is_name};
-ghost use Rattle.emv2_parser.specs.Properties.{begins_value, value, arrow, begins_step, path_sign, path_step, path_steps, further_targets, no_path, with_name, with_dot, with_sign, with_target, whole_path, target_after, further_target, applied_targets, targets, assigned_value, association, properties_after};
-ghost use Rattle.emv2_parser.specs.inner.Takes.{path_step-takes, further_target-takes, association-takes};
+ghost use Rattle.emv2_parts.specs.Words.{is_name};
+ghost use Rattle.emv2_parts.specs.Properties.{begins_value, value, arrow, begins_step, path_sign, path_step, path_steps, further_targets, no_path, with_name, with_dot, with_sign, with_target, whole_path, target_after, further_target, applied_targets, targets, assigned_value, association, properties_after};
+ghost use Rattle.emv2_parts.specs.inner.Takes.{path_step-takes, further_target-takes, association-takes};
 
 use crate::names::names;
 use crate::words::{error_name, name_at, point_at, point_name, point_word_at};
@@ -66,7 +66,7 @@ fn with_target(targets: &mut List<List<Identifier>>, path: TargetPath) -> Mem<()
 struct ValueTokens;
 
 impl Span for ValueTokens {
-    ghost use Rattle.emv2_parser.specs.Properties.{ends_value};
+    ghost use Rattle.emv2_parts.specs.Properties.{ends_value};
 
     ghost stops = { ends_value };
 
@@ -265,7 +265,7 @@ fn association(reader: &mut Reader) -> Result<Association, ReadError>
 
 /// Reads a block of property associations, and gives them after others.
 #[tactic(auto, unfolding(crate::specs::Properties::properties_after))]
-pub(crate) fn properties_after(
+pub fn properties_after(
     reader: &mut Reader,
     associations: &mut List<Association>,
 ) -> Result<(), ReadError>

@@ -6,9 +6,9 @@ use Rattle.aadl_syntax.specs.declared.error_model.Atom.{Atom}
 use Rattle.grammar_rules.specs.Rules.{Rule, gives, refuses, chooses, ◌>>=◌}
 use Rattle.grammar_rules.specs.Parts.{parts_after}
 use Rattle.grammar_rules.specs.Tokens.{word, sign, is_word, is_sign}
-use Rattle.emv2_parser.specs.Words.{is_count, count}
+use Rattle.emv2_parts.specs.Words.{is_count, count}
 use Rattle.grammar_rules.specs.Tokens.{spot}
-use Rattle.emv2_parser.specs.Names.{point, optional_set}
+use Rattle.emv2_parts.specs.Names.{point, optional_set}
 
 -- [ "in" ]
 unfoldable pub inward : Rule Bool

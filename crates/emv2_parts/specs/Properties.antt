@@ -6,10 +6,10 @@ use Rattle.grammar_rules.specs.Rules.{Test, Rule, gives, refuses, chooses, gathe
 use Rattle.grammar_rules.specs.Parts.{parts_after}
 use Rattle.grammar_rules.specs.Spans.{until_inside, closes}
 use Rattle.grammar_rules.specs.Tokens.{word, sign, one_of, is_word, is_sign, is_one_of}
-use Rattle.emv2_parser.specs.declared.properties.AssignedValue.{AssignedValue}
-use Rattle.emv2_parser.specs.declared.properties.TargetPath.{TargetPath}
-use Rattle.emv2_parser.specs.Words.{point_words, is_name, begins_point}
-use Rattle.emv2_parser.specs.Names.{error_name, names}
+use Rattle.emv2_parts.specs.declared.properties.AssignedValue.{AssignedValue}
+use Rattle.emv2_parts.specs.declared.properties.TargetPath.{TargetPath}
+use Rattle.emv2_parts.specs.Words.{point_words, is_name, begins_point}
+use Rattle.emv2_parts.specs.Names.{error_name, names}
 
 -- a value ends, at depth 0, at a semicolon, at `applies` and at a bracket that closes what was open before; and as any run of an
 -- annex at its `**}`, whatever is open

@@ -4,8 +4,8 @@ ghost use Rattle.grammar_rules.specs.inner.Reader.{Gives, Begins};
 ghost use Rattle.aadl_syntax.specs.inner.Token.{shown};
 ghost use Rattle.grammar_rules.specs.Tokens.{is_identifier, is_one_of, one_of};
 ghost use Rattle.aadl_syntax.specs.Form.{is_digit};
-ghost use Rattle.emv2_parser.specs.Words.{error_words, point_words, library_words, machine_words, clause_words, component_words, is_name, begins_point, begins_source, begins_composite, begins_transitions, begins_propagations, begins_paths, decimal, is_count, count};
-ghost use Rattle.emv2_parser.specs.Names.{error_name};
+ghost use Rattle.emv2_parts.specs.Words.{error_words, point_words, library_words, machine_words, clause_words, component_words, is_name, begins_point, begins_source, begins_composite, begins_transitions, begins_propagations, begins_paths, decimal, is_count, count};
+ghost use Rattle.emv2_parts.specs.Names.{error_name};
 
 use aadl_syntax::{Identifier, TokenKind, TokenRef};
 use grammar_rules::{ReadError, Reader};
@@ -107,7 +107,7 @@ const COMPONENT_WORDS: [&[u8]; 6] = [
 
 /// Whether the token `k` places ahead is an identifier.
 #[tactic(auto, unfolding(crate::specs::Words::is_name, crate::specs::Words::error_words))]
-pub(crate) fn name_at(reader: &mut Reader, k: usize) -> bool
+pub fn name_at(reader: &mut Reader, k: usize) -> bool
     ensures { Begins result k (is_name ∷ []) reader.old reader.new }
 {
     reader.identifier_at(k, &ERROR_WORDS)
@@ -115,7 +115,7 @@ pub(crate) fn name_at(reader: &mut Reader, k: usize) -> bool
 
 /// Whether the token `k` places ahead names a point by a word.
 #[tactic(auto, unfolding(crate::specs::Words::point_words))]
-pub(crate) fn point_word_at(reader: &mut Reader, k: usize) -> bool
+pub fn point_word_at(reader: &mut Reader, k: usize) -> bool
     ensures { Begins result k (is_one_of point_words ∷ []) reader.old reader.new }
 {
     reader.one_of_at(k, &POINT_WORDS)
@@ -123,7 +123,7 @@ pub(crate) fn point_word_at(reader: &mut Reader, k: usize) -> bool
 
 /// Whether the next token begins a block of a library.
 #[tactic(auto, unfolding(crate::specs::Words::library_words))]
-pub(crate) fn library_block_at(reader: &mut Reader) -> bool
+pub fn library_block_at(reader: &mut Reader) -> bool
     ensures { Begins result 0 (is_one_of library_words ∷ []) reader.old reader.new }
 {
     reader.one_of_at(0, &LIBRARY_WORDS)
@@ -131,7 +131,7 @@ pub(crate) fn library_block_at(reader: &mut Reader) -> bool
 
 /// Whether the next token begins a block of a machine.
 #[tactic(auto, unfolding(crate::specs::Words::machine_words))]
-pub(crate) fn machine_block_at(reader: &mut Reader) -> bool
+pub fn machine_block_at(reader: &mut Reader) -> bool
     ensures { Begins result 0 (is_one_of machine_words ∷ []) reader.old reader.new }
 {
     reader.one_of_at(0, &MACHINE_WORDS)
@@ -139,7 +139,7 @@ pub(crate) fn machine_block_at(reader: &mut Reader) -> bool
 
 /// Whether the next token begins a part of a clause.
 #[tactic(auto, unfolding(crate::specs::Words::clause_words))]
-pub(crate) fn clause_part_at(reader: &mut Reader) -> bool
+pub fn clause_part_at(reader: &mut Reader) -> bool
     ensures { Begins result 0 (is_one_of clause_words ∷ []) reader.old reader.new }
 {
     reader.one_of_at(0, &CLAUSE_WORDS)
@@ -147,7 +147,7 @@ pub(crate) fn clause_part_at(reader: &mut Reader) -> bool
 
 /// Whether the next token begins a block of a component's error behavior.
 #[tactic(auto, unfolding(crate::specs::Words::component_words))]
-pub(crate) fn component_block_at(reader: &mut Reader) -> bool
+pub fn component_block_at(reader: &mut Reader) -> bool
     ensures { Begins result 0 (is_one_of component_words ∷ []) reader.old reader.new }
 {
     reader.one_of_at(0, &COMPONENT_WORDS)
@@ -155,7 +155,7 @@ pub(crate) fn component_block_at(reader: &mut Reader) -> bool
 
 /// Whether the next token begins a point.
 #[tactic(auto, unfolding(crate::specs::Words::begins_point))]
-pub(crate) fn point_at(reader: &mut Reader) -> bool
+pub fn point_at(reader: &mut Reader) -> bool
     ensures { Begins result 0 (begins_point ∷ []) reader.old reader.new }
 {
     name_at(reader, 0) || point_word_at(reader, 0)
@@ -163,7 +163,7 @@ pub(crate) fn point_at(reader: &mut Reader) -> bool
 
 /// Whether the next token begins a transition or an outgoing condition.
 #[tactic(auto, unfolding(crate::specs::Words::begins_source))]
-pub(crate) fn source_at(reader: &mut Reader) -> bool
+pub fn source_at(reader: &mut Reader) -> bool
     ensures { Begins result 0 (begins_source ∷ []) reader.old reader.new }
 {
     reader.word_at(0, b"all") || name_at(reader, 0)
@@ -171,7 +171,7 @@ pub(crate) fn source_at(reader: &mut Reader) -> bool
 
 /// Whether the next token begins a composite state.
 #[tactic(auto, unfolding(crate::specs::Words::begins_composite))]
-pub(crate) fn composite_at(reader: &mut Reader) -> bool
+pub fn composite_at(reader: &mut Reader) -> bool
     ensures { Begins result 0 (begins_composite ∷ []) reader.old reader.new }
 {
     name_at(reader, 0) || reader.sign_at(0, b"[")
@@ -179,7 +179,7 @@ pub(crate) fn composite_at(reader: &mut Reader) -> bool
 
 /// Whether the next token begins a block of transitions.
 #[tactic(auto, unfolding(crate::specs::Words::begins_transitions))]
-pub(crate) fn transitions_at(reader: &mut Reader) -> bool
+pub fn transitions_at(reader: &mut Reader) -> bool
     ensures { Begins result 0 (begins_transitions ∷ []) reader.old reader.new }
 {
     reader.word_at(0, b"transitions")
@@ -187,7 +187,7 @@ pub(crate) fn transitions_at(reader: &mut Reader) -> bool
 
 /// Whether the next token begins a block of outgoing conditions.
 #[tactic(auto, unfolding(crate::specs::Words::begins_propagations))]
-pub(crate) fn propagations_at(reader: &mut Reader) -> bool
+pub fn propagations_at(reader: &mut Reader) -> bool
     ensures { Begins result 0 (begins_propagations ∷ []) reader.old reader.new }
 {
     reader.word_at(0, b"propagations")
@@ -195,7 +195,7 @@ pub(crate) fn propagations_at(reader: &mut Reader) -> bool
 
 /// Whether the next token begins a block of the user's points and paths.
 #[tactic(auto, unfolding(crate::specs::Words::begins_paths))]
-pub(crate) fn paths_at(reader: &mut Reader) -> bool
+pub fn paths_at(reader: &mut Reader) -> bool
     ensures { Begins result 0 (begins_paths ∷ []) reader.old reader.new }
 {
     reader.word_at(0, b"propagation")
@@ -203,7 +203,7 @@ pub(crate) fn paths_at(reader: &mut Reader) -> bool
 
 /// Reads an identifier.
 #[tactic(auto, unfolding(crate::specs::Names::error_name, crate::specs::Words::error_words))]
-pub(crate) fn error_name(reader: &mut Reader) -> Result<Identifier, ReadError>
+pub fn error_name(reader: &mut Reader) -> Result<Identifier, ReadError>
     ensures { Gives result error_name reader.old reader.new }
 {
     reader.identifier(&ERROR_WORDS)
@@ -211,7 +211,7 @@ pub(crate) fn error_name(reader: &mut Reader) -> Result<Identifier, ReadError>
 
 /// Reads a word that names a point.
 #[tactic(auto, unfolding(crate::specs::Words::point_words))]
-pub(crate) fn point_name(reader: &mut Reader) -> Result<Identifier, ReadError>
+pub fn point_name(reader: &mut Reader) -> Result<Identifier, ReadError>
     ensures { Gives result (one_of point_words) reader.old reader.new }
 {
     reader.one_of(&POINT_WORDS)
