@@ -1,9 +1,11 @@
 //! A file of rows, line by line.
 
-use crate::command::{put_found, put_wanted, wants_front};
-use row_reader::{
-    Line, Reading, Report, Row, Text, Texts, cut, head_and_body, number_of, put_reading,
-};
+use crate::expand::{Texts, cut, number_of};
+use crate::galileo::{Wanted, put_galileo};
+use crate::reading::{Reading, put_reading};
+use crate::report::{Line, Report};
+use crate::row::{Row, head_and_body};
+use crate::text::Text;
 use std::alloc::{AllocError, Global};
 
 /// What a row tries.
@@ -11,6 +13,13 @@ use std::alloc::{AllocError, Global};
 enum Trial {
     Command,
     Read(Reading),
+    Galileo(Wanted),
+}
+
+/// The tool that rows run.
+pub trait Tool {
+    /// Whether the tool answers to a row as it wants. Writes what is wanted, and what was found.
+    fn holds(&self, row: &Row, wanted: &mut Text, found: &mut Text) -> bool;
 }
 
 /// What may stand before the `:` of a line that begins no item; besides these `file` and a name.
@@ -35,7 +44,8 @@ const KEYS: [&[u8]; 17] = [
 ];
 
 /// Runs the rows of a file, and names its texts.
-pub fn run_sheet(
+pub(crate) fn run_sheet<T: Tool>(
+    tool: &T,
     alloc: Global,
     texts: &mut Texts,
     file: &[u8],
@@ -46,12 +56,18 @@ pub fn run_sheet(
     for line in bytes.split(|b| *b == b'\n') {
         lines.push(line)?;
     }
-    run_lines(texts, file, lines.as_slice(), report);
+    run_lines(tool, texts, file, lines.as_slice(), report);
     Ok(())
 }
 
 /// Runs the items, each of which goes on until the next begins.
-fn run_lines(texts: &mut Texts, file: &[u8], lines: &[&[u8]], report: &mut Report) {
+fn run_lines<T: Tool>(
+    tool: &T,
+    texts: &mut Texts,
+    file: &[u8],
+    lines: &[&[u8]],
+    report: &mut Report,
+) {
     let mut scene = (0usize, 0usize);
     let mut start = 0usize;
     for end in 1..=lines.len() {
@@ -65,7 +81,7 @@ fn run_lines(texts: &mut Texts, file: &[u8], lines: &[&[u8]], report: &mut Repor
                 scene = (start, end);
             }
             let shared = lines.get(scene.0..scene.1).unwrap_or(&[]);
-            run_item(texts, line, shared, item, report);
+            run_item(tool, texts, line, shared, item, report);
             start = end;
         }
     }
@@ -103,11 +119,21 @@ fn trial_of(word: &[u8]) -> Option<Trial> {
         b"library" => Some(Trial::Read(Reading::Library)),
         b"clause" => Some(Trial::Read(Reading::Clause)),
         b"core" => Some(Trial::Read(Reading::Core)),
+        b"tree" => Some(Trial::Galileo(Wanted::Tree)),
+        b"sets" => Some(Trial::Galileo(Wanted::Sets)),
+        [b'G', b'1'..=b'6'] => Some(Trial::Galileo(Wanted::Flaw)),
         _ => None,
     }
 }
 
-fn run_item(texts: &mut Texts, line: Line, scene: &[&[u8]], item: &[&[u8]], report: &mut Report) {
+fn run_item<T: Tool>(
+    tool: &T,
+    texts: &mut Texts,
+    line: Line,
+    scene: &[&[u8]],
+    item: &[&[u8]],
+    report: &mut Report,
+) {
     check_lines(line, item, report);
     if begins_with(item, b"text") {
         return name_text(texts, line, item, report);
@@ -122,7 +148,7 @@ fn run_item(texts: &mut Texts, line: Line, scene: &[&[u8]], item: &[&[u8]], repo
         own: item,
         hole: b"",
     };
-    run_rows(&row, trial, line, report);
+    run_rows(tool, &row, trial, line, report);
 }
 
 /// The line so many behind another.
@@ -188,44 +214,66 @@ fn name_text(texts: &mut Texts, line: Line, item: &[&[u8]], report: &mut Report)
 }
 
 /// Runs a row once, or once for each text of its lines `try:` and each number of its lines `each:`.
-fn run_rows(row: &Row, trial: Trial, line: Line, report: &mut Report) {
+fn run_rows<T: Tool>(tool: &T, row: &Row, trial: Trial, line: Line, report: &mut Report) {
     let mut tried = false;
     for (k, text) in row.own.iter().enumerate() {
         let (head, body) = head_and_body(text);
         if head == b"try".as_slice() {
-            run_with(row, trial, line_behind(line, k), body, report);
+            run_with(tool, row, trial, line_behind(line, k), body, report);
             tried = true;
         }
         if head == b"each".as_slice() {
-            run_each(row, trial, line_behind(line, k), body, report);
+            run_each(tool, row, trial, line_behind(line, k), body, report);
             tried = true;
         }
     }
     if !tried {
-        run_with(row, trial, line_behind(line, 0), b"", report);
+        run_with(tool, row, trial, line_behind(line, 0), b"", report);
     }
 }
 
-fn run_each(row: &Row, trial: Trial, line: Line, numbers: &[u8], report: &mut Report) {
+fn run_each<T: Tool>(
+    tool: &T,
+    row: &Row,
+    trial: Trial,
+    line: Line,
+    numbers: &[u8],
+    report: &mut Report,
+) {
     for word in numbers.split(|b| *b == b' ') {
         let (low, high) = cut(word, b"-");
         let high = if high.is_empty() { low } else { high };
         match (number_of(low), number_of(high)) {
-            (Some(low), Some(high)) => run_range(row, trial, line, low, high, report),
+            (Some(low), Some(high)) => run_range(tool, row, trial, line, low, high, report),
             _ => report.fail_to_read(line, word, "after `each` stand numbers, as 3 or 5-17"),
         }
     }
 }
 
-fn run_range(row: &Row, trial: Trial, line: Line, low: u64, high: u64, report: &mut Report) {
+fn run_range<T: Tool>(
+    tool: &T,
+    row: &Row,
+    trial: Trial,
+    line: Line,
+    low: u64,
+    high: u64,
+    report: &mut Report,
+) {
     for number in low..=high {
         let mut hole = Text::new(row.texts.alloc());
         hole.put_number(number);
-        run_with(row, trial, line, hole.bytes(), report);
+        run_with(tool, row, trial, line, hole.bytes(), report);
     }
 }
 
-fn run_with(row: &Row, trial: Trial, line: Line, hole: &[u8], report: &mut Report) {
+fn run_with<T: Tool>(
+    tool: &T,
+    row: &Row,
+    trial: Trial,
+    line: Line,
+    hole: &[u8],
+    report: &mut Report,
+) {
     let row = Row {
         texts: row.texts,
         scene: row.scene,
@@ -235,27 +283,15 @@ fn run_with(row: &Row, trial: Trial, line: Line, hole: &[u8], report: &mut Repor
     let mut wanted = Text::new(row.texts.alloc());
     let mut found = Text::new(row.texts.alloc());
     let holds = match trial {
-        Trial::Command => holds_in_run(&row, &mut wanted, &mut found),
+        Trial::Command => tool.holds(&row, &mut wanted, &mut found),
         Trial::Read(reading) => holds_in_reading(&row, reading, &mut wanted, &mut found),
+        Trial::Galileo(answer) => holds_in_galileo(&row, answer, &mut wanted, &mut found),
     };
     if holds && wanted.trouble().is_none() && found.trouble().is_none() {
         report.hold();
     } else {
         report.fail(line, hole, &wanted, &found);
     }
-}
-
-fn holds_in_run(row: &Row, wanted: &mut Text, found: &mut Text) -> bool {
-    put_wanted(row, wanted);
-    let mut scratch = Text::new(row.texts.alloc());
-    if put_found(row.texts.alloc(), row, &mut scratch, found).is_err() {
-        found.refuse("memory is wanting");
-    }
-    found.refuse_as(&scratch);
-    if wants_front(row) {
-        return found.bytes().starts_with(wanted.bytes());
-    }
-    found.bytes() == wanted.bytes()
 }
 
 fn holds_in_reading(row: &Row, reading: Reading, wanted: &mut Text, found: &mut Text) -> bool {
@@ -279,6 +315,23 @@ fn holds_in_reading(row: &Row, reading: Reading, wanted: &mut Text, found: &mut 
         found,
     );
     is_answer(wanted.bytes(), found.bytes())
+}
+
+/// Whether a text in Galileo form comes to what the row wants of it.
+fn holds_in_galileo(row: &Row, answer: Wanted, wanted: &mut Text, found: &mut Text) -> bool {
+    let Some(first) = row.own.first() else {
+        return false;
+    };
+    let (head, body) = head_and_body(first);
+    match answer {
+        Wanted::Flaw => row.put(head, wanted),
+        Wanted::Tree | Wanted::Sets => row.put_value_lines(wanted),
+    }
+    let mut text = row.text(body);
+    row.put_text_lines(&mut text);
+    found.refuse_as(&text);
+    put_galileo(row.texts.alloc(), answer, text.bytes(), found);
+    wanted.bytes() == found.bytes()
 }
 
 /// Whether an answer is the one that is wanted; `somewhere` is the byte of any syntax error.

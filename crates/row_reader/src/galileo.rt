@@ -3,18 +3,18 @@
 ghost use Rattle.std.specs.Prelude.{◌≤◌, length};
 ghost use Rattle.galileo_reader.specs.inner.Trees.{IsNamedTree};
 
+use crate::text::Text;
 use fault_system::FaultSystem;
 use galileo_reader::{Flaw, GalileoFault, NamedTree, read, to_system};
 use plain_listing::plain_listing;
 use plain_values::Mem;
 use property_reader::RateKind;
 use round_gates::{GateKind, Input};
-use row_reader::Text;
 use std::alloc::Global;
 
 /// What a row wants of a text.
 #[derive(Clone, Copy)]
-pub enum Wanted {
+pub(crate) enum Wanted {
     /// The tree that it is.
     Tree,
     /// The minimal cut sets of its top.
@@ -24,7 +24,7 @@ pub enum Wanted {
 }
 
 /// Writes what a text comes to: the tree or its minimal cut sets, or what is wrong with it.
-pub fn put_answer(alloc: Global, wanted: Wanted, text: &[u8], out: &mut Text) {
+pub(crate) fn put_galileo(alloc: Global, wanted: Wanted, text: &[u8], out: &mut Text) {
     if text.len() > 4_194_304 {
         return out.refuse("a text of more than 4194304 bytes is not read");
     }
