@@ -10,7 +10,7 @@ use Rattle.aadl_syntax.specs.declared.error_model.StateRef.{StateRef}
 use Rattle.grammar_rules.specs.Rules.{Rule, gives, chooses, ◌>>=◌}
 use Rattle.grammar_rules.specs.Parts.{parts_after}
 use Rattle.grammar_rules.specs.Tokens.{spot, word, sign, identifier, one_of, is_word, is_sign, is_one_of}
-use Rattle.emv2_parts.specs.declared.names.FlowEnd.{FlowEnd}
+use Rattle.emv2_parts.specs.declared.naming.FlowEnd.{FlowEnd}
 use Rattle.emv2_parts.specs.Words.{error_words, point_words, is_name}
 
 -- ID

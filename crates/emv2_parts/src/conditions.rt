@@ -4,7 +4,7 @@ ghost use Rattle.grammar_rules.specs.Parts.{parts_after};
 ghost use Rattle.grammar_rules.specs.Tokens.{is_sign, is_word};
 ghost use Rattle.emv2_parts.specs.Conditions.{inward, atom, bound, further_condition, condition_list, counted, enclosed, primary, and_primary, conjunction, or_conjunction, disjunction, condition_within, whole_condition};
 
-use crate::names::{optional_set, point};
+use crate::naming::{optional_set, point};
 use crate::words::{count, count_at};
 use aadl_syntax::{Atom, Condition};
 use grammar_rules::{ReadError, Reader, spot};

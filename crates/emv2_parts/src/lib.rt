@@ -3,13 +3,13 @@
 #![tactic(auto)]
 
 mod conditions;
-mod names;
+mod naming;
 mod properties;
 mod types;
 mod words;
 
 pub use conditions::whole_condition;
-pub use names::{
+pub use naming::{
     FlowEnd, block_end, condition_close, condition_open, dotted_names, flow_end, label, names,
     optional_set, point, point_word, reference, state_reference, type_set, use_types_after,
 };

@@ -7,7 +7,7 @@ ghost use Rattle.emv2_parts.specs.Words.{is_name};
 ghost use Rattle.emv2_parts.specs.Properties.{begins_value, value, arrow, begins_step, path_sign, path_step, path_steps, further_targets, no_path, with_name, with_dot, with_sign, with_target, whole_path, target_after, further_target, applied_targets, targets, assigned_value, association, properties_after};
 ghost use Rattle.emv2_parts.specs.inner.Takes.{path_step-takes, further_target-takes, association-takes};
 
-use crate::names::names;
+use crate::naming::names;
 use crate::words::{error_name, name_at, point_at, point_name, point_word_at};
 use aadl_syntax::{Association, Identifier, TokenList, TokenRef};
 use grammar_rules::{Gathered, Parts, ReadError, Reader, Span, closes, is_sign, is_word};

@@ -7,7 +7,7 @@ ghost use Rattle.emv2_parts.specs.Properties.{properties_after};
 ghost use Rattle.emv2_parts.specs.Types.{set_kind, extended_type, plain_kind, renamed, alias_kind, type_kind, type_item, used_types, types_extends, types_properties, types_body, types_block};
 ghost use Rattle.emv2_parts.specs.inner.Takes.{use_types-takes, type_item-takes};
 
-use crate::names::{block_end, reference, references_after, type_set, use_types_after};
+use crate::naming::{block_end, reference, references_after, type_set, use_types_after};
 use crate::properties::properties_after;
 use crate::words::{error_name, name_at};
 use aadl_syntax::{Association, Ref, TypeItem, TypeKind, TypesBlock};
