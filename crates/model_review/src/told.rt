@@ -9,8 +9,8 @@ ghost use Rattle.model_review.specs.declared.finding.Finding.TheVariants.{InLoop
 
 use crate::finding::Finding;
 use crate::view::View;
-use fault_system::FaultSystem;
 use fact_formulas::is_of_root;
+use fault_system::FaultSystem;
 use plain_values::{List, Mem};
 use std::alloc::Global;
 use system_review::{Loop, loops, unreached_events, unused_events};

@@ -12,8 +12,8 @@ ghost use Rattle.system_review.specs.Occurring.{used_in};
 ghost use Rattle.system_review.specs.Possible.{possible_in};
 
 use error_models::ErrorModel;
-use fault_system::{Bits, FaultSystem};
 use fact_formulas::fact_at;
+use fault_system::{Bits, FaultSystem};
 use instantiator::Instance;
 use model_facts::{Assembly, EventKey, EventKind, EventTable, FactKey, FactKind, FactTable};
 use plain_values::{List, Mem};
