@@ -1,104 +1,43 @@
-//! The facts that are reached from a target by use.
-ghost use Rattle.std.specs.Prelude.{◌≡◌, ◌+◌, ◌<◌, ◌++◌, ◌∷◌, [], ◌==◌, ℕ, IfOk, OnOk, length};
-ghost use Rattle.fault_system.specs.Truth.{count_true, set_of};
+//! The facts that a fact uses, and those that are reached from a target by use.
+ghost use Rattle.std.specs.Prelude.{◌≡◌, ◌<◌, ℕ, IfOk, length};
+ghost use Rattle.fault_system.specs.Truth.{set_of};
 ghost use Rattle.fault_system.specs.Systems.{IsSystem};
 ghost use Rattle.fault_system.specs.Rounds.{time_of};
 ghost use Rattle.derivations.specs.Derived.{uses_fact};
-ghost use Rattle.derivations.specs.inner.Reaching.{Adds, AreReached, IsReaching};
+ghost use Rattle.derivations.specs.inner.Reaching.{AreReached};
 
-use crate::gathering::{gather_facts, round_of};
+use crate::gathering::{gather_facts, is_before_round, round_of};
+use backward_slice::{Ways, reach_by};
 use fault_system::{Bits, FaultSystem};
 use plain_values::Mem;
 use std::alloc::Global;
 
-/// The facts that are marked so far, and of these those whose formula is still to be looked at.
-#[derive(Drop)]
-pub(crate) struct Marking {
-    pub facts: Bits,
-    pub waiting: Vec<u32>,
+/// From a fact it is gone to those of earlier rounds.
+#[derive(Clone, Copy)]
+struct ByRounds<'a> {
+    rounds: &'a [u32],
 }
 
-impl Marking {
-    // Marks a fact; one that was not marked waits.
-    fn mark(&mut self, number: u32) -> Mem<()>
-        ensures { OnOk result (Adds (λ n. number == n) self.old self.new) }
-    {
-        if number < self.facts.size() && !self.facts.has(number) {
-            self.waiting.push(number)?;
-            self.facts.put(number);
-        }
-        Ok(())
-    }
+impl<'a> Ways for ByRounds<'a> {
+    ghost use Rattle.derivations.specs.inner.Reaching.{earlier};
 
-    // Marks facts.
-    fn mark_all(&mut self, numbers: &[u32]) -> Mem<()>
-        ensures { OnOk result (Adds (set_of numbers.now) self.old self.new) }
-    {
-        for number in numbers {
-            self.mark(*number)?;
-        }
-        Ok(())
+    ghost ways = { λ ways. earlier ways.rounds.now };
+
+    fn leads(&self, from: u32, to: u32) -> bool {
+        is_before_round(self.rounds, round_of(self.rounds, from), to)
     }
 }
 
-/// Marks for exactly the facts that are reached from a target by use.
-///
-/// Each formula is looked at once, with a stack of one's own.
-pub(crate) fn reached(
-    alloc: Global,
-    system: &FaultSystem,
-    rounds: &[u32],
-    target: u32,
-) -> Mem<Marking>
+/// Exactly the facts that are reached from a target by use.
+pub(crate) fn reached(alloc: Global, system: &FaultSystem, rounds: &[u32], target: u32) -> Mem<Bits>
     requires rounds { length rounds.now ≡ length system.now.facts }
     requires target { 0 < time_of rounds.now target }
     ensures system { IsSystem system.now }
-    ensures reached { IfOk result (λ marking. AreReached system.now rounds.now target marking.facts) }
+    ensures reached { IfOk result (AreReached system.now rounds.now target) }
 {
-    let mut marking = first_marking(alloc, system, rounds, target)?;
-    while let Some(number) = marking.waiting.pop() {
-        go_on(alloc, system, rounds, &mut marking, target, number)?;
-    }
-    Ok(marking)
-}
-
-// The target alone, which waits.
-fn first_marking(alloc: Global, system: &FaultSystem, rounds: &[u32], target: u32) -> Mem<Marking>
-    requires rounds { length rounds.now ≡ length system.now.facts }
-    requires target { 0 < time_of rounds.now target }
-    ensures system { IsSystem system.now }
-    ensures first { IfOk result (λ marking.
-        IsReaching system.now rounds.now target marking.facts marking.waiting.items) }
-{
-    let mut marking = Marking {
-        facts: Bits::new(alloc, system.facts())?,
-        waiting: Vec::new(alloc),
-    };
-    marking.mark(target)?;
-    Ok(marking)
-}
-
-// Marks what a fact uses that no longer waits.
-fn go_on(
-    alloc: Global,
-    system: &FaultSystem,
-    rounds: &[u32],
-    marking: &mut Marking,
-    target: u32,
-    number: u32,
-) -> Mem<()>
-    requires { IsReaching system.now rounds.now target marking.old.facts (marking.old.waiting.items ++ number ∷ []) }
-    ensures next { OnOk result
-        (IsReaching system.now rounds.now target marking.new.facts marking.new.waiting.items) }
-    ensures less { OnOk result (length marking.new.waiting.items + count_true marking.old.facts
-        ≡ length marking.old.waiting.items + count_true marking.new.facts) }
-{
-    if !marking.facts.has(number) {
-        return Ok(());
-    }
-    let used = used_by(alloc, system, rounds, number)?;
-    marking.mark_all(used.as_slice())?;
-    Ok(())
+    let _facts = system.facts();
+    let found = reach_by(alloc, system, &ByRounds { rounds }, &[target])?;
+    Ok(found.facts)
 }
 
 /// The facts that a fact uses.
