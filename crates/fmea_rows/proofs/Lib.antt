@@ -4,5 +4,4 @@ pub mod TableLaws
 pub mod UserLaws
 pub mod TestLaws
 pub mod LineLaws
-pub mod WriteLaws
 pub mod Examples

@@ -8,11 +8,11 @@ mod laws;
 mod proposing;
 mod row;
 mod table;
+mod table_lines;
 mod testing;
 mod users;
-mod writing;
 
 pub use laws::{computed_rows, one_table, reads_back};
 pub use row::Row;
 pub use table::rows;
-pub use writing::write_rows;
+pub use table_lines::TableLines;

@@ -44,7 +44,7 @@ pub fn print_ring_table<S: Sink>(
     if !are_plain(&system) || !are_rising(effects.items(), system.facts()) {
         return println!(rt; "no table");
     }
-    write_table(rt, alloc, &system, effects.items(), out)
+    write_table(rt, alloc, system, effects.items(), out)
 }
 
 // The system of a line.

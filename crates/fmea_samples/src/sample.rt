@@ -9,8 +9,8 @@ use crate::names::{are_plain, are_rising};
 use crate::reading::{formula_of, name_of, number_of};
 use crate::rings::{print_ring_table, print_rings};
 use fault_system::{EventInfo, FactInfo, FaultSystem, is_system};
-use fmea_rows::{rows, write_rows};
-use fta_outside::Sink;
+use fmea_rows::{TableLines, rows};
+use fta_outside::{Sink, write_lines};
 use plain_values::{List, Mem};
 use property_reader::conservative_rates;
 use std::alloc::Global;
@@ -120,7 +120,7 @@ impl Sample {
         if !are_plain(&system) || !are_rising(effects.items(), system.facts()) {
             return println!(rt; "no table");
         }
-        write_table(rt, alloc, &system, effects.items(), out)
+        write_table(rt, alloc, system, effects.items(), out)
     }
 }
 
@@ -128,16 +128,17 @@ impl Sample {
 pub fn write_table<S: Sink>(
     rt: &impl Print,
     alloc: Global,
-    system: &FaultSystem,
+    system: FaultSystem,
     effects: &[u32],
     out: &mut S,
 ) -> io::Result<()>
-    requires names { HasFieldNames system.now }
-    requires rise { RisesWithin 0 (length system.now.facts) effects.now }
+    requires names { HasFieldNames system }
+    requires rise { RisesWithin 0 (length system.facts) effects.now }
 {
-    let found = rows(alloc, system, effects)?;
+    let found = rows(alloc, &system, effects)?;
     let rates = conservative_rates(alloc, system.events())?;
-    match write_rows(alloc, system, found.items(), rates.items(), out) {
+    let mut table = TableLines::new(alloc, system, found, rates);
+    match write_lines(alloc, &mut table, out) {
         Ok(()) => Ok(()),
         Err(_) => println!(rt; "not written"),
     }

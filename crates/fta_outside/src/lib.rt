@@ -9,6 +9,7 @@
 mod disk;
 mod error;
 mod faults;
+mod lines;
 mod memory;
 mod outside;
 mod report;
@@ -17,6 +18,7 @@ mod stream;
 
 pub use disk::DiskFiles;
 pub use error::WriteError;
+pub use lines::{Lines, write_lines};
 pub use memory::{MemoryFiles, MemorySink};
 pub use outside::{FileError, Files, Sink, SinkFailed, write_all};
 pub use report::{Report, ReportFailed};

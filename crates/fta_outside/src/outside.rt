@@ -1,5 +1,5 @@
-ghost use Rattle.std.specs.Prelude.{◌≡◌, ℕ, ◌≤◌, ◌<◌, List, Option, IfOk, OnOk, OnErr, IfSome, IsErrOf, length, take};
-ghost use Rattle.fta_outside.specs.Outside.{Rose, with_bytes, TookPrefix};
+ghost use Rattle.std.specs.Prelude.{◌≡◌, ℕ, ◌≤◌, ◌<◌, List, Option, IfOk, OnErr, IfSome, IsErrOf, length, take};
+ghost use Rattle.fta_outside.specs.Outside.{Rose, Seen, Took, Writes};
 ghost use Rattle.fta_outside.specs.declared.outside.FileError.TheVariants.{Memory};
 
 use plain_values::{List, Word};
@@ -57,11 +57,8 @@ pub struct SinkFailed;
 
 /// What takes the text that the tool writes.
 pub trait Sink {
-    /// The bytes that it took so far, where that is told.
-    ghost taken: { Self → Option (List ℕ) };
-
-    /// How often a write failed.
-    ghost faults: { Self → ℕ };
+    /// What is seen of it: the bytes that it took so far, where that is told, and how often a write failed.
+    ghost seen: { Self → Seen };
 
     /// Writes some bytes of the front of the piece, at least one where there is one, and says how many.
     ///
@@ -69,18 +66,15 @@ pub trait Sink {
     fn write(&mut self, piece: &[u8]) -> Result<usize, SinkFailed>
         ensures within { IfOk result (λ count. count ≤ length piece.now) }
         ensures moves { IfOk result (λ count. 0 < length piece.now → 0 < count) }
-        ensures adds { IfOk result (λ count. taken self.new ≡ with_bytes (taken self.old) (take count piece.now)) }
-        ensures failed { OnErr result (Rose (faults self.old) (faults self.new)) }
-        ensures unchanged { OnErr result (taken self.new ≡ taken self.old) }
-        ensures never_falls { faults self.old ≤ faults self.new };
+        ensures adds { IfOk result (λ count. Took (take count piece.now) (seen self.old) (seen self.new)) }
+        ensures failed { OnErr result (Rose (seen self.old).faults (seen self.new).faults) }
+        ensures unchanged { OnErr result ((seen self.new).taken ≡ (seen self.old).taken) }
+        ensures never_falls { (seen self.old).faults ≤ (seen self.new).faults };
 }
 
 /// Writes all the bytes. After a fault a prefix of them was written.
 pub fn write_all<S: Sink>(sink: &mut S, bytes: &[u8]) -> Result<(), SinkFailed>
-    ensures adds { OnOk result (S.taken sink.new ≡ with_bytes (S.taken sink.old) bytes.now) }
-    ensures prefix { OnErr result (TookPrefix (S.taken sink.old) (S.taken sink.new) bytes.now) }
-    ensures failed { OnErr result (Rose (S.faults sink.old) (S.faults sink.new)) }
-    ensures never_falls { S.faults sink.old ≤ S.faults sink.new }
+    ensures { Writes bytes.now result (S.seen sink.old) (S.seen sink.new) }
 {
     let mut at = 0;
     while at < bytes.len() {

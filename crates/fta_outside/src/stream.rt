@@ -19,9 +19,7 @@ impl<W: Write + Drop> StdSink<W> {
 }
 
 impl<W: Write + Drop> Sink for StdSink<W> {
-    ghost taken = { λ _. None };
-
-    ghost faults = { λ sink. sink.faults };
+    ghost seen = { λ sink. record { taken = None; faults = sink.faults } };
 
     fn write(&mut self, piece: &[u8]) -> Result<usize, SinkFailed> {
         match self.stream.write(piece) {

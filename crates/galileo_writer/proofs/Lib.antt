@@ -1,5 +1,5 @@
 pub mod Bytes
-pub mod Writes
+pub mod TreeLeft
 pub mod OneText
 pub mod Names
 pub mod TreeNames

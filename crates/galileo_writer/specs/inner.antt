@@ -1,2 +1,1 @@
 pub mod TreeText
-pub mod Written

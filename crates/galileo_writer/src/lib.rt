@@ -3,8 +3,8 @@
 
 mod laws;
 mod lines;
-mod writing;
+mod tree_lines;
 
 pub use laws::{gates_differ, one_text, text_truth};
 pub use lines::gate_name;
-pub use writing::write;
+pub use tree_lines::TreeLines;
