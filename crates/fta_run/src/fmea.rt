@@ -9,8 +9,8 @@ ghost use Rattle.fta_run.specs.Due.{fmea_text};
 ghost use Rattle.fta_run.specs.Effects.{asked_effects};
 ghost use Rattle.system_answers.specs.inner.Prints.{Prints};
 
-use fault_system::FaultSystem;
 use fact_formulas::is_of_root;
+use fault_system::FaultSystem;
 use fmea_rows::{rows, write_rows};
 use fta_outside::Sink;
 use model_phases::FlatModel;
