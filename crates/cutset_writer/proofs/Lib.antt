@@ -1,3 +1,2 @@
-pub mod Writing
 mod SetLines
 mod PageTexts

@@ -1,17 +1,15 @@
 -- A page, line by line.
-use Rattle.std.proofs.Common.{ne_eqb, ◌≡◌, ℕ, zero, suc, nat_lt, take, inl, inr, codes, ◌-◌, ◌≤◌, Bool, true, false, not, List, [], ◌∷◌, ◌++◌, length, Option, Some, None, filter, subst, Result, Err, if◌then◌else◌, refl, sym, ap, ◌∙◌, append-nil, append_assoc, arith}
+use Rattle.std.proofs.Common.{ne_eqb, ◌≡◌, ◌⊎◌, ℕ, zero, suc, nat_lt, take, inl, inr, codes, ◌-◌, ◌≤◌, Bool, true, false, not, List, [], ◌∷◌, ◌++◌, length, Option, Some, None, filter, subst, Result, Err, if◌then◌else◌, refl, sym, ap, ◌∙◌, append-nil, append_assoc, arith}
 use Rattle.std.proofs.lemmas.Bool.{cases_lt, false≢true, le-ltb, lt-ltb}
 use Rattle.std.specs.List.{flat_map}
-use Rattle.fta_outside.specs.Outside.{Rose, TookPrefix, with_bytes}
-use Rattle.fta_outside.proofs.Writing.{wrote_both}
+use Rattle.fta_outside.specs.Outside.{Rose, Seen, Took, TookPrefix, Writes}
+use Rattle.fta_outside.proofs.Writing.{took_both, wrote_not, wrote_then}
 use Rattle.fault_system.specs.Systems.{System}
 use Rattle.fault_system.proofs.Elements.{each-at, each-made, In-filter}
 use Rattle.cutset_writer.specs.inner.Pages.{HasRoom, goes_on, has_room, later, next_line, next_more, one_less}
 use Rattle.cutset_writer.specs.inner.Steps.{IsWritten}
 use Rattle.cutset_writer.specs.Text.{last_line, last_of, marked_text, more_line, set_line}
-use Rattle.cutset_writer.specs.inner.Written.{Writes}
 use Rattle.cutset_writer.specs.declared.form.SetForm.{SetForm}
-use Rattle.cutset_writer.proofs.Writing.{wrote_not, wrote_then}
 
 lt-suc : (a b : ℕ) → nat_lt (suc a) (suc b) ≡ nat_lt a b
 lt-suc a b = elim (cases_lt a b) [
@@ -70,35 +68,36 @@ page-begins form system key last more limit sets is = by (goes_on limit sets) re
   by false off = ([], page-end form system key last more limit sets is off)
 
 -- a line was not written whole
-pub page_stopped : {T E : Type 0} (form : SetForm) (system : System) (key last : Option (List ℕ)) (limit : Option ℕ) (sets : List (List ℕ)) (t u v : Option (List ℕ)) (f g h : ℕ) (more : List ℕ) (limit_left : Option ℕ) (left : List (List ℕ)) (r : Result T E) (e : E) → r ≡ Err e
-    → IsWritten form system key last limit sets t u f g more limit_left left → (TookPrefix u v (next_line form system more limit_left left) × Rose g h) × (g ≤ h) → Writes r (marked_text form system key last limit sets) t v f h
-page_stopped form system key last limit sets t u v f g h more limit_left left r e is w stopped =
+pub page_stopped : {T E : Type 0} (form : SetForm) (system : System) (key last : Option (List ℕ)) (limit : Option ℕ) (sets : List (List ℕ)) (t u v : Seen) (more : List ℕ) (limit_left : Option ℕ) (left : List (List ℕ)) (r : Result T E) (e : E) → r ≡ Err e
+    → IsWritten form system key last limit sets t u more limit_left left → (TookPrefix (next_line form system more limit_left left) u v × (Rose u.faults v.faults ⊎ ⊥)) × (u.faults ≤ v.faults) → Writes (marked_text form system key last limit sets) r t v
+page_stopped {T} {E} form system key last limit sets t u v more limit_left left r e is w stopped =
     let begins = page-begins form system key w.place more limit_left left w.named in
-    wrote_then r t u v f g h w.front (marked_text form system key w.place limit_left left) (marked_text form system key last limit sets) w.rest w.taken w.faults
-    (wrote_not r e is u v g h (next_line form system more limit_left left) begins.0 (marked_text form system key w.place limit_left left) begins.1 stopped)
+    let none : E → Type 0 = λ _. ⊥ in
+    wrote_then none r t u v w.front (marked_text form system key w.place limit_left left) (marked_text form system key last limit sets) w.rest w.taken w.faults
+    (wrote_not none r e is u v (next_line form system more limit_left left) begins.0 (marked_text form system key w.place limit_left left) begins.1 stopped)
 
 -- the last line was written
-pub page_ended : (form : SetForm) (system : System) (key last : Option (List ℕ)) (limit : Option ℕ) (sets : List (List ℕ)) (t u v : Option (List ℕ)) (f g h : ℕ) (more : List ℕ) (limit_left : Option ℕ) (left : List (List ℕ)) (on : Bool)
-    → IsWritten form system key last limit sets t u f g more limit_left left → on ≡ goes_on limit_left left → on ≡ false → v ≡ with_bytes u (next_line form system more limit_left left) → g ≤ h → (v ≡ with_bytes t (marked_text form system key last limit sets)) × (f ≤ h)
-page_ended form system key last limit sets t u v f g h more limit_left left on w goes off wrote grows =
+pub page_ended : (form : SetForm) (system : System) (key last : Option (List ℕ)) (limit : Option ℕ) (sets : List (List ℕ)) (t u v : Seen) (more : List ℕ) (limit_left : Option ℕ) (left : List (List ℕ)) (on : Bool)
+    → IsWritten form system key last limit sets t u more limit_left left → on ≡ goes_on limit_left left → on ≡ false → Took (next_line form system more limit_left left) u v → u.faults ≤ v.faults → Took (marked_text form system key last limit sets) t v × (t.faults ≤ v.faults)
+page_ended form system key last limit sets t u v more limit_left left on w goes off wrote grows =
     let faults = w.faults in
     let whole = w.rest ∙ ap (λ p. w.front ++ p) (page-end form system key w.place more limit_left left w.named (sym goes ∙ off) ∙ append-nil (next_line form system more limit_left left)) in
-    (wrote_both t u v w.front (next_line form system more limit_left left) w.taken wrote ∙ ap (with_bytes t) (sym whole), omega (arith, faults, grows))
+    (subst (λ (all : List ℕ). Took all t v) (sym whole) (took_both t u v w.front (next_line form system more limit_left left) w.taken wrote), omega (arith, faults, grows))
 
 pub room_later : (system : System) (room : ℕ) (sets : List (List ℕ)) → HasRoom system room sets → HasRoom system room (later sets)
 room_later system room [] has = tt
 room_later system room (set ∷ sets) has = has.1
 
 -- a line was written, and the page goes on
-pub page_went_on : (form : SetForm) (system : System) (key last : Option (List ℕ)) (limit : Option ℕ) (sets : List (List ℕ)) (t u v : Option (List ℕ)) (f g h : ℕ) (more more_now : List ℕ) (limit_left now : Option ℕ) (left behind : List (List ℕ)) (on : Bool)
-    → IsWritten form system key last limit sets t u f g more limit_left left → on ≡ goes_on limit_left left → on ≡ true → v ≡ with_bytes u (next_line form system more limit_left left) → g ≤ h → behind ≡ later left → now ≡ one_less limit_left → more_now ≡ next_more key system left
-    → IsWritten form system key last limit sets t v f h more_now now behind
-page_went_on form system key last limit sets t u v f g h more more_now limit_left now left behind on w goes is wrote grows rest fewer names =
+pub page_went_on : (form : SetForm) (system : System) (key last : Option (List ℕ)) (limit : Option ℕ) (sets : List (List ℕ)) (t u v : Seen) (more more_now : List ℕ) (limit_left now : Option ℕ) (left behind : List (List ℕ)) (on : Bool)
+    → IsWritten form system key last limit sets t u more limit_left left → on ≡ goes_on limit_left left → on ≡ true → Took (next_line form system more limit_left left) u v → u.faults ≤ v.faults → behind ≡ later left → now ≡ one_less limit_left → more_now ≡ next_more key system left
+    → IsWritten form system key last limit sets t v more_now now behind
+page_went_on form system key last limit sets t u v more more_now limit_left now left behind on w goes is wrote grows rest fewer names =
     let faults = w.faults in
     let place = place_next w.place left in
     record {
       front = w.front ++ next_line form system more limit_left left;
-      taken = wrote_both t u v w.front (next_line form system more limit_left left) w.taken wrote;
+      taken = took_both t u v w.front (next_line form system more limit_left left) w.taken wrote;
       place = place;
       named = names ∙ names-it left (sym goes ∙ is);
       rest = w.rest ∙ ap (λ p. w.front ++ p) (page-on form system key w.place more limit_left left (sym goes ∙ is)) ∙ sym (append_assoc w.front (next_line form system more limit_left left) (marked_text form system key place (one_less limit_left) (later left)))

@@ -1,4 +1,3 @@
 pub mod Lengths
-pub mod Written
 pub mod Pages
 pub mod Steps

@@ -4,7 +4,7 @@ ghost use Rattle.std.specs.Prelude.{◌≡◌, ◌+◌, ◌≤◌, IfOk, IfSome,
 ghost use Rattle.cutset_writer.specs.inner.Lengths.{most_line};
 ghost use Rattle.cutset_writer.specs.inner.Pages.{IsOpen, IsOpenMark, key_of, more_text};
 ghost use Rattle.cutset_writer.specs.Text.{more_line};
-ghost use Rattle.cutset_writer.specs.inner.Written.{Writes};
+ghost use Rattle.fta_outside.specs.Outside.{Writes};
 ghost use Rattle.page_tokens.specs.Starts.{start_text};
 
 use crate::lines::{longest_line, put_more};
@@ -69,7 +69,7 @@ fn put_place(bookmark: &mut Bookmark, system: &FaultSystem, set: Option<&[u32]>)
 
 /// Writes the line that says that a further set follows.
 pub(crate) fn write_more<S: Sink>(mark: &Option<Bookmark>, sink: &mut S) -> Result<(), SinkFailed>
-    ensures { Writes result (more_text mark.now) (S.taken sink.old) (S.taken sink.new) (S.faults sink.old) (S.faults sink.new) }
+    ensures { Writes (more_text mark.now) result (S.seen sink.old) (S.seen sink.new) }
 {
     match mark {
         Some(bookmark) => write_all(sink, bookmark.line.as_slice()),

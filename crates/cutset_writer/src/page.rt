@@ -5,8 +5,8 @@ ghost use Rattle.zdd_store.specs.inner.Store.{IsIn, Keeps, family_of};
 ghost use Rattle.cutset_lister.specs.inner.Walks.{IsSameListing, IsStarted, all_sets, sets_left};
 ghost use Rattle.cutset_writer.specs.inner.Lengths.{most_line};
 ghost use Rattle.cutset_writer.specs.inner.Pages.{HasRoom, IsOpen, IsOpenMark, IsReady, Lists, goes_on, has_room, key_of, later, more_text, next_line, next_more, one_less};
-ghost use Rattle.cutset_writer.specs.Text.{listing_page, marked_page, marked_text, more_line};
-ghost use Rattle.cutset_writer.specs.inner.Written.{Writes};
+ghost use Rattle.cutset_writer.specs.Text.{marked_page, marked_text, more_line};
+ghost use Rattle.fta_outside.specs.Outside.{Writes};
 ghost use Rattle.cutset_writer.specs.declared.form.SetForm.TheVariants.{Token};
 
 use crate::bookmark::{Bookmark, keep_place, write_more};
@@ -24,8 +24,8 @@ use zdd_store::{Id, Store};
 /// A listing that is about to be written, with all the memory that this needs.
 #[derive(Drop)]
 pub struct PageWriter {
-    listing: Listing,
-    line: Vec<u8>,
+    pub(crate) listing: Listing,
+    pub(crate) line: Vec<u8>,
 }
 
 impl PageWriter {
@@ -52,70 +52,10 @@ impl PageWriter {
         let line = Vec::with_capacity(alloc, room)?;
         Ok(PageWriter { listing, line })
     }
-
-    /// Writes a page, each line at once: the sets that stand later than `after`, as many as the limit lets, and then `more` where
-    /// a further set follows, else `end`. It takes no memory.
-    pub fn write<S: Sink>(
-        mut self,
-        system: &FaultSystem,
-        store: &Store,
-        form: SetForm,
-        after: Option<&[u32]>,
-        limit: Option<u32>,
-        sink: &mut S,
-    ) -> Result<(), SinkFailed>
-        requires { IsReady system.now store.now self }
-        ensures { Writes result (listing_page form system.now (option_map (λ set. set.now) after.entry) limit (all_sets store.now self.listing)) (S.taken sink.old) (S.taken sink.new) (S.faults sink.old) (S.faults sink.new) }
-    {
-        write_on_ledger::<S, Brand>(
-            &mut self.listing,
-            system,
-            store,
-            form,
-            after,
-            limit,
-            &mut self.line,
-            &mut None,
-            sink,
-            Blank::new(1),
-        )
-    }
-
-    /// Writes a page in the same way, but a last line `more` has the token of the last set that was written, or else of `after`, or
-    /// else of the beginning. It takes no memory.
-    pub fn write_marked<S: Sink>(
-        mut self,
-        system: &FaultSystem,
-        store: &Store,
-        bookmark: Bookmark,
-        after: Option<&[u32]>,
-        limit: Option<u32>,
-        sink: &mut S,
-    ) -> Result<(), SinkFailed>
-        requires ready { IsReady system.now store.now self }
-        requires open { IsOpen system.now bookmark }
-        requires after { IfSome (option_map (λ set. set.now) after) (IsEventSet system.now) }
-        ensures { Writes result (marked_page Token system.now (Some bookmark.key) (option_map (λ set. set.now) after.entry) limit (all_sets store.now self.listing)) (S.taken sink.old) (S.taken sink.new) (S.faults sink.old) (S.faults sink.new) }
-    {
-        let mut mark = Some(bookmark);
-        keep_place(&mut mark, system, after);
-        write_on_ledger::<S, Brand>(
-            &mut self.listing,
-            system,
-            store,
-            SetForm::Token,
-            after,
-            limit,
-            &mut self.line,
-            &mut mark,
-            sink,
-            Blank::new(1),
-        )
-    }
 }
 
 /// Writes a page, and counts its steps on a ledger of its own.
-fn write_on_ledger<S: Sink, L: Ledger>(
+pub(crate) fn write_on_ledger<S: Sink, L: Ledger>(
     listing: &mut Listing,
     system: &FaultSystem,
     store: &Store,
@@ -136,7 +76,7 @@ fn write_on_ledger<S: Sink, L: Ledger>(
     requires wide { most_line system.now ≤ vec_capacity line.old }
     requires open { IsOpenMark system.now mark.old }
     requires named { more_text mark.old ≡ more_line (key_of mark.old) system.now (option_map (λ set. set.now) after) }
-    ensures { Writes result (marked_page form system.now (key_of mark.old) (option_map (λ set. set.now) after.entry) limit (all_sets store.now listing.old)) (S.taken sink.old) (S.taken sink.new) (S.faults sink.old) (S.faults sink.new) }
+    ensures { Writes (marked_page form system.now (key_of mark.old) (option_map (λ set. set.now) after.entry) limit (all_sets store.now listing.old)) result (S.seen sink.old) (S.seen sink.new) }
 {
     let mut steps = Steps::<L>::new(blank);
     if let Some(set) = after {
@@ -164,7 +104,7 @@ fn write_sets<S: Sink, L: Ledger>(
     requires wide { most_line system.now ≤ vec_capacity line.old }
     requires open { IsOpenMark system.now mark.old }
     ensures { (last : Maybe (Items ℕ)) → more_text mark.old ≡ more_line (key_of mark.old) system.now last
-        → Writes result (marked_text form system.now (key_of mark.old) last limit (sets_left store.now listing.old)) (S.taken sink.old) (S.taken sink.new) (S.faults sink.old) (S.faults sink.new) }
+        → Writes (marked_text form system.now (key_of mark.old) last limit (sets_left store.now listing.old)) result (S.seen sink.old) (S.seen sink.new) }
 {
     let mut room = limit;
     while write_next(listing, system, store, form, room, line, mark, sink, steps)? {
@@ -207,7 +147,7 @@ fn write_next<S: Sink, L: Ledger>(
     requires room { HasRoom system.now (most_line system.now) (sets_left store.now listing.old) }
     requires wide { most_line system.now ≤ vec_capacity line.old }
     requires open { IsOpenMark system.now mark.old }
-    ensures wrote { Writes result (next_line form system.now (more_text mark.old) limit (sets_left store.now listing.old)) (S.taken sink.old) (S.taken sink.new) (S.faults sink.old) (S.faults sink.new) }
+    ensures wrote { Writes (next_line form system.now (more_text mark.old) limit (sets_left store.now listing.old)) result (S.seen sink.old) (S.seen sink.new) }
     ensures goes { IfOk result (λ on. on ≡ goes_on limit (sets_left store.now listing.old)) }
     ensures same { IsSameListing store.now listing.old listing.new }
     ensures left { sets_left store.now listing.new ≡ later (sets_left store.now listing.old) }

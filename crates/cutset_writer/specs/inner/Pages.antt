@@ -70,6 +70,11 @@ abbrev pub IsOpenMark : System → Option Bookmark → Type 0
 IsOpenMark system None = Unit {0}
 IsOpenMark system (Some bookmark) = IsOpen system bookmark
 
+-- The line that says that a further set follows has room for each set, and names the set behind which the page begins.
+pub record IsMarked (system : System) (mark : Option Bookmark) (after : Option (List ℕ)) : Type 0 where
+  pub open_mark : IsOpenMark system mark
+  pub named : more_text mark ≡ more_line (key_of mark) system after
+
 -- The sets of a family in listing order.
 pub record Lists (family sets : List (List ℕ)) : Type 0 where
   pub ordered : IsInListingOrder sets

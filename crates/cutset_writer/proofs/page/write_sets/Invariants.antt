@@ -14,7 +14,7 @@ invariant-loop-room g l = IsStarted l.store l.listing
     × IsOpenMark l.system l.mark
     × (key_of l.mark ≡ key_of l.fn.mark)
     × ((last : Option (List ℕ)) → more_text l.fn.mark ≡ more_line (key_of l.fn.mark) l.system last
-    → IsWritten l.form l.system (key_of l.fn.mark) last l.fn.limit (sets_left l.store l.fn.listing) (g.S.Sink.taken l.fn.sink) (g.S.Sink.taken l.sink) (g.S.Sink.faults l.fn.sink) (g.S.Sink.faults l.sink) (more_text l.mark) l.room (sets_left l.store l.listing))
+    → IsWritten l.form l.system (key_of l.fn.mark) last l.fn.limit (sets_left l.store l.fn.listing) (g.S.Sink.seen l.fn.sink) (g.S.Sink.seen l.sink) (more_text l.mark) l.room (sets_left l.store l.listing))
 
 abbrev pub decreases-loop-room : goal.decreases-loop-room
 decreases-loop-room g l = length (sets_left l.store l.listing)

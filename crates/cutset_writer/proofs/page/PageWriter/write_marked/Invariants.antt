@@ -1,4 +1,0 @@
-use Rattle.cutset_writer.proofs.page.PageWriter.write_marked.Given as goal
-
-abbrev pub ghosts-write_on_ledger : goal.ghosts-write_on_ledger
-ghosts-write_on_ledger g a = record { name = a.blank.name; parts = a.blank.parts }
