@@ -1,10 +1,5 @@
-pub mod Examples
-mod AllKinds
-mod Found
 mod Identifiers
-mod Parses
+mod Names
 mod Places
 mod PlainFront
-mod Spelled
-pub mod Commands
 mod Roots

@@ -1,5 +1,4 @@
 pub mod Naming
-pub mod Parsed
 pub mod Reading
 pub mod Reasons
 pub mod Shown
