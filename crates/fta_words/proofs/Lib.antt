@@ -1,5 +1,12 @@
+pub mod Examples
+mod AllKinds
+mod EachKind
+mod Found
 mod Identifiers
 mod Names
+mod Parses
 mod Places
 mod PlainFront
 mod Roots
+mod Spelled
+pub mod Requests

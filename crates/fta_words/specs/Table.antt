@@ -1,5 +1,6 @@
 -- What the table of commands says of each. Its rows stand in src/table.rt, one a command.
-use Rattle.std.specs.Prelude.{ℕ, List, [], Option, find, map, slice_get}
+use Rattle.std.specs.Prelude.{ℕ, Bool, List, [], Option, find, map, slice_get}
+use Rattle.std.specs.List.{list_any}
 use Rattle.std.specs.Option.{option_map_or}
 use Rattle.plain_values.specs.Name.{is_same_text}
 use Rattle.fta_words.specs.declared.kind.Kind.{Kind}
@@ -47,6 +48,10 @@ valued_of kind = option_map_or (λ row. map (λ name. name.now) row.valued.now) 
 -- those of them that must be there
 abbrev pub required_of : Kind → List (List ℕ)
 required_of kind = option_map_or (λ row. map (λ name. name.now) row.required.now) (slice_get ROWS (place_of kind)) []
+
+-- whether a name is among others
+abbrev pub is_among : List (List ℕ) → List ℕ → Bool
+is_among names name = list_any (λ other. is_same_text other name) names
 
 -- the words that must be there, as help has them
 abbrev pub usage_of : Kind → List ℕ

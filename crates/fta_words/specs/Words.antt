@@ -9,7 +9,7 @@ use Rattle.fta_words.specs.declared.command.Options.{Options}
 use Rattle.fta_words.specs.declared.kind.Kind.{Kind}
 use Rattle.fta_words.specs.declared.kind.Shape.{Shape}
 use Rattle.fta_words.specs.declared.kind.Shape.TheVariants as shape
-use Rattle.fta_words.specs.Table.{flags_of, kind_named, name_of, required_of, shape_of, valued_of}
+use Rattle.fta_words.specs.Table.{flags_of, is_among, kind_named, name_of, required_of, shape_of, valued_of}
 
 -- ---- plain words
 
@@ -155,7 +155,7 @@ AreChosen reports (Some text) chosen = AreNames reports text chosen
 
 -- the reports that a command may choose: those that are handed in, where it has `--reports`
 abbrev pub reports_for : Kind → List (List ℕ) → List (List ℕ)
-reports_for kind reports = if list_any (is_same_text (codes "reports")) (valued_of kind) then reports else []
+reports_for kind reports = if is_among (valued_of kind) (codes "reports") then reports else []
 
 -- What options say, each by its own line, which is the same for all commands. An option that is not given says nothing, and what it
 -- would say is none, empty or false; but without `--reports` all reports are chosen.

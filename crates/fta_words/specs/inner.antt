@@ -1,4 +1,5 @@
 pub mod Naming
+pub mod Parsed
 pub mod Reading
 pub mod Reasons
 pub mod Shown

@@ -1,11 +1,19 @@
-ghost use Rattle.std.specs.Prelude.{IfOk, IfErr};
-ghost use Rattle.fta_words.specs.Words.{IsRequest};
+ghost use Rattle.std.specs.Prelude.{◌≡◌, List, IfOk, IfErr};
+ghost use Rattle.fta_words.specs.Table.{flags_of, valued_of};
+ghost use Rattle.fta_words.specs.Words.{AreOptions, Given, IsRequest, option_words};
+ghost use Rattle.fta_words.specs.inner.Reading.{Answers, HaveOptions, ReadsAs, SaysAs};
 ghost use Rattle.fta_words.specs.inner.Reasons.{TellsUsage};
 ghost use Rattle.fta_words.specs.inner.Shown.{request_shown};
 
+use crate::asked::asked_of;
 use crate::error::WordsFault;
+use crate::files::before_options;
 use crate::kind::Kind;
-use plain_values::{List, Name, Root, Word};
+use crate::options::{are_complete, are_options};
+use crate::parsed::options_said;
+use crate::plain::{are_plain, texts_of};
+use crate::table::kind_named;
+use plain_values::{List, Mem, Name, Root, Word};
 use std::alloc::Global;
 
 /// What the words ask for. What the shape of its command does not have is empty, zero or none.
@@ -74,7 +82,67 @@ impl<'a> Request<'a> {
         ensures request { IfOk result (λ request. IsRequest reports.now words.now (request_shown request)) }
         ensures none { IfErr result (TellsUsage reports.now words.now) }
     {
-        let _unused = alloc;
-        Err(WordsFault::Memory)
+        let Some(request) = request_in(alloc, words, reports)? else {
+            return Err(WordsFault::Usage);
+        };
+        Ok(request)
     }
+}
+
+/// The request that the words give, if they give one.
+fn request_in<'a>(alloc: Global, words: &'a [Word], reports: &[Name]) -> Mem<Option<Request<'a>>>
+    ensures { IfOk result (Answers reports.now words.now) }
+{
+    let plain = before_options(words);
+    if !are_plain(plain) {
+        return Ok(None);
+    }
+    let Some((name, others)) = plain.split_first() else {
+        return Ok(None);
+    };
+    let Some(kind) = kind_named(name.items()) else {
+        return Ok(None);
+    };
+    request_of(alloc, kind, others, &words[plain.len()..], reports)
+}
+
+/// The request of the plain words behind the name of a command, and of the words behind them.
+fn request_of<'a>(
+    alloc: Global,
+    kind: Kind,
+    plain: &'a [Word],
+    behind: &[Word],
+    reports: &[Name],
+) -> Mem<Option<Request<'a>>>
+    ensures { IfOk result (ReadsAs reports.now kind plain.now behind.now) }
+{
+    if !are_options(kind, behind) || !are_complete(kind, behind) {
+        return Ok(None);
+    }
+    let Some(options) = options_of(alloc, kind, behind, reports)? else {
+        return Ok(None);
+    };
+    let Some(asked) = asked_of(alloc, kind, plain)? else {
+        return Ok(None);
+    };
+    Ok(Some(Request {
+        kind,
+        root: asked.root,
+        target: asked.target,
+        number: asked.number,
+        of: asked.of,
+        files: asked.files,
+        options,
+    }))
+}
+
+/// What words say that are options of the command; none where a value has not its form.
+fn options_of(alloc: Global, kind: Kind, words: &[Word], reports: &[Name]) -> Mem<Option<Options>>
+    requires { HaveOptions (flags_of kind) (valued_of kind) words.now }
+    ensures { (given : List Given) → words.now ≡ option_words given → AreOptions (flags_of kind) (valued_of kind) given → IfOk result (SaysAs kind reports.now given) }
+{
+    let Some(texts) = texts_of(alloc, words)? else {
+        return Ok(None);
+    };
+    options_said(alloc, kind, texts.as_slice(), reports)
 }

@@ -3,12 +3,15 @@
 //! The table has a row for each command. The form of the words is tested first, and `clap` reads the options of words that have it.
 #![tactic(auto)]
 
+mod asked;
 mod chosen;
 mod command;
 mod error;
 mod files;
 mod kind;
 mod number;
+mod options;
+mod parsed;
 mod plain;
 mod root;
 mod table;

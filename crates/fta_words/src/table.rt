@@ -4,7 +4,7 @@ ghost use Rattle.std.specs.Prelude.{◌≡◌, ◌<◌, ◌↔◌, IsTrue, Conta
 ghost use Rattle.std.specs.List.{list_any};
 ghost use Rattle.plain_values.specs.Name.{is_same_text};
 ghost use Rattle.fta_words.specs.declared.kind.Kind.{Kind};
-ghost use Rattle.fta_words.specs.Table.{about_of, flags_of, kind_among, kind_named, name_of, optional_of, place_of, required_of, shape_of, usage_of, valued_of};
+ghost use Rattle.fta_words.specs.Table.{about_of, flags_of, is_among, kind_among, kind_named, name_of, optional_of, place_of, required_of, shape_of, usage_of, valued_of};
 
 use crate::kind::{KINDS, Kind, Shape};
 use plain_values::is_same;
@@ -276,9 +276,10 @@ pub(crate) fn has_valued(kind: Kind, name: &[u8]) -> bool
     is_among(valued_of(kind), name)
 }
 
-/// Whether a name stands in a list.
-fn is_among(names: &[&[u8]], name: &[u8]) -> bool
-    ensures { IsTrue result ↔ Contains (map (λ name. name.now) names.now) name.now }
+/// Whether a name is among others.
+pub(crate) fn is_among(names: &[&[u8]], name: &[u8]) -> bool
+    ensures value { result ≡ is_among (map (λ name. name.now) names.now) name.now }
+    ensures means { IsTrue result ↔ Contains (map (λ name. name.now) names.now) name.now }
 {
     is_some_same(names, name)
 }
