@@ -1,9 +1,9 @@
 use Rattle.std.proofs.Common.{sym, ◌∙◌, ap}
 use Rattle.plain_values.specs.Name.{is_same_text}
-use Rattle.fta_words.specs.Words.{has_flag}
-use Rattle.fta_words.specs.inner.Reading.{flags_of, valued_of}
+use Rattle.fta_words.specs.Words.{is_given}
+use Rattle.fta_words.specs.Table.{flags_of, valued_of}
 use Rattle.fta_words.proofs.Spelled.{first_is, kinds_apart, none_given, said_here, said_later}
-use Rattle.fta_words.proofs.options.is_said.Goals as goal
+use Rattle.fta_words.proofs.options.is_given.Goals as goal
 
 pub returns-then-is_same : goal.returns-then-is_same
 returns-then-is_same c = λ given same allowed.
@@ -25,4 +25,4 @@ pub returns : goal.returns
 returns c = λ given same allowed.
     let left = c.loop-next.invariant given same allowed in
     let none = none_given (flags_of c.args.kind) (valued_of c.args.kind) _ c.in_default.ensures left.0 left.1 left.2 in
-    sym (left.3 ∙ ap (has_flag c.args.name.now) none)
+    sym (left.3 ∙ ap (is_given c.args.name.now) none)
