@@ -6,7 +6,6 @@ use Rattle.std.specs.Option.{option_map_or}
 use Rattle.plain_values.specs.Name.{folded}
 use Rattle.plain_values.specs.declared.name.Root.{Root}
 use Rattle.fta_words.specs.declared.command.Options.{Options}
-use Rattle.fta_words.specs.declared.command.Paging.{Paging}
 use Rattle.fta_words.specs.declared.command.Request.{Request as RequestInCode}
 use Rattle.fta_words.specs.declared.kind.Kind.{Kind}
 use Rattle.fta_words.specs.declared.kind.Shape.{Shape}
@@ -133,18 +132,6 @@ same_file (file ∷ more ∷ files) files₂ word word₂ one other same = absur
 same_model : (w v : List ℕ) (root root₂ : Root) (files files₂ : List (List ℕ)) → w ≡ v → NamesModel w root files → NamesModel v root₂ files₂ → root ≡ root₂
 same_model w v root root₂ files files₂ word x y = one_root (folded v) root root₂ (subst (λ l. IsRoot (folded l) root) word x.root_is) y.root_is
 
--- a value is the one of its parts
-abbrev paging : Option ℕ → Option (List ℕ) → Option ℕ → Paging
-paging limit after max_order = record { limit = limit; after = after; max_order = max_order }
-
-abbrev options : Paging → List ℕ → List ℕ → Bool → Bool → Bool → Bool → Options
-options page set chosen tokens all text paths =
-    record { paging = page; set = set; chosen = chosen; tokens = tokens; all = all; text = text; paths = paths }
-
-abbrev request : Kind → Root → List ℕ → ℕ → Option Kind → List (List ℕ) → Options → Request
-request k root target number of files said =
-    record { kind = k; root = root; target = target; number = number; of = of; files = files; options = said }
-
 -- options say one thing at most
 one_say : (k : Kind) (reports : List (List ℕ)) (given : List Given) (a b : Options) → Say k reports given a → Say k reports given b → a ≡ b
 one_say k reports given a b x y =
@@ -153,15 +140,12 @@ one_say k reports given a b x y =
     let limit = one_said IsNumberText one_number (value_of (codes "limit") given) p.limit q.limit x.limit y.limit in
     let after = one_said IsFolded one_fold (value_of (codes "after") given) p.after q.after x.after y.after in
     let max_order = one_said IsNumberText one_number (value_of (codes "max-order") given) p.max_order q.max_order x.max_order y.max_order in
-    let page : p ≡ q = ap (λ v. paging v p.after p.max_order) limit ∙ ap (λ v. paging q.limit v p.max_order) after ∙ ap (λ v. paging q.limit q.after v) max_order in
     let chosen = one_chosen (reports_for k reports) (value_of (codes "reports") given) a.chosen b.chosen x.chosen y.chosen in
-    ap (λ v. options v a.set a.chosen a.tokens a.all a.text a.paths) page
-    ∙ ap (λ v. options q v a.chosen a.tokens a.all a.text a.paths) (x.set ∙ sym y.set)
-    ∙ ap (λ v. options q b.set v a.tokens a.all a.text a.paths) chosen
-    ∙ ap (λ v. options q b.set b.chosen v a.all a.text a.paths) (x.tokens ∙ sym y.tokens)
-    ∙ ap (λ v. options q b.set b.chosen b.tokens v a.text a.paths) (x.all ∙ sym y.all)
-    ∙ ap (λ v. options q b.set b.chosen b.tokens b.all v a.paths) (x.text ∙ sym y.text)
-    ∙ ap (λ v. options q b.set b.chosen b.tokens b.all b.text v) (x.paths ∙ sym y.paths)
+    let same : ◌≡◌ {A = Options}
+    (record { paging = record { limit = p.limit; after = p.after; max_order = p.max_order }; set = a.set; chosen = a.chosen; tokens = a.tokens; all = a.all; text = a.text; paths = a.paths })
+    (record { paging = record { limit = q.limit; after = q.after; max_order = q.max_order }; set = b.set; chosen = b.chosen; tokens = b.tokens; all = b.all; text = b.text; paths = b.paths })
+    = cc (limit, after, max_order, chosen, x.set ∙ sym y.set, x.tokens ∙ sym y.tokens, x.all ∙ sym y.all, x.text ∙ sym y.text, x.paths ∙ sym y.paths) in
+    same
 
 -- what two requests have in common that plain words make
 record Agree (root root₂ : Root) (target target₂ : List ℕ) (number number₂ : ℕ) (of of₂ : Option Kind) (files files₂ : List (List ℕ)) : Type 0 where
@@ -215,13 +199,11 @@ one_read reports k plain behind a b x y =
     let given : x.given ≡ y.given = one_given (flags_of k) (valued_of k) (kinds_apart k) x.given y.given x.options.allowed y.options.allowed (sym x.behind_are ∙ y.behind_are) in
     let said : a.options ≡ b.options = one_say k reports y.given a.options b.options (subst (λ g. Say k reports g a.options) given x.said) y.said in
     let asked = one_asked (shape_of k) plain a.root b.root a.target b.target a.number b.number a.of b.of a.files b.files x.asked y.asked in
-    ap (λ v. request v a.root a.target a.number a.of a.files a.options) (x.kind_is ∙ sym y.kind_is)
-    ∙ ap (λ v. request b.kind v a.target a.number a.of a.files a.options) asked.roots
-    ∙ ap (λ v. request b.kind b.root v a.number a.of a.files a.options) asked.targets
-    ∙ ap (λ v. request b.kind b.root b.target v a.of a.files a.options) asked.numbers
-    ∙ ap (λ v. request b.kind b.root b.target b.number v a.files a.options) asked.ofs
-    ∙ ap (λ v. request b.kind b.root b.target b.number b.of v a.options) asked.all_files
-    ∙ ap (λ v. request b.kind b.root b.target b.number b.of b.files v) said
+    let same : ◌≡◌ {A = Request}
+    (record { kind = a.kind; root = a.root; target = a.target; number = a.number; of = a.of; files = a.files; options = a.options })
+    (record { kind = b.kind; root = b.root; target = b.target; number = b.number; of = b.of; files = b.files; options = b.options })
+    = cc (x.kind_is ∙ sym y.kind_is, asked.roots, asked.targets, asked.numbers, asked.ofs, asked.all_files, said) in
+    same
 
 -- words are one request at most
 pub one_request : (reports words : List (List ℕ)) (a b : Request) → IsRequest reports words a → IsRequest reports words b → a ≡ b
