@@ -1,7 +1,8 @@
 # Completions for bash: source this file, or put it into the folder of bash-completion under the name aadl_fta.
+# It is written by tools/pages.
 
 _aadl_fta() {
-  local commands='check cuts tree fmea targets events review report make galileo paths why confirm place help version'
+  local commands='check cuts tree fmea report make galileo paths why confirm targets events review place help version'
   local word=${COMP_WORDS[COMP_CWORD]} before=${COMP_WORDS[COMP_CWORD-1]}
   local command=${COMP_WORDS[1]} options='' files_from=0
   COMPREPLY=()
@@ -9,7 +10,7 @@ _aadl_fta() {
     COMPREPLY=($(compgen -W "$commands" -- "$word"))
     return
   fi
-  # Behind an option with a value stands that, which only a report's name can be completed to.
+  # Behind an option with a value stands that, which can be completed only where it is one of some names.
   case $before in
     --reports)
       COMPREPLY=($(compgen -W 'orders uses singles' -- "$word"))

@@ -30,12 +30,16 @@ added_fact marking number facts waiting h absent is pushed n =
     let waits : set_of waiting n ≡ set_of marking.waiting.items n || ((number == n) || false) = ap (λ ns. set_of ns n) pushed ∙ list_any-append (λ m. m == n) marking.waiting.items (number ∷ []) in
     rw (marks, waits) (fresh (member marking.facts n) (number == n) (set_of marking.waiting.items n) (λ e. subst (λ m. member marking.facts m ≡ false) (eqb-true number n e) absent))
 
-pub marked-fact : (old new : Marking) (number : ℕ) → number < length old.facts → member old.facts number ≡ false → new.facts ≡ set old.facts number true → new.events ≡ old.events → new.waiting.items ≡ old.waiting.items ++ number ∷ [] → Adds (λ n. number == n) (λ n. false) old new
-marked-fact old new number h absent is same pushed =
+and_led : (a led : Bool) → led ≡ true → a ≡ a && led
+and_led true led e = sym e
+and_led false led e = refl
+
+pub marked-fact : (old new : Marking) (number : ℕ) (led : Bool) → led ≡ true → number < length old.facts → member old.facts number ≡ false → new.facts ≡ set old.facts number true → new.events ≡ old.events → new.waiting.items ≡ old.waiting.items ++ number ∷ [] → Adds (λ n. (number == n) && led) (λ n. false) old new
+marked-fact old new number led led_is h absent is same pushed =
     record {
       facts_size = ap length is ∙ length-set old.facts number true;
       events_size = ap length same;
-      facts_are = λ n _. ap (λ bs. member bs n) is ∙ member-set old.facts number n h;
+      facts_are = λ n _. ap (λ bs. member bs n) is ∙ member-set old.facts number n h ∙ ap (λ b. member old.facts n || b) (and_led (number == n) led led_is);
       events_are = λ n _. ap (λ bs. member bs n) same ∙ or_none (member old.events n);
       done = added_fact old number new.facts new.waiting.items h absent is pushed;
       work = let counted = ap count_true is ∙ count-put old.facts number h absent in let long = ap length pushed ∙ length-append old.waiting.items (number ∷ []) in omega (arith, counted, long);

@@ -1,8 +1,9 @@
-ghost use Rattle.std.specs.Prelude.{◌≡◌, ◌<◌, ◌+◌, OnOk, map, false, ◌==◌};
+ghost use Rattle.std.specs.Prelude.{◌≡◌, ◌<◌, ◌+◌, ◌++◌, ◌∷◌, ◌&&◌, OnOk, map, false, ◌==◌};
 ghost use Rattle.std.specs.List.{list_any};
 ghost use Rattle.fault_system.specs.Truth.{occurs, occurs_event};
 ghost use Rattle.backward_slice.specs.inner.Marks.{Adds};
 
+use crate::ways::Ways;
 use fault_system::{Bits, Formula};
 use plain_values::Mem;
 
@@ -15,11 +16,11 @@ pub(crate) struct Marking {
 }
 
 impl Marking {
-    /// Marks a fact; a fact that was not marked waits.
-    pub fn mark_fact(&mut self, number: u32) -> Mem<()>
-        ensures { OnOk result (Adds (λ n. number == n) (λ n. false) self.old self.new) }
+    /// Marks a fact, if it is led to; a fact that was not marked waits.
+    pub fn mark_fact(&mut self, number: u32, is_led: bool) -> Mem<()>
+        ensures { OnOk result (Adds (λ n. (number == n) && is_led) (λ n. false) self.old self.new) }
     {
-        if number < self.facts.size() && !self.facts.has(number) {
+        if is_led && number < self.facts.size() && !self.facts.has(number) {
             self.waiting.push(number)?;
             self.facts.put(number);
         }
@@ -36,10 +37,16 @@ impl Marking {
     }
 }
 
-/// Marks all facts and events of a formula.
+/// Marks the facts of the formula of a fact to which it is gone, and all its events.
 #[cycle(visit)]
-pub(crate) fn visit(marking: &mut Marking, formula: &Formula) -> Mem<()>
-    ensures { OnOk result (Adds (λ n. occurs n formula.now) (λ n. occurs_event n formula.now) marking.old marking.new) }
+pub(crate) fn visit<W: Ways>(
+    marking: &mut Marking,
+    ways: &W,
+    from: u32,
+    formula: &Formula,
+) -> Mem<()>
+    ensures { OnOk result (Adds (λ n. occurs n formula.now && W.ways ways.now from n)
+        (λ n. occurs_event n formula.now) marking.old marking.new) }
 {
     match formula {
         Formula::True => Ok(()),
@@ -47,21 +54,21 @@ pub(crate) fn visit(marking: &mut Marking, formula: &Formula) -> Mem<()>
             marking.mark_event(*number);
             Ok(())
         }
-        Formula::Fact(number) => marking.mark_fact(*number),
+        Formula::Fact(number) => marking.mark_fact(*number, ways.leads(from, *number)),
         Formula::And(parts) | Formula::Or(parts) | Formula::AtLeast(_, parts) => {
-            visit_parts(marking, parts.items())
+            visit_parts(marking, ways, from, parts.items())
         }
     }
 }
 
 #[cycle(visit)]
-fn visit_parts(marking: &mut Marking, parts: &[Formula]) -> Mem<()>
+fn visit_parts<W: Ways>(marking: &mut Marking, ways: &W, from: u32, parts: &[Formula]) -> Mem<()>
     ensures { OnOk result (Adds
-        (λ n. list_any (λ part. part) (map (occurs n) parts.now))
+        (λ n. list_any (λ part. part) (map (occurs n) parts.now) && W.ways ways.now from n)
         (λ n. list_any (λ part. part) (map (occurs_event n) parts.now)) marking.old marking.new) }
 {
     for part in parts {
-        visit(marking, part)?;
+        visit(marking, ways, from, part)?;
     }
     Ok(())
 }

@@ -81,14 +81,26 @@ marks_of kind declareds = flat_map (mark_of kind) declareds
 abbrev pub duplicates : List Mark → List Mark → List Refusal
 duplicates all marks = flat_map (λ mark. refused_so (list_any (is_earlier mark.name mark.level mark.spot.at) all) DuplicateName mark.spot) marks
 
--- Whether a declaration makes a member: it is not `refined to`, or a farther classifier declares a member of its kind and
--- name.
-abbrev pub stands : {Item : Type 0} → Kind Item → List Mark → Declared Item → Bool
-stands kind marks declared = not (kind.is_refined declared.item) || list_any (is_earlier (kind.name declared.item) declared.level 0) marks
+-- whether a farther classifier declares a member of the kind and the name of a declaration
+abbrev pub is_declared_farther : {Item : Type 0} → Kind Item → List Mark → Declared Item → Bool
+is_declared_farther kind marks declared = list_any (is_earlier (kind.name declared.item) declared.level 0) marks
 
--- N5 at each declaration that makes no member
+-- whether an earlier declaration of the kind has the name of a declaration
+abbrev pub is_declared_earlier : {Item : Type 0} → Kind Item → List Mark → Declared Item → Bool
+is_declared_earlier kind marks declared = list_any (is_earlier (kind.name declared.item) declared.level (kind.spot declared.item).at) marks
+
+-- Whether a declaration makes a member: one that is `refined to` where a farther classifier declares a member of its kind and
+-- name, and any other where it is the first of them.
+abbrev pub stands : {Item : Type 0} → Kind Item → List Mark → Declared Item → Bool
+stands kind marks declared = cond (kind.is_refined declared.item) (is_declared_farther kind marks declared) (not (is_declared_earlier kind marks declared))
+
+-- whether a declaration is `refined to` where there is nothing to refine
+abbrev pub refines_nothing : {Item : Type 0} → Kind Item → List Mark → Declared Item → Bool
+refines_nothing kind marks declared = kind.is_refined declared.item && not (is_declared_farther kind marks declared)
+
+-- N5 at each declaration that refines nothing
 abbrev pub unknown_members : {Item : Type 0} → Kind Item → List Mark → List (Declared Item) → List Refusal
-unknown_members kind marks declareds = flat_map (λ declared. refused_so (not (stands kind marks declared)) UnknownMember (kind.spot declared.item)) declareds
+unknown_members kind marks declareds = flat_map (λ declared. refused_so (refines_nothing kind marks declared) UnknownMember (kind.spot declared.item)) declareds
 
 -- ---- members
 

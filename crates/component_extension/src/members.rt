@@ -1,7 +1,7 @@
 ghost use Rattle.std.specs.Prelude.{◌≡◌, ◌∷◌, ◌++◌, [], IfOk, OnOk, filter, fold, option_copied};
 ghost use Rattle.std.specs.HashMap.{get};
 ghost use Rattle.plain_values.specs.Order.{least, nearer};
-ghost use Rattle.component_extension.specs.Members.{declarations, declare, declared_by, member_key, members_of, refined_by, stands, unknown_members};
+ghost use Rattle.component_extension.specs.Members.{declarations, declare, declared_by, is_declared_earlier, is_declared_farther, member_key, members_of, refined_by, refines_nothing, stands, unknown_members};
 ghost use Rattle.component_extension.specs.inner.Rows.{KnowsRows, same_words};
 
 use crate::classifier::Classifier;
@@ -40,15 +40,50 @@ fn add_declared<'a, M: MemberKind>(
     Ok(())
 }
 
-/// Whether a declaration makes a member: it is not `refined to`, or a farther classifier declares one of its name.
+/// Whether a farther classifier declares a member of the kind and the name of a declaration.
+fn is_declared_farther<'a, M: MemberKind>(
+    names: &PlainNames<'a>,
+    declaration: &Declaration<'a, M>,
+) -> bool
+    ensures { result ≡ is_declared_farther M.kind names.now declaration.now }
+{
+    names.has_before(declaration.item().name().text(), declaration.level(), 0)
+}
+
+/// Whether an earlier declaration of the kind has the name of a declaration.
+fn is_declared_earlier<'a, M: MemberKind>(
+    names: &PlainNames<'a>,
+    declaration: &Declaration<'a, M>,
+) -> bool
+    ensures { result ≡ is_declared_earlier M.kind names.now declaration.now }
+{
+    let item = declaration.item();
+    names.has_before(item.name().text(), declaration.level(), item.spot().at)
+}
+
+/// Whether a declaration makes a member: one that is `refined to` where a farther classifier declares one of its name, and any
+/// other where it is the first of its name.
 fn stands<'a, M: MemberKind>(names: &PlainNames<'a>, declaration: &Declaration<'a, M>) -> bool
     ensures { result ≡ stands M.kind names.now declaration.now }
 {
-    let item = declaration.item();
-    !item.is_refined() || names.has_before(item.name().text(), declaration.level(), 0)
+    if declaration.item().is_refined() {
+        is_declared_farther(names, declaration)
+    } else {
+        !is_declared_earlier(names, declaration)
+    }
 }
 
-/// Notes each declaration that makes no member.
+/// Whether a declaration is `refined to` where there is nothing to refine.
+fn refines_nothing<'a, M: MemberKind>(
+    names: &PlainNames<'a>,
+    declaration: &Declaration<'a, M>,
+) -> bool
+    ensures { result ≡ refines_nothing M.kind names.now declaration.now }
+{
+    declaration.item().is_refined() && !is_declared_farther(names, declaration)
+}
+
+/// Notes each declaration that refines nothing.
 pub(crate) fn note_unknown<'a, M: MemberKind>(
     first: &mut FirstRefusal,
     names: &PlainNames<'a>,
@@ -57,7 +92,7 @@ pub(crate) fn note_unknown<'a, M: MemberKind>(
     ensures { first.new ≡ nearer first.old (least (unknown_members M.kind names.now all.now)) }
 {
     for declaration in all {
-        let is_unknown = !stands(names, declaration);
+        let is_unknown = refines_nothing(names, declaration);
         first.note_if(is_unknown, Code::UnknownMember, declaration.item().spot());
     }
 }

@@ -6,7 +6,7 @@ use Rattle.plain_values.specs.declared.refusal.Code.TheVariants.{UnknownState, U
 use Rattle.plain_values.specs.declared.refusal.Refusal.{Refusal}
 use Rattle.plain_values.specs.Refusal.{refused_so}
 use Rattle.package_index.specs.Names.{front, last}
-use Rattle.error_types.specs.Libraries.{Table}
+use Rattle.error_libraries.specs.Libraries.{Table}
 use Rattle.propagation_points.specs.Settings.{Setting, refusals_in}
 use Rattle.propagation_points.specs.States.{Sort, held_by, sort_refusals, sort_named}
 use Rattle.propagation_points.specs.Uses.{atom_use}

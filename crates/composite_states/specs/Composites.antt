@@ -7,14 +7,14 @@ use Rattle.plain_values.specs.declared.refusal.Refusal.{Refusal}
 use Rattle.plain_values.specs.Refusal.{refused_so}
 use Rattle.component_extension.specs.declared.effective.Effective.{Effective}
 use Rattle.component_extension.specs.Items.{Scoped}
-use Rattle.error_types.specs.declared.scope.Scope.{Scope}
-use Rattle.error_types.specs.Libraries.{Table}
+use Rattle.error_libraries.specs.declared.scope.Scope.{Scope}
+use Rattle.error_libraries.specs.Libraries.{Table}
 use Rattle.propagation_points.specs.Points.{Point, scopes_of}
 use Rattle.propagation_points.specs.Settings.{Setting, clause_setting, held_in, state_refusals_in}
 use Rattle.propagation_points.specs.States.{Sort, held_numbers, place_of_sort}
 use Rattle.error_conditions.specs.declared.cause.Cause.{Cause}
 use Rattle.error_conditions.specs.Conditions.{cause_of, condition_refusals}
-use Rattle.error_behavior.specs.declared.states.States.{States}
+use Rattle.error_machines.specs.declared.states.States.{States}
 use Rattle.composite_states.specs.declared.meaning.ClauseMeaning.{ClauseMeaning}
 use Rattle.composite_states.specs.Below.{StatesAt, composite_refusals, composite_meaning}
 

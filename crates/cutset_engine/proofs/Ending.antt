@@ -14,10 +14,9 @@ use Rattle.backward_slice.specs.Slices.{IsSlice}
 use Rattle.backward_slice.specs.declared.parts.Slice.{Slice}
 use Rattle.zdd_store.specs.inner.Family.{Family, covers, has, IsRising, IsAntichain}
 use Rattle.zdd_store.specs.inner.Answers.{sets_up_to, IsLeastFamily}
-use Rattle.zdd_store.specs.inner.Store.{Families, IsIn, family_of, family_at, IsSound}
+use Rattle.zdd_store.specs.inner.Store.{Families, IsIn, family_of, IsSound}
 use Rattle.zdd_store.specs.declared.id.Id.{Id}
 use lib.ListN.{length-map}
-use Rattle.zdd_families.specs.inner.Steps.{either}
 use Rattle.zdd_families.proofs.Pairs.{covers-empty}
 use Rattle.family_renaming.specs.inner.Renaming.{name_of, renamed, AreInverse, IsRenamedOf}
 use Rattle.cutset_engine.specs.inner.Gates.{covers_each, events_of}

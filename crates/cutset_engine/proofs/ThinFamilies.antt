@@ -5,7 +5,7 @@ use Rattle.fault_system.specs.Truth.{Has, member, set_of}
 use Rattle.fault_system.specs.Systems.{System}
 use Rattle.fault_system.specs.CutSets.{IsCutSet, IsMinimalCutSet, IsSubset}
 use Rattle.fault_system.specs.Listings.{IsWithinOrder}
-use Rattle.zdd_store.specs.inner.Family.{Family, branch, has, is_within, IsAntichain}
+use Rattle.zdd_store.specs.inner.Family.{Family, branch, is_within, IsAntichain}
 use Rattle.zdd_store.specs.inner.Store.{Families, IsIn, family_of, family_with, IsSound, Fits}
 use Rattle.zdd_store.specs.declared.id.Id.{Id}
 use Rattle.zdd_store.specs.declared.id.Node.{Node}

@@ -1,18 +1,16 @@
 ghost use Rattle.std.specs.Prelude.{◌≡◌, ◌<◌, All, IfOk, OnOk, length, slice_index_or};
 ghost use Rattle.zdd_store.specs.inner.Store.{IsIn, family_of, Keeps};
 ghost use Rattle.backward_slice.specs.Slices.{IsSlice};
-ghost use Rattle.cutset_engine.specs.inner.Filling.{IsFilling, IsFilled};
-ghost use Rattle.cutset_engine.specs.inner.Families.{HasMinimalCutSets, IsLeast, sets_to};
+ghost use Rattle.cutset_engine.specs.inner.Filling.{IsFilling, IsFilled, task_of};
+ghost use Rattle.cutset_engine.specs.inner.Families.{HasAsked, IsAskedOfSlice, IsLeast, sets_to};
 
 use crate::agenda::Agenda;
 use crate::filling::{fill, fill_fact};
-use crate::gates::Form;
 use crate::inner_order::inner_order;
 use crate::race::{Distance, Race, Try};
+use crate::setting::{Asked, Setting};
 use backward_slice::Slice;
-use dependency_blocks::Blocks;
 use family_renaming::in_event_order;
-use fault_system::FaultSystem;
 use plain_values::Mem;
 use std::alloc::{AllocError, Global};
 use zdd_families::{copied, minimal_family, up_to_size};
@@ -29,99 +27,59 @@ const TRIES: u32 = 24;
 /// was given up made is dropped. Each number of the store keeps its family, also where memory is refused.
 pub(crate) fn raced_family(
     alloc: Global,
-    system: &FaultSystem,
-    slice: &Slice,
-    blocks: &Blocks,
-    most: Option<u32>,
+    asked: &Asked<'_>,
     rounds: u32,
     store: &mut Store,
 ) -> Mem<Id>
-    requires { IsSlice system.now slice.now.target slice.now }
+    requires { IsAskedOfSlice asked.now }
     ensures found { IfOk result (IsIn store.new) }
-    ensures exact { IfOk result (λ id. HasMinimalCutSets system.now slice.now.target most (family_of store.new id)) }
+    ensures exact { IfOk result (λ id. HasAsked asked.now (family_of store.new id)) }
     ensures kept { Keeps store.old store.new }
 {
-    let mut race = Race::new(most.is_none());
+    let mut race = Race::new(asked.most.is_none());
     for turn in 0..TRIES {
         if race.rounds() >= rounds {
             return Err(AllocError);
         }
         let mut distance = Distance::NONE;
-        if let Ok(id) = family_within(
-            alloc,
-            system,
-            slice,
-            blocks,
-            most,
-            race.next(),
-            &mut distance,
-            store,
-        ) {
+        if let Ok(id) = family_within(alloc, asked, race.next(), &mut distance, store) {
             return Ok(id);
         }
         race.tell(distance);
     }
     let mut distance = Distance::NONE;
     let all = race.last();
-    family_within(
-        alloc,
-        system,
-        slice,
-        blocks,
-        most,
-        all,
-        &mut distance,
-        store,
-    )
+    family_within(alloc, asked, all, &mut distance, store)
 }
 
 /// The family, where the first try finds it.
-pub(crate) fn first_family(
-    alloc: Global,
-    system: &FaultSystem,
-    slice: &Slice,
-    blocks: &Blocks,
-    most: Option<u32>,
-    store: &mut Store,
-) -> Mem<Id>
-    requires { IsSlice system.now slice.now.target slice.now }
+pub(crate) fn first_family(alloc: Global, asked: &Asked<'_>, store: &mut Store) -> Mem<Id>
+    requires { IsAskedOfSlice asked.now }
     ensures found { IfOk result (IsIn store.new) }
-    ensures exact { IfOk result (λ id. HasMinimalCutSets system.now slice.now.target most (family_of store.new id)) }
+    ensures exact { IfOk result (λ id. HasAsked asked.now (family_of store.new id)) }
     ensures kept { Keeps store.old store.new }
 {
-    let race = Race::new(most.is_none());
+    let race = Race::new(asked.most.is_none());
     let mut distance = Distance::NONE;
-    family_within(
-        alloc,
-        system,
-        slice,
-        blocks,
-        most,
-        race.next(),
-        &mut distance,
-        store,
-    )
+    family_within(alloc, asked, race.next(), &mut distance, store)
 }
 
 /// The family, made over an order of the variables in a store of its own that remembers so many answers at most. How far
 /// it came is told in any case.
 fn family_within(
     alloc: Global,
-    system: &FaultSystem,
-    slice: &Slice,
-    blocks: &Blocks,
-    most: Option<u32>,
+    asked: &Asked<'_>,
     turn: Try,
     distance: &mut Distance,
     store: &mut Store,
 ) -> Mem<Id>
-    requires { IsSlice system.now slice.now.target slice.now }
+    requires { IsAskedOfSlice asked.now }
     ensures found { IfOk result (IsIn store.new) }
-    ensures exact { IfOk result (λ id. HasMinimalCutSets system.now slice.now.target most (family_of store.new id)) }
+    ensures exact { IfOk result (λ id. HasAsked asked.now (family_of store.new id)) }
     ensures kept { Keeps store.old store.new }
 {
     let mut own = Store::limited(alloc, turn.answers);
-    let made = family_by(alloc, system, slice, blocks, most, turn, distance, &mut own)?;
+    let made = family_by(alloc, asked, turn, distance, &mut own)?;
     let answer = copied(alloc, &own, store, made)?;
     Ok(answer)
 }
@@ -129,35 +87,29 @@ fn family_within(
 /// The family, made over an order of the variables and brought into the order of the events.
 fn family_by(
     alloc: Global,
-    system: &FaultSystem,
-    slice: &Slice,
-    blocks: &Blocks,
-    most: Option<u32>,
+    asked: &Asked<'_>,
     turn: Try,
     distance: &mut Distance,
     store: &mut Store,
 ) -> Mem<Id>
-    requires { IsSlice system.now slice.now.target slice.now }
+    requires { IsAskedOfSlice asked.now }
     ensures found { IfOk result (IsIn store.new) }
-    ensures exact { IfOk result (λ id. HasMinimalCutSets system.now slice.now.target most (family_of store.new id)) }
+    ensures exact { IfOk result (λ id. HasAsked asked.now (family_of store.new id)) }
     ensures kept { Keeps store.old store.new }
 {
+    let (system, target) = (asked.system, asked.slice.target);
     let _events = system.events();
-    let mut agenda = Agenda::new(alloc, system, blocks, slice.target)?;
-    let order = inner_order(alloc, system, turn.way, agenda.facts(), slice.target)?;
-    let now = families(
-        alloc,
-        store,
+    let mut agenda = Agenda::new(alloc, system, asked.blocks, target)?;
+    let order = inner_order(alloc, system, turn.way, agenda.facts(), target)?;
+    let setting = Setting {
         system,
-        order.variables(),
-        most,
-        turn.form,
-        slice,
-        &mut agenda,
-        distance,
-    )?;
-    let target = number_at(now.as_slice(), slice.target);
-    let inner = least_family(store, most, target)?;
+        order: order.variables(),
+        most: asked.most,
+        form: turn.form,
+    };
+    let now = families(alloc, store, &setting, asked.slice, &mut agenda, distance)?;
+    let number = number_at(now.as_slice(), target);
+    let inner = least_family(store, asked.most, number)?;
     distance.find();
     let answer = in_event_order(alloc, store, &order, inner)?;
     store.laws();
@@ -175,27 +127,21 @@ fn number_at(numbers: &[Id], at: u32) -> Id
 fn families(
     alloc: Global,
     store: &mut Store,
-    system: &FaultSystem,
-    order: &[u32],
-    most: Option<u32>,
-    form: Form,
+    setting: &Setting<'_>,
     slice: &Slice,
     agenda: &mut Agenda,
     distance: &mut Distance,
 ) -> Mem<Vec<Id>>
-    requires { IsSlice system.now slice.now.target slice.now }
+    requires { IsSlice setting.now.system.now slice.now.target slice.now }
     ensures kept { Keeps store.old store.new }
     ensures filled { IfOk result (λ now.
-        IsFilled (record { system = system.now; order = order.now; most = most }) slice.now.facts store.new now.items) }
+        IsFilled (task_of setting.now) slice.now.facts store.new now.items) }
 {
-    let mut now = no_families(alloc, store, system.facts())?;
+    let mut now = no_families(alloc, store, setting.system.facts())?;
     fill_in_order(
         alloc,
         store,
-        system,
-        order,
-        most,
-        form,
+        setting,
         slice,
         agenda,
         distance,
@@ -220,59 +166,42 @@ fn no_families(alloc: Global, store: &Store, count: u32) -> Mem<Vec<Id>>
 fn fill_in_order(
     alloc: Global,
     store: &mut Store,
-    system: &FaultSystem,
-    order: &[u32],
-    most: Option<u32>,
-    form: Form,
+    setting: &Setting<'_>,
     slice: &Slice,
     agenda: &mut Agenda,
     distance: &mut Distance,
     now: &mut [Id],
 ) -> Mem<()>
-    requires slice { IsSlice system.now slice.now.target slice.now }
-    requires long { length now.old ≡ length system.now.facts }
+    requires slice { IsSlice setting.now.system.now slice.now.target slice.now }
+    requires long { length now.old ≡ length setting.now.system.now.facts }
     requires none { All (λ id. id.position ≡ 0) now.old }
     ensures kept { Keeps store.old store.new }
     ensures filled { OnOk result
-        (IsFilled (record { system = system.now; order = order.now; most = most }) slice.now.facts store.new now.new) }
+        (IsFilled (task_of setting.now) slice.now.facts store.new now.new) }
 {
     store.laws();
-    settle(
-        alloc, store, system, order, most, form, agenda, distance, now,
-    )?;
-    fill(
-        alloc,
-        store,
-        system,
-        order,
-        most,
-        form,
-        slice.facts.items(),
-        now,
-    )
+    settle(alloc, store, setting, agenda, distance, now)?;
+    fill(alloc, store, setting, slice.facts.items(), now)
 }
 
 /// Makes the families of the facts of an agenda, each again where that of a fact of its formula is another.
 fn settle(
     alloc: Global,
     store: &mut Store,
-    system: &FaultSystem,
-    order: &[u32],
-    most: Option<u32>,
-    form: Form,
+    setting: &Setting<'_>,
     agenda: &mut Agenda,
     distance: &mut Distance,
     now: &mut [Id],
 ) -> Mem<()>
-    requires { IsFilling (record { system = system.now; order = order.now; most = most }) store.old now.old }
+    requires { IsFilling (task_of setting.now) store.old now.old }
     ensures kept { Keeps store.old store.new }
-    ensures filling { OnOk result (IsFilling (record { system = system.now; order = order.now; most = most }) store.new now.new) }
+    ensures filling { OnOk result (IsFilling (task_of setting.now) store.new now.new) }
 {
     for step in 0..u64::MAX {
         let Some(fact) = agenda.next() else {
             return Ok(());
         };
-        if fill_fact(alloc, store, system, order, most, form, now, fact)? {
+        if fill_fact(alloc, store, setting, now, fact)? {
             agenda.tell(fact);
         }
         distance.facts = distance.facts.saturating_add(1);

@@ -1,10 +1,9 @@
 ghost use Rattle.std.specs.Prelude.{◌≡◌, ◌<◌, ◌||◌, Contains, OnOk};
 ghost use Rattle.zdd_store.specs.inner.Store.{Keeps};
-ghost use Rattle.cutset_engine.specs.inner.Filling.{IsFilling, IsFilled, Steps, HaveTheirCauses};
+ghost use Rattle.cutset_engine.specs.inner.Filling.{IsFilling, IsFilled, Steps, HaveTheirCauses, task_of};
 
 use crate::formulas::formula_family;
-use crate::gates::Form;
-use fault_system::FaultSystem;
+use crate::setting::Setting;
 use plain_values::Mem;
 use std::alloc::Global;
 use zdd_store::{Id, Store};
@@ -13,22 +12,19 @@ use zdd_store::{Id, Store};
 pub(crate) fn fill_fact(
     alloc: Global,
     store: &mut Store,
-    system: &FaultSystem,
-    order: &[u32],
-    most: Option<u32>,
-    form: Form,
+    setting: &Setting<'_>,
     now: &mut [Id],
     number: u32,
 ) -> Mem<bool>
-    requires { IsFilling (record { system = system.now; order = order.now; most = most }) store.old now.old }
-    ensures { Steps (record { system = system.now; order = order.now; most = most }) store.old store.new now.old now.new
+    requires { IsFilling (task_of setting.now) store.old now.old }
+    ensures { Steps (task_of setting.now) store.old store.new now.old now.new
         (λ n. n ≡ number) result }
 {
     let at = number as usize;
-    let Some(fact) = system.fact(number) else {
+    let Some(fact) = setting.system.fact(number) else {
         return Ok(false);
     };
-    let family = formula_family(alloc, store, order, most, form, now, &fact.formula)?;
+    let family = formula_family(alloc, store, setting, now, &fact.formula)?;
     let changed = family != now[at];
     now[at] = family;
     Ok(changed)
@@ -38,20 +34,17 @@ pub(crate) fn fill_fact(
 fn sweep(
     alloc: Global,
     store: &mut Store,
-    system: &FaultSystem,
-    order: &[u32],
-    most: Option<u32>,
-    form: Form,
+    setting: &Setting<'_>,
     numbers: &[u32],
     now: &mut [Id],
 ) -> Mem<bool>
-    requires { IsFilling (record { system = system.now; order = order.now; most = most }) store.old now.old }
-    ensures { Steps (record { system = system.now; order = order.now; most = most }) store.old store.new now.old now.new
+    requires { IsFilling (task_of setting.now) store.old now.old }
+    ensures { Steps (task_of setting.now) store.old store.new now.old now.new
         (Contains numbers.now) result }
 {
     let mut changed = false;
     for number in numbers {
-        let here = fill_fact(alloc, store, system, order, most, form, now, *number)?;
+        let here = fill_fact(alloc, store, setting, now, *number)?;
         changed = either(changed, here);
     }
     Ok(changed)
@@ -67,21 +60,18 @@ fn either(a: bool, b: bool) -> bool
 pub(crate) fn fill(
     alloc: Global,
     store: &mut Store,
-    system: &FaultSystem,
-    order: &[u32],
-    most: Option<u32>,
-    form: Form,
+    setting: &Setting<'_>,
     numbers: &[u32],
     now: &mut [Id],
 ) -> Mem<()>
-    requires filling { IsFilling (record { system = system.now; order = order.now; most = most }) store.old now.old }
-    requires causes { HaveTheirCauses system.now numbers.now }
+    requires filling { IsFilling (task_of setting.now) store.old now.old }
+    requires causes { HaveTheirCauses setting.now.system.now numbers.now }
     ensures kept { Keeps store.old store.new }
     ensures filled { OnOk result
-        (IsFilled (record { system = system.now; order = order.now; most = most }) numbers.now store.new now.new) }
+        (IsFilled (task_of setting.now) numbers.now store.new now.new) }
 {
-    for round in 0..system.facts() {
-        if !sweep(alloc, store, system, order, most, form, numbers, now)? {
+    for round in 0..setting.system.facts() {
+        if !sweep(alloc, store, setting, numbers, now)? {
             return Ok(());
         }
     }

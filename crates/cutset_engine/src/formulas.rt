@@ -4,7 +4,8 @@ ghost use Rattle.zdd_store.specs.inner.Store.{IsIn, Keeps};
 ghost use Rattle.family_renaming.specs.inner.Renaming.{name_of};
 ghost use Rattle.cutset_engine.specs.inner.Gates.{Made, StandEach, covers_each, events_of, is_true_under};
 
-use crate::gates::{Form, Gate, of_gate, some_of};
+use crate::gates::{Gate, of_gate, some_of};
+use crate::setting::Setting;
 use fault_system::Formula;
 use plain_values::Mem;
 use std::alloc::Global;
@@ -26,30 +27,28 @@ fn variable(order: &[u32], event: u32) -> u32
 pub(crate) fn formula_family(
     alloc: Global,
     store: &mut Store,
-    order: &[u32],
-    most: Option<u32>,
-    form: Form,
+    setting: &Setting<'_>,
     now: &[Id],
     formula: &Formula,
 ) -> Mem<Id>
     requires { All (IsIn store.old) now.now }
-    ensures { Made store.old store.new most (is_true_under order.now store.old now.now formula.now) result }
+    ensures { Made store.old store.new setting.now.most (is_true_under setting.now.order.now store.old now.now formula.now) result }
 {
     match formula {
-        Formula::True => always(store, most),
-        Formula::Event(number) => event_family(store, order, most, *number),
-        Formula::Fact(number) => fact_family(store, most, now, *number),
+        Formula::True => always(store, setting.most),
+        Formula::Event(number) => event_family(store, setting.order, setting.most, *number),
+        Formula::Fact(number) => fact_family(store, setting.most, now, *number),
         Formula::And(parts) => {
-            let families = part_families(alloc, store, order, most, form, now, parts.items())?;
-            of_gate(store, most, form, Gate::And, families)
+            let families = part_families(alloc, store, setting, now, parts.items())?;
+            of_gate(store, setting.most, setting.form, Gate::And, families)
         }
         Formula::Or(parts) => {
-            let families = part_families(alloc, store, order, most, form, now, parts.items())?;
-            of_gate(store, most, form, Gate::Or, families)
+            let families = part_families(alloc, store, setting, now, parts.items())?;
+            of_gate(store, setting.most, setting.form, Gate::Or, families)
         }
         Formula::AtLeast(least, parts) => {
-            let families = part_families(alloc, store, order, most, form, now, parts.items())?;
-            some_of(alloc, store, most, form, *least, families)
+            let families = part_families(alloc, store, setting, now, parts.items())?;
+            some_of(alloc, store, setting.most, setting.form, *least, families)
         }
     }
 }
@@ -59,20 +58,18 @@ pub(crate) fn formula_family(
 fn part_families(
     alloc: Global,
     store: &mut Store,
-    order: &[u32],
-    most: Option<u32>,
-    form: Form,
+    setting: &Setting<'_>,
     now: &[Id],
     parts: &[Formula],
 ) -> Mem<Vec<Id>>
     requires { All (IsIn store.old) now.now }
     ensures kept { Keeps store.old store.new }
-    ensures parts { IfOk result (λ ids. StandEach store.new most
-        (λ set. map (λ part. is_true_under order.now store.old now.now part set) parts.now) ids.items) }
+    ensures parts { IfOk result (λ ids. StandEach store.new setting.now.most
+        (λ set. map (λ part. is_true_under setting.now.order.now store.old now.now part set) parts.now) ids.items) }
 {
     let mut families = Vec::new(alloc);
     for part in parts {
-        let family = formula_family(alloc, store, order, most, form, now, part)?;
+        let family = formula_family(alloc, store, setting, now, part)?;
         families.push(family)?;
     }
     Ok(families)

@@ -20,6 +20,7 @@ mod gates;
 mod inner_order;
 mod laws;
 mod race;
+mod setting;
 mod singles;
 mod thinning;
 

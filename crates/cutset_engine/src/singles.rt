@@ -7,10 +7,11 @@ ghost use Rattle.zdd_store.specs.inner.Family.{IsAntichain};
 ghost use Rattle.zdd_store.specs.inner.Store.{IsIn, family_of, Keeps};
 ghost use Rattle.zdd_families.specs.inner.Unions.{HasMinimalSets, IsInEither};
 ghost use Rattle.backward_slice.specs.Slices.{IsSlice};
-ghost use Rattle.cutset_engine.specs.inner.Families.{HasMinimalCutSets};
+ghost use Rattle.cutset_engine.specs.inner.Families.{HasAsked, HasMinimalCutSets, IsAskedOfSlice};
 ghost use Rattle.cutset_engine.specs.inner.ThinSystems.{AreSingles};
 
 use crate::families::{first_family, raced_family};
+use crate::setting::Asked;
 use crate::thinning::thinned;
 use backward_slice::{Slice, slice};
 use dependency_blocks::{Blocks, blocks};
@@ -58,13 +59,19 @@ pub fn family_in_rounds(
     ensures exact { IfOk result (λ id. HasMinimalCutSets system.now slice.now.target most (family_of store.new id)) }
     ensures kept { Keeps store.old store.new }
 {
-    if let Ok(id) = first_family(alloc, system, slice, blocks, most, store) {
+    let asked = Asked {
+        system,
+        slice,
+        blocks,
+        most,
+    };
+    if let Ok(id) = first_family(alloc, &asked, store) {
         return Ok(id);
     }
     if allows_one(most) {
-        return ones_first(alloc, system, slice, blocks, most, rounds, store);
+        return ones_first(alloc, &asked, rounds, store);
     }
-    raced_family(alloc, system, slice, blocks, most, rounds, store)
+    raced_family(alloc, &asked, rounds, store)
 }
 
 /// Whether sets of one event are asked for.
@@ -105,53 +112,47 @@ fn put_single(alone: &mut Bits, node: Node)
 }
 
 /// The minimal cut sets of the target, where sets of one event are asked for.
-fn ones_first(
-    alloc: Global,
-    system: &FaultSystem,
-    slice: &Slice,
-    blocks: &Blocks,
-    most: Option<u32>,
-    rounds: u32,
-    store: &mut Store,
-) -> Mem<Id>
-    requires slice { IsSlice system.now slice.now.target slice.now }
-    requires allowed { (set : List ℕ) → IsWithinOrder (Some 1) set → IsWithinOrder most set }
+fn ones_first(alloc: Global, asked: &Asked<'_>, rounds: u32, store: &mut Store) -> Mem<Id>
+    requires slice { IsAskedOfSlice asked.now }
+    requires allowed { (set : List ℕ) → IsWithinOrder (Some 1) set → IsWithinOrder asked.now.most set }
     ensures found { IfOk result (IsIn store.new) }
-    ensures exact { IfOk result (λ id. HasMinimalCutSets system.now slice.now.target most (family_of store.new id)) }
+    ensures exact { IfOk result (λ id. HasAsked asked.now (family_of store.new id)) }
     ensures kept { Keeps store.old store.new }
 {
-    let ones = raced_family(alloc, system, slice, blocks, Some(1), u32::MAX, store)?;
-    let alone = single_events(alloc, store, system.events(), ones)?;
-    with_others(
-        alloc, system, slice, blocks, most, rounds, ones, &alone, store,
-    )
+    let single = Asked {
+        system: asked.system,
+        slice: asked.slice,
+        blocks: asked.blocks,
+        most: Some(1),
+    };
+    let ones = raced_family(alloc, &single, u32::MAX, store)?;
+    let alone = single_events(alloc, store, asked.system.events(), ones)?;
+    with_others(alloc, asked, rounds, ones, &alone, store)
 }
 
 /// The minimal cut sets of the target, where those of one event are known.
 fn with_others(
     alloc: Global,
-    system: &FaultSystem,
-    slice: &Slice,
-    blocks: &Blocks,
-    most: Option<u32>,
+    asked: &Asked<'_>,
     rounds: u32,
     ones: Id,
     alone: &Bits,
     store: &mut Store,
 ) -> Mem<Id>
-    requires slice { IsSlice system.now slice.now.target slice.now }
-    requires allowed { (set : List ℕ) → IsWithinOrder (Some 1) set → IsWithinOrder most set }
+    requires slice { IsAskedOfSlice asked.now }
+    requires allowed { (set : List ℕ) → IsWithinOrder (Some 1) set → IsWithinOrder asked.now.most set }
     requires ones_in { IsIn store.old ones }
-    requires ones { HasMinimalCutSets system.now slice.now.target (Some 1) (family_of store.old ones) }
+    requires ones { HasMinimalCutSets asked.now.system.now asked.now.slice.now.target (Some 1) (family_of store.old ones) }
     requires alone { AreSingles (family_of store.old ones) alone.now }
     ensures found { IfOk result (IsIn store.new) }
-    ensures exact { IfOk result (λ id. HasMinimalCutSets system.now slice.now.target most (family_of store.new id)) }
+    ensures exact { IfOk result (λ id. HasAsked asked.now (family_of store.new id)) }
     ensures kept { Keeps store.old store.new }
 {
-    let thin = thinned(alloc, system, alone, slice.target)?;
-    match sliced_family(alloc, &thin, slice.target, most, rounds, store) {
+    let target = asked.slice.target;
+    let thin = thinned(alloc, asked.system, alone, target)?;
+    match sliced_family(alloc, &thin, target, asked.most, rounds, store) {
         Ok(rest) => joined(store, ones, rest),
-        Err(Stop::Refused(_)) => { raced_family(alloc, system, slice, blocks, most, rounds, store) }
+        Err(Stop::Refused(_)) => raced_family(alloc, asked, rounds, store),
         Err(Stop::Memory) => Err(AllocError),
     }
 }
@@ -186,6 +187,12 @@ fn sliced_family(
     store.laws();
     let slice = slice(alloc, system, target)?;
     let blocks = blocks(alloc, system, &slice)?;
-    let family = raced_family(alloc, system, &slice, &blocks, most, rounds, store)?;
+    let asked = Asked {
+        system,
+        slice: &slice,
+        blocks: &blocks,
+        most,
+    };
+    let family = raced_family(alloc, &asked, rounds, store)?;
     Ok(family)
 }

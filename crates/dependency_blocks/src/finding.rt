@@ -32,7 +32,8 @@ pub fn all_blocks(alloc: Global, system: &FaultSystem) -> Mem<Blocks>
     blocks_of(alloc, system, facts.items(), facts.items())
 }
 
-fn all_facts(alloc: Global, count: u32) -> Mem<List<u32>>
+/// The numbers of all facts of a system that has so many.
+pub fn all_facts(alloc: Global, count: u32) -> Mem<List<u32>>
     ensures { IfOk result (λ facts. facts ≡ numbers_below count) }
 {
     let mut facts = List::new(alloc);
@@ -46,7 +47,7 @@ fn all_facts(alloc: Global, count: u32) -> Mem<List<u32>>
 //
 // They are proposed by a search along paths and then tested, both in a time that goes with the facts of the system and
 // their formulas. Should the tests say no, they are found by plain reach. That is slow, since each formula may be looked
-// at once for each pair of facts, and takes memory that goes with the square of the facts; no system is known for which
+// at once for each fact, and takes memory that goes with the square of the facts; no system is known for which
 // it comes to that. The numbers of blocks have gaps then.
 fn blocks_of(alloc: Global, system: &FaultSystem, facts: &[u32], starts: &[u32]) -> Mem<Blocks>
     requires ranged { All (λ n. n < length system.now.facts) facts.now }

@@ -9,7 +9,6 @@ mod checks;
 mod finder;
 mod finding;
 mod ranking;
-mod reach;
 
 pub use block_table::Blocks;
-pub use finding::{all_blocks, blocks};
+pub use finding::{all_blocks, all_facts, blocks};

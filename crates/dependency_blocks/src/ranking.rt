@@ -4,7 +4,7 @@ ghost use Rattle.std.specs.Prelude.{◌≡◌, ◌<◌, ◌^◌, [], ℕ, All, I
 ghost use Rattle.fault_system.specs.Truth.{Has, member};
 ghost use Rattle.dependency_blocks.specs.inner.Reach.{HaveReaches, IsReach, comes_before, rank_of};
 
-use crate::reach::reach;
+use backward_slice::reach;
 use fault_system::{Bits, FaultSystem};
 use plain_values::Mem;
 use std::alloc::Global;
@@ -34,7 +34,8 @@ fn reach_if(alloc: Global, system: &FaultSystem, number: u32, is_wanted: bool) -
     ensures { IfOk result (λ marks. is_wanted ≡ true → IsReach system.now number marks) }
 {
     if is_wanted {
-        reach(alloc, system, number)
+        let found = reach(alloc, system, &[number])?;
+        Ok(found.facts)
     } else {
         Bits::new(alloc, 0)
     }

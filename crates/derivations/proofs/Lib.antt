@@ -10,7 +10,6 @@ pub mod Places
 pub mod Examples
 pub mod KeptOnce
 pub mod HasRound
-pub mod Adding
 pub mod Reaching
 pub mod NumbersIn
 pub mod Keys

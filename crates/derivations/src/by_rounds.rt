@@ -11,9 +11,9 @@ ghost use Rattle.derivations.specs.inner.Ordered.{AreMade, HasSteps, IsMade, pla
 
 use crate::derivation::{Derivation, Firing};
 use crate::gathering::{gather_events, round_of};
-use crate::marking::{reached, used_by};
 use crate::once::once_each;
 use crate::ordering::{order_of, places_at, places_of};
+use crate::uses::{reached, used_by};
 use fault_system::{Bits, FaultSystem};
 use plain_values::{List, Mem};
 use std::alloc::Global;
@@ -64,8 +64,8 @@ fn derivation_by(
         HaveLines (fact_names system.now) (event_names system.now) (member events.now) 0 derivation.steps) }
     ensures holds { IfOk result (λ _. Holds system.now (member events.now) target) }
 {
-    let marking = reached(alloc, system, rounds, target)?;
-    let order = order_of(alloc, rounds, &marking.facts)?;
+    let facts = reached(alloc, system, rounds, target)?;
+    let order = order_of(alloc, rounds, &facts)?;
     Ok(steps_of(alloc, system, rounds, events, order.items())?)
 }
 

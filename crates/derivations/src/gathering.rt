@@ -17,8 +17,8 @@ pub(crate) fn round_of(rounds: &[u32], fact: u32) -> u32
     rounds.get(fact as usize).copied().unwrap_or(0)
 }
 
-// Whether a fact has a round, and an earlier one.
-fn is_before_round(rounds: &[u32], round: u32, fact: u32) -> bool
+/// Whether a fact has a round, and an earlier one.
+pub(crate) fn is_before_round(rounds: &[u32], round: u32, fact: u32) -> bool
     ensures { result ≡ is_before_round rounds.now round fact }
 {
     let earlier = round_of(rounds, fact);

@@ -7,12 +7,12 @@ mod derivation;
 mod gathering;
 mod given;
 mod laws;
-mod marking;
 mod marks;
 mod once;
 mod ordering;
 mod reading;
 mod text;
+mod uses;
 mod writing;
 
 pub use by_rounds::derive;

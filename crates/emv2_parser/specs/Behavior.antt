@@ -15,9 +15,9 @@ use Rattle.grammar_rules.specs.Tokens.{word, sign, one_of, is_word, is_sign, is_
 use Rattle.emv2_parser.specs.declared.behavior.OutgoingEffect.{OutgoingEffect}
 use Rattle.emv2_parser.specs.declared.behavior.CompositeRule.{CompositeRule}
 use Rattle.emv2_parser.specs.declared.behavior.PathEnds.{PathEnds}
-use Rattle.emv2_parser.specs.Words.{is_name, point_words, begins_source, begins_composite, begins_transitions, begins_propagations, component_words}
-use Rattle.emv2_parser.specs.Names.{error_name, point_word, dotted_names, flow_end, state_reference, label, block_end, condition_open, condition_close}
-use Rattle.emv2_parser.specs.Conditions.{whole_condition}
+use Rattle.emv2_parts.specs.Words.{is_name, point_words, begins_source, begins_composite, begins_transitions, begins_propagations, component_words}
+use Rattle.emv2_parts.specs.Names.{error_name, point_word, dotted_names, flow_end, state_reference, label, block_end, condition_open, condition_close}
+use Rattle.emv2_parts.specs.Conditions.{whole_condition}
 use Rattle.emv2_parser.specs.Machines.{source, use_transformations, events_after, transitions_after}
 
 -- cond, where one must stand

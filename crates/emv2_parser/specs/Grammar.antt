@@ -7,10 +7,10 @@ use Rattle.aadl_syntax.specs.declared.error_model.Emv2Clause.{Emv2Clause}
 use Rattle.grammar_rules.specs.Rules.{Rule, gives, chooses, gathers, ◌>>=◌}
 use Rattle.grammar_rules.specs.Spans.{until_inside, ends_to_end}
 use Rattle.grammar_rules.specs.Tokens.{word, sign, is_word, is_one_of, spot}
-use Rattle.emv2_parser.specs.Words.{library_words, clause_words, begins_paths}
-use Rattle.emv2_parser.specs.Names.{error_name, names, reference, use_types_after}
-use Rattle.emv2_parser.specs.Properties.{properties_after}
-use Rattle.emv2_parser.specs.Types.{types_block}
+use Rattle.emv2_parts.specs.Words.{library_words, clause_words, begins_paths}
+use Rattle.emv2_parts.specs.Names.{error_name, names, reference, use_types_after}
+use Rattle.emv2_parts.specs.Properties.{properties_after}
+use Rattle.emv2_parts.specs.Types.{types_block}
 use Rattle.emv2_parser.specs.Machines.{machine}
 use Rattle.emv2_parser.specs.Propagations.{clause_propagations}
 use Rattle.emv2_parser.specs.Behavior.{clause_component, clause_composites, clause_connection, clause_paths}

@@ -1,8 +1,3 @@
-pub mod Words
-pub mod Names
-pub mod Properties
-pub mod Conditions
-pub mod Types
 pub mod Machines
 pub mod Propagations
 pub mod Behavior

@@ -17,11 +17,11 @@ use Rattle.grammar_rules.specs.Tokens.{kind, word, sign, is_kind, is_word, is_si
 use Rattle.emv2_parser.specs.declared.machines.EventWords.{EventWords}
 use Rattle.emv2_parser.specs.declared.machines.StateKind.{StateKind}
 use Rattle.emv2_parser.specs.declared.machines.TransitionEffect.{TransitionEffect}
-use Rattle.emv2_parser.specs.Words.{is_name, begins_source, machine_words}
+use Rattle.emv2_parts.specs.Words.{is_name, begins_source, machine_words}
 use Rattle.grammar_rules.specs.Spans.{tail_end_inside}
-use Rattle.emv2_parser.specs.Names.{error_name, names, use_types_after, optional_set, state_reference, label, block_end, condition_open, condition_close}
-use Rattle.emv2_parser.specs.Properties.{properties_after}
-use Rattle.emv2_parser.specs.Conditions.{whole_condition}
+use Rattle.emv2_parts.specs.Names.{error_name, names, use_types_after, optional_set, state_reference, label, block_end, condition_open, condition_close}
+use Rattle.emv2_parts.specs.Properties.{properties_after}
+use Rattle.emv2_parts.specs.Conditions.{whole_condition}
 
 -- "error" "event" [ tset ] tail ";"
 unfoldable pub error_event : Rule EventWords

@@ -14,9 +14,9 @@ use Rattle.grammar_rules.specs.Rules.{Rule, gives, chooses, ◌>>=◌}
 use Rattle.grammar_rules.specs.Parts.{parts_after}
 use Rattle.grammar_rules.specs.Tokens as token
 use Rattle.grammar_rules.specs.Tokens.{word, sign, is_kind, is_word, is_sign, spot}
-use Rattle.emv2_parser.specs.Words.{is_name, begins_point}
+use Rattle.emv2_parts.specs.Words.{is_name, begins_point}
 use Rattle.grammar_rules.specs.Spans.{tail_end_inside}
-use Rattle.emv2_parser.specs.Names.{error_name, names, point, type_set, flow_end, state_reference, block_end}
+use Rattle.emv2_parts.specs.Names.{error_name, names, point, type_set, flow_end, state_reference, block_end}
 
 -- [ "not" ]
 unfoldable pub negation : Rule Bool

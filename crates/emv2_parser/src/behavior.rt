@@ -2,8 +2,8 @@ ghost use Rattle.std.specs.Prelude.{◌≡◌, [], ◌∷◌, ◌++◌};
 ghost use Rattle.grammar_rules.specs.inner.Reader.{Gives, given};
 ghost use Rattle.grammar_rules.specs.Rules.{chooses};
 ghost use Rattle.grammar_rules.specs.Tokens.{is_one_of};
-ghost use Rattle.emv2_parser.specs.Words.{is_name, point_words, begins_source, begins_composite, component_words};
-ghost use Rattle.emv2_parser.specs.Names.{point_word};
+ghost use Rattle.emv2_parts.specs.Words.{is_name, point_words, begins_source, begins_composite, component_words};
+ghost use Rattle.emv2_parts.specs.Names.{point_word};
 ghost use Rattle.emv2_parser.specs.Behavior.{some_condition, optional_condition, outgoing_condition, outgoing_effect, outgoing};
 ghost use Rattle.emv2_parser.specs.Behavior.{component_transforms, component_events, component_transitions, further_outgoing};
 ghost use Rattle.emv2_parser.specs.Behavior.{outgoing_after, component_outgoing, detections, mode_mappings, component_other};
@@ -14,19 +14,15 @@ ghost use Rattle.emv2_parser.specs.Behavior.{user_point, path_ends, user_path, c
 ghost use Rattle.emv2_parser.specs.Behavior.{paths_head, clause_paths};
 ghost use Rattle.emv2_parser.specs.inner.Takes.{outgoing-takes, composite-takes, component_block-takes, user_item-takes};
 
-use crate::conditions::whole_condition;
 use crate::machines::{events_after, source, transitions_after, use_transformations};
-use crate::names::{
-    block_end, condition_close, condition_open, dotted_names, flow_end, label, point_word,
-    state_reference,
-};
-use crate::words::{
-    component_block_at, composite_at, error_name, name_at, point_name, point_word_at,
-    propagations_at, source_at, transitions_at,
-};
 use aadl_syntax::{
     Composite, Condition, Emv2Clause, End, Identifier, Outgoing, PointRef, StateRef, TypeSet,
     UserPath, UserPoint,
+};
+use emv2_parts::{
+    block_end, component_block_at, composite_at, condition_close, condition_open, dotted_names,
+    error_name, flow_end, label, name_at, point_name, point_word, point_word_at, propagations_at,
+    source_at, state_reference, transitions_at, whole_condition,
 };
 use grammar_rules::{Gathered, Parts, ReadError, Reader, ToEnd, spot, tail_end_inside};
 use plain_values::{List, Spot};

@@ -1,18 +1,18 @@
 ghost use Rattle.std.specs.Prelude.{◌≡◌, [], ◌∷◌, ◌++◌};
 ghost use Rattle.grammar_rules.specs.inner.Reader.{Gives, given};
 ghost use Rattle.grammar_rules.specs.Tokens.{is_one_of};
-ghost use Rattle.emv2_parser.specs.Words.{library_words, clause_words};
+ghost use Rattle.emv2_parts.specs.Words.{library_words, clause_words};
 ghost use Rattle.emv2_parser.specs.Grammar.{mapping_word, mapping_end, type_mapping, library_types, library_machine, library_mapping, library_block, clause_uses, used_machine, clause_machine, mapping_kind, used_mapping, clause_mapping, clause_use, clause_properties, clause_other, clause_behavior, clause_part, clause_parts, empty_clause, library_after, clause_inside};
 ghost use Rattle.emv2_parser.specs.inner.Takes.{library_block-takes, clause_part-takes};
 
 use crate::behavior::{clause_component, clause_composites, clause_connection, clause_paths};
 use crate::machines::machine;
-use crate::names::{names, reference, use_types_after};
 use crate::propagations::clause_propagations;
-use crate::properties::properties_after;
-use crate::types::types_block;
-use crate::words::{clause_part_at, error_name, library_block_at, paths_at};
 use aadl_syntax::{Emv2Clause, Emv2Library, Ref};
+use emv2_parts::{
+    clause_part_at, error_name, library_block_at, names, paths_at, properties_after, reference,
+    types_block, use_types_after,
+};
 use grammar_rules::{Gathered, ReadError, Reader, ToEnd, spot};
 use plain_values::{List, Spot};
 use std::alloc::Global;

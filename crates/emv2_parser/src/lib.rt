@@ -2,13 +2,8 @@
 #![tactic(auto)]
 
 mod behavior;
-mod conditions;
 mod grammar;
 mod machines;
-mod names;
 mod propagations;
-mod properties;
-mod types;
-mod words;
 
 pub use grammar::{clause_inside, library_after};

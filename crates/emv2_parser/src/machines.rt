@@ -1,7 +1,7 @@
 ghost use Rattle.std.specs.Prelude.{◌≡◌, [], ◌∷◌, codes};
 ghost use Rattle.grammar_rules.specs.inner.Reader.{Gives, given};
 ghost use Rattle.grammar_rules.specs.Tokens.{is_sign, is_one_of};
-ghost use Rattle.emv2_parser.specs.Words.{is_name, begins_source, machine_words};
+ghost use Rattle.emv2_parts.specs.Words.{is_name, begins_source, machine_words};
 ghost use Rattle.emv2_parser.specs.Machines.{error_event, recovery_kind, recovery_event, event_words, event, events_after, initial};
 ghost use Rattle.emv2_parser.specs.Machines.{state_kind, state, states_after, source, target_state_after, chance, branch_after};
 ghost use Rattle.emv2_parser.specs.Machines.{further_branch, further_branches, branches, transition_targets, transition_condition};
@@ -11,16 +11,14 @@ ghost use Rattle.emv2_parser.specs.Machines.{machine_properties, machine_use, ma
 ghost use Rattle.emv2_parser.specs.Machines.{machine_extends, machine_head, machine};
 ghost use Rattle.emv2_parser.specs.inner.Takes.{event-takes, state-takes, transition-takes, further_branch-takes, machine_block-takes};
 
-use crate::conditions::whole_condition;
-use crate::names::{
-    block_end, condition_close, condition_open, label, names, optional_set, state_reference,
-    use_types_after,
-};
-use crate::properties::properties_after;
-use crate::words::{error_name, machine_block_at, name_at, source_at};
 use aadl_syntax::{
     Condition, EventDecl, EventKind, Identifier, MachineDecl, Source, StateDecl, StateRef,
     TokenKind, Transition, TypeSet,
+};
+use emv2_parts::{
+    block_end, condition_close, condition_open, error_name, label, machine_block_at, name_at,
+    names, optional_set, properties_after, source_at, state_reference, use_types_after,
+    whole_condition,
 };
 use grammar_rules::{Gathered, Parts, ReadError, Reader, spot, tail_end_inside};
 use plain_values::{List, Spot};

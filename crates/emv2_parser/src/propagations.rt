@@ -1,12 +1,14 @@
 ghost use Rattle.std.specs.Prelude.{◌≡◌, [], ◌∷◌};
 ghost use Rattle.grammar_rules.specs.inner.Reader.{Gives, given};
-ghost use Rattle.emv2_parser.specs.Words.{is_name, begins_point};
+ghost use Rattle.emv2_parts.specs.Words.{is_name, begins_point};
 ghost use Rattle.emv2_parser.specs.Propagations.{negation, outward, direction, propagation_words, point_item, when_part, source_state, source_flow, sink_flow, flow_mappings, path_target, path_flow, flow_kind, flow_words, flow, flows_after, points_after, propagations_head, clause_propagations};
 ghost use Rattle.emv2_parser.specs.inner.Takes.{point_item-takes, flow-takes};
 
-use crate::names::{FlowEnd, block_end, flow_end, names, point, state_reference, type_set};
-use crate::words::{error_name, name_at, point_at};
 use aadl_syntax::{Emv2Clause, Flow, FlowKind, PointItem, StateRef, TokenKind, TypeSet};
+use emv2_parts::{
+    FlowEnd, block_end, error_name, flow_end, name_at, names, point, point_at, state_reference,
+    type_set,
+};
 use grammar_rules::{Parts, ReadError, Reader, spot, tail_end_inside};
 use plain_values::{List, Spot};
 

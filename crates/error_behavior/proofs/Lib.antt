@@ -1,2 +1,1 @@
 pub mod EventLaws
-pub mod StateLaws

@@ -9,14 +9,14 @@ use Rattle.plain_values.specs.declared.refusal.Refusal.{Refusal}
 use Rattle.component_extension.specs.declared.effective.Effective.{Effective}
 use Rattle.component_extension.specs.Items.{Scoped}
 use Rattle.plain_values.specs.Refusal.{refused_there}
-use Rattle.error_types.specs.Libraries.{Table}
+use Rattle.error_libraries.specs.Libraries.{Table}
 use Rattle.propagation_points.specs.Points.{Point, scopes_of}
 use Rattle.error_behavior.specs.declared.behavior.ErrorBehavior.{ErrorBehavior}
 use Rattle.error_behavior.specs.declared.behavior.Texts.{Texts}
 use Rattle.error_behavior.specs.declared.steps.Emission.{Emission}
 use Rattle.error_behavior.specs.declared.steps.Step.{Step}
-use Rattle.error_behavior.specs.Machines.{Machine}
-use Rattle.error_behavior.specs.States.{event_refusals, events_of, machine_scope, states_of}
+use Rattle.error_machines.specs.Machines.{Machine}
+use Rattle.error_machines.specs.States.{event_refusals, events_of, machine_scope, states_of}
 use Rattle.error_behavior.specs.Steps.{emission_of, outgoing_refusals, step_of, transition_refusals}
 use Rattle.error_behavior.specs.Triggers.{TriggerPlace, Vocabulary, place_in}
 

@@ -1,5 +1,3 @@
-pub mod Machines
-pub mod States
 pub mod Triggers
 pub mod Steps
 pub mod Behavior

@@ -6,7 +6,7 @@ use Rattle.aadl_syntax.specs.declared.error_model.Outgoing.{Outgoing}
 use Rattle.aadl_syntax.specs.declared.error_model.StateRef.{StateRef}
 use Rattle.aadl_syntax.specs.declared.error_model.Transition.{Transition}
 use Rattle.plain_values.specs.declared.refusal.Refusal.{Refusal}
-use Rattle.error_types.specs.Libraries.{Table}
+use Rattle.error_libraries.specs.Libraries.{Table}
 use Rattle.propagation_points.specs.Settings.{Setting, refusals_in, held_in, reached_in, state_refusals_in}
 use Rattle.propagation_points.specs.States.{held_numbers}
 use Rattle.propagation_points.specs.Uses.{point_use}

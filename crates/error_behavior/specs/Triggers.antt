@@ -3,8 +3,8 @@ use Rattle.std.specs.Prelude.{ℕ, cond, List, ◌++◌, Option, Some, None, opt
 use Rattle.aadl_syntax.specs.declared.error_model.Atom.{Atom}
 use Rattle.plain_values.specs.declared.refusal.Refusal.{Refusal}
 use Rattle.package_index.specs.Names.{only}
-use Rattle.error_types.specs.declared.scope.Scope.{Scope}
-use Rattle.error_types.specs.Libraries.{Table}
+use Rattle.error_libraries.specs.declared.scope.Scope.{Scope}
+use Rattle.error_libraries.specs.Libraries.{Table}
 use Rattle.propagation_points.specs.Points.{Point}
 use Rattle.propagation_points.specs.Settings.{Setting, refusals_in}
 use Rattle.propagation_points.specs.States.{Sort, held_by, sort_refusals, sort_named}

@@ -2,17 +2,18 @@ ghost use Rattle.std.specs.Prelude.{◌≡◌, ◌++◌, IfOk, OnOk, flat_map, o
 ghost use Rattle.plain_values.specs.Order.{least, nearer};
 ghost use Rattle.error_types.specs.Types.{text_scope};
 ghost use Rattle.error_behavior.specs.Behavior.{behavior_refusals, behavior_of, behavior_with, clause_emissions, clause_outgoing_refusals, clause_steps, clause_transition_refusals, decl_refusals, refusals_with, machine_refusals, machine_steps, step_refusals, texts_of};
-ghost use Rattle.error_behavior.specs.States.{states_of};
+ghost use Rattle.error_machines.specs.States.{states_of};
 ghost use Rattle.error_behavior.specs.Steps.{step_of, transition_refusals};
 
 use crate::events::{events_of, note_clause_events, note_events};
-use crate::machines::UsedMachine;
 use crate::steps::{Emission, Step};
 use crate::transitions::{add_emission, add_step};
 use crate::triggers::{TriggerPlace, Vocabulary};
 use aadl_syntax::{MachineDecl, Outgoing, Transition};
 use component_extension::{Effective, InClause};
-use error_types::{Scope, TypeTable};
+use error_libraries::Scope;
+use error_machines::UsedMachine;
+use error_types::TypeTable;
 use plain_values::{Code, FirstRefusal, List, Mem};
 use propagation_points::{Points, Sorts, scopes_of};
 use std::alloc::Global;

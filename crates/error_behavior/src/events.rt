@@ -1,13 +1,14 @@
 ghost use Rattle.std.specs.Prelude.{◌≡◌, [], IfOk, flat_map, fold, map, option_copied, option_map};
 ghost use Rattle.plain_values.specs.Order.{least, nearer};
 ghost use Rattle.error_behavior.specs.Behavior.{clause_event_refusals, texts_of};
-ghost use Rattle.error_behavior.specs.States.{clause_event, event_at, event_refusals, events_of, is_recovery, keep_event, machine_events, machine_scope};
+ghost use Rattle.error_machines.specs.States.{clause_event, event_at, event_refusals, events_of, is_recovery, keep_event, machine_events, machine_scope};
 
 use crate::behavior::{Texts, clause_scope, machine_scope};
-use crate::machines::UsedMachine;
 use aadl_syntax::{EventDecl, EventKind};
 use component_extension::{Effective, InClause};
-use error_types::{Scope, TypeTable};
+use error_libraries::Scope;
+use error_machines::UsedMachine;
+use error_types::TypeTable;
 use plain_values::{Code, FirstRefusal, Mem};
 use propagation_points::{Sorts, declared_by};
 use std::alloc::Global;

@@ -4,7 +4,8 @@ ghost use Rattle.error_behavior.specs.Triggers.{event_named, event_or_point, eve
 
 use aadl_syntax::Atom;
 use error_conditions::{Atoms, Cause, event_cause, note_no_errors, point_meaning};
-use error_types::{Scope, TypeTable};
+use error_libraries::Scope;
+use error_types::TypeTable;
 use plain_values::{FirstRefusal, Mem};
 use propagation_points::{Points, Setting, Sort, Sorts, only_name};
 use std::alloc::Global;

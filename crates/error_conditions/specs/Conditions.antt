@@ -10,7 +10,7 @@ use Rattle.aadl_syntax.specs.declared.error_model.TypeSet.{TypeSet}
 use Rattle.plain_values.specs.declared.refusal.Code.TheVariants.{NoErrorCondition, OrLess}
 use Rattle.plain_values.specs.declared.refusal.Refusal.{Refusal}
 use Rattle.plain_values.specs.Refusal.{place_of, refusal}
-use Rattle.error_types.specs.Libraries.{Table}
+use Rattle.error_libraries.specs.Libraries.{Table}
 use Rattle.propagation_points.specs.declared.held.Held.{Held}
 use Rattle.propagation_points.specs.declared.held.Held.TheVariants as held
 use Rattle.propagation_points.specs.declared.uses.ReachedPoint.{ReachedPoint}

@@ -14,7 +14,7 @@ pub trait Atoms {
     ghost use Rattle.plain_values.specs.Order.{least, nearer};
     ghost use Rattle.aadl_syntax.specs.declared.error_model.Atom.{Atom as Named};
     ghost use Rattle.plain_values.specs.declared.refusal.Refusal.{Refusal};
-    ghost use Rattle.error_types.specs.Libraries.{Table};
+    ghost use Rattle.error_libraries.specs.Libraries.{Table};
     ghost use Rattle.error_conditions.specs.declared.cause.Cause.{Cause as Meaning};
 
     ghost meaning: { Self → Table → Named → Meaning };

@@ -9,8 +9,8 @@ use Rattle.plain_values.specs.declared.refusal.Refusal.{Refusal}
 use Rattle.component_extension.specs.declared.effective.Effective.{Effective}
 use Rattle.component_extension.specs.Items.{Scoped}
 use Rattle.plain_values.specs.Refusal.{refused_so, refused_there}
-use Rattle.error_types.specs.declared.scope.Scope.{Scope}
-use Rattle.error_types.specs.Libraries.{Table}
+use Rattle.error_libraries.specs.declared.scope.Scope.{Scope}
+use Rattle.error_libraries.specs.Libraries.{Table}
 use Rattle.propagation_points.specs.declared.side.Reach.{Reach}
 use Rattle.propagation_points.specs.declared.side.Reach.TheVariants.{Whole, Only}
 use Rattle.propagation_points.specs.declared.uses.ReachedPoint.{ReachedPoint}

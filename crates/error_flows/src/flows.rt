@@ -9,7 +9,8 @@ ghost use Rattle.error_flows.specs.Flows.{all_flow_refusals, refusals_of_flows, 
 use crate::meaning::FlowMeaning;
 use aadl_syntax::{Flow, FlowKind, Identifier, StateRef};
 use component_extension::{Effective, InClause};
-use error_types::{Scope, TypeTable};
+use error_libraries::Scope;
+use error_types::TypeTable;
 use plain_values::{Code, FirstRefusal, List, Mem, Spot};
 use propagation_points::{Held, PointUse, Points, Reach, ReachedPoint, Setting, Sorts, scopes_of};
 use std::alloc::Global;

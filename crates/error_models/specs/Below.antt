@@ -8,12 +8,12 @@ use Rattle.component_extension.specs.declared.effective.Effective.{Effective}
 use Rattle.component_extension.specs.Chain.{same_id}
 use Rattle.instantiator.specs.Components.{Part, found, parts_of}
 use Rattle.instantiator.specs.Effectives.{effective_of}
-use Rattle.error_types.specs.Libraries.{table_of}
+use Rattle.error_libraries.specs.Libraries.{table_of}
 use Rattle.propagation_points.specs.States.{Sort}
-use Rattle.error_behavior.specs.declared.machines.MachineId.{MachineId}
-use Rattle.error_behavior.specs.Machines.{Machine, find_machine, machine_at}
-use Rattle.error_behavior.specs.declared.states.States.{States}
-use Rattle.error_behavior.specs.States.{states_of}
+use Rattle.error_machines.specs.declared.machines.MachineId.{MachineId}
+use Rattle.error_machines.specs.Machines.{Machine, find_machine, machine_at}
+use Rattle.error_machines.specs.declared.states.States.{States}
+use Rattle.error_machines.specs.States.{states_of}
 use Rattle.composite_states.specs.Below.{StatesAt}
 
 -- ---- machines

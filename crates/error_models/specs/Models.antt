@@ -5,12 +5,12 @@ use Rattle.aadl_syntax.specs.declared.error_model.Composite.{Composite}
 use Rattle.package_index.specs.declared.id.ClassifierId.{ClassifierId}
 use Rattle.component_extension.specs.declared.effective.Effective.{Effective}
 use Rattle.component_extension.specs.Items.{Scoped}
-use Rattle.error_types.specs.Libraries.{Table}
+use Rattle.error_libraries.specs.Libraries.{Table}
 use Rattle.propagation_points.specs.Points.{points_of}
 use Rattle.error_flows.specs.Flows.{flows_of}
 use Rattle.error_behavior.specs.Behavior.{behavior_of}
-use Rattle.error_behavior.specs.Machines.{Machine}
-use Rattle.error_behavior.specs.States.{states_of}
+use Rattle.error_machines.specs.Machines.{Machine}
+use Rattle.error_machines.specs.States.{states_of}
 use Rattle.composite_states.specs.Below.{StatesAt}
 use Rattle.composite_states.specs.Composites.{clauses_of}
 use Rattle.instantiator.specs.Effectives.{effective_of}

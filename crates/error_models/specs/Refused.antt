@@ -9,13 +9,13 @@ use Rattle.plain_values.specs.Order.{least}
 use Rattle.plain_values.specs.Refusal.{refusal}
 use Rattle.package_index.specs.declared.id.ClassifierId.{ClassifierId}
 use Rattle.component_extension.specs.declared.effective.Effective.{Effective}
-use Rattle.error_types.specs.Libraries.{Table}
+use Rattle.error_libraries.specs.Libraries.{Table}
 use Rattle.propagation_points.specs.Points.{point_refusals, points_of}
 use Rattle.error_flows.specs.Flows.{all_flow_refusals}
-use Rattle.error_behavior.specs.declared.machines.MachineId.{MachineId}
+use Rattle.error_machines.specs.declared.machines.MachineId.{MachineId}
 use Rattle.error_behavior.specs.Behavior.{behavior_refusals}
-use Rattle.error_behavior.specs.Machines.{Machine, find_machine}
-use Rattle.error_behavior.specs.States.{states_of}
+use Rattle.error_machines.specs.Machines.{Machine, find_machine}
+use Rattle.error_machines.specs.States.{states_of}
 use Rattle.composite_states.specs.Below.{StatesAt}
 use Rattle.composite_states.specs.Composites.{composite_clause_refusals}
 use Rattle.used_sets.specs.Used.{used_set_refusals}

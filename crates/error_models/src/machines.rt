@@ -1,11 +1,11 @@
 ghost use Rattle.std.specs.Prelude.{◌≡◌, None, Some, IfErr, IfOk, MatchResult, OnOk, map};
-ghost use Rattle.error_behavior.specs.Machines.{find_machine};
+ghost use Rattle.error_machines.specs.Machines.{find_machine};
 ghost use Rattle.plain_values.specs.inner.Stops.{StopsAt};
 ghost use Rattle.error_models.specs.Below.{kind_machine, machine_of};
 ghost use Rattle.error_models.specs.Refused.{fault_of, machines_refusal};
 
 use component_extension::Effective;
-use error_behavior::{UsedMachine, find_machine, machine_at};
+use error_machines::{UsedMachine, find_machine, machine_at};
 use instantiator::Instance;
 use package_index::Index;
 use plain_values::{Answer, List, Refusal};

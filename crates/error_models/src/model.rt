@@ -1,6 +1,7 @@
 use composite_states::ClauseMeaning;
-use error_behavior::{ErrorBehavior, States};
+use error_behavior::ErrorBehavior;
 use error_flows::FlowMeaning;
+use error_machines::States;
 use plain_values::List;
 use propagation_points::Points;
 

@@ -4,7 +4,7 @@ ghost use Rattle.plain_values.specs.inner.Stops.{StopsAtFirst};
 ghost use Rattle.error_models.specs.Below.{kind_machine};
 ghost use Rattle.error_models.specs.Refused.{all_set_refusals};
 
-use error_behavior::UsedMachine;
+use error_machines::UsedMachine;
 use error_types::TypeTable;
 use instantiator::Instance;
 use plain_values::{Answer, FirstRefusal, Mem};

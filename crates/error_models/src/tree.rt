@@ -1,13 +1,13 @@
 ghost use Rattle.std.specs.Prelude.{◌≡◌, IfOk, Some, map, option_and_then, option_copied, option_map, position, slice_get};
 ghost use Rattle.instantiator.specs.Components.{found};
 ghost use Rattle.component_extension.specs.Chain.{same_id};
-ghost use Rattle.error_types.specs.Libraries.{table_of};
-ghost use Rattle.error_behavior.specs.States.{states_of};
+ghost use Rattle.error_libraries.specs.Libraries.{table_of};
+ghost use Rattle.error_machines.specs.States.{states_of};
 ghost use Rattle.error_models.specs.Below.{classifier_below, kind_among, kind_machine, kind_parts, kind_states, part_named, parts_at, states_named, step_below};
 
 use aadl_syntax::Identifier;
 use composite_states::StatesBelow;
-use error_behavior::{States, UsedMachine, states_of};
+use error_machines::{States, UsedMachine, states_of};
 use error_types::TypeTable;
 use instantiator::{Instance, Kind, Part, parts_of};
 use package_index::ClassifierId;

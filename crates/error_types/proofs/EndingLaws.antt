@@ -11,14 +11,13 @@ use Rattle.aadl_syntax.specs.declared.place.Ref.{Ref}
 use Rattle.error_types.specs.declared.endings.End.{End}
 use Rattle.error_types.specs.declared.endings.Turn.{Turn}
 use Rattle.error_types.specs.declared.endings.Turn.TheVariants.{Ended, On}
-use Rattle.error_types.specs.declared.id.ItemId.{ItemId}
-use Rattle.error_types.specs.declared.scope.Scope.{Scope}
+use Rattle.error_libraries.specs.declared.id.ItemId.{ItemId}
+use Rattle.error_libraries.specs.declared.scope.Scope.{Scope}
 use Rattle.error_types.specs.inner.Endings.{EndsIn, IsWay, Leads, LeadsTo, TurnsBy, type_through}
-use Rattle.error_types.specs.Libraries.{Table, item_at, number_of}
-use Rattle.error_types.specs.Search.{named}
-use Rattle.error_types.specs.inner.Tables.{has_number}
+use Rattle.error_libraries.specs.Libraries.{Table, item_at, library_scope, number_of}
+use Rattle.error_libraries.specs.Search.{named}
+use Rattle.error_libraries.specs.inner.Tables.{has_number}
 use Rattle.error_types.specs.Types.{type_at, type_by, type_named}
-use Rattle.error_types.specs.Walk.{library_scope}
 use Rattle.error_types.proofs.HierarchyLaws.{named-step}
 
 module _ (table : Table) where

@@ -4,12 +4,12 @@ use Rattle.aadl_syntax.specs.declared.error_model.TypeItem.{TypeItem}
 use Rattle.aadl_syntax.specs.declared.error_model.TypeKind.TheVariants.{Alias, Plain, Set}
 use Rattle.plain_values.specs.declared.refusal.Code.TheVariants.{CyclicType, UnknownType}
 use Rattle.plain_values.specs.Refusal.{place_of, refusal}
-use Rattle.error_types.specs.declared.scope.Scope.{Scope}
-use Rattle.error_types.specs.Libraries.{Table, table_of}
-use Rattle.error_types.specs.Search.{searched}
+use Rattle.error_libraries.specs.declared.scope.Scope.{Scope}
+use Rattle.error_libraries.specs.Libraries.{Table, table_of}
+use Rattle.error_libraries.specs.Search.{searched}
 use Rattle.error_types.specs.Types.{denoted, is_below, is_below_in, text_scope, type_named}
 use Rattle.error_types.specs.Walk.{follow, set_first}
-use Rattle.error_types.proofs.Sample.{library_with, name_at, no_error_at, packages, set_at, spot, table, type_item}
+use Rattle.error_libraries.proofs.Sample.{library_with, name_at, no_error_at, packages, set_at, spot, table, type_item}
 
 -- ---- the types of a library
 

@@ -11,12 +11,12 @@ use Rattle.aadl_syntax.specs.declared.error_model.TypeKind.TheVariants.{Plain, A
 use Rattle.plain_values.specs.declared.refusal.Code.TheVariants.{CyclicType, UnknownType}
 use Rattle.plain_values.specs.declared.refusal.Refusal.{Refusal}
 use Rattle.plain_values.specs.Refusal.{place_of, refusal}
-use Rattle.error_types.specs.declared.id.ItemId.{ItemId}
-use Rattle.error_types.specs.declared.scope.Scope.{Scope}
+use Rattle.error_libraries.specs.declared.id.ItemId.{ItemId}
+use Rattle.error_libraries.specs.declared.scope.Scope.{Scope}
 use Rattle.error_types.specs.inner.Grounded.{grounded, is_stopped, leads_so, name_leads_so}
-use Rattle.error_types.specs.Libraries.{Table, is_item_in, is_same_item, item_at}
-use Rattle.error_types.specs.Search.{named}
-use Rattle.error_types.specs.Walk.{Need, Walk, arrived, at_item, follow, library_scope, needs_of, no_walk, of_item, past_item, walk_from, walked, with_fault}
+use Rattle.error_libraries.specs.Libraries.{Table, is_item_in, is_same_item, item_at, library_scope}
+use Rattle.error_libraries.specs.Search.{named}
+use Rattle.error_types.specs.Walk.{Need, Walk, arrived, at_item, follow, needs_of, no_walk, of_item, past_item, walk_from, walked, with_fault}
 
 -- ---- items
 

@@ -5,14 +5,14 @@ use Rattle.std.proofs.lemmas.List.Folds.{list_any-append}
 use Rattle.plain_values.specs.Order.{least, nearer}
 use Rattle.plain_values.specs.declared.refusal.Refusal.{Refusal}
 use Rattle.plain_values.proofs.OrderLaws.{nearer-none, nearer-assoc}
-use Rattle.error_types.specs.declared.id.ItemId.{ItemId}
-use Rattle.error_types.specs.declared.scope.Scope.{Scope}
+use Rattle.error_libraries.specs.declared.id.ItemId.{ItemId}
+use Rattle.error_libraries.specs.declared.scope.Scope.{Scope}
 use Rattle.error_types.specs.inner.Grounded.{grounded, is_stopped, name_types, names_first, target_first, target_types}
-use Rattle.error_types.specs.Libraries.{Table, item_at, number_of}
+use Rattle.error_libraries.specs.Libraries.{Table, item_at, library_scope, number_of}
 use Rattle.error_types.specs.inner.Rows.{row_of}
-use Rattle.error_types.specs.Search.{named}
+use Rattle.error_libraries.specs.Search.{named}
 use Rattle.error_types.specs.Types.{is_below}
-use Rattle.error_types.specs.Walk.{Need, library_scope, needs_of, of_item, products_of, walk_from}
+use Rattle.error_types.specs.Walk.{Need, needs_of, of_item, products_of, walk_from}
 use Rattle.error_types.proofs.GroundLaws.{item-comes, of_names, of_target}
 use Rattle.plain_values.proofs.Nearer.{nearer-comm, nearer-same}
 use Rattle.error_types.proofs.TypeRows.{row-same}

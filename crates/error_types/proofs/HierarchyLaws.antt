@@ -2,9 +2,9 @@
 use Rattle.std.proofs.Common.{ℕ, zero, suc, ◌+◌, ◌-◌, ◌<◌, ◌≤◌, ◌≡◌, Bool, true, false, ◌&&◌, ◌||◌, nat_eq, nat_lt, List, [], ◌∷◌, length, map, slice_get, Option, Some, None, filter, option_and_then, refl, sym, ap, ◌∙◌, arith}
 use Rattle.std.proofs.lemmas.Bool.Decides.{Decides-eqb}
 use Rattle.aadl_syntax.specs.declared.place.Ref.{Ref}
-use Rattle.error_types.specs.declared.scope.Scope.{Scope}
-use Rattle.error_types.specs.Libraries.{Table}
-use Rattle.error_types.specs.Search.{named}
+use Rattle.error_libraries.specs.declared.scope.Scope.{Scope}
+use Rattle.error_libraries.specs.Libraries.{Table}
+use Rattle.error_libraries.specs.Search.{named}
 use Rattle.std.specs.List.{list_any}
 use Rattle.aadl_syntax.specs.declared.error_model.TypeSet.{TypeSet}
 use Rattle.error_types.specs.Types.{base_of, denoted, is_base_so, is_below, is_below_in, type_at, type_named}

@@ -1,17 +1,9 @@
-pub mod AlongLaws
 pub mod EndingLaws
-pub mod Ends
 pub mod Examples
 pub mod GroundLaws
 pub mod Grounds
 pub mod HierarchyLaws
-pub mod Keys
-pub mod MarkLaws
-pub mod PrintedLaws
-pub mod Remembering
-pub mod Sample
 pub mod RowLaws
-pub mod SearchLaws
 pub mod SettleLaws
 pub mod TermLaws
 pub mod TripLaws

@@ -14,16 +14,16 @@ use Rattle.plain_values.specs.declared.refusal.Refusal.{Refusal}
 use Rattle.plain_values.proofs.OrderLaws.{nearer-none, nearer-assoc}
 use Rattle.plain_values.specs.Refusal.{place_of, refusal}
 use Rattle.package_index.specs.inner.Tables.{same_pair}
-use Rattle.error_types.specs.declared.id.ItemId.{ItemId}
+use Rattle.error_libraries.specs.declared.id.ItemId.{ItemId}
 use Rattle.error_types.specs.declared.memory.Memory.{Memory}
 use Rattle.error_types.specs.declared.memory.Reached.{Reached}
-use Rattle.error_types.specs.declared.scope.Scope.{Scope}
+use Rattle.error_libraries.specs.declared.scope.Scope.{Scope}
 use Rattle.error_types.specs.declared.settle.Sum.{Sum}
 use Rattle.error_types.specs.inner.Grounded.{grounded, is_stopped, name_first, name_leads_so, name_types, names_first}
-use Rattle.error_types.specs.Libraries.{Table, is_type, item_at, number_of}
+use Rattle.error_libraries.specs.Libraries.{Table, is_type, item_at, library_scope, number_of}
 use Rattle.error_types.specs.inner.Rows.{IsGathered, IsOfTarget, IsReached, IsSettled, IsSum, Remembers, Stay, either, is_type_item, row_of}
-use Rattle.error_types.specs.Search.{named}
-use Rattle.error_types.specs.Walk.{Need, library_scope, needs_of, of_item, products_of, walk_from}
+use Rattle.error_libraries.specs.Search.{named}
+use Rattle.error_types.specs.Walk.{Need, needs_of, of_item, products_of, walk_from}
 use Rattle.error_types.proofs.GroundLaws.{ground-more, ground-step, leads-more}
 use Rattle.error_types.proofs.Grounds.{grounded-first, grounded-row}
 use Rattle.error_types.proofs.TypeRows.{rows-joined}

@@ -4,12 +4,12 @@ use Rattle.plain_values.specs.Order.{least}
 use Rattle.plain_values.specs.declared.refusal.Code.TheVariants.{CyclicType, UnknownType}
 use Rattle.plain_values.specs.declared.refusal.Refusal.{Refusal}
 use Rattle.plain_values.specs.Refusal.{place_of, refusal}
-use Rattle.error_types.specs.declared.id.ItemId.{ItemId}
-use Rattle.error_types.specs.declared.scope.Scope.{Scope}
-use Rattle.error_types.specs.Libraries.{Table, is_item_in, item_at}
-use Rattle.error_types.specs.Search.{named}
+use Rattle.error_libraries.specs.declared.id.ItemId.{ItemId}
+use Rattle.error_libraries.specs.declared.scope.Scope.{Scope}
+use Rattle.error_libraries.specs.Libraries.{Table, is_item_in, item_at, library_scope}
+use Rattle.error_libraries.specs.Search.{named}
 use Rattle.error_types.specs.inner.Trip.{Trip, Visit, arrival, at_visit, items_on, noting, walk_left, walk_so_far, walked_out, with_names}
-use Rattle.error_types.specs.Walk.{Need, Walk, arrived, at_item, follow, is_set_item, library_scope, needs_of, no_walk, number_met, of_item, past_item, products_of, walk_from, walked, with_fault}
+use Rattle.error_types.specs.Walk.{Need, Walk, arrived, at_item, follow, is_set_item, needs_of, no_walk, number_met, of_item, past_item, products_of, walk_from, walked, with_fault}
 
 module _ (through : Bool) (table : Table) where
   -- ---- one item

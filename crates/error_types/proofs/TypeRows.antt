@@ -5,7 +5,7 @@ use Rattle.std.proofs.lemmas.Bool.{cases_lt, le-ltb}
 use Rattle.std.proofs.lemmas.List.{get_or_append_left, get_or_push, length-append}
 use Rattle.std.proofs.lemmas.List.Folds.{list_any-append}
 use Rattle.std.proofs.lemmas.Option.{slice_get-get_or}
-use Rattle.error_types.specs.Libraries.{Table}
+use Rattle.error_libraries.specs.Libraries.{Table}
 use Rattle.error_types.specs.inner.Rows.{AreTypeRows, either, has_bit, numbers_in, row_below, row_of, rows_by, types_below}
 use Rattle.error_types.specs.Types.{base, base_of, is_below, is_below_in}
 use Rattle.error_types.specs.inner.Types.{is_below_by}
@@ -77,19 +77,3 @@ module _ (table : Table) where
 
     pub type-rows : (all : List (List Bool)) → all ≡ rows_by bases → AreTypeRows table all
     type-rows all same = record { types = λ high less. ap (λ r. slice_get r high) same ∙ at-type high less; none = ap (λ r. slice_get r (length table.types)) same ∙ at-end }
-
-  -- ---- one type
-
-  pub low-in : (low high : ℕ) → has_bit (row_of table (high ∷ [])) low ≡ is_below table low high
-  low-in low high =
-      elim (cases_lt low (length table.types)) [
-        | inl less ↦ bit-there (any (high ∷ [])) (length table.types) low less ∙ or-none (is_below table low high)
-        | inr past ↦ bit-past (any (high ∷ [])) (length table.types) low past ∙ sym (ap (λ b. (b && nat_lt high (length table.types)) && is_below_in (length table.types) (base table) low high) (le-ltb low (length table.types) past))
-      ]
-
-  pub high-past : (low high : ℕ) → length table.types ≤ high → is_below table low high ≡ false
-  high-past low high past = none (nat_lt low (length table.types)) (nat_lt high (length table.types)) (is_below_in (length table.types) (base table) low high) (le-ltb high (length table.types) past)
-    where
-      none : (a b c : Bool) → b ≡ false → ((a && b) && c) ≡ false
-      none true b c is = ap (λ x. x && c) is
-      none false b c is = refl

@@ -7,11 +7,11 @@ use Rattle.aadl_syntax.specs.declared.error_model.TypeKind.{TypeKind}
 use Rattle.aadl_syntax.specs.declared.error_model.TypeKind.TheVariants.{Plain, Alias, Set, SetAlias}
 use Rattle.aadl_syntax.specs.declared.error_model.TypeSet.{TypeSet}
 use Rattle.aadl_syntax.specs.declared.place.Ref.{Ref}
-use Rattle.error_types.specs.declared.id.ItemId.{ItemId}
-use Rattle.error_types.specs.declared.scope.Scope.{Scope}
-use Rattle.error_types.specs.Libraries.{Table, item_at, libraries_named, number_of}
-use Rattle.error_types.specs.Search.{named}
-use Rattle.error_types.specs.Walk.{library_scope, set_types}
+use Rattle.error_libraries.specs.declared.id.ItemId.{ItemId}
+use Rattle.error_libraries.specs.declared.scope.Scope.{Scope}
+use Rattle.error_libraries.specs.Libraries.{Table, item_at, libraries_named, library_scope, number_of}
+use Rattle.error_libraries.specs.Search.{named}
+use Rattle.error_types.specs.Walk.{set_types}
 
 -- ---- texts
 

@@ -11,10 +11,10 @@ use Rattle.aadl_syntax.specs.declared.place.Ref.{Ref}
 use Rattle.plain_values.specs.declared.refusal.Code.TheVariants.{CyclicType, TypeProduct, UnknownType}
 use Rattle.plain_values.specs.declared.refusal.Refusal.{Refusal}
 use Rattle.plain_values.specs.Refusal.{place_of, refusal}
-use Rattle.error_types.specs.declared.id.ItemId.{ItemId}
-use Rattle.error_types.specs.declared.scope.Scope.{Scope}
-use Rattle.error_types.specs.Libraries.{Library, Table, is_item_in, is_set, item_at, number_of}
-use Rattle.error_types.specs.Search.{named}
+use Rattle.error_libraries.specs.declared.id.ItemId.{ItemId}
+use Rattle.error_libraries.specs.declared.scope.Scope.{Scope}
+use Rattle.error_libraries.specs.Libraries.{Table, is_item_in, is_set, item_at, library_scope, number_of}
+use Rattle.error_libraries.specs.Search.{named}
 
 -- ---- what an item names
 
@@ -64,15 +64,6 @@ of_item part (Some item) = part item.kind
 abbrev pub is_set_item : Option TypeItem → Bool
 is_set_item None = false
 is_set_item (Some item) = is_set item.kind
-
--- where the text of a library looks for a bare name, if there is the library
-abbrev pub scope_of : Option Library → Scope
-scope_of None = record { «package» = 0; libraries = [] }
-scope_of (Some library) = library.scope
-
--- the same of the library of a package of this number
-abbrev pub library_scope : Table → ℕ → Scope
-library_scope table number = scope_of (slice_get table.libraries number)
 
 -- ---- the walk
 

@@ -1,13 +1,8 @@
-pub mod Libraries
-pub mod Tables
 pub mod Types
-pub mod Course
 pub mod Leaving
 pub mod Trip
 pub mod Needs
 pub mod Endings
-pub mod Printed
-pub mod Known
 pub mod Grounded
 pub mod Rows
 pub mod Words

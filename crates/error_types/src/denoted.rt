@@ -1,18 +1,16 @@
 ghost use Rattle.std.specs.Prelude.{◌≡◌, [], Bool, flat_map, map, slice_get, List as Items, IfOk, OnOk, Some, true, false};
 ghost use Rattle.plain_values.specs.Order.{nearer};
-ghost use Rattle.error_types.specs.inner.Rows.{Adds, AreTypeRows, Remembers, has_bit, row_of, types_below};
-ghost use Rattle.error_types.specs.Search.{named};
-ghost use Rattle.error_types.specs.Types.{base_of, is_below};
+ghost use Rattle.error_types.specs.inner.Rows.{Adds, AreTypeRows, Remembers, row_of, types_below};
+ghost use Rattle.error_libraries.specs.Search.{named};
+ghost use Rattle.error_types.specs.Types.{base_of};
 ghost use Rattle.error_types.specs.Walk.{reached, term_first, term_types, terms_first};
 
-use crate::declarations::Declarations;
 use crate::hierarchy::rows_of;
-use crate::id::ItemId;
 use crate::memory::Memory;
 use crate::reach::{join_row, reached};
 use crate::row::Row;
-use crate::scope::Scope;
 use aadl_syntax::{Ref, Term};
+use error_libraries::{Declarations, ItemId, Scope};
 use plain_values::{Code, FirstRefusal, List, Mem, Refusal};
 use std::alloc::Global;
 use std::collections::HashMap;
@@ -44,30 +42,6 @@ fn types_rows(
 {
     let _ = declarations.types();
     rows_of(alloc, bases)
-}
-
-/// Whether both numbers are of types, and the first is below the second.
-pub(crate) fn is_below(
-    declarations: &Declarations<'_, '_>,
-    memory: &Memory,
-    low: u32,
-    high: u32,
-) -> bool
-    requires { Remembers declarations.now memory.now }
-    ensures { result ≡ is_below declarations.now low high }
-{
-    let count = declarations.types().len();
-    (high as usize) < count && has_low(memory, low, high)
-}
-
-/// Whether the row of a number has another.
-fn has_low(memory: &Memory, low: u32, high: u32) -> bool
-    ensures { (row : Items Bool) → slice_get memory.now.rows high ≡ Some row → result ≡ has_bit row low }
-{
-    match memory.rows.items().get(high as usize) {
-        Some(row) => row.has(low),
-        None => false,
-    }
 }
 
 /// The types that terms denote, rising. Their first refusal is noted.

@@ -3,14 +3,13 @@ ghost use Rattle.std.specs.HashMap.{get};
 ghost use Rattle.std.specs.List.{list_any};
 ghost use Rattle.package_index.specs.inner.Tables.{same_pair};
 ghost use Rattle.error_types.specs.inner.Endings.{AreEnds, EndsIn, IsWay, LeadsTo, Turns, TurnsBy, origin, type_through};
-ghost use Rattle.error_types.specs.Search.{named};
-ghost use Rattle.error_types.specs.inner.Tables.{has_number};
-ghost use Rattle.error_types.specs.Walk.{library_scope};
+ghost use Rattle.error_libraries.specs.Search.{named};
+ghost use Rattle.error_libraries.specs.inner.Tables.{has_number};
+ghost use Rattle.error_libraries.specs.Libraries.{library_scope};
 ghost use Rattle.error_types.specs.declared.endings.Turn.TheVariants.{Ended};
 
-use crate::declarations::Declarations;
-use crate::id::ItemId;
 use aadl_syntax::{Ref, TypeKind};
+use error_libraries::{Declarations, ItemId};
 use plain_values::{FirstRefusal, Mem};
 use std::alloc::{AllocError, Global};
 use std::collections::HashMap;
@@ -44,8 +43,8 @@ impl Model for Way {
     ghost use Rattle.std.specs.Prelude.{List, reverse};
     ghost use Rattle.std.specs.HashMap.{get};
     ghost use Rattle.package_index.specs.inner.Tables.{same_pair};
-    ghost use Rattle.error_types.specs.declared.id.ItemId.{ItemId};
-    ghost use Rattle.error_types.specs.inner.Tables.{AreAmong};
+    ghost use Rattle.error_libraries.specs.declared.id.ItemId.{ItemId};
+    ghost use Rattle.error_libraries.specs.inner.Tables.{AreAmong};
 
     ghost Value = { List ItemId };
 

@@ -5,14 +5,13 @@ ghost use Rattle.error_types.specs.inner.Endings.{AreEnds};
 ghost use Rattle.error_types.specs.inner.Rows.{put_at, rows_by, rows_so_far};
 ghost use Rattle.error_types.specs.Types.{base_of, type_named};
 ghost use Rattle.error_types.specs.inner.Types.{base_in};
-ghost use Rattle.error_types.specs.Walk.{library_scope};
+ghost use Rattle.error_libraries.specs.Libraries.{library_scope};
 ghost use Rattle.plain_values.specs.Numbered.{numbers_below};
 
-use crate::declarations::Declarations;
 use crate::endings::{Ends, type_of};
-use crate::id::ItemId;
 use crate::row::Row;
 use aadl_syntax::{Ref, TypeKind};
+use error_libraries::{Declarations, ItemId};
 use plain_values::{FirstRefusal, List, Mem};
 use std::alloc::Global;
 use std::collections::HashMap;

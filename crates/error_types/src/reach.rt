@@ -3,13 +3,12 @@
 ghost use Rattle.std.specs.Prelude.{◌≡◌, ◌∷◌, [], Bool, List as Items, length, slice_get, IfOk, IfSome, Some};
 ghost use Rattle.error_types.specs.inner.Rows.{Adds, IsReached, Remembers, either, row_of};
 
-use crate::declarations::Declarations;
-use crate::id::ItemId;
 use crate::memory::{Memory, Reached};
 use crate::needs::{Needs, NextName};
 use crate::row::Row;
 use crate::settle::{add_row, remember, settle};
 use crate::walk::{needs_of, walk_from};
+use error_libraries::{Declarations, ItemId};
 use plain_values::{FirstRefusal, Mem};
 use std::alloc::Global;
 

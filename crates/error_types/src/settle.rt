@@ -3,18 +3,16 @@
 ghost use Rattle.std.specs.Prelude.{◌≡◌, ◌<◌, ◌++◌, ◌^◌, max, slice_get, length, option_copied, option_to_list, IfOk, IfSome, IsTrue, None, Some, List as Items, Bool, ℕ, true};
 ghost use Rattle.plain_values.specs.Order.{nearer};
 ghost use Rattle.error_types.specs.inner.Grounded.{is_stopped};
-ghost use Rattle.error_types.specs.Libraries.{item_at, number_of};
+ghost use Rattle.error_libraries.specs.Libraries.{item_at, library_scope, number_of};
 ghost use Rattle.error_types.specs.inner.Rows.{IsGathered, IsOfTarget, IsReached, IsSettled, IsSum, Remembers, Stay, either, is_type_item, row_of};
-ghost use Rattle.error_types.specs.Walk.{library_scope, needs_of, of_item};
+ghost use Rattle.error_types.specs.Walk.{needs_of, of_item};
 
-use crate::declarations::Declarations;
-use crate::id::ItemId;
 use crate::memory::{Memory, Reached};
 use crate::needs::{Need, Needs, NextName};
-use crate::numbers::is_type;
 use crate::row::Row;
 use crate::walk::{is_set_item, needs_of, products_of};
 use aadl_syntax::TypeItem;
+use error_libraries::{Declarations, ItemId, is_type};
 use plain_values::{Code, FirstRefusal, Mem, Refusal};
 use std::alloc::{AllocError, Global};
 

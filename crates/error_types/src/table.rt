@@ -1,21 +1,17 @@
 ghost use Rattle.std.specs.Prelude.{◌≡◌, ◌↔◌, ◌≤◌, ◌<◌, ◌^◌, IfOk, IfErr, IsSome, OnOk, length};
 ghost use Rattle.plain_values.specs.Order.{least, nearer};
 ghost use Rattle.plain_values.specs.inner.Stops.{StopsAtFirst};
-ghost use Rattle.error_types.specs.Libraries.{HasTooManyTypes, declared_types, greatest_types, libraries_of, table_of, unknown_libraries};
-ghost use Rattle.error_types.specs.inner.Libraries.{IsOver};
-ghost use Rattle.error_types.specs.Printed.{name_of};
-ghost use Rattle.error_types.specs.Types.{denoted, is_below, text_scope};
+ghost use Rattle.error_libraries.specs.Libraries.{HasTooManyTypes, declared_types, greatest_types, libraries_of, table_of, unknown_libraries};
+ghost use Rattle.error_libraries.specs.inner.Libraries.{IsOver};
+ghost use Rattle.error_libraries.specs.Printed.{name_of};
+ghost use Rattle.error_types.specs.Types.{denoted, text_scope};
 ghost use Rattle.error_types.specs.Walk.{set_first};
 
-use crate::declarations::Declarations;
-use crate::denoted::{denoted, is_below, memory_of};
+use crate::denoted::{denoted, memory_of};
 use crate::hierarchy::bases_of;
-use crate::library::{Library, add_named, note_unknown};
 use crate::memory::Memory;
-use crate::numbers::types_by;
-use crate::scope::Scope;
-use crate::type_name::TypeName;
 use aadl_syntax::{Ref, TypeSet};
+use error_libraries::{Declarations, Library, Scope, TypeName, add_named, note_unknown, types_by};
 use package_index::Index;
 use plain_values::{Answer, Code, FirstRefusal, List, Mem, Refusal, Stop};
 use std::alloc::Global;
@@ -31,7 +27,7 @@ pub struct TypeTable<'i, 'a> {
 impl<'i, 'a> Model for TypeTable<'i, 'a> {
     ghost use Rattle.std.specs.Coded.{codes};
     ghost use Rattle.aadl_syntax.specs.contracts.error_model.Condition as condition;
-    ghost use Rattle.error_types.specs.Libraries.{Table};
+    ghost use Rattle.error_libraries.specs.Libraries.{Table};
     ghost use Rattle.error_types.specs.inner.Rows.{Remembers};
 
     ghost Value = { Table };
@@ -113,13 +109,6 @@ impl<'i, 'a> TypeTable<'i, 'a> {
             Some(id) => self.declarations.name(id),
             None => None,
         }
-    }
-
-    /// Whether a type is below another: it is that type, or extends one that is below it. False where a number is of no type.
-    pub fn is_subtype(&self, low: u32, high: u32) -> bool
-        ensures { result ≡ is_below self.now low high }
-    {
-        is_below(&self.declarations, &self.memory, low, high)
     }
 }
 

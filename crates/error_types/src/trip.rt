@@ -1,12 +1,12 @@
 ghost use Rattle.std.specs.Prelude.{◌≡◌, ◌<◌, ◌^◌, ◌∷◌, [], ◌++◌, ◌||◌, false, is_some, length, option_to_list, IfOk, OnOk};
 ghost use Rattle.std.specs.List.{list_any};
-ghost use Rattle.error_types.specs.inner.Course.{is_vain};
+ghost use Rattle.error_libraries.specs.inner.Course.{is_vain};
 ghost use Rattle.error_types.specs.inner.Leaving.{LeavesItem, Offers};
-ghost use Rattle.error_types.specs.inner.Tables.{has_number};
+ghost use Rattle.error_libraries.specs.inner.Tables.{has_number};
 ghost use Rattle.error_types.specs.inner.Trip.{at_visit, items_on, noting};
 
-use crate::id::ItemId;
 use crate::needs::{Need, Needs, NextName};
+use error_libraries::ItemId;
 use plain_values::{FirstRefusal, Mem, Refusal};
 use std::alloc::{AllocError, Global};
 use std::collections::HashMap;

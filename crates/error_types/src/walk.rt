@@ -1,15 +1,14 @@
 ghost use Rattle.std.specs.Prelude.{◌≡◌, ◌<◌, ◌^◌, ◌&&◌, ◌∷◌, [], false, flat_map, length, option_copied, IfOk};
 ghost use Rattle.plain_values.specs.Order.{least, nearer};
 ghost use Rattle.error_types.specs.inner.Leaving.{LeadsWalk};
-ghost use Rattle.error_types.specs.Libraries.{is_item_in, item_at};
+ghost use Rattle.error_libraries.specs.Libraries.{is_item_in, item_at};
 ghost use Rattle.error_types.specs.inner.Trip.{arrival, items_on, walk_left, with_names};
 ghost use Rattle.error_types.specs.Walk.{is_set_item, needs_of, number_met, of_item, product_of_term, products_of, walk_from};
 
-use crate::declarations::Declarations;
-use crate::id::ItemId;
 use crate::needs::{Need, Needs, NextName};
 use crate::trip::{Back, Trip, push_number};
 use aadl_syntax::{Term, TypeItem, TypeKind};
+use error_libraries::{Declarations, ItemId};
 use plain_values::{Code, FirstRefusal, Mem, Refusal};
 use std::alloc::{AllocError, Global};
 

@@ -23,8 +23,8 @@ use Rattle.package_index.specs.Names.{only}
 use Rattle.component_extension.specs.Chain.{same_id}
 use Rattle.component_extension.specs.declared.effective.Effective.{Effective}
 use Rattle.component_extension.specs.Items.{Scoped}
-use Rattle.error_types.specs.declared.scope.Scope.{Scope}
-use Rattle.error_types.specs.Libraries.{Table}
+use Rattle.error_libraries.specs.declared.scope.Scope.{Scope}
+use Rattle.error_libraries.specs.Libraries.{Table}
 use Rattle.propagation_points.specs.declared.held.Held.{Held}
 use Rattle.propagation_points.specs.declared.side.Reach.{Reach}
 use Rattle.propagation_points.specs.declared.side.Reach.TheVariants.{Whole, Only}
@@ -38,9 +38,9 @@ use Rattle.propagation_points.specs.Uses.{point_use}
 use Rattle.error_flows.specs.declared.meaning.FlowMeaning.{FlowMeaning}
 use Rattle.error_flows.specs.declared.meaning.FlowMeaning.TheVariants as flow
 use Rattle.error_flows.specs.Flows.{flow_meaning, flows_of, path_meaning, source_meaning}
-use Rattle.error_behavior.specs.Machines.{Machine}
-use Rattle.error_behavior.specs.States.{EventAt, clause_event, event_at, events_of as sorts_of_events, keep_event, machine_scope}
-use Rattle.error_behavior.specs.States as behavior
+use Rattle.error_machines.specs.Machines.{Machine}
+use Rattle.error_machines.specs.States.{EventAt, clause_event, event_at, events_of as sorts_of_events, keep_event, machine_scope}
+use Rattle.error_machines.specs.States as behavior
 use Rattle.instantiator.specs.Effectives.{effective_of}
 use Rattle.instantiator.specs.Whole.{classifier_at, kind_number, kind_place}
 use Rattle.instantiator.proofs.Apart.{each-all, each-append, each-flat_map, each-map, each-unmap, each-weaker}

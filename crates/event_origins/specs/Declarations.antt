@@ -8,7 +8,7 @@ use Rattle.aadl_syntax.specs.declared.error_model.PointItem.{PointItem}
 use Rattle.package_index.specs.Names.{only}
 use Rattle.package_index.specs.declared.id.ClassifierId.{ClassifierId}
 use Rattle.component_extension.specs.declared.effective.Effective.{Effective}
-use Rattle.error_behavior.specs.Machines.{Machine}
+use Rattle.error_machines.specs.Machines.{Machine}
 use Rattle.error_models.specs.Below.{machine_of}
 use Rattle.instantiator.specs.Effectives.{effective_of}
 use Rattle.event_origins.specs.Named.{Declaration}

@@ -6,7 +6,7 @@ use crate::declaration::Declaration;
 use crate::table::DeclarationTable;
 use aadl_syntax::{EventDecl, Flow, Identifier, PointItem};
 use component_extension::{Effective, InClause};
-use error_behavior::{UsedMachine, find_machine, machine_at};
+use error_machines::{UsedMachine, find_machine, machine_at};
 use instantiator::Instance;
 use package_index::Index;
 use plain_values::{List, Mem, Spot};

@@ -7,7 +7,7 @@ use Rattle.aadl_syntax.specs.declared.error_model.Association.{Association}
 use Rattle.fault_system.specs.declared.formula.EventInfo.{EventInfo}
 use Rattle.package_index.specs.Names.{is_same_name}
 use Rattle.component_extension.specs.declared.effective.Effective.{Effective}
-use Rattle.error_behavior.specs.Machines.{Machine}
+use Rattle.error_machines.specs.Machines.{Machine}
 use Rattle.error_models.specs.Below.{machine_of}
 use Rattle.instantiator.specs.Components.{component_below}
 use Rattle.instantiator.specs.Whole.{Instance, effective_in}

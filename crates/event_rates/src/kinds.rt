@@ -1,6 +1,6 @@
 ghost use Rattle.std.specs.Prelude.{◌≡◌, IfOk, map, option_copied, option_map};
 ghost use Rattle.aadl_syntax.specs.declared.error_model.MachineDecl.{MachineDecl as AnyMachine};
-ghost use Rattle.error_behavior.specs.Machines.{find_machine, machine_at};
+ghost use Rattle.error_machines.specs.Machines.{find_machine, machine_at};
 ghost use Rattle.error_models.specs.Below.{machine_of};
 ghost use Rattle.instantiator.specs.Whole.{classifier_at, effective_in};
 ghost use Rattle.event_rates.specs.Associations.{clause_associations, last_fitting, machine_associations};
@@ -9,7 +9,7 @@ ghost use Rattle.event_rates.specs.inner.Tables.{all_associations, effective_rat
 use crate::table::AssociationTable;
 use aadl_syntax::{Association, MachineDecl};
 use component_extension::{Effective, InClause};
-use error_behavior::{MachineId, find_machine};
+use error_machines::{MachineId, find_machine};
 use instantiator::Instance;
 use package_index::{Index, Package};
 use plain_values::{List, Mem, Name};

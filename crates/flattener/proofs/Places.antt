@@ -23,10 +23,10 @@ use Rattle.fault_system.specs.declared.formula.Formula.{Formula, fold-roll-Formu
 use Rattle.fault_system.specs.declared.formula.Formula.TheVariants.{True, Event, Fact, And, Or, AtLeast, rolls-True, rolls-Event, rolls-Fact, rolls-And, rolls-Or, rolls-AtLeast}
 use Rattle.fault_system.specs.declared.formula.Formula.TheOpen.{Formula-F}
 use Rattle.fault_system.specs.declared.formula.Formula.TheOpen as open_formula
-use Rattle.flattener.specs.Facts.{enter_formula, is_empty, linked_formula, some_of, state_formula}
-use Rattle.flattener.specs.Flat.{places, places_step}
-use Rattle.flattener.specs.Formulas.{cause_formula, cause_step, conditions_to, emission_formula, flow_formula, held_formula, in_state, origin_formula, step_formula, steps_to}
-use Rattle.flattener.specs.Numbered.{Numbered, Site, entering, event_formula, fact_formula, own_fact, reached_inward, some_entering}
+use Rattle.fact_formulas.specs.Facts.{enter_formula, is_empty, linked_formula, some_of, state_formula}
+use Rattle.fact_formulas.specs.Flat.{places, places_step}
+use Rattle.fact_formulas.specs.Formulas.{cause_formula, cause_step, conditions_to, emission_formula, flow_formula, held_formula, in_state, origin_formula, step_formula, steps_to}
+use Rattle.fact_formulas.specs.Numbered.{Numbered, Site, entering, event_formula, fact_formula, own_fact, reached_inward, some_entering}
 use Rattle.flattener.specs.inner.Tables.{capped, places_of}
 use Rattle.flattener.proofs.Caps.{capped_cases}
 

@@ -28,9 +28,9 @@ use Rattle.fault_system.specs.Truth.{in_range, in_range_step}
 use Rattle.fault_system.specs.declared.formula.Formula.{Formula, fold-roll-Formula}
 use Rattle.fault_system.specs.declared.formula.Formula.TheVariants.{True, Event, Fact, And, Or, AtLeast, rolls-True, rolls-Event, rolls-Fact, rolls-And, rolls-Or, rolls-AtLeast}
 use Rattle.fault_system.specs.declared.formula.Formula.TheOpen as open_formula
-use Rattle.flattener.specs.Numbered.{Numbered, Site, entering, event_formula, fact_formula, own_fact, reached_inward, site_of, some_entering}
-use Rattle.flattener.specs.Formulas.{FlowAt, all_flow_formulas, cause_formula, cause_step, conditions_to, covers_type, emission_formula, flow_formula, flow_formulas, flows_at, held_formula, in_state, origin_formula, step_formula, steps_to}
-use Rattle.flattener.specs.Facts.{fact_at, kind_formula, linked_formula, linked_from, meaning_of, perhaps_at}
+use Rattle.fact_formulas.specs.Numbered.{Numbered, Site, entering, event_formula, fact_formula, own_fact, reached_inward, site_of, some_entering}
+use Rattle.fact_formulas.specs.Formulas.{FlowAt, all_flow_formulas, cause_formula, cause_step, conditions_to, covers_type, emission_formula, flow_formula, flow_formulas, flows_at, held_formula, in_state, origin_formula, step_formula, steps_to}
+use Rattle.fact_formulas.specs.Facts.{fact_at, kind_formula, linked_formula, linked_from, meaning_of, perhaps_at}
 
 both_true : (a b : Bool) → a ≡ true → b ≡ true → (a && b) ≡ true
 both_true true b e f = f

@@ -16,8 +16,8 @@ use Rattle.model_facts.specs.inner.Laws.{AreNamed}
 use Rattle.model_facts.specs.Names.{event_name, fact_name}
 use Rattle.model_facts.specs.declared.keys.FactKey.{FactKey}
 use Rattle.model_facts.proofs.RootLaws.{root-events-differ, root-facts-differ}
-use Rattle.flattener.specs.Flat.{event_info, fact_info, system_of}
-use Rattle.flattener.specs.Numbered.{Numbered, numbered_of}
+use Rattle.fact_formulas.specs.Flat.{event_info, fact_info, system_of}
+use Rattle.fact_formulas.specs.Numbered.{Numbered, numbered_of}
 use Rattle.flattener.proofs.Ranged.{meaning-within}
 
 mapped : {A B C : Type 0} (f : A → B) (g : B → C) (xs : List A) → map g (map f xs) ≡ map (λ x. g (f x)) xs

@@ -1,5 +1,1 @@
-pub mod Numbered
-pub mod Formulas
-pub mod Facts
-pub mod Flat
 pub mod inner

@@ -1,5 +1,5 @@
 ghost use Rattle.std.specs.Prelude.{◌≡◌, IfOk, map};
-ghost use Rattle.flattener.specs.Formulas.{cause_formula, step_formula};
+ghost use Rattle.fact_formulas.specs.Formulas.{cause_formula, step_formula};
 
 use crate::site::Site;
 use error_behavior::Step;

@@ -3,10 +3,10 @@
 ghost use Rattle.std.specs.Prelude.{◌≡◌, ◌+◌, ◌∷◌, [], ℕ, filter, flat_map, length, map};
 ghost use Rattle.propagation_points.specs.Uses.{covers};
 ghost use Rattle.model_facts.specs.Facts.{outward_of};
-ghost use Rattle.flattener.specs.Facts.{enter_formula, exit_formula, flow_or_link, kind_formula, linked_formula, linked_from, meaning_of, perhaps_at, state_formula};
-ghost use Rattle.flattener.specs.Flat.{all_places, places};
-ghost use Rattle.flattener.specs.Formulas.{all_flow_formulas, cause_formula, emission_formula, emission_formulas, flow_formula, flow_formulas, held_formula, origin_formula, step_formula};
-ghost use Rattle.flattener.specs.Numbered.{reached_inward, some_entering};
+ghost use Rattle.fact_formulas.specs.Facts.{enter_formula, exit_formula, flow_or_link, kind_formula, linked_formula, linked_from, meaning_of, perhaps_at, state_formula};
+ghost use Rattle.fact_formulas.specs.Flat.{all_places, places};
+ghost use Rattle.fact_formulas.specs.Formulas.{all_flow_formulas, cause_formula, emission_formula, emission_formulas, flow_formula, flow_formulas, held_formula, origin_formula, step_formula};
+ghost use Rattle.fact_formulas.specs.Numbered.{reached_inward, some_entering};
 ghost use Rattle.flattener.specs.inner.Tables.{capped, flow_seen, places_of};
 
 use crate::exits::covers;

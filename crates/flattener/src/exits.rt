@@ -1,5 +1,5 @@
 ghost use Rattle.std.specs.Prelude.{◌≡◌, ◌++◌, ◌∷◌, [], IfOk, OnOk, map};
-ghost use Rattle.flattener.specs.Formulas.{all_flow_formulas, covers_type, emission_formula, emission_formulas, flow_formula, flow_formulas};
+ghost use Rattle.fact_formulas.specs.Formulas.{all_flow_formulas, covers_type, emission_formula, emission_formulas, flow_formula, flow_formulas};
 ghost use Rattle.flattener.specs.inner.Tables.{flow_seen};
 
 use crate::causes::cause_formula;

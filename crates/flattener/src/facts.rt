@@ -1,7 +1,7 @@
 ghost use Rattle.std.specs.Prelude.{◌≡◌, IfOk};
 ghost use Rattle.model_facts.specs.Facts.{event_in, event_number, inward_of, outward_of};
 ghost use Rattle.model_facts.specs.declared.keys.EventKind.TheVariants.{Arrival};
-ghost use Rattle.flattener.specs.Facts.{enter_formula, exit_formula, flow_or_link, is_empty, kind_formula, meaning_of, state_formula};
+ghost use Rattle.fact_formulas.specs.Facts.{enter_formula, exit_formula, flow_or_link, is_empty, kind_formula, meaning_of, state_formula};
 
 use crate::causes::{conditions, steps};
 use crate::exits::{emissions, flows};

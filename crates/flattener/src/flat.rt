@@ -1,6 +1,6 @@
 ghost use Rattle.std.specs.Prelude.{◌≡◌, None, Some, IfOk, MatchResult, map};
 ghost use Rattle.plain_values.specs.inner.Stops.{StopsAt};
-ghost use Rattle.flattener.specs.Flat.{event_info, fact_info, places_refusal, system_by};
+ghost use Rattle.fact_formulas.specs.Flat.{event_info, fact_info, places_refusal, system_by};
 ghost use Rattle.flattener.specs.inner.Flat.{Flattened};
 
 use crate::counts::all_places;

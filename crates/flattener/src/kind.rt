@@ -1,6 +1,6 @@
 ghost use Rattle.std.specs.Prelude.{◌≡◌, ◌++◌, ℕ, IfOk, OnOk, false, filter, map, nat_eq, slice_index_or};
 ghost use Rattle.std.specs.HashMap.{get};
-ghost use Rattle.flattener.specs.Formulas.{branches_to, condition_to, conditions_to, emissions_at, end_of, flow_at, flows_at, steps_to};
+ghost use Rattle.fact_formulas.specs.Formulas.{branches_to, condition_to, conditions_to, emissions_at, end_of, flow_at, flows_at, steps_to};
 ghost use Rattle.flattener.specs.inner.Tables.{AreConditions, AreEmissions, AreFlows, AreSteps, flow_seen, row_at, values};
 
 use crate::rows::{add, at};

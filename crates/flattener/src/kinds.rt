@@ -2,7 +2,8 @@ ghost use Rattle.std.specs.Prelude.{◌≡◌, IfOk, Some};
 ghost use Rattle.model_facts.specs.Assembly.{kind_model, no_model};
 
 use crate::kind::Kind;
-use error_behavior::{ErrorBehavior, States};
+use error_behavior::ErrorBehavior;
+use error_machines::States;
 use error_models::ErrorModel;
 use plain_values::{List, Mem};
 use propagation_points::{Points, Sorts};

@@ -8,7 +8,7 @@ ghost use Rattle.package_index.specs.Duplicates.{IsDuplicate};
 ghost use Rattle.fault_system.specs.Systems.{IsSystem};
 ghost use Rattle.model_facts.specs.Assembly.{assembly_of};
 ghost use Rattle.model_facts.specs.inner.Laws.{AreNamed};
-ghost use Rattle.flattener.specs.Flat.{system_of};
+ghost use Rattle.fact_formulas.specs.Flat.{system_of};
 
 /// What a root is made into is a system, where nothing is declared twice and all names are identifiers: each number in a
 /// formula is that of a fact or an event, no two facts have one name, and no two events have one.

@@ -10,11 +10,8 @@ mod kind;
 mod kinds;
 mod laws;
 mod numbers;
-mod root;
 mod rows;
 mod site;
 
 pub use flat::flatten;
 pub use laws::models_are_systems;
-pub use numbers::fact_at;
-pub use root::is_of_root;

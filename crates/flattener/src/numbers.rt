@@ -1,16 +1,17 @@
 ghost use Rattle.std.specs.Prelude.{◌≡◌, ◌++◌, ◌∷◌, [], IfOk, OnOk};
 ghost use Rattle.std.specs.HashMap.{get};
 ghost use Rattle.model_facts.specs.Facts.{event_number, fact_number};
-ghost use Rattle.flattener.specs.Facts.{fact_at, linked_formula, linked_from, perhaps_at};
-ghost use Rattle.flattener.specs.Numbered.{event_formula, fact_formula, site_of};
+ghost use Rattle.fact_formulas.specs.Facts.{fact_at, linked_formula, linked_from, perhaps_at};
+ghost use Rattle.fact_formulas.specs.Numbered.{event_formula, fact_formula, site_of};
 ghost use Rattle.flattener.specs.inner.Tables.{AreLinks, SideKey as Key, row_at, same_key, side_of_key};
 
 use crate::kinds::Kinds;
 use crate::rows::{add, at};
 use crate::site::Site;
+use fact_formulas::fact_at;
 use fault_system::Formula;
 use instantiator::Instance;
-use model_facts::{Assembly, EventKey, EventTable, FactKey, FactKind, FactTable};
+use model_facts::{Assembly, EventKey, EventTable, FactKey, FactTable};
 use plain_values::{List, Mem};
 use propagation_links::{Link, PointAt};
 use std::alloc::Global;
@@ -36,7 +37,7 @@ impl<'n> Model for Numbers<'n> {
     ghost use Rattle.aadl_syntax.specs.contracts.error_model.Condition as condition;
     ghost use Rattle.propagation_points.specs.contracts.side.Side as side;
     ghost use Rattle.error_conditions.specs.contracts.cause.Cause as cause;
-    ghost use Rattle.flattener.specs.Numbered.{Numbered};
+    ghost use Rattle.fact_formulas.specs.Numbered.{Numbered};
 
     ghost Value = { Numbered };
 
@@ -178,21 +179,6 @@ impl<'n> Numbers<'n> {
         ensures { result.now ≡ linked_from side self.now.assembly.links }
     {
         at(&self.links, (side.component, side.point, side.outward))
-    }
-}
-
-/// The fact that a type is at a side.
-pub fn fact_at(number: u32, side: PointAt) -> FactKey
-    ensures { result ≡ fact_at number side }
-{
-    let kind = if side.outward {
-        FactKind::Exits(side.point, number)
-    } else {
-        FactKind::Enters(side.point, number)
-    };
-    FactKey {
-        owner: side.component,
-        kind,
     }
 }
 

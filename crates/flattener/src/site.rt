@@ -1,8 +1,8 @@
 ghost use Rattle.std.specs.Prelude.{◌≡◌, ◌++◌, ◌∷◌, [], IfOk, OnOk, filter, map};
-ghost use Rattle.error_types.specs.Search.{is_number_in};
+ghost use Rattle.error_libraries.specs.Search.{is_number_in};
 ghost use Rattle.propagation_points.specs.Uses.{covers, side_types};
-ghost use Rattle.flattener.specs.Formulas.{below_in_state, held_formula, in_variant, is_reached, origin_formula};
-ghost use Rattle.flattener.specs.Numbered.{entering, inward_types, own_event, own_fact, some_entering};
+ghost use Rattle.fact_formulas.specs.Formulas.{below_in_state, held_formula, in_variant, is_reached, origin_formula};
+ghost use Rattle.fact_formulas.specs.Numbered.{entering, inward_types, own_event, own_fact, some_entering};
 
 use crate::kind::Kind;
 use crate::numbers::Numbers;
@@ -28,7 +28,7 @@ impl<'s, 'n> Model for Site<'s, 'n> {
     ghost use Rattle.aadl_syntax.specs.contracts.error_model.Condition as condition;
     ghost use Rattle.propagation_points.specs.contracts.side.Side as side;
     ghost use Rattle.error_conditions.specs.contracts.cause.Cause as cause;
-    ghost use Rattle.flattener.specs.Numbered.{Site as Seen};
+    ghost use Rattle.fact_formulas.specs.Numbered.{Site as Seen};
 
     ghost Value = { Seen };
 

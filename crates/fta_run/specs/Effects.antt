@@ -1,7 +1,7 @@
 -- The effects that an FMEA table asks of, and the facts that are told as targets.
 use Rattle.std.specs.Prelude.{ℕ, Bool, false, List, cond, filter, length}
 use Rattle.plain_values.specs.Numbered.{numbers_below}
-use Rattle.flattener.specs.Flat.{is_of_root}
+use Rattle.fact_formulas.specs.Flat.{is_of_root}
 use Rattle.model_phases.specs.declared.flat.FlatModel.{FlatModel}
 
 -- The effects that are asked of: those of all components, or those of the root.

@@ -4,13 +4,13 @@ ghost use Rattle.std.specs.Prelude.{◌≡◌, ◌||◌, IfOk, length};
 ghost use Rattle.plain_values.specs.Rising.{RisesWithin};
 ghost use Rattle.fmea_rows.specs.inner.Text.{HasFieldNames};
 ghost use Rattle.model_phases.specs.Named.{IsPlainModel};
-ghost use Rattle.flattener.specs.Flat.{is_of_root};
+ghost use Rattle.fact_formulas.specs.Flat.{is_of_root};
 ghost use Rattle.fta_run.specs.Due.{fmea_text};
 ghost use Rattle.fta_run.specs.Effects.{asked_effects};
 ghost use Rattle.system_answers.specs.inner.Prints.{Prints};
 
+use fact_formulas::is_of_root;
 use fault_system::FaultSystem;
-use flattener::is_of_root;
 use fmea_rows::{rows, write_rows};
 use fta_outside::Sink;
 use model_phases::FlatModel;

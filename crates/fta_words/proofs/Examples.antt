@@ -1,11 +1,13 @@
 -- Small command lines, worked.
-use Rattle.std.proofs.Common.{◌≡◌, ℕ, List, [], ◌∷◌, Some, None, true, codes, refl, arith}
-use Rattle.fta_words.specs.inner.Reading.{values_of}
+use Rattle.std.proofs.Common.{◌≡◌, ℕ, List, [], ◌∷◌, Some, None, true, false, codes, refl, subst, arith}
 use Rattle.plain_values.specs.declared.name.Root.{Root}
-use Rattle.fta_words.proofs.AllKinds.{ascii_text}
-use Rattle.fta_words.proofs.Commands.{read_name, to_read}
+use Rattle.fta_words.specs.declared.kind.Kind.TheVariants as kind
+use Rattle.fta_words.specs.declared.command.Options.{Options}
+use Rattle.fta_words.proofs.AllKinds.{ascii_text, name_is_plain}
 use Rattle.fta_words.proofs.Identifiers.{word_of}
-use Rattle.fta_words.specs.Words.{Alone, Apart, Check, Command, IsCommand, AreDifferent, Attached, Given, IsNumberText, before_options, file_words, has_flag, option_words, value_of, with_colons}
+use Rattle.fta_words.proofs.Places.{first_of, none_of}
+use Rattle.fta_words.specs.Table.{name_of}
+use Rattle.fta_words.specs.Words.{Alone, Apart, AreDifferent, Attached, Given, IsNumberText, IsPlainWord, IsRequest, Request, before_options, file_words, is_given, option_words, value_of, with_colons}
 
 -- a root
 joined : with_colons (codes "p" ∷ codes "q" ∷ codes "s" ∷ []) ≡ codes "p::q::s"
@@ -38,7 +40,7 @@ not_said : value_of (codes "max-order") (limit ∷ after ∷ all ∷ []) ≡ Non
 unfolding limit after all
 not_said = refl
 
-flag : has_flag (codes "all") (limit ∷ after ∷ all ∷ []) ≡ true
+flag : is_given (codes "all") (limit ∷ after ∷ all ∷ []) ≡ true
 unfolding limit after all
 flag = refl
 
@@ -57,31 +59,60 @@ files_of_cuts = refl
 options_first : before_options (codes "--limit" ∷ codes "5" ∷ codes "cuts" ∷ []) ≡ []
 options_first = refl
 
--- a whole command: the letters of the root are folded
-root : Root
+-- a whole request: the letters of root, target and set are folded, and what is not given says nothing
+abbrev root : Root
 root = record { names = codes "p" ∷ codes "s" ∷ []; item = None }
 
-check_line : IsCommand [] (codes "check" ∷ codes "P::S" ∷ codes "f" ∷ []) (Check root (codes "f" ∷ []))
-unfolding root
-check_line = (
-  codes "P::S",
-  [],
-  record {
-    words_are = refl;
-    plain_words =
-        ((λ same. absurd (omega (arith, same)), ascii_text (codes "check") refl), ((λ same. absurd (omega (arith, same)), ascii_text (codes "P::S") refl), ((λ same. absurd (omega (arith, same)), ascii_text (codes "f") refl), tt)));
-    options = record { allowed = tt; once = tt };
-  },
-  record {
-    root_is =
-        record { text_is = refl; at_least_two = omega arith; identifiers = (word_of 112 [] refl refl, (word_of 115 [] refl refl, tt)); item_identifier = tt };
-    some_file = omega arith;
-  },
-)
+abbrev set_alone : Options
+set_alone =
+    record { paging = record { limit = None; after = None; max_order = None }; set = codes "e"; chosen = []; tokens = false; all = false; text = false; paths = false }
 
--- no command begins with an option
-no_option_first : (reports : List (List ℕ)) (bytes : List ℕ) (words : List (List ℕ)) (command : Command) → IsCommand reports ((45 ∷ bytes) ∷ words) command → ⊥
-no_option_first reports bytes words command is =
-    let read = to_read reports ((45 ∷ bytes) ∷ words) command is in
-    let first = read_name reports [] (values_of read.given) command read.read in
-    cc (first.1)
+abbrev asked : Request
+asked = record { kind = kind.Why; root = root; target = codes "t"; number = 0; of = None; files = codes "f" ∷ []; options = set_alone }
+
+why_line : IsRequest [] (codes "why" ∷ codes "P::S" ∷ codes "T" ∷ codes "f" ∷ codes "--set=E" ∷ []) asked
+why_line =
+    record {
+      plain = codes "P::S" ∷ codes "T" ∷ codes "f" ∷ [];
+      given = record { name = codes "set"; spelling = Attached (codes "E") } ∷ [];
+      words_are = refl;
+      plain_words =
+          ((λ same. absurd (omega (arith, same)), ascii_text (codes "P::S") refl), ((λ same. absurd (omega (arith, same)), ascii_text (codes "T") refl), ((λ same. absurd (omega (arith, same)), ascii_text (codes "f") refl), tt)));
+      options =
+          record {
+            allowed = ((first_of (codes "set") [], (λ same. absurd (omega (arith, same)), ascii_text (codes "E") refl)), tt);
+            once = (tt, tt);
+          };
+      required = (refl, tt);
+      asked = (
+        codes "P::S",
+        codes "T",
+        refl,
+        record {
+          root_is =
+              record { text_is = refl; at_least_two = omega arith; identifiers = (word_of 112 [] refl refl, (word_of 115 [] refl refl, tt)); item_identifier = tt };
+          some_file = omega arith;
+        },
+        refl,
+        refl,
+        refl,
+      );
+      said =
+          record {
+            limit = tt;
+            after = tt;
+            max_order = tt;
+            set = refl;
+            chosen = record { rise = tt; chosen_are = λ place. (λ has. absurd (none_of place has), λ less. absurd (omega (arith, less))) };
+            tokens = refl;
+            all = refl;
+            text = refl;
+            paths = refl;
+          };
+    }
+
+-- no request begins with an option
+no_option_first : (reports : List (List ℕ)) (bytes : List ℕ) (words : List (List ℕ)) (request : Request) → IsRequest reports ((45 ∷ bytes) ∷ words) request → ⊥
+no_option_first reports bytes words request is =
+    let name : name_of request.kind ≡ 45 ∷ bytes = cc (is.words_are) in
+    (subst IsPlainWord name (name_is_plain request.kind)).0 refl

@@ -1,11 +1,13 @@
 -- What stands in the matches that `clap` makes of words that are options.
-use Rattle.std.proofs.Common.{◌≡◌, ◌<◌, Bool, true, false, ◌&&◌, ◌||◌, if◌then◌else◌, List, [], ◌∷◌, ◌++◌, length, fold, Option, Some, None, is_some, codes, refl, sym, ap, subst, ◌∙◌, arith}
+use Rattle.std.proofs.Common.{◌≡◌, ◌<◌, Bool, true, false, ◌&&◌, ◌||◌, if◌then◌else◌, nat_lt, List, [], ◌∷◌, ◌++◌, length, fold, map, Option, Some, None, is_some, codes, refl, sym, ap, subst, ◌∙◌, arith}
 use Rattle.std.specs.Prelude.{Contains, find, option_and_then, slice_get}
 use Rattle.std.specs.List.{AllByRecursion, list_all}
 use Rattle.std.specs.Option.{option_or}
 use Rattle.std.specs.Str.{bytes_eq}
 use Rattle.std.proofs.lemmas.Bool.{false≢true}
+use Rattle.std.proofs.lemmas.Bool.Decides.{nat_tests}
 use Rattle.std.proofs.lemmas.List.Folds.{find-append}
+use Rattle.std.proofs.lemmas.List.Sums.{fold-append}
 use Rattle.std.proofs.lemmas.Slice.Eq.{bytes_eq-Decides}
 use Rattle.plain_values.specs.Name.{is_same_text}
 use Rattle.clap.specs.Words.{Row, Shape, Text, built, first_of, is_simple, matches_of, one_of, takes}
@@ -14,21 +16,34 @@ use Rattle.clap.specs.Takes.{default_passes, entered_passes, is_valid, settle_pa
 use Rattle.clap.specs.Simple.{entered}
 use Rattle.clap.specs.declared.parser.matches.ValueSource.TheVariants.{DefaultValue}
 use Rattle.clap.proofs.OnLiterals.{clap_on_literals}
-use Rattle.fta_words.specs.Words.{Alone, Apart, AreOptions, Attached, Given, IsAllowed, Spelling, has_flag, option_words, value_in, value_of}
-use Rattle.fta_words.specs.inner.Parsed.{ReadsFlag, StandIn, all_flags, all_valued, options_app}
-use Rattle.fta_words.specs.inner.Reading.{Values, values_of}
-use Rattle.fta_words.proofs.AllKinds.{a_flag, a_valued}
+use Rattle.fta_words.specs.Table.{is_among}
+use Rattle.fta_words.specs.Words.{Alone, Apart, AreOptions, Attached, Given, IsAllowed, Spelling, is_given, option_words, value_in, value_of}
+use Rattle.fta_words.specs.inner.Parsed.{StandIn, all_flags, all_valued, options_app}
+use Rattle.fta_words.specs.inner.Reading.{Allowed}
+use Rattle.fta_words.proofs.EachKind.{all_true}
+use Rattle.fta_words.proofs.Names.{has_name, text-is, text-same}
 use Rattle.fta_words.proofs.Parses.{F, Serves, StandsAt, V, at, at_end, other_bytes, row_for, row_name, rows_for, walks}
 use Rattle.fta_words.proofs.Places.{each_of}
-use Rattle.fta_words.proofs.Spelled.{Allowed, all_apart, text-is, text-same}
+use Rattle.fta_words.proofs.Spelled.{all_apart}
 
 -- ---- the command line
 
 abbrev pub line : Shape
 line = (built options_app).top
 
-is_one_of : (P : Text → Type 0) (names : List Text) → AllByRecursion P names → (name : Text) → Contains names name → P name
-is_one_of P names all name has = each_of P names name all has
+-- two functions that agree on a list agree on each of its names
+each_equal : {B : Type 0} (f g : Text → B) (names : List Text) → map f names ≡ map g names → AllByRecursion (λ name. f name ≡ g name) names
+each_equal f g [] same = tt
+each_equal f g (name ∷ names) same = (cc (same), each_equal f g names (cc (same)))
+
+found_by : {B : Type 0} (f g : Text → B) (names : List Text) → map f names ≡ map g names → (name : Text) → Contains names name → f name ≡ g name
+found_by f g names same name has = each_of (λ n. f n ≡ g n) names name (each_equal f g names same) has
+
+is_named : (name : Text) → nat_lt 0 (length name) ≡ true → 0 < length name
+is_named name is = grind (arith, nat_tests)
+
+each_named : (names : List Text) → list_all (λ name. nat_lt 0 (length name)) names ≡ true → (name : Text) → Contains names name → 0 < length name
+each_named names all name has = is_named name (each_of (λ n. nat_lt 0 (length n) ≡ true) names name (all_true (λ n. nat_lt 0 (length n)) names all) has)
 
 -- the command line has the flags and the options of all commands
 serves : Serves line all_flags all_valued
@@ -36,11 +51,11 @@ unfolding clap_on_literals
 serves =
     record {
       once = refl;
-      flag_long = is_one_of (λ name. arg_by_long line.rules name ≡ Some (F name)) all_flags (refl, (refl, (refl, (refl, tt))));
-      valued_long = is_one_of (λ name. arg_by_long line.rules name ≡ Some (V name)) all_valued (refl, (refl, (refl, (refl, (refl, tt)))));
-      valued_id = is_one_of (λ name. arg_by_id line.rules name ≡ Some (V name)) all_valued (refl, (refl, (refl, (refl, (refl, tt)))));
-      flag_some = λ name has. (is_one_of (λ n. 0 < length n) all_flags (omega arith, (omega arith, (omega arith, (omega arith, tt)))) name has, all_apart.flag_names name has);
-      valued_some = λ name has. (is_one_of (λ n. 0 < length n) all_valued (omega arith, (omega arith, (omega arith, (omega arith, (omega arith, tt))))) name has, all_apart.valued_names name has);
+      flag_long = found_by (arg_by_long line.rules) (λ name. Some (F name)) all_flags refl;
+      valued_long = found_by (arg_by_long line.rules) (λ name. Some (V name)) all_valued refl;
+      valued_id = found_by (arg_by_id line.rules) (λ name. Some (V name)) all_valued refl;
+      flag_some = λ name has. (each_named all_flags refl name has, all_apart.flag_names name has);
+      valued_some = λ name has. (each_named all_valued refl name has, all_apart.valued_names name has);
     }
 
 start : StandsAt line [] (walk_from nothing_held)
@@ -81,7 +96,7 @@ matched : (words : List Text) → matches_of options_app words ≡ finished line
 unfolding clap_on_literals
 matched words = refl
 
-rules_are : line.rules ≡ V (codes "limit") ∷ V (codes "after") ∷ V (codes "max-order") ∷ V (codes "reports") ∷ V (codes "set") ∷ F (codes "all") ∷ F (codes "text") ∷ F (codes "paths") ∷ F (codes "tokens") ∷ []
+rules_are : line.rules ≡ map V all_valued ++ map F all_flags
 unfolding clap_on_literals
 rules_are = refl
 
@@ -89,26 +104,23 @@ same_both : {X : Type 0} (t : Bool) (x : X) → (if t then x else x) ≡ x
 same_both true x = refl
 same_both false x = refl
 
-valued_default : (rows : List Row) (name : Text) → with_default rows (V name) ≡ rows
-valued_default rows name = same_both (has_row name rows) rows
+-- an option with a value has no default
+valued_defaults : (names : List Text) (rows : List Row) → fold with_default rows (map V names) ≡ rows
+valued_defaults [] rows = refl
+valued_defaults (name ∷ names) rows = ap (λ (r : List Row). fold with_default r (map V names)) (same_both (has_row name rows) rows) ∙ valued_defaults names rows
 
 -- the rows of options, and then the defaults of the flags
-pub with_flags : List Row → List Row
-with_flags rows = with_default (with_default (with_default (with_default rows (F (codes "all"))) (F (codes "text"))) (F (codes "paths"))) (F (codes "tokens"))
+abbrev pub with_flags : List Row → List Row
+with_flags rows = fold with_default rows (map F all_flags)
 
 pub rows_are : (given : List Given) → AreOptions all_flags all_valued given → matches_of options_app (option_words given) ≡ with_flags (rows_for given)
-unfolding with_flags
 rows_are given options =
     let end = walks line all_flags all_valued serves given options.allowed options.once [] (walk_from nothing_held) start (none_yet given) in
-    let flags = F (codes "all") ∷ F (codes "text") ∷ F (codes "paths") ∷ F (codes "tokens") ∷ [] in
     matched (option_words given) ∙ ap (λ (w : Walk). finished line.rules w.held) end.0.is
     ∙ ap (λ (rows : List Row). fold with_default rows line.rules) end.0.settles
     ∙ ap (fold with_default (rows_for given)) rules_are
-    ∙ ap (λ (r : List Row). fold with_default r (V (codes "after") ∷ V (codes "max-order") ∷ V (codes "reports") ∷ V (codes "set") ∷ flags)) (valued_default (rows_for given) (codes "limit"))
-    ∙ ap (λ (r : List Row). fold with_default r (V (codes "max-order") ∷ V (codes "reports") ∷ V (codes "set") ∷ flags)) (valued_default (rows_for given) (codes "after"))
-    ∙ ap (λ (r : List Row). fold with_default r (V (codes "reports") ∷ V (codes "set") ∷ flags)) (valued_default (rows_for given) (codes "max-order"))
-    ∙ ap (λ (r : List Row). fold with_default r (V (codes "set") ∷ flags)) (valued_default (rows_for given) (codes "reports"))
-    ∙ ap (λ (r : List Row). fold with_default r flags) (valued_default (rows_for given) (codes "set"))
+    ∙ fold-append with_default (rows_for given) (map V all_valued) (map F all_flags)
+    ∙ ap with_flags (valued_defaults all_valued (rows_for given))
 
 -- ---- what is found
 
@@ -188,7 +200,7 @@ abbrev told : Bool → Option Text
 told true = Some (codes "true")
 told false = None
 
-found_flag : (name : Text) → Contains all_flags name → (given : List Given) → Allowed all_flags all_valued given → one_of name (rows_for given) ≡ told (has_flag name given)
+found_flag : (name : Text) → Contains all_flags name → (given : List Given) → Allowed all_flags all_valued given → one_of name (rows_for given) ≡ told (is_given name given)
 found_flag name flag [] allowed = refl
 found_flag name flag (option ∷ given) allowed = go (is_same_text name option.name) refl (found_flag name flag given allowed.1)
   where
@@ -197,14 +209,14 @@ found_flag name flag (option ∷ given) allowed = go (is_same_text name option.n
     here (Attached value) is same = absurd (all_apart.apart option.name (subst (Contains all_flags) same flag) is.0)
     here (Apart value) is same = absurd (all_apart.apart option.name (subst (Contains all_flags) same flag) is.0)
 
-    go : (t : Bool) → is_same_text name option.name ≡ t → one_of name (rows_for given) ≡ told (has_flag name given)
-        → option_and_then row_text (if bytes_eq (row_for option.name option.spelling).id name then Some (row_for option.name option.spelling) else seek name (rows_for given)) ≡ told (is_same_text name option.name || has_flag name given)
+    go : (t : Bool) → is_same_text name option.name ≡ t → one_of name (rows_for given) ≡ told (is_given name given)
+        → option_and_then row_text (if bytes_eq (row_for option.name option.spelling).id name then Some (row_for option.name option.spelling) else seek name (rows_for given)) ≡ told (is_same_text name option.name || is_given name given)
     go true is rest =
         ap (λ (t : Bool). option_and_then row_text (if t then Some (row_for option.name option.spelling) else seek name (rows_for given))) (row_named name option true is)
-        ∙ here option.spelling allowed.0 (text-is name option.name is) ∙ sym (ap (λ (t : Bool). told (t || has_flag name given)) is)
+        ∙ here option.spelling allowed.0 (text-is name option.name is) ∙ sym (ap (λ (t : Bool). told (t || is_given name given)) is)
     go false is rest =
         ap (λ (t : Bool). option_and_then row_text (if t then Some (row_for option.name option.spelling) else seek name (rows_for given))) (row_named name option false is)
-        ∙ rest ∙ sym (ap (λ (t : Bool). told (t || has_flag name given)) is)
+        ∙ rest ∙ sym (ap (λ (t : Bool). told (t || is_given name given)) is)
 
 nothing : ◌≡◌ {A = Option Text} None (Some (codes "true")) → ⊥
 nothing same = cc
@@ -237,100 +249,50 @@ flag_text name rows false is filled None none = refl
 flag_text name rows true is filled (Some row) some = sym (ap (option_and_then row_text) some) ∙ is
 flag_text name rows false is filled (Some row) some = let first = filled row some in absurd (nothing_first first.0 (sym is ∙ ap (option_and_then row_text) some ∙ first.1))
 
-reads_flag : (text : Option Text) (said flag : Bool) → text ≡ Some (if said then codes "true" else codes "false") → ReadsFlag text flag → flag ≡ said
-reads_flag text true flag is reads = reads.0 is
-reads_flag text false flag is reads = reads.1 is
+-- a default twice is one
+default_twice : {X : Type 0} (o : Option X) (x : X) → option_or (option_or o (Some x)) (Some x) ≡ option_or o (Some x)
+default_twice None x = refl
+default_twice (Some y) x = refl
 
--- values of these parts
-abbrev values : Option Text → Option Text → Option Text → Option Text → Option Text → Bool → Bool → Bool → Bool → Values
-values l f m r s x t p k = record { limit = l; after = f; max_order = m; reports = r; set = s; all = x; text = t; paths = p; tokens = k }
+-- where the defaults of flags have been added, a flag has a row, and what is no flag has the row that it had
+sought : (names : List Text) (name : Text) (rows : List Row)
+    → seek name (fold with_default rows (map F names)) ≡ (if is_among names name then option_or (seek name rows) (Some (default_row name)) else seek name rows)
+sought [] name rows = refl
+sought (first ∷ names) name rows = go (is_same_text first name) refl (sought names name (with_default rows (F first)))
+  where
+    behind : (t : Bool) → seek name (with_default rows (F first)) ≡ option_or (seek name rows) (Some (default_row name))
+        → (if t then option_or (seek name (with_default rows (F first))) (Some (default_row name)) else seek name (with_default rows (F first))) ≡ option_or (seek name rows) (Some (default_row name))
+    behind true is = ap (λ (o : Option Row). option_or o (Some (default_row name))) is ∙ default_twice (seek name rows) (default_row name)
+    behind false is = is
 
-same_values : (a b : Values) → a.limit ≡ b.limit → a.after ≡ b.after → a.max_order ≡ b.max_order → a.reports ≡ b.reports → a.set ≡ b.set → a.all ≡ b.all → a.text ≡ b.text → a.paths ≡ b.paths → a.tokens ≡ b.tokens → a ≡ b
-same_values a b l f m r s x t p k =
-    ap (λ (o : Option Text). values o a.after a.max_order a.reports a.set a.all a.text a.paths a.tokens) l
-    ∙ ap (λ (o : Option Text). values b.limit o a.max_order a.reports a.set a.all a.text a.paths a.tokens) f
-    ∙ ap (λ (o : Option Text). values b.limit b.after o a.reports a.set a.all a.text a.paths a.tokens) m
-    ∙ ap (λ (o : Option Text). values b.limit b.after b.max_order o a.set a.all a.text a.paths a.tokens) r
-    ∙ ap (λ (o : Option Text). values b.limit b.after b.max_order b.reports o a.all a.text a.paths a.tokens) s
-    ∙ ap (λ (o : Bool). values b.limit b.after b.max_order b.reports b.set o a.text a.paths a.tokens) x
-    ∙ ap (λ (o : Bool). values b.limit b.after b.max_order b.reports b.set b.all o a.paths a.tokens) t
-    ∙ ap (λ (o : Bool). values b.limit b.after b.max_order b.reports b.set b.all b.text o a.tokens) p
-    ∙ ap (λ (o : Bool). values b.limit b.after b.max_order b.reports b.set b.all b.text b.paths o) k
+    go : (t : Bool) → is_same_text first name ≡ t
+        → seek name (fold with_default (with_default rows (F first)) (map F names)) ≡ (if is_among names name then option_or (seek name (with_default rows (F first))) (Some (default_row name)) else seek name (with_default rows (F first)))
+        → seek name (fold with_default (with_default rows (F first)) (map F names)) ≡ (if is_same_text first name || is_among names name then option_or (seek name rows) (Some (default_row name)) else seek name rows)
+    go true is rest =
+        let same : seek name (with_default rows (F first)) ≡ option_or (seek name rows) (Some (default_row name)) = subst (λ (n : Text). seek name (with_default rows (F n)) ≡ option_or (seek name rows) (Some (default_row name))) (sym (text-is first name is)) (default_same name rows) in
+        rest ∙ behind (is_among names name) same ∙ sym (ap (λ (t : Bool). if t || is_among names name then option_or (seek name rows) (Some (default_row name)) else seek name rows) is)
+    go false is rest =
+        rest ∙ ap (λ (o : Option Row). if is_among names name then option_or o (Some (default_row name)) else o) (default_other name first rows is)
+        ∙ sym (ap (λ (t : Bool). if t || is_among names name then option_or (seek name rows) (Some (default_row name)) else seek name rows) is)
 
--- a value is found beside the defaults
-value_there : (name : Text) → Contains all_valued name → bytes_eq (codes "all") name ≡ false → bytes_eq (codes "text") name ≡ false → bytes_eq (codes "paths") name ≡ false → bytes_eq (codes "tokens") name ≡ false → (given : List Given) → Allowed all_flags all_valued given → first_of name (with_flags (rows_for given)) ≡ value_of name given
-unfolding with_flags
-value_there name valued all text paths tokens given allowed =
-    let first = with_default (rows_for given) (F (codes "all")) in
-    let second = with_default first (F (codes "text")) in
-    ap (option_and_then (λ (r : Row). slice_get r.values 0))
-    (default_other name (codes "tokens") (with_default second (F (codes "paths"))) tokens
-    ∙ default_other name (codes "paths") second paths
-    ∙ default_other name (codes "text") first text
-    ∙ default_other name (codes "all") (rows_for given) all)
-    ∙ found_value name valued given allowed
+-- no option with a value is a flag
+no_flag : (name : Text) → is_among all_valued name ≡ true → is_among all_flags name ≡ false
+no_flag name valued = go (is_among all_flags name) refl
+  where
+    go : (t : Bool) → is_among all_flags name ≡ t → t ≡ false
+    go true is = absurd (all_apart.apart name (has_name all_flags name is) (has_name all_valued name valued))
+    go false is = refl
 
--- what a flag says of itself, where its row is sought among those of the options
-flag_there : (name : Text) → Contains all_flags name → (rows : List Row) (given : List Given) → Allowed all_flags all_valued given
-    → seek name rows ≡ option_or (seek name (rows_for given)) (Some (default_row name)) → one_of name rows ≡ Some (if has_flag name given then codes "true" else codes "false")
-flag_there name flag rows given allowed sought =
-    ap (option_and_then row_text) sought
-    ∙ flag_text name (rows_for given) (has_flag name given) (found_flag name flag given allowed) (filled_rows name given) (seek name (rows_for given)) refl
-
-all_there : (given : List Given) → Allowed all_flags all_valued given → one_of (codes "all") (with_flags (rows_for given)) ≡ Some (if has_flag (codes "all") given then codes "true" else codes "false")
-unfolding with_flags
-all_there given allowed =
-    let name : Text = codes "all" in
-    let first = with_default (rows_for given) (F (codes "all")) in
-    let second = with_default first (F (codes "text")) in
-    let third = with_default second (F (codes "paths")) in
-    flag_there name (a_flag name refl) (with_flags (rows_for given)) given allowed
-    (default_other name (codes "tokens") third refl ∙ default_other name (codes "paths") second refl ∙ default_other name (codes "text") first refl ∙ default_same name (rows_for given))
-
-text_there : (given : List Given) → Allowed all_flags all_valued given → one_of (codes "text") (with_flags (rows_for given)) ≡ Some (if has_flag (codes "text") given then codes "true" else codes "false")
-unfolding with_flags
-text_there given allowed =
-    let name : Text = codes "text" in
-    let first = with_default (rows_for given) (F (codes "all")) in
-    let second = with_default first (F (codes "text")) in
-    let third = with_default second (F (codes "paths")) in
-    flag_there name (a_flag name refl) (with_flags (rows_for given)) given allowed
-    (default_other name (codes "tokens") third refl ∙ default_other name (codes "paths") second refl ∙ default_same name first
-    ∙ ap (λ (o : Option Row). option_or o (Some (default_row name))) (default_other name (codes "all") (rows_for given) refl))
-
-paths_there : (given : List Given) → Allowed all_flags all_valued given → one_of (codes "paths") (with_flags (rows_for given)) ≡ Some (if has_flag (codes "paths") given then codes "true" else codes "false")
-unfolding with_flags
-paths_there given allowed =
-    let name : Text = codes "paths" in
-    let first = with_default (rows_for given) (F (codes "all")) in
-    let second = with_default first (F (codes "text")) in
-    let third = with_default second (F (codes "paths")) in
-    flag_there name (a_flag name refl) (with_flags (rows_for given)) given allowed
-    (default_other name (codes "tokens") third refl ∙ default_same name second
-    ∙ ap (λ (o : Option Row). option_or o (Some (default_row name))) (default_other name (codes "text") first refl ∙ default_other name (codes "all") (rows_for given) refl))
-
-tokens_there : (given : List Given) → Allowed all_flags all_valued given → one_of (codes "tokens") (with_flags (rows_for given)) ≡ Some (if has_flag (codes "tokens") given then codes "true" else codes "false")
-unfolding with_flags
-tokens_there given allowed =
-    let name : Text = codes "tokens" in
-    let first = with_default (rows_for given) (F (codes "all")) in
-    let second = with_default first (F (codes "text")) in
-    let third = with_default second (F (codes "paths")) in
-    flag_there name (a_flag name refl) (with_flags (rows_for given)) given allowed
-    (default_same name third
-    ∙ ap (λ (o : Option Row). option_or o (Some (default_row name))) (default_other name (codes "paths") second refl ∙ default_other name (codes "text") first refl ∙ default_other name (codes "all") (rows_for given) refl))
-
--- the values that stand in the matches are those of the options
-pub values_are : (given : List Given) → AreOptions all_flags all_valued given → (found : Values) → StandIn (with_flags (rows_for given)) found → found ≡ values_of given
-values_are given options found stand =
-    let allowed = options.allowed in
-    same_values found (values_of given)
-    (stand.limit ∙ value_there (codes "limit") (a_valued (codes "limit") refl) refl refl refl refl given allowed)
-    (stand.after ∙ value_there (codes "after") (a_valued (codes "after") refl) refl refl refl refl given allowed)
-    (stand.max_order ∙ value_there (codes "max-order") (a_valued (codes "max-order") refl) refl refl refl refl given allowed)
-    (stand.reports ∙ value_there (codes "reports") (a_valued (codes "reports") refl) refl refl refl refl given allowed)
-    (stand.set ∙ value_there (codes "set") (a_valued (codes "set") refl) refl refl refl refl given allowed)
-    (reads_flag (one_of (codes "all") (with_flags (rows_for given))) (has_flag (codes "all") given) found.all (all_there given allowed) stand.all)
-    (reads_flag (one_of (codes "text") (with_flags (rows_for given))) (has_flag (codes "text") given) found.text (text_there given allowed) stand.text)
-    (reads_flag (one_of (codes "paths") (with_flags (rows_for given))) (has_flag (codes "paths") given) found.paths (paths_there given allowed) stand.paths)
-    (reads_flag (one_of (codes "tokens") (with_flags (rows_for given))) (has_flag (codes "tokens") given) found.tokens (tokens_there given allowed) stand.tokens)
+-- what the options say stands in the matches
+pub stand_in : (given : List Given) → AreOptions all_flags all_valued given → StandIn (with_flags (rows_for given)) given
+stand_in given options =
+    record {
+      values =
+          λ name valued. ap (option_and_then (λ (r : Row). slice_get r.values 0))
+          (sought all_flags name (rows_for given) ∙ ap (λ (t : Bool). if t then option_or (seek name (rows_for given)) (Some (default_row name)) else seek name (rows_for given)) (no_flag name valued))
+          ∙ found_value name (has_name all_valued name valued) given options.allowed;
+      flags =
+          λ name flag. ap (option_and_then row_text)
+          (sought all_flags name (rows_for given) ∙ ap (λ (t : Bool). if t then option_or (seek name (rows_for given)) (Some (default_row name)) else seek name (rows_for given)) flag)
+          ∙ flag_text name (rows_for given) (is_given name given) (found_flag name (has_name all_flags name flag) given options.allowed) (filled_rows name given) (seek name (rows_for given)) refl;
+    }

@@ -1,10 +1,12 @@
 pub mod Examples
 mod AllKinds
+mod EachKind
 mod Found
 mod Identifiers
+mod Names
 mod Parses
 mod Places
 mod PlainFront
-mod Spelled
-pub mod Commands
 mod Roots
+mod Spelled
+pub mod Requests

@@ -20,7 +20,7 @@ use Rattle.clap.proofs.LexerLemmas.{name_and_value-at, name_and_value-without}
 use Rattle.fta_words.specs.Words.{Alone, Apart, AreDifferent, Attached, Given, IsAllowed, IsPlainWord, Spelling, option_words, spelled}
 use Rattle.fta_words.specs.inner.Naming.{Without}
 use Rattle.fta_words.specs.inner.Parsed.{flag_rule, valued_rule}
-use Rattle.fta_words.proofs.Spelled.{Allowed}
+use Rattle.fta_words.specs.inner.Reading.{Allowed}
 
 -- ---- words
 

@@ -1,24 +1,20 @@
 -- Options as they stand in words: one reading, and what stands first.
-use Rattle.std.proofs.Common.{◌≡◌, ◌≢◌, ◌≤◌, ℕ, Bool, true, false, ◌||◌, ◌==◌, List, [], ◌∷◌, ◌++◌, length, map, codes, refl, sym, ap, subst, ◌∙◌, inl, inr}
+use Rattle.std.proofs.Common.{◌≡◌, ◌≢◌, ◌≤◌, ℕ, Bool, true, false, not, ◌&&◌, ◌||◌, ◌==◌, List, [], ◌∷◌, ◌++◌, length, map, refl, sym, ap, subst, ◌∙◌, inl, inr}
 use Rattle.std.specs.Prelude.{Contains}
-use Rattle.std.specs.List.{AllByRecursion, list_any}
+use Rattle.std.specs.List.{AllByRecursion, list_all, list_any}
 use Rattle.std.proofs.lemmas.Bool.{false≢true}
-use Rattle.std.proofs.lemmas.Slice.Eq.{bytes_eq-Decides}
+use Rattle.clap.proofs.WalkLemmas.{both}
 use Rattle.plain_values.specs.Name.{is_same_text}
 use Rattle.fta_words.specs.declared.kind.Kind.{Kind}
-use Rattle.fta_words.specs.declared.kind.Kind.TheVariants as kind
-use Rattle.fta_words.specs.Words.{Alone, Apart, AreDifferent, Attached, Given, IsAllowed, IsPlainWord, Spelling, has_flag, option_words, spelled}
-use Rattle.fta_words.specs.inner.Reading.{HaveOptions, NoneStandsFirst, StandsFirst, flags_of, valued_of}
+use Rattle.fta_words.specs.Table.{flags_of, is_among, valued_of}
+use Rattle.fta_words.specs.Words.{Alone, Apart, AreDifferent, Attached, Given, IsAllowed, IsPlainWord, Spelling, is_given, option_words, spelled}
+use Rattle.fta_words.specs.inner.Reading.{Allowed, HaveOptions, NoneStandsFirst, StandsFirst}
 use Rattle.fta_words.specs.inner.Parsed.{all_flags, all_valued}
 use Rattle.fta_words.specs.inner.Naming.{Without}
+use Rattle.fta_words.proofs.EachKind.{every_kind}
+use Rattle.fta_words.proofs.Names.{name_has, text-is, text-same}
 use Rattle.fta_words.proofs.Places.{each_of, none_of, one_of}
 use Rattle.fta_words.proofs.Roots.{none_there, one_cut, same_cut}
-
-pub text-is : (a b : List ℕ) → is_same_text a b ≡ true → a ≡ b
-text-is a b = (bytes_eq-Decides a b).0
-
-pub text-same : (a b : List ℕ) → a ≡ b → is_same_text a b ≡ true
-text-same a b = (bytes_eq-Decides a b).1
 
 -- No name of an option holds a `=`, and no flag is an option with a value.
 pub record AreApart (flags valued : List (List ℕ)) : Type 0 where
@@ -50,49 +46,38 @@ no_equals (first ∷ names) all name has = elim (one_of first name names has) [
   | inr there ↦ no_equals names all.1 name there
 ]
 
--- whether a name is among others
-abbrev pub among : List (List ℕ) → List ℕ → Bool
-among names name = list_any (λ n. is_same_text n name) names
+-- a test of two lists for that
+abbrev are_apart : List (List ℕ) → List (List ℕ) → Bool
+are_apart flags valued =
+    list_all (λ name. not (list_any (λ byte. byte == 61) name)) flags
+    && (list_all (λ name. not (list_any (λ byte. byte == 61) name)) valued && list_all (λ name. not (is_among valued name)) flags)
 
-no_name_in_both : (flags valued : List (List ℕ)) → AllByRecursion (λ n. among valued n ≡ false) flags → AllByRecursion (λ n. among valued n ≡ true) valued → (name : List ℕ) → Contains flags name → Contains valued name → ⊥
-no_name_in_both flags valued others all name has other =
-    false≢true (sym (each_of (λ n. among valued n ≡ false) flags name others has) ∙ each_of (λ n. among valued n ≡ true) valued name all other)
+not_true : (t : Bool) → not t ≡ true → t ≡ false
+not_true true is = absurd (false≢true is)
+not_true false is = refl
+
+all_not : (test : List ℕ → Bool) (names : List (List ℕ)) → list_all (λ name. not (test name)) names ≡ true → AllByRecursion (λ name. test name ≡ false) names
+all_not test [] all = tt
+all_not test (name ∷ names) all =
+    let two = both (not (test name)) (list_all (λ n. not (test n)) names) all in (not_true (test name) two.0, all_not test names two.1)
+
+tested_apart : (flags valued : List (List ℕ)) → are_apart flags valued ≡ true → AreApart flags valued
+tested_apart flags valued is =
+    let has_equals = λ (name : List ℕ). list_any (λ byte. byte == 61) name in
+    let first = both (list_all (λ name. not (has_equals name)) flags) (list_all (λ name. not (has_equals name)) valued && list_all (λ name. not (is_among valued name)) flags) is in
+    let second = both (list_all (λ name. not (has_equals name)) valued) (list_all (λ name. not (is_among valued name)) flags) first.1 in
+    let others = all_not (is_among valued) flags second.1 in
+    record {
+      flag_names = no_equals flags (all_not has_equals flags first.0);
+      valued_names = no_equals valued (all_not has_equals valued second.0);
+      apart = λ name has other. false≢true (sym (each_of (λ n. is_among valued n ≡ false) flags name others has) ∙ name_has valued name other);
+    }
 
 pub kinds_apart : (k : Kind) → AreApart (flags_of k) (valued_of k)
-kinds_apart kind.Check = record { flag_names = no_equals [] tt; valued_names = no_equals [] tt; apart = λ name has other. none_of name has }
-kinds_apart kind.Cuts =
-    record {
-      flag_names = no_equals (codes "tokens" ∷ []) (refl, tt);
-      valued_names = no_equals (codes "limit" ∷ codes "after" ∷ codes "max-order" ∷ []) (refl, (refl, (refl, tt)));
-      apart = no_name_in_both (codes "tokens" ∷ []) (codes "limit" ∷ codes "after" ∷ codes "max-order" ∷ []) (refl, tt) (refl, (refl, (refl, tt)));
-    }
-kinds_apart kind.Tree = record { flag_names = no_equals [] tt; valued_names = no_equals [] tt; apart = λ name has other. none_of name has }
-kinds_apart kind.Fmea = record { flag_names = no_equals (codes "all" ∷ []) (refl, tt); valued_names = no_equals [] tt; apart = λ name has other. none_of name other }
-kinds_apart kind.Report = record { flag_names = no_equals [] tt; valued_names = no_equals (codes "reports" ∷ codes "max-order" ∷ []) (refl, (refl, tt)); apart = λ name has other. none_of name has }
-kinds_apart kind.Make = record { flag_names = no_equals (codes "text" ∷ []) (refl, tt); valued_names = no_equals [] tt; apart = λ name has other. none_of name other }
-kinds_apart kind.Galileo =
-    record {
-      flag_names = no_equals (codes "paths" ∷ []) (refl, tt);
-      valued_names = no_equals (codes "limit" ∷ codes "max-order" ∷ []) (refl, (refl, tt));
-      apart = no_name_in_both (codes "paths" ∷ []) (codes "limit" ∷ codes "max-order" ∷ []) (refl, tt) (refl, (refl, tt));
-    }
-kinds_apart kind.Paths = record { flag_names = no_equals [] tt; valued_names = no_equals (codes "limit" ∷ codes "after" ∷ codes "max-order" ∷ []) (refl, (refl, (refl, tt))); apart = λ name has other. none_of name has }
-kinds_apart kind.Why = record { flag_names = no_equals [] tt; valued_names = no_equals (codes "set" ∷ []) (refl, tt); apart = λ name has other. none_of name has }
-kinds_apart kind.Confirm = record { flag_names = no_equals [] tt; valued_names = no_equals (codes "set" ∷ []) (refl, tt); apart = λ name has other. none_of name has }
-kinds_apart kind.Place = record { flag_names = no_equals [] tt; valued_names = no_equals [] tt; apart = λ name has other. none_of name has }
-kinds_apart kind.Help = record { flag_names = no_equals [] tt; valued_names = no_equals [] tt; apart = λ name has other. none_of name has }
-kinds_apart kind.Version = record { flag_names = no_equals [] tt; valued_names = no_equals [] tt; apart = λ name has other. none_of name has }
-kinds_apart kind.Targets = record { flag_names = no_equals (codes "all" ∷ []) (refl, tt); valued_names = no_equals [] tt; apart = λ name has other. none_of name other }
-kinds_apart kind.Events = record { flag_names = no_equals [] tt; valued_names = no_equals [] tt; apart = λ name has other. none_of name has }
-kinds_apart kind.Review = record { flag_names = no_equals [] tt; valued_names = no_equals [] tt; apart = λ name has other. none_of name has }
+kinds_apart k = tested_apart (flags_of k) (valued_of k) (every_kind (λ j. are_apart (flags_of j) (valued_of j)) refl k)
 
 pub all_apart : AreApart all_flags all_valued
-all_apart =
-    record {
-      flag_names = no_equals all_flags (refl, (refl, (refl, (refl, tt))));
-      valued_names = no_equals all_valued (refl, (refl, (refl, (refl, (refl, tt)))));
-      apart = no_name_in_both all_flags all_valued (refl, (refl, (refl, (refl, tt)))) (refl, (refl, (refl, (refl, (refl, tt)))));
-    }
+all_apart = tested_apart all_flags all_valued refl
 
 -- ---- one reading
 
@@ -132,10 +117,6 @@ same_given a b n s =
     let first : ◌≡◌ {A = Given} a (record { name = b.name; spelling = a.spelling }) = ap (λ (l : List ℕ). record { name = l; spelling = a.spelling }) n in
     let second : ◌≡◌ {A = Given} (record { name = b.name; spelling = a.spelling }) b = ap (λ (t : Spelling). record { name = b.name; spelling = t }) s in
     first ∙ second
-
--- The options are allowed.
-abbrev pub Allowed : List (List ℕ) → List (List ℕ) → List Given → Type 0
-Allowed flags valued given = AllByRecursion (λ option. IsAllowed flags valued option.name option.spelling) given
 
 some_words : (name : List ℕ) (spelling : Spelling) (rest : List (List ℕ)) → [] ≡ spelled name spelling ++ rest → ⊥
 some_words name Alone rest same = cc
@@ -202,10 +183,10 @@ none_here flags valued word rest none name (Apart v) later same allowed = none n
 -- ---- names that differ
 
 -- an option of a name is given exactly where one of the names is it
-pub differs_from_all : (name : List ℕ) (given : List Given) → has_flag name given ≡ false → AllByRecursion (λ other. name ≢ other) (map (λ option. option.name) given)
+pub differs_from_all : (name : List ℕ) (given : List Given) → is_given name given ≡ false → AllByRecursion (λ other. name ≢ other) (map (λ option. option.name) given)
 differs_from_all name [] none = tt
 differs_from_all name (option ∷ given) none =
-    (λ same. false≢true (sym (test_first (is_same_text name option.name) (has_flag name given) none) ∙ text-same name option.name same), differs_from_all name given (test_second (is_same_text name option.name) (has_flag name given) none))
+    (λ same. false≢true (sym (test_first (is_same_text name option.name) (is_given name given) none) ∙ text-same name option.name same), differs_from_all name given (test_second (is_same_text name option.name) (is_given name given) none))
 
 other_name : (name : List ℕ) (others : Bool) (other : List ℕ) → name ≢ other → others ≡ false → (is_same_text name other || others) ≡ false
 other_name name others other differs none = go (is_same_text name other) refl
@@ -214,19 +195,19 @@ other_name name others other differs none = go (is_same_text name other) refl
     go true is = absurd (differs (text-is name other is))
     go false is = none
 
-pub not_among : (name : List ℕ) (given : List Given) → AllByRecursion (λ other. name ≢ other) (map (λ option. option.name) given) → has_flag name given ≡ false
+pub not_among : (name : List ℕ) (given : List Given) → AllByRecursion (λ other. name ≢ other) (map (λ option. option.name) given) → is_given name given ≡ false
 not_among name [] differ = refl
-not_among name (option ∷ given) differ = other_name name (has_flag name given) option.name differ.0 (not_among name given differ.1)
+not_among name (option ∷ given) differ = other_name name (is_given name given) option.name differ.0 (not_among name given differ.1)
 
-pub said_here : (name : List ℕ) (given : List Given) (option : Given) (others : List Given) → given ≡ option ∷ others → is_same_text name option.name ≡ true → has_flag name given ≡ true
-said_here name given option others is same = ap (has_flag name) is ∙ ap (λ t. t || has_flag name others) same
+pub said_here : (name : List ℕ) (given : List Given) (option : Given) (others : List Given) → given ≡ option ∷ others → is_same_text name option.name ≡ true → is_given name given ≡ true
+said_here name given option others is same = ap (is_given name) is ∙ ap (λ t. t || is_given name others) same
 
-pub said_later : (name : List ℕ) (given : List Given) (option : Given) (others : List Given) → given ≡ option ∷ others → is_same_text name option.name ≡ false → has_flag name given ≡ has_flag name others
-said_later name given option others is differs = ap (has_flag name) is ∙ ap (λ t. t || has_flag name others) differs
+pub said_later : (name : List ℕ) (given : List Given) (option : Given) (others : List Given) → given ≡ option ∷ others → is_same_text name option.name ≡ false → is_given name given ≡ is_given name others
+said_later name given option others is differs = ap (is_given name) is ∙ ap (λ t. t || is_given name others) differs
 
 -- What a test for an option of a name tells.
 abbrev pub TellsSaid : List (List ℕ) → List (List ℕ) → List (List ℕ) → List ℕ → Bool → Type 0
-TellsSaid flags valued words name said = (given : List Given) → words ≡ option_words given → Allowed flags valued given → said ≡ has_flag name given
+TellsSaid flags valued words name said = (given : List Given) → words ≡ option_words given → Allowed flags valued given → said ≡ is_given name given
 
 -- an option and those that follow it, which have other names
 pub options_more : (flags valued words : List (List ℕ)) (name : List ℕ) (rest : List (List ℕ)) → StandsFirst flags valued words name rest

@@ -1,12 +1,15 @@
--- The words of the command line: a name, plain words, and options.
-use Rattle.std.specs.Prelude.{◌≡◌, ◌≢◌, ◌<◌, ◌≤◌, ◌↔◌, ◌+◌, ◌*◌, ◌-◌, ℕ, Bool, false, ◌==◌, if◌then◌else◌, List, [], ◌∷◌, ◌++◌, drop, length, map, fold, codes, Option, Some, None, IfSome, IsUtf8, Contains, slice_get, take}
+-- The words of the command line: the name of a command, plain words by its shape, and options.
+use Rattle.std.specs.Prelude.{◌≡◌, ◌≢◌, ◌<◌, ◌≤◌, ◌↔◌, ◌+◌, ◌*◌, ◌-◌, ℕ, Bool, true, false, ◌==◌, if◌then◌else◌, List, [], ◌∷◌, ◌++◌, drop, length, map, fold, codes, Option, Some, None, IfSome, IsUtf8, Contains, option_map, option_to_list, slice_get, take, unwrap_or}
 use Rattle.std.specs.List.{AllByRecursion, flat_map, join_with_byte, list_any}
+use Rattle.std.specs.Option.{option_map_or}
 use Rattle.plain_values.specs.Name.{folded, is_same_text}
 use Rattle.plain_values.specs.declared.name.Root.{Root}
 use Rattle.aadl_syntax.specs.Form.{IsWord}
-use Rattle.fta_words.specs.declared.command.Paging.{Paging}
+use Rattle.fta_words.specs.declared.command.Options.{Options}
 use Rattle.fta_words.specs.declared.kind.Kind.{Kind}
-use Rattle.fta_words.specs.declared.kind.Kind.TheVariants as kind
+use Rattle.fta_words.specs.declared.kind.Shape.{Shape}
+use Rattle.fta_words.specs.declared.kind.Shape.TheVariants as shape
+use Rattle.fta_words.specs.Table.{flags_of, is_among, kind_named, name_of, required_of, shape_of, valued_of}
 
 -- ---- plain words
 
@@ -103,84 +106,11 @@ abbrev pub value_of : List ℕ → List Given → Option (List ℕ)
 value_of name [] = None
 value_of name (option ∷ given) = if is_same_text name option.name then value_in option.spelling else value_of name given
 
--- whether a flag is given
-abbrev pub has_flag : List ℕ → List Given → Bool
-has_flag name given = list_any (λ option. is_same_text name option.name) given
+-- whether the option of a name is given
+abbrev pub is_given : List ℕ → List Given → Bool
+is_given name given = list_any (λ option. is_same_text name option.name) given
 
--- ---- commands
-
--- the name of a command
-abbrev pub name_of : Kind → List ℕ
-name_of kind.Check = codes "check"
-name_of kind.Cuts = codes "cuts"
-name_of kind.Tree = codes "tree"
-name_of kind.Fmea = codes "fmea"
-name_of kind.Report = codes "report"
-name_of kind.Make = codes "make"
-name_of kind.Galileo = codes "galileo"
-name_of kind.Paths = codes "paths"
-name_of kind.Why = codes "why"
-name_of kind.Confirm = codes "confirm"
-name_of kind.Place = codes "place"
-name_of kind.Help = codes "help"
-name_of kind.Version = codes "version"
-name_of kind.Targets = codes "targets"
-name_of kind.Events = codes "events"
-name_of kind.Review = codes "review"
-
--- what the words ask for
-pub data Command : Type 0 where
-  -- the numbers of the model of a root, which stands in files of these names
-  Check : Root → List (List ℕ) → Command
-  -- a page of the minimal cut sets of the fact of a name in such a model; perhaps with a token in the last line
-  Cuts : Root → List ℕ → List (List ℕ) → Paging → Bool → Command
-  -- the static fault tree of such a fact
-  Tree : Root → List ℕ → List (List ℕ) → Command
-  -- the FMEA table of such a model, of all effects or of those of the root
-  Fmea : Root → List (List ℕ) → Bool → Command
-  -- the reports of these places over the minimal cut sets of such a fact, of at most so many events
-  Report : Root → List ℕ → List (List ℕ) → List ℕ → Option ℕ → Command
-  -- what is said of a model that is made, of this size; or its text
-  Make : ℕ → Bool → Command
-  -- the minimal cut sets of the tree in a file of Galileo text, at most so many, of at most so many events; or its minimal path sets
-  Galileo : List (List ℕ) → Option ℕ → Option ℕ → Bool → Command
-  -- a page of the minimal path sets of such a fact
-  Paths : Root → List ℕ → List (List ℕ) → Paging → Command
-  -- why such a fact holds under a set of events, of which this is the text
-  Why : Root → List ℕ → List (List ℕ) → List ℕ → Command
-  -- whether a derivation, which stands in the first file, shows that; the model stands in the others
-  Confirm : Root → List ℕ → List (List ℕ) → List ℕ → Command
-  -- where a byte of the text in a file stands
-  Place : List (List ℕ) → ℕ → Command
-  -- what the tool does, or a command of it
-  Help : Option Kind → Command
-  -- the version of the tool
-  Version : Command
-  -- the facts of such a model that may be asked as targets: the effects of the root, or all facts
-  Targets : Root → List (List ℕ) → Bool → Command
-  -- the events of such a model
-  Events : Root → List (List ℕ) → Command
-  -- what stands in such a model without effect, and where its errors stop
-  Review : Root → List (List ℕ) → Command
-
--- the names of the files of a command
-abbrev pub files_of : Command → List (List ℕ)
-files_of (Check root files) = files
-files_of (Cuts root target files paging tokens) = files
-files_of (Tree root target files) = files
-files_of (Fmea root files all) = files
-files_of (Report root target files chosen max_order) = files
-files_of (Make number text) = []
-files_of (Galileo files limit max_order paths) = files
-files_of (Paths root target files paging) = files
-files_of (Why root target files set) = files
-files_of (Confirm root target files set) = files
-files_of (Place files byte) = files
-files_of (Help of) = []
-files_of Version = []
-files_of (Targets root files all) = files
-files_of (Events root files) = files
-files_of (Review root files) = files
+-- ---- what an option says
 
 -- what an option says where it is given, and nothing where it is not
 abbrev pub Says : {A : Type 0} → (List ℕ → A → Type 0) → Option (List ℕ) → Option A → Type 0
@@ -192,17 +122,6 @@ Says Is (Some text) (Some a) = Is text a
 -- the letters of a text are folded
 abbrev pub IsFolded : List ℕ → List ℕ → Type 0
 IsFolded text name = name ≡ folded text
-
--- The words are plain words, and then options, which may be these.
-pub record AreWords (words plain : List (List ℕ)) (flags valued : List (List ℕ)) (given : List Given) : Type 0 where
-  pub words_are : words ≡ plain ++ option_words given
-  pub plain_words : AllByRecursion IsPlainWord plain
-  pub options : AreOptions flags valued given
-
--- A word stands for the root, whose letters are folded, and there is a file.
-pub record NamesModel (root_word : List ℕ) (root : Root) (files : List (List ℕ)) : Type 0 where
-  pub root_is : IsRoot (folded root_word) root
-  pub some_file : 0 < length files
 
 -- the first report of a name stands at a place
 pub record IsReport (reports : List (List ℕ)) (name : List ℕ) (place : ℕ) : Type 0 where
@@ -234,77 +153,95 @@ abbrev pub AreChosen : List (List ℕ) → Option (List ℕ) → List ℕ → Ty
 AreChosen reports None chosen = AreAll reports chosen
 AreChosen reports (Some text) chosen = AreNames reports text chosen
 
--- The words are a command, where these are the names of the reports: its name, its root, its target, its files, and its options.
-abbrev pub IsCommand : List (List ℕ) → List (List ℕ) → Command → Type 0
-IsCommand reports words (Check root files) =
-    (root_word : List ℕ) × (given : List Given) × AreWords words (codes "check" ∷ root_word ∷ files) [] [] given × NamesModel root_word root files
-IsCommand reports words (Cuts root target files paging tokens) =
-    (root_word : List ℕ) × (target_word : List ℕ) × (given : List Given)
-    × AreWords words (codes "cuts" ∷ root_word ∷ target_word ∷ files) (codes "tokens" ∷ []) (codes "limit" ∷ codes "after" ∷ codes "max-order" ∷ []) given
-    × NamesModel root_word root files × IsFolded target_word target
-    × Says IsNumberText (value_of (codes "limit") given) paging.limit
-    × Says IsFolded (value_of (codes "after") given) paging.after
-    × Says IsNumberText (value_of (codes "max-order") given) paging.max_order
-    × (tokens ≡ has_flag (codes "tokens") given)
-IsCommand reports words (Tree root target files) =
-    (root_word : List ℕ) × (target_word : List ℕ) × (given : List Given) × AreWords words (codes "tree" ∷ root_word ∷ target_word ∷ files) [] [] given
-    × NamesModel root_word root files × IsFolded target_word target
-IsCommand reports words (Fmea root files all) =
-    (root_word : List ℕ) × (given : List Given) × AreWords words (codes "fmea" ∷ root_word ∷ files) (codes "all" ∷ []) [] given
-    × NamesModel root_word root files × (all ≡ has_flag (codes "all") given)
-IsCommand reports words (Report root target files chosen max_order) =
-    (root_word : List ℕ) × (target_word : List ℕ) × (given : List Given)
-    × AreWords words (codes "report" ∷ root_word ∷ target_word ∷ files) [] (codes "reports" ∷ codes "max-order" ∷ []) given
-    × NamesModel root_word root files × IsFolded target_word target
-    × AreChosen reports (value_of (codes "reports") given) chosen
-    × Says IsNumberText (value_of (codes "max-order") given) max_order
-IsCommand reports words (Make number text) =
-    (number_word : List ℕ) × (given : List Given) × AreWords words (codes "make" ∷ number_word ∷ []) (codes "text" ∷ []) [] given
-    × IsNumberText number_word number × (1 ≤ number) × (number ≤ 512) × (text ≡ has_flag (codes "text") given)
-IsCommand reports words (Galileo files limit max_order paths) =
-    (given : List Given) × AreWords words (codes "galileo" ∷ files) (codes "paths" ∷ []) (codes "limit" ∷ codes "max-order" ∷ []) given
-    × (length files ≡ 1)
-    × Says IsNumberText (value_of (codes "limit") given) limit
-    × Says IsNumberText (value_of (codes "max-order") given) max_order
-    × (paths ≡ has_flag (codes "paths") given)
-IsCommand reports words (Paths root target files paging) =
-    (root_word : List ℕ) × (target_word : List ℕ) × (given : List Given)
-    × AreWords words (codes "paths" ∷ root_word ∷ target_word ∷ files) [] (codes "limit" ∷ codes "after" ∷ codes "max-order" ∷ []) given
-    × NamesModel root_word root files × IsFolded target_word target
-    × Says IsNumberText (value_of (codes "limit") given) paging.limit
-    × Says IsFolded (value_of (codes "after") given) paging.after
-    × Says IsNumberText (value_of (codes "max-order") given) paging.max_order
-IsCommand reports words (Why root target files set) =
-    (root_word : List ℕ) × (target_word : List ℕ) × (given : List Given)
-    × AreWords words (codes "why" ∷ root_word ∷ target_word ∷ files) [] (codes "set" ∷ []) given
-    × NamesModel root_word root files × IsFolded target_word target
-    × Says IsFolded (value_of (codes "set") given) (Some set)
-IsCommand reports words (Confirm root target files set) =
-    (root_word : List ℕ) × (target_word : List ℕ) × (given : List Given)
-    × AreWords words (codes "confirm" ∷ root_word ∷ target_word ∷ files) [] (codes "set" ∷ []) given
-    × NamesModel root_word root files × IsFolded target_word target × (2 ≤ length files)
-    × Says IsFolded (value_of (codes "set") given) (Some set)
-IsCommand reports words (Place files byte) =
-    (byte_word : List ℕ) × (given : List Given) × AreWords words (codes "place" ∷ (files ++ byte_word ∷ [])) [] [] given
-    × (length files ≡ 1) × IsNumberText byte_word byte
-IsCommand reports words (Help None) = (given : List Given) × AreWords words (codes "help" ∷ []) [] [] given
-IsCommand reports words (Help (Some of)) = (given : List Given) × AreWords words (codes "help" ∷ name_of of ∷ []) [] [] given
-IsCommand reports words Version = (given : List Given) × AreWords words (codes "version" ∷ []) [] [] given
-IsCommand reports words (Targets root files all) =
-    (root_word : List ℕ) × (given : List Given) × AreWords words (codes "targets" ∷ root_word ∷ files) (codes "all" ∷ []) [] given
-    × NamesModel root_word root files × (all ≡ has_flag (codes "all") given)
-IsCommand reports words (Events root files) =
-    (root_word : List ℕ) × (given : List Given) × AreWords words (codes "events" ∷ root_word ∷ files) [] [] given × NamesModel root_word root files
-IsCommand reports words (Review root files) =
-    (root_word : List ℕ) × (given : List Given) × AreWords words (codes "review" ∷ root_word ∷ files) [] [] given × NamesModel root_word root files
+-- the reports that a command may choose: those that are handed in, where it has `--reports`
+abbrev pub reports_for : Kind → List (List ℕ) → List (List ℕ)
+reports_for kind reports = if is_among (valued_of kind) (codes "reports") then reports else []
 
--- The words give a command.
-abbrev pub GiveCommand : List (List ℕ) → List (List ℕ) → Type 0
-GiveCommand reports words = (command : Command) × IsCommand reports words command
+-- What options say, each by its own line, which is the same for all commands. An option that is not given says nothing, and what it
+-- would say is none, empty or false; but without `--reports` all reports are chosen.
+pub record Say (kind : Kind) (reports : List (List ℕ)) (given : List Given) (options : Options) : Type 0 where
+  pub limit : Says IsNumberText (value_of (codes "limit") given) options.paging.limit
+  pub after : Says IsFolded (value_of (codes "after") given) options.paging.after
+  pub max_order : Says IsNumberText (value_of (codes "max-order") given) options.paging.max_order
+  pub set : options.set ≡ folded (unwrap_or (value_of (codes "set") given) [])
+  pub chosen : AreChosen (reports_for kind reports) (value_of (codes "reports") given) options.chosen
+  pub tokens : options.tokens ≡ is_given (codes "tokens") given
+  pub all : options.all ≡ is_given (codes "all") given
+  pub text : options.text ≡ is_given (codes "text") given
+  pub paths : options.paths ≡ is_given (codes "paths") given
 
--- The words give no command.
-abbrev pub GiveNoCommand : List (List ℕ) → List (List ℕ) → Type 0
-GiveNoCommand reports words = (command : Command) → IsCommand reports words command → ⊥
+-- ---- requests
+
+-- what the words ask for: a command, what its plain words say, and what its options say
+pub record Request : Type 0 where
+  pub kind : Kind
+  -- the root of a model
+  pub root : Root
+  -- the name of a fact of it
+  pub target : List ℕ
+  -- the size of a model that is made, or a byte of a text
+  pub number : ℕ
+  -- the command on which help is asked for
+  pub of : Option Kind
+  -- the names of the files
+  pub files : List (List ℕ)
+  pub options : Options
+
+-- A word stands for the root, whose letters are folded, and there is a file.
+pub record NamesModel (root_word : List ℕ) (root : Root) (files : List (List ℕ)) : Type 0 where
+  pub root_is : IsRoot (folded root_word) root
+  pub some_file : 0 < length files
+
+-- no root
+abbrev pub no_root : Root
+no_root = record { names = []; item = None }
+
+-- What the plain words behind the name of a command say, by their shape; what the shape does not have is empty, zero or none.
+abbrev pub IsAsked : Shape → List (List ℕ) → Root → List ℕ → ℕ → Option Kind → List (List ℕ) → Type 0
+IsAsked shape.Model words root target number of files =
+    (root_word : List ℕ) × (words ≡ root_word ∷ files) × NamesModel root_word root files
+    × (target ≡ []) × (number ≡ 0) × (of ≡ None)
+IsAsked shape.Target words root target number of files =
+    (root_word : List ℕ) × (target_word : List ℕ) × (words ≡ root_word ∷ target_word ∷ files) × NamesModel root_word root files
+    × IsFolded target_word target × (number ≡ 0) × (of ≡ None)
+IsAsked shape.Derivation words root target number of files =
+    (root_word : List ℕ) × (target_word : List ℕ) × (words ≡ root_word ∷ target_word ∷ files) × NamesModel root_word root files
+    × IsFolded target_word target × (number ≡ 0) × (of ≡ None) × (2 ≤ length files)
+IsAsked shape.Number words root target number of files =
+    (number_word : List ℕ) × (words ≡ number_word ∷ []) × IsNumberText number_word number × (1 ≤ number) × (number ≤ 512)
+    × (root ≡ no_root) × (target ≡ []) × (of ≡ None) × (files ≡ [])
+IsAsked shape.File words root target number of files =
+    (words ≡ files) × (length files ≡ 1)
+    × (root ≡ no_root) × (target ≡ []) × (number ≡ 0) × (of ≡ None)
+IsAsked shape.Place words root target number of files =
+    (byte_word : List ℕ) × (words ≡ files ++ byte_word ∷ []) × (length files ≡ 1) × IsNumberText byte_word number
+    × (root ≡ no_root) × (target ≡ []) × (of ≡ None)
+IsAsked shape.Topic words root target number of files =
+    (words ≡ option_to_list (option_map name_of of))
+    × (root ≡ no_root) × (target ≡ []) × (number ≡ 0) × (files ≡ [])
+IsAsked shape.Alone words root target number of files =
+    (words ≡ [])
+    × (root ≡ no_root) × (target ≡ []) × (number ≡ 0) × (of ≡ None) × (files ≡ [])
+
+-- The words are a request, where these are the names of the reports: the name of its command, plain words of its shape, and then
+-- options which it may have, each at most once, with all that it requires.
+pub record IsRequest (reports words : List (List ℕ)) (request : Request) : Type 0 where
+  pub plain : List (List ℕ)
+  pub given : List Given
+  pub words_are : words ≡ name_of request.kind ∷ (plain ++ option_words given)
+  pub plain_words : AllByRecursion IsPlainWord plain
+  pub options : AreOptions (flags_of request.kind) (valued_of request.kind) given
+  pub required : AllByRecursion (λ name. is_given name given ≡ true) (required_of request.kind)
+  pub asked : IsAsked (shape_of request.kind) plain request.root request.target request.number request.of request.files
+  pub said : Say request.kind reports given request.options
+
+-- The words give a request.
+abbrev pub GiveRequest : List (List ℕ) → List (List ℕ) → Type 0
+GiveRequest reports words = (request : Request) × IsRequest reports words request
+
+-- The words give no request.
+abbrev pub GiveNoRequest : List (List ℕ) → List (List ℕ) → Type 0
+GiveNoRequest reports words = (request : Request) → IsRequest reports words request → ⊥
 
 -- ---- the words that name files
 
@@ -318,18 +255,22 @@ abbrev pub before_options : List (List ℕ) → List (List ℕ)
 before_options [] = []
 before_options (word ∷ words) = if is_option word then [] else word ∷ before_options words
 
--- how many plain words of a command of this name stand before its files
-abbrev pub words_before_files : List ℕ → ℕ
-words_before_files name =
-    if is_same_text name (codes "check") then 2 else if is_same_text name (codes "fmea") then 2 else if is_same_text name (codes "make") then 2
-    else if is_same_text name (codes "targets") then 2 else if is_same_text name (codes "events") then 2
-    else if is_same_text name (codes "review") then 2
-    else if is_same_text name (codes "galileo") then 1 else 3
+-- the shape of the words behind a name; behind one that is no command's they are taken as those of a target
+abbrev pub shape_named : List ℕ → Shape
+shape_named name = option_map_or shape_of (kind_named name) shape.Target
 
--- the words that name files: that behind the first of `place`; those behind the first two of `check`, `fmea`, `make`, `targets`,
--- `events` and `review`, behind the first of `galileo`, and behind the first three of any other, up to the first that begins with `-`
+-- the words that name files, of plain words of a shape with the name before them
+abbrev pub files_in : Shape → List (List ℕ) → List (List ℕ)
+files_in shape.Model words = drop 2 words
+files_in shape.Number words = drop 2 words
+files_in shape.File words = drop 1 words
+files_in shape.Place words = take 1 (drop 1 words)
+files_in shape.Target words = drop 3 words
+files_in shape.Derivation words = drop 3 words
+files_in shape.Topic words = drop 3 words
+files_in shape.Alone words = drop 3 words
+
+-- the words that name files: by the shape of the first word's command, up to the first that begins with `-`
 abbrev pub file_words : List (List ℕ) → List (List ℕ)
 file_words [] = []
-file_words (name ∷ words) =
-    if is_same_text name (codes "place") then take 1 (drop 1 (before_options (name ∷ words)))
-    else drop (words_before_files name) (before_options (name ∷ words))
+file_words (name ∷ words) = files_in (shape_named name) (before_options (name ∷ words))

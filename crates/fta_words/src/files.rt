@@ -1,10 +1,12 @@
 ghost use Rattle.std.specs.Prelude.{◌≡◌, ◌≤◌, drop, length, take};
-ghost use Rattle.fta_words.specs.Words.{before_options, file_words, is_option, words_before_files};
+ghost use Rattle.fta_words.specs.Words.{before_options, file_words, files_in, is_option, shape_named};
 
-use plain_values::{Word, is_same};
+use crate::kind::Shape;
+use crate::table::{kind_named, shape_of};
+use plain_values::Word;
 
-/// The words that name files: that behind the first of `place`; those behind the first two of `check`, `fmea`, `make`, `targets` and
-/// `events`, behind the first of `galileo`, and behind the first three of any other, up to the first that begins with `-`.
+/// The words that name files: by the shape of the first word's command, up to the first that begins with `-`. Behind a name that is no
+/// command's two words are taken for a root and a target.
 pub fn file_words(words: &[Word]) -> &[Word]
     ensures { result.now ≡ file_words words.now }
 {
@@ -12,17 +14,41 @@ pub fn file_words(words: &[Word]) -> &[Word]
         return words;
     };
     let plain = before_options(words);
-    if is_same(name.items(), b"place") {
-        return second_of(plain);
+    files_in(shape_named(name.items()), plain)
+}
+
+/// The shape of the words behind a name.
+fn shape_named(name: &[u8]) -> Shape
+    ensures { result ≡ shape_named name.now }
+{
+    match kind_named(name) {
+        Some(kind) => shape_of(kind),
+        None => Shape::Target,
     }
-    let before = words_before_files(name.items());
-    if before < plain.len() {
-        &plain[before..]
+}
+
+/// The words that name files, of plain words of a shape with the name before them.
+fn files_in(shape: Shape, words: &[Word]) -> &[Word]
+    ensures { result.now ≡ files_in shape words.now }
+{
+    match shape {
+        Shape::Model | Shape::Number => behind(words, 2),
+        Shape::File => behind(words, 1),
+        Shape::Place => second_of(words),
+        Shape::Target | Shape::Derivation | Shape::Topic | Shape::Alone => behind(words, 3),
+    }
+}
+
+/// The words behind so many.
+fn behind(words: &[Word], count: usize) -> &[Word]
+    ensures { result.now ≡ drop count words.now }
+{
+    if count < words.len() {
+        &words[count..]
     } else {
         &[]
     }
 }
-
 /// The second of some words, as a list.
 fn second_of(words: &[Word]) -> &[Word]
     ensures { result.now ≡ take 1 (drop 1 words.now) }
@@ -31,21 +57,6 @@ fn second_of(words: &[Word]) -> &[Word]
         return &[];
     }
     &words[1..2]
-}
-
-/// How many plain words of a command of this name stand before its files.
-fn words_before_files(name: &[u8]) -> usize
-    ensures { result ≡ words_before_files name.now }
-{
-    if is_same(name, b"check") || is_same(name, b"fmea") || is_same(name, b"make") {
-        2
-    } else if is_same(name, b"targets") || is_same(name, b"events") || is_same(name, b"review") {
-        2
-    } else if is_same(name, b"galileo") {
-        1
-    } else {
-        3
-    }
 }
 
 /// The words before the first that begins with `-`.

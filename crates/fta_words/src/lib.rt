@@ -1,8 +1,9 @@
-//! The words of the command line: which command they give, and which of them name files.
+//! The words of the command line: which request they give, and which of them name files.
 //!
-//! The form of the words is tested first, and `clap` reads the options of words that have it.
+//! The table has a row for each command. The form of the words is tested first, and `clap` reads the options of words that have it.
 #![tactic(auto)]
 
+mod asked;
 mod chosen;
 mod command;
 mod error;
@@ -13,9 +14,11 @@ mod options;
 mod parsed;
 mod plain;
 mod root;
+mod table;
 mod text;
 
-pub use command::{Command, Paging};
+pub use command::{Options, Paging, Request};
 pub use error::WordsFault;
 pub use files::file_words;
-pub use kind::Kind;
+pub use kind::{KINDS, Kind, Shape};
+pub use table::{about_of, are_named, name_of, optional_of, usage_of};

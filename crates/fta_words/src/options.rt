@@ -1,26 +1,14 @@
-ghost use Rattle.std.specs.Prelude.{◌≡◌, ◌↔◌, ◌≤◌, ◌++◌, ℕ, length, List, IsTrue, MatchOption, ◌∷◌};
+ghost use Rattle.std.specs.Prelude.{◌≡◌, true, ◌↔◌, ◌≤◌, ◌++◌, ℕ, length, List, IsTrue, MatchOption, ◌∷◌};
 ghost use Rattle.std.specs.List.{AllByRecursion};
-ghost use Rattle.fta_words.specs.Words.{Given, IsAllowed, has_flag, option_words};
-ghost use Rattle.fta_words.specs.inner.Reading.{HaveOptions, NoneStandsFirst, StandsFirst, flags_of, valued_of};
+ghost use Rattle.fta_words.specs.Table.{flags_of, required_of, valued_of};
+ghost use Rattle.fta_words.specs.Words.{Given, IsAllowed, is_given, option_words};
+ghost use Rattle.fta_words.specs.inner.Reading.{Allowed, HaveOptions, NoneStandsFirst, StandsFirst};
 
-use crate::kind::{Kind, has_flag, has_valued};
+use crate::kind::Kind;
 use crate::plain::is_plain;
+use crate::table::{has_flag, has_valued, required_of};
 use crate::text::split_once;
 use plain_values::{Word, is_same};
-
-/// What the options say: a text where one with a value is given, and whether a flag is.
-#[derive(Drop)]
-pub(crate) struct Options<'a> {
-    pub(crate) limit: Option<&'a [u8]>,
-    pub(crate) after: Option<&'a [u8]>,
-    pub(crate) max_order: Option<&'a [u8]>,
-    pub(crate) reports: Option<&'a [u8]>,
-    pub(crate) set: Option<&'a [u8]>,
-    pub(crate) all: bool,
-    pub(crate) text: bool,
-    pub(crate) paths: bool,
-    pub(crate) tokens: bool,
-}
 
 /// Whether the words are options of the command, none of which stands twice.
 pub(crate) fn are_options(kind: Kind, words: &[Word]) -> bool
@@ -32,12 +20,31 @@ pub(crate) fn are_options(kind: Kind, words: &[Word]) -> bool
     let Some(next) = next_option(kind, words) else {
         return false;
     };
-    !is_said(kind, next.rest, next.name) && are_options(kind, next.rest)
+    !is_given(kind, next.rest, next.name) && are_options(kind, next.rest)
+}
+
+/// Whether all options that the command requires are given in words that are options.
+pub(crate) fn are_complete(kind: Kind, words: &[Word]) -> bool
+    ensures { (given : List Given) → words.now ≡ option_words given → Allowed (flags_of kind) (valued_of kind) given → IsTrue result ↔ AllByRecursion (λ name. is_given name given ≡ true) (required_of kind) }
+{
+    are_given(kind, words, required_of(kind))
+}
+
+/// Whether all options of these names are given in words that are options.
+fn are_given(kind: Kind, words: &[Word], names: &[&[u8]]) -> bool
+    ensures { (given : List Given) → words.now ≡ option_words given → Allowed (flags_of kind) (valued_of kind) given → IsTrue result ↔ AllByRecursion (λ name. is_given name.now given ≡ true) names.now }
+{
+    for name in names {
+        if !is_given(kind, words, name) {
+            return false;
+        }
+    }
+    true
 }
 
 /// Whether an option of this name is given in words that are options.
-fn is_said(kind: Kind, words: &[Word], name: &[u8]) -> bool
-    ensures { (given : List Given) → words.now ≡ option_words given → AllByRecursion (λ option. IsAllowed (flags_of kind) (valued_of kind) option.name option.spelling) given → result ≡ has_flag name.now given }
+fn is_given(kind: Kind, words: &[Word], name: &[u8]) -> bool
+    ensures { (given : List Given) → words.now ≡ option_words given → Allowed (flags_of kind) (valued_of kind) given → result ≡ is_given name.now given }
 {
     let mut rest = words;
     while let Some(next) = next_option(kind, rest) {

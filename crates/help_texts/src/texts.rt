@@ -1,49 +1,94 @@
 //! The texts as a whole.
 
-ghost use Rattle.std.specs.Prelude.{◌≡◌, ◌++◌};
-ghost use Rattle.help_texts.specs.Texts.{command_lines, help_text, status_line, version_text};
+ghost use Rattle.std.specs.Prelude.{◌≡◌, ◌++◌, None, Some, IfOk, OnOk};
+ghost use Rattle.std.specs.List.{flat_map};
+ghost use Rattle.help_texts.specs.Texts.{help_text, line_of, lines_of, version_text};
 
-use crate::commands::lines_of;
-use fta_words::Kind;
+use crate::commands as texts;
+use fta_words::{KINDS, Kind, about_of, optional_of, usage_of};
+use std::alloc::{AllocError, Global};
 
 /// What `help` writes: the words of a command, what it writes, its options and an example; or a line for each command, and the exit
 /// statuses.
-pub fn help_text(of: Option<Kind>) -> &'static [u8]
-    ensures { result.now ≡ help_text of }
+pub fn help_text(alloc: Global, of: Option<Kind>) -> Result<Vec<u8>, AllocError>
+    ensures { IfOk result (λ text. text.items ≡ help_text of) }
 {
     match of {
-        None => all_lines(),
-        Some(command) => lines_of(command),
+        None => text_of_all(alloc),
+        Some(kind) => text_of_one(alloc, kind),
     }
 }
 
-/// What `version` writes: the version of the program, and that of the profile.
+/// What `version` writes: the version of the program, and that of its profile.
 pub fn version_text() -> &'static [u8]
     ensures { result.now ≡ version_text }
 {
-    b"aadl_fta 0.1.0\n\
-    profile 1\n"
+    texts::VERSIONS
 }
 
 /// A line for each command, and the exit statuses.
-fn all_lines() -> &'static [u8]
-    ensures { result.now ≡ command_lines ++ status_line }
+fn text_of_all(alloc: Global) -> Result<Vec<u8>, AllocError>
+    ensures { IfOk result (λ text. text.items ≡ help_text None) }
 {
-    b"check ROOT FILE..: the numbers of components, facts and events of a model\n\
-    cuts ROOT TARGET FILE..: the minimal cut sets of a target, or a page of them\n\
-    tree ROOT TARGET FILE..: the static fault tree of a target as Galileo text\n\
-    fmea ROOT FILE..: the table of the effects that each event reaches alone\n\
-    report ROOT TARGET FILE..: what reports count in the minimal cut sets of a target\n\
-    make N: what is said of a model of N pairs of parts, or its text\n\
-    galileo FILE: the minimal cut sets, or path sets, of a tree in Galileo text\n\
-    paths ROOT TARGET FILE..: the minimal path sets of a target, or a page of them\n\
-    why ROOT TARGET FILE.. --set TOKEN: why a target holds under a set of events\n\
-    confirm ROOT TARGET DERIVATION FILE.. --set TOKEN: that a text shows that\n\
-    targets ROOT FILE..: the facts that may be asked as targets\n\
-    events ROOT FILE..: the basic events, with their kinds, rates and places\n\
-    review ROOT FILE..: what stands in a model without effect, and where its errors stop\n\
-    place FILE BYTE: the line and the column of a byte, as a refusal names it\n\
-    help [COMMAND]: these lines; or the words of a command, its options and an example\n\
-    version: the version of the program and of its profile\n\
-    exit status: 0 written whole, 1 no command, 2 refused, 3 no tree of a constant target, 4 a file not read, 5 the output not written, 6 a report failed, 7 out of memory\n"
+    let mut text = lines_of_all(alloc, &KINDS)?;
+    text.extend_from_slice(texts::STATUSES)?;
+    Ok(text)
+}
+
+/// A line for each of these commands.
+fn lines_of_all(alloc: Global, kinds: &[Kind]) -> Result<Vec<u8>, AllocError>
+    ensures { IfOk result (λ text. text.items ≡ flat_map line_of kinds.now) }
+{
+    let mut text = Vec::new(alloc);
+    for kind in kinds {
+        put_line(&mut text, *kind)?;
+    }
+    Ok(text)
+}
+
+/// Adds the line of a command.
+fn put_line(text: &mut Vec<u8>, kind: Kind) -> Result<(), AllocError>
+    ensures { OnOk result (text.new.items ≡ text.old.items ++ line_of kind) }
+{
+    text.extend_from_slice(usage_of(kind))?;
+    text.extend_from_slice(b": ")?;
+    text.extend_from_slice(about_of(kind))?;
+    text.push(b'\n')?;
+    Ok(())
+}
+
+/// The words of a command, what it writes, its options and an example.
+fn text_of_one(alloc: Global, kind: Kind) -> Result<Vec<u8>, AllocError>
+    ensures { IfOk result (λ text. text.items ≡ help_text (Some kind)) }
+{
+    let mut text = Vec::from_slice(alloc, b"aadl_fta ")?;
+    text.extend_from_slice(usage_of(kind))?;
+    text.extend_from_slice(optional_of(kind))?;
+    text.extend_from_slice(b"\n\n")?;
+    text.extend_from_slice(lines_of(kind))?;
+    Ok(text)
+}
+
+/// What a command writes, its options, and an example.
+fn lines_of(kind: Kind) -> &'static [u8]
+    ensures { result.now ≡ lines_of kind }
+{
+    match kind {
+        Kind::Check => texts::CHECK,
+        Kind::Cuts => texts::CUTS,
+        Kind::Tree => texts::TREE,
+        Kind::Fmea => texts::FMEA,
+        Kind::Report => texts::REPORT,
+        Kind::Make => texts::MAKE,
+        Kind::Galileo => texts::GALILEO,
+        Kind::Paths => texts::PATHS,
+        Kind::Why => texts::WHY,
+        Kind::Confirm => texts::CONFIRM,
+        Kind::Targets => texts::TARGETS,
+        Kind::Events => texts::EVENTS,
+        Kind::Review => texts::REVIEW,
+        Kind::Place => texts::PLACE,
+        Kind::Help => texts::HELP,
+        Kind::Version => texts::VERSION,
+    }
 }

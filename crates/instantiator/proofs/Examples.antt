@@ -10,7 +10,6 @@ use Rattle.instantiator.specs.Components.{component_at, component_below, compone
 use Rattle.instantiator.specs.Effectives.{effective_of}
 use Rattle.instantiator.specs.Refused.{instance_refusal}
 use Rattle.instantiator.specs.Whole.{kinds_of}
-use Rattle.instantiator.specs.inner.Whole.{parent_in}
 use Rattle.instantiator.proofs.Sample.{endless, id, name_at, two_devices, two_devices_with}
 
 abbrev component : List (List ℕ) → Option ClassifierId → Component
@@ -71,12 +70,6 @@ not_below = refl
 
 itself : component_below of_s_i 1 [] ≡ Some 1
 itself = refl
-
-parent_of_b : parent_in of_s_i 2 ≡ Some 0
-parent_of_b = refl
-
-parent_of_root : parent_in of_s_i 0 ≡ None
-parent_of_root = refl
 
 -- ---- refusals
 

@@ -12,7 +12,7 @@ use Rattle.package_index.specs.Names.{front, is_same_name}
 use Rattle.package_index.proofs.KnowsLaws.{some-place}
 use Rattle.instantiator.specs.declared.path.Component.{Component}
 use Rattle.instantiator.specs.Components.{component_at, component_below}
-use Rattle.instantiator.specs.inner.Whole.{ParentsComeFirst, PathsDiffer, parent_of}
+use Rattle.instantiator.specs.inner.Whole.{ParentsComeFirst, PathsDiffer}
 use Rattle.instantiator.proofs.MemberNames.{name-same, same-name}
 use Rattle.instantiator.proofs.PathLaws.{front-snoc}
 
@@ -147,8 +147,3 @@ module _ (components : List Component) (differ : PathsDiffer components) (behind
   -- the names of a path lead to its component from the root
   pub from-root : (path : List (List ℕ)) → component_below components 0 path ≡ component_at components path
   from-root path = from-root-at path (slice_get components 0) refl
-
-  -- the component of which that of a path is a subcomponent
-  pub parent-from : (path fronts : List (List ℕ)) (last : List ℕ) → path ≡ fronts ++ last ∷ [] → component_below components 0 fronts ≡ parent_of components path
-  parent-from [] fronts last is = absurd (omega (arith, ap length is, length-append fronts (last ∷ [])))
-  parent-from (name ∷ names) fronts last is = from-root fronts ∙ ap (component_at components) (sym (ap front is ∙ front-snoc fronts last))

@@ -5,7 +5,7 @@ ghost use Rattle.plain_values.specs.inner.Stops.{StopsAt};
 ghost use Rattle.instantiator.specs.Refused.{instance_refusal};
 ghost use Rattle.instantiator.specs.inner.Tables.{kind_of};
 ghost use Rattle.instantiator.specs.Whole.{classifier_at, instance_of, kind_number, kinds_of};
-ghost use Rattle.instantiator.specs.inner.Whole.{ParentsComeFirst, PathsDiffer, parent_in, parent_of};
+ghost use Rattle.instantiator.specs.inner.Whole.{ParentsComeFirst, PathsDiffer};
 
 use crate::draft::Draft;
 use crate::kinds::{Kind, Kinds};
@@ -127,20 +127,6 @@ impl<'i, 'a> Instance<'i, 'a> {
         ensures { result ≡ component_below self.now.components component names.now }
     {
         self.steps().below(component, names)
-    }
-
-    /// The number of the component of which this one is a subcomponent; the root is none of any.
-    pub fn parent(&self, component: u32) -> Option<u32>
-        ensures { result ≡ parent_in self.now.components component }
-    {
-        self.above(&self.components.items().get(component as usize)?.path)
-    }
-
-    fn above(&self, path: &Path<'a>) -> Option<u32>
-        ensures { result ≡ parent_of self.now.components path.now }
-    {
-        let (_, front) = path.names().split_last()?;
-        self.steps().below(0, front)
     }
 
     fn steps(&self) -> Steps<'_, 'a>

@@ -1,8 +1,8 @@
 -- A model of a root and two devices, where the first sends to the second; its facts, its events and their names.
 use Rattle.std.proofs.Common.{ℕ, true, false, List, [], ◌∷◌, ◌≡◌, codes, Some, None, refl}
 use Rattle.package_index.specs.declared.id.ClassifierId.{ClassifierId}
-use Rattle.error_types.specs.Libraries.{table_of}
-use Rattle.error_types.proofs.Sample.{library_unit}
+use Rattle.error_libraries.specs.Libraries.{table_of}
+use Rattle.error_libraries.proofs.Sample.{library_unit}
 use Rattle.propagation_points.specs.declared.held.Held.TheVariants as held
 use Rattle.propagation_points.specs.declared.side.Reach.TheVariants.{Whole}
 use Rattle.propagation_points.specs.declared.side.Side.TheVariants as side

@@ -7,8 +7,8 @@ use Rattle.std.proofs.lemmas.Bool.{and_parts, eqb-true, false≢true}
 use Rattle.std.proofs.lemmas.List.{append_assoc}
 use Rattle.aadl_syntax.specs.Form.{Byte, One, Perhaps, ◌followed_by◌, is_digit, is_letter, is_letter_or_digit}
 use Rattle.aadl_syntax.specs.inner.Token.{IsIdentifier}
-use Rattle.error_types.specs.Printed.{TypeName, name_of, printed}
-use Rattle.error_types.specs.inner.Printed.{AreIdentifiers}
+use Rattle.error_libraries.specs.Printed.{TypeName, name_of, printed}
+use Rattle.error_libraries.specs.inner.Printed.{AreIdentifiers}
 use Rattle.propagation_points.specs.Points.{Point}
 use Rattle.propagation_points.specs.States.{Sort, Variant, all_variants}
 use Rattle.error_flows.specs.declared.meaning.FlowMeaning.{FlowMeaning}

@@ -7,10 +7,10 @@ use Rattle.plain_values.specs.Order.{IsClear}
 use Rattle.aadl_syntax.specs.declared.core_model.PackageUnit.{PackageUnit}
 use Rattle.package_index.specs.declared.id.ClassifierId.{ClassifierId}
 use Rattle.package_index.specs.Duplicates.{IsDuplicate}
-use Rattle.error_types.specs.Libraries.{table_of}
-use Rattle.error_types.specs.Printed.{TypeName, name_of, printed}
-use Rattle.error_types.specs.Search.{is_number_in}
-use Rattle.error_types.proofs.PrintedLaws.{named-all, print-apart}
+use Rattle.error_libraries.specs.Libraries.{table_of}
+use Rattle.error_libraries.specs.Printed.{TypeName, name_of, printed}
+use Rattle.error_libraries.specs.Search.{is_number_in}
+use Rattle.error_libraries.proofs.PrintedLaws.{named-all, print-apart}
 use Rattle.instantiator.specs.Whole.{classifier_at, kind_number}
 use Rattle.instantiator.proofs.Apart.{each-all, each-map}
 use Rattle.instantiator.proofs.PathLaws.{paths-differ}

@@ -24,8 +24,8 @@ use Rattle.component_extension.specs.declared.effective.Effective.{Effective}
 use Rattle.component_extension.specs.Chain.{chain_of}
 use Rattle.component_extension.specs.Items.{Clause, Scoped, classes_of, clauses_of, gathered, scoped_by}
 use Rattle.component_extension.specs.Rows.{Key, goes_by, named, place_by, put, put_at}
-use Rattle.error_types.specs.declared.scope.Scope.{Scope}
-use Rattle.error_types.specs.Libraries.{Table}
+use Rattle.error_libraries.specs.declared.scope.Scope.{Scope}
+use Rattle.error_libraries.specs.Libraries.{Table}
 use Rattle.propagation_points.specs.declared.side.Reach.{Reach}
 use Rattle.propagation_points.specs.declared.side.Reach.TheVariants.{Whole, Only}
 use Rattle.propagation_points.specs.declared.side.Side.{Side}
@@ -40,10 +40,10 @@ use Rattle.propagation_points.specs.Uses.{point_use}
 use Rattle.error_flows.specs.declared.meaning.FlowMeaning.{FlowMeaning}
 use Rattle.error_flows.specs.declared.meaning.FlowMeaning.TheVariants.{Event, State, Carry, Change}
 use Rattle.error_flows.specs.Flows.{flow_meaning, path_meaning, source_meaning}
-use Rattle.error_behavior.specs.declared.states.States.{States}
-use Rattle.error_behavior.specs.Machines.{Machine}
-use Rattle.error_behavior.specs.States.{EventAt, events_of, keep_event, keep_state, no_states, states_of}
-use Rattle.error_behavior.specs.States as behavior
+use Rattle.error_machines.specs.declared.states.States.{States}
+use Rattle.error_machines.specs.Machines.{Machine}
+use Rattle.error_machines.specs.States.{EventAt, events_of, keep_event, keep_state, no_states, states_of}
+use Rattle.error_machines.specs.States as behavior
 use Rattle.instantiator.specs.Effectives.{chain_or_none, effective_of}
 use Rattle.instantiator.proofs.Apart.{Apart, AllPairs-from_Apart, Apart-from_AllPairs, apart-append, apart-flat_map, apart-map, apart-unmap, each-all, each-append, each-map, each-weaker}
 use Rattle.instantiator.proofs.MemberNames.{name-same, same-name}

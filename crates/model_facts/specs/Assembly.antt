@@ -2,13 +2,13 @@
 use Rattle.std.specs.Prelude.{ℕ, false, List, [], ◌++◌, map, filter, flat_map, length, slice_get, slice_index_or, Option, Some, None, option_map}
 use Rattle.aadl_syntax.specs.declared.core_model.PackageUnit.{PackageUnit}
 use Rattle.package_index.specs.declared.id.ClassifierId.{ClassifierId}
-use Rattle.error_types.specs.Libraries.{Table, table_of}
-use Rattle.error_types.specs.Search.{is_number_in}
+use Rattle.error_libraries.specs.Libraries.{Table, table_of}
+use Rattle.error_libraries.specs.Search.{is_number_in}
 use Rattle.plain_values.specs.Numbered.{numbers_below}
 use Rattle.propagation_points.specs.declared.side.Side.{Side}
 use Rattle.propagation_points.specs.declared.side.Side.TheVariants.{Absent, Free, Declared}
 use Rattle.propagation_points.specs.Points.{Point, side_of}
-use Rattle.error_behavior.specs.States.{no_states}
+use Rattle.error_machines.specs.States.{no_states}
 use Rattle.error_models.specs.declared.model.ErrorModel.{ErrorModel}
 use Rattle.error_models.specs.Models.{model_of}
 use Rattle.instantiator.specs.Whole.{Instance, classifier_at, instance_of, kind_number}

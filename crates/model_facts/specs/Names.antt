@@ -1,8 +1,8 @@
 -- The names of facts and of events.
 use Rattle.std.specs.Prelude.{ℕ, List, [], ◌∷◌, ◌++◌, codes, flat_map, slice_get, Option, Some, None}
 use Rattle.std.specs.Option.{option_map_or}
-use Rattle.error_types.specs.Libraries.{Table}
-use Rattle.error_types.specs.Printed.{name_of, printed}
+use Rattle.error_libraries.specs.Libraries.{Table}
+use Rattle.error_libraries.specs.Printed.{name_of, printed}
 use Rattle.propagation_points.specs.States.{Sort, Variant, all_variants}
 use Rattle.error_flows.specs.declared.meaning.FlowMeaning.{FlowMeaning}
 use Rattle.error_flows.specs.declared.meaning.FlowMeaning.TheVariants as flow

@@ -1,8 +1,8 @@
 ghost use Rattle.std.specs.Prelude.{◌≡◌, ℕ, map, Some, OnOk};
 ghost use Rattle.std.specs.List.{AllByRecursion};
 ghost use Rattle.aadl_syntax.specs.inner.Token.{IsIdentifier};
-ghost use Rattle.error_types.specs.Printed.{TypeName, name_of};
-ghost use Rattle.error_types.specs.inner.Printed.{AreIdentifiers};
+ghost use Rattle.error_libraries.specs.Printed.{TypeName, name_of};
+ghost use Rattle.error_libraries.specs.inner.Printed.{AreIdentifiers};
 ghost use Rattle.model_facts.specs.inner.Laws.{AreNamed, IsNamed, IsNamedFlow};
 
 use crate::assembly::Assembly;

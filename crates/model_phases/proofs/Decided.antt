@@ -10,13 +10,13 @@ use Rattle.phases.specs.declared.status.Status.{Status}
 use Rattle.phases.specs.declared.status.Status.TheVariants.{Refused}
 use Rattle.phases.proofs.Endings.{StopsOnly}
 use Rattle.phases.proofs.Leaves.{decided_accepts, decided_tests}
-use Rattle.error_types.specs.Libraries.{HasTooManyTypes, Table, table_of}
+use Rattle.error_libraries.specs.Libraries.{HasTooManyTypes, Table, table_of}
 use Rattle.error_models.specs.Refused.{all_set_refusals, machines_refusal, models_refusal}
 use Rattle.instantiator.specs.Refused.{instance_refusal}
 use Rattle.instantiator.specs.Whole.{Instance, instance_of}
 use Rattle.propagation_links.specs.Refused.{links_refusal}
 use Rattle.model_facts.specs.Assembly.{Assembly, assembly_of, points_in}
-use Rattle.flattener.specs.Flat.{size_refusal}
+use Rattle.fact_formulas.specs.Flat.{size_refusal}
 use Rattle.model_phases.specs.Phases.{IsFlat, assembled, content_tests, flat_phase, kind_tests, origins_phase, review_phase}
 use Rattle.model_review.specs.Review.{IsReview}
 use Rattle.model_review.proofs.OneText.{one_review}
@@ -39,7 +39,7 @@ module _ (Same : Status → Status → Type 0) (itself : (status : Status) → S
   )
 
   flat_decided : (assembly : Assembly) → IsDecided Same (flat_phase assembly)
-  flat_decided assembly = (decided_tests Same itself (IsIt (size_refusal assembly)), λ _ small. decided_accepts Same (IsFlat assembly) (λ a b one other. one.model_is ∙ sym other.model_is))
+  flat_decided assembly = decided_accepts Same (IsFlat assembly) (λ a b one other. one.model_is ∙ sym other.model_is)
 
   -- what is made of a model has one end at most, where what comes last has
   pub assembled_decided : {A : Type 0} (next : Assembly → Phase A) → ((assembly : Assembly) → IsDecided Same (next assembly)) → (packages : List PackageUnit) (root : ClassifierId) → IsDecided Same (assembled next packages root)
@@ -49,7 +49,7 @@ module _ (Same : Status → Status → Type 0) (itself : (status : Status) → S
       kinds_decided (instance_of packages root),
       λ _ right. (
         decided_tests Same itself (IsIt (links_refusal (instance_of packages root) (points_in (assembly_of packages root).models))),
-        λ _ linked. last (assembly_of packages root),
+        λ _ linked. (decided_tests Same itself (IsIt (size_refusal (assembly_of packages root))), λ _ small. last (assembly_of packages root)),
       ),
     ),
   )
@@ -60,7 +60,7 @@ module _ (Same : Status → Status → Type 0) (itself : (status : Status) → S
 
   -- and so has its review
   pub review_decided : (packages : List PackageUnit) (root : ClassifierId) → IsDecided Same (assembled review_phase packages root)
-  review_decided = assembled_decided review_phase (λ assembly. (flat_decided assembly, λ model at. decided_accepts Same (λ (reviewed : ReviewedModel). IsReview assembly reviewed.text) (λ a b one other. (λ i. record { text = one_review assembly a.text b.text one other i }))))
+  review_decided = assembled_decided review_phase (λ assembly. decided_accepts Same (λ (reviewed : ReviewedModel). IsReview assembly reviewed.text) (λ a b one other. (λ i. record { text = one_review assembly a.text b.text one other i })))
 
   -- and so has it with the origins of its events
   pub origins_decided : (packages : List PackageUnit) (root : ClassifierId) → IsDecided Same (assembled origins_phase packages root)
@@ -85,7 +85,7 @@ kinds_stop instance = (
 )
 
 flat_stops : (assembly : Assembly) → StopsOnly IsARefusal (flat_phase assembly)
-flat_stops assembly = (first_is (IsIt (size_refusal assembly)), λ _ small. (λ s none. absurd none))
+flat_stops assembly = λ s none. absurd none
 
 -- what is made of a model stops with a refusal alone, where what comes last does
 pub assembled_stops : {A : Type 0} (next : Assembly → Phase A) → ((assembly : Assembly) → StopsOnly IsARefusal (next assembly)) → (packages : List PackageUnit) (root : ClassifierId) → StopsOnly IsARefusal (assembled next packages root)
@@ -95,7 +95,7 @@ assembled_stops next last packages root = (
     kinds_stop (instance_of packages root),
     λ _ right. (
       first_is (IsIt (links_refusal (instance_of packages root) (points_in (assembly_of packages root).models))),
-      λ _ linked. last (assembly_of packages root),
+      λ _ linked. (first_is (IsIt (size_refusal (assembly_of packages root))), λ _ small. last (assembly_of packages root)),
     ),
   ),
 )
@@ -110,4 +110,4 @@ origins_stop = assembled_stops origins_phase (λ assembly. (flat_stops assembly,
 
 -- and so does its review
 pub review_stop : (packages : List PackageUnit) (root : ClassifierId) → StopsOnly IsARefusal (assembled review_phase packages root)
-review_stop = assembled_stops review_phase (λ assembly. (flat_stops assembly, λ model at. (λ s none. absurd none)))
+review_stop = assembled_stops review_phase (λ assembly. (λ s none. absurd none))

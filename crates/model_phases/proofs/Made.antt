@@ -5,7 +5,7 @@ use Rattle.package_index.specs.declared.id.ClassifierId.{ClassifierId}
 use Rattle.phases.specs.inner.Meets.{IsMemory, Meets, StopsBut}
 use Rattle.phases.specs.Phases.{Passes, Phase, chains, tests}
 use Rattle.phases.specs.declared.status.Status.{Status}
-use Rattle.error_types.specs.Libraries.{Table, table_of}
+use Rattle.error_libraries.specs.Libraries.{Table, table_of}
 use Rattle.error_models.specs.declared.model.ErrorModel.{ErrorModel}
 use Rattle.error_models.specs.Models.{model_of}
 use Rattle.instantiator.specs.Refused.{instance_refusal}
@@ -14,7 +14,7 @@ use Rattle.propagation_links.specs.declared.link.Link.{Link}
 use Rattle.propagation_links.specs.Links.{links_of}
 use Rattle.propagation_links.specs.Refused.{links_refusal}
 use Rattle.model_facts.specs.Assembly.{Assembly, assembly_of, points_in, with_links}
-use Rattle.model_phases.specs.Phases.{assembled, kind_tests}
+use Rattle.model_phases.specs.Phases.{assembled, kind_tests, sized}
 use Rattle.model_phases.specs.Tests.{IsIt}
 use Rattle.model_phases.proofs.Tested.{behind}
 
@@ -55,10 +55,10 @@ whole packages root instance types models links made known are joined =
 pub model_met : {A : Type 0} (next : Assembly → Phase A) (packages : List PackageUnit) (root : ClassifierId) (instance : Instance) (types : Table) (models : List ErrorModel) (links : List Link) (result : Result A Status)
     → instance ≡ instance_of packages root → types ≡ table_of instance.packages → models ≡ models_in instance → links ≡ links_of instance (points_in models)
     → Passes (tests (IsIt (instance_refusal packages root))) (tt {0}) → Passes (kind_tests instance) (tt {0}) → Passes (tests (IsIt (links_refusal instance (points_in models)))) (tt {0})
-    → Meets (next (record { instance = instance; types = types; models = models; links = links })) result → Meets (assembled next packages root) result
+    → Meets (sized next (record { instance = instance; types = types; models = models; links = links })) result → Meets (assembled next packages root) result
 model_met next packages root instance types models links result made known are joined right kinds linked met =
-    let last = next (assembly_of packages root) in
-    let its : Meets last result = subst (λ (a : Assembly). Meets (next a) result) (whole packages root instance types models links made known are joined) met in
+    let last = sized next (assembly_of packages root) in
+    let its : Meets last result = subst (λ (a : Assembly). Meets (sized next a) result) (whole packages root instance types models links made known are joined) met in
     let joining = tests (IsIt (links_refusal (instance_of packages root) (points_in (assembly_of packages root).models))) in
     let own = kind_tests (instance_of packages root) in
     behind (λ model. model) (tests (IsIt (instance_refusal packages root))) (chains own (λ _. chains joining (λ _. last))) result right

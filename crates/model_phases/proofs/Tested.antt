@@ -13,7 +13,7 @@ use Rattle.phases.specs.Phases.{Phase, Passes, Stops, chains, tests}
 use Rattle.phases.specs.inner.Stopped.{status_of}
 use Rattle.phases.specs.declared.status.Status.{Status}
 use Rattle.phases.proofs.Steps.{exits, meets_later}
-use Rattle.error_types.specs.Libraries.{HasTooManyTypes, declared_types, greatest_types, libraries_of}
+use Rattle.error_libraries.specs.Libraries.{HasTooManyTypes, declared_types, greatest_types, libraries_of}
 use Rattle.model_phases.specs.Tests.{IsIt}
 use Rattle.model_phases.specs.inner.Tests.{MeetsTests}
 

@@ -3,14 +3,14 @@ use Rattle.std.specs.Prelude.{◌≡◌, List, length, map, Contains}
 use Rattle.aadl_syntax.specs.declared.core_model.PackageUnit.{PackageUnit}
 use Rattle.phases.specs.Phases.{Phase, accepts, tests, yields, ◌>>=◌}
 use Rattle.package_index.specs.declared.id.ClassifierId.{ClassifierId}
-use Rattle.error_types.specs.Libraries.{HasTooManyTypes, Table, table_of}
+use Rattle.error_libraries.specs.Libraries.{HasTooManyTypes, Table, table_of}
 use Rattle.instantiator.specs.Refused.{instance_refusal}
 use Rattle.instantiator.specs.Whole.{Instance, instance_of}
 use Rattle.error_models.specs.Refused.{all_set_refusals, machines_refusal, models_refusal}
 use Rattle.propagation_links.specs.Refused.{links_refusal}
 use Rattle.model_facts.specs.Assembly.{Assembly, assembly_of, points_in}
 use Rattle.model_facts.specs.Effects.{effects_of}
-use Rattle.flattener.specs.Flat.{size_refusal, system_of}
+use Rattle.fact_formulas.specs.Flat.{size_refusal, system_of}
 use Rattle.event_rates.specs.Associations.{rate_in}
 use Rattle.model_facts.specs.Facts.{events_of}
 use Rattle.event_origins.specs.Origins.{origin_of}
@@ -51,33 +51,35 @@ pub record IsFlat (assembly : Assembly) (model : FlatModel) : Type 0 where
   pub model_is : model ≡ flat_of assembly
   pub plain : IsPlainModel model
 
--- a model that is put together, as a system that is not too large (M6, M7, M9)
+-- a model that is put together, as a system
 abbrev pub flat_phase : Assembly → Phase FlatModel
-flat_phase assembly = do
+flat_phase assembly = accepts (IsFlat assembly)
+
+-- what a further phase makes of a model that is put together, and is not too large (M6, M7, M9)
+abbrev pub sized : {A : Type 0} → (Assembly → Phase A) → Assembly → Phase A
+sized next assembly = do
   _ ← tests (IsIt (size_refusal assembly))
-  accepts (IsFlat assembly)
+  next assembly
 
 -- What a further phase makes of the model of a root in packages: its components are right (M4, M5, N2 to N6, P1 to P3), then their
--- error models, then its links (M14, N14, P3, P9), and then comes the phase.
+-- error models, then its links (M14, N14, P3, P9), then its size, and then comes the phase.
 abbrev pub assembled : {A : Type 0} → (Assembly → Phase A) → List PackageUnit → ClassifierId → Phase A
 assembled next packages root = do
   _ ← tests (IsIt (instance_refusal packages root))
   _ ← kind_tests (instance_of packages root)
   _ ← tests (IsIt (links_refusal (instance_of packages root) (points_in (assembly_of packages root).models)))
-  next (assembly_of packages root)
+  sized next (assembly_of packages root)
 
 -- a model as a system, and of which kind each of its events is, and where it is declared
 abbrev pub with_origins : Assembly → FlatModel → EventModel
 with_origins assembly model = record { flat = model; origins = map (origin_of assembly) (events_of assembly) }
 
--- The model that is put together, as a system which is not too large, with the origins of its events.
+-- The model that is put together, as a system, with the origins of its events.
 abbrev pub origins_phase : Assembly → Phase EventModel
 origins_phase assembly = do
   model ← flat_phase assembly
   yields (with_origins assembly model)
 
--- The text of the review of a model that is put together, as a system which is not too large.
+-- The text of the review of a model that is put together.
 abbrev pub review_phase : Assembly → Phase ReviewedModel
-review_phase assembly = do
-  _ ← flat_phase assembly
-  accepts (λ reviewed. IsReview assembly reviewed.text)
+review_phase assembly = accepts (λ reviewed. IsReview assembly reviewed.text)

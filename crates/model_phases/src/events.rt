@@ -1,12 +1,9 @@
-ghost use Rattle.std.specs.Prelude.{◌≡◌, IfOk, map};
-ghost use Rattle.model_facts.specs.Facts.{events_of};
-ghost use Rattle.event_origins.specs.Origins.{origin_of};
-
 use crate::flat::{FlatModel, FromAssembly};
+use crate::system::NumberedModel;
 use event_origins::{EventOrigin, origins_of};
-use model_facts::{Assembly, EventTable};
+use model_facts::Assembly;
 use phases::Status;
-use plain_values::{Answer, List};
+use plain_values::List;
 use std::alloc::Global;
 
 /// A model as a system, and of which kind each of its events is, and where it is declared.
@@ -22,20 +19,9 @@ impl FromAssembly for EventModel {
 
     ghost phase = { origins_phase };
 
-    fn of(alloc: Global, assembly: &Assembly) -> Result<EventModel, Status> {
-        let flat = FlatModel::of(alloc, assembly)?;
-        match origins_in(alloc, assembly) {
-            Ok(origins) => Ok(EventModel { flat, origins }),
-            // There are not too many events, since there is a system.
-            Err(_) => Err(Status::Memory),
-        }
+    fn of(alloc: Global, assembly: &Assembly, model: NumberedModel) -> Result<EventModel, Status> {
+        let origins = origins_of(alloc, assembly, model.events.list())?;
+        let flat = FlatModel::of(alloc, assembly, model)?;
+        Ok(EventModel { flat, origins })
     }
-}
-
-/// The origins of the events of a model.
-fn origins_in(alloc: Global, assembly: &Assembly) -> Answer<List<EventOrigin>>
-    ensures { IfOk result (λ origins. origins ≡ map (origin_of assembly.now) (events_of assembly.now)) }
-{
-    let events = EventTable::of(alloc, assembly)?;
-    Ok(origins_of(alloc, assembly, events.list())?)
 }

@@ -6,12 +6,12 @@ ghost use Rattle.instantiator.specs.Whole.{instance_of};
 ghost use Rattle.propagation_links.specs.Links.{links_of};
 ghost use Rattle.propagation_links.specs.Refused.{links_refusal};
 ghost use Rattle.model_facts.specs.Assembly.{points_in};
-ghost use Rattle.model_phases.specs.Phases.{assembled};
+ghost use Rattle.model_phases.specs.Phases.{assembled, sized};
 ghost use Rattle.model_phases.specs.Tests.{IsIt};
 ghost use Rattle.model_phases.specs.inner.Tests.{MeetsTests};
 
 use crate::kinds::{Kinds, kinds_of};
-use crate::system::plain_system;
+use crate::system::{NumberedModel, numbered_model};
 use event_rates::rates_of;
 use fault_system::FaultSystem;
 use instantiator::Instance;
@@ -42,12 +42,14 @@ pub trait FromAssembly: Sized {
     ghost use Rattle.phases.specs.inner.Meets.{Meets};
     ghost use Rattle.phases.specs.Phases.{Phase};
     ghost use Rattle.model_facts.specs.Assembly.{Assembly as Seen};
+    ghost use Rattle.model_phases.specs.inner.Numbered.{IsNumbered};
 
     /// What is due of a model that is put together.
     ghost phase: { Seen → Phase Self };
 
-    /// Makes it of a model.
-    fn of(alloc: Global, assembly: &Assembly) -> Result<Self, Status>
+    /// Makes it of a model, of which this is what was made so far.
+    fn of(alloc: Global, assembly: &Assembly, model: NumberedModel) -> Result<Self, Status>
+        requires { IsNumbered assembly.now model }
         ensures { Meets (phase assembly.now) result };
 }
 
@@ -56,13 +58,12 @@ impl FromAssembly for FlatModel {
 
     ghost phase = { flat_phase };
 
-    fn of(alloc: Global, assembly: &Assembly) -> Result<FlatModel, Status> {
-        let facts = plain_system(alloc, assembly)?;
-        let rates = rates_of(alloc, assembly.instance(), facts.system.event_infos())?;
+    fn of(alloc: Global, assembly: &Assembly, model: NumberedModel) -> Result<FlatModel, Status> {
+        let rates = rates_of(alloc, assembly.instance(), model.system.event_infos())?;
         Ok(FlatModel {
             components: assembly.instance().components().len() as u32,
-            system: facts.system,
-            effects: facts.effects,
+            system: model.system,
+            effects: model.effects,
             rates,
         })
     }
@@ -72,7 +73,7 @@ impl FromAssembly for FlatModel {
 ///
 /// It is tested phase by phase, and the first that refuses decides: its components (M4, M5, N2 to N6, P1 to P3), their machines
 /// (N2, N15), the error types (M8), the written sets that are used (N2, N7, N8, P4), the error models (N9 to N13, P3, P5
-/// to P8, P11, P12), the links (M14, N14, P3, P9), and then, of a `FlatModel`, the size (M6, M7, M9). Rates are not tested: a value that
+/// to P8, P11, P12), the links (M14, N14, P3, P9), and then the size (M6, M7, M9). Rates are not tested: a value that
 /// is none gives the conservative rate.
 pub fn assembled<M: FromAssembly>(
     alloc: Global,
@@ -119,8 +120,16 @@ fn made_of<'m, 'i, 'a, M: FromAssembly>(
     kinds: &'m Kinds<'i, 'a>,
     links: &'m List<Link>,
 ) -> Result<M, Status>
-    ensures { Meets (M.phase (record { instance = instance.now; types = kinds.now.types; models = kinds.now.models; links = links.now })) result }
+    ensures { Meets (sized M.phase (record { instance = instance.now; types = kinds.now.types; models = kinds.now.models; links = links.now })) result }
 {
     let assembly = Assembly::new(instance, &kinds.types, kinds.models.items(), links.items());
-    M::of(alloc, &assembly)
+    sized(alloc, &assembly)
+}
+
+/// What is made of a model that is put together, and is not too large.
+fn sized<M: FromAssembly>(alloc: Global, assembly: &Assembly) -> Result<M, Status>
+    ensures { Meets (sized M.phase assembly.now) result }
+{
+    let model = numbered_model(alloc, assembly)?;
+    M::of(alloc, assembly, model)
 }

@@ -1,6 +1,6 @@
 ghost use Rattle.std.specs.Prelude.{◌≡◌, IfOk, map};
 ghost use Rattle.phases.specs.Phases.{tests};
-ghost use Rattle.error_types.specs.Libraries.{HasTooManyTypes, table_of};
+ghost use Rattle.error_libraries.specs.Libraries.{HasTooManyTypes, table_of};
 ghost use Rattle.error_models.specs.Below.{kind_machine};
 ghost use Rattle.error_models.specs.Models.{model_of};
 ghost use Rattle.error_models.specs.Refused.{machines_refusal};
@@ -8,7 +8,7 @@ ghost use Rattle.model_phases.specs.Phases.{content_tests, kind_tests};
 ghost use Rattle.model_phases.specs.Tests.{IsIt};
 ghost use Rattle.model_phases.specs.inner.Tests.{MeetsTests};
 
-use error_behavior::UsedMachine;
+use error_machines::UsedMachine;
 use error_models::{ErrorModel, machines_of, models_of, test_sets};
 use error_types::TypeTable;
 use instantiator::Instance;

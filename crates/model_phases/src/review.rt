@@ -1,4 +1,5 @@
-use crate::flat::{FlatModel, FromAssembly};
+use crate::flat::FromAssembly;
+use crate::system::NumberedModel;
 use model_facts::Assembly;
 use model_review::review;
 use phases::Status;
@@ -17,9 +18,20 @@ impl FromAssembly for ReviewedModel {
 
     ghost phase = { review_phase };
 
-    fn of(alloc: Global, assembly: &Assembly) -> Result<ReviewedModel, Status> {
-        let model = FlatModel::of(alloc, assembly)?;
-        let text = review(alloc, assembly, &model.system, model.effects.items())?;
+    fn of(
+        alloc: Global,
+        assembly: &Assembly,
+        model: NumberedModel,
+    ) -> Result<ReviewedModel, Status> {
+        let text = review(
+            alloc,
+            assembly,
+            model.universe.items(),
+            &model.facts,
+            &model.events,
+            &model.system,
+            model.effects.items(),
+        )?;
         Ok(ReviewedModel { text })
     }
 }

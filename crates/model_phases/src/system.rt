@@ -1,9 +1,7 @@
-ghost use Rattle.std.specs.Prelude.{◌≡◌, IfErr, IfOk, None, OnOk, length};
-ghost use Rattle.plain_values.specs.Rising.{RisesWithin};
+ghost use Rattle.std.specs.Prelude.{◌≡◌, IfErr, IfOk, None, OnOk};
 ghost use Rattle.plain_values.specs.inner.Stops.{StopsAt};
-ghost use Rattle.model_facts.specs.Effects.{effects_of};
-ghost use Rattle.flattener.specs.Flat.{size_refusal, system_of};
-ghost use Rattle.model_phases.specs.Named.{IsPlainSystem};
+ghost use Rattle.fact_formulas.specs.Flat.{size_refusal};
+ghost use Rattle.model_phases.specs.inner.Numbered.{IsNumbered, IsSystemOf};
 
 use fault_system::FaultSystem;
 use flattener::flatten;
@@ -14,38 +12,41 @@ use model_facts::{
 use plain_values::{Answer, List};
 use std::alloc::Global;
 
-/// The system of a model, and which of its facts are effects of failures.
+/// A model with its facts and events in order, and its system.
 #[derive(Drop)]
-pub(crate) struct ModelSystem {
-    pub(crate) system: FaultSystem,
-    pub(crate) effects: List<u32>,
+pub struct NumberedModel {
+    /// The error types that may be at a free side of a point, rising.
+    pub universe: List<u32>,
+    /// What may hold in it, in order.
+    pub facts: FactTable,
+    /// What may occur in it, in order.
+    pub events: EventTable,
+    /// These with what makes each fact hold.
+    pub system: FaultSystem,
+    /// The numbers of its facts that are effects of failures, rising.
+    pub effects: List<u32>,
 }
 
-/// The system of a model. Its names are made of identifiers, and so they are plain.
-pub(crate) fn plain_system(alloc: Global, assembly: &Assembly) -> Answer<ModelSystem>
-    ensures system { IfOk result (λ made. made.system ≡ system_of assembly.now) }
-    ensures effects { IfOk result (λ made. made.effects ≡ effects_of assembly.now) }
-    ensures rise { IfOk result (λ made. RisesWithin 0 (length made.system.facts) made.effects) }
-    ensures plain { IfOk result (λ made. IsPlainSystem made.system) }
+/// The model that is put together, numbered. Its names are made of identifiers, and so they are plain.
+pub(crate) fn numbered_model(alloc: Global, assembly: &Assembly) -> Answer<NumberedModel>
+    ensures numbered { IfOk result (IsNumbered assembly.now) }
     ensures accepted { OnOk result (size_refusal assembly.now ≡ None) }
     ensures refused { IfErr result (StopsAt (size_refusal assembly.now)) }
 {
     are_named(assembly)?;
     fact_names_are_plain();
     event_names_are_plain();
-    let made = system_of(alloc, assembly)?;
+    let made = made_of(alloc, assembly)?;
     let _facts = made.system.facts();
     Ok(made)
 }
 
-/// The system of a model.
+/// The model, numbered.
 ///
 /// M6 where there are more than 262,144 facts, or else M7 where there are more than 4,096 events, or else M9 where the formulas
 /// have more than 4,194,304 places.
-fn system_of(alloc: Global, assembly: &Assembly) -> Answer<ModelSystem>
-    ensures system { IfOk result (λ made. made.system ≡ system_of assembly.now) }
-    ensures effects { IfOk result (λ made. made.effects ≡ effects_of assembly.now) }
-    ensures rise { IfOk result (λ made. RisesWithin 0 (length made.system.facts) made.effects) }
+fn made_of(alloc: Global, assembly: &Assembly) -> Answer<NumberedModel>
+    ensures made { IfOk result (IsSystemOf assembly.now) }
     ensures accepted { OnOk result (size_refusal assembly.now ≡ None) }
     ensures refused { IfErr result (StopsAt (size_refusal assembly.now)) }
 {
@@ -54,5 +55,11 @@ fn system_of(alloc: Global, assembly: &Assembly) -> Answer<ModelSystem>
     let events = EventTable::of(alloc, assembly)?;
     let system = flatten(alloc, assembly, universe.items(), &facts, &events)?;
     let effects = facts.effects(alloc, assembly)?;
-    Ok(ModelSystem { system, effects })
+    Ok(NumberedModel {
+        universe,
+        facts,
+        events,
+        system,
+        effects,
+    })
 }

@@ -20,10 +20,10 @@ use Rattle.fault_system.specs.Truth.{NumberSet, truth}
 use Rattle.fault_system.specs.declared.formula.FactInfo.{FactInfo}
 use Rattle.fault_system.specs.declared.formula.Formula.{Formula}
 use Rattle.fault_system.specs.declared.formula.Formula.TheVariants.{Event, Fact, Or}
-use Rattle.flattener.specs.Facts.{exit_formula, fact_at, kind_formula, linked_formula, linked_from, perhaps_at, some_of}
-use Rattle.flattener.specs.Flat.{fact_info, system_by}
-use Rattle.flattener.specs.Formulas.{FlowAt, all_flow_formulas, covers_type, emission_formulas, emissions_at, flow_formula, flow_formulas, flows_at, held_formula}
-use Rattle.flattener.specs.Numbered.{Numbered, Site, own_fact, reached_inward, site_of}
+use Rattle.fact_formulas.specs.Facts.{exit_formula, fact_at, kind_formula, linked_formula, linked_from, perhaps_at, some_of}
+use Rattle.fact_formulas.specs.Flat.{fact_info, system_by}
+use Rattle.fact_formulas.specs.Formulas.{FlowAt, all_flow_formulas, covers_type, emission_formulas, emissions_at, flow_formula, flow_formulas, flows_at, held_formula}
+use Rattle.fact_formulas.specs.Numbered.{Numbered, Site, own_fact, reached_inward, site_of}
 use Rattle.system_review.specs.inner.Alone.{Joins}
 use Rattle.model_review.specs.inner.Joined.{joined_by, joined_exit, joined_formula, joined_info}
 use Rattle.fault_system.proofs.TruthLaws.{truth-Event, truth-Fact, truth-Or}

@@ -3,7 +3,7 @@ use Rattle.std.proofs.Common.{ℕ, ◌≡◌, Bool, true, false, cond, ◌&&◌,
 use Rattle.std.specs.Cmp.{booleans_Decides}
 use Rattle.std.specs.Option.{option_map_or}
 use Rattle.std.proofs.lemmas.Bool.{and_parts, eqb-true, false≢true, ne_eqb, not-false}
-use Rattle.error_types.specs.Search.{is_number_in}
+use Rattle.error_libraries.specs.Search.{is_number_in}
 use Rattle.propagation_points.specs.Points.{Point, side_of}
 use Rattle.propagation_points.specs.States.{held_numbers}
 use Rattle.propagation_points.specs.Uses.{covers, side_types}
@@ -15,8 +15,8 @@ use Rattle.model_facts.specs.Assembly.{model_at}
 use Rattle.model_facts.specs.Facts.{inward_of, same_side}
 use Rattle.model_facts.specs.declared.keys.FactKind.TheVariants.{Enters, State}
 use Rattle.fault_system.specs.Systems.{System}
-use Rattle.flattener.specs.Formulas.{covers_type}
-use Rattle.flattener.specs.Numbered.{Site, inward_types, site_of}
+use Rattle.fact_formulas.specs.Formulas.{covers_type}
+use Rattle.fact_formulas.specs.Numbered.{Site, inward_types, site_of}
 use Rattle.system_review.specs.Alone.{made_by_event, made_by_fact}
 use Rattle.system_review.specs.Possible.{possible_in}
 use Rattle.system_review.specs.inner.Possible.{IsPossible}

@@ -23,10 +23,10 @@ use Rattle.fault_system.specs.Rounds.{no_event, only}
 use Rattle.fault_system.specs.Systems.{IsFact}
 use Rattle.fault_system.specs.Truth.{truth}
 use Rattle.fault_system.specs.declared.formula.FactInfo.{FactInfo}
-use Rattle.flattener.specs.Facts.{fact_at, linked_from}
-use Rattle.flattener.specs.Flat.{fact_info, system_by}
-use Rattle.flattener.specs.Formulas.{FlowAt, covers_type, end_of, flow_at, flows_at}
-use Rattle.flattener.specs.Numbered.{Numbered, Site, numbered_by, site_of}
+use Rattle.fact_formulas.specs.Facts.{fact_at, linked_from}
+use Rattle.fact_formulas.specs.Flat.{fact_info, system_by}
+use Rattle.fact_formulas.specs.Formulas.{FlowAt, covers_type, end_of, flow_at, flows_at}
+use Rattle.fact_formulas.specs.Numbered.{Numbered, Site, numbered_by, site_of}
 use Rattle.system_review.specs.Alone.{following, made_by_event, made_by_fact, no_fact}
 use Rattle.system_review.specs.Possible.{possible_in}
 use Rattle.system_review.specs.inner.Alone.{HoldTheSame, IsSaid}

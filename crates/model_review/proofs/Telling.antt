@@ -5,7 +5,7 @@ use Rattle.system_review.specs.Listed.{AreAll}
 use Rattle.system_review.specs.Loops.{AreLoops}
 use Rattle.system_review.specs.Occurring.{IsUnreachedEvent, IsUnusedEvent}
 use Rattle.system_review.specs.declared.looping.Loop.{Loop}
-use Rattle.flattener.specs.Flat.{is_of_root}
+use Rattle.fact_formulas.specs.Flat.{is_of_root}
 use Rattle.model_review.specs.Seen.{Seen, is_error_event, root_effects}
 use Rattle.model_review.specs.Told.{IsTold, effect_findings, system_findings}
 use Rattle.model_review.specs.declared.finding.Finding.{Finding}

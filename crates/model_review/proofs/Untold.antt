@@ -8,7 +8,7 @@ use Rattle.instantiator.specs.declared.path.Component.{Component}
 use Rattle.propagation_links.specs.declared.link.PointAt.{PointAt}
 use Rattle.model_facts.specs.Assembly.{model_at}
 use Rattle.model_facts.specs.Facts.{outward_of}
-use Rattle.flattener.specs.Formulas.{end_of}
+use Rattle.fact_formulas.specs.Formulas.{end_of}
 use Rattle.model_review.specs.Findings.{hidden_along, hidden_flow, hidden_flows, hidden_link, hidden_types, if_any, is_path, model_findings, of_components, types_at}
 use Rattle.model_review.specs.Seen.{Seen, states_of}
 use Rattle.model_review.specs.Told.{AreFindings, system_findings}

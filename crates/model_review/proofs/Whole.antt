@@ -6,7 +6,7 @@ use Rattle.model_facts.specs.Effects.{effects_of}
 use Rattle.model_facts.specs.Facts.{events_of, facts_of}
 use Rattle.model_facts.specs.declared.keys.EventKey.{EventKey}
 use Rattle.model_facts.specs.declared.keys.FactKey.{FactKey}
-use Rattle.flattener.specs.Flat.{system_of}
+use Rattle.fact_formulas.specs.Flat.{system_of}
 use Rattle.model_review.specs.Seen.{seen_of}
 
 -- what is seen of it

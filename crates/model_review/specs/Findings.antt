@@ -7,7 +7,7 @@ use Rattle.aadl_syntax.specs.declared.error_model.FlowKind.TheVariants as kind
 use Rattle.plain_values.specs.Name.{is_same_text}
 use Rattle.plain_values.specs.Numbered.{numbered_from, numbers_below}
 use Rattle.package_index.specs.Names.{only}
-use Rattle.error_types.specs.Search.{is_number_in}
+use Rattle.error_libraries.specs.Search.{is_number_in}
 use Rattle.propagation_points.specs.Points.{Point}
 use Rattle.propagation_points.specs.States.{all_variants, held_numbers}
 use Rattle.propagation_points.specs.Uses.{covers}
@@ -21,7 +21,7 @@ use Rattle.propagation_links.specs.declared.link.Link.{Link}
 use Rattle.propagation_links.specs.declared.link.PointAt.{PointAt}
 use Rattle.model_facts.specs.Assembly.{model_at, points_in}
 use Rattle.model_facts.specs.Facts.{inward_of, is_linked, outward_of}
-use Rattle.flattener.specs.Formulas.{end_of}
+use Rattle.fact_formulas.specs.Formulas.{end_of}
 use Rattle.model_review.specs.Seen.{Seen, declared_for, is_lost_event, is_lost_fact, may_come, number_at, side_in, source_number, state_number, states_of, stops, types_in}
 use Rattle.model_review.specs.declared.finding.Finding.{Finding}
 use Rattle.model_review.specs.declared.finding.Finding.TheVariants.{HiddenLink, HiddenPath, HiddenSource, HiddenTransitions, Never, NeverState, NoLink, NotDeclared, Open, StopsHere, UnusedState}

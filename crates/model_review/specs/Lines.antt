@@ -6,7 +6,7 @@ use Rattle.aadl_syntax.specs.declared.error_model.FlowKind.{FlowKind}
 use Rattle.aadl_syntax.specs.declared.error_model.FlowKind.TheVariants as kind
 use Rattle.component_extension.specs.Items.{Scoped}
 use Rattle.component_extension.specs.declared.effective.Effective.{Effective}
-use Rattle.error_types.specs.Libraries.{Table}
+use Rattle.error_libraries.specs.Libraries.{Table}
 use Rattle.instantiator.specs.Whole.{effective_in}
 use Rattle.propagation_links.specs.declared.link.PointAt.{PointAt}
 use Rattle.propagation_links.specs.declared.unlinked.Unlinked.{Unlinked}

@@ -15,9 +15,9 @@ use Rattle.model_facts.specs.declared.keys.EventKind.{EventKind}
 use Rattle.model_facts.specs.declared.keys.EventKind.TheVariants.{Arrival, Declared as Error, Source}
 use Rattle.model_facts.specs.declared.keys.FactKind.TheVariants.{State}
 use Rattle.fault_system.specs.Systems.{System}
-use Rattle.flattener.specs.Facts.{fact_at}
-use Rattle.flattener.specs.Flat.{is_of_root, system_by}
-use Rattle.flattener.specs.Numbered.{Numbered, numbered_of}
+use Rattle.fact_formulas.specs.Facts.{fact_at}
+use Rattle.fact_formulas.specs.Flat.{is_of_root, system_by}
+use Rattle.fact_formulas.specs.Numbered.{Numbered, numbered_of}
 use Rattle.system_review.specs.Alone.{made_by_event, made_by_fact}
 use Rattle.system_review.specs.Occurring.{used_in}
 use Rattle.system_review.specs.Possible.{possible_in}

@@ -4,12 +4,12 @@ ghost use Rattle.std.specs.Prelude.{◌≡◌, ◌&&◌, ◌++◌, false, IfOk, 
 ghost use Rattle.std.specs.List.{list_any};
 ghost use Rattle.std.specs.Option.{option_map_or};
 ghost use Rattle.plain_values.specs.Numbered.{numbered_from};
-ghost use Rattle.error_types.specs.Search.{is_number_in};
+ghost use Rattle.error_libraries.specs.Search.{is_number_in};
 ghost use Rattle.propagation_points.specs.States.{held_numbers};
 ghost use Rattle.propagation_points.specs.Uses.{covers};
 ghost use Rattle.model_facts.specs.Assembly.{model_at};
 ghost use Rattle.model_facts.specs.Facts.{inward_of, outward_of};
-ghost use Rattle.flattener.specs.Formulas.{end_of};
+ghost use Rattle.fact_formulas.specs.Formulas.{end_of};
 ghost use Rattle.model_review.specs.Findings.{hidden_flow, hidden_flows, hidden_path, hidden_source, hidden_types, is_hidden_flow, is_path};
 ghost use Rattle.model_review.specs.Seen.{is_lost_fact, number_at, state_number, types_in};
 

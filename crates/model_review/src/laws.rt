@@ -2,8 +2,8 @@
 
 ghost use Rattle.std.specs.Prelude.{ℕ, List};
 ghost use Rattle.model_facts.specs.Assembly.{Assembly};
-ghost use Rattle.flattener.specs.Flat.{system_of};
-ghost use Rattle.flattener.specs.Numbered.{numbered_of};
+ghost use Rattle.fact_formulas.specs.Flat.{system_of};
+ghost use Rattle.fact_formulas.specs.Numbered.{numbered_of};
 ghost use Rattle.system_review.specs.inner.Alone.{HoldTheSame};
 ghost use Rattle.model_review.specs.Review.{IsReview};
 ghost use Rattle.model_review.specs.Seen.{seen_of};

@@ -4,7 +4,7 @@ ghost use Rattle.std.specs.Prelude.{◌≡◌, ◌&&◌, ◌++◌, IfOk, OnOk, f
 ghost use Rattle.std.specs.HashSet.{contains};
 ghost use Rattle.std.specs.List.{list_any};
 ghost use Rattle.plain_values.specs.Numbered.{numbered_from};
-ghost use Rattle.error_types.specs.Search.{is_number_in};
+ghost use Rattle.error_libraries.specs.Search.{is_number_in};
 ghost use Rattle.propagation_points.specs.Uses.{covers};
 ghost use Rattle.model_facts.specs.Assembly.{model_at};
 ghost use Rattle.model_facts.specs.Facts.{inward_of, is_linked, outward_of};

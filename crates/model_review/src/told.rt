@@ -2,15 +2,15 @@
 
 ghost use Rattle.std.specs.Prelude.{◌≡◌, ◌++◌, IfOk, OnOk, filter, length, map};
 ghost use Rattle.plain_values.specs.Rising.{RisesWithin};
-ghost use Rattle.flattener.specs.Flat.{is_of_root};
+ghost use Rattle.fact_formulas.specs.Flat.{is_of_root};
 ghost use Rattle.model_review.specs.Seen.{is_error_event, root_effects};
 ghost use Rattle.model_review.specs.Told.{AddsTold, effect_findings};
 ghost use Rattle.model_review.specs.declared.finding.Finding.TheVariants.{InLoop, UnreachedEvent, UnusedEvent};
 
 use crate::finding::Finding;
 use crate::view::View;
+use fact_formulas::is_of_root;
 use fault_system::FaultSystem;
-use flattener::is_of_root;
 use plain_values::{List, Mem};
 use std::alloc::Global;
 use system_review::{Loop, loops, unreached_events, unused_events};

@@ -4,7 +4,7 @@ ghost use Rattle.fault_system.specs.Truth.{member};
 ghost use Rattle.propagation_points.specs.States.{all_variants};
 ghost use Rattle.model_facts.specs.Assembly.{model_at, no_model};
 ghost use Rattle.model_facts.specs.Assembly.{side_at};
-ghost use Rattle.flattener.specs.Facts.{fact_at};
+ghost use Rattle.fact_formulas.specs.Facts.{fact_at};
 ghost use Rattle.propagation_points.specs.Uses.{side_types};
 ghost use Rattle.model_review.specs.Seen.{declared_for, is_error, is_error_event, is_lost_event, is_lost_fact, may_come, number_at, side_in, source_number, state_number, states_of, stops, types_in};
 ghost use Rattle.system_review.specs.Alone.{made_by_fact};
@@ -12,8 +12,8 @@ ghost use Rattle.system_review.specs.Occurring.{used_in};
 ghost use Rattle.system_review.specs.Possible.{possible_in};
 
 use error_models::ErrorModel;
+use fact_formulas::fact_at;
 use fault_system::{Bits, FaultSystem};
-use flattener::fact_at;
 use instantiator::Instance;
 use model_facts::{Assembly, EventKey, EventKind, EventTable, FactKey, FactKind, FactTable};
 use plain_values::{List, Mem};

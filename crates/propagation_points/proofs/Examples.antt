@@ -8,8 +8,8 @@ use Rattle.aadl_syntax.specs.declared.error_model.TypeSet.{TypeSet}
 use Rattle.plain_values.specs.declared.refusal.Code.TheVariants.{FeatureGroup, NotContained, UnknownPoint, UnknownState, UnknownTrigger}
 use Rattle.plain_values.specs.Refusal.{place_of, refusal}
 use Rattle.component_extension.specs.declared.effective.Effective.{Effective}
-use Rattle.error_types.specs.declared.scope.Scope.{Scope}
-use Rattle.error_types.specs.Search.{searched}
+use Rattle.error_libraries.specs.declared.scope.Scope.{Scope}
+use Rattle.error_libraries.specs.Search.{searched}
 use Rattle.error_types.specs.Types.{is_below_in, type_named}
 use Rattle.error_types.specs.Walk.{follow}
 use Rattle.propagation_points.specs.declared.held.Held.TheVariants.{Any, One}

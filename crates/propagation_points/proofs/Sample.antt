@@ -12,7 +12,7 @@ use Rattle.component_extension.specs.declared.effective.Effective.{Effective}
 use Rattle.component_extension.specs.Items.{clauses_of, gathered, point_key}
 use Rattle.component_extension.specs.Members.{Class, connections, features, members_along, subcomponents}
 use Rattle.component_extension.specs.Rows.{named}
-pub use Rattle.error_types.proofs.Sample.{name_at, no_error_at, packages, set_at, spot, table}
+pub use Rattle.error_libraries.proofs.Sample.{name_at, no_error_at, packages, set_at, spot, table}
 
 -- ---- parts of a text
 

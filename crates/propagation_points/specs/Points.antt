@@ -18,8 +18,8 @@ use Rattle.package_index.specs.Names.{only}
 use Rattle.component_extension.specs.declared.effective.Effective.{Effective}
 use Rattle.component_extension.specs.Items.{Clause, Scoped}
 use Rattle.component_extension.specs.Members.{Member}
-use Rattle.error_types.specs.declared.scope.Scope.{Scope}
-use Rattle.error_types.specs.Libraries.{Table}
+use Rattle.error_libraries.specs.declared.scope.Scope.{Scope}
+use Rattle.error_libraries.specs.Libraries.{Table}
 use Rattle.error_types.specs.Types.{denoted, text_scope}
 use Rattle.propagation_points.specs.declared.side.Side.{Side}
 use Rattle.propagation_points.specs.declared.side.Side.TheVariants.{Absent, Free, Declared}

@@ -2,8 +2,8 @@
 use Rattle.std.specs.Prelude.{ℕ, List, slice_get, Option}
 use Rattle.plain_values.specs.declared.refusal.Refusal.{Refusal}
 use Rattle.aadl_syntax.specs.declared.error_model.StateRef.{StateRef}
-use Rattle.error_types.specs.declared.scope.Scope.{Scope}
-use Rattle.error_types.specs.Libraries.{Table}
+use Rattle.error_libraries.specs.declared.scope.Scope.{Scope}
+use Rattle.error_libraries.specs.Libraries.{Table}
 use Rattle.propagation_points.specs.declared.uses.ReachedPoint.{ReachedPoint}
 use Rattle.propagation_points.specs.Points.{Point}
 use Rattle.propagation_points.specs.declared.held.Held.{Held}

@@ -8,8 +8,8 @@ use Rattle.plain_values.specs.declared.refusal.Code.TheVariants.{UnknownState}
 use Rattle.plain_values.specs.declared.refusal.Refusal.{Refusal}
 use Rattle.plain_values.specs.Refusal.{refused_so}
 use Rattle.plain_values.specs.Numbered.{numbered_from}
-use Rattle.error_types.specs.declared.scope.Scope.{Scope}
-use Rattle.error_types.specs.Libraries.{Table}
+use Rattle.error_libraries.specs.declared.scope.Scope.{Scope}
+use Rattle.error_libraries.specs.Libraries.{Table}
 use Rattle.propagation_points.specs.declared.held.Held.{Held}
 use Rattle.propagation_points.specs.declared.held.Held.TheVariants.{One, Any}
 use Rattle.propagation_points.specs.declared.side.Reach.{Reach}

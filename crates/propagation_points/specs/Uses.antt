@@ -10,9 +10,9 @@ use Rattle.plain_values.specs.declared.refusal.Code.TheVariants.{NotContained, U
 use Rattle.plain_values.specs.declared.refusal.Refusal.{Refusal}
 use Rattle.package_index.specs.Names.{only}
 use Rattle.plain_values.specs.Refusal.{refused_so}
-use Rattle.error_types.specs.declared.scope.Scope.{Scope}
-use Rattle.error_types.specs.Libraries.{Table}
-use Rattle.error_types.specs.Search.{is_number_in}
+use Rattle.error_libraries.specs.declared.scope.Scope.{Scope}
+use Rattle.error_libraries.specs.Libraries.{Table}
+use Rattle.error_libraries.specs.Search.{is_number_in}
 use Rattle.propagation_points.specs.declared.side.Reach.{Reach}
 use Rattle.propagation_points.specs.declared.side.Reach.TheVariants.{Whole, Only}
 use Rattle.propagation_points.specs.declared.side.Side.{Side}

@@ -7,7 +7,8 @@ ghost use Rattle.propagation_points.specs.inner.Tables.{SideKey, declares_side, 
 use crate::open_point::only_name;
 use aadl_syntax::{PointItem, TypeSet};
 use component_extension::{ClauseText, Effective, InClause};
-use error_types::{Scope, TypeTable};
+use error_libraries::Scope;
+use error_types::TypeTable;
 use plain_values::{FirstRefusal, List, Mem};
 use std::alloc::Global;
 use std::collections::HashMap;

@@ -1,6 +1,6 @@
 ghost use Rattle.std.specs.Prelude.{◌≡◌, not};
 ghost use Rattle.std.specs.List.{list_any};
-ghost use Rattle.error_types.specs.Search.{is_number_in};
+ghost use Rattle.error_libraries.specs.Search.{is_number_in};
 
 use plain_values::List;
 

@@ -4,7 +4,8 @@ ghost use Rattle.propagation_points.specs.States.{all_variants, declared_by, kee
 
 use crate::declared::types_in;
 use aadl_syntax::{Identifier, TypeSet};
-use error_types::{Scope, TypeTable};
+use error_libraries::Scope;
+use error_types::TypeTable;
 use plain_values::{List, Mem};
 use std::alloc::{AllocError, Global};
 use std::collections::HashMap;

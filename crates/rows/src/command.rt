@@ -4,11 +4,30 @@ use cut_reports::{EventUse, FailingReport, OrderProfile, SinglePoints};
 use fta_outside::{MemoryFiles, MemorySink, Report};
 use fta_run::run;
 use plain_values::{List, Mem, Word};
-use row_reader::{Row, Text, cut, has_key, head_and_body, number_of};
+use row_reader::{Row, Text, Tool, cut, has_key, head_and_body, number_of};
 use std::alloc::Global;
 
+/// The tool, with files and sinks in memory.
+#[derive(Clone, Copy)]
+pub struct InMemory;
+
+impl Tool for InMemory {
+    fn holds(&self, row: &Row, wanted: &mut Text, found: &mut Text) -> bool {
+        put_wanted(row, wanted);
+        let mut scratch = Text::new(row.texts.alloc());
+        if put_found(row.texts.alloc(), row, &mut scratch, found).is_err() {
+            found.refuse("memory is wanting");
+        }
+        found.refuse_as(&scratch);
+        if wants_front(row) {
+            return found.bytes().starts_with(wanted.bytes());
+        }
+        found.bytes() == wanted.bytes()
+    }
+}
+
 /// Writes what the row wants: the exit status, the output, and what stands on the error stream.
-pub fn put_wanted(row: &Row, out: &mut Text) {
+fn put_wanted(row: &Row, out: &mut Text) {
     if !row.put_first(b"exit:", out) {
         out.refuse("the row has no line `exit:`");
     }
@@ -19,7 +38,7 @@ pub fn put_wanted(row: &Row, out: &mut Text) {
 }
 
 /// Whether the row wants no more than a front of what stands on the error stream.
-pub fn wants_front(row: &Row) -> bool {
+fn wants_front(row: &Row) -> bool {
     has_key(row.lines(b"err"), b"err begins:")
 }
 
@@ -36,7 +55,7 @@ fn put_stream(row: &Row, key: &[u8], out: &mut Text) {
 }
 
 /// Runs the words of the row, and writes what came. What goes wrong in its lines is kept in mind in `scratch`.
-pub fn put_found(alloc: Global, row: &Row, scratch: &mut Text, found: &mut Text) -> Mem<()> {
+fn put_found(alloc: Global, row: &Row, scratch: &mut Text, found: &mut Text) -> Mem<()> {
     let words = words_of(alloc, row, scratch)?;
     let mut files = files_of(alloc, row, scratch)?;
     put_run(alloc, row, words.as_slice(), &mut files, scratch, found)

@@ -1,7 +1,6 @@
 pub mod Rising
 pub mod More
 pub mod Occurs
-pub mod Reached
 pub mod LoopLaws
 pub mod Following
 pub mod Lost

@@ -6,7 +6,13 @@ use Rattle.fault_system.specs.Truth.{NumberSet, Has, member, occurs}
 use Rattle.fault_system.specs.Systems.{System, IsFact}
 use Rattle.fault_system.specs.declared.formula.FactInfo.{FactInfo}
 use Rattle.fault_system.proofs.TruthLaws.{same_answer}
-use Rattle.system_review.specs.Occurring.{used_in}
+use Rattle.std.proofs.lemmas.Option.{slice_get_within}
+use Rattle.plain_values.specs.Numbered.{numbers_below}
+use Rattle.backward_slice.specs.inner.Reach.{IsReach}
+use Rattle.backward_slice.specs.declared.parts.Reach.{Reach}
+use Rattle.dependency_blocks.proofs.AllFacts.{below-contained}
+use Rattle.dependency_blocks.proofs.Passes.{depends_self}
+use Rattle.system_review.specs.Occurring.{IsUsedEvent, used_in}
 use Rattle.system_review.specs.inner.Occurring.{IsUsedFact}
 use Rattle.fault_system.proofs.NumberSets.{member-in, member-replicate}
 
@@ -52,3 +58,10 @@ pub used-computed : (system : System) (marks : List Bool) → ((n : ℕ) → Has
 used-computed system marks exact number = same_answer (member marks number) (used_in system number)
     (λ has. let used = (exact number).0 has in used-at number used.0 system.facts used.1 used.2 used.3)
     (λ has. (exact number).1 (used-from number system.facts has))
+
+-- the events that some fact reaches are those that occur in formulas
+pub reached-used : (system : System) (reach : Reach) → IsReach system (numbers_below (length system.facts)) reach → (e : ℕ) → Has (member reach.events) e ↔ IsUsedEvent system e
+reached-used system reach is e = (
+  (λ h. let (n, fact, reached, at, o) = (is.events e).0 h in (n, fact, at, o)),
+  (λ (n, fact, at, o). (is.events e).1 (n, fact, (n, (below-contained (length system.facts) n).1 (slice_get_within system.facts n fact at), depends_self system n), at, o)),
+)

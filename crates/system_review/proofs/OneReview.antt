@@ -1,6 +1,5 @@
 -- There is one list of all numbers of which something is so, and one list of the loops of a system.
-use Rattle.std.proofs.Common.{ℕ, ◌≡◌, List, [], ◌∷◌, Contains, length, map, inl, inr, ap, ◌∙◌, sym, subst, refl, arith}
-use Rattle.plain_values.specs.Rising.{RisesWithin}
+use Rattle.std.proofs.Common.{ℕ, ◌≡◌, List, [], ◌∷◌, length, map, inl, inr, ap, ◌∙◌, sym, subst, refl, arith}
 use Rattle.fault_system.specs.CutSets.{IsSubset}
 use Rattle.fault_system.specs.Systems.{System}
 use Rattle.fault_system.proofs.Elements.{In, In-contains, contains_In, In-map, In-mapped}

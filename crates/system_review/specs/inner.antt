@@ -2,5 +2,4 @@ pub mod Possible
 pub mod Alone
 pub mod Occurring
 pub mod Loops
-pub mod Marks
 pub mod Steps

@@ -7,7 +7,6 @@ mod listing;
 mod looping;
 mod occurring;
 mod possible;
-mod reaching;
 mod unreached;
 
 pub use alone::{made_by_event, made_by_fact};

@@ -5,8 +5,8 @@ ghost use Rattle.system_review.specs.Listed.{AreAll};
 ghost use Rattle.system_review.specs.Occurring.{IsUnreachedEvent, IsUnusedEvent};
 
 use crate::listing::{Everything, missing};
-use crate::occurring::events_among;
-use crate::reaching::reached;
+use crate::occurring::used_events;
+use backward_slice::reach;
 use fault_system::FaultSystem;
 use plain_values::{List, Mem};
 use std::alloc::Global;
@@ -15,7 +15,7 @@ use std::alloc::Global;
 pub fn unused_events(alloc: Global, system: &FaultSystem) -> Mem<List<u32>>
     ensures { IfOk result (AreAll (IsUnusedEvent system.now) (length system.now.events)) }
 {
-    let used = events_among(alloc, system, &Everything)?;
+    let used = used_events(alloc, system)?;
     let unused = missing(alloc, system.events(), &Everything, &used)?;
     Ok(unused)
 }
@@ -25,9 +25,8 @@ pub fn unreached_events(alloc: Global, system: &FaultSystem, from: &[u32]) -> Me
     requires { All (λ n. n < length system.now.facts) from.now }
     ensures { IfOk result (AreAll (IsUnreachedEvent system.now from.now) (length system.now.events)) }
 {
-    let used = events_among(alloc, system, &Everything)?;
-    let facts = reached(alloc, system, from)?;
-    let found = events_among(alloc, system, &facts)?;
-    let unreached = missing(alloc, system.events(), &used, &found)?;
+    let used = used_events(alloc, system)?;
+    let found = reach(alloc, system, from)?;
+    let unreached = missing(alloc, system.events(), &used, &found.events)?;
     Ok(unreached)
 }

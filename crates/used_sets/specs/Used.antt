@@ -9,12 +9,12 @@ use Rattle.component_extension.specs.declared.effective.Effective.{Effective}
 use Rattle.component_extension.specs.declared.error_model.Behavior.{Behavior}
 use Rattle.component_extension.specs.declared.error_model.Propagations.{Propagations}
 use Rattle.component_extension.specs.Items.{Clause, Scoped}
-use Rattle.error_types.specs.declared.scope.Scope.{Scope}
-use Rattle.error_types.specs.Libraries.{Table, unknown_libraries}
+use Rattle.error_libraries.specs.declared.scope.Scope.{Scope}
+use Rattle.error_libraries.specs.Libraries.{Table, unknown_libraries}
 use Rattle.error_types.specs.Types.{text_scope}
 use Rattle.error_types.specs.Walk.{set_first}
 use Rattle.propagation_points.specs.Points.{scopes_of}
-use Rattle.error_behavior.specs.Machines.{Machine}
+use Rattle.error_machines.specs.Machines.{Machine}
 use Rattle.used_sets.specs.Sets.{composite_sets, event_sets, flow_sets, outgoing_sets, point_sets, state_decl_sets, transition_sets}
 
 -- ---- the sets of items of clauses

@@ -4,6 +4,8 @@ use Rattle.std.specs.List.{AllByRecursion}
 use Rattle.fault_system.specs.Systems.{System}
 use Rattle.fault_system.specs.CutSets.{IsMinimalCutSet}
 use Rattle.fault_system.specs.Listings.{IsWithinOrder}
+use Rattle.backward_slice.specs.Slices.{IsSlice}
+use Rattle.cutset_engine.specs.declared.setting.Asked.{Asked}
 use Rattle.zdd_store.specs.inner.Family.{Family, covers, IsRising, IsAntichain}
 use Rattle.zdd_store.specs.inner.Answers.{sets_up_to}
 use Rattle.zdd_store.specs.inner.Store.{Families, IsIn, family_of}
@@ -13,6 +15,14 @@ use Rattle.zdd_store.specs.declared.id.Id.{Id}
 abbrev pub HasMinimalCutSets : System → ℕ → Option ℕ → Family → Type 0
 HasMinimalCutSets system target most family =
     (set : List ℕ) → Contains family set ↔ (IsMinimalCutSet system target set × IsWithinOrder most set)
+
+-- what is asked is asked of a slice of its target
+abbrev pub IsAskedOfSlice : Asked → Type 0
+IsAskedOfSlice asked = IsSlice asked.system.now asked.slice.now.target asked.slice.now
+
+-- the family has exactly the minimal cut sets that are asked for
+abbrev pub HasAsked : Asked → Family → Type 0
+HasAsked asked family = HasMinimalCutSets asked.system.now asked.slice.now.target asked.most family
 
 -- of a family, the sets of at most so many numbers; all where no greatest order is given
 abbrev pub sets_to : Option ℕ → Family → Family

@@ -7,6 +7,7 @@ use Rattle.fault_system.specs.Listings.{IsWithinOrder}
 use Rattle.fault_system.specs.declared.formula.FactInfo.{FactInfo}
 use Rattle.zdd_store.specs.inner.Store.{Families, IsIn, Keeps}
 use Rattle.zdd_store.specs.declared.id.Id.{Id}
+use Rattle.cutset_engine.specs.declared.setting.Setting.{Setting}
 use Rattle.cutset_engine.specs.inner.Gates.{covers_each, events_of}
 
 -- the system, the variables of its events and the greatest order, which stay as they are
@@ -14,6 +15,10 @@ pub record Task : Type 0 where
   pub system : System
   pub order : List ℕ
   pub most : Option ℕ
+
+-- what a setting says of it; the form of the families is of no account
+abbrev pub task_of : Setting → Task
+task_of setting = record { system = setting.system.now; order = setting.order.now; most = setting.most }
 
 -- the facts whose family covers a set, a mark for each
 abbrev pub covered : Families → List Id → List ℕ → List Bool

@@ -4,10 +4,6 @@ use Rattle.fault_system.specs.Truth.{Has, member, count_true}
 use Rattle.fault_system.specs.Systems.{System}
 use Rattle.backward_slice.specs.Slices.{DependsOn}
 
--- a fact depends on each marked one
-abbrev pub AllFrom : System → ℕ → List Bool → Type 0
-AllFrom system from marks = (n : ℕ) → Has (member marks) n → DependsOn system from n
-
 -- exactly the facts on which a fact depends are marked
 pub record IsReach (system : System) (from : ℕ) (marks : List Bool) : Type 0 where
   pub size : length marks ≡ length system.facts

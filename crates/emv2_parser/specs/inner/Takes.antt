@@ -1,80 +1,18 @@
 -- Each part of a loop of the grammar takes at least one token.
-use Rattle.std.specs.Prelude.{ℕ, List}
-use Rattle.aadl_syntax.specs.declared.place.Ref.{Ref}
-use Rattle.grammar_rules.specs.Rules.{Rule}
+use Rattle.std.specs.Prelude.{List}
 use Rattle.grammar_rules.specs.inner.Parts.{TakesTokens}
-use Rattle.grammar_rules.proofs.Takes.{takes_first, takes_after, takes_either, word_takes, sign_takes, identifier_takes, one_of_takes}
-use Rattle.aadl_syntax.specs.declared.error_model.Condition.{Condition}
-use Rattle.emv2_parser.specs.declared.properties.TargetPath.{TargetPath}
-use Rattle.emv2_parser.specs.Names.{error_name, names, point, point_word, dotted_names, state_reference, further_name, further_reference, use_types_after, dotted_name, factor, further_term}
-use Rattle.emv2_parser.specs.Properties.{path_sign, path_step, further_target, association, properties_after}
+use Rattle.grammar_rules.proofs.Takes.{takes_first, takes_after, takes_either, word_takes, sign_takes, identifier_takes}
+use Rattle.emv2_parts.specs.Names.{error_name}
 use Rattle.aadl_syntax.specs.declared.error_model.StateRef.{StateRef}
 use Rattle.aadl_syntax.specs.declared.error_model.MachineDecl.{MachineDecl}
-use Rattle.aadl_syntax.specs.declared.error_model.Association.{Association}
-use Rattle.emv2_parser.specs.Types.{type_item, types_block}
+use Rattle.emv2_parts.specs.Types.{types_block}
 use Rattle.emv2_parser.specs.Machines.{event, events_after, state, states_after, source, transition, transitions_after, further_branch, use_transformations, machine_uses, machine_transforms, machine_events, machine_states, machine_transitions, machine_properties, machine_use, machine_other, machine_block, machine}
 use Rattle.emv2_parser.specs.Propagations.{point_item, flow, propagations_head, clause_propagations}
 use Rattle.emv2_parser.specs.Behavior.{outgoing, composite, composite_rule, composite_condition, component_transforms, component_events, component_transitions, outgoing_after, component_outgoing, detections, mode_mappings, component_other, component_block, component_head, clause_component, composite_head, clause_composites, connection_errors, clause_connection, user_item, paths_head, clause_paths}
 use Rattle.emv2_parser.specs.Grammar.{type_mapping, library_types, library_machine, library_mapping, library_block, clause_uses, used_machine, clause_machine, used_mapping, clause_mapping, clause_use, clause_properties, clause_other, clause_behavior, clause_part}
 use Rattle.aadl_syntax.specs.declared.error_model.Emv2Clause.{Emv2Clause}
 use Rattle.aadl_syntax.specs.declared.error_model.Emv2Library.{Emv2Library}
-use Rattle.emv2_parser.specs.Conditions.{and_primary, or_conjunction, further_condition}
-
-pub further_name-takes : TakesTokens further_name
-unfolding further_name
-further_name-takes = takes_first (sign_takes _)
-
-pub further_reference-takes : TakesTokens further_reference
-unfolding further_reference
-further_reference-takes = takes_first (sign_takes _)
-
-pub use_types-takes : (uses : List Ref) → TakesTokens (use_types_after uses)
-unfolding use_types_after
-use_types-takes uses = takes_first (word_takes _)
-
-pub dotted_name-takes : TakesTokens dotted_name
-unfolding dotted_name
-dotted_name-takes = takes_first (sign_takes _)
-
-pub factor-takes : TakesTokens factor
-unfolding factor
-factor-takes = takes_first (sign_takes _)
-
-pub further_term-takes : TakesTokens further_term
-unfolding further_term
-further_term-takes = takes_first (sign_takes _)
-
-pub path_step-takes : (path : TargetPath) → TakesTokens (path_step path)
-unfolding path_step path_sign error_name
-path_step-takes path = takes_either _ (takes_first (identifier_takes _)) (takes_either _ (takes_first (one_of_takes _)) (takes_either _ (takes_first (sign_takes _)) (takes_first (takes_either _ (sign_takes _) (sign_takes _)))))
-
-pub further_target-takes : (targets : List (List (List ℕ))) → TakesTokens (further_target targets)
-unfolding further_target
-further_target-takes targets = takes_first (sign_takes _)
-
-names-takes : TakesTokens names
-unfolding names error_name
-names-takes = takes_first (identifier_takes _)
-
-pub association-takes : TakesTokens association
-unfolding association
-association-takes = takes_first names-takes
-
-pub and_primary-takes : (inner : Rule Condition) → TakesTokens (and_primary inner)
-unfolding and_primary
-and_primary-takes inner = takes_first (word_takes _)
-
-pub or_conjunction-takes : (inner : Rule Condition) → TakesTokens (or_conjunction inner)
-unfolding or_conjunction
-or_conjunction-takes inner = takes_first (word_takes _)
-
-pub further_condition-takes : (inner : Rule Condition) → TakesTokens (further_condition inner)
-unfolding further_condition
-further_condition-takes inner = takes_first (sign_takes _)
-
-pub type_item-takes : TakesTokens type_item
-unfolding type_item error_name
-type_item-takes = takes_after (λ at. takes_first (identifier_takes _))
+use Rattle.emv2_parts.specs.inner.Takes.{point-takes, properties-takes, state_reference-takes, use_types-takes}
 
 pub event-takes : TakesTokens event
 unfolding event error_name
@@ -83,10 +21,6 @@ event-takes = takes_after (λ at. takes_first (identifier_takes _))
 pub state-takes : TakesTokens state
 unfolding state error_name
 state-takes = takes_after (λ at. takes_first (identifier_takes _))
-
-state_reference-takes : TakesTokens state_reference
-unfolding state_reference error_name
-state_reference-takes = takes_after (λ at. takes_first (identifier_takes _))
 
 source-takes : TakesTokens source
 unfolding source
@@ -104,17 +38,9 @@ use_transformations-takes : TakesTokens use_transformations
 unfolding use_transformations
 use_transformations-takes = takes_after (λ at. takes_first (word_takes _))
 
-properties-takes : (associations : List Association) → TakesTokens (properties_after associations)
-unfolding properties_after
-properties-takes associations = takes_first (word_takes _)
-
 pub machine_block-takes : (machine : MachineDecl) → TakesTokens (machine_block machine)
 unfolding machine_block machine_use machine_other machine_uses machine_transforms machine_events machine_states machine_transitions machine_properties events_after states_after transitions_after
 machine_block-takes m = takes_either _ (takes_either _ (takes_first (use_types-takes _)) (takes_first use_transformations-takes)) (takes_either _ (takes_first (takes_first (word_takes _))) (takes_either _ (takes_first (takes_first (word_takes _))) (takes_either _ (takes_first (takes_first (word_takes _))) (takes_first (properties-takes _)))))
-
-point-takes : TakesTokens point
-unfolding point point_word dotted_names error_name
-point-takes = takes_after (λ at. takes_first (takes_either _ (takes_first (one_of_takes _)) (takes_first (identifier_takes _))))
 
 pub point_item-takes : TakesTokens point_item
 unfolding point_item

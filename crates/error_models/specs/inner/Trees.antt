@@ -2,7 +2,7 @@
 use Rattle.std.specs.Prelude.{◌≡◌, List, [], map}
 use Rattle.aadl_syntax.specs.declared.core_model.PackageUnit.{PackageUnit}
 use Rattle.package_index.specs.declared.id.ClassifierId.{ClassifierId}
-use Rattle.error_behavior.specs.declared.states.States.{States}
+use Rattle.error_machines.specs.declared.states.States.{States}
 use Rattle.instantiator.specs.Components.{Part}
 use Rattle.error_models.specs.Below.{kind_parts, kind_states}
 

@@ -3,8 +3,8 @@ use Rattle.std.specs.Prelude.{◌≡◌, ◌≤◌, ◌<◌, ◌^◌, ℕ, suc, 
 use Rattle.error_types.specs.declared.endings.End.{End}
 use Rattle.error_types.specs.declared.endings.Turn.{Turn}
 use Rattle.error_types.specs.declared.endings.Turn.TheVariants.{Ended, On}
-use Rattle.error_types.specs.declared.id.ItemId.{ItemId}
-use Rattle.error_types.specs.Libraries.{Table}
+use Rattle.error_libraries.specs.declared.id.ItemId.{ItemId}
+use Rattle.error_libraries.specs.Libraries.{Table}
 use Rattle.error_types.specs.Types.{type_at, type_named}
 
 -- the type that an item is, through at most so many aliases

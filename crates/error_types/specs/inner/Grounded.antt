@@ -5,11 +5,11 @@ use Rattle.plain_values.specs.Order.{nearer}
 use Rattle.plain_values.specs.declared.refusal.Code.TheVariants.{UnknownType}
 use Rattle.plain_values.specs.declared.refusal.Refusal.{Refusal}
 use Rattle.plain_values.specs.Refusal.{place_of, refusal}
-use Rattle.error_types.specs.declared.id.ItemId.{ItemId}
-use Rattle.error_types.specs.declared.scope.Scope.{Scope}
-use Rattle.error_types.specs.Libraries.{Table, item_at}
-use Rattle.error_types.specs.Search.{named}
-use Rattle.error_types.specs.Walk.{Need, is_set_item, library_scope, needs_of, of_item, walk_from}
+use Rattle.error_libraries.specs.declared.id.ItemId.{ItemId}
+use Rattle.error_libraries.specs.declared.scope.Scope.{Scope}
+use Rattle.error_libraries.specs.Libraries.{Table, item_at, library_scope}
+use Rattle.error_libraries.specs.Search.{named}
+use Rattle.error_types.specs.Walk.{Need, is_set_item, needs_of, of_item, walk_from}
 
 -- whether a walk goes no further than to an item: it is a set where a type is asked for
 abbrev pub is_stopped : Table → Need → ItemId → Bool

@@ -1,8 +1,6 @@
--- The steps of a search for a name, and of a walk through items.
-use Rattle.std.specs.Prelude.{◌≡◌, ℕ, Bool, List, [], ◌∷◌}
-use Rattle.error_types.specs.inner.Course.{Course, IsBack, left}
-use Rattle.error_types.specs.Search.{Search}
-use Rattle.error_types.specs.Libraries.{Library, Table}
+-- The steps of a walk through items.
+use Rattle.std.specs.Prelude.{◌≡◌, Bool, List, [], ◌∷◌}
+use Rattle.error_libraries.specs.Libraries.{Table}
 use Rattle.error_types.specs.inner.Trip.{IsBackAt, Trip, walk_left, with_names}
 use Rattle.error_types.specs.Walk.{Walk}
 use Rattle.error_types.specs.declared.needs.NextName.{NextName}
@@ -11,22 +9,6 @@ use Rattle.error_types.specs.declared.walk.Stage.{Stage}
 use Rattle.error_types.specs.declared.walk.Stage.TheVariants as stage
 use Rattle.error_types.specs.declared.trip.Back.{Back}
 use Rattle.error_types.specs.declared.trip.Back.TheVariants as back
-use Rattle.error_types.specs.declared.course.Left.{Left}
-use Rattle.error_types.specs.declared.course.Left.TheVariants.{On, Out}
-use Rattle.error_types.specs.declared.search.Step.{Step}
-use Rattle.error_types.specs.declared.search.Step.TheVariants.{Next, Ended}
-
--- It is back at the library for which that one was searched, or at its end, with its first refusal.
-abbrev pub Leaves : Course → Left → Type 0
-Leaves course (On next) = IsBack course next
-Leaves course (Out first) = (course.below ≡ []) × (first ≡ course.first)
-
--- A step leads to the end of the whole search, or nearer to it.
-abbrev pub Leads : List Library → List ℕ → Search → Step → Type 0
-Leads libraries name whole (Next course) = left libraries name course ≡ whole
-Leads libraries name whole (Ended looked first) = (whole.found ≡ looked) × (whole.first ≡ first)
-
--- ---- walks
 
 -- The next name was taken from those that are left at the top of a trip; what is passed is none.
 abbrev pub Offers : Trip → NextName → Trip → Type 0

@@ -6,13 +6,13 @@ use Rattle.plain_values.specs.Order.{nearer}
 use Rattle.aadl_syntax.specs.declared.error_model.TypeItem.{TypeItem}
 use Rattle.plain_values.specs.declared.refusal.Refusal.{Refusal}
 use Rattle.package_index.specs.inner.Tables.{same_pair}
-use Rattle.error_types.specs.declared.id.ItemId.{ItemId}
+use Rattle.error_libraries.specs.declared.id.ItemId.{ItemId}
 use Rattle.error_types.specs.declared.memory.Memory.{Memory}
 use Rattle.error_types.specs.declared.memory.Reached.{Reached}
-use Rattle.error_types.specs.declared.scope.Scope.{Scope}
+use Rattle.error_libraries.specs.declared.scope.Scope.{Scope}
 use Rattle.error_types.specs.declared.settle.Sum.{Sum}
 use Rattle.error_types.specs.inner.Grounded.{grounded, leads_so, name_first, name_leads_so, name_types, names_first, target_first, target_types}
-use Rattle.error_types.specs.Libraries.{Table, is_type}
+use Rattle.error_libraries.specs.Libraries.{Table, is_type}
 use Rattle.error_types.specs.Types.{is_below}
 use Rattle.error_types.specs.inner.Types.{is_below_by}
 use Rattle.plain_values.specs.Numbered.{numbers_below}

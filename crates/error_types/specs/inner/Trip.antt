@@ -2,11 +2,11 @@
 use Rattle.std.specs.Prelude.{◌≡◌, ℕ, ◌+◌, ◌-◌, ◌^◌, List, [], ◌∷◌, ◌++◌, Bool, length, map, fold, Option, Some, option_to_list}
 use Rattle.plain_values.specs.Order.{nearer}
 use Rattle.plain_values.specs.declared.refusal.Refusal.{Refusal}
-use Rattle.error_types.specs.declared.id.ItemId.{ItemId}
-use Rattle.error_types.specs.inner.Course.{Marks}
-use Rattle.error_types.specs.Libraries.{Table}
-use Rattle.error_types.specs.inner.Tables.{has_number}
-use Rattle.error_types.specs.Walk.{Need, Walk, arrived, follow, library_scope, past_item, walked}
+use Rattle.error_libraries.specs.declared.id.ItemId.{ItemId}
+use Rattle.error_libraries.specs.inner.Course.{Marks}
+use Rattle.error_libraries.specs.Libraries.{Table, library_scope}
+use Rattle.error_libraries.specs.inner.Tables.{has_number}
+use Rattle.error_types.specs.Walk.{Need, Walk, arrived, follow, past_item, walked}
 use Rattle.std.specs.List.{list_any}
 
 -- An item that is being followed, and those of its names that are left.

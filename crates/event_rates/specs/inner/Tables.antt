@@ -5,8 +5,8 @@ use Rattle.aadl_syntax.specs.declared.error_model.Association.{Association}
 use Rattle.plain_values.specs.declared.refusal.Refusal.{Refusal}
 use Rattle.package_index.specs.declared.id.ClassifierId.{ClassifierId}
 use Rattle.component_extension.specs.declared.effective.Effective.{Effective}
-use Rattle.error_behavior.specs.declared.machines.MachineId.{MachineId}
-use Rattle.error_behavior.specs.Machines.{find_machine}
+use Rattle.error_machines.specs.declared.machines.MachineId.{MachineId}
+use Rattle.error_machines.specs.Machines.{find_machine}
 use Rattle.instantiator.specs.Effectives.{effective_of}
 use Rattle.event_rates.specs.declared.kinds.KindRates.{KindRates}
 use Rattle.event_rates.specs.Associations.{clause_associations}

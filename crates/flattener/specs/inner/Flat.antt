@@ -1,8 +1,8 @@
 -- Beside specs/Flat.antt: what no clause of `run` reaches.
 use Rattle.std.specs.Prelude.{◌≡◌, None}
 use Rattle.fault_system.specs.Systems.{System}
-use Rattle.flattener.specs.Numbered.{Numbered}
-use Rattle.flattener.specs.Flat.{system_by, places_refusal}
+use Rattle.fact_formulas.specs.Numbered.{Numbered}
+use Rattle.fact_formulas.specs.Flat.{system_by, places_refusal}
 
 -- ---- places
 

@@ -9,10 +9,10 @@ use Rattle.error_behavior.specs.declared.steps.Step.{Step}
 use Rattle.composite_states.specs.declared.meaning.ClauseMeaning.{ClauseMeaning}
 use Rattle.propagation_links.specs.declared.link.Link.{Link}
 use Rattle.propagation_links.specs.declared.link.PointAt.{PointAt}
-use Rattle.flattener.specs.Facts.{linked_from}
+use Rattle.fact_formulas.specs.Facts.{linked_from}
 use Rattle.fault_system.specs.declared.formula.Formula.{Formula}
-use Rattle.flattener.specs.Flat.{most_places, places}
-use Rattle.flattener.specs.Formulas.{FlowAt, conditions_to, emissions_at, flows_at, steps_to}
+use Rattle.fact_formulas.specs.Flat.{most_places, places}
+use Rattle.fact_formulas.specs.Formulas.{FlowAt, conditions_to, emissions_at, flows_at, steps_to}
 
 -- ---- rows by key
 

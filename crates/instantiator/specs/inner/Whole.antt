@@ -18,17 +18,6 @@ pub record Kinds : Type 0 where
 abbrev pub with_kinds : Kinds → List Component → Kinds
 with_kinds kinds components = record kinds { ids = fold (λ ids component. with_kind ids component.classifier) kinds.ids components }
 
--- ---- instances
-
--- the number of the component of which the component of this path is a subcomponent: the root is none of any
-abbrev pub parent_of : List Component → List (List ℕ) → Option ℕ
-parent_of components [] = None
-parent_of components (name ∷ names) = component_at components (front (name ∷ names))
-
--- the same for the component of a number
-abbrev pub parent_in : List Component → ℕ → Option ℕ
-parent_in components number = option_and_then (λ component. parent_of components component.path) (slice_get components number)
-
 -- ---- laws
 
 -- No two components have one path.

@@ -6,8 +6,8 @@ use Rattle.aadl_syntax.specs.inner.Token.{IsIdentifier}
 use Rattle.aadl_syntax.specs.declared.core_model.PackageUnit.{PackageUnit}
 use Rattle.package_index.specs.declared.id.ClassifierId.{ClassifierId}
 use Rattle.package_index.specs.Duplicates.{IsDuplicate}
-use Rattle.error_types.specs.Printed.{TypeName, name_of}
-use Rattle.error_types.specs.inner.Printed.{AreIdentifiers}
+use Rattle.error_libraries.specs.Printed.{TypeName, name_of}
+use Rattle.error_libraries.specs.inner.Printed.{AreIdentifiers}
 use Rattle.propagation_points.specs.inner.Points.{NamesDiffer}
 use Rattle.propagation_points.specs.States.{all_variants}
 use Rattle.error_flows.specs.declared.meaning.FlowMeaning.{FlowMeaning}

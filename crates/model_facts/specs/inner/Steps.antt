@@ -5,7 +5,7 @@ use Rattle.plain_values.specs.declared.refusal.Code.TheVariants.{TooManyEvents, 
 use Rattle.plain_values.specs.declared.refusal.Stop.{Stop}
 use Rattle.plain_values.specs.declared.refusal.Stop.TheVariants.{Memory, Refused}
 use Rattle.plain_values.specs.Refusal.{of_words}
-use Rattle.error_types.specs.Search.{is_number_in}
+use Rattle.error_libraries.specs.Search.{is_number_in}
 use Rattle.model_facts.specs.Limits.{most_events, most_facts}
 use Rattle.model_facts.specs.declared.keys.EventKey.{EventKey}
 use Rattle.model_facts.specs.declared.keys.FactKey.{FactKey}

@@ -9,10 +9,10 @@ use Rattle.fault_system.specs.Systems.{System}
 use Rattle.fault_system.specs.declared.formula.FactInfo.{FactInfo}
 use Rattle.fault_system.specs.declared.formula.Formula.{Formula}
 use Rattle.fault_system.specs.declared.formula.Formula.TheVariants.{Or}
-use Rattle.flattener.specs.Facts.{enter_formula, linked_formula, state_formula}
-use Rattle.flattener.specs.Flat.{event_info}
-use Rattle.flattener.specs.Formulas.{all_flow_formulas, emission_formulas, emissions_at, flows_at}
-use Rattle.flattener.specs.Numbered.{Numbered, Site, site_of}
+use Rattle.fact_formulas.specs.Facts.{enter_formula, linked_formula, state_formula}
+use Rattle.fact_formulas.specs.Flat.{event_info}
+use Rattle.fact_formulas.specs.Formulas.{all_flow_formulas, emission_formulas, emissions_at, flows_at}
+use Rattle.fact_formulas.specs.Numbered.{Numbered, Site, site_of}
 use Rattle.model_review.specs.Findings.{hidden_flows, hidden_link, of_components}
 use Rattle.model_review.specs.Seen.{Seen}
 

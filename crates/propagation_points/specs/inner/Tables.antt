@@ -7,7 +7,7 @@ use Rattle.plain_values.specs.Name.{is_same_text}
 use Rattle.aadl_syntax.specs.declared.error_model.PointItem.{PointItem}
 use Rattle.package_index.specs.inner.Tables.{Knows, same_text}
 use Rattle.component_extension.specs.Items.{Scoped}
-use Rattle.error_types.specs.declared.scope.Scope.{Scope}
+use Rattle.error_libraries.specs.declared.scope.Scope.{Scope}
 use Rattle.propagation_points.specs.Points.{declares}
 use Rattle.propagation_points.specs.inner.Points.{NamesDiffer}
 

@@ -4,4 +4,4 @@ use Rattle.cutset_engine.proofs.families.family_within.Goals as goal
 
 pub returns-clause-exact : goal.returns-clause-exact
 returns-clause-exact c =
-    subst (HasMinimalCutSets c.args.system.now c.args.slice.now.target c.args.most) (sym c.in_ok-answer.ensures.family) c.in_ok-made.ensures.exact
+    subst (HasMinimalCutSets c.args.asked.now.system.now c.args.asked.now.slice.now.target c.args.asked.now.most) (sym c.in_ok-answer.ensures.family) c.in_ok-made.ensures.exact

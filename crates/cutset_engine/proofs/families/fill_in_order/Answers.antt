@@ -1,13 +1,13 @@
 use Rattle.std.proofs.Common.{subst, sym}
-use Rattle.cutset_engine.specs.inner.Filling.{Task, HaveTheirCauses}
+use Rattle.cutset_engine.specs.inner.Filling.{Task, HaveTheirCauses, task_of}
 use Rattle.cutset_engine.proofs.Ending.{filling-none, slice-causes}
 use Rattle.cutset_engine.proofs.families.fill_in_order.Goals as goal
 
 pub settle-requires : goal.settle-requires
 settle-requires c =
-    let task : Task = record { system = c.args.system.now; order = c.args.order.now; most = c.args.most } in
+    let task : Task = task_of c.args.setting.now in
     filling-none task c.args.store.now c.args.now.now c.laws.ensures c.requires.long c.requires.none
 
 pub fill-requires-clause-causes : goal.fill-requires-clause-causes
 fill-requires-clause-causes c =
-    subst (HaveTheirCauses c.args.system.now) (sym c.items.ensures.items) (slice-causes c.args.system.now c.args.slice.now.target c.args.slice.now c.requires.slice)
+    subst (HaveTheirCauses c.args.setting.now.system.now) (sym c.items.ensures.items) (slice-causes c.args.setting.now.system.now c.args.slice.now.target c.args.slice.now c.requires.slice)

@@ -12,22 +12,22 @@ use Rattle.cutset_engine.proofs.singles.with_others.Goals as goal
 
 pub sliced_family-requires : goal.sliced_family-requires
 sliced_family-requires c =
-    let target = c.args.slice.now.target in
+    let target = c.args.asked.now.slice.now.target in
     subst (λ (thin : System). target < length thin.facts) (sym c.in_ok-thin.ensures)
-    (subst (λ count. target < count) (sym (length-map c.args.system.now.facts (thin_fact c.args.alone.now target))) (target-fact c.args.system.now target c.args.slice.now c.requires.slice))
+    (subst (λ count. target < count) (sym (length-map c.args.asked.now.system.now.facts (thin_fact c.args.alone.now target))) (target-fact c.args.asked.now.system.now target c.args.asked.now.slice.now c.requires.slice))
 
 pub joined-requires-clause-apart : goal.joined-requires-clause-apart
-joined-requires-clause-apart c = cut-sets-apart c.in_ok-thin.thin c.args.slice.now.target c.args.most (family_of c.sliced_family.new.store c.in-Ok.rest) c.in-Ok.ensures.exact
+joined-requires-clause-apart c = cut-sets-apart c.in_ok-thin.thin c.args.asked.now.slice.now.target c.args.asked.now.most (family_of c.sliced_family.new.store c.in-Ok.rest) c.in-Ok.ensures.exact
 
 pub returns-in-Ok-clause-exact : goal.returns-in-Ok-clause-exact
 returns-in-Ok-clause-exact c =
-    let system = c.args.system.now in
-    let target = c.args.slice.now.target in
+    let system = c.args.asked.now.system.now in
+    let target = c.args.asked.now.slice.now.target in
     let middle = c.sliced_family.new.store in
     let same : family_of middle c.args.ones ≡ family_of c.args.store.now c.args.ones = c.sliced_family.ensures.kept.same c.args.ones.position c.requires.ones_in in
     IfOk-weaker c.joined.result _ _
-    (λ id minimal. joined-cut-sets system target c.args.most c.args.alone.now (family_of middle c.args.ones) (family_of middle c.in-Ok.rest) (family_of c.joined.new.store id) c.requires.allowed
+    (λ id minimal. joined-cut-sets system target c.args.asked.now.most c.args.alone.now (family_of middle c.args.ones) (family_of middle c.in-Ok.rest) (family_of c.joined.new.store id) c.requires.allowed
     (subst (λ (family : Family). HasMinimalCutSets system target (Some 1) family) (sym same) c.requires.ones)
-    (subst (λ (thin : System). HasMinimalCutSets thin target c.args.most (family_of middle c.in-Ok.rest)) c.in_ok-thin.ensures c.in-Ok.ensures.exact)
+    (subst (λ (thin : System). HasMinimalCutSets thin target c.args.asked.now.most (family_of middle c.in-Ok.rest)) c.in_ok-thin.ensures c.in-Ok.ensures.exact)
     (subst (λ (family : Family). AreSingles family c.args.alone.now) (sym same) c.requires.alone) minimal)
     c.joined.ensures.minimal

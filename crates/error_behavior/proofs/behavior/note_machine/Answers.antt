@@ -3,7 +3,7 @@ use Rattle.plain_values.specs.Order.{least, nearer}
 use Rattle.plain_values.specs.declared.refusal.Code.TheVariants.{MachineExtends, Mapping}
 use Rattle.plain_values.specs.Refusal.{refused_there}
 use Rattle.plain_values.proofs.Noted.{noted-three}
-use Rattle.error_behavior.specs.States.{event_refusals}
+use Rattle.error_machines.specs.States.{event_refusals}
 use Rattle.error_behavior.proofs.behavior.note_machine.Goals as goal
 
 pub returns : goal.returns

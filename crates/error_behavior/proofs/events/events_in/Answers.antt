@@ -3,7 +3,7 @@ use Rattle.std.proofs.lemmas.List.Folds.{fold-map}
 use Rattle.aadl_syntax.specs.declared.error_model.EventDecl.{EventDecl}
 use Rattle.package_index.proofs.Loops.{fold-more}
 use Rattle.propagation_points.specs.States.{Sort}
-use Rattle.error_behavior.specs.States.{event_at, keep_event}
+use Rattle.error_machines.specs.States.{event_at, keep_event}
 use Rattle.error_behavior.proofs.events.events_in.Goals as goal
 
 pub loop-decl-preserved : goal.loop-decl-preserved

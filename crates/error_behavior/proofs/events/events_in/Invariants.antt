@@ -1,5 +1,5 @@
 use Rattle.std.proofs.Common.{◌≡◌, [], fold, map, take, option_copied}
-use Rattle.error_behavior.specs.States.{event_at, keep_event}
+use Rattle.error_machines.specs.States.{event_at, keep_event}
 use Rattle.error_behavior.proofs.events.events_in.Given as goal
 
 abbrev pub invariant-loop-decl : goal.invariant-loop-decl

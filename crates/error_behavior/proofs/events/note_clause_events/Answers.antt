@@ -1,7 +1,7 @@
 use Rattle.std.proofs.Common.{ap, ◌∙◌}
 use Rattle.plain_values.specs.Order.{least, nearer}
 use Rattle.package_index.proofs.Loops.{noting-more}
-use Rattle.error_behavior.specs.States.{event_refusals}
+use Rattle.error_machines.specs.States.{event_refusals}
 use Rattle.error_behavior.proofs.events.note_clause_events.Goals as goal
 
 pub loop-event-preserved : goal.loop-event-preserved

@@ -1,6 +1,6 @@
 use Rattle.std.proofs.Common.{◌≡◌, drop, flat_map}
 use Rattle.plain_values.specs.Order.{least, nearer}
-use Rattle.error_behavior.specs.States.{event_refusals}
+use Rattle.error_machines.specs.States.{event_refusals}
 use Rattle.error_behavior.proofs.events.note_clause_events.Given as goal
 
 abbrev pub invariant-loop-event : goal.invariant-loop-event

@@ -1,5 +1,5 @@
 use Rattle.std.proofs.Common.{◌≡◌, fold, map, take}
-use Rattle.error_behavior.specs.States.{clause_event, keep_event}
+use Rattle.error_machines.specs.States.{clause_event, keep_event}
 use Rattle.error_behavior.proofs.events.with_clauses.Given as goal
 
 abbrev pub invariant-loop-decl : goal.invariant-loop-decl

@@ -1,5 +1,5 @@
 use Rattle.std.proofs.Common.{◌≡◌, drop, map, take}
-use Rattle.error_behavior.specs.Machines.{find_machine}
+use Rattle.error_machines.specs.Machines.{find_machine}
 use Rattle.error_models.specs.Below.{machine_of}
 use Rattle.error_models.specs.Refused.{fault_of, first_of}
 use Rattle.error_models.proofs.machines.machines_of.Given as goal

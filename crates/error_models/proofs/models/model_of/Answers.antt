@@ -5,7 +5,7 @@ use Rattle.plain_values.specs.Order.{least}
 use Rattle.propagation_points.specs.Points.{point_refusals, points_of}
 use Rattle.error_flows.specs.Flows.{all_flow_refusals, flows_of}
 use Rattle.error_behavior.specs.Behavior.{behavior_refusals, behavior_of}
-use Rattle.error_behavior.specs.States.{states_of}
+use Rattle.error_machines.specs.States.{states_of}
 use Rattle.composite_states.specs.Composites.{clauses_of, composite_clause_refusals}
 use Rattle.plain_values.specs.inner.Stops.{StopsAt}
 use Rattle.error_models.specs.Below.{states_below}

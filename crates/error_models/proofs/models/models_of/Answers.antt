@@ -4,8 +4,8 @@ use Rattle.std.proofs.lemmas.List.{get_or_default, take_all}
 use Rattle.std.proofs.lemmas.Result.{err_from_is_err_and}
 use Rattle.aadl_syntax.specs.declared.core_model.PackageUnit.{PackageUnit}
 use Rattle.package_index.specs.declared.id.ClassifierId.{ClassifierId}
-use Rattle.error_types.specs.Libraries.{Table}
-use Rattle.error_behavior.specs.Machines.{Machine}
+use Rattle.error_libraries.specs.Libraries.{Table}
+use Rattle.error_machines.specs.Machines.{Machine}
 use Rattle.error_conditions.proofs.ConditionLaws.{map-more}
 use Rattle.instantiator.specs.declared.kinds.Kind.{Kind}
 use Rattle.instantiator.specs.Effectives.{effective_of}

@@ -4,7 +4,7 @@ use Rattle.std.proofs.lemmas.List.{get_or_default}
 use Rattle.plain_values.specs.Order.{least, nearer}
 use Rattle.package_index.proofs.Loops.{noting-more}
 use Rattle.package_index.specs.declared.id.ClassifierId.{ClassifierId}
-use Rattle.error_types.specs.Libraries.{Table}
+use Rattle.error_libraries.specs.Libraries.{Table}
 use Rattle.instantiator.specs.Effectives.{effective_of}
 use Rattle.instantiator.specs.inner.Tables.{kind_of}
 use Rattle.used_sets.specs.Used.{used_set_refusals}

@@ -1,5 +1,5 @@
 use Rattle.std.proofs.Common.{◌≡◌, map, take}
-use Rattle.error_behavior.specs.States.{states_of}
+use Rattle.error_machines.specs.States.{states_of}
 use Rattle.error_models.proofs.tree.all_states.Given as goal
 
 abbrev pub invariant-loop-machine : goal.invariant-loop-machine

@@ -2,11 +2,11 @@ use Rattle.std.proofs.Common.{ℕ, ◌≡◌, [], ◌∷◌, ◌++◌, ◌-◌, 
 use Rattle.std.specs.HashMap.{get}
 use Rattle.std.proofs.lemmas.List.{reverse-append}
 use Rattle.package_index.specs.inner.Tables.{same_pair}
-use Rattle.error_types.specs.declared.id.ItemId.{ItemId}
+use Rattle.error_libraries.specs.declared.id.ItemId.{ItemId}
 use Rattle.error_types.specs.inner.Endings.{EndsIn, IsWay, origin, type_through}
 use Rattle.error_types.proofs.EndingLaws.{at-last, one-back}
-use Rattle.error_types.proofs.Keys.{number_same}
-use Rattle.error_types.proofs.Remembering.{remembered-more}
+use Rattle.error_libraries.proofs.Keys.{number_same}
+use Rattle.error_libraries.proofs.Remembering.{remembered-more}
 use Rattle.error_types.proofs.endings.note_ends.Goals as goal
 
 abbrev id_of : ℕ × ℕ → ItemId

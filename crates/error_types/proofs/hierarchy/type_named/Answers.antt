@@ -2,7 +2,7 @@ use Rattle.std.proofs.Common.{◌-◌, ◌^◌, sym, ap, ◌∙◌}
 use Rattle.std.proofs.lemmas.Result.{IfOk-weaker}
 use Rattle.error_types.specs.inner.Endings.{type_through}
 use Rattle.error_types.specs.Types.{type_at, type_named}
-use Rattle.error_types.specs.Walk.{library_scope}
+use Rattle.error_libraries.specs.Libraries.{library_scope}
 use Rattle.error_types.proofs.EndingLaws.{by-name}
 use Rattle.error_types.proofs.hierarchy.type_named.Goals as goal
 

@@ -1,7 +1,7 @@
 use Rattle.std.proofs.Common.{refl, sym, ◌∙◌, subst}
 use Rattle.std.specs.Prelude.{IfSome}
 use Rattle.error_types.specs.inner.Rows.{IsGathered}
-use Rattle.error_types.specs.Walk.{library_scope}
+use Rattle.error_libraries.specs.Libraries.{library_scope}
 use Rattle.error_types.proofs.SettleLaws.{Sums, sums-end, sums-more, sums-none}
 use Rattle.error_types.proofs.settle.gather.Goals as goal
 use Rattle.error_types.proofs.settle.gather.Goals.{in-Name+in_ok-reached-in-Name+in-Some, in-Passed}

@@ -1,5 +1,5 @@
 use Rattle.std.proofs.Common.{◌≡◌}
-use Rattle.error_types.specs.Walk.{library_scope}
+use Rattle.error_libraries.specs.Libraries.{library_scope}
 use Rattle.error_types.proofs.SettleLaws.{Sums}
 use Rattle.error_types.proofs.settle.gather.Given as goal
 

@@ -2,10 +2,10 @@ use Rattle.std.proofs.Common.{ℕ, sym, ap, ◌∙◌, subst}
 use Rattle.std.specs.HashMap.{get}
 use Rattle.std.specs.Map.{lookup}
 use Rattle.package_index.specs.inner.Tables.{same_pair}
-use Rattle.error_types.specs.declared.id.ItemId.{ItemId}
+use Rattle.error_libraries.specs.declared.id.ItemId.{ItemId}
 use Rattle.error_types.specs.inner.Rows.{IsReached}
-use Rattle.error_types.proofs.Keys.{number_same}
-use Rattle.error_types.proofs.Remembering.{remembered-more}
+use Rattle.error_libraries.proofs.Keys.{number_same}
+use Rattle.error_libraries.proofs.Remembering.{remembered-more}
 use Rattle.error_types.proofs.settle.remember.Goals as goal
 
 abbrev id_of : ℕ × ℕ → ItemId

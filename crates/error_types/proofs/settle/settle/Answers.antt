@@ -1,9 +1,9 @@
 use Rattle.std.proofs.Common.{true, option_to_list, sym, ◌∙◌, subst}
 use Rattle.std.specs.Prelude.{IfSome, option_copied}
 use Rattle.std.proofs.lemmas.Option.{same_Some}
-use Rattle.error_types.specs.Libraries.{number_of}
+use Rattle.error_libraries.specs.Libraries.{library_scope, number_of}
 use Rattle.error_types.specs.inner.Rows.{IsSum}
-use Rattle.error_types.specs.Walk.{library_scope, needs_of, of_item}
+use Rattle.error_types.specs.Walk.{needs_of, of_item}
 use Rattle.error_types.proofs.settle.settle.Goals as goal
 
 pub settle_by-requires-clause-sum : goal.settle_by-requires-clause-sum

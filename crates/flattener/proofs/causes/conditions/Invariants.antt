@@ -1,5 +1,5 @@
 use Rattle.std.proofs.Common.{◌≡◌, map, take}
-use Rattle.flattener.specs.Formulas.{cause_formula}
+use Rattle.fact_formulas.specs.Formulas.{cause_formula}
 use Rattle.flattener.proofs.causes.conditions.Given as goal
 
 abbrev pub invariant-loop-cause : goal.invariant-loop-cause

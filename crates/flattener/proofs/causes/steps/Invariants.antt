@@ -1,5 +1,5 @@
 use Rattle.std.proofs.Common.{◌≡◌, map, take}
-use Rattle.flattener.specs.Formulas.{step_formula}
+use Rattle.fact_formulas.specs.Formulas.{step_formula}
 use Rattle.flattener.proofs.causes.steps.Given as goal
 
 abbrev pub invariant-loop-step : goal.invariant-loop-step

@@ -1,7 +1,7 @@
 use Rattle.std.proofs.Common.{ap, sym, ◌∙◌, map, List}
 use Rattle.error_conditions.specs.declared.cause.Cause.{Cause}
-use Rattle.flattener.specs.Flat.{places}
-use Rattle.flattener.specs.Formulas.{cause_formula}
+use Rattle.fact_formulas.specs.Flat.{places}
+use Rattle.fact_formulas.specs.Formulas.{cause_formula}
 use Rattle.flattener.specs.inner.Tables.{capped, places_of}
 use Rattle.flattener.proofs.Caps.{one-of}
 use Rattle.flattener.proofs.Places.{cause-all, cause-any, cause-atleast, cause-event, cause-state}

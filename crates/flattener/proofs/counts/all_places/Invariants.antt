@@ -1,6 +1,6 @@
 use Rattle.std.proofs.Common.{◌≡◌, map, take, sum}
-use Rattle.flattener.specs.Flat.{places}
-use Rattle.flattener.specs.Facts.{meaning_of}
+use Rattle.fact_formulas.specs.Flat.{places}
+use Rattle.fact_formulas.specs.Facts.{meaning_of}
 use Rattle.flattener.specs.inner.Tables.{capped}
 use Rattle.flattener.proofs.counts.all_places.Given as goal
 

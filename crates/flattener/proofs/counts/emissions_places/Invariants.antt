@@ -1,5 +1,5 @@
 use Rattle.std.proofs.Common.{◌≡◌, map, take}
-use Rattle.flattener.specs.Formulas.{emission_formulas}
+use Rattle.fact_formulas.specs.Formulas.{emission_formulas}
 use Rattle.flattener.specs.inner.Tables.{capped, places_of}
 use Rattle.flattener.proofs.counts.emissions_places.Given as goal
 

@@ -1,8 +1,8 @@
 use Rattle.std.proofs.Common.{ap, sym, ◌∙◌, List}
 use Rattle.error_models.specs.declared.model.ErrorModel.{ErrorModel}
 use Rattle.error_behavior.specs.declared.steps.Emission.{Emission}
-use Rattle.flattener.specs.Formulas.{emission_formulas, emissions_at}
-use Rattle.flattener.specs.Facts.{flow_or_link}
+use Rattle.fact_formulas.specs.Formulas.{emission_formulas, emissions_at}
+use Rattle.fact_formulas.specs.Facts.{flow_or_link}
 use Rattle.flattener.specs.inner.Tables.{capped, places_of}
 use Rattle.flattener.proofs.Places.{some-empty, some-full}
 use Rattle.flattener.proofs.counts.exit_places.Goals as goal

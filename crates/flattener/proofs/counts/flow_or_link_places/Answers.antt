@@ -1,7 +1,7 @@
 use Rattle.std.proofs.Common.{ap, sym, ◌∙◌, List}
 use Rattle.error_models.specs.declared.model.ErrorModel.{ErrorModel}
-use Rattle.flattener.specs.Formulas.{FlowAt, all_flow_formulas, flows_at}
-use Rattle.flattener.specs.Facts.{linked_formula}
+use Rattle.fact_formulas.specs.Formulas.{FlowAt, all_flow_formulas, flows_at}
+use Rattle.fact_formulas.specs.Facts.{linked_formula}
 use Rattle.model_facts.specs.Facts.{outward_of}
 use Rattle.flattener.specs.inner.Tables.{capped, places_of}
 use Rattle.flattener.proofs.Places.{some-empty, some-full}

@@ -3,8 +3,8 @@ use Rattle.error_flows.specs.declared.meaning.FlowMeaning.{FlowMeaning}
 use Rattle.model_facts.specs.Facts.{event_in, fact_in}
 use Rattle.model_facts.specs.declared.keys.EventKind.TheVariants.{Source}
 use Rattle.model_facts.specs.declared.keys.FactKind.TheVariants.{Enters}
-use Rattle.flattener.specs.Flat.{places}
-use Rattle.flattener.specs.Formulas.{flow_formula}
+use Rattle.fact_formulas.specs.Flat.{places}
+use Rattle.fact_formulas.specs.Formulas.{flow_formula}
 use Rattle.flattener.proofs.Caps.{one-of}
 use Rattle.flattener.proofs.Places.{event-place, fact-place}
 use Rattle.flattener.proofs.counts.flow_places.Goals as goal

@@ -1,5 +1,5 @@
 use Rattle.std.proofs.Common.{◌≡◌, map, take}
-use Rattle.flattener.specs.Formulas.{all_flow_formulas}
+use Rattle.fact_formulas.specs.Formulas.{all_flow_formulas}
 use Rattle.flattener.specs.inner.Tables.{capped, flow_seen, places_of}
 use Rattle.flattener.proofs.counts.flows_places.Given as goal
 

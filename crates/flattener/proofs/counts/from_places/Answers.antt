@@ -1,6 +1,6 @@
 use Rattle.std.proofs.Common.{ap, sym, ◌∙◌, false, flat_map, get_or, take}
 use Rattle.propagation_links.specs.declared.link.PointAt.{PointAt}
-use Rattle.flattener.specs.Facts.{perhaps_at}
+use Rattle.fact_formulas.specs.Facts.{perhaps_at}
 use Rattle.flattener.specs.inner.Tables.{capped, places_of}
 use Rattle.flattener.proofs.Places.{gives-more, places-append}
 use Rattle.flattener.proofs.counts.from_places.Goals as goal

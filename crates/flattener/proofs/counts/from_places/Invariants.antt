@@ -1,5 +1,5 @@
 use Rattle.std.proofs.Common.{◌≡◌, flat_map, take}
-use Rattle.flattener.specs.Facts.{perhaps_at}
+use Rattle.fact_formulas.specs.Facts.{perhaps_at}
 use Rattle.flattener.specs.inner.Tables.{capped, places_of}
 use Rattle.flattener.proofs.counts.from_places.Given as goal
 

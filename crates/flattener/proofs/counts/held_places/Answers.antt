@@ -1,7 +1,7 @@
 use Rattle.std.proofs.Common.{ap, sym, length, ◌∙◌}
 use Rattle.propagation_points.specs.declared.held.Held.{Held}
-use Rattle.flattener.specs.Flat.{places}
-use Rattle.flattener.specs.Formulas.{held_formula}
+use Rattle.fact_formulas.specs.Flat.{places}
+use Rattle.fact_formulas.specs.Formulas.{held_formula}
 use Rattle.flattener.specs.inner.Tables.{capped}
 use Rattle.flattener.proofs.Caps.{one-of}
 use Rattle.flattener.proofs.Places.{held-any, held-one}

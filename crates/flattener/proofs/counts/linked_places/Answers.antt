@@ -2,7 +2,7 @@ use Rattle.std.proofs.Common.{ap, sym, ◌∙◌}
 use Rattle.flattener.specs.inner.Tables.{capped}
 use Rattle.std.proofs.Common.{flat_map}
 use Rattle.flattener.proofs.Places.{places-Or}
-use Rattle.flattener.specs.Facts.{linked_from, perhaps_at}
+use Rattle.fact_formulas.specs.Facts.{linked_from, perhaps_at}
 use Rattle.flattener.proofs.counts.linked_places.Goals as goal
 
 pub returns : goal.returns

@@ -1,7 +1,7 @@
 use Rattle.std.proofs.Common.{ap, ◌∙◌}
 use Rattle.error_behavior.specs.declared.steps.Origin.{Origin}
-use Rattle.flattener.specs.Flat.{places}
-use Rattle.flattener.specs.Formulas.{origin_formula}
+use Rattle.fact_formulas.specs.Flat.{places}
+use Rattle.fact_formulas.specs.Formulas.{origin_formula}
 use Rattle.flattener.proofs.Caps.{one-of}
 use Rattle.flattener.proofs.Places.{places-True}
 use Rattle.flattener.proofs.counts.origin_places.Goals as goal

@@ -2,7 +2,7 @@ use Rattle.std.proofs.Common.{ap, sym, ◌∙◌, List, slice_index_or, false, m
 use Rattle.error_models.specs.declared.model.ErrorModel.{ErrorModel}
 use Rattle.error_conditions.specs.declared.cause.Cause.{Cause}
 use Rattle.error_behavior.specs.declared.steps.Step.{Step}
-use Rattle.flattener.specs.Formulas.{cause_formula, conditions_to, step_formula, steps_to}
+use Rattle.fact_formulas.specs.Formulas.{cause_formula, conditions_to, step_formula, steps_to}
 use Rattle.flattener.specs.inner.Tables.{capped, places_of}
 use Rattle.flattener.proofs.Caps.{one-of}
 use Rattle.flattener.proofs.Places.{state-composite, state-initial, state-stepped}

@@ -1,5 +1,5 @@
 use Rattle.std.proofs.Common.{◌≡◌, map, take}
-use Rattle.flattener.specs.Formulas.{step_formula}
+use Rattle.fact_formulas.specs.Formulas.{step_formula}
 use Rattle.flattener.specs.inner.Tables.{capped, places_of}
 use Rattle.flattener.proofs.counts.steps_places.Given as goal
 

@@ -1,5 +1,5 @@
 use Rattle.std.proofs.Common.{◌≡◌, map, take}
-use Rattle.flattener.specs.Formulas.{emission_formulas}
+use Rattle.fact_formulas.specs.Formulas.{emission_formulas}
 use Rattle.flattener.proofs.exits.emissions.Given as goal
 
 abbrev pub invariant-loop-emission : goal.invariant-loop-emission

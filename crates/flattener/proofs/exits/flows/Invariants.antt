@@ -1,5 +1,5 @@
 use Rattle.std.proofs.Common.{◌≡◌, map, take}
-use Rattle.flattener.specs.Formulas.{all_flow_formulas}
+use Rattle.fact_formulas.specs.Formulas.{all_flow_formulas}
 use Rattle.flattener.specs.inner.Tables.{flow_seen}
 use Rattle.flattener.proofs.exits.flows.Given as goal
 

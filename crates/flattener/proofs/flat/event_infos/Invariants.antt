@@ -1,5 +1,5 @@
 use Rattle.std.proofs.Common.{◌≡◌, map, take}
-use Rattle.flattener.specs.Flat.{event_info}
+use Rattle.fact_formulas.specs.Flat.{event_info}
 use Rattle.flattener.proofs.flat.event_infos.Given as goal
 
 abbrev pub invariant-loop-event : goal.invariant-loop-event

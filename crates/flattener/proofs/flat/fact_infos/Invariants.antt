@@ -1,5 +1,5 @@
 use Rattle.std.proofs.Common.{◌≡◌, map, take}
-use Rattle.flattener.specs.Flat.{fact_info}
+use Rattle.fact_formulas.specs.Flat.{fact_info}
 use Rattle.flattener.proofs.flat.fact_infos.Given as goal
 
 abbrev pub invariant-loop-fact : goal.invariant-loop-fact

@@ -1,6 +1,6 @@
 use Rattle.std.proofs.Common.{◌≡◌, ℕ, take, nat_eq}
 use Rattle.std.specs.HashMap.{get}
-use Rattle.flattener.specs.Formulas.{emissions_at}
+use Rattle.fact_formulas.specs.Formulas.{emissions_at}
 use Rattle.flattener.specs.inner.Tables.{values}
 use Rattle.flattener.proofs.kind.emissions_of.Given as goal
 

@@ -3,7 +3,7 @@ use Rattle.std.proofs.lemmas.List.{take_all}
 use Rattle.plain_values.specs.Numbered.{numbered_from}
 use Rattle.package_index.proofs.Loops.{numbered-more}
 use Rattle.error_flows.specs.declared.meaning.FlowMeaning.{FlowMeaning}
-use Rattle.flattener.specs.Formulas.{FlowAt, flow_at}
+use Rattle.fact_formulas.specs.Formulas.{FlowAt, flow_at}
 use Rattle.flattener.proofs.kind.flows_of.Goals as goal
 
 pub loop-number-preserved : goal.loop-number-preserved

@@ -1,7 +1,7 @@
 use Rattle.std.proofs.Common.{◌≡◌, ℕ, map, take, nat_eq}
 use Rattle.std.specs.HashMap.{get}
 use Rattle.plain_values.specs.Numbered.{numbered_from}
-use Rattle.flattener.specs.Formulas.{flow_at}
+use Rattle.fact_formulas.specs.Formulas.{flow_at}
 use Rattle.flattener.specs.inner.Tables.{flow_seen, row_at}
 use Rattle.flattener.proofs.kind.flows_of.Given as goal
 

@@ -1,6 +1,6 @@
 use Rattle.std.proofs.Common.{◌≡◌, ℕ, flat_map, take, nat_eq}
 use Rattle.std.specs.HashMap.{get}
-use Rattle.flattener.specs.Formulas.{branches_to}
+use Rattle.fact_formulas.specs.Formulas.{branches_to}
 use Rattle.flattener.specs.inner.Tables.{values}
 use Rattle.flattener.proofs.kind.steps_of.Given as goal
 

@@ -2,7 +2,7 @@ use Rattle.std.proofs.Common.{ℕ, Bool, ◌||◌, [], ◌∷◌, ◌++◌, cond
 use Rattle.std.proofs.lemmas.List.{take_all, take_more}
 use Rattle.std.proofs.lemmas.List.Elements.{filter-append}
 use Rattle.plain_values.proofs.Rising.{rises-as}
-use Rattle.flattener.specs.Flat.{is_of_root}
+use Rattle.fact_formulas.specs.Flat.{is_of_root}
 use Rattle.fta_run.proofs.AskedEffects.{asked-all, rises-filter}
 use Rattle.fta_run.proofs.fmea.asked_effects.Goals as goal
 

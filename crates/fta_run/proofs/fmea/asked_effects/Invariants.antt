@@ -1,5 +1,5 @@
 use Rattle.std.proofs.Common.{◌≡◌, ◌||◌, filter, take}
-use Rattle.flattener.specs.Flat.{is_of_root}
+use Rattle.fact_formulas.specs.Flat.{is_of_root}
 use Rattle.fta_run.proofs.fmea.asked_effects.Given as goal
 
 abbrev pub invariant-loop-effect : goal.invariant-loop-effect

@@ -1,7 +1,7 @@
 use Rattle.std.proofs.Common.{◌≡◌, ◌<◌, List, ℕ, [], length, false, not, ◌∷◌, sym, ◌∙◌, ap, refl, arith, rules}
 use Rattle.std.proofs.lemmas.Bool.{false≢true}
 use Rattle.fta_words.specs.Words.{option_words}
-use Rattle.fta_words.specs.inner.Reading.{flags_of, valued_of}
+use Rattle.fta_words.specs.Table.{flags_of, valued_of}
 use Rattle.fta_words.proofs.Spelled.{kinds_apart, none_given, options_fewer, options_more}
 use Rattle.fta_words.proofs.options.+are_options.Goals as goal
 
@@ -25,18 +25,18 @@ returns-in_default t c =
           absurd (omega (arith, ap length empty)),
     )
 
-pub returns-then-not-is_said : goal.returns-then-not-is_said
-returns-then-not-is_said t c =
-    let none : c.is_said.result ≡ false = search rules in (
-      λ more. options_more (flags_of c.args.kind) (valued_of c.args.kind) _ _ _ c.in-Some.ensures c.is_said.result c.is_said.ensures none (c.are_options.ensures.0 more),
-      λ all. c.are_options.ensures.1 (options_fewer (flags_of c.args.kind) (valued_of c.args.kind) (kinds_apart c.args.kind) _ _ _ c.in-Some.ensures c.is_said.result c.is_said.ensures all).1,
+pub returns-then-not-is_given : goal.returns-then-not-is_given
+returns-then-not-is_given t c =
+    let none : c.is_given.result ≡ false = search rules in (
+      λ more. options_more (flags_of c.args.kind) (valued_of c.args.kind) _ _ _ c.in-Some.ensures c.is_given.result c.is_given.ensures none (c.are_options.ensures.0 more),
+      λ all. c.are_options.ensures.1 (options_fewer (flags_of c.args.kind) (valued_of c.args.kind) (kinds_apart c.args.kind) _ _ _ c.in-Some.ensures c.is_given.result c.is_given.ensures all).1,
     )
 
-pub returns-else-not-is_said : goal.returns-else-not-is_said
-returns-else-not-is_said t c = (
-  λ yes. absurd (false≢true (sym (ap not c.if-not-is_said.false) ∙ yes)),
+pub returns-else-not-is_given : goal.returns-else-not-is_given
+returns-else-not-is_given t c = (
+  λ yes. absurd (false≢true (sym (ap not c.if-not-is_given.false) ∙ yes)),
   λ all.
-      let fewer = options_fewer (flags_of c.args.kind) (valued_of c.args.kind) (kinds_apart c.args.kind) _ _ _ c.in-Some.ensures c.is_said.result c.is_said.ensures all in
+      let fewer = options_fewer (flags_of c.args.kind) (valued_of c.args.kind) (kinds_apart c.args.kind) _ _ _ c.in-Some.ensures c.is_given.result c.is_given.ensures all in
       let none = fewer.0 in
       search rules,
 )

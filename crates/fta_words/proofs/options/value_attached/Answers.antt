@@ -1,7 +1,7 @@
 use Rattle.std.proofs.Common.{sym, ◌∙◌, refl}
 use Rattle.std.proofs.lemmas.Bool.{false≢true}
 use Rattle.fta_words.specs.Words.{Attached}
-use Rattle.fta_words.specs.inner.Reading.{flags_of, valued_of}
+use Rattle.fta_words.specs.Table.{flags_of, valued_of}
 use Rattle.fta_words.proofs.Spelled.{kinds_apart, none_attached}
 use Rattle.fta_words.proofs.options.value_attached.Goals.{else-has_valued-via-then-has_valued+else-is_plain, else-has_valued-via-else-has_valued}
 use Rattle.fta_words.proofs.options.value_attached.Goals as goal

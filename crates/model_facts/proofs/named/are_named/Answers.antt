@@ -1,9 +1,9 @@
 use Rattle.std.proofs.Common.{ℕ, ◌≡◌, Result, Ok, Err, Some, OnOk, ap, ◌∙◌, subst}
 use Rattle.std.specs.List.{AllByRecursion}
 use Rattle.aadl_syntax.specs.inner.Token.{IsIdentifier}
-use Rattle.error_types.specs.Libraries.{Table}
-use Rattle.error_types.specs.Printed.{TypeName, name_of}
-use Rattle.error_types.specs.inner.Printed.{AreIdentifiers}
+use Rattle.error_libraries.specs.Libraries.{Table}
+use Rattle.error_libraries.specs.Printed.{TypeName, name_of}
+use Rattle.error_libraries.specs.inner.Printed.{AreIdentifiers}
 use Rattle.instantiator.specs.Whole.{Instance}
 use Rattle.model_facts.specs.inner.Laws.{AreNamed, IsNamed}
 use Rattle.model_facts.proofs.named.are_named.Goals as goal

@@ -1,7 +1,7 @@
 use Rattle.std.proofs.Common.{◌≡◌, ◌≤◌, inl, inr, length, ap, sym, ◌∙◌, option_and_then, arith}
 use Rattle.std.proofs.lemmas.Bool.{cases_lt}
 use Rattle.std.proofs.lemmas.Option.{none-some, slice_get_past}
-use Rattle.error_types.specs.Printed.{item_name, name_of}
+use Rattle.error_libraries.specs.Printed.{item_name, name_of}
 use Rattle.model_facts.proofs.named.types_form.Goals as goal
 
 pub loop-number-preserved : goal.loop-number-preserved

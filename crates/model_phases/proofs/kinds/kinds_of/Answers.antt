@@ -2,7 +2,7 @@ use Rattle.std.proofs.Common.{subst}
 use Rattle.phases.specs.inner.Meets.{IsMemory, StopsBut}
 use Rattle.phases.specs.Phases.{Passes}
 use Rattle.phases.proofs.Steps.{◌beyond◌, ◌passes◌}
-use Rattle.error_types.specs.Libraries.{Table}
+use Rattle.error_libraries.specs.Libraries.{Table}
 use Rattle.model_phases.specs.Phases.{content_tests, kind_tests}
 use Rattle.model_phases.proofs.Tested.{tests_stop}
 use Rattle.model_phases.proofs.kinds.kinds_of.Goals as goal

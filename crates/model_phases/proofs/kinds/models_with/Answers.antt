@@ -2,7 +2,7 @@ use Rattle.std.proofs.Common.{subst}
 use Rattle.phases.specs.inner.Stopped.{status_of}
 use Rattle.phases.proofs.Steps.{◌beyond◌}
 use Rattle.plain_values.specs.inner.Stops.{StopsAt}
-use Rattle.error_types.specs.Libraries.{Table}
+use Rattle.error_libraries.specs.Libraries.{Table}
 use Rattle.error_models.specs.Refused.{all_set_refusals, models_refusal}
 use Rattle.model_phases.specs.Phases.{content_tests}
 use Rattle.model_phases.proofs.Tested.{empty_passes, one_stops, tests_stop}

@@ -3,7 +3,7 @@ use Rattle.std.specs.Option.{option_map_or}
 use Rattle.std.proofs.lemmas.List.{take_all}
 use Rattle.propagation_links.specs.declared.link.PointAt.{PointAt}
 use Rattle.model_facts.specs.Facts.{outward_of}
-use Rattle.flattener.specs.Formulas.{end_of}
+use Rattle.fact_formulas.specs.Formulas.{end_of}
 use Rattle.model_review.specs.Findings.{is_hidden_flow}
 use Rattle.model_review.specs.Seen.{number_at, types_in}
 use Rattle.model_review.proofs.flows.hidden_types.Goals as goal

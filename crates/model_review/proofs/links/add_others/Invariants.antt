@@ -1,5 +1,5 @@
 use Rattle.std.proofs.Common.{◌≡◌, ◌&&◌, filter, not, take}
-use Rattle.error_types.specs.Search.{is_number_in}
+use Rattle.error_libraries.specs.Search.{is_number_in}
 use Rattle.model_review.specs.Seen.{may_come, number_at}
 use Rattle.model_review.proofs.links.add_others.Given as goal
 

@@ -3,8 +3,8 @@ use Rattle.std.specs.Prelude.{IfOk, Result, Ok, Err}
 use Rattle.plain_values.specs.Rising.{RisesWithin}
 use Rattle.model_facts.specs.Assembly.{Assembly, universe_of}
 use Rattle.model_facts.specs.Effects.{effects_of}
-use Rattle.flattener.specs.Flat.{system_of}
-use Rattle.flattener.specs.Numbered.{numbered_of}
+use Rattle.fact_formulas.specs.Flat.{system_of}
+use Rattle.fact_formulas.specs.Numbered.{numbered_of}
 use Rattle.system_review.specs.inner.Alone.{HoldTheSame}
 use Rattle.model_review.specs.Review.{IsReview, Reviews}
 use Rattle.model_review.specs.Seen.{Seen, seen_of}
@@ -20,11 +20,8 @@ review_seen-requires c = subst (λ (seen : Seen). RisesWithin 0 (length seen.sys
 pub returns-clause-exact : goal.returns-clause-exact
 returns-clause-exact c =
     let assembly = c.args.assembly.now in
-    let universe = c.items.ensures.items ∙ c.in_ok-universe.ensures in
     let same : c.new-view.result ≡ seen_of assembly =
-    c.new-view.ensures
-    ∙ (λ i. record { numbered = record { assembly = assembly; universe = (c.items-2.ensures.items ∙ sym c.items.ensures.items) i; facts = c.in_ok-facts.facts; events = c.in_ok-events.events }; system = c.args.system.now; effects = c.args.effects.now })
-    ∙ all-seen assembly c.items.result.now c.in_ok-facts.facts c.in_ok-events.events c.args.system.now c.args.effects.now universe c.in_ok-facts.ensures c.in_ok-events.ensures c.requires.system c.requires.effects in
+    c.new-view.ensures ∙ all-seen assembly c.args.universe.now c.args.facts.now c.args.events.now c.args.system.now c.args.effects.now c.requires.universe c.requires.facts c.requires.events c.requires.system c.requires.effects in
     subst (λ (seen : Seen). IfOk c.review_seen.result (Reviews seen)) same c.review_seen.ensures
 
 -- what a text that is a review says of what is lost

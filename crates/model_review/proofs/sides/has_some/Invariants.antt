@@ -1,6 +1,6 @@
 use Rattle.std.proofs.Common.{◌≡◌, false, take}
 use Rattle.std.specs.List.{list_any}
-use Rattle.error_types.specs.Search.{is_number_in}
+use Rattle.error_libraries.specs.Search.{is_number_in}
 use Rattle.model_review.proofs.sides.has_some.Given as goal
 
 abbrev pub invariant-loop-number : goal.invariant-loop-number

@@ -2,7 +2,7 @@ use Rattle.std.proofs.Common.{ℕ, ◌<◌, List, filter, length, map, ap, ◌++
 use Rattle.std.specs.Prelude.{All}
 use Rattle.fault_system.proofs.NumberSets.{RisesWithin-each}
 use Rattle.system_review.specs.declared.looping.Loop.{Loop}
-use Rattle.flattener.specs.Flat.{is_of_root}
+use Rattle.fact_formulas.specs.Flat.{is_of_root}
 use Rattle.model_review.specs.Seen.{is_error_event}
 use Rattle.model_review.specs.Told.{effect_findings}
 use Rattle.model_review.specs.declared.finding.Finding.TheVariants.{InLoop, UnusedEvent}

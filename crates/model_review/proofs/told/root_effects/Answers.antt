@@ -1,7 +1,7 @@
 use Rattle.std.proofs.Common.{length, filter, ap, ◌∙◌}
 use Rattle.std.proofs.lemmas.List.{take_all}
 use Rattle.plain_values.proofs.Rising.{rises-as}
-use Rattle.flattener.specs.Flat.{is_of_root}
+use Rattle.fact_formulas.specs.Flat.{is_of_root}
 use Rattle.model_review.proofs.Rising.{rises-filter}
 use Rattle.model_review.proofs.told.root_effects.Goals as goal
 

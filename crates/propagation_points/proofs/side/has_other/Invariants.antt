@@ -1,6 +1,6 @@
 use Rattle.std.proofs.Common.{◌≡◌, false, not, take}
 use Rattle.std.specs.List.{list_any}
-use Rattle.error_types.specs.Search.{is_number_in}
+use Rattle.error_libraries.specs.Search.{is_number_in}
 use Rattle.propagation_points.proofs.side.has_other.Given as goal
 
 abbrev pub invariant-loop-number : goal.invariant-loop-number

@@ -1,5 +1,5 @@
 use Rattle.std.proofs.Common.{◌≡◌, false, take}
-use Rattle.error_types.specs.Search.{is_number_in}
+use Rattle.error_libraries.specs.Search.{is_number_in}
 use Rattle.propagation_points.proofs.side.is_number_in.Given as goal
 
 abbrev pub invariant-loop-other : goal.invariant-loop-other

@@ -1,6 +1,6 @@
 use Rattle.std.proofs.Common.{◌≡◌, Some, [], cond, flat_map, ap, ◌∙◌}
 use Rattle.plain_values.specs.Order.{least, nearer}
-use Rattle.error_types.specs.Libraries.{unknown_libraries}
+use Rattle.error_libraries.specs.Libraries.{unknown_libraries}
 use Rattle.error_types.specs.Types.{text_scope}
 use Rattle.plain_values.proofs.Noted.{noted-two}
 use Rattle.used_sets.specs.Used.{is_some_set, set_fault}

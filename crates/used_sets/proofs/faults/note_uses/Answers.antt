@@ -1,6 +1,6 @@
 use Rattle.std.proofs.Common.{◌≡◌, [], cond, false, slice_index_or, ap, ◌∙◌}
 use Rattle.plain_values.specs.Order.{least, nearer}
-use Rattle.error_types.specs.Libraries.{unknown_libraries}
+use Rattle.error_libraries.specs.Libraries.{unknown_libraries}
 use Rattle.used_sets.specs.Used.{uses_fault}
 use Rattle.used_sets.proofs.MarkLaws.{numbered-noting}
 use Rattle.used_sets.proofs.faults.note_uses.Goals as goal

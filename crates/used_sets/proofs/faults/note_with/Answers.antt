@@ -1,7 +1,7 @@
 use Rattle.std.proofs.Common.{ℕ, ◌+◌, ◌≡◌, ◌<◌, ◌||◌, [], cond, false, length, slice_index_or, sym, ap, ◌∙◌, subst, arith}
 use Rattle.plain_values.specs.Order.{least, nearer}
 use Rattle.component_extension.specs.Items.{Clause}
-use Rattle.error_types.specs.Libraries.{unknown_libraries}
+use Rattle.error_libraries.specs.Libraries.{unknown_libraries}
 use Rattle.plain_values.specs.Numbered.{numbered_from}
 use Rattle.plain_values.proofs.Noted.{noted-two}
 use Rattle.used_sets.specs.Used.{effective_refusals, is_used, uses_fault}

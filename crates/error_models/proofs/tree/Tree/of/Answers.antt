@@ -1,6 +1,6 @@
 use Rattle.std.proofs.Common.{map, ap, ◌∙◌}
-use Rattle.error_types.specs.Libraries.{table_of}
-use Rattle.error_behavior.specs.States.{states_of}
+use Rattle.error_libraries.specs.Libraries.{table_of}
+use Rattle.error_machines.specs.States.{states_of}
 use Rattle.error_models.specs.Below.{kind_machine}
 use Rattle.error_models.proofs.KindLaws.{maps}
 use Rattle.error_models.proofs.tree.Tree.of.Goals as goal

@@ -1,6 +1,6 @@
 use Rattle.std.proofs.Common.{◌<◌, ◌↔◌, IsSome, length, option_and_then, sym, ap, ◌∙◌, subst}
-use Rattle.error_types.specs.Printed.{item_name, name_of}
-use Rattle.error_types.proofs.PrintedLaws.{known-by-number}
+use Rattle.error_libraries.specs.Printed.{item_name, name_of}
+use Rattle.error_libraries.proofs.PrintedLaws.{known-by-number}
 use Rattle.error_types.proofs.table.TypeTable.name.Goals as goal
 
 pub returns-in-Some-clause-known : goal.returns-in-Some-clause-known

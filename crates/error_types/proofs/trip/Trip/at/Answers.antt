@@ -4,9 +4,9 @@ use Rattle.std.specs.Map.{lookup}
 use Rattle.std.specs.Prelude.{reverse}
 use Rattle.std.proofs.lemmas.Grind.{common_steps}
 use Rattle.package_index.specs.inner.Tables.{same_pair}
-use Rattle.error_types.specs.declared.id.ItemId.{ItemId}
-use Rattle.error_types.specs.inner.Tables.{has_number}
-use Rattle.error_types.proofs.MarkLaws.{marks-first}
+use Rattle.error_libraries.specs.declared.id.ItemId.{ItemId}
+use Rattle.error_libraries.specs.inner.Tables.{has_number}
+use Rattle.error_libraries.proofs.MarkLaws.{marks-first}
 use Rattle.error_types.proofs.trip.Trip.at.Goals as goal
 
 pub invariant_of-result : goal.invariant_of-result

@@ -5,10 +5,10 @@ use Rattle.std.specs.Prelude.{reverse}
 use Rattle.std.proofs.lemmas.Grind.{common_steps}
 use Rattle.std.proofs.lemmas.List.{reverse-append}
 use Rattle.package_index.specs.inner.Tables.{same_pair}
-use Rattle.error_types.specs.declared.id.ItemId.{ItemId}
-use Rattle.error_types.specs.inner.Tables.{has_number}
-use Rattle.error_types.proofs.Keys.{number_same}
-use Rattle.error_types.proofs.MarkLaws.{marks-entered}
+use Rattle.error_libraries.specs.declared.id.ItemId.{ItemId}
+use Rattle.error_libraries.specs.inner.Tables.{has_number}
+use Rattle.error_libraries.proofs.Keys.{number_same}
+use Rattle.error_libraries.proofs.MarkLaws.{marks-entered}
 use Rattle.error_types.proofs.trip.Trip.enter.Goals as goal
 
 pub invariant_of-result : goal.invariant_of-result

@@ -3,9 +3,9 @@ use Rattle.std.specs.HashMap.{get}
 use Rattle.std.specs.Prelude.{reverse}
 use Rattle.std.proofs.lemmas.List.{reverse-append}
 use Rattle.package_index.specs.inner.Tables.{same_pair}
-use Rattle.error_types.specs.declared.id.ItemId.{ItemId}
-use Rattle.error_types.specs.inner.Tables.{has_number}
-use Rattle.error_types.proofs.MarkLaws.{fewer, marks-left}
+use Rattle.error_libraries.specs.declared.id.ItemId.{ItemId}
+use Rattle.error_libraries.specs.inner.Tables.{has_number}
+use Rattle.error_libraries.proofs.MarkLaws.{fewer, marks-left}
 use Rattle.error_types.proofs.trip.Trip.leave.Goals as goal
 
 pub invariant_of-result : goal.invariant_of-result

@@ -1,7 +1,7 @@
 use Rattle.std.proofs.Common.{ap, sym, ◌∙◌, ◌++◌, List, false, get_or}
 use Rattle.propagation_links.specs.declared.link.PointAt.{PointAt}
 use Rattle.fault_system.specs.declared.formula.Formula.{Formula}
-use Rattle.flattener.specs.Facts.{perhaps_at}
+use Rattle.fact_formulas.specs.Facts.{perhaps_at}
 use Rattle.flattener.proofs.Places.{gives-more}
 use Rattle.flattener.proofs.numbers.Numbers.linked.Goals as goal
 

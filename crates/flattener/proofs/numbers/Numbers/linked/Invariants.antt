@@ -1,5 +1,5 @@
 use Rattle.std.proofs.Common.{◌≡◌, flat_map, take}
-use Rattle.flattener.specs.Facts.{perhaps_at}
+use Rattle.fact_formulas.specs.Facts.{perhaps_at}
 use Rattle.flattener.proofs.numbers.Numbers.linked.Given as goal
 
 abbrev pub invariant-loop-from : goal.invariant-loop-from

@@ -1,6 +1,6 @@
 use Rattle.std.proofs.Common.{ap, ◌∙◌}
-use Rattle.flattener.specs.Numbered.{Numbered}
-use Rattle.flattener.specs.Facts.{linked_from}
+use Rattle.fact_formulas.specs.Numbered.{Numbered}
+use Rattle.fact_formulas.specs.Facts.{linked_from}
 use Rattle.flattener.proofs.numbers.Numbers.linked_from.Goals as goal
 
 pub returns : goal.returns

@@ -1,6 +1,6 @@
 use Rattle.std.proofs.Common.{◌≡◌, map, filter, take}
 use Rattle.propagation_points.specs.Uses.{covers}
-use Rattle.flattener.specs.Numbered.{entering}
+use Rattle.fact_formulas.specs.Numbered.{entering}
 use Rattle.flattener.proofs.site.Site.some_entering.Given as goal
 
 abbrev pub invariant-loop-number : goal.invariant-loop-number

@@ -1,7 +1,7 @@
 use Rattle.std.proofs.Common.{get_or}
 use Rattle.std.proofs.lemmas.List.{get_or_default}
 use Rattle.error_conditions.proofs.ConditionLaws.{map-more}
-use Rattle.flattener.specs.Formulas.{in_variant}
+use Rattle.fact_formulas.specs.Formulas.{in_variant}
 use Rattle.flattener.proofs.site.Site.variants.Goals as goal
 
 pub loop-state-preserved : goal.loop-state-preserved

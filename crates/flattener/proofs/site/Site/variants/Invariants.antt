@@ -1,5 +1,5 @@
 use Rattle.std.proofs.Common.{◌≡◌, map, take}
-use Rattle.flattener.specs.Formulas.{in_variant}
+use Rattle.fact_formulas.specs.Formulas.{in_variant}
 use Rattle.flattener.proofs.site.Site.variants.Given as goal
 
 abbrev pub invariant-loop-state : goal.invariant-loop-state

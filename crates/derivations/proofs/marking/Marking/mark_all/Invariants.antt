@@ -1,7 +1,0 @@
-use Rattle.std.proofs.Common.{take}
-use Rattle.fault_system.specs.Truth.{set_of}
-use Rattle.derivations.specs.inner.Reaching.{Adds}
-use Rattle.derivations.proofs.marking.Marking.mark_all.Given as goal
-
-abbrev pub invariant-loop-number : goal.invariant-loop-number
-invariant-loop-number l = Adds (set_of (take l.number-index l.numbers)) l.fn.self l.self

@@ -1,6 +1,0 @@
-use Rattle.std.proofs.Common.{◌≡◌, ◌<◌, ◌^◌, take}
-use Rattle.emv2_parser.specs.Words.{decimal}
-use Rattle.emv2_parser.proofs.words.decimal.Given as goal
-
-abbrev pub invariant-loop-digit : goal.invariant-loop-digit
-invariant-loop-digit l = record { value : l.number ≡ decimal (take l.digit-index l.digits); below : l.number < 10 ^ l.digit-index }

@@ -1,0 +1,4 @@
+pub mod Libraries
+pub mod Search
+pub mod Printed
+pub mod inner

@@ -1,6 +1,0 @@
-use Rattle.std.proofs.Common.{◌≡◌, take}
-use Rattle.error_types.specs.Libraries.{extended_by}
-use Rattle.error_types.proofs.library.extended_by.Given as goal
-
-abbrev pub invariant-loop-block : goal.invariant-loop-block
-invariant-loop-block l = l.libraries ≡ extended_by l.index l.fn.home (take l.block-index l.blocks)

@@ -1,6 +1,0 @@
-use Rattle.std.proofs.Common.{◌≡◌, take}
-use Rattle.error_types.specs.Libraries.{items_of}
-use Rattle.error_types.proofs.library.items_of.Given as goal
-
-abbrev pub invariant-loop-block : goal.invariant-loop-block
-invariant-loop-block l = l.items ≡ items_of (take l.block-index l.blocks)

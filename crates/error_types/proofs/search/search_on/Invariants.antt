@@ -1,7 +1,0 @@
-use Rattle.std.proofs.Common.{◌≡◌}
-use Rattle.error_types.specs.inner.Course.{left}
-use Rattle.error_types.specs.Search.{search}
-use Rattle.error_types.proofs.search.search_on.Given as goal
-
-abbrev pub invariant-loop : goal.invariant-loop
-invariant-loop l = left l.libraries l.name l.course ≡ search l.libraries l.name l.fn.number

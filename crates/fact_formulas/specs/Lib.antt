@@ -1,0 +1,4 @@
+pub mod Numbered
+pub mod Formulas
+pub mod Facts
+pub mod Flat

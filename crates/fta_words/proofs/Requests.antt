@@ -1,0 +1,259 @@
+-- Requests: the reading of their words, and that words are one request at most.
+use Rattle.std.proofs.Common.{◌≡◌, ℕ, Bool, true, false, if◌then◌else◌, List, [], ◌∷◌, ◌++◌, length, drop, take, Option, Some, None, codes, refl, sym, ap, subst, arith, ◌∙◌}
+use Rattle.std.specs.Prelude.{option_map, option_to_list}
+use Rattle.std.specs.List.{AllByRecursion}
+use Rattle.std.specs.Option.{option_map_or}
+use Rattle.plain_values.specs.Name.{folded}
+use Rattle.plain_values.specs.declared.name.Root.{Root}
+use Rattle.fta_words.specs.declared.command.Options.{Options}
+use Rattle.fta_words.specs.declared.command.Paging.{Paging}
+use Rattle.fta_words.specs.declared.command.Request.{Request as RequestInCode}
+use Rattle.fta_words.specs.declared.kind.Kind.{Kind}
+use Rattle.fta_words.specs.declared.kind.Shape.{Shape}
+use Rattle.fta_words.specs.declared.kind.Shape.TheVariants as shape
+use Rattle.fta_words.specs.Table.{flags_of, name_of, required_of, shape_of, valued_of}
+use Rattle.fta_words.specs.Words.{Alone, Apart, AreOptions, Attached, Given, IsAsked, IsFolded, IsNumberText, IsPlainWord, IsRequest, IsRoot, NamesModel, Request, Say, Says, Spelling, before_options, file_words, files_in, is_given, is_option, option_words, reports_for, spelled, value_of}
+use Rattle.fta_words.specs.inner.Reading.{Answers, IsRead, ReadsAs}
+use Rattle.fta_words.specs.inner.Shown.{request_shown}
+use Rattle.fta_words.proofs.AllKinds.{name_is_plain}
+use Rattle.fta_words.proofs.EachKind.{named_again, same_kind}
+use Rattle.fta_words.proofs.Places.{one_chosen}
+use Rattle.fta_words.proofs.PlainFront.{no_end, no_option}
+use Rattle.fta_words.proofs.Roots.{one_root}
+use Rattle.fta_words.proofs.Spelled.{kinds_apart, one_given}
+
+-- ---- plain words, and then options
+
+-- plain words before an option are those before the first option
+pub front_of : (plain options : List (List ℕ)) → AllByRecursion IsPlainWord plain → before_options options ≡ [] → before_options (plain ++ options) ≡ plain
+front_of [] options all none = none
+front_of (word ∷ plain) options all none = no_end word (before_options (plain ++ options)) (is_option word) (no_option word all.0) ∙ ap (λ l. word ∷ l) (front_of plain options all.1 none)
+
+behind : (plain options : List (List ℕ)) → drop (length plain) (plain ++ options) ≡ options
+behind [] options = refl
+behind (word ∷ plain) options = behind plain options
+
+first_is_option : (name : List ℕ) (spelling : Spelling) (rest : List (List ℕ)) → before_options (spelled name spelling ++ rest) ≡ []
+first_is_option name Alone rest = refl
+first_is_option name (Attached value) rest = refl
+first_is_option name (Apart value) rest = refl
+
+begin_with_option : (given : List Given) → before_options (option_words given) ≡ []
+begin_with_option [] = refl
+begin_with_option (option ∷ given) = first_is_option option.name option.spelling (option_words given)
+
+-- the words go on behind those before the first option
+pub whole_words : (words : List (List ℕ)) → words ≡ before_options words ++ drop (length (before_options words)) words
+whole_words [] = refl
+whole_words (word ∷ words) = go (whole_words words) (is_option word)
+  where
+    go : words ≡ before_options words ++ drop (length (before_options words)) words → (t : Bool) → word ∷ words ≡ (if t then [] else word ∷ before_options words) ++ drop (length (if t then [] else word ∷ before_options words)) (word ∷ words)
+    go rest true = refl
+    go rest false = ap (λ l. word ∷ l) rest
+
+-- the words before the first option are the name and the plain words
+pub front_is : (reports words : List (List ℕ)) (request : Request) → (is : IsRequest reports words request) → before_options words ≡ name_of request.kind ∷ is.plain
+front_is reports words request is =
+    ap before_options is.words_are ∙ front_of (name_of request.kind ∷ is.plain) (option_words is.given) (name_is_plain request.kind, is.plain_words) (begin_with_option is.given)
+
+-- and the words behind them are the options
+back_is : (reports words : List (List ℕ)) (request : Request) → (is : IsRequest reports words request) → drop (length (before_options words)) words ≡ option_words is.given
+back_is reports words request is =
+    ap (λ l. drop (length l) words) (front_is reports words request is) ∙ ap (drop (length (name_of request.kind ∷ is.plain))) is.words_are
+    ∙ behind (name_of request.kind ∷ is.plain) (option_words is.given)
+
+-- ---- requests as they are read
+
+pub to_read : (reports words : List (List ℕ)) (request : Request) → IsRequest reports words request → (k : Kind) (others : List (List ℕ)) → before_options words ≡ name_of k ∷ others
+    → IsRead reports k others (drop (length (before_options words)) words) request
+to_read reports words request is k others front =
+    let whole : name_of request.kind ∷ is.plain ≡ name_of k ∷ others = sym (front_is reports words request is) ∙ front in
+    let kinds : request.kind ≡ k = same_kind request.kind k (cc (whole)) in
+    let plain : is.plain ≡ others = cc (whole) in
+    record {
+      kind_is = kinds;
+      given = is.given;
+      behind_are = back_is reports words request is;
+      options = subst (λ j. AreOptions (flags_of j) (valued_of j) is.given) kinds is.options;
+      required = subst (λ j. AllByRecursion (λ name. is_given name is.given ≡ true) (required_of j)) kinds is.required;
+      asked =
+          subst (λ j. IsAsked (shape_of j) others request.root request.target request.number request.of request.files) kinds
+          (subst (λ p. IsAsked (shape_of request.kind) p request.root request.target request.number request.of request.files) plain is.asked);
+      said = subst (λ j. Say j reports is.given request.options) kinds is.said;
+    }
+
+pub from_read : (reports words : List (List ℕ)) (k : Kind) (others : List (List ℕ)) → AllByRecursion IsPlainWord (before_options words) → before_options words ≡ name_of k ∷ others
+    → (request : Request) → IsRead reports k others (drop (length (before_options words)) words) request → IsRequest reports words request
+from_read reports words k others all front request read =
+    let kinds = sym read.kind_is in
+    let plain = subst (AllByRecursion IsPlainWord) front all in
+    record {
+      plain = others;
+      given = read.given;
+      words_are =
+          whole_words words ∙ ap (λ l. l ++ drop (length (before_options words)) words) front ∙ ap (λ l. (name_of k ∷ others) ++ l) read.behind_are
+          ∙ ap (λ j. name_of j ∷ (others ++ option_words read.given)) kinds;
+      plain_words = plain.1;
+      options = subst (λ j. AreOptions (flags_of j) (valued_of j) read.given) kinds read.options;
+      required = subst (λ j. AllByRecursion (λ name. is_given name read.given ≡ true) (required_of j)) kinds read.required;
+      asked = subst (λ j. IsAsked (shape_of j) others request.root request.target request.number request.of request.files) kinds read.asked;
+      said = subst (λ j. Say j reports read.given request.options) kinds read.said;
+    }
+
+-- the answer of the plain words and those behind them is that of the words
+pub answers_from : (reports words : List (List ℕ)) (k : Kind) (others : List (List ℕ)) → AllByRecursion IsPlainWord (before_options words) → before_options words ≡ name_of k ∷ others
+    → (answer : Option RequestInCode) → ReadsAs reports k others (drop (length (before_options words)) words) answer → Answers reports words answer
+answers_from reports words k others all front None none = λ request is. none request (to_read reports words request is k others front)
+answers_from reports words k others all front (Some request) read = from_read reports words k others all front (request_shown request) read
+
+-- ---- one request
+
+one_number : (text : List ℕ) (a b : ℕ) → IsNumberText text a → IsNumberText text b → a ≡ b
+one_number text a b x y = x.number_is ∙ sym y.number_is
+
+one_fold : (text a b : List ℕ) → IsFolded text a → IsFolded text b → a ≡ b
+one_fold text a b x y = x ∙ sym y
+
+one_said : {A : Type 0} (Is : List ℕ → A → Type 0) → ((text : List ℕ) (a b : A) → Is text a → Is text b → a ≡ b) → (said : Option (List ℕ)) (a b : Option A) → Says Is said a → Says Is said b → a ≡ b
+one_said Is one None None None x y = refl
+one_said Is one None None (Some b) x y = absurd y
+one_said Is one None (Some a) b x y = absurd x
+one_said Is one (Some text) None b x y = absurd x
+one_said Is one (Some text) (Some a) None x y = absurd y
+one_said Is one (Some text) (Some a) (Some b) x y = ap (λ v. Some v) (one text a b x y)
+
+-- equal lists of one file each and a word name one file and one word
+same_file : (files files₂ : List (List ℕ)) (word word₂ : List ℕ) → length files ≡ 1 → length files₂ ≡ 1 → files ++ word ∷ [] ≡ files₂ ++ word₂ ∷ [] → (files ≡ files₂) × (word ≡ word₂)
+same_file [] files₂ word word₂ one other same = absurd (omega (arith, one))
+same_file (file ∷ []) [] word word₂ one other same = absurd (omega (arith, other))
+same_file (file ∷ []) (file₂ ∷ []) word word₂ one other same = (cc (same), cc (same))
+same_file (file ∷ []) (file₂ ∷ more ∷ files₂) word word₂ one other same = absurd (omega (arith, other))
+same_file (file ∷ more ∷ files) files₂ word word₂ one other same = absurd (omega (arith, one))
+
+same_model : (w v : List ℕ) (root root₂ : Root) (files files₂ : List (List ℕ)) → w ≡ v → NamesModel w root files → NamesModel v root₂ files₂ → root ≡ root₂
+same_model w v root root₂ files files₂ word x y = one_root (folded v) root root₂ (subst (λ l. IsRoot (folded l) root) word x.root_is) y.root_is
+
+-- a value is the one of its parts
+abbrev paging : Option ℕ → Option (List ℕ) → Option ℕ → Paging
+paging limit after max_order = record { limit = limit; after = after; max_order = max_order }
+
+abbrev options : Paging → List ℕ → List ℕ → Bool → Bool → Bool → Bool → Options
+options page set chosen tokens all text paths =
+    record { paging = page; set = set; chosen = chosen; tokens = tokens; all = all; text = text; paths = paths }
+
+abbrev request : Kind → Root → List ℕ → ℕ → Option Kind → List (List ℕ) → Options → Request
+request k root target number of files said =
+    record { kind = k; root = root; target = target; number = number; of = of; files = files; options = said }
+
+-- options say one thing at most
+one_say : (k : Kind) (reports : List (List ℕ)) (given : List Given) (a b : Options) → Say k reports given a → Say k reports given b → a ≡ b
+one_say k reports given a b x y =
+    let p = a.paging in
+    let q = b.paging in
+    let limit = one_said IsNumberText one_number (value_of (codes "limit") given) p.limit q.limit x.limit y.limit in
+    let after = one_said IsFolded one_fold (value_of (codes "after") given) p.after q.after x.after y.after in
+    let max_order = one_said IsNumberText one_number (value_of (codes "max-order") given) p.max_order q.max_order x.max_order y.max_order in
+    let page : p ≡ q = ap (λ v. paging v p.after p.max_order) limit ∙ ap (λ v. paging q.limit v p.max_order) after ∙ ap (λ v. paging q.limit q.after v) max_order in
+    let chosen = one_chosen (reports_for k reports) (value_of (codes "reports") given) a.chosen b.chosen x.chosen y.chosen in
+    ap (λ v. options v a.set a.chosen a.tokens a.all a.text a.paths) page
+    ∙ ap (λ v. options q v a.chosen a.tokens a.all a.text a.paths) (x.set ∙ sym y.set)
+    ∙ ap (λ v. options q b.set v a.tokens a.all a.text a.paths) chosen
+    ∙ ap (λ v. options q b.set b.chosen v a.all a.text a.paths) (x.tokens ∙ sym y.tokens)
+    ∙ ap (λ v. options q b.set b.chosen b.tokens v a.text a.paths) (x.all ∙ sym y.all)
+    ∙ ap (λ v. options q b.set b.chosen b.tokens b.all v a.paths) (x.text ∙ sym y.text)
+    ∙ ap (λ v. options q b.set b.chosen b.tokens b.all b.text v) (x.paths ∙ sym y.paths)
+
+-- what two requests have in common that plain words make
+record Agree (root root₂ : Root) (target target₂ : List ℕ) (number number₂ : ℕ) (of of₂ : Option Kind) (files files₂ : List (List ℕ)) : Type 0 where
+  roots : root ≡ root₂
+  targets : target ≡ target₂
+  numbers : number ≡ number₂
+  ofs : of ≡ of₂
+  all_files : files ≡ files₂
+
+-- names of commands are those of one command, or of none
+one_topic : (a b : Option Kind) → option_to_list (option_map name_of a) ≡ option_to_list (option_map name_of b) → a ≡ b
+one_topic None None same = refl
+one_topic None (Some b) same = cc
+one_topic (Some a) None same = cc
+one_topic (Some a) (Some b) same = ap (λ k. Some k) (same_kind a b (cc (same)))
+
+-- plain words of a shape say one thing at most
+one_asked : (s : Shape) (words : List (List ℕ)) (root root₂ : Root) (target target₂ : List ℕ) (number number₂ : ℕ) (of of₂ : Option Kind) (files files₂ : List (List ℕ))
+    → IsAsked s words root target number of files → IsAsked s words root₂ target₂ number₂ of₂ files₂ → Agree root root₂ target target₂ number number₂ of of₂ files files₂
+one_asked shape.Model words root root₂ target target₂ number number₂ of of₂ files files₂ x y =
+    let both : x.0 ∷ files ≡ y.0 ∷ files₂ = sym x.1 ∙ y.1 in
+    let word : x.0 ≡ y.0 = cc (both) in
+    record { roots = same_model x.0 y.0 root root₂ files files₂ word x.2 y.2; targets = x.3 ∙ sym y.3; numbers = x.4 ∙ sym y.4; ofs = x.5 ∙ sym y.5; all_files = cc (both) }
+one_asked shape.Target words root root₂ target target₂ number number₂ of of₂ files files₂ x y =
+    let both : x.0 ∷ x.1 ∷ files ≡ y.0 ∷ y.1 ∷ files₂ = sym x.2 ∙ y.2 in
+    let word : x.0 ≡ y.0 = cc (both) in
+    let named : x.1 ≡ y.1 = cc (both) in
+    record { roots = same_model x.0 y.0 root root₂ files files₂ word x.3 y.3; targets = x.4 ∙ ap folded named ∙ sym y.4; numbers = x.5 ∙ sym y.5; ofs = x.6 ∙ sym y.6; all_files = cc (both) }
+one_asked shape.Derivation words root root₂ target target₂ number number₂ of of₂ files files₂ x y =
+    let both : x.0 ∷ x.1 ∷ files ≡ y.0 ∷ y.1 ∷ files₂ = sym x.2 ∙ y.2 in
+    let word : x.0 ≡ y.0 = cc (both) in
+    let named : x.1 ≡ y.1 = cc (both) in
+    record { roots = same_model x.0 y.0 root root₂ files files₂ word x.3 y.3; targets = x.4 ∙ ap folded named ∙ sym y.4; numbers = x.5 ∙ sym y.5; ofs = x.6 ∙ sym y.6; all_files = cc (both) }
+one_asked shape.Number words root root₂ target target₂ number number₂ of of₂ files files₂ x y =
+    let both : x.0 ∷ [] ≡ y.0 ∷ [] = sym x.1 ∙ y.1 in
+    let word : x.0 ≡ y.0 = cc (both) in
+    record { roots = x.5 ∙ sym y.5; targets = x.6 ∙ sym y.6; numbers = one_number y.0 number number₂ (subst (λ w. IsNumberText w number) word x.2) y.2; ofs = x.7 ∙ sym y.7; all_files = x.8 ∙ sym y.8 }
+one_asked shape.File words root root₂ target target₂ number number₂ of of₂ files files₂ x y =
+    record { roots = x.2 ∙ sym y.2; targets = x.3 ∙ sym y.3; numbers = x.4 ∙ sym y.4; ofs = x.5 ∙ sym y.5; all_files = sym x.0 ∙ y.0 }
+one_asked shape.Place words root root₂ target target₂ number number₂ of of₂ files files₂ x y =
+    let same = same_file files files₂ x.0 y.0 x.2 y.2 (sym x.1 ∙ y.1) in
+    record { roots = x.4 ∙ sym y.4; targets = x.5 ∙ sym y.5; numbers = one_number y.0 number number₂ (subst (λ w. IsNumberText w number) same.1 x.3) y.3; ofs = x.6 ∙ sym y.6; all_files = same.0 }
+one_asked shape.Topic words root root₂ target target₂ number number₂ of of₂ files files₂ x y =
+    record { roots = x.1 ∙ sym y.1; targets = x.2 ∙ sym y.2; numbers = x.3 ∙ sym y.3; ofs = one_topic of of₂ (sym x.0 ∙ y.0); all_files = x.4 ∙ sym y.4 }
+one_asked shape.Alone words root root₂ target target₂ number number₂ of of₂ files files₂ x y =
+    record { roots = x.1 ∙ sym y.1; targets = x.2 ∙ sym y.2; numbers = x.3 ∙ sym y.3; ofs = x.4 ∙ sym y.4; all_files = x.5 ∙ sym y.5 }
+
+-- plain words and those behind them are one request at most
+one_read : (reports : List (List ℕ)) (k : Kind) (plain behind : List (List ℕ)) (a b : Request) → IsRead reports k plain behind a → IsRead reports k plain behind b → a ≡ b
+one_read reports k plain behind a b x y =
+    let given : x.given ≡ y.given = one_given (flags_of k) (valued_of k) (kinds_apart k) x.given y.given x.options.allowed y.options.allowed (sym x.behind_are ∙ y.behind_are) in
+    let said : a.options ≡ b.options = one_say k reports y.given a.options b.options (subst (λ g. Say k reports g a.options) given x.said) y.said in
+    let asked = one_asked (shape_of k) plain a.root b.root a.target b.target a.number b.number a.of b.of a.files b.files x.asked y.asked in
+    ap (λ v. request v a.root a.target a.number a.of a.files a.options) (x.kind_is ∙ sym y.kind_is)
+    ∙ ap (λ v. request b.kind v a.target a.number a.of a.files a.options) asked.roots
+    ∙ ap (λ v. request b.kind b.root v a.number a.of a.files a.options) asked.targets
+    ∙ ap (λ v. request b.kind b.root b.target v a.of a.files a.options) asked.numbers
+    ∙ ap (λ v. request b.kind b.root b.target b.number v a.files a.options) asked.ofs
+    ∙ ap (λ v. request b.kind b.root b.target b.number b.of v a.options) asked.all_files
+    ∙ ap (λ v. request b.kind b.root b.target b.number b.of b.files v) said
+
+-- words are one request at most
+pub one_request : (reports words : List (List ℕ)) (a b : Request) → IsRequest reports words a → IsRequest reports words b → a ≡ b
+one_request reports words a b x y =
+    let front = front_is reports words b y in
+    one_read reports b.kind y.plain (drop (length (before_options words)) words) a b (to_read reports words a x b.kind y.plain front) (to_read reports words b y b.kind y.plain front)
+
+-- ---- the words that name files
+
+-- the only file of a list before a word
+only_file : (files : List (List ℕ)) (word : List ℕ) → length files ≡ 1 → take 1 (files ++ word ∷ []) ≡ files
+only_file [] word one = absurd (omega (arith, one))
+only_file (file ∷ []) word one = refl
+only_file (file ∷ more ∷ files) word one = absurd (omega (arith, one))
+
+-- plain words of a shape with their name name these files
+files_asked : (s : Shape) (name : List ℕ) (words : List (List ℕ)) (root : Root) (target : List ℕ) (number : ℕ) (of : Option Kind) (files : List (List ℕ))
+    → IsAsked s words root target number of files → files_in s (name ∷ words) ≡ files
+files_asked shape.Model name words root target number of files x = ap (drop 1) x.1
+files_asked shape.Target name words root target number of files x = ap (drop 2) x.2
+files_asked shape.Derivation name words root target number of files x = ap (drop 2) x.2
+files_asked shape.Number name words root target number of files x = ap (drop 1) x.1 ∙ sym x.8
+files_asked shape.File name words root target number of files x = x.0
+files_asked shape.Place name words root target number of files x = ap (take 1) x.1 ∙ only_file files x.0 x.2
+files_asked shape.Topic name words root target number None files x = ap (drop 2) x.0 ∙ sym x.4
+files_asked shape.Topic name words root target number (Some of) files x = ap (drop 2) x.0 ∙ sym x.4
+files_asked shape.Alone name words root target number of files x = ap (drop 2) x.0 ∙ sym x.5
+
+-- the words that name files are the files of the request
+pub file_words_are : (reports words : List (List ℕ)) (request : Request) → IsRequest reports words request → file_words words ≡ request.files
+file_words_are reports words request is =
+    let front = front_is reports words request is in
+    ap file_words is.words_are ∙ ap (λ s. files_in s (before_options (name_of request.kind ∷ (is.plain ++ option_words is.given)))) (ap (λ k. option_map_or shape_of k shape.Target) (named_again request.kind))
+    ∙ ap (files_in (shape_of request.kind)) (sym (ap before_options is.words_are) ∙ front)
+    ∙ files_asked (shape_of request.kind) (name_of request.kind) is.plain request.root request.target request.number request.of request.files is.asked

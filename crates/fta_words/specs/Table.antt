@@ -1,0 +1,74 @@
+-- What the table of commands says of each. Its rows stand in src/table.rt, one a command.
+use Rattle.std.specs.Prelude.{ℕ, Bool, List, [], Option, find, map, slice_get}
+use Rattle.std.specs.List.{list_any}
+use Rattle.std.specs.Option.{option_map_or}
+use Rattle.plain_values.specs.Name.{is_same_text}
+use Rattle.fta_words.specs.declared.kind.Kind.{Kind}
+use Rattle.fta_words.specs.declared.kind.Kind.TheVariants as kind
+use Rattle.fta_words.specs.declared.kind.Shape.{Shape}
+use Rattle.fta_words.specs.declared.kind.Shape.TheVariants as shape
+use Rattle.fta_words.specs.declared.kind.TheConstants.{KINDS}
+use Rattle.fta_words.specs.declared.table.TheConstants.{ROWS}
+
+-- the place of the row of a command
+abbrev pub place_of : Kind → ℕ
+place_of kind.Check = 0
+place_of kind.Cuts = 1
+place_of kind.Tree = 2
+place_of kind.Fmea = 3
+place_of kind.Report = 4
+place_of kind.Make = 5
+place_of kind.Galileo = 6
+place_of kind.Paths = 7
+place_of kind.Why = 8
+place_of kind.Confirm = 9
+place_of kind.Targets = 10
+place_of kind.Events = 11
+place_of kind.Review = 12
+place_of kind.Place = 13
+place_of kind.Help = 14
+place_of kind.Version = 15
+
+-- the name of a command
+abbrev pub name_of : Kind → List ℕ
+name_of kind = option_map_or (λ row. row.name.now) (slice_get ROWS (place_of kind)) []
+
+-- which plain words follow it
+abbrev pub shape_of : Kind → Shape
+shape_of kind = option_map_or (λ row. row.shape) (slice_get ROWS (place_of kind)) shape.Alone
+
+-- its flags
+abbrev pub flags_of : Kind → List (List ℕ)
+flags_of kind = option_map_or (λ row. map (λ name. name.now) row.flags.now) (slice_get ROWS (place_of kind)) []
+
+-- its options that have a value
+abbrev pub valued_of : Kind → List (List ℕ)
+valued_of kind = option_map_or (λ row. map (λ name. name.now) row.valued.now) (slice_get ROWS (place_of kind)) []
+
+-- those of them that must be there
+abbrev pub required_of : Kind → List (List ℕ)
+required_of kind = option_map_or (λ row. map (λ name. name.now) row.required.now) (slice_get ROWS (place_of kind)) []
+
+-- whether a name is among others
+abbrev pub is_among : List (List ℕ) → List ℕ → Bool
+is_among names name = list_any (λ other. is_same_text other name) names
+
+-- the words that must be there, as help has them
+abbrev pub usage_of : Kind → List ℕ
+usage_of kind = option_map_or (λ row. row.usage.now) (slice_get ROWS (place_of kind)) []
+
+-- the options that may follow, each in brackets
+abbrev pub optional_of : Kind → List ℕ
+optional_of kind = option_map_or (λ row. row.optional.now) (slice_get ROWS (place_of kind)) []
+
+-- what it writes, in one line
+abbrev pub about_of : Kind → List ℕ
+about_of kind = option_map_or (λ row. row.about.now) (slice_get ROWS (place_of kind)) []
+
+-- the first of these commands that has a name
+abbrev pub kind_among : List Kind → List ℕ → Option Kind
+kind_among kinds name = find (λ kind. is_same_text (name_of kind) name) kinds
+
+-- the command of a name
+abbrev pub kind_named : List ℕ → Option Kind
+kind_named name = kind_among KINDS name

@@ -1,0 +1,197 @@
+ghost use Rattle.std.specs.Prelude.{◌≡◌, Option, MatchOption, IfOk, option_map, option_to_list};
+ghost use Rattle.fta_words.specs.Table.{name_of, shape_of};
+ghost use Rattle.fta_words.specs.Words.{no_root};
+ghost use Rattle.fta_words.specs.declared.kind.Kind.{Kind};
+ghost use Rattle.fta_words.specs.declared.kind.Shape.TheVariants as shape;
+ghost use Rattle.fta_words.specs.inner.Reading.{AsksAs};
+
+use crate::kind::{Kind, Shape};
+use crate::number::number_of;
+use crate::root::root_in;
+use crate::table::{kind_named, shape_of};
+use plain_values::{List, Mem, Name, Root, Word, fold};
+use std::alloc::Global;
+
+/// What the plain words behind the name of a command say. What their shape does not have is empty, zero or none.
+#[derive(Drop)]
+pub(crate) struct Asked<'a> {
+    pub(crate) root: Root,
+    pub(crate) target: Name,
+    pub(crate) number: u32,
+    pub(crate) of: Option<Kind>,
+    pub(crate) files: &'a [Word],
+}
+
+/// What the plain words behind the name of a command say, if they have its shape.
+pub(crate) fn asked_of<'a>(alloc: Global, kind: Kind, words: &'a [Word]) -> Mem<Option<Asked<'a>>>
+    ensures { IfOk result (AsksAs (shape_of kind) words.now) }
+{
+    match shape_of(kind) {
+        Shape::Model => model(alloc, words),
+        Shape::Target => target(alloc, words),
+        Shape::Derivation => derivation(alloc, words),
+        Shape::Number => Ok(number(alloc, words)),
+        Shape::File => Ok(file(alloc, words)),
+        Shape::Place => Ok(place(alloc, words)),
+        Shape::Topic => Ok(topic(alloc, words)),
+        Shape::Alone => Ok(alone(alloc, words)),
+    }
+}
+
+/// `ROOT FILE..`
+fn model<'a>(alloc: Global, words: &'a [Word]) -> Mem<Option<Asked<'a>>>
+    ensures { IfOk result (AsksAs shape.Model words.now) }
+{
+    let [root, files @ ..] = words else {
+        return Ok(None);
+    };
+    let Some(root) = root_in(alloc, root.items(), files)? else {
+        return Ok(None);
+    };
+    Ok(Some(Asked {
+        root,
+        target: List::new(alloc),
+        number: 0,
+        of: None,
+        files,
+    }))
+}
+
+/// `ROOT TARGET FILE..`
+fn target<'a>(alloc: Global, words: &'a [Word]) -> Mem<Option<Asked<'a>>>
+    ensures { IfOk result (AsksAs shape.Target words.now) }
+{
+    let [root, target, files @ ..] = words else {
+        return Ok(None);
+    };
+    let Some(root) = root_in(alloc, root.items(), files)? else {
+        return Ok(None);
+    };
+    let target = fold(alloc, target.items())?;
+    Ok(Some(Asked {
+        root,
+        target,
+        number: 0,
+        of: None,
+        files,
+    }))
+}
+
+/// `ROOT TARGET DERIVATION FILE..`
+fn derivation<'a>(alloc: Global, words: &'a [Word]) -> Mem<Option<Asked<'a>>>
+    ensures { IfOk result (AsksAs shape.Derivation words.now) }
+{
+    if words.len() < 4 {
+        return Ok(None);
+    }
+    target(alloc, words)
+}
+
+/// `N`, from 1 to 512
+fn number<'a>(alloc: Global, words: &'a [Word]) -> Option<Asked<'a>>
+    ensures { AsksAs shape.Number words.now result }
+{
+    let [number] = words else {
+        return None;
+    };
+    let number = number_of(number.items())?;
+    if number < 1 || number > 512 {
+        return None;
+    }
+    Some(Asked {
+        root: no_root(alloc),
+        target: List::new(alloc),
+        number,
+        of: None,
+        files: &[],
+    })
+}
+
+/// `FILE`
+fn file<'a>(alloc: Global, words: &'a [Word]) -> Option<Asked<'a>>
+    ensures { AsksAs shape.File words.now result }
+{
+    if words.len() != 1 {
+        return None;
+    }
+    Some(Asked {
+        root: no_root(alloc),
+        target: List::new(alloc),
+        number: 0,
+        of: None,
+        files: words,
+    })
+}
+
+/// `FILE BYTE`
+fn place<'a>(alloc: Global, words: &'a [Word]) -> Option<Asked<'a>>
+    ensures { AsksAs shape.Place words.now result }
+{
+    let [files @ .., byte] = words else {
+        return None;
+    };
+    if files.len() != 1 {
+        return None;
+    }
+    let Some(number) = number_of(byte.items()) else {
+        return None;
+    };
+    Some(Asked {
+        root: no_root(alloc),
+        target: List::new(alloc),
+        number,
+        of: None,
+        files,
+    })
+}
+
+/// The name of a command, or nothing.
+fn topic<'a>(alloc: Global, words: &'a [Word]) -> Option<Asked<'a>>
+    ensures { AsksAs shape.Topic words.now result }
+{
+    let of = topic_in(words)?;
+    Some(Asked {
+        root: no_root(alloc),
+        target: List::new(alloc),
+        number: 0,
+        of,
+        files: &[],
+    })
+}
+
+/// The command that words name, or none where there is no word.
+fn topic_in(words: &[Word]) -> Option<Option<Kind>>
+    ensures { MatchOption result ((of : Option Kind) → words.now ≡ option_to_list (option_map name_of of) → ⊥) (λ of. words.now ≡ option_to_list (option_map name_of of)) }
+{
+    match words {
+        [] => Some(None),
+        [name] => Some(Some(kind_named(name.items())?)),
+        _ => None,
+    }
+}
+
+/// Nothing.
+fn alone<'a>(alloc: Global, words: &'a [Word]) -> Option<Asked<'a>>
+    ensures { AsksAs shape.Alone words.now result }
+{
+    if !words.is_empty() {
+        return None;
+    }
+    Some(Asked {
+        root: no_root(alloc),
+        target: List::new(alloc),
+        number: 0,
+        of: None,
+        files: words,
+    })
+}
+
+/// No root.
+fn no_root(alloc: Global) -> Root
+    ensures { result ≡ no_root }
+{
+    Root {
+        names: List::new(alloc),
+        item: None,
+    }
+}

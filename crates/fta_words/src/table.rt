@@ -1,0 +1,318 @@
+//! The table of commands: what the words of each may be, and how help names it.
+
+ghost use Rattle.std.specs.Prelude.{◌≡◌, ◌<◌, ◌↔◌, IsTrue, Contains, Some, map, option_copied};
+ghost use Rattle.std.specs.List.{list_any};
+ghost use Rattle.plain_values.specs.Name.{is_same_text};
+ghost use Rattle.fta_words.specs.declared.kind.Kind.{Kind};
+ghost use Rattle.fta_words.specs.Table.{about_of, flags_of, is_among, kind_among, kind_named, name_of, optional_of, place_of, required_of, shape_of, usage_of, valued_of};
+
+use crate::kind::{KINDS, Kind, Shape};
+use plain_values::is_same;
+
+/// A command: its name, what may follow it, and what help says of it in one line.
+#[derive(Clone, Copy)]
+pub struct Row<Text, Words> {
+    /// The first word.
+    pub name: Text,
+    /// Which plain words follow.
+    pub shape: Shape,
+    /// The options that are there or not.
+    pub flags: Words,
+    /// The options that have a value.
+    pub valued: Words,
+    /// Those of them that must be there.
+    pub required: Words,
+    /// The words that must be there.
+    pub usage: Text,
+    /// The options that may follow, each in brackets.
+    pub optional: Text,
+    /// What the command writes.
+    pub about: Text,
+}
+
+/// A row of the table.
+pub type CommandRow = Row<&'static [u8], &'static [&'static [u8]]>;
+
+/// A row for each command, in the order of `Kind`, which is that of help.
+pub const ROWS: [CommandRow; 16] = [
+    Row {
+        name: b"check",
+        shape: Shape::Model,
+        flags: &[],
+        valued: &[],
+        required: &[],
+        usage: b"check ROOT FILE..",
+        optional: b"",
+        about: b"the numbers of components, facts and events of a model",
+    },
+    Row {
+        name: b"cuts",
+        shape: Shape::Target,
+        flags: &[b"tokens"],
+        valued: &[b"limit", b"after", b"max-order"],
+        required: &[],
+        usage: b"cuts ROOT TARGET FILE..",
+        optional: b" [--limit N] [--after TOKEN] [--max-order N] [--tokens]",
+        about: b"the minimal cut sets of a target, or a page of them",
+    },
+    Row {
+        name: b"tree",
+        shape: Shape::Target,
+        flags: &[],
+        valued: &[],
+        required: &[],
+        usage: b"tree ROOT TARGET FILE..",
+        optional: b"",
+        about: b"the static fault tree of a target as Galileo text",
+    },
+    Row {
+        name: b"fmea",
+        shape: Shape::Model,
+        flags: &[b"all"],
+        valued: &[],
+        required: &[],
+        usage: b"fmea ROOT FILE..",
+        optional: b" [--all]",
+        about: b"the table of the effects that each event reaches alone",
+    },
+    Row {
+        name: b"report",
+        shape: Shape::Target,
+        flags: &[],
+        valued: &[b"reports", b"max-order"],
+        required: &[],
+        usage: b"report ROOT TARGET FILE..",
+        optional: b" [--reports NAMES] [--max-order N]",
+        about: b"what reports count in the minimal cut sets of a target",
+    },
+    Row {
+        name: b"make",
+        shape: Shape::Number,
+        flags: &[b"text"],
+        valued: &[],
+        required: &[],
+        usage: b"make N",
+        optional: b" [--text]",
+        about: b"what is said of a model of N pairs of parts, or its text",
+    },
+    Row {
+        name: b"galileo",
+        shape: Shape::File,
+        flags: &[b"paths"],
+        valued: &[b"limit", b"max-order"],
+        required: &[],
+        usage: b"galileo FILE",
+        optional: b" [--paths] [--limit N] [--max-order N]",
+        about: b"the minimal cut sets, or path sets, of a tree in Galileo text",
+    },
+    Row {
+        name: b"paths",
+        shape: Shape::Target,
+        flags: &[],
+        valued: &[b"limit", b"after", b"max-order"],
+        required: &[],
+        usage: b"paths ROOT TARGET FILE..",
+        optional: b" [--limit N] [--after TOKEN] [--max-order N]",
+        about: b"the minimal path sets of a target, or a page of them",
+    },
+    Row {
+        name: b"why",
+        shape: Shape::Target,
+        flags: &[],
+        valued: &[b"set"],
+        required: &[b"set"],
+        usage: b"why ROOT TARGET FILE.. --set TOKEN",
+        optional: b"",
+        about: b"why a target holds under a set of events",
+    },
+    Row {
+        name: b"confirm",
+        shape: Shape::Derivation,
+        flags: &[],
+        valued: &[b"set"],
+        required: &[b"set"],
+        usage: b"confirm ROOT TARGET DERIVATION FILE.. --set TOKEN",
+        optional: b"",
+        about: b"that a text shows that",
+    },
+    Row {
+        name: b"targets",
+        shape: Shape::Model,
+        flags: &[b"all"],
+        valued: &[],
+        required: &[],
+        usage: b"targets ROOT FILE..",
+        optional: b" [--all]",
+        about: b"the facts that may be asked as targets",
+    },
+    Row {
+        name: b"events",
+        shape: Shape::Model,
+        flags: &[],
+        valued: &[],
+        required: &[],
+        usage: b"events ROOT FILE..",
+        optional: b"",
+        about: b"the basic events, with their kinds, rates and places",
+    },
+    Row {
+        name: b"review",
+        shape: Shape::Model,
+        flags: &[],
+        valued: &[],
+        required: &[],
+        usage: b"review ROOT FILE..",
+        optional: b"",
+        about: b"what stands in a model without effect, and where its errors stop",
+    },
+    Row {
+        name: b"place",
+        shape: Shape::Place,
+        flags: &[],
+        valued: &[],
+        required: &[],
+        usage: b"place FILE BYTE",
+        optional: b"",
+        about: b"the line and the column of a byte, as a refusal names it",
+    },
+    Row {
+        name: b"help",
+        shape: Shape::Topic,
+        flags: &[],
+        valued: &[],
+        required: &[],
+        usage: b"help [COMMAND]",
+        optional: b"",
+        about: b"these lines; or the words of a command, its options and an example",
+    },
+    Row {
+        name: b"version",
+        shape: Shape::Alone,
+        flags: &[],
+        valued: &[],
+        required: &[],
+        usage: b"version",
+        optional: b"",
+        about: b"the version of the program and of its profile",
+    },
+];
+
+/// The place of the row of a command.
+fn place_of(kind: Kind) -> usize
+    ensures place { result ≡ place_of kind }
+    ensures within { result < 16 }
+{
+    kind as usize
+}
+
+/// The name of a command.
+pub fn name_of(kind: Kind) -> &'static [u8]
+    ensures { result.now ≡ name_of kind }
+{
+    ROWS[place_of(kind)].name
+}
+
+/// Which plain words follow the name of a command.
+pub(crate) fn shape_of(kind: Kind) -> Shape
+    ensures { result ≡ shape_of kind }
+{
+    let row = &ROWS[place_of(kind)];
+    row.shape
+}
+
+/// The words of a command that must be there, as help has them.
+pub fn usage_of(kind: Kind) -> &'static [u8]
+    ensures { result.now ≡ usage_of kind }
+{
+    ROWS[place_of(kind)].usage
+}
+
+/// The options that may follow, each in brackets.
+pub fn optional_of(kind: Kind) -> &'static [u8]
+    ensures { result.now ≡ optional_of kind }
+{
+    ROWS[place_of(kind)].optional
+}
+
+/// What a command writes, in one line.
+pub fn about_of(kind: Kind) -> &'static [u8]
+    ensures { result.now ≡ about_of kind }
+{
+    ROWS[place_of(kind)].about
+}
+
+/// The flags of a command.
+pub(crate) fn flags_of(kind: Kind) -> &'static [&'static [u8]]
+    ensures { map (λ name. name.now) result.now ≡ flags_of kind }
+{
+    ROWS[place_of(kind)].flags
+}
+
+/// The options of a command that have a value.
+pub(crate) fn valued_of(kind: Kind) -> &'static [&'static [u8]]
+    ensures { map (λ name. name.now) result.now ≡ valued_of kind }
+{
+    ROWS[place_of(kind)].valued
+}
+
+/// The options that a command requires.
+pub(crate) fn required_of(kind: Kind) -> &'static [&'static [u8]]
+    ensures { map (λ name. name.now) result.now ≡ required_of kind }
+{
+    ROWS[place_of(kind)].required
+}
+
+/// Whether a command has a flag of this name.
+pub(crate) fn has_flag(kind: Kind, name: &[u8]) -> bool
+    ensures { IsTrue result ↔ Contains (flags_of kind) name.now }
+{
+    is_among(flags_of(kind), name)
+}
+
+/// Whether a command has an option of this name that has a value.
+pub(crate) fn has_valued(kind: Kind, name: &[u8]) -> bool
+    ensures { IsTrue result ↔ Contains (valued_of kind) name.now }
+{
+    is_among(valued_of(kind), name)
+}
+
+/// Whether a name is among others.
+pub(crate) fn is_among(names: &[&[u8]], name: &[u8]) -> bool
+    ensures value { result ≡ is_among (map (λ name. name.now) names.now) name.now }
+    ensures means { IsTrue result ↔ Contains (map (λ name. name.now) names.now) name.now }
+{
+    is_some_same(names, name)
+}
+
+/// Whether one of some names is this one.
+fn is_some_same(names: &[&[u8]], name: &[u8]) -> bool
+    ensures { result ≡ list_any (λ other. is_same_text other.now name.now) names.now }
+{
+    names.iter().any(|other| is_same(other, name))
+}
+
+/// The command of a name.
+pub(crate) fn kind_named(name: &[u8]) -> Option<Kind>
+    ensures { result ≡ kind_named name.now }
+{
+    kind_among(&KINDS, name)
+}
+
+/// The first of these commands that has a name.
+fn kind_among(kinds: &[Kind], name: &[u8]) -> Option<Kind>
+    ensures { result ≡ kind_among kinds.now name.now }
+{
+    first_named(kinds, name).copied()
+}
+
+/// The first of these commands that has a name, where it stands.
+fn first_named<'k>(kinds: &'k [Kind], name: &[u8]) -> Option<&'k Kind>
+    ensures { option_copied result ≡ kind_among kinds.now name.now }
+{
+    kinds.iter().find(|kind| is_same(name_of(**kind), name))
+}
+
+/// Each command is found by its name.
+pub fn are_named()
+    ensures { (kind : Kind) → kind_named (name_of kind) ≡ Some kind }
+{}
