@@ -1,11 +1,11 @@
 -- The sets of a smaller greatest order stand first in a listing, and where they are more than a page has, the page is theirs.
-use Rattle.std.proofs.Common.{ℕ, zero, suc, ◌+◌, ◌≡◌, ◌<◌, ◌≤◌, Bool, List, [], ◌∷◌, ◌++◌, length, take, filter, nat_lt, Contains, Option, None, Some, inl, inr, ⊎_elim, ap, ◌∙◌, sym, subst, refl, arith, length-append}
+use Rattle.std.proofs.Common.{ℕ, zero, suc, ◌≡◌, ◌<◌, ◌≤◌, List, [], ◌∷◌, ◌++◌, length, take, filter, nat_lt, Option, None, Some, inl, ⊎_elim, ap, ◌∙◌, sym, subst, refl, arith, length-append}
 use Rattle.std.specs.List.{flat_map}
 use Rattle.std.proofs.lemmas.Bool.{lt-ltb, ltb-true, cases_lt}
 use Rattle.std.proofs.lemmas.List.Elements.{filter-append}
 use Rattle.fault_system.specs.Systems.{System}
 use Rattle.fault_system.specs.Listings.{IsInListingOrder, IsListing, IsWithinOrder, is_before, sets_after}
-use Rattle.fault_system.specs.inner.Listings.{IsPage, listing}
+use Rattle.fault_system.specs.inner.Listings.{listing}
 use Rattle.fault_system.proofs.Elements.{In, In-append, In-back, In-contains, In-filter, In-filtered, In-front, contains_In}
 use Rattle.fault_system.proofs.ListingLaws.{listing-exact}
 use Rattle.fault_system.proofs.Orders.{before_made, one_order, order-append, order-filter}

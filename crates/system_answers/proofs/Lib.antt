@@ -1,6 +1,5 @@
 mod Begins
 pub mod Targets
-pub mod Prints
 pub mod Listed
 pub mod FirstSets
 mod TreeTexts

@@ -1,5 +1,5 @@
 -- The reports that are handed in: their names, their texts, and what is kept of them.
-use Rattle.std.proofs.Common.{◌≡◌, inl, inr, ℕ, zero, suc, Bool, true, false, List, [], ◌∷◌, length, map, Option, Some, None, refl, sym, ap, ap₂, subst, ◌∙◌}
+use Rattle.std.proofs.Common.{◌≡◌, inl, inr, Global, IfErr, IfOk, Result, Ok, Err, Vec, ℕ, zero, suc, Bool, true, false, List, [], ◌∷◌, length, map, Option, Some, None, refl, sym, ap, ap₂, subst, ◌∙◌}
 use Rattle.std.specs.Prelude.{slice_get}
 use Rattle.std.specs.List.{flat_map}
 use lib.ListN.{length-map}
@@ -14,8 +14,12 @@ use Rattle.cut_reports.specs.Texts.{report_part, reports_text}
 use Rattle.cut_reports.proofs.Places.{all_same}
 use Rattle.cut_reports.proofs.Taken.{kept_same}
 use Rattle.phases.specs.Phases.{Passes, Phase}
+use Rattle.phases.specs.inner.Meets.{MeetsBut}
+use Rattle.phases.proofs.Steps.{◌passes◌}
+use Rattle.backward_slice.specs.declared.parts.Slice.{Slice}
+use Rattle.system_answers.specs.Texts.{report_text, reports_of, slice_of, target_of}
 use Rattle.phases.specs.declared.status.Status.{Status}
-use Rattle.system_answers.specs.inner.Prints.{EndsReports, IsReportEnd}
+use Rattle.system_answers.specs.inner.Ends.{EndsReports, IsReportEnd}
 use Rattle.system_answers.specs.Voices.{Voice, labels, voices_of, voices_text}
 
 -- ---- names
@@ -78,4 +82,17 @@ takes_listing system target most sets names is are =
 
 -- where a text passes, a report that failed did so before it
 pub reports_end : (chosen : List ℕ) (RoseThere : ℕ → Type 0) (phase : Phase (List ℕ)) (text : List ℕ) (status : Status) → Passes phase text → IsReportEnd chosen RoseThere status → EndsReports chosen RoseThere phase status
-reports_end chosen RoseThere phase text status passes end = elim end [ inl memory ↦ inl memory | inr fault ↦ inr (fault, (text, passes)) ]
+reports_end chosen RoseThere phase text status is end = elim end [ inl memory ↦ inl memory | inr fault ↦ inr (fault, (text, is)) ]
+
+-- what reports say of a target's listing is what they say of the target, and so is how they end
+pub told : (target chosen : List ℕ) (max_order : Option ℕ) (voices : List Voice) (system : System) (RoseThere : ℕ → Type 0) (number : ℕ) (part : Slice) (result : Result (Vec ℕ Global) Status)
+    → Passes (target_of target system) number → Passes (slice_of number system) part
+    → IfOk result (λ made. Passes (reports_of part.target chosen max_order voices system) made.items) → IfErr result (EndsReports chosen RoseThere (reports_of part.target chosen max_order voices system))
+    → MeetsBut (EndsReports chosen RoseThere (report_text target chosen max_order voices system)) (λ (made : Vec ℕ Global). made.items) (report_text target chosen max_order voices system) result
+told target chosen max_order voices system RoseThere number part (Ok made) named served its end =
+    named passes served passes subst (λ of. Passes (reports_of of chosen max_order voices system) made.items) served.passed.is_slice.target_is its
+told target chosen max_order voices system RoseThere number part (Err status) named served its end =
+    elim end [
+      | inl memory ↦ inr (inl memory)
+      | inr fault ↦ inr (inr (fault.0, (fault.1.0, named passes served passes subst (λ of. Passes (reports_of of chosen max_order voices system) fault.1.0) served.passed.is_slice.target_is fault.1.1)))
+    ]

@@ -1,4 +1,3 @@
-pub mod Prints
 pub mod Voices
 pub mod Targets
 pub mod Trees

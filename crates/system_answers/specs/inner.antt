@@ -1,2 +1,2 @@
-pub mod Prints
+pub mod Ends
 pub mod Fronts

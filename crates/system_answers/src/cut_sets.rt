@@ -1,29 +1,24 @@
 //! A page of the minimal cut sets of a target.
 
-ghost use Rattle.std.specs.Prelude.{◌≡◌, ◌<◌, IfErr, IfOk, IfSome, IsErrOf, Some, OnErr, OnOk, length, option_map};
+ghost use Rattle.std.specs.Prelude.{◌≡◌, ◌<◌, IfOk, IfSome, Some, length};
+ghost use Rattle.phases.specs.Phases.{Passes};
 ghost use Rattle.phases.specs.inner.Meets.{Meets};
-ghost use Rattle.phases.specs.declared.status.Status.TheVariants as any_status;
-ghost use Rattle.fta_outside.specs.Outside.{Rose, TookPrefix, with_bytes};
 ghost use Rattle.fault_system.specs.CutSets.{IsEventSet};
 ghost use Rattle.fault_system.specs.Listings.{IsListing};
 ghost use Rattle.backward_slice.specs.Slices.{IsSlice};
 ghost use Rattle.cutset_lister.specs.inner.Walks.{IsStarted, all_sets, sets_left};
-ghost use Rattle.cutset_writer.specs.inner.Pages.{IsOpen, IsReady};
-ghost use Rattle.cutset_writer.specs.Text.{listing_page, marked_page};
-ghost use Rattle.cutset_writer.specs.declared.form.SetForm.TheVariants.{Token};
+ghost use Rattle.cutset_writer.specs.inner.Pages.{IsReady};
 ghost use Rattle.cutset_lister.specs.inner.SetText.{HasTokenNames};
 ghost use Rattle.system_answers.specs.inner.Fronts.{GivesPage};
 ghost use Rattle.system_answers.specs.Texts.{begin_of, named_key, page_in, page_of, slice_of, start_of};
-ghost use Rattle.system_answers.specs.inner.Prints.{Prints};
 
 use crate::fronts::page_family;
 use backward_slice::{Slice, slice};
 use cutset_engine::{family, in_slice};
 use cutset_lister::{Listing, read_token};
-use cutset_writer::{Bookmark, PageWriter, SetForm};
+use cutset_writer::{Bookmark, ListingPage, PageWriter, SetForm};
 use dependency_blocks::blocks;
 use fault_system::FaultSystem;
-use fta_outside::{Sink, WriteError};
 use fta_words::Paging;
 use page_tokens::read_page_token;
 use phases::Status;
@@ -72,26 +67,24 @@ pub fn find_slice(alloc: Global, system: &FaultSystem, target: u32) -> Result<Sl
     Ok(part)
 }
 
-/// Writes the page of the listing of the target of a slice, perhaps with a token in the last line.
-pub fn write_page<S: Sink>(
+/// The page of the listing of the target of a slice, perhaps with a token in the last line.
+pub fn page(
     alloc: Global,
-    system: &FaultSystem,
+    system: FaultSystem,
     part: &Slice,
-    start: &Option<List<u32>>,
+    start: Option<List<u32>>,
     paging: &Paging,
     tokens: bool,
     key: &[u8; 64],
-    out: &mut S,
-) -> Result<(), Status>
-    requires slice { IsSlice system.now part.now.target part.now }
-    requires start { IfSome start.now (IsEventSet system.now) }
-    ensures page { Prints (page_of part.now.target start.now paging.now (named_key tokens key.now) system.now) result (S.taken out.old) (S.taken out.new) (S.faults out.old) (S.faults out.new) }
-    ensures begins { IsErrOf result any_status.Memory → S.taken out.new ≡ S.taken out.old }
+) -> Mem<ListingPage>
+    requires slice { IsSlice system part.now.target part.now }
+    requires start { IfSome start (IsEventSet system) }
+    ensures { IfOk result (Passes (page_of part.now.target start paging.now (named_key tokens key.now) system)) }
 {
     if tokens {
-        return write_marked_page(alloc, system, part, start, paging, key, out);
+        return marked_page(alloc, system, part, start, paging, key);
     }
-    write_page_in(
+    page_in(
         alloc,
         system,
         part,
@@ -99,81 +92,45 @@ pub fn write_page<S: Sink>(
         start,
         paging.limit,
         paging.max_order,
-        out,
     )
 }
 
-/// Writes the page of the listing of the target of a slice, with a token in the last line.
-fn write_marked_page<S: Sink>(
+/// The page of the listing of the target of a slice, with a token in the last line.
+fn marked_page(
     alloc: Global,
-    system: &FaultSystem,
+    system: FaultSystem,
     part: &Slice,
-    start: &Option<List<u32>>,
+    start: Option<List<u32>>,
     paging: &Paging,
     key: &[u8; 64],
-    out: &mut S,
-) -> Result<(), Status>
-    requires slice { IsSlice system.now part.now.target part.now }
-    requires start { IfSome start.now (IsEventSet system.now) }
-    ensures page { Prints (page_of part.now.target start.now paging.now (Some key.now) system.now) result (S.taken out.old) (S.taken out.new) (S.faults out.old) (S.faults out.new) }
-    ensures begins { IsErrOf result any_status.Memory → S.taken out.new ≡ S.taken out.old }
+) -> Mem<ListingPage>
+    requires slice { IsSlice system part.now.target part.now }
+    requires start { IfSome start (IsEventSet system) }
+    ensures { IfOk result (Passes (page_of part.now.target start paging.now (Some key.now) system)) }
 {
     let mut store = Store::new(alloc);
-    let writer = limited_writer(
-        alloc,
-        system,
-        part,
-        start,
-        paging.limit,
-        paging.max_order,
-        &mut store,
-    )?;
-    let bookmark = Bookmark::new(alloc, system, key)?;
-    write_marked_listing(writer, system, &store, bookmark, start, paging.limit, out)?;
-    Ok(())
+    let (limit, most) = (paging.limit, paging.max_order);
+    let writer = limited_writer(alloc, &system, part, &start, limit, most, &mut store)?;
+    let bookmark = Bookmark::new(alloc, &system, key)?;
+    Ok(ListingPage::marked(system, store, writer, bookmark, start, limit))
 }
 
-/// Writes the page of a listing, with a token in the last line. It takes no memory.
-fn write_marked_listing<S: Sink>(
-    writer: PageWriter,
-    system: &FaultSystem,
-    store: &Store,
-    bookmark: Bookmark,
-    start: &Option<List<u32>>,
-    limit: Option<u32>,
-    out: &mut S,
-) -> Result<(), WriteError>
-    requires ready { IsReady system.now store.now writer }
-    requires open { IsOpen system.now bookmark }
-    requires start { IfSome start.now (IsEventSet system.now) }
-    ensures whole { OnOk result (S.taken out.new ≡ with_bytes (S.taken out.old) (marked_page Token system.now (Some bookmark.key) start.now limit (all_sets store.now writer.listing))) }
-    ensures prefix { OnErr result (TookPrefix (S.taken out.old) (S.taken out.new) (marked_page Token system.now (Some bookmark.key) start.now limit (all_sets store.now writer.listing))) }
-    ensures failed { OnErr result (Rose (S.faults out.old) (S.faults out.new)) }
-    ensures only { IfErr result (λ stop. stop ≡ WriteError.Failed) }
-{
-    writer.write_marked(system, store, bookmark, numbers_of(start), limit, out)?;
-    Ok(())
-}
-
-/// Writes a page of the listing of the target of a slice, whose sets stand in this form.
-pub fn write_page_in<S: Sink>(
+/// A page of the listing of the target of a slice, whose sets stand in this form.
+pub fn page_in(
     alloc: Global,
-    system: &FaultSystem,
+    system: FaultSystem,
     part: &Slice,
     form: SetForm,
-    start: &Option<List<u32>>,
+    start: Option<List<u32>>,
     limit: Option<u32>,
     max_order: Option<u32>,
-    out: &mut S,
-) -> Result<(), Status>
-    requires { IsSlice system.now part.now.target part.now }
-    ensures page { Prints (page_in form part.now.target start.now limit max_order system.now) result (S.taken out.old) (S.taken out.new) (S.faults out.old) (S.faults out.new) }
-    ensures begins { IsErrOf result any_status.Memory → S.taken out.new ≡ S.taken out.old }
+) -> Mem<ListingPage>
+    requires { IsSlice system part.now.target part.now }
+    ensures { IfOk result (Passes (page_in form part.now.target start limit max_order system)) }
 {
     let mut store = Store::new(alloc);
-    let writer = limited_writer(alloc, system, part, start, limit, max_order, &mut store)?;
-    write_listing(writer, system, &store, form, start, limit, out)?;
-    Ok(())
+    let writer = limited_writer(alloc, &system, part, &start, limit, max_order, &mut store)?;
+    Ok(ListingPage::new(system, store, writer, form, start, limit))
 }
 
 /// A listing whose page is that of the listing of the target of a slice, about to be written: where a limit is given, it may have the
@@ -232,33 +189,4 @@ pub fn listing_of(
     let found = blocks(alloc, system, part)?;
     let sets = family(alloc, system, part, &found, max_order, store)?;
     Listing::start(alloc, store, sets, part.events.items())
-}
-
-/// Writes the page of a listing. It takes no memory.
-pub fn write_listing<S: Sink>(
-    writer: PageWriter,
-    system: &FaultSystem,
-    store: &Store,
-    form: SetForm,
-    start: &Option<List<u32>>,
-    limit: Option<u32>,
-    out: &mut S,
-) -> Result<(), WriteError>
-    requires { IsReady system.now store.now writer }
-    ensures whole { OnOk result (S.taken out.new ≡ with_bytes (S.taken out.old) (listing_page form system.now start.now limit (all_sets store.now writer.listing))) }
-    ensures prefix { OnErr result (TookPrefix (S.taken out.old) (S.taken out.new) (listing_page form system.now start.now limit (all_sets store.now writer.listing))) }
-    ensures failed { OnErr result (Rose (S.faults out.old) (S.faults out.new)) }
-    ensures only { IfErr result (λ stop. stop ≡ WriteError.Failed) }
-{
-    writer.write(system, store, form, numbers_of(start), limit, out)?;
-    Ok(())
-}
-
-fn numbers_of(start: &Option<List<u32>>) -> Option<&[u32]>
-    ensures { option_map (λ set. set.now) result ≡ start.now }
-{
-    match start {
-        Some(set) => Some(set.items()),
-        None => None,
-    }
 }

@@ -10,60 +10,20 @@ ghost use Rattle.cutset_lister.specs.inner.SetText.{HasTokenNames};
 ghost use Rattle.derivations.specs.Text.{IsTextOf, event_names, fact_names};
 ghost use Rattle.derivations.specs.inner.Text.{AreLineNames};
 ghost use Rattle.system_answers.specs.Derivations.{accepted_text, answer_confirmed, confirm_text, derivation_of, good_steps, lines_why, set_of_text, steps_of, why_text};
-ghost use Rattle.system_answers.specs.inner.Prints.{Prints};
 
 use crate::target::find_target;
-use crate::writing::write_bytes;
 use cutset_lister::read_token;
 use derivations::{
     Derivation, Finding, check_derivation, derive, read_steps, step_place, write_derivation,
 };
 use fault_system::{Bits, FaultSystem};
-use fta_outside::Sink;
 use itoa::Buffer;
 use phases::Status;
 use plain_values::{Code, List, Mem, Name, Place, Refusal};
 use std::alloc::Global;
 
-/// Writes the derivation of a target under the set of events that has this text.
-pub fn write_why<S: Sink>(
-    alloc: Global,
-    system: &FaultSystem,
-    target: &Name,
-    set: &Name,
-    out: &mut S,
-) -> Result<(), Status>
-    requires { HasTokenNames system.now }
-    ensures { Prints (why_text target.now set.now system.now) result (S.taken out.old) (S.taken out.new) (S.faults out.old) (S.faults out.new) }
-{
-    let text = text_of_why(alloc, system, target, set)?;
-    write_bytes(text.as_slice(), out)?;
-    Ok(())
-}
-
-/// Writes that a text is a derivation of a target under the set of events that has this text, and of how many steps. The text is that
-/// of the file of the number 0, and of at most 4,194,304 bytes.
-pub fn write_confirmed<S: Sink>(
-    alloc: Global,
-    system: &FaultSystem,
-    target: &Name,
-    set: &Name,
-    bytes: &[u8],
-    out: &mut S,
-) -> Result<(), Status>
-    requires tokens { HasTokenNames system.now }
-    requires facts { AreLineNames (fact_names system.now) }
-    requires events { AreLineNames (event_names system.now) }
-    requires short { length bytes.now ≤ 4194304 }
-    ensures { Prints (confirm_text target.now set.now bytes.now system.now) result (S.taken out.old) (S.taken out.new) (S.faults out.old) (S.faults out.new) }
-{
-    let text = text_of_confirmed(alloc, system, target, set, bytes)?;
-    write_bytes(text.as_slice(), out)?;
-    Ok(())
-}
-
 /// The derivation of a target under the set of events that has this text, as text.
-fn text_of_why(
+pub fn why(
     alloc: Global,
     system: &FaultSystem,
     target: &Name,
@@ -78,8 +38,9 @@ fn text_of_why(
     lines_why(alloc, system, number, &events)
 }
 
-/// The answer on a text, which is to be a derivation of a target under the set of events that has this text.
-fn text_of_confirmed(
+/// That a text is a derivation of a target under the set of events that has this text, and of how many steps. The text is that of the
+/// file of the number 0, and of at most 4,194,304 bytes.
+pub fn confirmed(
     alloc: Global,
     system: &FaultSystem,
     target: &Name,

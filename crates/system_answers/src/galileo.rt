@@ -6,51 +6,47 @@ ghost use Rattle.galileo_reader.specs.TreeSystems.{system_of};
 ghost use Rattle.galileo_reader.specs.inner.Trees.{IsNamedTree};
 ghost use Rattle.path_sets.specs.inner.Duals.{IsWithoutFeedback};
 ghost use Rattle.system_answers.specs.Galileo.{flaw_refusal};
-ghost use Rattle.system_answers.specs.inner.Prints.{Prints};
 ghost use Rattle.system_answers.specs.Texts.{galileo_paths_text, galileo_text, named_tree, tree_paths, tree_sets};
 
-use crate::cut_sets::{find_slice, write_page_in};
-use crate::path_pages::write_dual_page;
-use cutset_writer::SetForm;
-use fta_outside::Sink;
+use crate::cut_sets::{find_slice, page_in};
+use crate::path_pages::dual_page;
+use cutset_writer::{ListingPage, SetForm};
 use galileo_reader::{Flaw, GalileoFault, NamedTree, no_feedback, read, to_system};
 use phases::Status;
 use plain_values::{Code, Place, Refusal};
 use std::alloc::Global;
 
-/// Writes the minimal cut sets of the tree in a Galileo text of at most 4,194,304 bytes: as many as the limit lets, of so many
+/// The page of the minimal cut sets of the tree in a Galileo text of at most 4,194,304 bytes: as many as the limit lets, of so many
 /// events at most. Places of refusals are those of the file of the number 0.
-pub fn write_tree_sets<S: Sink>(
+pub fn tree_sets(
     alloc: Global,
     text: &[u8],
     limit: Option<u32>,
     max_order: Option<u32>,
-    out: &mut S,
-) -> Result<(), Status>
+) -> Result<ListingPage, Status>
     requires { length text.now ≤ 4194304 }
-    ensures { Prints (galileo_text limit max_order text.now) result (S.taken out.old) (S.taken out.new) (S.faults out.old) (S.faults out.new) }
+    ensures { Meets (galileo_text limit max_order text.now) result }
 {
     let tree = tree_in(alloc, text)?;
-    write_sets_of(alloc, &tree, limit, max_order, out)
+    sets_of(alloc, &tree, limit, max_order)
 }
 
-/// Writes the minimal path sets of the tree in a Galileo text of at most 4,194,304 bytes: as many as the limit lets, of so many
+/// The page of the minimal path sets of the tree in a Galileo text of at most 4,194,304 bytes: as many as the limit lets, of so many
 /// events at most. Places of refusals are those of the file of the number 0.
 ///
 /// They are the smallest sets of basic events whose absence keeps the top from being true. A top that is true under no events has
 /// the empty set alone, and one that is true under all has none.
-pub fn write_tree_paths<S: Sink>(
+pub fn tree_paths(
     alloc: Global,
     text: &[u8],
     limit: Option<u32>,
     max_order: Option<u32>,
-    out: &mut S,
-) -> Result<(), Status>
+) -> Result<ListingPage, Status>
     requires { length text.now ≤ 4194304 }
-    ensures { Prints (galileo_paths_text limit max_order text.now) result (S.taken out.old) (S.taken out.new) (S.faults out.old) (S.faults out.new) }
+    ensures { Meets (galileo_paths_text limit max_order text.now) result }
 {
     let tree = tree_in(alloc, text)?;
-    write_paths_of(alloc, &tree, limit, max_order, out)
+    paths_of(alloc, &tree, limit, max_order)
 }
 
 /// The tree of a text, in whose system no fact reaches itself.
@@ -82,44 +78,41 @@ fn refusal_of(flaw: Flaw) -> Refusal
     }
 }
 
-/// Writes the minimal cut sets of a tree.
-fn write_sets_of<S: Sink>(
+/// The page of the minimal cut sets of a tree.
+fn sets_of(
     alloc: Global,
     tree: &NamedTree,
     limit: Option<u32>,
     max_order: Option<u32>,
-    out: &mut S,
-) -> Result<(), Status>
+) -> Result<ListingPage, Status>
     requires { IsNamedTree tree.now }
-    ensures { Prints (tree_sets limit max_order tree.now) result (S.taken out.old) (S.taken out.new) (S.faults out.old) (S.faults out.new) }
+    ensures { Meets (tree_sets limit max_order tree.now) result }
 {
     let (system, target) = to_system(alloc, tree)?;
     let part = find_slice(alloc, &system, target)?;
-    write_page_in(
+    Ok(page_in(
         alloc,
-        &system,
+        system,
         &part,
         SetForm::Quoted,
-        &None,
+        None,
         limit,
         max_order,
-        out,
-    )
+    )?)
 }
 
-/// Writes the minimal path sets of a tree in which no gate reaches itself.
-fn write_paths_of<S: Sink>(
+/// The page of the minimal path sets of a tree in which no gate reaches itself.
+fn paths_of(
     alloc: Global,
     tree: &NamedTree,
     limit: Option<u32>,
     max_order: Option<u32>,
-    out: &mut S,
-) -> Result<(), Status>
+) -> Result<ListingPage, Status>
     requires named { IsNamedTree tree.now }
     requires free { IsWithoutFeedback (system_of tree.now) }
-    ensures { Prints (tree_paths limit max_order tree.now) result (S.taken out.old) (S.taken out.new) (S.faults out.old) (S.faults out.new) }
+    ensures { Meets (tree_paths limit max_order tree.now) result }
 {
     let (system, target) = to_system(alloc, tree)?;
     let _part = find_slice(alloc, &system, target)?;
-    write_dual_page(alloc, &system, target, limit, max_order, out)
+    dual_page(alloc, system, target, limit, max_order)
 }

@@ -1,7 +1,7 @@
 //! A page of the minimal path sets of a target.
 
 ghost use Rattle.std.specs.Prelude.{◌≡◌, ◌<◌, IfErr, IfOk, OnOk, length};
-ghost use Rattle.phases.specs.inner.Meets.{IsMemory, StopsBut};
+ghost use Rattle.phases.specs.inner.Meets.{IsMemory, Meets, StopsBut};
 ghost use Rattle.phases.specs.Phases.{tests};
 ghost use Rattle.plain_values.specs.Order.{IsClear};
 ghost use Rattle.backward_slice.specs.Slices.{IsServed, IsSlice};
@@ -12,14 +12,11 @@ ghost use Rattle.galileo_writer.specs.inner.TreeText.{HasTextNames};
 ghost use Rattle.path_sets.specs.Duals.{dual_of};
 ghost use Rattle.path_sets.specs.inner.Duals.{IsWithoutFeedback};
 ghost use Rattle.path_sets.specs.PathSets.{HasLargePaths, IsPathListing};
-ghost use Rattle.system_answers.specs.inner.Prints.{Prints};
 ghost use Rattle.system_answers.specs.Texts.{dual_page, path_page, slice_of};
 
-use crate::cut_sets::write_listing;
 use backward_slice::Slice;
-use cutset_writer::{PageWriter, SetForm};
+use cutset_writer::{ListingPage, PageWriter, SetForm};
 use fault_system::FaultSystem;
-use fta_outside::Sink;
 use fta_words::Paging;
 use path_sets::{paths, target_paths};
 use phases::Status;
@@ -27,31 +24,21 @@ use plain_values::List;
 use std::alloc::Global;
 use zdd_store::Store;
 
-/// Writes the page of the minimal path sets of the target of a slice.
-pub fn write_path_page<S: Sink>(
+/// The page of the minimal path sets of the target of a slice.
+pub fn path_page(
     alloc: Global,
-    system: &FaultSystem,
+    system: FaultSystem,
     part: &Slice,
-    start: &Option<List<u32>>,
+    start: Option<List<u32>>,
     paging: &Paging,
-    out: &mut S,
-) -> Result<(), Status>
-    requires slice { IsSlice system.now part.now.target part.now }
-    requires names { HasTextNames system.now }
-    ensures { Prints (path_page part.now.target start.now paging.now system.now) result (S.taken out.old) (S.taken out.new) (S.faults out.old) (S.faults out.new) }
+) -> Result<ListingPage, Status>
+    requires slice { IsSlice system part.now.target part.now }
+    requires names { HasTextNames system }
+    ensures { Meets (path_page part.now.target start paging.now system) result }
 {
     let mut store = Store::new(alloc);
-    let writer = path_writer(alloc, system, part, paging.max_order, &mut store)?;
-    write_listing(
-        writer,
-        system,
-        &store,
-        SetForm::Token,
-        start,
-        paging.limit,
-        out,
-    )?;
-    Ok(())
+    let writer = path_writer(alloc, &system, part, paging.max_order, &mut store)?;
+    Ok(ListingPage::new(system, store, writer, SetForm::Token, start, paging.limit))
 }
 
 /// The listing of the minimal path sets of the target of a slice, about to be written.
@@ -75,23 +62,21 @@ fn path_writer(
     Ok(writer)
 }
 
-/// Writes the page of the minimal path sets of a target, in quotes, in a system in which no fact reaches itself.
-pub fn write_dual_page<S: Sink>(
+/// The page of the minimal path sets of a target, in quotes, in a system in which no fact reaches itself.
+pub fn dual_page(
     alloc: Global,
-    system: &FaultSystem,
+    system: FaultSystem,
     target: u32,
     limit: Option<u32>,
     max_order: Option<u32>,
-    out: &mut S,
-) -> Result<(), Status>
-    requires target { target < length system.now.facts }
-    requires free { IsWithoutFeedback system.now }
-    ensures { Prints (dual_page target limit max_order system.now) result (S.taken out.old) (S.taken out.new) (S.faults out.old) (S.faults out.new) }
+) -> Result<ListingPage, Status>
+    requires target { target < length system.facts }
+    requires free { IsWithoutFeedback system }
+    ensures { Meets (dual_page target limit max_order system) result }
 {
     let mut store = Store::new(alloc);
-    let writer = dual_writer(alloc, system, target, max_order, &mut store)?;
-    write_listing(writer, system, &store, SetForm::Quoted, &None, limit, out)?;
-    Ok(())
+    let writer = dual_writer(alloc, &system, target, max_order, &mut store)?;
+    Ok(ListingPage::new(system, store, writer, SetForm::Quoted, None, limit))
 }
 
 /// The listing of the minimal path sets of a target in a system in which no fact reaches itself, about to be written.

@@ -12,7 +12,7 @@ ghost use Rattle.cut_reports.specs.inner.Feeding.{TakesEach};
 ghost use Rattle.cut_reports.specs.Places.{AtChosen, is_among};
 ghost use Rattle.cut_reports.specs.Texts.{reports_text};
 ghost use Rattle.system_answers.specs.Texts.{reports_of};
-ghost use Rattle.system_answers.specs.inner.Prints.{EndsReports, IsReportEnd};
+ghost use Rattle.system_answers.specs.inner.Ends.{EndsReports, IsReportEnd};
 ghost use Rattle.system_answers.specs.Voices.{labels, voices_of};
 
 use crate::cut_sets::listing_of;

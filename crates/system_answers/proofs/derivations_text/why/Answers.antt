@@ -5,7 +5,7 @@ use Rattle.phases.proofs.Steps.{meets_later}
 use Rattle.fault_system.specs.Truth.{set_of}
 use Rattle.system_answers.specs.Derivations.{lines_why, set_of_text}
 use Rattle.system_answers.specs.Texts.{target_of}
-use Rattle.system_answers.proofs.derivations_text.text_of_why.Goals as goal
+use Rattle.system_answers.proofs.derivations_text.why.Goals as goal
 
 pub returns : goal.returns
 returns c =
