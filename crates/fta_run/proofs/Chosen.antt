@@ -1,11 +1,13 @@
 -- The chosen places rise below the number of reports.
-use Rattle.std.proofs.Common.{◌<◌, ◌≤◌, ◌+◌, ℕ, List, [], ◌∷◌, length, Option, Some, None, inl, inr, refl, arith}
+use Rattle.std.proofs.Common.{◌<◌, ◌≤◌, ◌+◌, ℕ, List, [], ◌∷◌, length, Option, Some, None, inl, inr, refl, le_refl, arith}
 use Rattle.std.specs.Prelude.{Contains}
 use Rattle.std.proofs.lemmas.Option.{slice_get_within}
 use Rattle.plain_values.specs.Rising.{RisesWithin}
 use Rattle.fta_words.specs.Words.{AreChosen, Rise}
 use Rattle.fault_system.proofs.Elements.{In-contains, contains_In, each-at}
-use Rattle.fta_run.specs.Words.{Check, Command, Confirm, Cuts, Events, Review, Fmea, Targets, Galileo, Help, IsCommand, Make, Paths, Place, Report, Tree, Version, Why, chosen_of}
+use Rattle.std.specs.Prelude.{Bool, true, false, if◌then◌else◌}
+use Rattle.fta_words.specs.Words.{reports_for}
+use Rattle.fta_run.specs.Words.{IsRequest, Request}
 
 rise_within : (low high : ℕ) (places : List ℕ) → Rise places → ((place : ℕ) → Contains places place → low ≤ place) → ((place : ℕ) → Contains places place → place < high) → RisesWithin low high places
 rise_within low high [] rise above below = tt
@@ -23,21 +25,15 @@ chosen_rise names (Some text) chosen are =
     rise_within 0 (length names) chosen are.rise (λ place here. omega arith)
     (λ place here. let named = (are.chosen_are place).0 here in slice_get_within names place named.0 named.2.here)
 
+wider : (low a b : ℕ) (places : List ℕ) → a ≤ b → RisesWithin low a places → RisesWithin low b places
+wider low a b [] few rises = tt
+wider low a b (place ∷ places) few rises = (rises.0, omega (arith, few, rises.1), wider (place + 1) a b places few rises.2)
+
+few_reports : (has : Bool) (reports : List (List ℕ)) → length (if has then reports else []) ≤ length reports
+few_reports true reports = le_refl (length reports)
+few_reports false reports = omega arith
+
 -- the chosen places rise below the number of reports
-pub places_rise : (names words : List (List ℕ)) (command : Command) → IsCommand names words command → RisesWithin 0 (length names) (chosen_of command)
-places_rise names words (Check root files) is = tt
-places_rise names words (Cuts root target files paging tokens) is = tt
-places_rise names words (Tree root target files) is = tt
-places_rise names words (Fmea root files all) is = tt
-places_rise names words (Targets root files all) is = tt
-places_rise names words (Events root files) is = tt
-places_rise names words (Review root files) is = tt
-places_rise names words (Report root target files chosen max_order) is = chosen_rise names _ chosen is.6
-places_rise names words (Make number text) is = tt
-places_rise names words (Galileo files limit max_order paths) is = tt
-places_rise names words (Paths root target files paging) is = tt
-places_rise names words (Why root target files set) is = tt
-places_rise names words (Confirm root target files set) is = tt
-places_rise names words (Place files byte) is = tt
-places_rise names words (Help of) is = tt
-places_rise names words Version is = tt
+pub places_rise : (names words : List (List ℕ)) (asked : Request) → IsRequest names words asked → RisesWithin 0 (length names) asked.options.chosen
+places_rise names words asked is =
+    wider 0 (length (reports_for asked.kind names)) (length names) asked.options.chosen (few_reports _ names) (chosen_rise (reports_for asked.kind names) _ asked.options.chosen is.said.chosen)

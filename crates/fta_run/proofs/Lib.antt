@@ -1,5 +1,4 @@
 mod AskedEffects
-mod Commands
 mod Names
 mod Inputs
 mod Lacking
@@ -8,6 +7,5 @@ mod Models
 mod OneDue
 mod Ran
 mod Chosen
-mod Written
 mod Below
 mod DerivationLaws

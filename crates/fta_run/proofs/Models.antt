@@ -16,7 +16,6 @@ use Rattle.phases.specs.inner.Meets.{IsMemory, Meets}
 use Rattle.phases.specs.Phases.{Passes, Phase, Stops, chains, computes, tests}
 use Rattle.phases.specs.inner.Stopped.{status_of}
 use Rattle.phases.specs.declared.status.Status.{Status}
-use Rattle.phases.specs.declared.status.Status.TheVariants.{Refused}
 use Rattle.phases.proofs.Steps.{computed, meets_later}
 use Rattle.model_facts.specs.Assembly.{Assembly}
 use Rattle.model_phases.specs.Phases.{assembled}

@@ -1,5 +1,5 @@
 -- What the plain names of a system are good for.
-use Rattle.std.proofs.Common.{◌≡◌, ◌≢◌, ◌<◌, ◌==◌, ℕ, zero, suc, true, List, [], ◌∷◌, ◌++◌, codes, length, map, Option, Result, Ok, Err, IfOk, Contains, refl, sym, subst, ◌∙◌, arith}
+use Rattle.std.proofs.Common.{◌≡◌, ◌≢◌, ◌<◌, ◌==◌, ℕ, zero, suc, true, List, [], ◌∷◌, ◌++◌, codes, length, map, Result, Ok, Err, IfOk, Contains, refl, sym, subst, ◌∙◌, arith}
 use Rattle.std.specs.List.{AllByRecursion, list_all}
 use Rattle.std.proofs.lemmas.Bool.{eqb-true, false_from_ne_true}
 use Rattle.std.proofs.lemmas.List.Elements.{All-weaker, recursion_from_All}
@@ -20,7 +20,7 @@ use Rattle.phases.specs.declared.status.Status.{Status}
 use Rattle.model_facts.specs.Laws.{IsPlain, Lacks}
 use Rattle.model_phases.specs.Named.{IsPlainModel, IsPlainSystem}
 use Rattle.model_phases.specs.declared.flat.FlatModel.{FlatModel}
-use Rattle.fta_run.specs.Due.{model_of_files, model_of_texts}
+use Rattle.fta_run.specs.Due.{model_of_texts}
 
 -- a byte that a text lacks is not in it
 lacks : (byte : ℕ) (text : List ℕ) → Lacks byte text → Contains text byte → ⊥
@@ -120,9 +120,9 @@ pub event_line_names : (system : System) → IsPlainSystem system → AreLineNam
 event_line_names system plain = λ n within. line_name_at (λ (event : EventInfo). event.name) system.events n (recursion_from_All (λ (event : EventInfo). IsPlain event.name) system.events plain.event_names) within
 
 -- the model of a root is plain
-pub plain_model : (contents : List ℕ → Option (List ℕ)) (root : Root) (files : List (List ℕ)) (model : FlatModel) → Passed (model_of_files contents root files) model → IsPlainModel model
-plain_model contents root files model at = at.2.2.2.2.2.2.2.2.plain
+pub plain_model : (root : Root) (texts : List (List ℕ)) (model : FlatModel) → Passed (model_of_texts root texts) model → IsPlainModel model
+plain_model root texts model at = at.2.2.2.2.2.2.2.plain
 
 pub plain_texts : (root : Root) (texts : List (List ℕ)) (result : Result FlatModel Status) → Meets (model_of_texts root texts) result → IfOk result IsPlainModel
-plain_texts root texts (Ok model) passes = passes.passed.2.2.2.2.2.2.2.plain
+plain_texts root texts (Ok model) passes = plain_model root texts model passes.passed
 plain_texts root texts (Err status) end = tt

@@ -20,7 +20,8 @@ use Rattle.phases.specs.declared.status.Status.{Status}
 use Rattle.phases.specs.declared.status.Status.TheVariants.{Usage, Refused}
 use Rattle.phases.proofs.Leaves.{decided_answers, decided_computes, decided_finds, decided_rejects, decided_accepts, decided_tests}
 use Rattle.phases.proofs.Decided as decided
-use Rattle.fta_run.specs.Words.{Check, Command, Cuts, Tree, Fmea, Targets, Events, Review, Report, Make, Galileo, Paths, Why, Confirm, Place, Help, Version, IsCommand, files_of}
+use Rattle.fta_words.specs.declared.kind.Kind.TheVariants as kind
+use Rattle.fta_run.specs.Words.{IsRequest, Kind, Request}
 use Rattle.system_answers.specs.Voices.{Voice, labels}
 use Rattle.model_maker.specs.Text.{text_of as made_text}
 use Rattle.model_phases.specs.declared.flat.FlatModel.{FlatModel}
@@ -31,13 +32,13 @@ use Rattle.system_answers.specs.Texts.{cuts_text, paths_text}
 use Rattle.system_answers.proofs.Derived.{confirm_decided, why_decided}
 use Rattle.system_answers.proofs.Decided.{cuts_decided, galileo_paths_text_decided, galileo_text_decided, listing_decided, paths_decided, report_decided, slice_decided, target_decided, tree_decided}
 use Rattle.page_tokens.specs.Keys.{asked_digits}
-use Rattle.fta_run.specs.Due.{command_text, confirmed_in, cuts_in, due, first_text, made_of_files, made_of_texts, made_root, made_target, make_text, model_of_files, model_of_texts, other_texts, sets_of_tree, sized_text, texts_of, units_of, within_limits}
+use Rattle.fta_run.specs.Due.{confirmed_in, cuts_in, due, first_text, made_of_texts, made_root, made_target, make_text, model_of_texts, other_texts, request_text, sets_of_tree, sized_text, text_for, texts_of, units_of, within_limits}
 use Rattle.target_orders.specs.Text.{TellsOrders}
 use Rattle.target_orders.proofs.Said.{one-text}
 use Rattle.fta_run.specs.Effects.{asked_targets}
 use Rattle.fta_run.specs.Later.{IsLater, in_later_files, later_refusal, next_file}
 use Rattle.fta_run.specs.Answers.{AllTold, IsOutput, IsSameStatus}
-use Rattle.fta_run.proofs.Commands.{one_command}
+use Rattle.fta_words.proofs.Requests.{one_request}
 use Rattle.fta_run.proofs.Inputs.{first_short}
 use Rattle.fta_run.proofs.Names.{event_line_names, fact_line_names, plain_model, plain_texts, token_names}
 use Rattle.fta_run.proofs.Lacking.{clear_tokens, one_tokens}
@@ -102,15 +103,6 @@ cuts_in_decided root target paging tokens texts = (
 plain_paths_decided : (target : List ℕ) (paging : Paging) (system : System) → IsPlainSystem system → IsDecided IsSameStatus (paths_text target paging system)
 plain_paths_decided target paging system plain = paths_decided IsSameStatus itself target paging system plain.is_system (token_names system plain)
 
-files_model_decided : (contents : List ℕ → Option (List ℕ)) (root : Root) (files : List (List ℕ)) → AllByRecursion (λ file. IsSome (contents file)) files → IsDecided IsSameStatus (model_of_files contents root files)
-files_model_decided contents root files told = (texts_decided contents files told, λ texts are. texts_model_decided root texts)
-
-files_origins_decided : (contents : List ℕ → Option (List ℕ)) (root : Root) (files : List (List ℕ)) → AllByRecursion (λ file. IsSome (contents file)) files → IsDecided IsSameStatus (made_of_files origins_phase contents root files)
-files_origins_decided contents root files told = (texts_decided contents files told, λ texts are. made_decided origins_phase (origins_decided IsSameStatus itself) root texts)
-
-files_review_decided : (contents : List ℕ → Option (List ℕ)) (root : Root) (files : List (List ℕ)) → AllByRecursion (λ file. IsSome (contents file)) files → IsDecided IsSameStatus (made_of_files review_phase contents root files)
-files_review_decided contents root files told = (texts_decided contents files told, λ texts are. made_decided review_phase (review_decided IsSameStatus itself) root texts)
-
 tree_sets_decided : (paths : Bool) (limit max_order : Option ℕ) (text : List ℕ) → IsDecided IsSameStatus (sets_of_tree paths limit max_order text)
 tree_sets_decided true limit max_order text = galileo_paths_text_decided IsSameStatus itself limit max_order text
 tree_sets_decided false limit max_order text = galileo_text_decided IsSameStatus itself limit max_order text
@@ -152,27 +144,34 @@ make_decided : (number : ℕ) (text : Bool) → IsDecided IsSameStatus (make_tex
 make_decided number true = tt
 make_decided number false = (limits_decided (made_text number ∷ []), λ texts short. (texts_model_decided made_root texts, λ model at. sized_decided model))
 
-command_decided : (contents : List ℕ → Option (List ℕ)) (voices : List Voice) (command : Command) → AllByRecursion (λ file. IsSome (contents file)) (files_of command) → IsDecided IsSameStatus (command_text contents voices command)
-command_decided contents voices (Check root files) told = (files_model_decided contents root files told, λ model at. tt)
-command_decided contents voices (Cuts root target files paging tokens) told = (texts_decided contents files told, λ texts are. cuts_in_decided root target paging tokens texts)
-command_decided contents voices (Tree root target files) told = (files_model_decided contents root files told, λ model at. tree_decided IsSameStatus itself target model.system model.rates (plain_model contents root files model at).system.is_system)
-command_decided contents voices (Fmea root files all) told = (files_model_decided contents root files told, λ model at. tt)
-command_decided contents voices (Targets root files all) told = (files_model_decided contents root files told, λ model at. decided_accepts IsSameStatus (TellsOrders model.system (asked_targets all model)) (one-text model.system (asked_targets all model)))
-command_decided contents voices (Review root files) told = (files_review_decided contents root files told, λ reviewed at. tt)
-command_decided contents voices (Events root files) told = (files_origins_decided contents root files told, λ model at. tt)
-command_decided contents voices (Report root target files chosen max_order) told = (files_model_decided contents root files told, λ model at. report_decided IsSameStatus itself target chosen max_order voices model.system)
-command_decided contents voices (Make number text) told = make_decided number text
-command_decided contents voices (Galileo files limit max_order paths) told = (texts_decided contents files told, λ texts are. tree_sets_decided paths limit max_order (first_text texts))
-command_decided contents voices (Paths root target files paging) told = (files_model_decided contents root files told, λ model at. plain_paths_decided target paging model.system (plain_model contents root files model at).system)
-command_decided contents voices (Why root target files set) told = (files_model_decided contents root files told, λ model at. plain_why_decided target set model.system (plain_model contents root files model at).system)
-command_decided contents voices (Confirm root target files set) told = (texts_decided contents files told, λ texts are. confirmed_decided root target set texts (first_short contents files texts are))
-command_decided contents voices (Place files byte) told = (texts_decided contents files told, λ texts are. tt)
-command_decided contents voices (Help of) told = tt
-command_decided contents voices Version told = tt
+text_decided : (asked_kind : Kind) (voices : List Voice) (asked : Request) (texts : List (List ℕ)) → length (first_text texts) ≤ 4194304 → IsDecided IsSameStatus (text_for asked_kind voices asked texts)
+text_decided kind.Check voices asked texts short = (texts_model_decided asked.root texts, λ model at. tt)
+text_decided kind.Cuts voices asked texts short = cuts_in_decided asked.root asked.target asked.options.paging asked.options.tokens texts
+text_decided kind.Tree voices asked texts short =
+    (texts_model_decided asked.root texts, λ model at. tree_decided IsSameStatus itself asked.target model.system model.rates (plain_model asked.root texts model at).system.is_system)
+text_decided kind.Fmea voices asked texts short = (texts_model_decided asked.root texts, λ model at. tt)
+text_decided kind.Report voices asked texts short =
+    (texts_model_decided asked.root texts, λ model at. report_decided IsSameStatus itself asked.target asked.options.chosen asked.options.paging.max_order voices model.system)
+text_decided kind.Make voices asked texts short = make_decided asked.number asked.options.text
+text_decided kind.Galileo voices asked texts short = tree_sets_decided asked.options.paths asked.options.paging.limit asked.options.paging.max_order (first_text texts)
+text_decided kind.Paths voices asked texts short =
+    (texts_model_decided asked.root texts, λ model at. plain_paths_decided asked.target asked.options.paging model.system (plain_model asked.root texts model at).system)
+text_decided kind.Why voices asked texts short = (texts_model_decided asked.root texts, λ model at. plain_why_decided asked.target asked.options.set model.system (plain_model asked.root texts model at).system)
+text_decided kind.Confirm voices asked texts short = confirmed_decided asked.root asked.target asked.options.set texts short
+text_decided kind.Targets voices asked texts short =
+    (texts_model_decided asked.root texts, λ model at. decided_accepts IsSameStatus (TellsOrders model.system (asked_targets asked.options.all model)) (one-text model.system (asked_targets asked.options.all model)))
+text_decided kind.Events voices asked texts short = (made_decided origins_phase (origins_decided IsSameStatus itself) asked.root texts, λ model at. tt)
+text_decided kind.Review voices asked texts short = (made_decided review_phase (review_decided IsSameStatus itself) asked.root texts, λ reviewed at. tt)
+text_decided kind.Place voices asked texts short = tt
+text_decided kind.Help voices asked texts short = tt
+text_decided kind.Version voices asked texts short = tt
+
+request_decided : (contents : List ℕ → Option (List ℕ)) (voices : List Voice) (asked : Request) → AllByRecursion (λ file. IsSome (contents file)) asked.files → IsDecided IsSameStatus (request_text contents voices asked)
+request_decided contents voices asked told = (texts_decided contents asked.files told, λ texts are. text_decided asked.kind voices asked texts (first_short contents asked.files texts are))
 
 due_decided : (words : List (List ℕ)) (contents : List ℕ → Option (List ℕ)) (voices : List Voice) → AllTold words contents voices → IsDecided IsSameStatus (due words contents voices)
 due_decided words contents voices told =
-    (decided_finds IsSameStatus itself (IsCommand (labels voices) words) Usage (one_command (labels voices) words), λ command is. command_decided contents voices command (told command is))
+    (decided_finds IsSameStatus itself (IsRequest (labels voices) words) Usage (one_request (labels voices) words), λ asked is. request_decided contents voices asked (told asked is))
 
 pub one_due : (words : List (List ℕ)) (contents : List ℕ → Option (List ℕ)) (voices : List Voice) → AllTold words contents voices → (a b : Result (List ℕ) Status) → IsDue (due words contents voices) a → IsDue (due words contents voices) b → IsSameEnd IsSameStatus a b
 one_due words contents voices told = decided.one_due IsSameStatus (due words contents voices) (due_decided words contents voices told)

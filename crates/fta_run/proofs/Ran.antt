@@ -1,6 +1,7 @@
 -- How a run ended, and what is due.
-use Rattle.std.proofs.Common.{◌≡◌, ◌<◌, ◌⊎◌, ℕ, Bool, true, false, List, [], ◌∷◌, length, Option, None, Some, Result, Ok, Err, refl, sym, ap, subst, inl, inr}
-use Rattle.std.specs.Prelude.{IsErrAnd, IsOk}
+use Rattle.std.proofs.Common.{◌≡◌, ◌∙◌, ◌<◌, ◌⊎◌, ℕ, Bool, true, false, List, [], ◌∷◌, length, Option, None, Some, Result, Ok, Err, refl, sym, ap, subst, inl, inr}
+use Rattle.std.specs.Prelude.{IfOk, IsErrAnd, IsOk, MatchResult}
+use Rattle.std.proofs.lemmas.Bool.{false≢true}
 use Rattle.std.proofs.lemmas.Result.{err_from_is_err_and}
 use Rattle.plain_values.specs.declared.refusal.Code.TheVariants.{TooManyFiles}
 use Rattle.plain_values.specs.declared.refusal.Refusal.{Refusal}
@@ -22,7 +23,8 @@ use Rattle.package_index.specs.declared.id.ClassifierId.{ClassifierId}
 use Rattle.model_phases.specs.declared.flat.FlatModel.{FlatModel}
 use Rattle.backward_slice.specs.Slices.{HasLargeSlice}
 use Rattle.property_reader.specs.declared.rate.Rate.{Rate}
-use Rattle.fta_run.specs.Words.{Check, Command, Cuts, Tree, Fmea, Targets, Events, Review, Report, Make, Galileo, Paths, Why, Confirm, Place, Help, Version, files_of, GiveCommand, GiveNoCommand, IsCommand, chosen_of, file_words}
+use Rattle.fta_words.specs.declared.kind.Kind.TheVariants as kind
+use Rattle.fta_run.specs.Words.{Kind, Request, GiveRequest, GiveNoRequest, IsRequest, file_words}
 use Rattle.fta_run.specs.Files.{HasTooLong, HasTooMuch, LacksTokens, LacksUnits, NamesTooMany, most_files}
 use Rattle.plain_values.specs.Refusal.{of_words}
 use Rattle.fta_words.specs.declared.command.Paging.{Paging}
@@ -37,16 +39,25 @@ use Rattle.page_tokens.specs.Forms.{IsMalformed}
 use Rattle.page_tokens.specs.Keys.{asked_digits}
 use Rattle.page_tokens.specs.Starts.{IsStale, LacksStart as LacksBegin}
 use Rattle.path_sets.specs.PathSets.{HasLargePaths}
-use Rattle.system_answers.specs.inner.Prints.{IsReportFault, NoFault, PrintsBut}
-use Rattle.fta_run.specs.Due.{command_text, confirmed_in, cuts_in, due, first_text, made_of_files, made_of_texts, made_root, made_target, make_text, model_of_files, model_of_texts, other_texts, sets_of_tree, sized_text, texts_of, within_limits}
+use Rattle.system_answers.specs.inner.Ends.{EndsReports}
+use Rattle.fta_run.specs.Due.{confirmed_in, cuts_in, due, first_text, made_of_texts, made_root, made_target, make_text, model_of_texts, other_texts, report_in, request_text, sets_of_tree, sized_text, text_for, texts_of, within_limits}
 use Rattle.fta_run.specs.Later.{IsLater}
 use Rattle.system_answers.specs.Voices.{Voice, labels}
 use Rattle.model_maker.specs.Text.{text_of as made_text}
 use Rattle.cut_reports.specs.Places.{AtChosen}
-use Rattle.fta_run.specs.Answers.{AllTold, AnswersWords, BeginsWithMemory, IsCaused, IsJustified, IsManyAnswer, IsOutput, IsSameStatus, MayCome, Took}
-use Rattle.fta_run.specs.inner.Steps.{IsChosenFault, IsReadEnd, Runs, RunsBut, ended}
-use Rattle.system_answers.proofs.Prints.{prints_but_on}
-use Rattle.fta_run.proofs.Commands.{file_words_are, one_command}
+use Rattle.fta_run.specs.Answers.{AllTold, AnswersWords, BeginsWithMemory, IsCaused, IsJustified, IsManyAnswer, IsOutput, IsSameStatus, MayCome, Took, is_by_lines}
+use Rattle.fta_run.specs.inner.Steps.{AsksLines, IsExcused, IsReadEnd, Runs, ended}
+use Rattle.fta_words.proofs.Requests.{file_words_are, one_request}
+use Rattle.fta_outside.specs.Outside.{LacksMemory, Rose, Seen, TookPrefix}
+use Rattle.fta_outside.specs.declared.error.WriteError.{WriteError}
+use Rattle.fta_outside.specs.declared.error.WriteError.TheVariants.{Failed, Memory as Lacks}
+use Rattle.phases.specs.inner.Meets.{IsMemory, MeetsBut}
+use Rattle.phases.specs.inner.Stopped.{status_of_write}
+use Rattle.phases.proofs.Steps.{◌passes◌, ◌beyond◌, ends}
+use Rattle.fta_run.specs.declared.ready.Held.{Held}
+use Rattle.fta_run.specs.declared.ready.Ready.{Ready}
+use Rattle.fta_run.specs.declared.ready.Ready.TheVariants as made
+use Rattle.fta_run.specs.Ready.{IsByLines, held_text, ready_text}
 use Rattle.fta_run.proofs.OneDue.{one_due}
 
 -- ---- how the phases stop
@@ -163,15 +174,6 @@ made_stops next last root texts = (
 texts_model_stops : (root : Root) (texts : List (List ℕ)) → StopsOnly IsARefusal (model_of_texts root texts)
 texts_model_stops = made_stops flat_phase model_stops
 
-files_model_stops : (contents : List ℕ → Option (List ℕ)) (root : Root) (files : List (List ℕ)) → StopsOnly IsARefusal (model_of_files contents root files)
-files_model_stops contents root files = (texts_stop contents files, λ texts read. texts_model_stops root texts)
-
-files_origins_stop : (contents : List ℕ → Option (List ℕ)) (root : Root) (files : List (List ℕ)) → StopsOnly IsARefusal (made_of_files origins_phase contents root files)
-files_origins_stop contents root files = (texts_stop contents files, λ texts read. made_stops origins_phase origins_stop root texts)
-
-files_review_stop : (contents : List ℕ → Option (List ℕ)) (root : Root) (files : List (List ℕ)) → StopsOnly IsARefusal (made_of_files review_phase contents root files)
-files_review_stop contents root files = (texts_stop contents files, λ texts read. made_stops review_phase review_stop root texts)
-
 make_stop : (number : ℕ) (text : Bool) → StopsOnly IsARefusal (make_text number text)
 make_stop number true = tt
 make_stop number false = (limits_stop (made_text number ∷ []), λ texts short. (texts_model_stops made_root texts, λ model at. sized_stop model))
@@ -180,39 +182,48 @@ cuts_in_stop : (root : Root) (target : List ℕ) (paging : Paging) (tokens : Boo
 cuts_in_stop root target paging tokens texts =
     (refusals (model_of_texts root texts) (texts_model_stops root texts), λ model at. cuts_stop target paging tokens (asked_digits tokens paging.after root target paging.max_order texts) model.system)
 
-command_stops : (contents : List ℕ → Option (List ℕ)) (voices : List Voice) (command : Command) → StopsOnly IsAnEnd (command_text contents voices command)
-command_stops contents voices (Check root files) = (refusals (model_of_files contents root files) (files_model_stops contents root files), λ model at. tt)
-command_stops contents voices (Cuts root target files paging tokens) = (refusals (texts_of contents files) (texts_stop contents files), λ texts read. cuts_in_stop root target paging tokens texts)
-command_stops contents voices (Tree root target files) = (refusals (model_of_files contents root files) (files_model_stops contents root files), λ model at. tree_stop target model.system model.rates)
-command_stops contents voices (Fmea root files all) = (refusals (model_of_files contents root files) (files_model_stops contents root files), λ model at. tt)
-command_stops contents voices (Targets root files all) = (refusals (model_of_files contents root files) (files_model_stops contents root files), λ model at status none. absurd none)
-command_stops contents voices (Events root files) = (refusals (made_of_files origins_phase contents root files) (files_origins_stop contents root files), λ model at. tt)
-command_stops contents voices (Review root files) = (refusals (made_of_files review_phase contents root files) (files_review_stop contents root files), λ model at. tt)
-command_stops contents voices (Report root target files chosen max_order) =
-    (refusals (model_of_files contents root files) (files_model_stops contents root files), λ model at. refusals (report_text target chosen max_order voices model.system) (report_stop target chosen max_order voices model.system))
-command_stops contents voices (Make number text) = refusals (make_text number text) (make_stop number text)
-command_stops contents voices (Galileo files limit max_order paths) = (refusals (texts_of contents files) (texts_stop contents files), λ texts read. refusals (sets_of_tree paths limit max_order (first_text texts)) (tree_sets_stop paths limit max_order (first_text texts)))
-command_stops contents voices (Paths root target files paging) = (refusals (model_of_files contents root files) (files_model_stops contents root files), λ model at. refusals (paths_text target paging model.system) (paths_stop target paging model.system))
-command_stops contents voices (Why root target files set) = (refusals (model_of_files contents root files) (files_model_stops contents root files), λ model at. refusals (why_text target set model.system) (why_stop target set model.system))
-command_stops contents voices (Confirm root target files set) = (refusals (texts_of contents files) (texts_stop contents files), λ texts read. refusals (confirmed_in root target set texts) (confirmed_stop root target set texts))
-command_stops contents voices (Place files byte) = (refusals (texts_of contents files) (texts_stop contents files), λ texts read. tt)
-command_stops contents voices (Help of) = tt
-command_stops contents voices Version = tt
+text_stops : (asked_kind : Kind) (voices : List Voice) (asked : Request) (texts : List (List ℕ)) → StopsOnly IsAnEnd (text_for asked_kind voices asked texts)
+text_stops kind.Check voices asked texts = (refusals (model_of_texts asked.root texts) (texts_model_stops asked.root texts), λ model at. tt)
+text_stops kind.Cuts voices asked texts = cuts_in_stop asked.root asked.target asked.options.paging asked.options.tokens texts
+text_stops kind.Tree voices asked texts = (refusals (model_of_texts asked.root texts) (texts_model_stops asked.root texts), λ model at. tree_stop asked.target model.system model.rates)
+text_stops kind.Fmea voices asked texts = (refusals (model_of_texts asked.root texts) (texts_model_stops asked.root texts), λ model at. tt)
+text_stops kind.Report voices asked texts = (
+  refusals (model_of_texts asked.root texts) (texts_model_stops asked.root texts),
+  λ model at.
+      refusals (report_text asked.target asked.options.chosen asked.options.paging.max_order voices model.system) (report_stop asked.target asked.options.chosen asked.options.paging.max_order voices model.system),
+)
+text_stops kind.Make voices asked texts = refusals (make_text asked.number asked.options.text) (make_stop asked.number asked.options.text)
+text_stops kind.Galileo voices asked texts =
+    refusals (sets_of_tree asked.options.paths asked.options.paging.limit asked.options.paging.max_order (first_text texts)) (tree_sets_stop asked.options.paths asked.options.paging.limit asked.options.paging.max_order (first_text texts))
+text_stops kind.Paths voices asked texts =
+    (refusals (model_of_texts asked.root texts) (texts_model_stops asked.root texts), λ model at. refusals (paths_text asked.target asked.options.paging model.system) (paths_stop asked.target asked.options.paging model.system))
+text_stops kind.Why voices asked texts =
+    (refusals (model_of_texts asked.root texts) (texts_model_stops asked.root texts), λ model at. refusals (why_text asked.target asked.options.set model.system) (why_stop asked.target asked.options.set model.system))
+text_stops kind.Confirm voices asked texts = refusals (confirmed_in asked.root asked.target asked.options.set texts) (confirmed_stop asked.root asked.target asked.options.set texts)
+text_stops kind.Targets voices asked texts = (refusals (model_of_texts asked.root texts) (texts_model_stops asked.root texts), λ model at status none. absurd none)
+text_stops kind.Events voices asked texts = (refusals (made_of_texts origins_phase asked.root texts) (made_stops origins_phase origins_stop asked.root texts), λ model at. tt)
+text_stops kind.Review voices asked texts = (refusals (made_of_texts review_phase asked.root texts) (made_stops review_phase review_stop asked.root texts), λ model at. tt)
+text_stops kind.Place voices asked texts = tt
+text_stops kind.Help voices asked texts = tt
+text_stops kind.Version voices asked texts = tt
 
--- Usage without a command; or there is one, and a refusal, a constant target or a stale token
-abbrev Kind : List (List ℕ) → List (List ℕ) → Status → Type 0
-Kind names words status = ((status ≡ Usage) × GiveNoCommand names words) ⊎ (GiveCommand names words × IsAnEnd status)
+request_stops : (contents : List ℕ → Option (List ℕ)) (voices : List Voice) (asked : Request) → StopsOnly IsAnEnd (request_text contents voices asked)
+request_stops contents voices asked = (refusals (texts_of contents asked.files) (texts_stop contents asked.files), λ texts read. text_stops asked.kind voices asked texts)
 
-kind_of : (words : List (List ℕ)) (contents : List ℕ → Option (List ℕ)) (voices : List Voice) (s : Status) → Stops (due words contents voices) s → Kind (labels voices) words s
+-- Usage without a request; or there is one, and a refusal, a constant target or a stale token
+abbrev EndsSo : List (List ℕ) → List (List ℕ) → Status → Type 0
+EndsSo names words status = ((status ≡ Usage) × GiveNoRequest names words) ⊎ (GiveRequest names words × IsAnEnd status)
+
+kind_of : (words : List (List ℕ)) (contents : List ℕ → Option (List ℕ)) (voices : List Voice) (s : Status) → Stops (due words contents voices) s → EndsSo (labels voices) words s
 kind_of words contents voices s stops =
     elim stops.stopped [
       | inl none ↦ inl none
-      | inr there ↦ inr ((there.0, there.1), stops_only IsAnEnd (command_text contents voices there.0) (command_stops contents voices there.0) s there.2)
+      | inr there ↦ inr ((there.0, there.1), stops_only IsAnEnd (request_text contents voices there.0) (request_stops contents voices there.0) s there.2)
     ]
 
 -- ---- the words
 
-words_of_kind : (names words : List (List ℕ)) (s : Status) → Kind names words s → AnswersWords s names words
+words_of_kind : (names words : List (List ℕ)) (s : Status) → EndsSo names words s → AnswersWords s names words
 words_of_kind names words s kind =
     elim kind [
       | inl none ↦ subst (λ x. AnswersWords x names words) (sym none.0) none.1
@@ -230,27 +241,24 @@ abbrev Ended : List (List ℕ) → (List ℕ → Option (List ℕ)) → List Voi
 Ended words contents voices s =
     Stops (due words contents voices) s
     ⊎ ((s ≡ Memory)
-    ⊎ (((file : ℕ) × (s ≡ ReadFault file) × GiveCommand (labels voices) words)
+    ⊎ (((file : ℕ) × (s ≡ ReadFault file) × GiveRequest (labels voices) words)
     ⊎ (((s ≡ WriteFault) ⊎ ((place : ℕ) × (s ≡ ReportFault place))) × ((text : List ℕ) × Passes (due words contents voices) text))))
 
-module _ (words : List (List ℕ)) (contents : List ℕ → Option (List ℕ)) (voices : List Voice) (read_before read_after : List ℕ → ℕ) (RoseThere : ℕ → Type 0) (t u : Option (List ℕ)) (f g : ℕ) where
-  how_ended : (s : Status) → Runs {T = Unit {0}} words contents voices read_before read_after RoseThere (Err s) t u f g → Ended words contents voices s
+module _ (words : List (List ℕ)) (contents : List ℕ → Option (List ℕ)) (voices : List Voice) (read_before read_after : List ℕ → ℕ) (RoseThere : ℕ → Type 0) (t u : Seen) where
+  how_ended : (s : Status) → Runs {T = Unit {0}} words contents voices read_before read_after RoseThere (Err s) t u → Ended words contents voices s
   how_ended s end =
       elim end [
-        | inl wrote ↦ elim wrote [
-          | inl stop ↦ inl stop.0
-          | inr other ↦ elim other [
-            | inl memory ↦ inr (inl memory.0)
-            | inr fault ↦ elim fault [
-              | inl failed ↦ inr (inr (inr (inl failed.0, (failed.1.0, failed.1.1))))
-              | inr report ↦ inr (inr (inr (inr (report.0.2.0, report.0.2.1), (report.1.0, report.1.1))))
+        | inl quiet ↦ elim quiet.0 [
+          | inl stops ↦ inl stops
+          | inr excused ↦ elim excused [
+            | inl memory ↦ inr (inl memory)
+            | inr more ↦ elim more [
+              | inl read ↦ elim read.0 [ inl memory ↦ inr (inl memory) | inr fault ↦ inr (inr (inl (fault.0, fault.1, read.1))) ]
+              | inr report ↦ inr (inr (inr (inr (report.0.2.0, report.0.2.1), report.1)))
             ]
           ]
         ]
-        | inr read ↦ elim read.0.0 [
-          | inl memory ↦ inr (inl memory)
-          | inr fault ↦ inr (inr (inl (fault.0, fault.1, read.0.1)))
-        ]
+        | inr front ↦ elim front.1 [ inl failed ↦ inr (inr (inr (inl failed.0, (front.0.0, front.0.1)))) | inr memory ↦ inr (inl memory.0) ]
       ]
 
   words_ended : (s : Status) → Ended words contents voices s → AnswersWords s (labels voices) words
@@ -269,7 +277,7 @@ module _ (words : List (List ℕ)) (contents : List ℕ → Option (List ℕ)) (
         ]
       ]
 
-  pub ran_words : {T : Type 0} (result : Result T Status) → Runs words contents voices read_before read_after RoseThere result t u f g → AnswersWords (ended result) (labels voices) words
+  pub ran_words : {T : Type 0} (result : Result T Status) → Runs words contents voices read_before read_after RoseThere result t u → AnswersWords (ended result) (labels voices) words
   ran_words (Ok _) took = (took.1.passed.0, took.1.passed.1)
   ran_words (Err s) end = words_ended s (how_ended s end)
 
@@ -302,13 +310,13 @@ module _ (words : List (List ℕ)) (contents : List ℕ → Option (List ℕ)) (
         ]
       ]
 
-  pub ran_verdict : {T : Type 0} (result : Result T Status) → Runs words contents voices read_before read_after RoseThere result t u f g → IsJustified words contents voices (ended result)
+  pub ran_verdict : {T : Type 0} (result : Result T Status) → Runs words contents voices read_before read_after RoseThere result t u → IsJustified words contents voices (ended result)
   ran_verdict (Ok _) took = tt
   ran_verdict (Err s) end = verdict_ended s (how_ended s end)
 
   -- ---- what was taken, and what faults came of
 
-  took_stopped : (s : Status) → Kind (labels voices) words s → u ≡ t → Took (IsOutput words contents voices) s t u
+  took_stopped : (s : Status) → EndsSo (labels voices) words s → u.taken ≡ t.taken → Took (IsOutput words contents voices) s t u
   took_stopped s kind same =
       elim kind [
         | inl none ↦ subst (λ x. Took (IsOutput words contents voices) x t u) (sym none.0) same
@@ -321,70 +329,76 @@ module _ (words : List (List ℕ)) (contents : List ℕ → Option (List ℕ)) (
         ]
       ]
 
-  took_ended : (s : Status) → Runs {T = Unit {0}} words contents voices read_before read_after RoseThere (Err s) t u f g → Took (IsOutput words contents voices) s t u
+  took_ended : (s : Status) → Runs {T = Unit {0}} words contents voices read_before read_after RoseThere (Err s) t u → Took (IsOutput words contents voices) s t u
   took_ended s end =
       elim end [
-        | inl wrote ↦ elim wrote [
-          | inl stop ↦ took_stopped s (kind_of words contents voices s stop.0) stop.1
-          | inr other ↦ elim other [
-            | inl memory ↦ subst (λ x. Took (IsOutput words contents voices) x t u) (sym memory.0) memory.1
-            | inr fault ↦ elim fault [
-              | inl failed ↦ subst (λ x. Took (IsOutput words contents voices) x t u) (sym failed.0) failed.1
-              | inr report ↦ subst (λ x. Took (IsOutput words contents voices) x t u) (sym report.0.2.1) report.2
+        | inl quiet ↦ elim quiet.0 [
+          | inl stops ↦ took_stopped s (kind_of words contents voices s stops) quiet.1
+          | inr excused ↦ elim excused [
+            | inl memory ↦ subst (λ x. Took (IsOutput words contents voices) x t u) (sym memory) (inl quiet.1)
+            | inr more ↦ elim more [
+              | inl read ↦ elim read.0 [
+                | inl memory ↦ subst (λ x. Took (IsOutput words contents voices) x t u) (sym memory) (inl quiet.1)
+                | inr fault ↦ subst (λ x. Took (IsOutput words contents voices) x t u) (sym fault.1) quiet.1
+              ]
+              | inr report ↦ subst (λ x. Took (IsOutput words contents voices) x t u) (sym report.0.2.1) quiet.1
             ]
           ]
         ]
-        | inr read ↦ elim read.0.0 [
-          | inl memory ↦ subst (λ x. Took (IsOutput words contents voices) x t u) (sym memory) (inl read.1)
-          | inr fault ↦ subst (λ x. Took (IsOutput words contents voices) x t u) (sym fault.1) read.1
+        | inr front ↦ elim front.1 [
+          | inl failed ↦ subst (λ x. Took (IsOutput words contents voices) x t u) (sym failed.0) front.0
+          | inr memory ↦ subst (λ x. Took (IsOutput words contents voices) x t u) (sym memory.0) (inr front.0)
         ]
       ]
 
-  took_as : {T : Type 0} (result : Result T Status) → Runs words contents voices read_before read_after RoseThere result t u f g → Took (IsOutput words contents voices) (ended result) t u
+  took_as : {T : Type 0} (result : Result T Status) → Runs words contents voices read_before read_after RoseThere result t u → Took (IsOutput words contents voices) (ended result) t u
   took_as (Ok _) took = took
   took_as (Err s) end = took_ended s end
 
-  pub ran_output : {T : Type 0} (result : Result T Status) (status : Status) → status ≡ ended result → Runs words contents voices read_before read_after RoseThere result t u f g → Took (IsOutput words contents voices) status t u
+  pub ran_output : {T : Type 0} (result : Result T Status) (status : Status) → status ≡ ended result → Runs words contents voices read_before read_after RoseThere result t u → Took (IsOutput words contents voices) status t u
   ran_output result status is end = subst (λ x. Took (IsOutput words contents voices) x t u) (sym is) (took_as result end)
 
-  caused_by_kind : (s : Status) → Kind (labels voices) words s → IsCaused s (labels voices) words read_before read_after f g RoseThere
+  caused_by_kind : (s : Status) → EndsSo (labels voices) words s → IsCaused s (labels voices) words read_before read_after t u RoseThere
   caused_by_kind s kind =
       elim kind [
-        | inl none ↦ subst (λ x. IsCaused x (labels voices) words read_before read_after f g RoseThere) (sym none.0) tt
+        | inl none ↦ subst (λ x. IsCaused x (labels voices) words read_before read_after t u RoseThere) (sym none.0) tt
         | inr some ↦ elim some.1 [
-          | inl refusal ↦ subst (λ x. IsCaused x (labels voices) words read_before read_after f g RoseThere) (sym refusal.1) tt
+          | inl refusal ↦ subst (λ x. IsCaused x (labels voices) words read_before read_after t u RoseThere) (sym refusal.1) tt
           | inr other ↦ elim other [
-            | inl constant ↦ subst (λ x. IsCaused x (labels voices) words read_before read_after f g RoseThere) (sym constant.1) tt
-            | inr stale ↦ subst (λ x. IsCaused x (labels voices) words read_before read_after f g RoseThere) (sym stale.2) tt
+            | inl constant ↦ subst (λ x. IsCaused x (labels voices) words read_before read_after t u RoseThere) (sym constant.1) tt
+            | inr stale ↦ subst (λ x. IsCaused x (labels voices) words read_before read_after t u RoseThere) (sym stale.2) tt
           ]
         ]
       ]
 
-  caused_ended : (s : Status) → Runs {T = Unit {0}} words contents voices read_before read_after RoseThere (Err s) t u f g → IsCaused s (labels voices) words read_before read_after f g RoseThere
+  caused_ended : (s : Status) → Runs {T = Unit {0}} words contents voices read_before read_after RoseThere (Err s) t u → IsCaused s (labels voices) words read_before read_after t u RoseThere
   caused_ended s end =
       elim end [
-        | inl wrote ↦ elim wrote [
-          | inl stop ↦ caused_by_kind s (kind_of words contents voices s stop.0)
-          | inr other ↦ elim other [
-            | inl memory ↦ subst (λ x. IsCaused x (labels voices) words read_before read_after f g RoseThere) (sym memory.0) tt
-            | inr fault ↦ elim fault [
-              | inl failed ↦ subst (λ x. IsCaused x (labels voices) words read_before read_after f g RoseThere) (sym failed.0) failed.2
-              | inr report ↦ subst (λ x. IsCaused x (labels voices) words read_before read_after f g RoseThere) (sym report.0.2.1) (report.0.0, report.0.1, report.0.2.2, report.0.2.3)
+        | inl quiet ↦ elim quiet.0 [
+          | inl stops ↦ caused_by_kind s (kind_of words contents voices s stops)
+          | inr excused ↦ elim excused [
+            | inl memory ↦ subst (λ x. IsCaused x (labels voices) words read_before read_after t u RoseThere) (sym memory) tt
+            | inr more ↦ elim more [
+              | inl read ↦ elim read.0 [
+                | inl memory ↦ subst (λ x. IsCaused x (labels voices) words read_before read_after t u RoseThere) (sym memory) tt
+                | inr fault ↦ subst (λ x. IsCaused x (labels voices) words read_before read_after t u RoseThere) (sym fault.1) (fault.2, fault.3, fault.4, fault.5)
+              ]
+              | inr report ↦ subst (λ x. IsCaused x (labels voices) words read_before read_after t u RoseThere) (sym report.0.2.1) (report.0.0, report.0.1, report.0.2.2, report.0.2.3)
             ]
           ]
         ]
-        | inr read ↦ elim read.0.0 [
-          | inl memory ↦ subst (λ x. IsCaused x (labels voices) words read_before read_after f g RoseThere) (sym memory) tt
-          | inr fault ↦ subst (λ x. IsCaused x (labels voices) words read_before read_after f g RoseThere) (sym fault.1) (fault.2, fault.3, fault.4, fault.5)
+        | inr front ↦ elim front.1 [
+          | inl failed ↦ subst (λ x. IsCaused x (labels voices) words read_before read_after t u RoseThere) (sym failed.0) failed.1
+          | inr memory ↦ subst (λ x. IsCaused x (labels voices) words read_before read_after t u RoseThere) (sym memory.0) tt
         ]
       ]
 
-  caused_as : {T : Type 0} (result : Result T Status) → Runs words contents voices read_before read_after RoseThere result t u f g → IsCaused (ended result) (labels voices) words read_before read_after f g RoseThere
+  caused_as : {T : Type 0} (result : Result T Status) → Runs words contents voices read_before read_after RoseThere result t u → IsCaused (ended result) (labels voices) words read_before read_after t u RoseThere
   caused_as (Ok _) took = tt
   caused_as (Err s) end = caused_ended s end
 
-  pub ran_caused : {T : Type 0} (result : Result T Status) (status : Status) → status ≡ ended result → Runs words contents voices read_before read_after RoseThere result t u f g → IsCaused status (labels voices) words read_before read_after f g RoseThere
-  ran_caused result status is end = subst (λ x. IsCaused x (labels voices) words read_before read_after f g RoseThere) (sym is) (caused_as result end)
+  pub ran_caused : {T : Type 0} (result : Result T Status) (status : Status) → status ≡ ended result → Runs words contents voices read_before read_after RoseThere result t u → IsCaused status (labels voices) words read_before read_after t u RoseThere
+  ran_caused result status is end = subst (λ x. IsCaused x (labels voices) words read_before read_after t u RoseThere) (sym is) (caused_as result end)
 
 -- ---- what is due
 
@@ -411,7 +425,7 @@ refusal_is_due : (a : Result (List ℕ) Status) (refusal : Refusal) → IsSameEn
 refusal_is_due (Ok x) refusal same = absurd same
 refusal_is_due (Err a) refusal same = same
 
-came_of_kind : (names words : List (List ℕ)) (a : Result (List ℕ) Status) (s : Status) → Kind names words s → IsSameEnd IsSameStatus a (Err s) → MayCome a s
+came_of_kind : (names words : List (List ℕ)) (a : Result (List ℕ) Status) (s : Status) → EndsSo names words s → IsSameEnd IsSameStatus a (Err s) → MayCome a s
 came_of_kind names words a s kind same =
     elim kind [
       | inl none ↦ subst (MayCome a) (sym none.0) (usage_is_due a (subst (λ x. IsSameEnd IsSameStatus a (Err x)) none.0 same))
@@ -439,87 +453,97 @@ came_ended words contents voices s end told a is_due =
       ]
     ]
 
-pub ran_complete : {T : Type 0} (words : List (List ℕ)) (contents : List ℕ → Option (List ℕ)) (voices : List Voice) (read_before read_after : List ℕ → ℕ) (RoseThere : ℕ → Type 0) (t u : Option (List ℕ)) (f g : ℕ) (result : Result T Status)
-    → Runs words contents voices read_before read_after RoseThere result t u f g → AllTold words contents voices → (a : Result (List ℕ) Status) → IsDue (due words contents voices) a → MayCome a (ended result)
-ran_complete words contents voices read_before read_after RoseThere t u f g (Ok _) took told a is_due = text_is_due a took.0 (one_due words contents voices told a (Ok took.0) is_due took.1)
-ran_complete words contents voices read_before read_after RoseThere t u f g (Err s) end told a is_due =
-    came_ended words contents voices s (how_ended words contents voices read_before read_after RoseThere t u f g s end) told a is_due
+pub ran_complete : {T : Type 0} (words : List (List ℕ)) (contents : List ℕ → Option (List ℕ)) (voices : List Voice) (read_before read_after : List ℕ → ℕ) (RoseThere : ℕ → Type 0) (t u : Seen) (result : Result T Status)
+    → Runs words contents voices read_before read_after RoseThere result t u → AllTold words contents voices → (a : Result (List ℕ) Status) → IsDue (due words contents voices) a → MayCome a (ended result)
+ran_complete words contents voices read_before read_after RoseThere t u (Ok _) took told a is_due = text_is_due a took.0 (one_due words contents voices told a (Ok took.0) is_due took.1)
+ran_complete words contents voices read_before read_after RoseThere t u (Err s) end told a is_due =
+    came_ended words contents voices s (how_ended words contents voices read_before read_after RoseThere t u s end) told a is_due
 
--- ---- the steps of a run
+-- ---- the steps of an answer
 
--- the text of a later phase was written
-pub ran_on : {A T : Type 0} (Faulted Excuse : Status → Type 0) (first : Phase A) (later : A → Phase (List ℕ)) (x : A) (result : Result T Status) (t u : Option (List ℕ)) (f g : ℕ) → Passes first x → PrintsBut Faulted (later x) result t u f g → RunsBut Faulted Excuse (chains first later) result t u f g
-ran_on {A} {T} Faulted Excuse first later x result t u f g given prints = whole result (prints_but_on Faulted first later x result t u f g given prints) where
-  whole : (r : Result T Status) → PrintsBut Faulted (chains first later) r t u f g → RunsBut Faulted Excuse (chains first later) r t u f g
-  whole (Ok _) took = took
-  whole (Err s) end = inl end
+-- an answer that is held is ready, whatever else is excused
+pub ready_held : (Excuse : Status → Type 0) (phase : Phase (List ℕ)) (its : Result Held Status) (result : Result Ready Status) → MatchResult its (λ text. result ≡ Ok (made.Held text)) (λ status. result ≡ Err status)
+    → ((s : Status) → IsMemory s → Excuse s) → MeetsBut IsMemory held_text phase its → MeetsBut Excuse ready_text phase result
+ready_held Excuse phase (Ok text) result is wanting met = rw is met
+ready_held Excuse phase (Err s) result is wanting end = rw is (elim end [ inl stops ↦ inl stops | inr memory ↦ inr (wanting s memory) ])
 
--- a first phase stopped, or its status is excused, before anything was written
-pub ran_stopped : {A T : Type 0} (Faulted Excuse : Status → Type 0) (first : Phase A) (later : A → Phase (List ℕ)) (t : Option (List ℕ)) (f : ℕ) (result : Result T Status) (s : Status) → IsErrAnd result (λ its. its ≡ s) → Stops first s ⊎ Excuse s → RunsBut Faulted Excuse (chains first later) result t t f f
-ran_stopped Faulted Excuse first later t f result s is end =
-    let p = err_from_is_err_and result is in
-    rw (p.1, p.2) (elim end [ inl stops ↦ inl (inl (record { stopped = inl stops.stopped }, refl)) | inr excused ↦ inr (excused, refl) ])
+-- the same with the reports
+pub ready_told : (Excuse : Status → Type 0) (phase : Phase (List ℕ)) (its : Result Held Status) (result : Result Ready Status) → MatchResult its (λ text. result ≡ Ok (made.Held text)) (λ status. result ≡ Err status)
+    → MeetsBut Excuse held_text phase its → MeetsBut Excuse ready_text phase result
+ready_told Excuse phase (Ok text) result is met = rw is met
+ready_told Excuse phase (Err s) result is end = rw is end
 
--- no report was asked
-pub ran_alone : {T : Type 0} (Faulted Excuse : Status → Type 0) (phase : Phase (List ℕ)) (result : Result T Status) (t u : Option (List ℕ)) (f g : ℕ) → RunsBut NoFault Excuse phase result t u f g → RunsBut Faulted Excuse phase result t u f g
-ran_alone Faulted Excuse phase (Ok _) t u f g took = took
-ran_alone Faulted Excuse phase (Err s) t u f g end =
+-- what is held is not made line by line
+pub held_is : (So : Type 0) (its : Result Held Status) (result : Result Ready Status) → MatchResult its (λ text. result ≡ Ok (made.Held text)) (λ status. result ≡ Err status) → IfOk result (λ ready. IsByLines ready → So)
+held_is So (Ok text) result is = rw is (λ none. absurd none)
+held_is So (Err s) result is = rw is tt
+
+-- what reports say behind a first phase, and how they end
+pub told_later : {A : Type 0} (chosen : List ℕ) (RoseThere : ℕ → Type 0) (first : Phase A) (later : A → Phase (List ℕ)) (x : A) (s : Status) → Passes first x → Stops (later x) s ⊎ EndsReports chosen RoseThere (later x) s
+    → Stops (chains first later) s ⊎ EndsReports chosen RoseThere (chains first later) s
+told_later chosen RoseThere first later x s before end =
     elim end [
-      | inl wrote ↦ inl (elim wrote [
-        | inl stop ↦ inl stop
-        | inr other ↦ inr (elim other [ inl memory ↦ inl memory | inr fault ↦ inr (elim fault [ inl failed ↦ inl failed | inr none ↦ absurd none.0 ]) ])
-      ])
-      | inr read ↦ inr read
+      | inl stops ↦ before beyond inl stops
+      | inr ended_so ↦ inr (elim ended_so [ inl memory ↦ inl memory | inr fault ↦ inr (fault.0, (fault.1.0, before passes fault.1.1)) ])
     ]
 
 -- the chosen reports are the same
-pub ran_chosen : {T : Type 0} (RoseThere : ℕ → Type 0) (Excuse : Status → Type 0) (contents : List ℕ → Option (List ℕ)) (voices : List Voice) (root : Root) (target : List ℕ) (files : List (List ℕ)) (max_order : Option ℕ) (result : Result T Status) (t u : Option (List ℕ)) (f g : ℕ) (a b : List ℕ)
-    → a ≡ b → RunsBut (IsReportFault a RoseThere) Excuse (command_text contents voices (Report root target files a max_order)) result t u f g
-    → RunsBut (IsReportFault b RoseThere) Excuse (command_text contents voices (Report root target files b max_order)) result t u f g
-ran_chosen RoseThere Excuse contents voices root target files max_order result t u f g a b same runs =
-    subst (λ (chosen : List ℕ). RunsBut (IsReportFault chosen RoseThere) Excuse (command_text contents voices (Report root target files chosen max_order)) result t u f g) same runs
+pub told_as : (RoseThere : ℕ → Type 0) (root : Root) (target : List ℕ) (max_order : Option ℕ) (voices : List Voice) (texts : List (List ℕ)) (result : Result Held Status) (a b : List ℕ) → a ≡ b
+    → MeetsBut (EndsReports a RoseThere (report_in root target a max_order voices texts)) held_text (report_in root target a max_order voices texts) result
+    → MeetsBut (EndsReports b RoseThere (report_in root target b max_order voices texts)) held_text (report_in root target b max_order voices texts) result
+told_as RoseThere root target max_order voices texts result a b same met =
+    subst (λ (chosen : List ℕ). MeetsBut (EndsReports chosen RoseThere (report_in root target chosen max_order voices texts)) held_text (report_in root target chosen max_order voices texts) result) same met
 
--- the words were not read as a command, before anything else was read
-pub ran_unnamed : {T : Type 0} (words : List (List ℕ)) (contents : List ℕ → Option (List ℕ)) (voices : List Voice) (read_before read_after : List ℕ → ℕ) (RoseThere : ℕ → Type 0) (t : Option (List ℕ)) (f : ℕ) (names : List (List ℕ)) (result : Result T Status) (s : Status)
-    → names ≡ labels voices → IsErrAnd result (λ its. its ≡ s) → Stops (finds (IsCommand names words) Usage) s ⊎ (s ≡ Memory) → Runs words contents voices read_before read_after RoseThere result t t f f
-ran_unnamed words contents voices read_before read_after RoseThere t f names result s same is end =
-    let p = err_from_is_err_and result is in
-    rw (p.1, p.2) (elim end [
-      | inl stops ↦ inl (inl (record { stopped = inl (subst (λ (its : List (List ℕ)). Stops (finds (IsCommand its words) Usage) s) same stops).stopped }, refl))
-      | inr memory ↦ inl (inr (inl (memory, inl refl)))
-    ])
+-- more is excused
+pub meets_wider : {A B : Type 0} (Excuse Wider : Status → Type 0) (value : B → A) (phase : Phase A) (result : Result B Status) → ((s : Status) → Excuse s → Wider s) → MeetsBut Excuse value phase result → MeetsBut Wider value phase result
+meets_wider Excuse Wider value phase (Ok x) wider met = met
+meets_wider Excuse Wider value phase (Err s) wider end = elim end [ inl stops ↦ inl stops | inr excused ↦ inr (wider s excused) ]
 
--- nothing was read
-pub ran_unread : {T : Type 0} (Faulted Excuse : Status → Type 0) (phase : Phase (List ℕ)) (result : Result T Status) (t u : Option (List ℕ)) (f g : ℕ) → PrintsBut Faulted phase result t u f g → RunsBut Faulted Excuse phase result t u f g
-ran_unread Faulted Excuse phase (Ok _) t u f g took = took
-ran_unread Faulted Excuse phase (Err s) t u f g end = inl end
+-- ---- the steps of a run
 
--- the words give a command, and its text was written, or not
-pub ran : {T : Type 0} (words : List (List ℕ)) (contents : List ℕ → Option (List ℕ)) (voices : List Voice) (read_before read_after : List ℕ → ℕ) (RoseThere : ℕ → Type 0) (t u : Option (List ℕ)) (f g : ℕ) (result : Result T Status) (command : Command)
-    → Passes (finds (IsCommand (labels voices) words) Usage) command → RunsBut (IsReportFault (chosen_of command) RoseThere) (IsReadEnd (files_of command) read_before read_after) (command_text contents voices command) result t u f g
-    → Runs words contents voices read_before read_after RoseThere result t u f g
-ran words contents voices read_before read_after RoseThere t u f g (Ok _) command given took =
-    prints_but_on (IsChosenFault words voices RoseThere) (finds (IsCommand (labels voices) words) Usage) (command_text contents voices) command (Ok (tt {0})) t u f g given took
-ran words contents voices read_before read_after RoseThere t u f g (Err s) command given end =
+-- the words give this request, and there is an answer on texts of its files, or none
+pub answered : (words : List (List ℕ)) (contents : List ℕ → Option (List ℕ)) (voices : List Voice) (read_before read_after : List ℕ → ℕ) (RoseThere : ℕ → Type 0) (asked : Request) (texts : List (List ℕ)) (result : Result Ready Status)
+    → Passes (finds (IsRequest (labels voices) words) Usage) asked → Passes (texts_of contents asked.files) texts
+    → MeetsBut (EndsReports asked.options.chosen RoseThere (text_for asked.kind voices asked texts)) ready_text (text_for asked.kind voices asked texts) result
+    → MeetsBut (IsExcused words contents voices read_before read_after RoseThere) ready_text (due words contents voices) result
+answered words contents voices read_before read_after RoseThere asked texts (Ok ready) given read met = given passes read passes met
+answered words contents voices read_before read_after RoseThere asked texts (Err s) given read end =
     elim end [
-      | inl wrote ↦
-          let stopped : Result (Unit {0}) Status = Err s in
-          inl (prints_but_on (IsChosenFault words voices RoseThere) (finds (IsCommand (labels voices) words) Usage) (command_text contents voices) command stopped t u f g given (elim wrote [
-            | inl stop ↦ inl stop
-            | inr other ↦ inr (elim other [
-              | inl memory ↦ inl memory
-              | inr fault ↦ inr (elim fault [
-                | inl failed ↦ inl failed
-                | inr report ↦ inr ((command, given.passed, report.0), report.1, report.2)
-              ])
-            ])
-          ]))
-      | inr read ↦ inr ((subst (λ files. IsReadEnd files read_before read_after s) (sym (file_words_are (labels voices) words command given.passed)) read.0, (command, given.passed)), read.1)
+      | inl stops ↦ given beyond read beyond inl stops
+      | inr excused ↦ elim excused [
+        | inl memory ↦ inr (inl memory)
+        | inr report ↦ inr (inr (inr ((asked, given.passed, report.0), (report.1.0, given passes read passes report.1.1))))
+      ]
     ]
 
--- too many files of a command
-pub many_named : (names words : List (List ℕ)) (command : Command) → Passes (finds (IsCommand names words) Usage) command → most_files < length (file_words words) → most_files < length (files_of command)
-many_named names words command given many = subst (λ files. most_files < length files) (file_words_are names words command given.passed) many
+-- the words give this request, and its files were not read
+pub unread : (words : List (List ℕ)) (contents : List ℕ → Option (List ℕ)) (voices : List Voice) (read_before read_after : List ℕ → ℕ) (RoseThere : ℕ → Type 0) (asked : Request) (s : Status)
+    → Passes (finds (IsRequest (labels voices) words) Usage) asked → Stops (texts_of contents asked.files) s ⊎ IsReadEnd asked.files read_before read_after s
+    → Stops (due words contents voices) s ⊎ IsExcused words contents voices read_before read_after RoseThere s
+unread words contents voices read_before read_after RoseThere asked s given end =
+    elim end [
+      | inl stops ↦ given beyond ends (inl stops)
+      | inr read ↦ inr (inr (inl (subst (λ files. IsReadEnd files read_before read_after s) (sym (file_words_are (labels voices) words asked given.passed)) read, (asked, given.passed))))
+    ]
+
+-- the words were not read as a request, before anything else was read
+pub unasked : (words : List (List ℕ)) (contents : List ℕ → Option (List ℕ)) (voices : List Voice) (read_before read_after : List ℕ → ℕ) (RoseThere : ℕ → Type 0) (names : List (List ℕ)) (s : Status)
+    → names ≡ labels voices → Stops (finds (IsRequest names words) Usage) s ⊎ (s ≡ Memory) → Stops (due words contents voices) s ⊎ IsExcused words contents voices read_before read_after RoseThere s
+unasked words contents voices read_before read_after RoseThere names s same end =
+    elim end [
+      | inl stops ↦ ends (inl (subst (λ (its : List (List ℕ)). Stops (finds (IsRequest its words) Usage) s) same stops))
+      | inr memory ↦ inr (inl memory)
+    ]
+
+-- an answer that is made line by line is one on a request for it
+pub lines_asked : (words : List (List ℕ)) (voices : List Voice) (asked : Request) (result : Result Ready Status) → Passes (finds (IsRequest (labels voices) words) Usage) asked
+    → IfOk result (λ ready. IsByLines ready → is_by_lines asked.kind ≡ true) → IfOk result (λ ready. IsByLines ready → AsksLines words voices)
+lines_asked words voices asked (Ok ready) given lines = λ is. (asked, given.passed, lines is)
+lines_asked words voices asked (Err s) given lines = tt
+
+-- too many files of a request
+pub many_named : (names words : List (List ℕ)) (asked : Request) → Passes (finds (IsRequest names words) Usage) asked → most_files < length (file_words words) → most_files < length asked.files
+many_named names words asked given many = subst (λ files. most_files < length files) (file_words_are names words asked given.passed) many
 
 pub many_answer : {T : Type 0} (result : Result T Status) (s : Status) → IsErrAnd result (λ its. its ≡ s) → s ≡ Refused (of_words TooManyFiles) → IsManyAnswer (ended result)
 many_answer result s is many =
@@ -528,34 +552,42 @@ many_answer result s is many =
 
 -- ---- memory
 
--- nothing was taken
-pub begins_same : (command : Command) (status : Status) (t : Option (List ℕ)) → BeginsWithMemory command status t t
-begins_same (Check root files) status t = tt
-begins_same (Cuts root target files paging tokens) status t = λ memory. refl
-begins_same (Tree root target files) status t = tt
-begins_same (Fmea root files all) status t = tt
-begins_same (Targets root files all) status t = tt
-begins_same (Events root files) status t = tt
-begins_same (Review root files) status t = tt
-begins_same (Report root target files chosen max_order) status t = tt
-begins_same (Make number text) status t = tt
-begins_same (Galileo files limit max_order paths) status t = tt
-begins_same (Paths root target files paging) status t = tt
-begins_same (Why root target files set) status t = tt
-begins_same (Confirm root target files set) status t = tt
-begins_same (Place files byte) status t = tt
-begins_same (Help of) status t = tt
-begins_same Version status t = tt
+by_lines_once : (names words : List (List ℕ)) (asked other : Request) → IsRequest names words asked → IsRequest names words other → is_by_lines other.kind ≡ true → is_by_lines asked.kind ≡ false → ⊥
+by_lines_once names words asked other is also lines none = false≢true (sym none ∙ subst (λ (one : Request). is_by_lines one.kind ≡ true) (one_request names words other asked also is) lines)
 
--- the words give this command
-pub begins_as : (names words : List (List ℕ)) (given command : Command) (status : Status) (t u : Option (List ℕ)) → Passes (finds (IsCommand names words) Usage) given → BeginsWithMemory given status t u → IsCommand names words command → BeginsWithMemory command status t u
-begins_as names words given command status t u passes begins is = subst (λ one. BeginsWithMemory one status t u) (one_command names words given command passes.passed is) begins
+-- memory is wanting only before a text was begun, or for a line of it
+pub ran_begins : {T : Type 0} (words : List (List ℕ)) (contents : List ℕ → Option (List ℕ)) (voices : List Voice) (read_before read_after : List ℕ → ℕ) (RoseThere : ℕ → Type 0) (t u : Seen) (result : Result T Status) (status : Status) → status ≡ ended result
+    → Runs words contents voices read_before read_after RoseThere result t u → (asked : Request) → IsRequest (labels voices) words asked → BeginsWithMemory asked.kind status t u
+ran_begins words contents voices read_before read_after RoseThere t u (Ok _) status is took asked given none memory = absurd (cc (is, memory))
+ran_begins words contents voices read_before read_after RoseThere t u (Err s) status is end asked given none memory =
+    elim end [
+      | inl quiet ↦ quiet.1
+      | inr front ↦ elim front.1 [
+        | inl failed ↦ absurd (cc (is, memory, failed.0))
+        | inr lines ↦ absurd (by_lines_once (labels voices) words asked lines.1.0 given lines.1.1 lines.1.2 none)
+      ]
+    ]
 
--- a run ended with want of memory
-pub memory_ended : {T : Type 0} (result : Result T Status) → ended result ≡ Memory → result ≡ Err Memory
-memory_ended (Ok x) is = absurd (cc (is))
-memory_ended (Err status) is = ap (λ (s : Status). Err s) is
+-- the words give this request, and of the reports that it chooses
+pub kept_as : {R : Type 0} (Kept : R → R → Type 0) (names words : List (List ℕ)) (given asked : Request) (x y : List R) → Passes (finds (IsRequest names words) Usage) given → AtChosen given.options.chosen Kept x y → IsRequest names words asked → AtChosen asked.options.chosen Kept x y
+kept_as Kept names words given asked x y its kept is = subst (λ (one : Request). AtChosen one.options.chosen Kept x y) (one_request names words given asked its.passed is) kept
 
--- the words give this command, and of the reports that it chooses
-pub kept_as : {R : Type 0} (Kept : R → R → Type 0) (names words : List (List ℕ)) (given command : Command) (x y : List R) → Passes (finds (IsCommand names words) Usage) given → AtChosen (chosen_of given) Kept x y → IsCommand names words command → AtChosen (chosen_of command) Kept x y
-kept_as Kept names words given command x y passes kept is = subst (λ (one : Command). AtChosen (chosen_of one) Kept x y) (one_command names words given command passes.passed is) kept
+-- ---- the end of a run
+
+-- there is no answer, and nothing was written
+pub ran_quiet : {T : Type 0} (words : List (List ℕ)) (contents : List ℕ → Option (List ℕ)) (voices : List Voice) (read_before read_after : List ℕ → ℕ) (RoseThere : ℕ → Type 0) (t : Seen) (s : Status) (result : Result T Status) → IsErrAnd result (λ its. its ≡ s)
+    → Stops (due words contents voices) s ⊎ IsExcused words contents voices read_before read_after RoseThere s → Runs words contents voices read_before read_after RoseThere result t t
+ran_quiet words contents voices read_before read_after RoseThere t s result is end =
+    let p = err_from_is_err_and result is in
+    rw (p.1, p.2) (inl (end, refl))
+
+-- an answer was not written whole
+pub ran_cut : {T : Type 0} (words : List (List ℕ)) (contents : List ℕ → Option (List ℕ)) (voices : List Voice) (read_before read_after : List ℕ → ℕ) (RoseThere : ℕ → Type 0) (t u : Seen) (ready : Ready) (stop : WriteError) (result : Result T Status) → IsErrAnd result (λ its. its ≡ status_of_write stop)
+    → Passes (due words contents voices) (ready_text ready) → (IsByLines ready → AsksLines words voices)
+    → TookPrefix (ready_text ready) t u × (Rose t.faults u.faults ⊎ LacksMemory stop) → (stop ≡ Lacks → IsByLines ready) → Runs words contents voices read_before read_after RoseThere result t u
+ran_cut words contents voices read_before read_after RoseThere t u ready Failed result is due_is by_lines stopped wanting =
+    let p = err_from_is_err_and result is in
+    rw (p.1, p.2) (inr ((ready_text ready, due_is, stopped.0), elim stopped.1 [ inl rose ↦ inl (refl, rose) | inr none ↦ absurd (cc (none)) ]))
+ran_cut words contents voices read_before read_after RoseThere t u ready Lacks result is due_is by_lines stopped wanting =
+    let p = err_from_is_err_and result is in
+    rw (p.1, p.2) (inr ((ready_text ready, due_is, stopped.0), inr (refl, by_lines (wanting refl))))

@@ -20,7 +20,8 @@ use Rattle.model_phases.specs.Phases.{assembled, flat_phase, origins_phase, revi
 use Rattle.model_phases.specs.declared.events.EventModel.{EventModel}
 use Rattle.event_lines.specs.Text.{events_text as text_of_events}
 use Rattle.model_phases.specs.declared.flat.FlatModel.{FlatModel}
-use Rattle.fta_run.specs.Words.{Command, Check, Cuts, Tree, Fmea, Targets, Events, Review, Report, Make, Galileo, Paths, Why, Confirm, Place, Help, Version, IsCommand}
+use Rattle.fta_words.specs.declared.kind.Kind.TheVariants as kind
+use Rattle.fta_run.specs.Words.{Kind, Request, IsRequest}
 use Rattle.target_orders.specs.Text.{TellsOrders}
 use Rattle.fta_run.specs.Effects.{asked_effects, asked_targets}
 use Rattle.fta_run.specs.Later.{in_later_files}
@@ -77,19 +78,9 @@ made_of_texts next root texts = do
   files ← units_of texts
   made_of_units next root files
 
--- the same of the files of these names
-abbrev pub made_of_files : {A : Type 0} → (Assembly → Phase A) → (List ℕ → Option (List ℕ)) → Root → List (List ℕ) → Phase A
-made_of_files next contents root files = do
-  texts ← texts_of contents files
-  made_of_texts next root texts
-
 -- the model of the root in files of these texts, as a system
 abbrev pub model_of_texts : Root → List (List ℕ) → Phase FlatModel
 model_of_texts root texts = made_of_texts flat_phase root texts
-
--- the model of the root in the files of these names
-abbrev pub model_of_files : (List ℕ → Option (List ℕ)) → Root → List (List ℕ) → Phase FlatModel
-model_of_files contents root files = made_of_files flat_phase contents root files
 
 -- the text of `check`: the numbers of components, of facts and of events
 abbrev pub check_text : FlatModel → Phase (List ℕ)
@@ -164,53 +155,80 @@ confirmed_in root target set texts = do
 abbrev pub place_in : List (List ℕ) → ℕ → List (List ℕ) → Phase (List ℕ)
 place_in files byte texts = yields (place_text (first_name files) (first_text texts) byte)
 
--- the text of a command, where this is what the files contain, and these are the reports
-abbrev pub command_text : (List ℕ → Option (List ℕ)) → List Voice → Command → Phase (List ℕ)
-command_text contents voices (Check root files) = do
-  model ← model_of_files contents root files
-  check_text model
-command_text contents voices (Cuts root target files paging tokens) = do
-  texts ← texts_of contents files
-  cuts_in root target paging tokens texts
-command_text contents voices (Tree root target files) = do
-  model ← model_of_files contents root files
-  tree_text target model.system model.rates
-command_text contents voices (Fmea root files all) = do
-  model ← model_of_files contents root files
-  fmea_text all model
-command_text contents voices (Targets root files all) = do
-  model ← model_of_files contents root files
-  targets_text all model
-command_text contents voices (Events root files) = do
-  model ← made_of_files origins_phase contents root files
-  events_text files model
-command_text contents voices (Review root files) = do
-  reviewed ← made_of_files review_phase contents root files
-  yields reviewed.text
-command_text contents voices (Report root target files chosen max_order) = do
-  model ← model_of_files contents root files
-  report_text target chosen max_order voices model.system
-command_text contents voices (Make number text) = make_text number text
-command_text contents voices (Galileo files limit max_order paths) = do
-  texts ← texts_of contents files
-  sets_of_tree paths limit max_order (first_text texts)
-command_text contents voices (Paths root target files paging) = do
-  model ← model_of_files contents root files
-  paths_text target paging model.system
-command_text contents voices (Why root target files set) = do
-  model ← model_of_files contents root files
-  why_text target set model.system
-command_text contents voices (Confirm root target files set) = do
-  texts ← texts_of contents files
-  confirmed_in root target set texts
-command_text contents voices (Place files byte) = do
-  texts ← texts_of contents files
-  place_in files byte texts
-command_text contents voices (Help of) = yields (help_text of)
-command_text contents voices Version = yields version_text
+-- ---- the texts of commands in files of these texts
 
--- the text of the command that the words give
+abbrev pub check_in : Root → List (List ℕ) → Phase (List ℕ)
+check_in root texts = do
+  model ← model_of_texts root texts
+  check_text model
+
+abbrev pub tree_in : Root → List ℕ → List (List ℕ) → Phase (List ℕ)
+tree_in root target texts = do
+  model ← model_of_texts root texts
+  tree_text target model.system model.rates
+
+abbrev pub fmea_in : Root → Bool → List (List ℕ) → Phase (List ℕ)
+fmea_in root all texts = do
+  model ← model_of_texts root texts
+  fmea_text all model
+
+abbrev pub report_in : Root → List ℕ → List ℕ → Option ℕ → List Voice → List (List ℕ) → Phase (List ℕ)
+report_in root target chosen max_order voices texts = do
+  model ← model_of_texts root texts
+  report_text target chosen max_order voices model.system
+
+abbrev pub paths_in : Root → List ℕ → Paging → List (List ℕ) → Phase (List ℕ)
+paths_in root target paging texts = do
+  model ← model_of_texts root texts
+  paths_text target paging model.system
+
+abbrev pub why_in : Root → List ℕ → List ℕ → List (List ℕ) → Phase (List ℕ)
+why_in root target set texts = do
+  model ← model_of_texts root texts
+  why_text target set model.system
+
+abbrev pub targets_in : Root → Bool → List (List ℕ) → Phase (List ℕ)
+targets_in root all texts = do
+  model ← model_of_texts root texts
+  targets_text all model
+
+abbrev pub events_in : Root → List (List ℕ) → List (List ℕ) → Phase (List ℕ)
+events_in root files texts = do
+  model ← made_of_texts origins_phase root texts
+  events_text files model
+
+abbrev pub review_in : Root → List (List ℕ) → Phase (List ℕ)
+review_in root texts = do
+  reviewed ← made_of_texts review_phase root texts
+  yields reviewed.text
+
+-- the text of a command, asked with this request, in files of these texts, where these are the reports
+abbrev pub text_for : Kind → List Voice → Request → List (List ℕ) → Phase (List ℕ)
+text_for kind.Check voices asked texts = check_in asked.root texts
+text_for kind.Cuts voices asked texts = cuts_in asked.root asked.target asked.options.paging asked.options.tokens texts
+text_for kind.Tree voices asked texts = tree_in asked.root asked.target texts
+text_for kind.Fmea voices asked texts = fmea_in asked.root asked.options.all texts
+text_for kind.Report voices asked texts = report_in asked.root asked.target asked.options.chosen asked.options.paging.max_order voices texts
+text_for kind.Make voices asked texts = make_text asked.number asked.options.text
+text_for kind.Galileo voices asked texts = sets_of_tree asked.options.paths asked.options.paging.limit asked.options.paging.max_order (first_text texts)
+text_for kind.Paths voices asked texts = paths_in asked.root asked.target asked.options.paging texts
+text_for kind.Why voices asked texts = why_in asked.root asked.target asked.options.set texts
+text_for kind.Confirm voices asked texts = confirmed_in asked.root asked.target asked.options.set texts
+text_for kind.Targets voices asked texts = targets_in asked.root asked.options.all texts
+text_for kind.Events voices asked texts = events_in asked.root asked.files texts
+text_for kind.Review voices asked texts = review_in asked.root texts
+text_for kind.Place voices asked texts = place_in asked.files asked.number texts
+text_for kind.Help voices asked texts = yields (help_text asked.of)
+text_for kind.Version voices asked texts = yields version_text
+
+-- the text of a request, where this is what the files contain, and these are the reports
+abbrev pub request_text : (List ℕ → Option (List ℕ)) → List Voice → Request → Phase (List ℕ)
+request_text contents voices asked = do
+  texts ← texts_of contents asked.files
+  text_for asked.kind voices asked texts
+
+-- the text of the request that the words give
 abbrev pub due : List (List ℕ) → (List ℕ → Option (List ℕ)) → List Voice → Phase (List ℕ)
 due words contents voices = do
-  command ← finds (IsCommand (labels voices) words) Usage
-  command_text contents voices command
+  asked ← finds (IsRequest (labels voices) words) Usage
+  request_text contents voices asked

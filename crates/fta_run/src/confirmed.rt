@@ -1,36 +1,36 @@
 //! The answer on a derivation that stands in a file before those of the model.
 
 ghost use Rattle.std.specs.Prelude.{◌≡◌, ◌≤◌, All, IfOk, length};
-ghost use Rattle.phases.specs.inner.Meets.{Meets};
+ghost use Rattle.phases.specs.inner.Meets.{IsMemory, Meets, MeetsBut};
 ghost use Rattle.model_phases.specs.Named.{IsPlainModel};
 ghost use Rattle.fta_run.specs.Due.{confirmed_in, model_of_texts};
 ghost use Rattle.fta_run.specs.Files.{most_bytes, most_files};
 ghost use Rattle.fta_run.specs.Later.{in_later_files, later_place, later_refusal, next_file};
-ghost use Rattle.system_answers.specs.inner.Prints.{Prints};
+ghost use Rattle.fta_run.specs.Ready.{held_text};
 
 use crate::input::Texts;
 use crate::model::model_of_texts;
-use fta_outside::Sink;
+use crate::ready::Held;
 use model_phases::FlatModel;
 use phases::Status;
 use plain_values::{Name, Place, Refusal, Root};
 use std::alloc::Global;
-use system_answers::write_confirmed;
+use system_answers::confirmed;
 
-/// Writes that the first text is a derivation of a target under the set of events that has this text, in the model of the root in
-/// files of the other texts.
-pub fn write_confirmation<S: Sink>(
+/// That the first text is a derivation of a target under the set of events that has this text, in the model of the root in files of the
+/// other texts.
+pub fn confirmation(
     alloc: Global,
     root: &Root,
     target: &Name,
     set: &Name,
-    texts: &Texts,
-    out: &mut S,
-) -> Result<(), Status>
-    ensures { Prints (confirmed_in root.now target.now set.now texts.now) result (S.taken out.old) (S.taken out.new) (S.faults out.old) (S.faults out.new) }
+    texts: Texts,
+) -> Result<Held, Status>
+    ensures { MeetsBut IsMemory held_text (confirmed_in root.now target.now set.now texts) result }
 {
     let model = later_model(alloc, root, texts.others())?;
-    write_confirmed(alloc, &model.system, target, set, texts.first(), out)
+    let text = confirmed(alloc, &model.system, target, set, texts.first())?;
+    Ok(Held::Text(text))
 }
 
 /// The model of the root in files of these texts, each of which has the next number.

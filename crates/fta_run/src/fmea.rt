@@ -1,38 +1,30 @@
 //! The FMEA table of a model.
 
 ghost use Rattle.std.specs.Prelude.{◌≡◌, ◌||◌, IfOk, length};
+ghost use Rattle.phases.specs.Phases.{Passes};
 ghost use Rattle.plain_values.specs.Rising.{RisesWithin};
 ghost use Rattle.fmea_rows.specs.inner.Text.{HasFieldNames};
 ghost use Rattle.model_phases.specs.Named.{IsPlainModel};
 ghost use Rattle.fact_formulas.specs.Flat.{is_of_root};
 ghost use Rattle.fta_run.specs.Due.{fmea_text};
 ghost use Rattle.fta_run.specs.Effects.{asked_effects};
-ghost use Rattle.system_answers.specs.inner.Prints.{Prints};
 
 use fact_formulas::is_of_root;
 use fault_system::FaultSystem;
-use fmea_rows::{rows, write_rows};
-use fta_outside::Sink;
+use fmea_rows::{TableLines, rows};
 use model_phases::FlatModel;
-use phases::Status;
 use plain_values::{List, Mem};
 use std::alloc::Global;
 
-/// Writes the table of a model: for each event each effect that it reaches alone, of the root or of all components.
-pub fn write_table<S: Sink>(
-    alloc: Global,
-    model: &FlatModel,
-    all: bool,
-    out: &mut S,
-) -> Result<(), Status>
-    requires plain { IsPlainModel model.now }
-    requires names { HasFieldNames model.now.system }
-    ensures { Prints (fmea_text all model.now) result (S.taken out.old) (S.taken out.new) (S.faults out.old) (S.faults out.new) }
+/// The table of a model: for each event each effect that it reaches alone, of the root or of all components.
+pub fn table_of(alloc: Global, model: FlatModel, all: bool) -> Mem<TableLines>
+    requires plain { IsPlainModel model }
+    requires names { HasFieldNames model.system }
+    ensures { IfOk result (Passes (fmea_text all model)) }
 {
-    let effects = asked_effects(alloc, model, all)?;
+    let effects = asked_effects(alloc, &model, all)?;
     let rows = rows(alloc, &model.system, effects.items())?;
-    write_rows(alloc, &model.system, rows.items(), model.rates.items(), out)?;
-    Ok(())
+    Ok(TableLines::new(alloc, model.system, rows, model.rates))
 }
 
 /// The effects that are asked of: those of all components, or those of the root.

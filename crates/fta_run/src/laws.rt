@@ -1,7 +1,6 @@
 //! Laws of the definitions alone: the contract of each function is the law, and its body is empty.
 
 ghost use Rattle.std.specs.Prelude.{◌≡◌, ◌∷◌, ℕ, List, Option, Result};
-ghost use Rattle.plain_values.specs.declared.name.Root.{Root};
 ghost use Rattle.fault_system.specs.Truth.{set_of};
 ghost use Rattle.fault_system.specs.Systems.{Holds};
 ghost use Rattle.cutset_lister.specs.SetText.{IsSetOfText};
@@ -9,9 +8,10 @@ ghost use Rattle.phases.specs.Phases.{IsDue, Passes};
 ghost use Rattle.phases.specs.inner.Phases.{IsSameEnd};
 ghost use Rattle.phases.specs.declared.status.Status.{Status as AnyStatus};
 ghost use Rattle.fta_run.specs.Answers.{AllTold, IsOutput, IsSameStatus};
-ghost use Rattle.fta_run.specs.Due.{command_text, due, model_of_texts, other_texts, texts_of};
-ghost use Rattle.fta_run.specs.inner.Files.{StandsBefore};
-ghost use Rattle.fta_run.specs.Words.{Confirm, Why};
+ghost use Rattle.fta_run.specs.Due.{due, model_of_texts, other_texts, request_text, texts_of};
+ghost use Rattle.fta_run.specs.inner.Files.{StandsBefore, ask};
+ghost use Rattle.fta_words.specs.declared.kind.Kind.TheVariants.{Confirm, Why};
+ghost use Rattle.fta_run.specs.Words.{Request};
 ghost use Rattle.model_phases.specs.declared.flat.FlatModel.{FlatModel};
 ghost use Rattle.system_answers.specs.Derivations.{accepted_text};
 ghost use Rattle.system_answers.specs.Targets.{IsFactNamed};
@@ -31,15 +31,15 @@ pub fn one_due()
 
 /// What `why` writes is accepted by `confirm`, where it stands in a file before those of the model.
 pub fn confirms_why()
-    ensures { (contents : List ℕ → Option (List ℕ)) (voices : List Voice) (root : Root) (target set : List ℕ) (files : List (List ℕ)) (file lines : List ℕ)
-        → Passes (command_text contents voices (Why root target files set)) lines → StandsBefore contents files file lines
-        → (count : ℕ) × Passes (command_text contents voices (Confirm root target (file ∷ files) set)) (accepted_text count) }
+    ensures { (contents : List ℕ → Option (List ℕ)) (voices : List Voice) (asked : Request) (files : List (List ℕ)) (file lines : List ℕ)
+        → Passes (request_text contents voices (ask Why files asked)) lines → StandsBefore contents files file lines
+        → (count : ℕ) × Passes (request_text contents voices (ask Confirm (file ∷ files) asked)) (accepted_text count) }
 {}
 
 /// Where `confirm` accepts a text, the target holds under the set in the model of the root in the other files.
 pub fn holds_where_confirmed()
-    ensures { (contents : List ℕ → Option (List ℕ)) (voices : List Voice) (root : Root) (target set : List ℕ) (files : List (List ℕ)) (answer : List ℕ)
-        → Passes (command_text contents voices (Confirm root target files set)) answer
-        → (texts : List (List ℕ)) × (model : FlatModel) × Passes (texts_of contents files) texts × Passes (model_of_texts root (other_texts texts)) model
-        × ((number : ℕ) × (events : List ℕ) × IsFactNamed model.system target number × IsSetOfText model.system set events × Holds model.system (set_of events) number) }
+    ensures { (contents : List ℕ → Option (List ℕ)) (voices : List Voice) (asked : Request) (files : List (List ℕ)) (answer : List ℕ)
+        → Passes (request_text contents voices (ask Confirm files asked)) answer
+        → (texts : List (List ℕ)) × (model : FlatModel) × Passes (texts_of contents files) texts × Passes (model_of_texts asked.root (other_texts texts)) model
+        × ((number : ℕ) × (events : List ℕ) × IsFactNamed model.system asked.target number × IsSetOfText model.system asked.options.set events × Holds model.system (set_of events) number) }
 {}

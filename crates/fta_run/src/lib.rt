@@ -1,18 +1,16 @@
 //! The tool from the bytes of its words and files to the bytes that it writes.
 #![tactic(auto)]
 
+mod answering;
 mod command;
 mod confirmed;
-mod events;
-mod fixed;
 mod fmea;
 mod input;
 mod laws;
 mod line;
 mod made;
 mod model;
-mod places;
-mod reviewed;
+mod ready;
 mod targets;
 mod text;
 mod words;

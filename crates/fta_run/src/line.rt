@@ -1,5 +1,5 @@
 ghost use Rattle.std.specs.Prelude.{◌≡◌, ◌++◌, codes, decimal, map};
-ghost use Rattle.cutset_writer.specs.inner.Written.{Writes};
+ghost use Rattle.fta_outside.specs.Outside.{Writes};
 ghost use Rattle.event_lines.specs.Text.{file_word};
 ghost use Rattle.fta_run.specs.Line.{constant_text, limit_text, place_text, refusal_text, report_name, stale_text, status_line};
 
@@ -18,7 +18,7 @@ pub fn write_line<E: Sink>(
     reports: &Vec<Box<dyn Report>>,
     status: &Status,
 ) -> Result<(), SinkFailed>
-    ensures { Writes result (status_line files.now (map label reports.now.items) status.now) (E.taken err.old) (E.taken err.new) (E.faults err.old) (E.faults err.new) }
+    ensures { Writes (status_line files.now (map label reports.now.items) status.now) result (E.seen err.old) (E.seen err.new) }
 {
     match status {
         Status::Done => Ok(()),
@@ -34,7 +34,7 @@ pub fn write_line<E: Sink>(
 }
 
 fn write_constant<E: Sink>(err: &mut E, always: bool) -> Result<(), SinkFailed>
-    ensures { Writes result (codes "aadl_fta: " ++ (constant_text always ++ codes "\n")) (E.taken err.old) (E.taken err.new) (E.faults err.old) (E.faults err.new) }
+    ensures { Writes (codes "aadl_fta: " ++ (constant_text always ++ codes "\n")) result (E.seen err.old) (E.seen err.new) }
 {
     if always {
         write_piece(err, b"aadl_fta: constant true\n")
@@ -44,28 +44,28 @@ fn write_constant<E: Sink>(err: &mut E, always: bool) -> Result<(), SinkFailed>
 }
 
 fn write_stale<E: Sink>(err: &mut E, token: &[u8; 64], input: &[u8; 64]) -> Result<(), SinkFailed>
-    ensures { Writes result (codes "aadl_fta: " ++ (stale_text token.now input.now ++ codes "\n")) (E.taken err.old) (E.taken err.new) (E.faults err.old) (E.faults err.new) }
+    ensures { Writes (codes "aadl_fta: " ++ (stale_text token.now input.now ++ codes "\n")) result (E.seen err.old) (E.seen err.new) }
 {
     write_two(err, b"aadl_fta: K2 StaleToken ", token)?;
     write_input(err, input)
 }
 
 fn write_input<E: Sink>(err: &mut E, input: &[u8; 64]) -> Result<(), SinkFailed>
-    ensures { Writes result (codes " " ++ (input.now ++ codes "\n")) (E.taken err.old) (E.taken err.new) (E.faults err.old) (E.faults err.new) }
+    ensures { Writes (codes " " ++ (input.now ++ codes "\n")) result (E.seen err.old) (E.seen err.new) }
 {
     write_two(err, b" ", input)?;
     write_piece(err, b"\n")
 }
 
 fn write_unread<E: Sink>(err: &mut E, file: &[u8]) -> Result<(), SinkFailed>
-    ensures { Writes result (codes "aadl_fta: cannot read " ++ (file.now ++ codes "\n")) (E.taken err.old) (E.taken err.new) (E.faults err.old) (E.faults err.new) }
+    ensures { Writes (codes "aadl_fta: cannot read " ++ (file.now ++ codes "\n")) result (E.seen err.old) (E.seen err.new) }
 {
     write_piece(err, b"aadl_fta: cannot read ")?;
     write_two(err, file, b"\n")
 }
 
 fn write_failed<E: Sink>(err: &mut E, name: &[u8]) -> Result<(), SinkFailed>
-    ensures { Writes result (codes "aadl_fta: report " ++ (name.now ++ codes " failed\n")) (E.taken err.old) (E.taken err.new) (E.faults err.old) (E.faults err.new) }
+    ensures { Writes (codes "aadl_fta: report " ++ (name.now ++ codes " failed\n")) result (E.seen err.old) (E.seen err.new) }
 {
     write_piece(err, b"aadl_fta: report ")?;
     write_two(err, name, b" failed\n")
@@ -82,7 +82,7 @@ fn report_name(reports: &Vec<Box<dyn Report>>, place: u32) -> &[u8]
 }
 
 fn write_refusal<E: Sink>(err: &mut E, files: &[Word], refusal: &Refusal) -> Result<(), SinkFailed>
-    ensures { Writes result (codes "aadl_fta: " ++ (refusal_text files.now refusal.now ++ codes "\n")) (E.taken err.old) (E.taken err.new) (E.faults err.old) (E.faults err.new) }
+    ensures { Writes (codes "aadl_fta: " ++ (refusal_text files.now refusal.now ++ codes "\n")) result (E.seen err.old) (E.seen err.new) }
 {
     write_two(err, b"aadl_fta: ", refusal.code.text().as_bytes())?;
     write_place_and_limit(err, files, refusal)
@@ -93,14 +93,14 @@ fn write_place_and_limit<E: Sink>(
     files: &[Word],
     refusal: &Refusal,
 ) -> Result<(), SinkFailed>
-    ensures { Writes result (place_text files.now refusal.now.place ++ (limit_text refusal.now.limit ++ codes "\n")) (E.taken err.old) (E.taken err.new) (E.faults err.old) (E.faults err.new) }
+    ensures { Writes (place_text files.now refusal.now.place ++ (limit_text refusal.now.limit ++ codes "\n")) result (E.seen err.old) (E.seen err.new) }
 {
     write_place(err, files, refusal.place)?;
     write_limit(err, refusal.limit)
 }
 
 fn write_place<E: Sink>(err: &mut E, files: &[Word], place: Place) -> Result<(), SinkFailed>
-    ensures { Writes result (place_text files.now place) (E.taken err.old) (E.taken err.new) (E.faults err.old) (E.faults err.new) }
+    ensures { Writes (place_text files.now place) result (E.seen err.old) (E.seen err.new) }
 {
     match place {
         Place::Words => Ok(()),
@@ -110,14 +110,14 @@ fn write_place<E: Sink>(err: &mut E, files: &[Word], place: Place) -> Result<(),
 }
 
 fn write_byte<E: Sink>(err: &mut E, file: &[u8], at: u32) -> Result<(), SinkFailed>
-    ensures { Writes result (codes " " ++ (file.now ++ (codes ":" ++ decimal at))) (E.taken err.old) (E.taken err.new) (E.faults err.old) (E.faults err.new) }
+    ensures { Writes (codes " " ++ (file.now ++ (codes ":" ++ decimal at))) result (E.seen err.old) (E.seen err.new) }
 {
     write_two(err, b" ", file)?;
     write_number(err, b":", at as u64)
 }
 
 fn write_limit<E: Sink>(err: &mut E, limit: u64) -> Result<(), SinkFailed>
-    ensures { Writes result (limit_text limit ++ codes "\n") (E.taken err.old) (E.taken err.new) (E.faults err.old) (E.faults err.new) }
+    ensures { Writes (limit_text limit ++ codes "\n") result (E.seen err.old) (E.seen err.new) }
 {
     if limit == 0 {
         return write_piece(err, b"\n");
@@ -127,21 +127,21 @@ fn write_limit<E: Sink>(err: &mut E, limit: u64) -> Result<(), SinkFailed>
 }
 
 fn write_number<E: Sink>(err: &mut E, sign: &[u8], number: u64) -> Result<(), SinkFailed>
-    ensures { Writes result (sign.now ++ decimal number) (E.taken err.old) (E.taken err.new) (E.faults err.old) (E.faults err.new) }
+    ensures { Writes (sign.now ++ decimal number) result (E.seen err.old) (E.seen err.new) }
 {
     let mut digits = Buffer::new();
     write_two(err, sign, digits.format(number).as_bytes())
 }
 
 fn write_two<E: Sink>(err: &mut E, first: &[u8], second: &[u8]) -> Result<(), SinkFailed>
-    ensures { Writes result (first.now ++ second.now) (E.taken err.old) (E.taken err.new) (E.faults err.old) (E.faults err.new) }
+    ensures { Writes (first.now ++ second.now) result (E.seen err.old) (E.seen err.new) }
 {
     write_piece(err, first)?;
     write_piece(err, second)
 }
 
 fn write_piece<E: Sink>(err: &mut E, piece: &[u8]) -> Result<(), SinkFailed>
-    ensures { Writes result piece.now (E.taken err.old) (E.taken err.new) (E.faults err.old) (E.faults err.new) }
+    ensures { Writes piece.now result (E.seen err.old) (E.seen err.new) }
 {
     write_all(err, piece)
 }

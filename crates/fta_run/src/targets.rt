@@ -1,37 +1,27 @@
 //! What may be asked as a target, and how many events it takes.
 
 ghost use Rattle.std.specs.Prelude.{◌≡◌, ◌<◌, All, IfOk, length};
+ghost use Rattle.phases.specs.Phases.{Passes};
 ghost use Rattle.plain_values.specs.Numbered.{numbers_below};
 ghost use Rattle.plain_values.specs.Rising.{RisesWithin};
 ghost use Rattle.model_phases.specs.Named.{IsPlainModel};
 ghost use Rattle.fta_run.specs.Due.{targets_text};
 ghost use Rattle.fta_run.specs.Effects.{asked_targets};
-ghost use Rattle.system_answers.specs.inner.Prints.{Prints};
 
 use crate::fmea::asked_effects;
 use fault_system::FaultSystem;
-use fta_outside::Sink;
 use model_phases::FlatModel;
-use phases::Status;
 use plain_values::{List, Mem};
 use std::alloc::Global;
-use system_answers::write_bytes;
 use target_orders::orders_text;
 
-/// Writes what it takes to make each target of a model hold: each effect of the root, or each fact.
-pub fn write_targets<S: Sink>(
-    alloc: Global,
-    model: &FlatModel,
-    all: bool,
-    out: &mut S,
-) -> Result<(), Status>
+/// What it takes to make each target of a model hold: each effect of the root, or each fact.
+pub fn orders_of(alloc: Global, model: &FlatModel, all: bool) -> Mem<Vec<u8>>
     requires { IsPlainModel model.now }
-    ensures { Prints (targets_text all model.now) result (S.taken out.old) (S.taken out.new) (S.faults out.old) (S.faults out.new) }
+    ensures { IfOk result (λ text. Passes (targets_text all model.now) text.items) }
 {
     let facts = asked_targets(alloc, model, all)?;
-    let text = orders_text(alloc, &model.system, facts.items())?;
-    write_bytes(text.as_slice(), out)?;
-    Ok(())
+    orders_text(alloc, &model.system, facts.items())
 }
 
 /// The facts that are asked of: all, or the effects of the root.

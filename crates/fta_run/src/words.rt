@@ -1,24 +1,24 @@
 ghost use Rattle.phases.specs.inner.Meets.{IsMemory, MeetsBut};
 ghost use Rattle.phases.specs.Phases.{finds};
 ghost use Rattle.phases.specs.declared.status.Status.TheVariants.{Usage};
-ghost use Rattle.fta_words.specs.inner.Shown.{command_shown};
-ghost use Rattle.fta_run.specs.Words.{IsCommand};
+ghost use Rattle.fta_words.specs.inner.Shown.{request_shown};
+ghost use Rattle.fta_run.specs.Words.{IsRequest};
 
-use fta_words::{Command, WordsFault};
+use fta_words::{Request, WordsFault};
 use phases::Status;
 use plain_values::{Name, Word};
 use std::alloc::Global;
 
-/// The command that the words give, where the reports have these names; Usage where they give none.
-pub fn command_of<'a>(
+/// The request that the words give, where the reports have these names; Usage where they give none.
+pub fn request_of<'a>(
     alloc: Global,
     words: &'a [Word],
     names: &[Name],
-) -> Result<Command<'a>, Status>
-    ensures { MeetsBut IsMemory command_shown (finds (IsCommand names.now words.now) Usage) result }
+) -> Result<Request<'a>, Status>
+    ensures { MeetsBut IsMemory request_shown (finds (IsRequest names.now words.now) Usage) result }
 {
-    match Command::read(alloc, words, names) {
-        Ok(command) => Ok(command),
+    match Request::read(alloc, words, names) {
+        Ok(asked) => Ok(asked),
         Err(WordsFault::Usage) => Err(Status::Usage),
         Err(WordsFault::Memory) => Err(Status::Memory),
     }

@@ -3,60 +3,94 @@ use lib.ListN.{length-map}
 use Rattle.plain_values.specs.Rising.{RisesWithin}
 use Rattle.phases.specs.Phases.{Passes, finds}
 use Rattle.phases.specs.declared.status.Status.TheVariants.{Usage}
-use Rattle.fta_words.specs.inner.Shown.{command_shown}
-use Rattle.fta_run.specs.Words.{IsCommand, chosen_of}
+use Rattle.phases.proofs.Steps.{exits}
+use Rattle.fta_words.specs.inner.Shown.{request_shown}
+use Rattle.fta_run.specs.Words.{IsRequest}
 use Rattle.system_answers.specs.Voices.{labels, voices_of}
 use Rattle.system_answers.proofs.Reported.{labels_are, names_kept}
-use Rattle.fta_run.proofs.Chosen.{places_rise}
 use Rattle.cut_reports.specs.Feeding.{IsKept}
-use Rattle.fta_run.proofs.Ran.{begins_as, kept_as, many_named, ran, ran_unnamed}
+use Rattle.fta_run.proofs.Chosen.{places_rise}
+use Rattle.fta_run.proofs.Ran.{answered, kept_as, lines_asked, many_answer, many_named, unasked, unread}
 use Rattle.fta_run.proofs.command.answer.Goals as goal
 
-pub write_command-requires : goal.write_command-requires
-write_command-requires g c =
+pub answer_in-requires : goal.answer_in-requires
+answer_in-requires g c =
     let reports = c.args.reports.now in
     let count : length c.items.result.now ≡ length reports.items = ap length (c.items.ensures.items ∙ c.in_ok-names.ensures) ∙ length-map reports.items (λ b. (goal.Report-dyn g (b.vtable, b.value)).label b.value) in
-    record { chosen = subst (λ many. RisesWithin 0 many (chosen_of (command_shown c.in_ok-command.command))) (count ∙ sym reports.ok.0) (places_rise c.items.result.now c.args.words.now (command_shown c.in_ok-command.command) c.in_ok-command.ensures.passed) }
+    record { chosen = subst (λ many. RisesWithin 0 many c.in_ok-asked.asked.options.chosen) (count ∙ sym reports.ok.0) (places_rise c.items.result.now c.args.words.now (request_shown c.in_ok-asked.asked) c.in_ok-asked.ensures.passed) }
 
-pub returns-clause-end : goal.returns-clause-end
-returns-clause-end g c =
+pub returns-in_err-asked-clause-text : goal.returns-in_err-asked-clause-text
+returns-in_err-asked-clause-text g c =
     let reports = c.args.reports.now.items in
     let names : c.items.result.now ≡ labels (voices_of (λ b. (goal.Report-dyn g (b.vtable, b.value)).label b.value) (λ b. (goal.Report-dyn g (b.vtable, b.value)).text b.value) reports) = c.items.ensures.items ∙ c.in_ok-names.ensures ∙ sym (labels_are (λ b. (goal.Report-dyn g (b.vtable, b.value)).label b.value) (λ b. (goal.Report-dyn g (b.vtable, b.value)).text b.value) reports) in
-    let command = command_shown c.in_ok-command.command in
-    ran c.args.words.now (g.F.Files.contents c.args.files.now) (voices_of (λ b. (goal.Report-dyn g (b.vtable, b.value)).label b.value) (λ b. (goal.Report-dyn g (b.vtable, b.value)).text b.value) reports) _ _ _ _ _ _ _ c.write_command.result command
-    (subst (λ its. Passes (finds (IsCommand its c.args.words.now) Usage) command) names c.in_ok-command.ensures) c.write_command.ensures.end
+    exits _ _ _ _ _ c.from_residual-in_err-asked.ensures.1 (unasked c.args.words.now (g.F.Files.contents c.args.files.now) (voices_of (λ b. (goal.Report-dyn g (b.vtable, b.value)).label b.value) (λ b. (goal.Report-dyn g (b.vtable, b.value)).text b.value) reports) _ _ _ c.items.result.now c.in_err-asked.field-0.0 names c.in_err-asked.ensures)
 
-pub returns-clause-too_many : goal.returns-clause-too_many
-returns-clause-too_many g c many = c.write_command.ensures.too_many (many_named c.items.result.now c.args.words.now (command_shown c.in_ok-command.command) c.in_ok-command.ensures many)
-
-pub returns-clause-many : goal.returns-clause-many
-returns-clause-many g c many = c.write_command.ensures.many (many_named c.items.result.now c.args.words.now (command_shown c.in_ok-command.command) c.in_ok-command.ensures many)
-
-pub returns-in_err-command-clause-end : goal.returns-in_err-command-clause-end
-returns-in_err-command-clause-end g c =
+pub returns-in_err-texts-clause-text : goal.returns-in_err-texts-clause-text
+returns-in_err-texts-clause-text g c =
     let reports = c.args.reports.now.items in
     let names : c.items.result.now ≡ labels (voices_of (λ b. (goal.Report-dyn g (b.vtable, b.value)).label b.value) (λ b. (goal.Report-dyn g (b.vtable, b.value)).text b.value) reports) = c.items.ensures.items ∙ c.in_ok-names.ensures ∙ sym (labels_are (λ b. (goal.Report-dyn g (b.vtable, b.value)).label b.value) (λ b. (goal.Report-dyn g (b.vtable, b.value)).text b.value) reports) in
-    ran_unnamed c.args.words.now (g.F.Files.contents c.args.files.now) (voices_of (λ b. (goal.Report-dyn g (b.vtable, b.value)).label b.value) (λ b. (goal.Report-dyn g (b.vtable, b.value)).text b.value) reports) _ _ _ _ _ c.items.result.now c.from_residual-in_err-command.result c.in_err-command.field-0.0 names c.from_residual-in_err-command.ensures.1 c.in_err-command.ensures
+    let asked = request_shown c.in_ok-asked.asked in
+    let given = subst (λ its. Passes (finds (IsRequest its c.args.words.now) Usage) asked) names c.in_ok-asked.ensures in
+    exits _ _ _ _ _ c.from_residual-in_err-texts.ensures.1 (unread c.args.words.now (g.F.Files.contents c.args.files.now) (voices_of (λ b. (goal.Report-dyn g (b.vtable, b.value)).label b.value) (λ b. (goal.Report-dyn g (b.vtable, b.value)).text b.value) reports) _ _ _ asked c.in_err-texts.field-0.0 given c.in_err-texts.ensures.meets)
 
-pub returns-clause-no_command : goal.returns-clause-no_command
-returns-clause-no_command g c none =
+pub returns-clause-text : goal.returns-clause-text
+returns-clause-text g c =
     let reports = c.args.reports.now.items in
     let names : c.items.result.now ≡ labels (voices_of (λ b. (goal.Report-dyn g (b.vtable, b.value)).label b.value) (λ b. (goal.Report-dyn g (b.vtable, b.value)).text b.value) reports) = c.items.ensures.items ∙ c.in_ok-names.ensures ∙ sym (labels_are (λ b. (goal.Report-dyn g (b.vtable, b.value)).label b.value) (λ b. (goal.Report-dyn g (b.vtable, b.value)).text b.value) reports) in
-    absurd (none (command_shown c.in_ok-command.command) (subst (λ its. IsCommand its c.args.words.now (command_shown c.in_ok-command.command)) names c.in_ok-command.ensures.passed))
+    let asked = request_shown c.in_ok-asked.asked in
+    let given = subst (λ its. Passes (finds (IsRequest its c.args.words.now) Usage) asked) names c.in_ok-asked.ensures in
+    answered c.args.words.now (g.F.Files.contents c.args.files.now) (voices_of (λ b. (goal.Report-dyn g (b.vtable, b.value)).label b.value) (λ b. (goal.Report-dyn g (b.vtable, b.value)).text b.value) reports) _ _ _ asked c.in_ok-texts.texts c.answer_in.result given c.in_ok-texts.ensures.meets c.answer_in.ensures.text
 
-pub returns-clause-begins : goal.returns-clause-begins
-returns-clause-begins g c asked is =
+pub returns-clause-by_lines : goal.returns-clause-by_lines
+returns-clause-by_lines g c =
     let reports = c.args.reports.now.items in
     let names : c.items.result.now ≡ labels (voices_of (λ b. (goal.Report-dyn g (b.vtable, b.value)).label b.value) (λ b. (goal.Report-dyn g (b.vtable, b.value)).text b.value) reports) = c.items.ensures.items ∙ c.in_ok-names.ensures ∙ sym (labels_are (λ b. (goal.Report-dyn g (b.vtable, b.value)).label b.value) (λ b. (goal.Report-dyn g (b.vtable, b.value)).text b.value) reports) in
-    let command = command_shown c.in_ok-command.command in
-    begins_as (labels (voices_of (λ b. (goal.Report-dyn g (b.vtable, b.value)).label b.value) (λ b. (goal.Report-dyn g (b.vtable, b.value)).text b.value) reports)) c.args.words.now command asked _ _ _ (subst (λ its. Passes (finds (IsCommand its c.args.words.now) Usage) command) names c.in_ok-command.ensures) c.write_command.ensures.begins is
+    let asked = request_shown c.in_ok-asked.asked in
+    let given = subst (λ its. Passes (finds (IsRequest its c.args.words.now) Usage) asked) names c.in_ok-asked.ensures in
+    lines_asked c.args.words.now (voices_of (λ b. (goal.Report-dyn g (b.vtable, b.value)).label b.value) (λ b. (goal.Report-dyn g (b.vtable, b.value)).text b.value) reports) asked c.answer_in.result given c.answer_in.ensures.by_lines
 
 pub returns-clause-reports : goal.returns-clause-reports
 returns-clause-reports g c asked is =
     let reports = c.args.reports.now.items in
     let names : c.items.result.now ≡ labels (voices_of (λ b. (goal.Report-dyn g (b.vtable, b.value)).label b.value) (λ b. (goal.Report-dyn g (b.vtable, b.value)).text b.value) reports) = c.items.ensures.items ∙ c.in_ok-names.ensures ∙ sym (labels_are (λ b. (goal.Report-dyn g (b.vtable, b.value)).label b.value) (λ b. (goal.Report-dyn g (b.vtable, b.value)).text b.value) reports) in
-    let command = command_shown c.in_ok-command.command in
-    kept_as (IsKept (λ b. (goal.Report-dyn g (b.vtable, b.value)).text b.value) (λ b. (goal.Report-dyn g (b.vtable, b.value)).label b.value) (λ b. (goal.Report-dyn g (b.vtable, b.value)).report_faults b.value)) (labels (voices_of (λ b. (goal.Report-dyn g (b.vtable, b.value)).label b.value) (λ b. (goal.Report-dyn g (b.vtable, b.value)).text b.value) reports)) c.args.words.now command asked reports c.write_command.new.reports.items (subst (λ its. Passes (finds (IsCommand its c.args.words.now) Usage) command) names c.in_ok-command.ensures) c.write_command.ensures.reports is
+    let mine = request_shown c.in_ok-asked.asked in
+    let given = subst (λ its. Passes (finds (IsRequest its c.args.words.now) Usage) mine) names c.in_ok-asked.ensures in
+    kept_as (IsKept (λ b. (goal.Report-dyn g (b.vtable, b.value)).text b.value) (λ b. (goal.Report-dyn g (b.vtable, b.value)).label b.value) (λ b. (goal.Report-dyn g (b.vtable, b.value)).report_faults b.value)) (labels (voices_of (λ b. (goal.Report-dyn g (b.vtable, b.value)).label b.value) (λ b. (goal.Report-dyn g (b.vtable, b.value)).text b.value) reports)) c.args.words.now mine asked reports c.answer_in.new.reports.items given c.answer_in.ensures.reports is
+
+pub returns-clause-no_reports : goal.returns-clause-no_reports
+returns-clause-no_reports g c none =
+    let reports = c.args.reports.now.items in
+    let names : c.items.result.now ≡ labels (voices_of (λ b. (goal.Report-dyn g (b.vtable, b.value)).label b.value) (λ b. (goal.Report-dyn g (b.vtable, b.value)).text b.value) reports) = c.items.ensures.items ∙ c.in_ok-names.ensures ∙ sym (labels_are (λ b. (goal.Report-dyn g (b.vtable, b.value)).label b.value) (λ b. (goal.Report-dyn g (b.vtable, b.value)).text b.value) reports) in
+    let asked = request_shown c.in_ok-asked.asked in
+    absurd (none asked (subst (λ its. IsRequest its c.args.words.now asked) names c.in_ok-asked.ensures.passed))
+
+pub returns-clause-no_files : goal.returns-clause-no_files
+returns-clause-no_files g c none =
+    let reports = c.args.reports.now.items in
+    let names : c.items.result.now ≡ labels (voices_of (λ b. (goal.Report-dyn g (b.vtable, b.value)).label b.value) (λ b. (goal.Report-dyn g (b.vtable, b.value)).text b.value) reports) = c.items.ensures.items ∙ c.in_ok-names.ensures ∙ sym (labels_are (λ b. (goal.Report-dyn g (b.vtable, b.value)).label b.value) (λ b. (goal.Report-dyn g (b.vtable, b.value)).text b.value) reports) in
+    let asked = request_shown c.in_ok-asked.asked in
+    absurd (none asked (subst (λ its. IsRequest its c.args.words.now asked) names c.in_ok-asked.ensures.passed))
+
+pub returns-in_err-texts-clause-no_files : goal.returns-in_err-texts-clause-no_files
+returns-in_err-texts-clause-no_files g c none =
+    let reports = c.args.reports.now.items in
+    let names : c.items.result.now ≡ labels (voices_of (λ b. (goal.Report-dyn g (b.vtable, b.value)).label b.value) (λ b. (goal.Report-dyn g (b.vtable, b.value)).text b.value) reports) = c.items.ensures.items ∙ c.in_ok-names.ensures ∙ sym (labels_are (λ b. (goal.Report-dyn g (b.vtable, b.value)).label b.value) (λ b. (goal.Report-dyn g (b.vtable, b.value)).text b.value) reports) in
+    let asked = request_shown c.in_ok-asked.asked in
+    absurd (none asked (subst (λ its. IsRequest its c.args.words.now asked) names c.in_ok-asked.ensures.passed))
+
+pub returns-in_err-texts-clause-too_many : goal.returns-in_err-texts-clause-too_many
+returns-in_err-texts-clause-too_many g c many = c.in_err-texts.ensures.unread (many_named c.items.result.now c.args.words.now (request_shown c.in_ok-asked.asked) c.in_ok-asked.ensures many)
+
+pub returns-clause-too_many : goal.returns-clause-too_many
+returns-clause-too_many g c many = c.in_ok-texts.ensures.unread (many_named c.items.result.now c.args.words.now (request_shown c.in_ok-asked.asked) c.in_ok-asked.ensures many)
 
 pub returns-clause-names : goal.returns-clause-names
-returns-clause-names g c = names_kept (λ b. (goal.Report-dyn g (b.vtable, b.value)).text b.value) (λ b. (goal.Report-dyn g (b.vtable, b.value)).label b.value) (λ b. (goal.Report-dyn g (b.vtable, b.value)).report_faults b.value) (chosen_of (command_shown c.in_ok-command.command)) c.args.reports.now.items c.write_command.new.reports.items c.write_command.ensures.reports
+returns-clause-names g c = names_kept (λ b. (goal.Report-dyn g (b.vtable, b.value)).text b.value) (λ b. (goal.Report-dyn g (b.vtable, b.value)).label b.value) (λ b. (goal.Report-dyn g (b.vtable, b.value)).report_faults b.value) c.in_ok-asked.asked.options.chosen c.args.reports.now.items c.answer_in.new.reports.items c.answer_in.ensures.reports
+
+pub returns-in_err-texts-clause-many : goal.returns-in_err-texts-clause-many
+returns-in_err-texts-clause-many g c many =
+    let its = c.in_err-texts.ensures.many (many_named c.items.result.now c.args.words.now (request_shown c.in_ok-asked.asked) c.in_ok-asked.ensures many) in
+    many_answer c.from_residual-in_err-texts.result c.in_err-texts.field-0.0 c.from_residual-in_err-texts.ensures.1 (cc (its))
+
+pub returns-clause-many : goal.returns-clause-many
+returns-clause-many g c many = absurd (cc (c.in_ok-texts.ensures.many (many_named c.items.result.now c.args.words.now (request_shown c.in_ok-asked.asked) c.in_ok-asked.ensures many)))

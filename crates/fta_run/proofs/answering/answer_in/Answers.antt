@@ -1,0 +1,138 @@
+use Rattle.std.proofs.Common.{inl}
+use Rattle.system_answers.specs.Voices.{voices_of}
+use Rattle.system_answers.proofs.Reported.{all_kept}
+use Rattle.fta_run.proofs.Ran.{held_is, meets_wider, ready_held, ready_told, told_as}
+use Rattle.fta_run.proofs.answering.answer_in.Goals as goal
+
+pub returns-in-Check-clause-text : goal.returns-in-Check-clause-text
+returns-in-Check-clause-text g c = rw c.in-Check.is (ready_held _ _ c.check.result c.ready_of.result c.ready_of.ensures (λ s memory. inl memory) c.check.ensures)
+
+pub returns-in-Check-clause-by_lines : goal.returns-in-Check-clause-by_lines
+returns-in-Check-clause-by_lines g c = held_is _ c.check.result c.ready_of.result c.ready_of.ensures
+
+pub returns-in-Check-clause-reports : goal.returns-in-Check-clause-reports
+returns-in-Check-clause-reports g c = all_kept (λ b. (goal.Report-dyn g (b.vtable, b.value)).text b.value) (λ b. (goal.Report-dyn g (b.vtable, b.value)).label b.value) (λ b. (goal.Report-dyn g (b.vtable, b.value)).report_faults b.value) _ c.args.reports.now.items
+
+pub returns-in-Cuts-clause-text : goal.returns-in-Cuts-clause-text
+returns-in-Cuts-clause-text g c = rw c.in-Cuts.is (ready_held _ _ c.cuts.result c.ready_of-in-Cuts.result c.ready_of-in-Cuts.ensures (λ s memory. inl memory) c.cuts.ensures)
+
+pub returns-in-Cuts-clause-by_lines : goal.returns-in-Cuts-clause-by_lines
+returns-in-Cuts-clause-by_lines g c = held_is _ c.cuts.result c.ready_of-in-Cuts.result c.ready_of-in-Cuts.ensures
+
+pub returns-in-Cuts-clause-reports : goal.returns-in-Cuts-clause-reports
+returns-in-Cuts-clause-reports g c = all_kept (λ b. (goal.Report-dyn g (b.vtable, b.value)).text b.value) (λ b. (goal.Report-dyn g (b.vtable, b.value)).label b.value) (λ b. (goal.Report-dyn g (b.vtable, b.value)).report_faults b.value) _ c.args.reports.now.items
+
+pub returns-in-Make-clause-text : goal.returns-in-Make-clause-text
+returns-in-Make-clause-text g c = rw c.in-Make.is (ready_held _ _ c.make.result c.ready_of-in-Make.result c.ready_of-in-Make.ensures (λ s memory. inl memory) c.make.ensures)
+
+pub returns-in-Make-clause-by_lines : goal.returns-in-Make-clause-by_lines
+returns-in-Make-clause-by_lines g c = held_is _ c.make.result c.ready_of-in-Make.result c.ready_of-in-Make.ensures
+
+pub returns-in-Make-clause-reports : goal.returns-in-Make-clause-reports
+returns-in-Make-clause-reports g c = all_kept (λ b. (goal.Report-dyn g (b.vtable, b.value)).text b.value) (λ b. (goal.Report-dyn g (b.vtable, b.value)).label b.value) (λ b. (goal.Report-dyn g (b.vtable, b.value)).report_faults b.value) _ c.args.reports.now.items
+
+pub returns-in-Galileo-clause-text : goal.returns-in-Galileo-clause-text
+returns-in-Galileo-clause-text g c = rw c.in-Galileo.is (ready_held _ _ c.sets_of_tree.result c.ready_of-in-Galileo.result c.ready_of-in-Galileo.ensures (λ s memory. inl memory) c.sets_of_tree.ensures)
+
+pub returns-in-Galileo-clause-by_lines : goal.returns-in-Galileo-clause-by_lines
+returns-in-Galileo-clause-by_lines g c = held_is _ c.sets_of_tree.result c.ready_of-in-Galileo.result c.ready_of-in-Galileo.ensures
+
+pub returns-in-Galileo-clause-reports : goal.returns-in-Galileo-clause-reports
+returns-in-Galileo-clause-reports g c = all_kept (λ b. (goal.Report-dyn g (b.vtable, b.value)).text b.value) (λ b. (goal.Report-dyn g (b.vtable, b.value)).label b.value) (λ b. (goal.Report-dyn g (b.vtable, b.value)).report_faults b.value) _ c.args.reports.now.items
+
+pub returns-in-Paths-clause-text : goal.returns-in-Paths-clause-text
+returns-in-Paths-clause-text g c = rw c.in-Paths.is (ready_held _ _ c.paths.result c.ready_of-in-Paths.result c.ready_of-in-Paths.ensures (λ s memory. inl memory) c.paths.ensures)
+
+pub returns-in-Paths-clause-by_lines : goal.returns-in-Paths-clause-by_lines
+returns-in-Paths-clause-by_lines g c = held_is _ c.paths.result c.ready_of-in-Paths.result c.ready_of-in-Paths.ensures
+
+pub returns-in-Paths-clause-reports : goal.returns-in-Paths-clause-reports
+returns-in-Paths-clause-reports g c = all_kept (λ b. (goal.Report-dyn g (b.vtable, b.value)).text b.value) (λ b. (goal.Report-dyn g (b.vtable, b.value)).label b.value) (λ b. (goal.Report-dyn g (b.vtable, b.value)).report_faults b.value) _ c.args.reports.now.items
+
+pub returns-in-Why-clause-text : goal.returns-in-Why-clause-text
+returns-in-Why-clause-text g c = rw c.in-Why.is (ready_held _ _ c.why.result c.ready_of-in-Why.result c.ready_of-in-Why.ensures (λ s memory. inl memory) c.why.ensures)
+
+pub returns-in-Why-clause-by_lines : goal.returns-in-Why-clause-by_lines
+returns-in-Why-clause-by_lines g c = held_is _ c.why.result c.ready_of-in-Why.result c.ready_of-in-Why.ensures
+
+pub returns-in-Why-clause-reports : goal.returns-in-Why-clause-reports
+returns-in-Why-clause-reports g c = all_kept (λ b. (goal.Report-dyn g (b.vtable, b.value)).text b.value) (λ b. (goal.Report-dyn g (b.vtable, b.value)).label b.value) (λ b. (goal.Report-dyn g (b.vtable, b.value)).report_faults b.value) _ c.args.reports.now.items
+
+pub returns-in-Confirm-clause-text : goal.returns-in-Confirm-clause-text
+returns-in-Confirm-clause-text g c = rw c.in-Confirm.is (ready_held _ _ c.confirmation.result c.ready_of-in-Confirm.result c.ready_of-in-Confirm.ensures (λ s memory. inl memory) c.confirmation.ensures)
+
+pub returns-in-Confirm-clause-by_lines : goal.returns-in-Confirm-clause-by_lines
+returns-in-Confirm-clause-by_lines g c = held_is _ c.confirmation.result c.ready_of-in-Confirm.result c.ready_of-in-Confirm.ensures
+
+pub returns-in-Confirm-clause-reports : goal.returns-in-Confirm-clause-reports
+returns-in-Confirm-clause-reports g c = all_kept (λ b. (goal.Report-dyn g (b.vtable, b.value)).text b.value) (λ b. (goal.Report-dyn g (b.vtable, b.value)).label b.value) (λ b. (goal.Report-dyn g (b.vtable, b.value)).report_faults b.value) _ c.args.reports.now.items
+
+pub returns-in-Targets-clause-text : goal.returns-in-Targets-clause-text
+returns-in-Targets-clause-text g c = rw c.in-Targets.is (ready_held _ _ c.targets.result c.ready_of-in-Targets.result c.ready_of-in-Targets.ensures (λ s memory. inl memory) c.targets.ensures)
+
+pub returns-in-Targets-clause-by_lines : goal.returns-in-Targets-clause-by_lines
+returns-in-Targets-clause-by_lines g c = held_is _ c.targets.result c.ready_of-in-Targets.result c.ready_of-in-Targets.ensures
+
+pub returns-in-Targets-clause-reports : goal.returns-in-Targets-clause-reports
+returns-in-Targets-clause-reports g c = all_kept (λ b. (goal.Report-dyn g (b.vtable, b.value)).text b.value) (λ b. (goal.Report-dyn g (b.vtable, b.value)).label b.value) (λ b. (goal.Report-dyn g (b.vtable, b.value)).report_faults b.value) _ c.args.reports.now.items
+
+pub returns-in-Events-clause-text : goal.returns-in-Events-clause-text
+returns-in-Events-clause-text g c = rw c.in-Events.is (ready_held _ _ c.events.result c.ready_of-in-Events.result c.ready_of-in-Events.ensures (λ s memory. inl memory) c.events.ensures)
+
+pub returns-in-Events-clause-by_lines : goal.returns-in-Events-clause-by_lines
+returns-in-Events-clause-by_lines g c = held_is _ c.events.result c.ready_of-in-Events.result c.ready_of-in-Events.ensures
+
+pub returns-in-Events-clause-reports : goal.returns-in-Events-clause-reports
+returns-in-Events-clause-reports g c = all_kept (λ b. (goal.Report-dyn g (b.vtable, b.value)).text b.value) (λ b. (goal.Report-dyn g (b.vtable, b.value)).label b.value) (λ b. (goal.Report-dyn g (b.vtable, b.value)).report_faults b.value) _ c.args.reports.now.items
+
+pub returns-in-Review-clause-text : goal.returns-in-Review-clause-text
+returns-in-Review-clause-text g c = rw c.in-Review.is (ready_held _ _ c.review.result c.ready_of-in-Review.result c.ready_of-in-Review.ensures (λ s memory. inl memory) c.review.ensures)
+
+pub returns-in-Review-clause-by_lines : goal.returns-in-Review-clause-by_lines
+returns-in-Review-clause-by_lines g c = held_is _ c.review.result c.ready_of-in-Review.result c.ready_of-in-Review.ensures
+
+pub returns-in-Review-clause-reports : goal.returns-in-Review-clause-reports
+returns-in-Review-clause-reports g c = all_kept (λ b. (goal.Report-dyn g (b.vtable, b.value)).text b.value) (λ b. (goal.Report-dyn g (b.vtable, b.value)).label b.value) (λ b. (goal.Report-dyn g (b.vtable, b.value)).report_faults b.value) _ c.args.reports.now.items
+
+pub returns-in-Place-clause-text : goal.returns-in-Place-clause-text
+returns-in-Place-clause-text g c = rw c.in-Place.is (ready_held _ _ c.place.result c.ready_of-in-Place.result c.ready_of-in-Place.ensures (λ s memory. inl memory) c.place.ensures)
+
+pub returns-in-Place-clause-by_lines : goal.returns-in-Place-clause-by_lines
+returns-in-Place-clause-by_lines g c = held_is _ c.place.result c.ready_of-in-Place.result c.ready_of-in-Place.ensures
+
+pub returns-in-Place-clause-reports : goal.returns-in-Place-clause-reports
+returns-in-Place-clause-reports g c = all_kept (λ b. (goal.Report-dyn g (b.vtable, b.value)).text b.value) (λ b. (goal.Report-dyn g (b.vtable, b.value)).label b.value) (λ b. (goal.Report-dyn g (b.vtable, b.value)).report_faults b.value) _ c.args.reports.now.items
+
+pub returns-in-Help-clause-text : goal.returns-in-Help-clause-text
+returns-in-Help-clause-text g c = rw c.in-Help.is (ready_held _ _ c.help.result c.ready_of-in-Help.result c.ready_of-in-Help.ensures (λ s memory. inl memory) c.help.ensures)
+
+pub returns-in-Help-clause-by_lines : goal.returns-in-Help-clause-by_lines
+returns-in-Help-clause-by_lines g c = held_is _ c.help.result c.ready_of-in-Help.result c.ready_of-in-Help.ensures
+
+pub returns-in-Help-clause-reports : goal.returns-in-Help-clause-reports
+returns-in-Help-clause-reports g c = all_kept (λ b. (goal.Report-dyn g (b.vtable, b.value)).text b.value) (λ b. (goal.Report-dyn g (b.vtable, b.value)).label b.value) (λ b. (goal.Report-dyn g (b.vtable, b.value)).report_faults b.value) _ c.args.reports.now.items
+
+pub returns-in-Tree-clause-text : goal.returns-in-Tree-clause-text
+returns-in-Tree-clause-text g c = rw c.in-Tree.is (meets_wider _ _ _ _ c.tree.result (λ s memory. inl memory) c.tree.ensures)
+
+pub returns-in-Tree-clause-reports : goal.returns-in-Tree-clause-reports
+returns-in-Tree-clause-reports g c = all_kept (λ b. (goal.Report-dyn g (b.vtable, b.value)).text b.value) (λ b. (goal.Report-dyn g (b.vtable, b.value)).label b.value) (λ b. (goal.Report-dyn g (b.vtable, b.value)).report_faults b.value) _ c.args.reports.now.items
+
+pub returns-in-Fmea-clause-text : goal.returns-in-Fmea-clause-text
+returns-in-Fmea-clause-text g c = rw c.in-Fmea.is (meets_wider _ _ _ _ c.fmea.result (λ s memory. inl memory) c.fmea.ensures)
+
+pub returns-in-Fmea-clause-reports : goal.returns-in-Fmea-clause-reports
+returns-in-Fmea-clause-reports g c = all_kept (λ b. (goal.Report-dyn g (b.vtable, b.value)).text b.value) (λ b. (goal.Report-dyn g (b.vtable, b.value)).label b.value) (λ b. (goal.Report-dyn g (b.vtable, b.value)).report_faults b.value) _ c.args.reports.now.items
+
+pub returns-in-Version-clause-reports : goal.returns-in-Version-clause-reports
+returns-in-Version-clause-reports g c = all_kept (λ b. (goal.Report-dyn g (b.vtable, b.value)).text b.value) (λ b. (goal.Report-dyn g (b.vtable, b.value)).label b.value) (λ b. (goal.Report-dyn g (b.vtable, b.value)).report_faults b.value) _ c.args.reports.now.items
+
+pub returns-in-Report-clause-text : goal.returns-in-Report-clause-text
+returns-in-Report-clause-text g c =
+    let asked = c.args.asked.now in
+    let voices = voices_of (λ b. (goal.Report-dyn g (b.vtable, b.value)).label b.value) (λ b. (goal.Report-dyn g (b.vtable, b.value)).text b.value) c.args.reports.now.items in
+    rw c.in-Report.is (ready_told _ _ c.report.result c.ready_of-in-Report.result c.ready_of-in-Report.ensures
+    (told_as _ asked.root asked.target asked.options.paging.max_order voices c.args.texts c.report.result c.items.result.now asked.options.chosen c.items.ensures.items c.report.ensures.text))
+
+pub returns-in-Report-clause-by_lines : goal.returns-in-Report-clause-by_lines
+returns-in-Report-clause-by_lines g c = held_is _ c.report.result c.ready_of-in-Report.result c.ready_of-in-Report.ensures

@@ -1,0 +1,8 @@
+use Rattle.phases.proofs.Steps.{◌passes◌, ends, exits, given}
+use Rattle.fta_run.proofs.answering.review.Goals as goal
+
+pub returns-in_err-reviewed : goal.returns-in_err-reviewed
+returns-in_err-reviewed c = exits _ _ _ _ _ c.from_residual.ensures.1 (ends c.in_err-reviewed.ensures)
+
+pub returns : goal.returns
+returns c = c.in_ok-reviewed.ensures passes given

@@ -1,0 +1,265 @@
+//! The answer on a request.
+
+ghost use Rattle.std.specs.Prelude.{◌≡◌, ◌≤◌, IfOk, length, true, vec_len};
+ghost use Rattle.phases.specs.Phases.{yields};
+ghost use Rattle.phases.specs.inner.Meets.{IsMemory, Meets, MeetsBut};
+ghost use Rattle.plain_values.specs.Rising.{RisesWithin};
+ghost use Rattle.cut_reports.specs.Feeding.{IsKept, RoseAt};
+ghost use Rattle.cut_reports.specs.Places.{AtChosen};
+ghost use Rattle.fta_words.specs.inner.Shown.{request_shown};
+ghost use Rattle.help_texts.specs.Texts.{help_text};
+ghost use Rattle.model_phases.specs.Named.{IsPlainModel};
+ghost use Rattle.system_answers.specs.inner.Ends.{EndsReports};
+ghost use Rattle.system_answers.specs.Voices.{voices_of};
+ghost use Rattle.fta_run.specs.Answers.{is_by_lines};
+ghost use Rattle.fta_run.specs.Due.{check_in, cuts_in, events_in, first_name, first_text, fmea_in, made_of_texts, model_of_texts, paths_in, place_in, report_in, review_in, sets_of_tree, targets_in, text_for, tree_in, why_in};
+ghost use Rattle.fta_run.specs.Ready.{IsByLines, held_text, ready_text};
+
+use crate::confirmed::confirmation;
+use crate::fmea::table_of;
+use crate::input::Texts;
+use crate::made::make;
+use crate::model::model_of_texts;
+use crate::ready::{Held, Ready, ready_of};
+use crate::targets::orders_of;
+use crate::text::numbers_of;
+use cutset_writer::ListingPage;
+use event_lines::events_text;
+use fta_outside::Report;
+use fta_words::{Kind, Paging, Request};
+use help_texts::{help_text, version_text};
+use model_phases::{EventModel, FlatModel, FromAssembly, ReviewedModel};
+use page_tokens::asked_digest;
+use phases::Status;
+use plain_values::{Name, Root, Word};
+use std::alloc::Global;
+use text_places::place_text;
+
+/// The answer on a request whose files have these texts.
+pub fn answer_in(
+    alloc: Global,
+    asked: &Request<'_>,
+    texts: Texts,
+    reports: &mut Vec<Box<dyn Report>>,
+) -> Result<Ready, Status>
+    requires chosen { RisesWithin 0 (vec_len reports.old) asked.now.options.chosen }
+    ensures text { let phase = text_for asked.now.kind (voices_of label text reports.old.items) (request_shown asked.now) texts in MeetsBut (EndsReports asked.now.options.chosen (λ place. RoseAt report_faults place reports.old.items reports.new.items) phase) ready_text phase result }
+    ensures by_lines { IfOk result (λ ready. IsByLines ready → is_by_lines asked.now.kind ≡ true) }
+    ensures reports { AtChosen asked.now.options.chosen (IsKept text label report_faults) reports.old.items reports.new.items }
+{
+    let (root, target, options) = (&asked.root, &asked.target, &asked.options);
+    let (limit, max_order) = (options.paging.limit, options.paging.max_order);
+    match asked.kind {
+        Kind::Check => ready_of(check(alloc, root, texts)),
+        Kind::Cuts => ready_of(cuts(alloc, root, target, &options.paging, options.tokens, texts)),
+        Kind::Tree => tree(alloc, root, target, texts),
+        Kind::Fmea => fmea(alloc, root, options.all, texts),
+        Kind::Report => ready_of(report(
+            alloc,
+            root,
+            target,
+            options.chosen.items(),
+            max_order,
+            texts,
+            reports,
+        )),
+        Kind::Make => ready_of(make(alloc, asked.number, options.text)),
+        Kind::Galileo => ready_of(sets_of_tree(alloc, texts, limit, max_order, options.paths)),
+        Kind::Paths => ready_of(paths(alloc, root, target, &options.paging, texts)),
+        Kind::Why => ready_of(why(alloc, root, target, &options.set, texts)),
+        Kind::Confirm => ready_of(confirmation(alloc, root, target, &options.set, texts)),
+        Kind::Targets => ready_of(targets(alloc, root, options.all, texts)),
+        Kind::Events => ready_of(events(alloc, root, asked.files, texts)),
+        Kind::Review => ready_of(review(alloc, root, texts)),
+        Kind::Place => ready_of(place(alloc, asked.files, asked.number, texts)),
+        Kind::Help => ready_of(help(alloc, asked.of)),
+        Kind::Version => Ok(Ready::Held(Held::Fixed(version_text()))),
+    }
+}
+
+/// What is made of the model of a root in files of these texts, which are held no longer.
+fn model_in<M: FromAssembly>(alloc: Global, root: &Root, texts: Texts) -> Result<M, Status>
+    ensures { Meets (made_of_texts M.phase root.now texts) result }
+{
+    model_of_texts(alloc, root, texts.items())
+}
+
+/// The model of a root in files of these texts, which are held no longer, as a system.
+fn flat_model(alloc: Global, root: &Root, texts: Texts) -> Result<FlatModel, Status>
+    ensures meets { Meets (model_of_texts root.now texts) result }
+    ensures plain { IfOk result IsPlainModel }
+{
+    model_in(alloc, root, texts)
+}
+
+/// The numbers of the model of a root.
+fn check(alloc: Global, root: &Root, texts: Texts) -> Result<Held, Status>
+    ensures { MeetsBut IsMemory held_text (check_in root.now texts) result }
+{
+    let model = flat_model(alloc, root, texts)?;
+    let text = numbers_of(alloc, model.components, &model.system)?;
+    Ok(Held::Text(text))
+}
+
+/// A page of the listing of a target in the model of a root, perhaps with a token in the last line.
+fn cuts(
+    alloc: Global,
+    root: &Root,
+    target: &Name,
+    paging: &Paging,
+    tokens: bool,
+    texts: Texts,
+) -> Result<Held, Status>
+    ensures { MeetsBut IsMemory held_text (cuts_in root.now target.now paging.now tokens texts) result }
+{
+    let (after, most) = (&paging.after, paging.max_order);
+    let key = asked_digest(tokens, after, root, target, most, texts.items());
+    let model = flat_model(alloc, root, texts)?;
+    let page = system_answers::cuts(alloc, model.system, target, paging, tokens, &key)?;
+    Ok(Held::Page(page))
+}
+
+/// The tree of a target in the model of a root.
+fn tree(alloc: Global, root: &Root, target: &Name, texts: Texts) -> Result<Ready, Status>
+    ensures { MeetsBut IsMemory ready_text (tree_in root.now target.now texts) result }
+{
+    let model = flat_model(alloc, root, texts)?;
+    let lines = system_answers::tree(alloc, model.system, model.rates, target)?;
+    Ok(Ready::Tree(lines))
+}
+
+/// The FMEA table of the model of a root.
+fn fmea(alloc: Global, root: &Root, all: bool, texts: Texts) -> Result<Ready, Status>
+    ensures { MeetsBut IsMemory ready_text (fmea_in root.now all texts) result }
+{
+    let model = flat_model(alloc, root, texts)?;
+    let lines = table_of(alloc, model, all)?;
+    Ok(Ready::Table(lines))
+}
+
+/// What the chosen reports say of the listing of a target in the model of a root.
+fn report(
+    alloc: Global,
+    root: &Root,
+    target: &Name,
+    chosen: &[u32],
+    max_order: Option<u32>,
+    texts: Texts,
+    reports: &mut Vec<Box<dyn Report>>,
+) -> Result<Held, Status>
+    requires { RisesWithin 0 (vec_len reports.old) chosen.now }
+    ensures text { let phase = report_in root.now target.now chosen.now max_order (voices_of label text reports.old.items) texts in MeetsBut (EndsReports chosen.now (λ place. RoseAt report_faults place reports.old.items reports.new.items) phase) held_text phase result }
+    ensures reports { AtChosen chosen.now (IsKept text label report_faults) reports.old.items reports.new.items }
+{
+    let model = flat_model(alloc, root, texts)?;
+    let system = &model.system;
+    let text = system_answers::report(alloc, system, target, chosen, max_order, reports)?;
+    Ok(Held::Text(text))
+}
+
+/// A page of the minimal path sets of the tree in the first text, or of its minimal cut sets.
+fn sets_of_tree(
+    alloc: Global,
+    texts: Texts,
+    limit: Option<u32>,
+    max_order: Option<u32>,
+    paths: bool,
+) -> Result<Held, Status>
+    ensures { MeetsBut IsMemory held_text (sets_of_tree paths limit max_order (first_text texts)) result }
+{
+    let page = tree_page(alloc, texts.first(), limit, max_order, paths)?;
+    Ok(Held::Page(page))
+}
+
+/// A page of the minimal path sets of the tree in a Galileo text, or of its minimal cut sets.
+fn tree_page(
+    alloc: Global,
+    text: &[u8],
+    limit: Option<u32>,
+    max_order: Option<u32>,
+    paths: bool,
+) -> Result<ListingPage, Status>
+    requires { length text.now ≤ 4194304 }
+    ensures { Meets (sets_of_tree paths limit max_order text.now) result }
+{
+    if paths {
+        return system_answers::tree_paths(alloc, text, limit, max_order);
+    }
+    system_answers::tree_sets(alloc, text, limit, max_order)
+}
+
+/// A page of the minimal path sets of a target in the model of a root.
+fn paths(
+    alloc: Global,
+    root: &Root,
+    target: &Name,
+    paging: &Paging,
+    texts: Texts,
+) -> Result<Held, Status>
+    ensures { MeetsBut IsMemory held_text (paths_in root.now target.now paging.now texts) result }
+{
+    let model = flat_model(alloc, root, texts)?;
+    let page = system_answers::paths(alloc, model.system, target, paging)?;
+    Ok(Held::Page(page))
+}
+
+/// Why a target holds under a set of events in the model of a root.
+fn why(alloc: Global, root: &Root, target: &Name, set: &Name, texts: Texts) -> Result<Held, Status>
+    ensures { MeetsBut IsMemory held_text (why_in root.now target.now set.now texts) result }
+{
+    let model = flat_model(alloc, root, texts)?;
+    let text = system_answers::why(alloc, &model.system, target, set)?;
+    Ok(Held::Text(text))
+}
+
+/// What it takes to make each target of the model of a root hold: each effect of the root, or each fact.
+fn targets(alloc: Global, root: &Root, all: bool, texts: Texts) -> Result<Held, Status>
+    ensures { MeetsBut IsMemory held_text (targets_in root.now all texts) result }
+{
+    let model = flat_model(alloc, root, texts)?;
+    let text = orders_of(alloc, &model, all)?;
+    Ok(Held::Text(text))
+}
+
+/// Each event of the model of a root in files of these names, with its kind, its rate, and where it is declared.
+fn events(alloc: Global, root: &Root, names: &[Word], texts: Texts) -> Result<Held, Status>
+    ensures { MeetsBut IsMemory held_text (events_in root.now names.now texts) result }
+{
+    let model: EventModel = model_in(alloc, root, texts)?;
+    let text = events_text(alloc, names, &model)?;
+    Ok(Held::Text(text))
+}
+
+/// What the model of a root leaves without effect, and where its errors stop.
+fn review(alloc: Global, root: &Root, texts: Texts) -> Result<Held, Status>
+    ensures { MeetsBut IsMemory held_text (review_in root.now texts) result }
+{
+    let reviewed: ReviewedModel = model_in(alloc, root, texts)?;
+    Ok(Held::Bytes(reviewed.text))
+}
+
+/// Where a byte stands in the text of the first file.
+fn place(alloc: Global, names: &[Word], byte: u32, texts: Texts) -> Result<Held, Status>
+    ensures { MeetsBut IsMemory held_text (place_in names.now byte texts) result }
+{
+    let text = place_text(alloc, first_name(names), texts.first(), byte)?;
+    Ok(Held::Text(text))
+}
+
+/// The first name of files.
+fn first_name(names: &[Word]) -> &[u8]
+    ensures { result.now ≡ first_name names.now }
+{
+    match names.first() {
+        Some(name) => name.items(),
+        None => &[],
+    }
+}
+
+/// What the tool does, or a command of it.
+fn help(alloc: Global, of: Option<Kind>) -> Result<Held, Status>
+    ensures { MeetsBut IsMemory held_text (yields (help_text of)) result }
+{
+    let text = help_text(alloc, of)?;
+    Ok(Held::Text(text))
+}

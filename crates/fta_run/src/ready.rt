@@ -1,0 +1,86 @@
+//! Answers that are ready to be written, and the one place that writes them.
+
+ghost use Rattle.std.specs.Prelude.{◌≡◌, ◌++◌, Err, IfErr, MatchResult, Ok};
+ghost use Rattle.fta_outside.specs.Outside.{LacksMemory, Writes, WritesBut};
+ghost use Rattle.fta_run.specs.Ready.{IsByLines, held_text, ready_text};
+ghost use Rattle.fta_run.specs.declared.ready.Ready.TheVariants as made;
+
+use cutset_writer::ListingPage;
+use fmea_rows::TableLines;
+use fta_outside::{Sink, SinkFailed, WriteError, write_all, write_lines};
+use galileo_writer::TreeLines;
+use phases::Status;
+use plain_values::Name;
+use std::alloc::Global;
+
+/// An answer with all the memory that it is written from.
+#[derive(Drop)]
+pub enum Held {
+    /// A text that is always the same.
+    Fixed(&'static [u8]),
+    /// A text.
+    Text(Vec<u8>),
+    /// A text, as a list.
+    Bytes(Name),
+    /// A page of a listing.
+    Page(ListingPage),
+    /// The lines of numbers, and then a page of a listing.
+    Sized(Vec<u8>, ListingPage),
+}
+
+/// An answer that is ready to be written.
+#[derive(Drop)]
+pub enum Ready {
+    /// Writing it takes no memory.
+    Held(Held),
+    /// The text of a tree, of which each line is made as it is written.
+    Tree(TreeLines),
+    /// A table, of which each line is made as it is written.
+    Table(TableLines),
+}
+
+/// An answer that is held is ready.
+pub fn ready_of(answer: Result<Held, Status>) -> Result<Ready, Status>
+    ensures { MatchResult answer (λ text. result ≡ Ok (made.Held text)) (λ status. result ≡ Err status) }
+{
+    match answer {
+        Ok(text) => Ok(Ready::Held(text)),
+        Err(status) => Err(status),
+    }
+}
+
+/// Writes an answer. Memory is wanting only for a line of a tree or of a table.
+pub fn write<S: Sink>(alloc: Global, ready: Ready, out: &mut S) -> Result<(), WriteError>
+    ensures wrote { WritesBut LacksMemory (ready_text ready) result (S.seen out.old) (S.seen out.new) }
+    ensures wanting { IfErr result (λ error. LacksMemory error → IsByLines ready) }
+{
+    match ready {
+        Ready::Held(text) => {
+            write_held(text, out)?;
+            Ok(())
+        }
+        Ready::Tree(mut lines) => write_lines(alloc, &mut lines, out),
+        Ready::Table(mut lines) => write_lines(alloc, &mut lines, out),
+    }
+}
+
+/// Writes an answer that is held. It takes no memory.
+fn write_held<S: Sink>(held: Held, out: &mut S) -> Result<(), SinkFailed>
+    ensures { Writes (held_text held) result (S.seen out.old) (S.seen out.new) }
+{
+    match held {
+        Held::Fixed(text) => write_all(out, text),
+        Held::Text(text) => write_all(out, text.as_slice()),
+        Held::Bytes(text) => write_all(out, text.items()),
+        Held::Page(page) => page.write(out),
+        Held::Sized(numbers, page) => write_sized(numbers.as_slice(), page, out),
+    }
+}
+
+/// Writes a text, and then a page.
+fn write_sized<S: Sink>(numbers: &[u8], page: ListingPage, out: &mut S) -> Result<(), SinkFailed>
+    ensures { Writes (numbers.now ++ page) result (S.seen out.old) (S.seen out.new) }
+{
+    write_all(out, numbers)?;
+    page.write(out)
+}
