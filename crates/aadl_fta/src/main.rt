@@ -1,88 +1,25 @@
-//! The program: the real words, files and streams, and the exit status.
+//! The program.
 #![tactic(auto)]
 
-ghost use Rattle.std.specs.Prelude.{◌≡◌, IfOk, false, map, string_bytes, true};
-ghost use Rattle.phases.specs.declared.status.Status.TheVariants.{Done, WriteFault};
-
 use cut_reports::{EventUse, OrderProfile, SinglePoints};
-use fta_outside::{DiskFiles, Report, Sink, StdSink};
-use fta_run::{Status, run, write_line};
-use plain_values::{List, Word};
-use std::alloc::{AllocError, Global};
-use std::env;
-use std::io::{BufWriter, ErrorKind, Write};
+use fta_outside::Report;
+use fta_start::{end_without_memory, start};
+use std::alloc::AllocError;
 use std::process::ExitCode;
-use std::rt::Env;
-
-/// How many bytes of the output wait until they are written together.
-const WAITING_BYTES: usize = 65_536;
 
 fn main(rt: HostRuntime) -> ExitCode {
-    let mut err = StdSink::new(rt.stderr());
-    let status = match command_words(&rt, rt.alloc()) {
-        Ok(words) => match run_words(&rt, words.as_slice(), &mut err) {
-            Ok(status) => status,
-            Err(_) => stopped(rt.alloc(), Status::Memory, &mut err),
-        },
-        Err(status) => stopped(rt.alloc(), status, &mut err),
-    };
-    ExitCode::from(status.exit())
+    match start_with_reports(&rt) {
+        Ok(code) => code,
+        Err(_) => end_without_memory(&rt),
+    }
 }
 
-/// Writes the line of a status, where nothing was run; a fault of the error stream changes no status.
-fn stopped<E: Sink>(alloc: Global, status: Status, err: &mut E) -> Status
-    ensures { result ≡ status }
-{
-    let _written = write_line(err, &[], &Vec::new(alloc), &status);
-    status
-}
-
-/// Runs the words with the real files and streams, and the three reports of the tool's own.
-fn run_words<E: Sink>(rt: &HostRuntime, words: &[Word], err: &mut E) -> Result<Status, AllocError> {
+/// Starts with the three reports of the tool's own.
+fn start_with_reports(rt: &HostRuntime) -> Result<ExitCode, AllocError> {
     let alloc = rt.alloc();
     let mut reports: Vec<Box<dyn Report>> = Vec::new(alloc);
     reports.push(Box::new(alloc, OrderProfile::new(alloc))?)?;
     reports.push(Box::new(alloc, EventUse::new(alloc))?)?;
     reports.push(Box::new(alloc, SinglePoints::new(alloc))?)?;
-    let mut files = DiskFiles::new(rt);
-    let Ok(mut waiting) = BufWriter::with_capacity(alloc, WAITING_BYTES, rt.stdout()) else {
-        return Err(AllocError);
-    };
-    let mut out = StdSink::new(&mut waiting);
-    let status = run(alloc, words, &mut files, &mut out, err, &mut reports);
-    Ok(ended(alloc, status, waiting.flush().is_ok(), err))
-}
-
-/// The status of a run, of whose output the last bytes were written, or were not.
-fn ended<E: Sink>(alloc: Global, status: Status, is_written: bool, err: &mut E) -> Status
-    ensures written { is_written ≡ true → result ≡ status }
-    ensures lost { is_written ≡ false → status ≡ Done → result ≡ WriteFault }
-    ensures other { (status ≡ Done → ⊥) → result ≡ status }
-{
-    match status {
-        Status::Done if !is_written => stopped(alloc, Status::WriteFault, err),
-        _ => status,
-    }
-}
-
-/// The words after the program's name. A word that is not UTF-8 gives no command.
-fn command_words<R: Env + AllocGlobal>(rt: &R, alloc: Global) -> Result<Vec<Word>, Status> {
-    let arguments = match env::args(rt) {
-        Ok(arguments) => arguments,
-        Err(error) if error.kind() == ErrorKind::OutOfMemory => return Err(Status::Memory),
-        Err(_) => return Err(Status::Usage),
-    };
-    let texts: Vec<String> = arguments.collect(alloc)?;
-    Ok(words_of(alloc, texts.get(1..).unwrap_or(&[]))?)
-}
-
-/// The words of these texts.
-fn words_of(alloc: Global, texts: &[String]) -> Result<Vec<Word>, AllocError>
-    ensures { IfOk result (λ words. words.items ≡ map (λ text. string_bytes text) texts.now) }
-{
-    let mut words = Vec::new(alloc);
-    for text in texts {
-        words.push(List::of(Vec::from_slice(alloc, text.as_bytes())?)?)?;
-    }
-    Ok(words)
+    Ok(start(rt, reports))
 }

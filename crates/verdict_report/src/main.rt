@@ -6,45 +6,25 @@ mod verdict;
 
 use crate::verdict::Verdict;
 use cut_reports::{EventUse, OrderProfile, SinglePoints};
-use fta_outside::{DiskFiles, Report, Sink, StdSink};
-use fta_run::{Status, run};
-use plain_values::{List, Word};
+use fta_outside::Report;
+use fta_start::{end_without_memory, start};
 use std::alloc::AllocError;
-use std::env;
 use std::process::ExitCode;
 
 fn main(rt: HostRuntime) -> ExitCode {
-    match run_words(&rt) {
-        Ok(status) => ExitCode::from(status.exit()),
-        Err(_) => ExitCode::from(Status::Memory.exit()),
+    match start_with_reports(&rt) {
+        Ok(code) => code,
+        Err(_) => end_without_memory(&rt),
     }
 }
 
-/// Runs the words, with the report handed in behind the three of the tool's own.
-fn run_words(rt: &HostRuntime) -> Result<Status, AllocError> {
+/// Starts with the report behind the three of the tool's own.
+fn start_with_reports(rt: &HostRuntime) -> Result<ExitCode, AllocError> {
     let alloc = rt.alloc();
-    let mut words: Vec<Word> = Vec::new(alloc);
-    if let Ok(arguments) = env::args(rt) {
-        for (number, argument) in arguments.enumerate() {
-            if number > 0 {
-                words.push(List::of(Vec::from_slice(alloc, argument.as_bytes())?)?)?;
-            }
-        }
-    }
     let mut reports: Vec<Box<dyn Report>> = Vec::new(alloc);
     reports.push(Box::new(alloc, OrderProfile::new(alloc))?)?;
     reports.push(Box::new(alloc, EventUse::new(alloc))?)?;
     reports.push(Box::new(alloc, SinglePoints::new(alloc))?)?;
     reports.push(Box::new(alloc, Verdict::new(alloc))?)?;
-    let mut files = DiskFiles::new(rt);
-    let mut out = StdSink::new(rt.stdout());
-    let mut err = StdSink::new(rt.stderr());
-    Ok(run(
-        alloc,
-        words.as_slice(),
-        &mut files,
-        &mut out,
-        &mut err,
-        &mut reports,
-    ))
+    Ok(start(rt, reports))
 }

@@ -1,0 +1,99 @@
+//! How a program of the tool starts: the real words, files and streams, and the exit status.
+#![tactic(auto)]
+
+ghost use Rattle.std.specs.Prelude.{◌≡◌, IfOk, false, map, string_bytes, true};
+ghost use Rattle.phases.specs.declared.status.Status.TheVariants.{Done, WriteFault};
+
+use fta_outside::{DiskFiles, Report, Sink, StdSink};
+use fta_run::{Status, run, write_line};
+use plain_values::{List, Word};
+use std::alloc::{AllocError, Global};
+use std::env;
+use std::io::{BufWriter, ErrorKind, Write};
+use std::process::ExitCode;
+use std::rt::Env;
+
+/// How many bytes of the output wait until they are written together.
+const WAITING_BYTES: usize = 65_536;
+
+/// Runs the words after the program's name with the real files and streams and these reports, and gives the exit status.
+///
+/// The output is gathered, and written when much of it waits and at the end. A word that is not UTF-8 gives no request. Where memory is
+/// wanting before or after the run, that is the status, and the line of it is written as `run` writes it.
+pub fn start(rt: &HostRuntime, reports: Vec<Box<dyn Report>>) -> ExitCode {
+    let mut reports = reports;
+    let mut err = StdSink::new(rt.stderr());
+    let status = match command_words(rt, rt.alloc()) {
+        Ok(words) => match run_words(rt, words.as_slice(), &mut err, &mut reports) {
+            Ok(status) => status,
+            Err(_) => stopped(rt.alloc(), Status::Memory, &mut err),
+        },
+        Err(status) => stopped(rt.alloc(), status, &mut err),
+    };
+    ExitCode::from(status.exit())
+}
+
+/// Ends a program that could not start for want of memory: it writes the line of that status, and gives its exit status.
+pub fn end_without_memory(rt: &HostRuntime) -> ExitCode {
+    let status = stopped(rt.alloc(), Status::Memory, &mut StdSink::new(rt.stderr()));
+    ExitCode::from(status.exit())
+}
+
+/// Writes the line of a status, where nothing was run; a fault of the error stream changes no status.
+fn stopped<E: Sink>(alloc: Global, status: Status, err: &mut E) -> Status
+    ensures { result ≡ status }
+{
+    let _written = write_line(err, &[], &Vec::new(alloc), &status);
+    status
+}
+
+/// Runs the words with the real files and the real output, and these reports.
+fn run_words<E: Sink>(
+    rt: &HostRuntime,
+    words: &[Word],
+    err: &mut E,
+    reports: &mut Vec<Box<dyn Report>>,
+) -> Result<Status, AllocError> {
+    let alloc = rt.alloc();
+    let mut files = DiskFiles::new(rt);
+    let Ok(mut waiting) = BufWriter::with_capacity(alloc, WAITING_BYTES, rt.stdout()) else {
+        return Err(AllocError);
+    };
+    let mut out = StdSink::new(&mut waiting);
+    let status = run(alloc, words, &mut files, &mut out, err, reports);
+    Ok(ended(alloc, status, waiting.flush().is_ok(), err))
+}
+
+/// The status of a run, of whose output the last bytes were written, or were not.
+fn ended<E: Sink>(alloc: Global, status: Status, is_written: bool, err: &mut E) -> Status
+    ensures written { is_written ≡ true → result ≡ status }
+    ensures lost { is_written ≡ false → status ≡ Done → result ≡ WriteFault }
+    ensures other { (status ≡ Done → ⊥) → result ≡ status }
+{
+    match status {
+        Status::Done if !is_written => stopped(alloc, Status::WriteFault, err),
+        _ => status,
+    }
+}
+
+/// The words after the program's name. A word that is not UTF-8 gives no request.
+fn command_words<R: Env + AllocGlobal>(rt: &R, alloc: Global) -> Result<Vec<Word>, Status> {
+    let arguments = match env::args(rt) {
+        Ok(arguments) => arguments,
+        Err(error) if error.kind() == ErrorKind::OutOfMemory => return Err(Status::Memory),
+        Err(_) => return Err(Status::Usage),
+    };
+    let texts: Vec<String> = arguments.collect(alloc)?;
+    Ok(words_of(alloc, texts.get(1..).unwrap_or(&[]))?)
+}
+
+/// The words of these texts.
+fn words_of(alloc: Global, texts: &[String]) -> Result<Vec<Word>, AllocError>
+    ensures { IfOk result (λ words. words.items ≡ map (λ text. string_bytes text) texts.now) }
+{
+    let mut words = Vec::new(alloc);
+    for text in texts {
+        words.push(List::of(Vec::from_slice(alloc, text.as_bytes())?)?)?;
+    }
+    Ok(words)
+}
