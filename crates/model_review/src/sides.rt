@@ -15,7 +15,7 @@ ghost use Rattle.model_review.specs.declared.finding.Finding.TheVariants.{Never,
 use crate::finding::{Finding, TypesAt, tell_unless};
 use crate::flows::{has_number, inward_of, outward_of};
 use crate::view::{View, declared_for};
-use crate::walks::PointFinding;
+use crate::walks::{PointFinding, PointPlace};
 use aadl_syntax::{Flow, FlowKind};
 use component_extension::InClause;
 use error_flows::FlowMeaning;
@@ -39,14 +39,13 @@ impl PointFinding for Stops {
         alloc: Global,
         found: &mut List<Finding>,
         view: &View,
-        owner: u32,
-        number: u32,
+        at: PointPlace,
         point: &Point,
     ) -> Mem<()> {
-        if has_sink(view, owner, point) {
+        if has_sink(view, at.owner, point) {
             return Ok(());
         }
-        add_stopping(alloc, found, view, owner, number)
+        add_stopping(alloc, found, view, at.owner, at.number)
     }
 }
 
@@ -211,15 +210,14 @@ impl PointFinding for OpenEnds {
         alloc: Global,
         found: &mut List<Finding>,
         view: &View,
-        owner: u32,
-        number: u32,
+        at: PointPlace,
         point: &Point,
     ) -> Mem<()> {
-        if is_linked(view, &self.linked, owner, number) {
+        if is_linked(view, &self.linked, at.owner, at.number) {
             return Ok(());
         }
         match declared_for(point.side(false)) {
-            Some(types) => add_arrivals(alloc, found, inward_of(owner, number), types),
+            Some(types) => add_arrivals(alloc, found, inward_of(at.owner, at.number), types),
             None => Ok(()),
         }
     }
@@ -263,12 +261,17 @@ impl PointFinding for NeverOut {
         alloc: Global,
         found: &mut List<Finding>,
         view: &View,
-        owner: u32,
-        number: u32,
+        at: PointPlace,
         point: &Point,
     ) -> Mem<()> {
         match declared_for(point.side(true)) {
-            Some(types) => add_never_types(alloc, found, view, outward_of(owner, number), types),
+            Some(types) => add_never_types(
+                alloc,
+                found,
+                view,
+                outward_of(at.owner, at.number),
+                types,
+            ),
             None => Ok(()),
         }
     }

@@ -55,6 +55,13 @@ pub(crate) trait ComponentFinding {
     ghost nothing: { (told : Self) (seen : Seen) (owner : ℕ) → finding told seen owner no_model ≡ [] };
 }
 
+/// Where a point stands: its component, and its place among the points there, from 0.
+#[derive(Clone, Copy)]
+pub(crate) struct PointPlace {
+    pub owner: u32,
+    pub number: u32,
+}
+
 /// What may be told of a point of a component.
 pub(crate) trait PointFinding {
     ghost use Rattle.std.specs.Prelude.{◌≡◌, ℕ, ◌++◌, List, OnOk};
@@ -73,12 +80,11 @@ pub(crate) trait PointFinding {
         alloc: Global,
         found: &mut List<Finding>,
         view: &View,
-        owner: u32,
-        number: u32,
+        at: PointPlace,
         point: &Point,
     ) -> Mem<()>
         requires { fits self.now view.now }
-        ensures { OnOk result (found.new ≡ found.old ++ finding self.now view.now owner number point.now) };
+        ensures { OnOk result (found.new ≡ found.old ++ finding self.now view.now at.owner at.number point.now) };
 }
 
 /// What may be told of a state of a component.
@@ -197,7 +203,11 @@ fn add_of_points<P: PointFinding>(
         if number > 4_294_967_295 {
             return Err(AllocError);
         }
-        told.tell(alloc, found, view, owner, number as u32, point)?;
+        let at = PointPlace {
+            owner,
+            number: number as u32,
+        };
+        told.tell(alloc, found, view, at, point)?;
     }
     Ok(())
 }
