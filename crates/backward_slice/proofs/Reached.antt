@@ -1,16 +1,17 @@
 -- The marking, from some facts alone to the end.
-use Rattle.std.proofs.Common.{ℕ, zero, suc, ◌≡◌, ◌≢◌, ◌<◌, ◌↔◌, ◌⊎◌, Bool, true, false, ◌&&◌, ◌||◌, not, List, [], ◌∷◌, ◌++◌, length, Some, All, Contains, ⊎_elim, ap, ◌∙◌, sym, subst, refl, arith, ◌==◌}
+use Rattle.std.proofs.Common.{ℕ, zero, suc, ◌≡◌, ◌≢◌, ◌<◌, ◌≤◌, ◌↔◌, ◌⊎◌, Bool, true, false, ◌&&◌, ◌||◌, not, List, [], ◌∷◌, ◌++◌, length, Some, All, Contains, ⊎_elim, ap, ◌∙◌, sym, subst, refl, arith, ◌==◌}
 use Rattle.std.proofs.lemmas.Bool.{false≢true, ne_eqb, or_cases, and_parts, and_from, cases_eq, or_left, or_right}
 use Rattle.std.proofs.lemmas.List.Folds.{list_any-append}
 use Rattle.std.specs.List.{slice_get}
-use Rattle.fault_system.specs.Truth.{NumberSet, Has, member, set_of, occurs, occurs_event}
+use Rattle.fault_system.specs.Truth.{NumberSet, Has, count_true, member, set_of, occurs, occurs_event}
 use Rattle.fault_system.specs.Systems.{System, IsSystem, IsFact}
 use Rattle.fault_system.specs.declared.formula.FactInfo.{FactInfo}
 use Rattle.fault_system.proofs.Occurrences.{occurs-in_range, occurs_event-in_range, fact-in_range}
 use Rattle.fault_system.proofs.NumberSets.{member-in, contained-in_set, set_of-contained}
-use Rattle.backward_slice.specs.Slices.{DependsOn, DependsOnEvent}
+use Rattle.std.specs.Prelude.{IfSome, Option, None}
+use Rattle.backward_slice.specs.Slices.{DependsOn, DependsOnEvent, most_slice_events, most_slice_facts}
 use Rattle.backward_slice.specs.inner.Marks.{Adds, IsMarking}
-use Rattle.backward_slice.specs.inner.Reach.{DependsBy, IsReach, IsReachBy, IsReachedBy, IsReachedEventBy, all_ways}
+use Rattle.backward_slice.specs.inner.Reach.{DependsBy, IsReach, IsReachBy, IsReachedBy, IsReachedEventBy, IsSmallReach, all_ways}
 use Rattle.backward_slice.specs.declared.marking.Marking.{Marking}
 use Rattle.backward_slice.specs.declared.parts.Reach.{Reach}
 
@@ -179,3 +180,10 @@ module _ (system : System) (target : ℕ) (reach : Reach) (is : IsReach system (
     (λ h. let (m, fact, (start, among, depends), at, o) = (is.events n).0 h in (m, fact, subst (λ k. DependsOn system k m) (sym (only start among)) depends, at, o)),
     (λ (m, fact, depends, at, o). (is.events n).1 (m, fact, (target, (zero, omega arith, refl), depends), at, o)),
   )
+
+-- a reach that was found to be small
+pub small-is : (system : System) (from : List ℕ) (reach : Reach) (found : Option Reach) → IsReachBy system all_ways from reach
+    → IfSome found (λ small. (small ≡ reach) × (count_true small.facts ≤ most_slice_facts) × (count_true small.events ≤ most_slice_events)) → IfSome found (IsSmallReach system from)
+small-is system from reach None is few = tt
+small-is system from reach (Some small) is (same, few_facts, few_events) =
+    record { is_reach = subst (IsReach system from) (sym same) (reach-is system from reach is); few_facts = few_facts; few_events = few_events }

@@ -11,6 +11,6 @@ mod slicing;
 mod ways;
 
 pub use parts::{Reach, Slice};
-pub use reaching::{reach, reach_by};
+pub use reaching::{reach, reach_by, small_reach};
 pub use slicing::slice;
 pub use ways::Ways;

@@ -13,6 +13,9 @@ pub(crate) struct Marking {
     pub facts: Bits,
     pub events: Bits,
     pub waiting: Vec<u32>,
+    // how many facts and events were met, of which nothing is claimed: they decide when a marking is given up
+    pub met_facts: u32,
+    pub met_events: u32,
 }
 
 impl Marking {
@@ -23,6 +26,7 @@ impl Marking {
         if is_led && number < self.facts.size() && !self.facts.has(number) {
             self.waiting.push(number)?;
             self.facts.put(number);
+            self.met_facts = self.met_facts.saturating_add(1);
         }
         Ok(())
     }
@@ -31,8 +35,9 @@ impl Marking {
     pub fn mark_event(&mut self, number: u32)
         ensures { Adds (λ n. false) (λ n. number == n) self.old self.new }
     {
-        if number < self.events.size() {
+        if number < self.events.size() && !self.events.has(number) {
             self.events.put(number);
+            self.met_events = self.met_events.saturating_add(1);
         }
     }
 }

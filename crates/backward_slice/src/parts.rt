@@ -1,6 +1,12 @@
 use fault_system::Bits;
 use plain_values::List;
 
+/// The greatest number of facts of a slice.
+pub(crate) const MOST_SLICE_FACTS: u32 = 32_768;
+
+/// The greatest number of events of a slice.
+pub(crate) const MOST_SLICE_EVENTS: u32 = 1_024;
+
 /// Facts and events of a system, as sets: those on which some facts depend.
 #[derive(Drop)]
 pub struct Reach {

@@ -1,11 +1,12 @@
-ghost use Rattle.std.specs.Prelude.{◌≡◌, ◌<◌, ◌+◌, ◌++◌, ◌∷◌, [], ℕ, All, IfOk, OnOk, false, length};
+ghost use Rattle.std.specs.Prelude.{◌≡◌, ◌<◌, ◌≤◌, ◌+◌, ◌++◌, ◌∷◌, [], ℕ, All, IfOk, IfSome, OnOk, false, length};
 ghost use Rattle.fault_system.specs.Truth.{NumberSet, count_true, set_of};
 ghost use Rattle.fault_system.specs.Systems.{IsSystem};
 ghost use Rattle.backward_slice.specs.inner.Marks.{Adds, IsMarking};
-ghost use Rattle.backward_slice.specs.inner.Reach.{IsReach, IsReachBy};
+ghost use Rattle.backward_slice.specs.Slices.{most_slice_events, most_slice_facts};
+ghost use Rattle.backward_slice.specs.inner.Reach.{IsReach, IsReachBy, IsSmallReach};
 
 use crate::marking::{Marking, visit};
-use crate::parts::Reach;
+use crate::parts::{MOST_SLICE_EVENTS, MOST_SLICE_FACTS, Reach};
 use crate::ways::{AllWays, Ways};
 use fault_system::{Bits, FaultSystem};
 use plain_values::Mem;
@@ -34,6 +35,53 @@ pub fn reach_by<W: Ways>(alloc: Global, system: &FaultSystem, ways: &W, from: &[
     })
 }
 
+/// All facts and events on which some of these facts depend, if they are no more than a slice may have. Where more are met it is given
+/// up, so the time goes with the formulas of so many facts.
+pub fn small_reach(alloc: Global, system: &FaultSystem, from: &[u32]) -> Mem<Option<Reach>>
+    requires { All (λ n. n < length system.now.facts) from.now }
+    ensures { IfOk result (λ found. IfSome found (IsSmallReach system.now from.now)) }
+{
+    let mut marking = first_marking(alloc, system, from)?;
+    while let Some(number) = marking.waiting.pop() {
+        if is_over(&marking) {
+            return Ok(None);
+        }
+        go_on(system, &AllWays, &mut marking, from, number)?;
+    }
+    Ok(if_small(Reach {
+        facts: marking.facts,
+        events: marking.events,
+    }))
+}
+
+// Whether more facts or events were met than a slice may have.
+fn is_over(marking: &Marking) -> bool {
+    marking.met_facts > MOST_SLICE_FACTS || marking.met_events > MOST_SLICE_EVENTS
+}
+
+// A reach, if it has no more than a slice may have.
+fn if_small(found: Reach) -> Option<Reach>
+    ensures { IfSome result (λ small. (small ≡ found) × (count_true small.facts ≤ most_slice_facts) × (count_true small.events ≤ most_slice_events)) }
+{
+    if count(&found.facts) > MOST_SLICE_FACTS || count(&found.events) > MOST_SLICE_EVENTS {
+        return None;
+    }
+    Some(found)
+}
+
+// How many numbers are in a set.
+fn count(marks: &Bits) -> u32
+    ensures { result ≡ count_true marks.now }
+{
+    let mut count = 0;
+    for number in 0..marks.size() {
+        if marks.has(number) {
+            count += 1;
+        }
+    }
+    count
+}
+
 // The facts from which it goes alone, which wait.
 fn first_marking(alloc: Global, system: &FaultSystem, from: &[u32]) -> Mem<Marking>
     requires { All (λ n. n < length system.now.facts) from.now }
@@ -45,6 +93,8 @@ fn first_marking(alloc: Global, system: &FaultSystem, from: &[u32]) -> Mem<Marki
         facts: Bits::new(alloc, system.facts())?,
         events: Bits::new(alloc, system.events())?,
         waiting: Vec::new(alloc),
+        met_facts: 0,
+        met_events: 0,
     };
     mark_all(&mut marking, from)?;
     Ok(marking)

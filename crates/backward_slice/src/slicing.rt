@@ -3,17 +3,11 @@ ghost use Rattle.plain_values.specs.inner.Stops.{StopsFor};
 ghost use Rattle.backward_slice.specs.Slices.{HasLargeSlice, IsSlice, IsServed};
 ghost use Rattle.backward_slice.specs.inner.Marks.{IsNumbers};
 
-use crate::parts::Slice;
+use crate::parts::{MOST_SLICE_EVENTS, MOST_SLICE_FACTS, Slice};
 use crate::reaching::reach;
 use fault_system::{Bits, FaultSystem};
 use plain_values::{Answer, Code, List, Mem, Refusal, Stop};
 use std::alloc::Global;
-
-/// The greatest number of facts of a slice.
-const MOST_SLICE_FACTS: usize = 32_768;
-
-/// The greatest number of events of a slice.
-const MOST_SLICE_EVENTS: usize = 1_024;
 
 /// The slice of a target, in a time that goes with the formulas that it reaches.
 ///
@@ -23,10 +17,10 @@ pub fn slice(alloc: Global, system: &FaultSystem, target: u32) -> Answer<Slice>
     ensures { MatchResult result (IsServed system.now target) (StopsFor (HasLargeSlice system.now target)) }
 {
     let found = whole_slice(alloc, system, target)?;
-    if found.facts.items().len() > MOST_SLICE_FACTS {
+    if found.facts.len_u32() > MOST_SLICE_FACTS {
         return Err(Stop::Refused(Refusal::of_words(Code::SliceTooLarge)));
     }
-    if found.events.items().len() > MOST_SLICE_EVENTS {
+    if found.events.len_u32() > MOST_SLICE_EVENTS {
         return Err(Stop::Refused(Refusal::of_words(Code::TooManySliceEvents)));
     }
     Ok(found)

@@ -5,6 +5,7 @@ use Rattle.std.specs.List.{AllByRecursion, flat_map, join_with_byte}
 use Rattle.std.proofs.lemmas.Bool.{false≢true, cases_lt}
 use Rattle.std.proofs.lemmas.List.Elements.{Contains-append_cases, Contains-append_right, Contains-append_left, Contains-push_cases, Contains-push}
 use Rattle.std.proofs.lemmas.Option.{slice_get_within}
+use Rattle.plain_values.specs.Rising.{RisesWithin}
 use Rattle.fta_words.specs.Words.{AreAll, AreChosen, AreDifferent, AreNames, IsReport, Rise}
 use Rattle.fta_words.specs.inner.Naming.{AreCut, AreInOrder, NamesNoPlaces, NamesPlaces, Stand, Without}
 use Rattle.fta_words.proofs.Roots.{none_there, one_cut, same_cut}
@@ -366,3 +367,22 @@ named_twice reports before places stand name place report has later names is dif
     let there = name_there reports before places stand place has in
     let same : there.0 ≡ name = one_name reports there.0 name place there.1 report in
     twice_there before name later (subst AreDifferent is differ) (subst (Contains before) same there.2)
+
+-- ---- chosen places
+
+rise_within : (low high : ℕ) (places : List ℕ) → Rise places → ((place : ℕ) → Contains places place → low ≤ place) → ((place : ℕ) → Contains places place → place < high) → RisesWithin low high places
+rise_within low high [] rise above below = tt
+rise_within low high (place ∷ places) rise above below = (
+  above place (first_of place places),
+  below place (first_of place places),
+  rise_within (place + 1) high places rise.1
+      (λ other here. let more : place < other = each_of (λ its. place < its) places other rise.0 here in omega (arith, more))
+      (λ other here. below other (later_of place other places here)),
+)
+
+-- the chosen places rise below the number of reports
+pub chosen_rise : (reports : List (List ℕ)) (text : Option (List ℕ)) (chosen : List ℕ) → AreChosen reports text chosen → RisesWithin 0 (length reports) chosen
+chosen_rise reports None chosen are = rise_within 0 (length reports) chosen are.rise (λ place here. omega arith) (λ place here. (are.chosen_are place).0 here)
+chosen_rise reports (Some text) chosen are =
+    rise_within 0 (length reports) chosen are.rise (λ place here. omega arith)
+    (λ place here. let named = (are.chosen_are place).0 here in slice_get_within reports place named.0 named.2.here)

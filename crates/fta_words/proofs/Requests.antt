@@ -4,19 +4,20 @@ use Rattle.std.specs.Prelude.{option_map, option_to_list}
 use Rattle.std.specs.List.{AllByRecursion}
 use Rattle.std.specs.Option.{option_map_or}
 use Rattle.plain_values.specs.Name.{folded}
+use Rattle.plain_values.specs.Rising.{RisesWithin}
 use Rattle.plain_values.specs.declared.name.Root.{Root}
 use Rattle.fta_words.specs.declared.command.Options.{Options}
 use Rattle.fta_words.specs.declared.command.Request.{Request as RequestInCode}
 use Rattle.fta_words.specs.declared.kind.Kind.{Kind}
 use Rattle.fta_words.specs.declared.kind.Shape.{Shape}
 use Rattle.fta_words.specs.declared.kind.Shape.TheVariants as shape
-use Rattle.fta_words.specs.Table.{flags_of, name_of, required_of, shape_of, valued_of}
-use Rattle.fta_words.specs.Words.{Alone, Apart, AreOptions, Attached, Given, IsAsked, IsFolded, IsNumberText, IsPlainWord, IsRequest, IsRoot, NamesModel, Request, Say, Says, Spelling, before_options, file_words, files_in, is_given, is_option, option_words, reports_for, spelled, value_of}
+use Rattle.fta_words.specs.Table.{flags_of, is_among, name_of, required_of, shape_of, valued_of}
+use Rattle.fta_words.specs.Words.{Alone, Apart, AreChosen, AreOptions, Attached, Given, IsAsked, IsFolded, IsNumberText, IsPlainWord, IsRequest, IsRoot, NamesModel, Request, Say, Says, Spelling, before_options, file_words, files_in, is_given, is_option, option_words, reports_for, spelled, value_of}
 use Rattle.fta_words.specs.inner.Reading.{Answers, IsRead, ReadsAs}
 use Rattle.fta_words.specs.inner.Shown.{request_shown}
 use Rattle.fta_words.proofs.AllKinds.{name_is_plain}
 use Rattle.fta_words.proofs.EachKind.{named_again, same_kind}
-use Rattle.fta_words.proofs.Places.{one_chosen}
+use Rattle.fta_words.proofs.Places.{chosen_rise, one_chosen}
 use Rattle.fta_words.proofs.PlainFront.{no_end, no_option}
 use Rattle.fta_words.proofs.Roots.{one_root}
 use Rattle.fta_words.proofs.Spelled.{kinds_apart, one_given}
@@ -239,3 +240,15 @@ file_words_are reports words request is =
     ap file_words is.words_are ∙ ap (λ s. files_in s (before_options (name_of request.kind ∷ (is.plain ++ option_words is.given)))) (ap (λ k. option_map_or shape_of k shape.Target) (named_again request.kind))
     ∙ ap (files_in (shape_of request.kind)) (sym (ap before_options is.words_are) ∙ front)
     ∙ files_asked (shape_of request.kind) (name_of request.kind) is.plain request.root request.target request.number request.of request.files is.asked
+
+-- ---- the chosen reports
+
+chosen_below : (choosable : Bool) (reports : List (List ℕ)) (text : Option (List ℕ)) (chosen : List ℕ) → AreChosen (if choosable then reports else []) text chosen → RisesWithin 0 (length reports) chosen
+chosen_below true reports text chosen are = chosen_rise reports text chosen are
+chosen_below false reports text [] are = tt
+chosen_below false reports text (place ∷ places) are = let rises = chosen_rise [] text (place ∷ places) are in absurd (omega (arith, rises.1))
+
+-- the places of the chosen reports rise, and each is one of a report
+pub places_rise : (reports words : List (List ℕ)) (request : Request) → IsRequest reports words request → RisesWithin 0 (length reports) request.options.chosen
+places_rise reports words request is =
+    chosen_below (is_among (valued_of request.kind) (codes "reports")) reports (value_of (codes "reports") is.given) request.options.chosen is.said.chosen

@@ -1,6 +1,8 @@
 //! The table of commands: what the words of each may be, and how help names it.
 
-ghost use Rattle.std.specs.Prelude.{◌≡◌, ◌<◌, ◌↔◌, IsTrue, Contains, Some, map, option_copied};
+ghost use Rattle.std.specs.Prelude.{◌≡◌, ◌<◌, ◌↔◌, IsTrue, Contains, Some, map, option_copied, option_map, slice_get};
+ghost use Rattle.fta_words.specs.declared.kind.TheConstants.{KINDS};
+ghost use Rattle.fta_words.specs.declared.table.TheConstants.{ROWS};
 ghost use Rattle.std.specs.List.{list_any};
 ghost use Rattle.plain_values.specs.Name.{is_same_text};
 ghost use Rattle.fta_words.specs.declared.kind.Kind.{Kind};
@@ -12,6 +14,8 @@ use plain_values::is_same;
 /// A command: its name, what may follow it, and what help says of it in one line.
 #[derive(Clone, Copy)]
 pub struct Row<Text, Words> {
+    /// Which command it is.
+    pub kind: Kind,
     /// The first word.
     pub name: Text,
     /// Which plain words follow.
@@ -33,9 +37,10 @@ pub struct Row<Text, Words> {
 /// A row of the table.
 pub type CommandRow = Row<&'static [u8], &'static [&'static [u8]]>;
 
-/// A row for each command, in the order of `Kind`, which is that of help.
+/// A row for each command, in the order of `KINDS`, which is that of help.
 pub const ROWS: [CommandRow; 16] = [
     Row {
+        kind: Kind::Check,
         name: b"check",
         shape: Shape::Model,
         flags: &[],
@@ -46,6 +51,7 @@ pub const ROWS: [CommandRow; 16] = [
         about: b"the numbers of components, facts and events of a model",
     },
     Row {
+        kind: Kind::Cuts,
         name: b"cuts",
         shape: Shape::Target,
         flags: &[b"tokens"],
@@ -56,6 +62,7 @@ pub const ROWS: [CommandRow; 16] = [
         about: b"the minimal cut sets of a target, or a page of them",
     },
     Row {
+        kind: Kind::Tree,
         name: b"tree",
         shape: Shape::Target,
         flags: &[],
@@ -66,6 +73,7 @@ pub const ROWS: [CommandRow; 16] = [
         about: b"the static fault tree of a target as Galileo text",
     },
     Row {
+        kind: Kind::Fmea,
         name: b"fmea",
         shape: Shape::Model,
         flags: &[b"all"],
@@ -76,6 +84,7 @@ pub const ROWS: [CommandRow; 16] = [
         about: b"the table of the effects that each event reaches alone",
     },
     Row {
+        kind: Kind::Report,
         name: b"report",
         shape: Shape::Target,
         flags: &[],
@@ -86,6 +95,7 @@ pub const ROWS: [CommandRow; 16] = [
         about: b"what reports count in the minimal cut sets of a target",
     },
     Row {
+        kind: Kind::Make,
         name: b"make",
         shape: Shape::Number,
         flags: &[b"text"],
@@ -96,6 +106,7 @@ pub const ROWS: [CommandRow; 16] = [
         about: b"what is said of a model of N pairs of parts, or its text",
     },
     Row {
+        kind: Kind::Galileo,
         name: b"galileo",
         shape: Shape::File,
         flags: &[b"paths"],
@@ -106,6 +117,7 @@ pub const ROWS: [CommandRow; 16] = [
         about: b"the minimal cut sets, or path sets, of a tree in Galileo text",
     },
     Row {
+        kind: Kind::Paths,
         name: b"paths",
         shape: Shape::Target,
         flags: &[],
@@ -116,6 +128,7 @@ pub const ROWS: [CommandRow; 16] = [
         about: b"the minimal path sets of a target, or a page of them",
     },
     Row {
+        kind: Kind::Why,
         name: b"why",
         shape: Shape::Target,
         flags: &[],
@@ -126,6 +139,7 @@ pub const ROWS: [CommandRow; 16] = [
         about: b"why a target holds under a set of events",
     },
     Row {
+        kind: Kind::Confirm,
         name: b"confirm",
         shape: Shape::Derivation,
         flags: &[],
@@ -136,6 +150,7 @@ pub const ROWS: [CommandRow; 16] = [
         about: b"that a text shows that",
     },
     Row {
+        kind: Kind::Targets,
         name: b"targets",
         shape: Shape::Model,
         flags: &[b"all"],
@@ -146,6 +161,7 @@ pub const ROWS: [CommandRow; 16] = [
         about: b"the facts that may be asked as targets",
     },
     Row {
+        kind: Kind::Events,
         name: b"events",
         shape: Shape::Model,
         flags: &[],
@@ -156,6 +172,7 @@ pub const ROWS: [CommandRow; 16] = [
         about: b"the basic events, with their kinds, rates and places",
     },
     Row {
+        kind: Kind::Review,
         name: b"review",
         shape: Shape::Model,
         flags: &[],
@@ -166,6 +183,7 @@ pub const ROWS: [CommandRow; 16] = [
         about: b"what stands in a model without effect, and where its errors stop",
     },
     Row {
+        kind: Kind::Place,
         name: b"place",
         shape: Shape::Place,
         flags: &[],
@@ -176,6 +194,7 @@ pub const ROWS: [CommandRow; 16] = [
         about: b"the line and the column of a byte, as a refusal names it",
     },
     Row {
+        kind: Kind::Help,
         name: b"help",
         shape: Shape::Topic,
         flags: &[],
@@ -186,6 +205,7 @@ pub const ROWS: [CommandRow; 16] = [
         about: b"these lines; or the words of a command, its options and an example",
     },
     Row {
+        kind: Kind::Version,
         name: b"version",
         shape: Shape::Alone,
         flags: &[],
@@ -312,7 +332,9 @@ fn first_named<'k>(kinds: &'k [Kind], name: &[u8]) -> Option<&'k Kind>
     kinds.iter().find(|kind| is_same(name_of(**kind), name))
 }
 
-/// Each command is found by its name.
+/// Each command has its row at its place, and is found by its name.
 pub fn are_named()
-    ensures { (kind : Kind) → kind_named (name_of kind) ≡ Some kind }
+    ensures placed { (kind : Kind) → option_map (λ row. row.kind) (slice_get ROWS (place_of kind)) ≡ Some kind }
+    ensures listed { map (λ row. row.kind) ROWS ≡ KINDS }
+    ensures named { (kind : Kind) → kind_named (name_of kind) ≡ Some kind }
 {}

@@ -1,5 +1,5 @@
 -- What is seen of a model is all that there is.
-use Rattle.std.proofs.Common.{◌≡◌, ℕ, List, map, ap, ◌∙◌}
+use Rattle.std.proofs.Common.{◌≡◌, ℕ, List, ap, ◌∙◌}
 use Rattle.fault_system.specs.Systems.{System}
 use Rattle.model_facts.specs.Assembly.{Assembly, universe_of}
 use Rattle.model_facts.specs.Effects.{effects_of}

@@ -1,6 +1,4 @@
-ghost use Rattle.std.specs.Prelude.{◌≡◌, ◌++◌, OnOk};
-ghost use Rattle.model_review.specs.Findings.{if_any, types_at};
-ghost use Rattle.model_review.specs.declared.finding.Finding.TheVariants.{HiddenLink, HiddenPath, HiddenSource, Never, NotDeclared, Open, StopsHere};
+ghost use Rattle.std.specs.Prelude.{◌≡◌, ◌++◌, ◌∷◌, ◌==◌, [], OnOk, cond, length};
 
 use plain_values::{List, Mem};
 use propagation_links::{PointAt, Unlinked};
@@ -11,6 +9,15 @@ use system_review::Loop;
 pub struct TypesAt {
     pub side: PointAt,
     pub types: List<u32>,
+}
+
+impl TypesAt {
+    /// Whether there are none.
+    pub(crate) fn is_empty(&self) -> bool
+        ensures { result ≡ (length self.now.types == 0) }
+    {
+        self.types.items().is_empty()
+    }
 }
 
 /// What a review tells of a model. Components, flows, states and events are named by their places in their lists, from 0.
@@ -48,101 +55,10 @@ pub enum Finding {
     UnreachedEvent(u32),
 }
 
-/// Tells the types of a source that are hidden, if there are any.
-pub(crate) fn tell_hidden_source(
-    found: &mut List<Finding>,
-    owner: u32,
-    number: u32,
-    side: PointAt,
-    types: List<u32>,
-) -> Mem<()>
-    ensures { OnOk result (found.new ≡ found.old ++ if_any (λ types. HiddenSource owner number (types_at side types)) types) }
+/// Tells what there is to tell of some types, unless there are none.
+pub(crate) fn tell_unless(found: &mut List<Finding>, is_none: bool, finding: Finding) -> Mem<()>
+    ensures { OnOk result (found.new ≡ found.old ++ cond is_none [] (finding ∷ [])) }
 {
-    if types.items().is_empty() {
-        return Ok(());
-    }
-    found.push(Finding::HiddenSource(owner, number, TypesAt { side, types }))?;
-    Ok(())
-}
-
-/// Tells the types of a path that are hidden, if there are any.
-pub(crate) fn tell_hidden_path(
-    found: &mut List<Finding>,
-    owner: u32,
-    number: u32,
-    side: PointAt,
-    types: List<u32>,
-) -> Mem<()>
-    ensures { OnOk result (found.new ≡ found.old ++ if_any (λ types. HiddenPath owner number (types_at side types)) types) }
-{
-    if types.items().is_empty() {
-        return Ok(());
-    }
-    found.push(Finding::HiddenPath(owner, number, TypesAt { side, types }))?;
-    Ok(())
-}
-
-/// Tells the types of a link that are hidden, if there are any.
-pub(crate) fn tell_hidden_link(
-    found: &mut List<Finding>,
-    from: PointAt,
-    side: PointAt,
-    types: List<u32>,
-) -> Mem<()>
-    ensures { OnOk result (found.new ≡ found.old ++ if_any (λ types. HiddenLink from (types_at side types)) types) }
-{
-    if types.items().is_empty() {
-        return Ok(());
-    }
-    found.push(Finding::HiddenLink(from, TypesAt { side, types }))?;
-    Ok(())
-}
-
-/// Tells the types that are not declared where a link leads, if there are any.
-pub(crate) fn tell_not_declared(
-    found: &mut List<Finding>,
-    side: PointAt,
-    to: PointAt,
-    types: List<u32>,
-) -> Mem<()>
-    ensures { OnOk result (found.new ≡ found.old ++ if_any (λ types. NotDeclared (types_at side types) to) types) }
-{
-    if types.items().is_empty() {
-        return Ok(());
-    }
-    found.push(Finding::NotDeclared(TypesAt { side, types }, to))?;
-    Ok(())
-}
-
-/// Tells the types that stop at a side, if there are any.
-pub(crate) fn tell_stop(found: &mut List<Finding>, side: PointAt, types: List<u32>) -> Mem<()>
-    ensures { OnOk result (found.new ≡ found.old ++ if_any (λ types. StopsHere (types_at side types)) types) }
-{
-    if types.items().is_empty() {
-        return Ok(());
-    }
-    found.push(Finding::StopsHere(TypesAt { side, types }))?;
-    Ok(())
-}
-
-/// Tells the types that arrive at a side from outside, if there are any.
-pub(crate) fn tell_open(found: &mut List<Finding>, side: PointAt, types: List<u32>) -> Mem<()>
-    ensures { OnOk result (found.new ≡ found.old ++ if_any (λ types. Open (types_at side types)) types) }
-{
-    if types.items().is_empty() {
-        return Ok(());
-    }
-    found.push(Finding::Open(TypesAt { side, types }))?;
-    Ok(())
-}
-
-/// Tells the types that never come out at a side, if there are any.
-pub(crate) fn tell_never(found: &mut List<Finding>, side: PointAt, types: List<u32>) -> Mem<()>
-    ensures { OnOk result (found.new ≡ found.old ++ if_any (λ types. Never (types_at side types)) types) }
-{
-    if types.items().is_empty() {
-        return Ok(());
-    }
-    found.push(Finding::Never(TypesAt { side, types }))?;
+    found.push_if(finding, !is_none)?;
     Ok(())
 }

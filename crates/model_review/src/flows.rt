@@ -7,43 +7,54 @@ ghost use Rattle.plain_values.specs.Numbered.{numbered_from};
 ghost use Rattle.error_libraries.specs.Search.{is_number_in};
 ghost use Rattle.propagation_points.specs.States.{held_numbers};
 ghost use Rattle.propagation_points.specs.Uses.{covers};
-ghost use Rattle.model_facts.specs.Assembly.{model_at};
 ghost use Rattle.model_facts.specs.Facts.{inward_of, outward_of};
 ghost use Rattle.fact_formulas.specs.Formulas.{end_of};
-ghost use Rattle.model_review.specs.Findings.{hidden_flow, hidden_flows, hidden_path, hidden_source, hidden_types, is_hidden_flow, is_path};
+ghost use Rattle.model_review.specs.Findings.{hidden_flow, hidden_path, hidden_source, hidden_types, is_hidden_flow, is_path};
 ghost use Rattle.model_review.specs.Seen.{is_lost_fact, number_at, state_number, types_in};
 
-use crate::finding::{Finding, tell_hidden_path, tell_hidden_source};
+use crate::finding::{Finding, TypesAt, tell_unless};
 use crate::view::View;
+use crate::walks::ComponentFinding;
 use error_flows::FlowMeaning;
+use error_models::ErrorModel;
 use plain_values::{List, Mem};
 use propagation_links::PointAt;
 use propagation_points::{Held, ReachedPoint};
 use std::alloc::{AllocError, Global};
 
-/// Adds the hidden sources of a component, or its hidden paths.
-pub(crate) fn add_hidden_flows(
-    alloc: Global,
-    found: &mut List<Finding>,
-    view: &View,
-    owner: u32,
-    paths: bool,
-) -> Mem<()>
-    ensures { OnOk result (found.new ≡ found.old ++ hidden_flows paths view.now owner (model_at view.now.numbered.assembly owner)) }
-{
-    let states = view.states(alloc, owner)?;
-    match view.model(owner) {
-        Some(model) => add_flows(
+/// The sources of a component that are hidden, or its paths.
+#[derive(Clone, Copy)]
+pub(crate) struct HiddenFlows {
+    pub paths: bool,
+}
+
+impl ComponentFinding for HiddenFlows {
+    ghost use Rattle.std.specs.Prelude.{refl};
+    ghost use Rattle.model_review.specs.Findings.{hidden_flows};
+
+    ghost finding = { λ told. hidden_flows told.paths };
+
+    fn tell(
+        &self,
+        alloc: Global,
+        found: &mut List<Finding>,
+        view: &View,
+        owner: u32,
+        model: &ErrorModel,
+    ) -> Mem<()> {
+        let states = view.states(alloc, owner)?;
+        add_flows(
             alloc,
             found,
             view,
             states.items(),
             owner,
             model.flows.items(),
-            paths,
-        ),
-        None => Ok(()),
+            self.paths,
+        )
     }
+
+    ghost nothing = { λ told seen owner. refl };
 }
 
 fn add_flows(
@@ -100,7 +111,9 @@ fn add_source(
     }
     let side = outward_of(owner, end_of(flow));
     let types = hidden_types(alloc, view, among, owner, number, flow)?;
-    tell_hidden_source(found, owner, number, side, types)
+    let at = TypesAt { side, types };
+    let is_none = at.is_empty();
+    tell_unless(found, is_none, Finding::HiddenSource(owner, number, at))
 }
 
 fn add_path(
@@ -119,7 +132,9 @@ fn add_path(
     }
     let side = outward_of(owner, end_of(flow));
     let types = hidden_types(alloc, view, among, owner, number, flow)?;
-    tell_hidden_path(found, owner, number, side, types)
+    let at = TypesAt { side, types };
+    let is_none = at.is_empty();
+    tell_unless(found, is_none, Finding::HiddenPath(owner, number, at))
 }
 
 /// The types that a flow covers without effect.

@@ -12,6 +12,7 @@ mod sides;
 mod states;
 mod told;
 mod view;
+mod walks;
 
 pub use laws::nothing_is_hidden;
 pub use reviewing::review;

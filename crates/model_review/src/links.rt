@@ -1,35 +1,38 @@
 //! Links along which something comes that has no effect.
 
-ghost use Rattle.std.specs.Prelude.{◌≡◌, ◌++◌, IfOk, OnOk, flat_map};
-ghost use Rattle.model_review.specs.Findings.{hidden_along, hidden_link, if_any, is_hidden_link, not_declared, others_along, types_at};
+ghost use Rattle.std.specs.Prelude.{◌≡◌, ◌++◌, IfOk, OnOk};
+ghost use Rattle.model_review.specs.Findings.{hidden_along, if_any, is_hidden_link, others_along, types_at};
 ghost use Rattle.model_review.specs.declared.finding.Finding.TheVariants.{NotDeclared};
 
-use crate::finding::{Finding, tell_hidden_link, tell_not_declared};
+use crate::finding::{Finding, TypesAt, tell_unless};
 use crate::flows::has_number;
 use crate::view::View;
+use crate::walks::LinkFinding;
 use plain_values::{List, Mem};
 use propagation_links::Link;
 use std::alloc::Global;
 
-/// Adds the links of which some types are hidden.
-pub(crate) fn add_hidden_links(alloc: Global, found: &mut List<Finding>, view: &View) -> Mem<()>
-    ensures { OnOk result (found.new ≡ found.old ++ flat_map (hidden_link view.now) view.now.numbered.assembly.links) }
-{
-    for link in view.links() {
-        add_hidden_link(alloc, found, view, *link)?;
-    }
-    Ok(())
-}
+/// The types of a link that are hidden, if there are any.
+#[derive(Clone, Copy)]
+pub(crate) struct HiddenLinks;
 
-fn add_hidden_link(alloc: Global, found: &mut List<Finding>, view: &View, link: Link) -> Mem<()>
-    ensures { OnOk result (found.new ≡ found.old ++ hidden_link view.now link) }
-{
-    if !link.to.outward {
-        return Ok(());
+impl LinkFinding for HiddenLinks {
+    ghost use Rattle.model_review.specs.Findings.{hidden_link};
+
+    ghost finding = { λ _. hidden_link };
+
+    fn tell(&self, alloc: Global, found: &mut List<Finding>, view: &View, link: Link) -> Mem<()> {
+        if !link.to.outward {
+            return Ok(());
+        }
+        let states = view.states(alloc, link.to.component)?;
+        let types = hidden_along(alloc, view, states.items(), link)?;
+        let at = TypesAt {
+            side: link.to,
+            types,
+        };
+        tell_unless(found, at.is_empty(), Finding::HiddenLink(link.from, at))
     }
-    let states = view.states(alloc, link.to.component)?;
-    let types = hidden_along(alloc, view, states.items(), link)?;
-    tell_hidden_link(found, link.from, link.to, types)
 }
 
 fn hidden_along(alloc: Global, view: &View, among: &[u32], link: Link) -> Mem<List<u32>>
@@ -52,22 +55,20 @@ fn is_hidden_link(alloc: Global, view: &View, among: &[u32], link: Link, kind: u
     }
 }
 
-/// Adds the links to sides for which types are not declared that may come along them.
-pub(crate) fn add_not_declared(alloc: Global, found: &mut List<Finding>, view: &View) -> Mem<()>
-    ensures { OnOk result (found.new ≡ found.old ++ flat_map (not_declared view.now) view.now.numbered.assembly.links) }
-{
-    for link in view.links() {
-        add_link(alloc, found, view, *link)?;
-    }
-    Ok(())
-}
+/// The types that may come along a link to a side for which they are not declared, if there are any.
+#[derive(Clone, Copy)]
+pub(crate) struct NotDeclaredThere;
 
-fn add_link(alloc: Global, found: &mut List<Finding>, view: &View, link: Link) -> Mem<()>
-    ensures { OnOk result (found.new ≡ found.old ++ not_declared view.now link) }
-{
-    match view.declared(link.to) {
-        Some(declared) => add_others(alloc, found, view, link, declared),
-        None => Ok(()),
+impl LinkFinding for NotDeclaredThere {
+    ghost use Rattle.model_review.specs.Findings.{not_declared};
+
+    ghost finding = { λ _. not_declared };
+
+    fn tell(&self, alloc: Global, found: &mut List<Finding>, view: &View, link: Link) -> Mem<()> {
+        match view.declared(link.to) {
+            Some(declared) => add_others(alloc, found, view, link, declared),
+            None => Ok(()),
+        }
     }
 }
 
@@ -85,5 +86,9 @@ fn add_others(
         let may_come = view.may_come(view.fact_at(link.from, *kind));
         types.push_if(*kind, may_come && !has_number(declared, *kind))?;
     }
-    tell_not_declared(found, link.from, link.to, types)
+    let at = TypesAt {
+        side: link.from,
+        types,
+    };
+    tell_unless(found, at.is_empty(), Finding::NotDeclared(at, link.to))
 }

@@ -3,17 +3,18 @@
 ghost use Rattle.std.specs.Prelude.{◌≡◌, ◌++◌, IfOk, OnOk, false, flat_map, length, map, true};
 ghost use Rattle.plain_values.specs.Rising.{RisesWithin};
 ghost use Rattle.model_facts.specs.Assembly.{model_at};
-ghost use Rattle.model_review.specs.Findings.{hidden_flows, hidden_link, hidden_transitions, model_findings, never_out, never_states, no_links, of_components, open_ends, stops_of, unused_states};
+ghost use Rattle.model_review.specs.Findings.{hidden_flows, hidden_link, model_findings, never_out, never_states, no_links, of_components, open_ends, stops_of, unused_states};
 ghost use Rattle.model_review.specs.Told.{AreFindings};
 ghost use Rattle.model_review.specs.declared.finding.Finding.TheVariants.{NoLink};
 
 use crate::finding::Finding;
-use crate::flows::add_hidden_flows;
-use crate::links::{add_hidden_links, add_not_declared};
-use crate::sides::{add_never, add_open, add_stops, linked_sides};
-use crate::states::{add_hidden_transitions, add_never_states, add_unused_states};
+use crate::flows::HiddenFlows;
+use crate::links::{HiddenLinks, NotDeclaredThere};
+use crate::sides::{NeverOut, OpenEnds, Stops};
+use crate::states::{HiddenTransitions, NeverInState, UnusedStates};
 use crate::told::add_told;
 use crate::view::View;
+use crate::walks::{AtPoints, AtStates, add_of_component, add_of_components, add_of_links};
 use model_facts::points_of_models;
 use plain_values::{List, Mem};
 use propagation_links::{Unlinked, find_unlinked};
@@ -35,8 +36,8 @@ fn model_findings(alloc: Global, view: &View) -> Mem<List<Finding>>
 {
     let mut found = List::new(alloc);
     add_hidden(alloc, &mut found, view)?;
-    add_transitions(&mut found, view)?;
-    add_not_declared(alloc, &mut found, view)?;
+    add_of_components(alloc, &mut found, view, &HiddenTransitions)?;
+    add_of_links(alloc, &mut found, view, &NotDeclaredThere)?;
     add_ends(alloc, &mut found, view)?;
     Ok(found)
 }
@@ -48,9 +49,9 @@ fn add_hidden(alloc: Global, found: &mut List<Finding>, view: &View) -> Mem<()>
         ++ (of_components view.now (hidden_flows true view.now)
         ++ flat_map (hidden_link view.now) view.now.numbered.assembly.links))) }
 {
-    add_flows(alloc, found, view, false)?;
-    add_flows(alloc, found, view, true)?;
-    add_hidden_links(alloc, found, view)
+    add_of_components(alloc, found, view, &HiddenFlows { paths: false })?;
+    add_of_components(alloc, found, view, &HiddenFlows { paths: true })?;
+    add_of_links(alloc, found, view, &HiddenLinks)
 }
 
 /// Adds where errors stop, where they come from outside, what never comes about, and states that nothing looks at.
@@ -63,57 +64,22 @@ fn add_ends(alloc: Global, found: &mut List<Finding>, view: &View) -> Mem<()>
         ++ (never_states view.now (model_at view.now.numbered.assembly 0)
         ++ of_components view.now (unused_states view.now))))))) }
 {
-    add_all_stops(alloc, found, view)?;
+    add_of_components(alloc, found, view, &AtPoints(Stops))?;
     add_no_links(alloc, found, view)?;
-    add_open_ends(alloc, found, view)?;
-    add_never_out(alloc, found, view)?;
-    add_states(found, view)
+    let open_ends = OpenEnds::of(alloc, view.links())?;
+    add_of_components(alloc, found, view, &AtPoints(open_ends))?;
+    add_of_components(alloc, found, view, &AtPoints(NeverOut))?;
+    add_states(alloc, found, view)
 }
 
 /// Adds the states of the root in which it never is, and those of its parts at which nothing looks.
-fn add_states(found: &mut List<Finding>, view: &View) -> Mem<()>
+fn add_states(alloc: Global, found: &mut List<Finding>, view: &View) -> Mem<()>
     ensures { OnOk result (found.new ≡ found.old
         ++ (never_states view.now (model_at view.now.numbered.assembly 0)
         ++ of_components view.now (unused_states view.now))) }
 {
-    add_never_states(found, view)?;
-    add_all_unused(found, view)
-}
-
-fn add_all_unused(found: &mut List<Finding>, view: &View) -> Mem<()>
-    ensures { OnOk result (found.new ≡ found.old ++ of_components view.now (unused_states view.now)) }
-{
-    for owner in 0..view.instance().components().len() {
-        add_unused_states(found, view, owner as u32)?;
-    }
-    Ok(())
-}
-
-fn add_flows(alloc: Global, found: &mut List<Finding>, view: &View, paths: bool) -> Mem<()>
-    ensures { OnOk result (found.new ≡ found.old ++ of_components view.now (hidden_flows paths view.now)) }
-{
-    for owner in 0..view.instance().components().len() {
-        add_hidden_flows(alloc, found, view, owner as u32, paths)?;
-    }
-    Ok(())
-}
-
-fn add_transitions(found: &mut List<Finding>, view: &View) -> Mem<()>
-    ensures { OnOk result (found.new ≡ found.old ++ of_components view.now hidden_transitions) }
-{
-    for owner in 0..view.instance().components().len() {
-        add_hidden_transitions(found, view, owner as u32)?;
-    }
-    Ok(())
-}
-
-fn add_all_stops(alloc: Global, found: &mut List<Finding>, view: &View) -> Mem<()>
-    ensures { OnOk result (found.new ≡ found.old ++ of_components view.now (stops_of view.now)) }
-{
-    for owner in 0..view.instance().components().len() {
-        add_stops(alloc, found, view, owner as u32)?;
-    }
-    Ok(())
+    add_of_component(alloc, found, view, &AtStates(NeverInState), 0)?;
+    add_of_components(alloc, found, view, &AtStates(UnusedStates))
 }
 
 fn add_no_links(alloc: Global, found: &mut List<Finding>, view: &View) -> Mem<()>
@@ -130,25 +96,6 @@ fn add_unlinked(found: &mut List<Finding>, unlinked: &[Unlinked]) -> Mem<()>
 {
     for one in unlinked {
         found.push(Finding::NoLink(*one))?;
-    }
-    Ok(())
-}
-
-fn add_open_ends(alloc: Global, found: &mut List<Finding>, view: &View) -> Mem<()>
-    ensures { OnOk result (found.new ≡ found.old ++ of_components view.now (open_ends view.now)) }
-{
-    let linked = linked_sides(alloc, view.links())?;
-    for owner in 0..view.instance().components().len() {
-        add_open(alloc, found, view, &linked, owner as u32)?;
-    }
-    Ok(())
-}
-
-fn add_never_out(alloc: Global, found: &mut List<Finding>, view: &View) -> Mem<()>
-    ensures { OnOk result (found.new ≡ found.old ++ of_components view.now (never_out view.now)) }
-{
-    for owner in 0..view.instance().components().len() {
-        add_never(alloc, found, view, owner as u32)?;
     }
     Ok(())
 }

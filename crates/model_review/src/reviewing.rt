@@ -21,8 +21,8 @@ use std::alloc::Global;
 use system_review::{possible_facts, used_facts};
 
 /// The text of the review of a model that is put together, of which these are the universe, the facts, the events and the system, and
-/// these the numbers of its facts that are effects of failures, rising. It is a line a finding and then `end`, in the order of docs/REVIEW_FINDINGS.md. Where it has no line on
-/// what is hidden, nothing is lost to the order of conditions, flows and links.
+/// these the numbers of its facts that are effects of failures, rising. It is a line a finding and then `end`, in the order of
+/// docs/REVIEW_FINDINGS.md. Where it has no line on what is hidden, nothing is lost to the order of conditions, flows and links.
 pub fn review(
     alloc: Global,
     assembly: &Assembly,

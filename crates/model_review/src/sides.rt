@@ -3,75 +3,50 @@
 ghost use Rattle.std.specs.Prelude.{◌≡◌, ◌&&◌, ◌++◌, IfOk, OnOk, filter, nat_eq, not};
 ghost use Rattle.std.specs.HashSet.{contains};
 ghost use Rattle.std.specs.List.{list_any};
-ghost use Rattle.plain_values.specs.Numbered.{numbered_from};
 ghost use Rattle.error_libraries.specs.Search.{is_number_in};
 ghost use Rattle.propagation_points.specs.Uses.{covers};
 ghost use Rattle.model_facts.specs.Assembly.{model_at};
 ghost use Rattle.model_facts.specs.Facts.{inward_of, is_linked, outward_of};
 ghost use Rattle.model_facts.specs.inner.Tables.{KnowsSides, same_side_key};
-ghost use Rattle.model_review.specs.Findings.{has_sink, if_any, is_sink_at, is_stopped, never_at, never_out, open_at, open_ends, stop_at, stops_of, takes, types_at, types_where};
+ghost use Rattle.model_review.specs.Findings.{has_sink, if_any, is_sink_at, is_stopped, takes, types_at, types_where};
 ghost use Rattle.model_review.specs.Seen.{may_come, number_at};
 ghost use Rattle.model_review.specs.declared.finding.Finding.TheVariants.{Never, Open, StopsHere};
 
-use crate::finding::{Finding, tell_never, tell_open, tell_stop};
+use crate::finding::{Finding, TypesAt, tell_unless};
 use crate::flows::{has_number, inward_of, outward_of};
 use crate::view::{View, declared_for};
+use crate::walks::{PointFinding, PointPlace};
 use aadl_syntax::{Flow, FlowKind};
 use component_extension::InClause;
 use error_flows::FlowMeaning;
 use plain_values::{List, Mem, is_same};
 use propagation_links::{Link, PointAt};
 use propagation_points::{Point, ReachedPoint, only_name};
-use std::alloc::{AllocError, Global};
+use std::alloc::Global;
 use std::collections::HashSet;
 
-/// Adds the sides of a component at which errors stop.
-pub(crate) fn add_stops(
-    alloc: Global,
-    found: &mut List<Finding>,
-    view: &View,
-    owner: u32,
-) -> Mem<()>
-    ensures { OnOk result (found.new ≡ found.old ++ stops_of view.now owner (model_at view.now.numbered.assembly owner)) }
-{
-    match view.model(owner) {
-        Some(model) => add_stops_at(alloc, found, view, owner, model.points.list()),
-        None => Ok(()),
-    }
-}
+/// The types that stop at a point without a sink, if there are any.
+#[derive(Clone, Copy)]
+pub(crate) struct Stops;
 
-fn add_stops_at(
-    alloc: Global,
-    found: &mut List<Finding>,
-    view: &View,
-    owner: u32,
-    points: &[Point],
-) -> Mem<()>
-    ensures { OnOk result (found.new ≡ found.old ++ numbered_from (stop_at view.now owner) 0 points.now) }
-{
-    for (number, point) in points.iter().enumerate() {
-        add_stop(alloc, found, view, owner, number, point)?;
-    }
-    Ok(())
-}
+impl PointFinding for Stops {
+    ghost use Rattle.model_review.specs.Findings.{stop_at};
 
-fn add_stop(
-    alloc: Global,
-    found: &mut List<Finding>,
-    view: &View,
-    owner: u32,
-    number: usize,
-    point: &Point,
-) -> Mem<()>
-    ensures { OnOk result (found.new ≡ found.old ++ stop_at view.now owner number point.now) }
-{
-    if number > 4_294_967_295 {
-        return Err(AllocError);
+    ghost finding = { λ _. stop_at };
+
+    fn tell(
+        &self,
+        alloc: Global,
+        found: &mut List<Finding>,
+        view: &View,
+        at: PointPlace,
+        point: &Point,
+    ) -> Mem<()> {
+        if has_sink(view, at.owner, point) {
+            return Ok(());
+        }
+        add_stopping(alloc, found, view, at.owner, at.number)
     }
-    if has_sink(view, owner, point) {
-        return Ok(());
-    }
-    add_stopping(alloc, found, view, owner, number as u32)
 }
 
 /// Adds the types that stop at a point.
@@ -85,7 +60,9 @@ fn add_stopping(
     ensures { OnOk result (found.new ≡ found.old ++ if_any (λ types. StopsHere (types_at (inward_of owner number) types)) (types_where view.now (inward_of owner number) (is_stopped view.now owner number))) }
 {
     let types = stopping(alloc, view, owner, number)?;
-    tell_stop(found, inward_of(owner, number), types)
+    let side = inward_of(owner, number);
+    let at = TypesAt { side, types };
+    tell_unless(found, at.is_empty(), Finding::StopsHere(at))
 }
 
 /// The types that stop at a point.
@@ -198,73 +175,51 @@ fn is_sink_at(kind: &FlowKind, name: &[u8]) -> bool
 
 // ---- open ends
 
-/// The sides into which these links lead.
-pub(crate) fn linked_sides(alloc: Global, links: &[Link]) -> Mem<HashSet<(u32, u32, bool)>>
-    ensures { IfOk result (λ sides. KnowsSides links.now (contains same_side_key sides)) }
-{
-    let mut sides = HashSet::new(alloc);
-    for link in links {
-        let to = link.to;
-        sides.insert((to.component, to.point, to.outward))?;
-    }
-    Ok(sides)
+/// The types that are declared for the inward side of a point, if there are any, and no link leads there. It has the sides into which
+/// links lead.
+#[derive(Drop)]
+pub(crate) struct OpenEnds {
+    linked: HashSet<(u32, u32, bool)>,
 }
 
-/// Adds the inward sides of a component with declared types into which no link leads.
-pub(crate) fn add_open(
-    alloc: Global,
-    found: &mut List<Finding>,
-    view: &View,
-    linked: &HashSet<(u32, u32, bool)>,
-    owner: u32,
-) -> Mem<()>
-    requires { KnowsSides view.now.numbered.assembly.links (contains same_side_key linked.now) }
-    ensures { OnOk result (found.new ≡ found.old ++ open_ends view.now owner (model_at view.now.numbered.assembly owner)) }
-{
-    match view.model(owner) {
-        Some(model) => add_open_at(alloc, found, view, linked, owner, model.points.list()),
-        None => Ok(()),
+impl OpenEnds {
+    /// Where these are the links.
+    pub(crate) fn of(alloc: Global, links: &[Link]) -> Mem<OpenEnds>
+        ensures { IfOk result (λ told. KnowsSides links.now (contains same_side_key told.linked)) }
+    {
+        let mut linked = HashSet::new(alloc);
+        for link in links {
+            let to = link.to;
+            linked.insert((to.component, to.point, to.outward))?;
+        }
+        Ok(OpenEnds { linked })
     }
 }
 
-fn add_open_at(
-    alloc: Global,
-    found: &mut List<Finding>,
-    view: &View,
-    linked: &HashSet<(u32, u32, bool)>,
-    owner: u32,
-    points: &[Point],
-) -> Mem<()>
-    requires { KnowsSides view.now.numbered.assembly.links (contains same_side_key linked.now) }
-    ensures { OnOk result (found.new ≡ found.old ++ numbered_from (open_at view.now owner) 0 points.now) }
-{
-    for (number, point) in points.iter().enumerate() {
-        add_open_end(alloc, found, view, linked, owner, number, point)?;
-    }
-    Ok(())
-}
+impl PointFinding for OpenEnds {
+    ghost use Rattle.std.specs.HashSet.{contains};
+    ghost use Rattle.model_facts.specs.inner.Tables.{KnowsSides, same_side_key};
+    ghost use Rattle.model_review.specs.Findings.{open_at};
 
-fn add_open_end(
-    alloc: Global,
-    found: &mut List<Finding>,
-    view: &View,
-    linked: &HashSet<(u32, u32, bool)>,
-    owner: u32,
-    number: usize,
-    point: &Point,
-) -> Mem<()>
-    requires { KnowsSides view.now.numbered.assembly.links (contains same_side_key linked.now) }
-    ensures { OnOk result (found.new ≡ found.old ++ open_at view.now owner number point.now) }
-{
-    if number > 4_294_967_295 {
-        return Err(AllocError);
-    }
-    if is_linked(view, linked, owner, number as u32) {
-        return Ok(());
-    }
-    match declared_for(point.side(false)) {
-        Some(types) => add_arrivals(alloc, found, inward_of(owner, number as u32), types),
-        None => Ok(()),
+    ghost fits = { λ told seen. KnowsSides seen.numbered.assembly.links (contains same_side_key told.linked) };
+
+    ghost finding = { λ _. open_at };
+
+    fn tell(
+        &self,
+        alloc: Global,
+        found: &mut List<Finding>,
+        view: &View,
+        at: PointPlace,
+        point: &Point,
+    ) -> Mem<()> {
+        if is_linked(view, &self.linked, at.owner, at.number) {
+            return Ok(());
+        }
+        match declared_for(point.side(false)) {
+            Some(types) => add_arrivals(alloc, found, inward_of(at.owner, at.number), types),
+            None => Ok(()),
+        }
     }
 }
 
@@ -286,57 +241,39 @@ fn add_arrivals(
     ensures { OnOk result (found.new ≡ found.old ++ if_any (λ types. Open (types_at side types)) declared.now) }
 {
     let types = List::of(Vec::from_slice(alloc, declared)?)?;
-    tell_open(found, side, types)
+    let at = TypesAt { side, types };
+    tell_unless(found, at.is_empty(), Finding::Open(at))
 }
 
 // ---- what never comes out
 
-/// Adds the outward sides of a component with declared types that never come out.
-pub(crate) fn add_never(
-    alloc: Global,
-    found: &mut List<Finding>,
-    view: &View,
-    owner: u32,
-) -> Mem<()>
-    ensures { OnOk result (found.new ≡ found.old ++ never_out view.now owner (model_at view.now.numbered.assembly owner)) }
-{
-    match view.model(owner) {
-        Some(model) => add_never_at(alloc, found, view, owner, model.points.list()),
-        None => Ok(()),
-    }
-}
+/// The types that are declared for the outward side of a point, and never come out, if there are any.
+#[derive(Clone, Copy)]
+pub(crate) struct NeverOut;
 
-fn add_never_at(
-    alloc: Global,
-    found: &mut List<Finding>,
-    view: &View,
-    owner: u32,
-    points: &[Point],
-) -> Mem<()>
-    ensures { OnOk result (found.new ≡ found.old ++ numbered_from (never_at view.now owner) 0 points.now) }
-{
-    for (number, point) in points.iter().enumerate() {
-        add_never_point(alloc, found, view, owner, number, point)?;
-    }
-    Ok(())
-}
+impl PointFinding for NeverOut {
+    ghost use Rattle.model_review.specs.Findings.{never_at};
 
-fn add_never_point(
-    alloc: Global,
-    found: &mut List<Finding>,
-    view: &View,
-    owner: u32,
-    number: usize,
-    point: &Point,
-) -> Mem<()>
-    ensures { OnOk result (found.new ≡ found.old ++ never_at view.now owner number point.now) }
-{
-    if number > 4_294_967_295 {
-        return Err(AllocError);
-    }
-    match declared_for(point.side(true)) {
-        Some(types) => add_never_types(alloc, found, view, outward_of(owner, number as u32), types),
-        None => Ok(()),
+    ghost finding = { λ _. never_at };
+
+    fn tell(
+        &self,
+        alloc: Global,
+        found: &mut List<Finding>,
+        view: &View,
+        at: PointPlace,
+        point: &Point,
+    ) -> Mem<()> {
+        match declared_for(point.side(true)) {
+            Some(types) => add_never_types(
+                alloc,
+                found,
+                view,
+                outward_of(at.owner, at.number),
+                types,
+            ),
+            None => Ok(()),
+        }
     }
 }
 
@@ -353,5 +290,6 @@ fn add_never_types(
     for kind in declared {
         types.push_if(*kind, !view.may_come(view.fact_at(side, *kind)))?;
     }
-    tell_never(found, side, types)
+    let at = TypesAt { side, types };
+    tell_unless(found, at.is_empty(), Finding::Never(at))
 }

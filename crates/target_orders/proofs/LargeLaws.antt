@@ -11,13 +11,15 @@ use Rattle.fault_system.proofs.Elements.{In, In-contains, contains_In}
 use Rattle.fault_system.proofs.ListingLaws.{length_rising}
 use Rattle.fault_system.proofs.NumberSets.{set_of-contained}
 use Rattle.backward_slice.specs.Slices.{DependsOn, DependsOnEvent, IsServed, IsSlice, most_slice_events, most_slice_facts}
+use Rattle.backward_slice.specs.inner.Reach.{IsSmallReach}
+use Rattle.backward_slice.specs.declared.parts.Reach.{Reach}
 use Rattle.backward_slice.specs.declared.parts.Slice.{Slice}
 use Rattle.backward_slice.proofs.OneSlice.{served_or_large}
 use Rattle.dependency_blocks.proofs.Passes.{depends_step, depends_then}
 use Rattle.dependency_blocks.specs.Blocks.{number_of}
 use Rattle.dependency_blocks.specs.inner.Blocks.{AreAllBlocks}
 use Rattle.target_orders.specs.Orders.{IsLarge}
-use Rattle.target_orders.specs.inner.Sizes.{AreLarge, AreSmall, IsSmallPart}
+use Rattle.target_orders.specs.inner.Sizes.{AreLarge, AreSmall}
 use Rattle.target_orders.proofs.Reachable.{has-slice}
 
 rising-in : (low high : ℕ) (xs : List ℕ) (n : ℕ) → RisesWithin low high xs → In n xs → low ≤ n
@@ -91,13 +93,21 @@ module _ (system : System) where
       served_or_large system n slice own.0 served own.1
 
   -- facts that depend on few facts and events together are not large
-  pub small-part : (facts events : List Bool) → IsSmallPart system facts events → AreSmall system facts
-  small-part facts events part n has (refusal, large) = ⊎_elim (λ h. absurd (omega (arith, h.0, part.few_facts, few_facts))) (λ h. absurd (omega (arith, h.1, part.few_events, few_events))) large.2 where
+  pub small-part : (from : List ℕ) (reach : Reach) → IsSmallReach system from reach → AreSmall system reach.facts
+  small-part from reach small n has (refusal, large) = ⊎_elim (λ h. absurd (omega (arith, h.0, small.few_facts, few_facts))) (λ h. absurd (omega (arith, h.1, small.few_events, few_events))) large.2 where
+    facts : List Bool
+    facts = reach.facts
+
+    events : List Bool
+    events = reach.events
+
     inside : (m : ℕ) → DependsOn system n m → Has (member facts) m
-    inside m depends = depends (member facts) (λ k l fact here at o. (part.closed k fact here at).facts_in l o) has
+    inside m depends = let (start, among, to) = (small.is_reach.facts n).0 has in (small.is_reach.facts m).1 (start, among, depends_then system start n m to depends)
 
     event_inside : (event : ℕ) → DependsOnEvent system n event → Has (member events) event
-    event_inside event (m, fact, depends, at, o) = (part.closed m fact (inside m depends) at).events_in event o
+    event_inside event (m, fact, depends, at, o) =
+        let (start, among, to) = (small.is_reach.facts n).0 has in
+        (small.is_reach.events event).1 (m, fact, (start, among, depends_then system start n m to depends), at, o)
 
     few_facts : length large.0.facts ≤ count_true facts
     few_facts = marked-few facts 0 (length system.facts) large.0.facts large.1.facts_rise

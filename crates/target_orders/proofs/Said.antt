@@ -1,5 +1,5 @@
 -- One thing is said of a fact.
-use Rattle.std.proofs.Common.{ℕ, zero, suc, ◌≡◌, ◌<◌, ◌≤◌, List, [], ◌∷◌, ◌++◌, get_or, take, length, codes, refl, ap, append_assoc, append-nil, sym, subst, ◌∙◌, arith}
+use Rattle.std.proofs.Common.{ℕ, zero, suc, ◌≡◌, ◌<◌, List, [], ◌∷◌, ◌++◌, get_or, take, length, codes, refl, ap, append_assoc, append-nil, sym, subst, ◌∙◌, arith}
 use Rattle.std.specs.List.{AllZip}
 use Rattle.fault_system.specs.Systems.{System}
 use Rattle.target_orders.specs.declared.order.Order.{Order}

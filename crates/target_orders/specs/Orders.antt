@@ -1,5 +1,5 @@
 -- How many events it takes to make a fact hold (NUREG-0492: the order of a cut set).
-use Rattle.std.specs.Prelude.{ℕ, ◌≡◌, ◌≤◌, List, [], length}
+use Rattle.std.specs.Prelude.{ℕ, ◌≤◌, List, [], length}
 use Rattle.plain_values.specs.declared.refusal.Refusal.{Refusal}
 use Rattle.fault_system.specs.Systems.{System}
 use Rattle.fault_system.specs.CutSets.{IsCutSet}

@@ -3,7 +3,6 @@
 
 mod alone;
 mod closing;
-mod inside;
 mod laws;
 mod marks;
 mod order;

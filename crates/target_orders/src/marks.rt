@@ -1,7 +1,7 @@
 //! Sets of numbers that grow.
 
 ghost use Rattle.std.specs.Prelude.{◌≡◌, ◌≢◌, ◌⊎◌, ℕ, true};
-ghost use Rattle.fault_system.specs.Truth.{Has, count_true, member, set_of};
+ghost use Rattle.fault_system.specs.Truth.{Has, member, set_of};
 
 use fault_system::Bits;
 use plain_values::Mem;
@@ -62,17 +62,4 @@ fn fill(marks: &mut Bits, size: u32) {
     for number in 0..size {
         put(marks, number);
     }
-}
-
-/// How many numbers are in a set.
-pub(crate) fn count(marks: &Bits) -> u32
-    ensures { result ≡ count_true marks.now }
-{
-    let mut count = 0;
-    for number in 0..marks.size() {
-        if marks.has(number) {
-            count += 1;
-        }
-    }
-    count
 }

@@ -13,8 +13,7 @@ ghost use Rattle.dependency_blocks.specs.inner.Blocks.{AreAllBlocks};
 ghost use Rattle.target_orders.specs.Orders.{IsLarge};
 ghost use Rattle.target_orders.specs.inner.Sizes.{AreLarge, KnowsSizes};
 
-use crate::closing::{is_open, part_of};
-use crate::inside::is_small_part;
+use crate::closing::{is_open, small_part};
 use crate::marks::{put, put_all, put_list};
 use crate::sizes::Sizes;
 use backward_slice::slice;
@@ -160,15 +159,14 @@ fn are_found_small(
     requires { KnowsSizes system.now sizes.old }
     ensures { OnOk result (KnowsSizes system.now sizes.new) }
 {
-    let part = part_of(alloc, system, asked, sizes, facts)?;
-    if part.is_over() {
-        return Ok(false);
+    let found = small_part(alloc, system, asked, sizes, facts)?;
+    match found {
+        Some(part) => {
+            put_all(&mut sizes.small, &part);
+            Ok(true)
+        }
+        None => Ok(false),
     }
-    if !is_small_part(system, &part.facts, &part.events) {
-        return Ok(false);
-    }
-    put_all(&mut sizes.small, &part.facts);
-    Ok(true)
 }
 
 // Makes the slice of a fact: it is large, or all that it depends on is small. Whether it is large.

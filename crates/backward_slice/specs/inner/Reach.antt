@@ -1,9 +1,9 @@
 -- What some facts depend on, where it is gone from each fact to all facts in its formula, or to some of them.
-use Rattle.std.specs.Prelude.{ℕ, ◌≡◌, ◌↔◌, true, List, length, Contains}
-use Rattle.fault_system.specs.Truth.{NumberSet, Has, member, occurs, occurs_event}
+use Rattle.std.specs.Prelude.{ℕ, ◌≡◌, ◌≤◌, ◌↔◌, true, List, length, Contains}
+use Rattle.fault_system.specs.Truth.{NumberSet, Has, count_true, member, occurs, occurs_event}
 use Rattle.fault_system.specs.Systems.{System, IsFact}
 use Rattle.fault_system.specs.declared.formula.FactInfo.{FactInfo}
-use Rattle.backward_slice.specs.Slices.{DependsOn}
+use Rattle.backward_slice.specs.Slices.{DependsOn, most_slice_events, most_slice_facts}
 use Rattle.backward_slice.specs.declared.parts.Reach.{Reach}
 
 -- from each fact it is gone to each
@@ -49,3 +49,9 @@ pub record IsReach (system : System) (from : List ℕ) (reach : Reach) : Type 0 
   pub events_size : length reach.events ≡ length system.events
   pub facts : (n : ℕ) → Has (member reach.facts) n ↔ IsReached system from n
   pub events : (n : ℕ) → Has (member reach.events) n ↔ IsReachedIn system from n
+
+-- the same, and these are no more than a slice may have
+pub record IsSmallReach (system : System) (from : List ℕ) (reach : Reach) : Type 0 where
+  pub is_reach : IsReach system from reach
+  pub few_facts : count_true reach.facts ≤ most_slice_facts
+  pub few_events : count_true reach.events ≤ most_slice_events

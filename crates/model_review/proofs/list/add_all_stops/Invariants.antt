@@ -1,8 +1,0 @@
-use Rattle.std.proofs.Common.{◌≡◌, ◌++◌, take}
-use Rattle.plain_values.specs.Numbered.{numbered_from}
-use Rattle.model_facts.specs.Assembly.{model_at}
-use Rattle.model_review.specs.Findings.{stops_of}
-use Rattle.model_review.proofs.list.add_all_stops.Given as goal
-
-abbrev pub invariant-loop-owner : goal.invariant-loop-owner
-invariant-loop-owner l = l.found ≡ l.fn.found ++ numbered_from (λ owner component. stops_of l.view owner (model_at l.view.numbered.assembly owner)) 0 (take l.owner l.view.numbered.assembly.instance.components)
