@@ -1,25 +1,50 @@
 # Completions for bash: source this file, or put it into the folder of bash-completion under the name aadl_fta.
 # It is written by tools/pages.
 
+# Offers some of these names with + between them, none twice, for what stands behind the = of a word or in a word of its own.
+_aadl_fta_names() {
+  local said=$1 front='' left='' name
+  [[ $said == *+* ]] && front=${said%+*}+
+  for name in $2; do
+    [[ +$front == *+$name+* ]] || left+=" $name"
+  done
+  COMPREPLY=($(compgen -P "$front" -W "$left" -- "${said##*+}"))
+  compopt -o nospace 2>/dev/null
+}
+
 _aadl_fta() {
   local commands='check cuts tree fmea report make galileo paths why confirm targets events review place help version'
-  local word=${COMP_WORDS[COMP_CWORD]} before=${COMP_WORDS[COMP_CWORD-1]}
-  local command=${COMP_WORDS[1]} options='' files_from=0
+  local cur prev words cword options='' files_from=0
+  # A colon and an equals sign end a word for bash. bash-completion joins what they part; without it a root counts as several words.
+  if declare -F _get_comp_words_by_ref >/dev/null; then
+    _get_comp_words_by_ref -n := cur prev words cword
+  else
+    words=("${COMP_WORDS[@]}") cword=$COMP_CWORD
+    cur=${words[cword]} prev=${words[cword - 1]}
+  fi
   COMPREPLY=()
-  if [ "$COMP_CWORD" -eq 1 ]; then
-    COMPREPLY=($(compgen -W "$commands" -- "$word"))
+  if [ "$cword" -eq 1 ]; then
+    COMPREPLY=($(compgen -W "$commands" -- "$cur"))
     return
   fi
   # Behind an option with a value stands that, which can be completed only where it is one of some names.
-  case $before in
+  case $cur in
+    --reports=*)
+      _aadl_fta_names "${cur#*=}" 'orders uses singles'
+      [[ $COMP_WORDBREAKS == *=* ]] || COMPREPLY=("${COMPREPLY[@]/#/${cur%%=*}=}")
+      return
+      ;;
+    --*=*) return ;;
+  esac
+  case $prev in
     --reports)
-      COMPREPLY=($(compgen -W 'orders uses singles' -- "$word"))
+      _aadl_fta_names "$cur" 'orders uses singles'
       return
       ;;
     --limit | --after | --max-order | --set) return ;;
   esac
   # The options of the command, and the number of its first word that is a file.
-  case $command in
+  case ${words[1]} in
     check | events | review) files_from=3 ;;
     cuts) options='--limit --after --max-order --tokens' files_from=4 ;;
     tree) files_from=4 ;;
@@ -29,20 +54,22 @@ _aadl_fta() {
     galileo) options='--paths --limit --max-order' files_from=2 ;;
     paths) options='--limit --after --max-order' files_from=4 ;;
     why | confirm) options='--set' files_from=4 ;;
-    place) [ "$COMP_CWORD" -eq 2 ] && files_from=2 ;;
+    place) [ "$cword" -eq 2 ] && files_from=2 ;;
     help)
-      [ "$COMP_CWORD" -eq 2 ] && COMPREPLY=($(compgen -W "$commands" -- "$word"))
+      [ "$cword" -eq 2 ] && COMPREPLY=($(compgen -W "$commands" -- "$cur"))
       return
       ;;
   esac
-  if [[ $word == -* ]]; then
-    COMPREPLY=($(compgen -W "$options" -- "$word"))
-  elif [ "$files_from" -gt 0 ] && [ "$COMP_CWORD" -ge "$files_from" ]; then
+  if [[ $cur == -* ]]; then
+    COMPREPLY=($(compgen -W "$options" -- "$cur"))
+  elif [ "$files_from" -gt 0 ] && [ "$cword" -ge "$files_from" ]; then
     local file
     while IFS= read -r file; do
       COMPREPLY+=("$file")
-    done < <(compgen -f -- "$word")
+    done < <(compgen -f -- "$cur")
     compopt -o filenames 2>/dev/null
+    # Of a name with a colon bash takes what stands behind the last one.
+    declare -F __ltrim_colon_completions >/dev/null && __ltrim_colon_completions "$cur"
   fi
 }
 

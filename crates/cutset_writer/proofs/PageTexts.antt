@@ -2,7 +2,8 @@
 use Rattle.std.proofs.Common.{ne_eqb, ◌≡◌, ◌⊎◌, ℕ, zero, suc, nat_lt, take, inl, inr, codes, ◌-◌, ◌≤◌, Bool, true, false, not, List, [], ◌∷◌, ◌++◌, length, Option, Some, None, filter, subst, Result, Err, if◌then◌else◌, refl, sym, ap, ◌∙◌, append-nil, append_assoc, arith}
 use Rattle.std.proofs.lemmas.Bool.{cases_lt, false≢true, le-ltb, lt-ltb}
 use Rattle.std.specs.List.{flat_map}
-use Rattle.fta_outside.specs.Outside.{Rose, Seen, Took, TookPrefix, Writes}
+use Rattle.fta_outside.specs.Outside.{Rose, Seen, Took, TookPrefix}
+use Rattle.fta_outside.specs.inner.Outside.{Writes}
 use Rattle.fta_outside.proofs.Writing.{took_both, wrote_not, wrote_then}
 use Rattle.fault_system.specs.Systems.{System}
 use Rattle.fault_system.proofs.Elements.{each-at, each-made, In-filter}

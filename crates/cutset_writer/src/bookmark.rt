@@ -4,7 +4,7 @@ ghost use Rattle.std.specs.Prelude.{◌≡◌, ◌+◌, ◌≤◌, IfOk, IfSome,
 ghost use Rattle.cutset_writer.specs.inner.Lengths.{most_line};
 ghost use Rattle.cutset_writer.specs.inner.Pages.{IsOpen, IsOpenMark, key_of, more_text};
 ghost use Rattle.cutset_writer.specs.Text.{more_line};
-ghost use Rattle.fta_outside.specs.Outside.{Writes};
+ghost use Rattle.fta_outside.specs.inner.Outside.{Writes};
 ghost use Rattle.page_tokens.specs.Starts.{start_text};
 
 use crate::lines::{longest_line, put_more};

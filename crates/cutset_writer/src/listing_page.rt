@@ -6,7 +6,7 @@ ghost use Rattle.cutset_lister.specs.inner.Walks.{all_sets};
 ghost use Rattle.cutset_writer.specs.inner.Pages.{IsOpen, IsReady};
 ghost use Rattle.cutset_writer.specs.Text.{listing_page, marked_page};
 ghost use Rattle.cutset_writer.specs.declared.form.SetForm.TheVariants.{Token};
-ghost use Rattle.fta_outside.specs.Outside.{Writes};
+ghost use Rattle.fta_outside.specs.inner.Outside.{Writes};
 
 use crate::bookmark::{Bookmark, keep_place};
 use crate::form::SetForm;

@@ -6,7 +6,7 @@ ghost use Rattle.cutset_lister.specs.inner.Walks.{IsSameListing, IsStarted, all_
 ghost use Rattle.cutset_writer.specs.inner.Lengths.{most_line};
 ghost use Rattle.cutset_writer.specs.inner.Pages.{HasRoom, IsOpen, IsOpenMark, IsReady, Lists, goes_on, has_room, key_of, later, more_text, next_line, next_more, one_less};
 ghost use Rattle.cutset_writer.specs.Text.{marked_page, marked_text, more_line};
-ghost use Rattle.fta_outside.specs.Outside.{Writes};
+ghost use Rattle.fta_outside.specs.inner.Outside.{Writes};
 ghost use Rattle.cutset_writer.specs.declared.form.SetForm.TheVariants.{Token};
 
 use crate::bookmark::{Bookmark, keep_place, write_more};

@@ -1,7 +1,6 @@
 pub mod RowLaws
 pub mod RowOrder
 pub mod TableLaws
-pub mod UserLaws
 pub mod TestLaws
 pub mod LineLaws
 pub mod Examples

@@ -16,10 +16,11 @@ use Rattle.fault_system.proofs.NumberSets.{RisesWithin-at, RisesWithin-filter, s
 use Rattle.fault_system.proofs.RoundLaws.{ever-holds, table-rounds}
 use Rattle.fault_system.proofs.TruthLaws.{same_answer}
 use Rattle.fmea_rows.specs.Rows.{event_rows, is_reached, round_of, row_of}
-use Rattle.fmea_rows.specs.inner.Tables.{AreUsers, FitsWhereFelt, IsKnown, IsRight, changed, changed_rows, facts_of, is_new, row_if, table_rows}
+use Rattle.fact_users.specs.inner.Users.{AreUsers}
+use Rattle.fmea_rows.specs.inner.Tables.{FitsWhereFelt, IsKnown, IsRight, changed, changed_rows, facts_of, is_new, row_if, table_rows}
 use Rattle.fmea_rows.specs.declared.change.Change.{Change}
 use Rattle.fmea_rows.specs.declared.table.Known.{Known}
-use Rattle.fmea_rows.specs.declared.users.Users.{Users}
+use Rattle.fact_users.specs.declared.users.Users.{Users}
 use Rattle.fmea_rows.proofs.RowLaws.{reached-means, round-is}
 
 -- ---- a table with changes

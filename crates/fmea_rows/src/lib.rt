@@ -10,7 +10,6 @@ mod row;
 mod table;
 mod table_lines;
 mod testing;
-mod users;
 
 pub use laws::{computed_rows, one_table, reads_back};
 pub use row::Row;

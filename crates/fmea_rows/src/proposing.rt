@@ -4,7 +4,7 @@
 //! which they are.
 
 use crate::change::Change;
-use crate::users::{Users, users_at};
+use fact_users::{Users, users_at};
 use fault_system::{FaultSystem, Formula};
 use plain_values::Mem;
 use std::alloc::Global;

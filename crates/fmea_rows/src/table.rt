@@ -11,13 +11,14 @@ ghost use Rattle.fault_system.specs.Rounds.{no_event, only, time_of};
 ghost use Rattle.fault_system.specs.inner.Rounds.{IsTable};
 ghost use Rattle.fmea_rows.specs.Rows.{event_rows, rows_of};
 ghost use Rattle.fmea_rows.specs.inner.Rows.{AreRows};
-ghost use Rattle.fmea_rows.specs.inner.Tables.{AreUsers, IsBetween, IsKnown, IsRight, changed_rows, is_new, table_rows};
+ghost use Rattle.fact_users.specs.inner.Users.{AreUsers};
+ghost use Rattle.fmea_rows.specs.inner.Tables.{IsBetween, IsKnown, IsRight, changed_rows, is_new, table_rows};
 
 use crate::change::{Change, are_rising, make_changes, take_back, time_at};
 use crate::proposing::Proposer;
 use crate::row::Row;
 use crate::testing::fits_where_felt;
-use crate::users::{Users, users_of};
+use fact_users::{Users, users_of};
 use fault_system::{Bits, FaultSystem, checked_table, table_of_rounds};
 use plain_values::{List, Mem};
 use std::alloc::Global;

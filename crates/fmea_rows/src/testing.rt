@@ -7,7 +7,7 @@ ghost use Rattle.fault_system.specs.inner.Rounds.{FitsFact};
 ghost use Rattle.fmea_rows.specs.inner.Tables.{AllFit, FitsAround, FitsWhereFelt, IsTested, facts_of};
 
 use crate::change::Change;
-use crate::users::{Users, users_at};
+use fact_users::{Users, users_at};
 use fault_system::{Bits, FaultSystem};
 use plain_values::List;
 

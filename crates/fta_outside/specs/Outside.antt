@@ -1,7 +1,5 @@
 -- What is known of the outside: counts of faults, and the bytes that a sink took.
-use Rattle.std.specs.Prelude.{◌≡◌, ℕ, ◌<◌, ◌≤◌, ◌⊎◌, List, ◌++◌, length, take, Option, option_map, Result, MatchResult}
-use Rattle.fta_outside.specs.declared.error.WriteError.{WriteError}
-use Rattle.fta_outside.specs.declared.error.WriteError.TheVariants.{Memory}
+use Rattle.std.specs.Prelude.{◌≡◌, ℕ, ◌<◌, ◌≤◌, ◌⊎◌, List, ◌++◌, length, take, Option, option_map}
 
 -- A count rose in a call if it is greater after the call than before it, or stands after it at the last value of a counter.
 abbrev pub Rose : ℕ → ℕ → Type 0
@@ -23,17 +21,3 @@ Took text before after = after.taken ≡ with_bytes before.taken text
 -- Some bytes of the front of a text were taken, and no others.
 abbrev pub TookPrefix : List ℕ → Seen → Seen → Type 0
 TookPrefix text before after = (count : ℕ) × (count ≤ length text) × Took (take count text) before after
-
--- The whole text was taken; or a front of it, and the count of faults rose, or the error is excused. Faults are never taken back.
-abbrev pub WritesBut : {T E : Type 0} → (E → Type 0) → List ℕ → Result T E → Seen → Seen → Type 0
-WritesBut Excuse text result before after =
-    MatchResult result (λ _. Took text before after) (λ error. TookPrefix text before after × (Rose before.faults after.faults ⊎ Excuse error))
-    × (before.faults ≤ after.faults)
-
--- want of memory
-abbrev pub LacksMemory : WriteError → Type 0
-LacksMemory error = error ≡ Memory
-
--- The same, and each error is a fault of the sink.
-abbrev pub Writes : {T E : Type 0} → List ℕ → Result T E → Seen → Seen → Type 0
-Writes text result before after = WritesBut (λ _. ⊥) text result before after

@@ -1,7 +1,7 @@
 //! Texts that are made line by line, as they are written.
 
 ghost use Rattle.std.specs.Prelude.{◌≡◌, ◌<◌, ◌++◌, ℕ, List, [], IfOk, IsTrue, false, length};
-ghost use Rattle.fta_outside.specs.Outside.{LacksMemory, WritesBut};
+ghost use Rattle.fta_outside.specs.inner.Outside.{LacksMemory, WritesBut};
 
 use crate::error::WriteError;
 use crate::outside::{Sink, write_all};

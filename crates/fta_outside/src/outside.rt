@@ -1,5 +1,6 @@
 ghost use Rattle.std.specs.Prelude.{◌≡◌, ℕ, ◌≤◌, ◌<◌, List, Option, IfOk, OnErr, IfSome, IsErrOf, length, take};
-ghost use Rattle.fta_outside.specs.Outside.{Rose, Seen, Took, Writes};
+ghost use Rattle.fta_outside.specs.Outside.{Rose, Seen, Took};
+ghost use Rattle.fta_outside.specs.inner.Outside.{Writes};
 ghost use Rattle.fta_outside.specs.declared.outside.FileError.TheVariants.{Memory};
 
 use plain_values::{List, Word};

@@ -48,7 +48,8 @@ use Rattle.cut_reports.specs.Places.{AtChosen}
 use Rattle.fta_run.specs.Answers.{AllTold, AnswersWords, BeginsWithMemory, IsCaused, IsJustified, IsManyAnswer, IsOutput, IsSameStatus, MayCome, Took, is_by_lines}
 use Rattle.fta_run.specs.inner.Steps.{AsksLines, IsExcused, IsReadEnd, Runs, ended}
 use Rattle.fta_words.proofs.Requests.{file_words_are, one_request}
-use Rattle.fta_outside.specs.Outside.{LacksMemory, Rose, Seen, TookPrefix}
+use Rattle.fta_outside.specs.Outside.{Rose, Seen, TookPrefix}
+use Rattle.fta_outside.specs.inner.Outside.{LacksMemory}
 use Rattle.fta_outside.specs.declared.error.WriteError.{WriteError}
 use Rattle.fta_outside.specs.declared.error.WriteError.TheVariants.{Failed, Memory as Lacks}
 use Rattle.phases.specs.inner.Meets.{IsMemory, MeetsBut}
@@ -57,7 +58,7 @@ use Rattle.phases.proofs.Steps.{◌passes◌, ◌beyond◌, ends}
 use Rattle.fta_run.specs.declared.ready.Held.{Held}
 use Rattle.fta_run.specs.declared.ready.Ready.{Ready}
 use Rattle.fta_run.specs.declared.ready.Ready.TheVariants as made
-use Rattle.fta_run.specs.Ready.{IsByLines, held_text, ready_text}
+use Rattle.fta_run.specs.inner.Ready.{IsByLines, held_text, ready_text}
 use Rattle.fta_run.proofs.OneDue.{one_due}
 
 -- ---- how the phases stop

@@ -5,7 +5,6 @@ pub mod Effects
 pub mod Files
 pub mod Line
 pub mod Model
-pub mod Ready
 pub mod Text
 pub mod Words
 pub mod inner

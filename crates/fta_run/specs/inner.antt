@@ -1,2 +1,3 @@
 pub mod Files
 pub mod Steps
+pub mod Ready

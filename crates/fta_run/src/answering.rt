@@ -13,7 +13,7 @@ ghost use Rattle.system_answers.specs.inner.Ends.{EndsReports};
 ghost use Rattle.system_answers.specs.Voices.{voices_of};
 ghost use Rattle.fta_run.specs.Answers.{is_by_lines};
 ghost use Rattle.fta_run.specs.Due.{check_in, cuts_in, events_in, first_name, first_text, fmea_in, made_of_texts, model_of_texts, paths_in, place_in, report_in, review_in, sets_of_tree, targets_in, text_for, tree_in, why_in};
-ghost use Rattle.fta_run.specs.Ready.{IsByLines, held_text, ready_text};
+ghost use Rattle.fta_run.specs.inner.Ready.{IsByLines, held_text, ready_text};
 
 use crate::confirmed::confirmation;
 use crate::fmea::table_of;

@@ -6,7 +6,7 @@ ghost use Rattle.model_phases.specs.Named.{IsPlainModel};
 ghost use Rattle.fta_run.specs.Due.{confirmed_in, model_of_texts};
 ghost use Rattle.fta_run.specs.Files.{most_bytes, most_files};
 ghost use Rattle.fta_run.specs.Later.{in_later_files, later_place, later_refusal, next_file};
-ghost use Rattle.fta_run.specs.Ready.{held_text};
+ghost use Rattle.fta_run.specs.inner.Ready.{held_text};
 
 use crate::input::Texts;
 use crate::model::model_of_texts;

@@ -1,5 +1,5 @@
 ghost use Rattle.std.specs.Prelude.{◌≡◌, ◌++◌, codes, decimal, map};
-ghost use Rattle.fta_outside.specs.Outside.{Writes};
+ghost use Rattle.fta_outside.specs.inner.Outside.{Writes};
 ghost use Rattle.event_lines.specs.Text.{file_word};
 ghost use Rattle.fta_run.specs.Line.{constant_text, limit_text, place_text, refusal_text, report_name, stale_text, status_line};
 

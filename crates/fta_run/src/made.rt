@@ -6,7 +6,7 @@ ghost use Rattle.phases.specs.inner.Meets.{IsMemory, MeetsBut};
 ghost use Rattle.backward_slice.specs.Slices.{IsSlice};
 ghost use Rattle.model_phases.specs.Named.{IsPlainModel};
 ghost use Rattle.fta_run.specs.Due.{made_model_text, made_root, made_target, make_text, sized_page, sized_text};
-ghost use Rattle.fta_run.specs.Ready.{held_text};
+ghost use Rattle.fta_run.specs.inner.Ready.{held_text};
 
 use crate::input::texts_of_one;
 use crate::model::model_of_texts;

@@ -1,8 +1,8 @@
 //! Answers that are ready to be written, and the one place that writes them.
 
 ghost use Rattle.std.specs.Prelude.{◌≡◌, ◌++◌, Err, IfErr, MatchResult, Ok};
-ghost use Rattle.fta_outside.specs.Outside.{LacksMemory, Writes, WritesBut};
-ghost use Rattle.fta_run.specs.Ready.{IsByLines, held_text, ready_text};
+ghost use Rattle.fta_outside.specs.inner.Outside.{LacksMemory, Writes, WritesBut};
+ghost use Rattle.fta_run.specs.inner.Ready.{IsByLines, held_text, ready_text};
 ghost use Rattle.fta_run.specs.declared.ready.Ready.TheVariants as made;
 
 use cutset_writer::ListingPage;

@@ -11,7 +11,7 @@ ghost use Rattle.target_orders.specs.inner.Alone.{AreAlone, AreAlways, IsRest, I
 
 use crate::marks::{put, take};
 use crate::sizes::Sizes;
-use crate::uses::{Uses, uses_of};
+use fact_users::{Users, users_at, users_of};
 use fault_system::{Bits, FaultSystem, Numbers};
 use plain_values::Mem;
 use std::alloc::Global;
@@ -85,14 +85,14 @@ pub(crate) fn alone(
     if left(always, perhaps, sizes, &found, facts) < 16 {
         return Ok(found);
     }
-    let uses = uses_of(alloc, system)?;
-    look_at_all(alloc, system, &uses, always, &mut found, false, u64::MAX)?;
+    let users = users_of(alloc, system)?;
+    look_at_all(alloc, system, &users, always, &mut found, false, u64::MAX)?;
     let left = left(always, perhaps, sizes, &found, facts);
     let most = left.saturating_mul(u64::from(system.facts())) / 8;
     look_at_all(
         alloc,
         system,
-        &uses,
+        &users,
         always,
         &mut found,
         true,
@@ -121,7 +121,7 @@ fn is_left(always: &Bits, perhaps: &Bits, sizes: &Sizes, found: &Bits, fact: u32
 fn look_at_all(
     alloc: Global,
     system: &FaultSystem,
-    uses: &Uses,
+    users: &Users,
     always: &Bits,
     found: &mut Bits,
     is_whole: bool,
@@ -136,7 +136,7 @@ fn look_at_all(
         if walk.steps >= most {
             return Ok(());
         }
-        look_at(system, uses, always, &mut walk, found, event)?;
+        look_at(system, users, always, &mut walk, found, event)?;
     }
     Ok(())
 }
@@ -164,7 +164,7 @@ fn no_stamps(alloc: Global, size: u32) -> Mem<Vec<u32>>
 // Finds facts that hold under this event alone.
 fn look_at(
     system: &FaultSystem,
-    uses: &Uses,
+    users: &Users,
     always: &Bits,
     walk: &mut Walk,
     found: &mut Bits,
@@ -179,7 +179,7 @@ fn look_at(
 {
     let _events = system.events();
     put(&mut walk.events, event);
-    spread(system, uses, always, walk, found, event + 1)?;
+    spread(system, users, always, walk, found, event + 1)?;
     take(&mut walk.events, event);
     Ok(())
 }
@@ -187,7 +187,7 @@ fn look_at(
 // Goes from an event to its users, and from each fact that is found to its own.
 fn spread(
     system: &FaultSystem,
-    uses: &Uses,
+    users: &Users,
     always: &Bits,
     walk: &mut Walk,
     found: &mut Bits,
@@ -205,13 +205,14 @@ fn spread(
         walk,
         found,
         stamp,
-        uses.of_event(stamp.saturating_sub(1)),
+        users_at(users.events.as_slice(), stamp.saturating_sub(1)),
     )?;
     for step in 0..u64::MAX {
         let Some(fact) = walk.waiting.pop() else {
             return Ok(());
         };
-        tell(system, always, walk, found, stamp, uses.of_fact(fact))?;
+        let next = users_at(users.facts.as_slice(), fact);
+        tell(system, always, walk, found, stamp, next)?;
     }
     Ok(())
 }

@@ -9,7 +9,6 @@ mod order;
 mod orders;
 mod settling;
 mod sizes;
-mod uses;
 
 pub use laws::{one_order, one_text};
 pub use order::Order;

@@ -1,6 +1,6 @@
 use Rattle.std.proofs.Common.{◌∙◌, ◌++◌, refl, ap, append_assoc, arith, sym}
 use Rattle.std.proofs.lemmas.Result.{err_from_is_err_and}
-use Rattle.fta_outside.specs.Outside.{LacksMemory}
+use Rattle.fta_outside.specs.inner.Outside.{LacksMemory}
 use Rattle.fta_outside.proofs.Writing.{blamed, took_both, wrote_not, wrote_then, wrote_until}
 use Rattle.fta_outside.proofs.lines.write_lines.Goals as goal
 

@@ -1,6 +1,6 @@
 use Rattle.std.proofs.lemmas.Result.{err_from_is_err_and}
 use Rattle.system_answers.specs.Voices.{voices_of}
-use Rattle.fta_run.specs.Ready.{ready_text}
+use Rattle.fta_run.specs.inner.Ready.{ready_text}
 use Rattle.fta_run.proofs.Ran.{ran_cut, ran_quiet}
 use Rattle.fta_run.proofs.command.answer_and_write.Goals as goal
 

@@ -3,7 +3,7 @@ use Rattle.phases.specs.inner.Meets.{IsMemory}
 use Rattle.phases.specs.Phases.{Passes, Stops, chains}
 use Rattle.phases.proofs.Steps.{◌beyond◌, ends, exits, meets_later}
 use Rattle.fta_run.specs.Due.{made_root, model_of_texts, sized_text, within_limits}
-use Rattle.fta_run.specs.Ready.{held_text}
+use Rattle.fta_run.specs.inner.Ready.{held_text}
 use Rattle.fta_run.proofs.made.made_model.Goals as goal
 
 pub returns-in_err-model : goal.returns-in_err-model

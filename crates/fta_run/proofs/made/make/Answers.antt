@@ -1,7 +1,7 @@
 use Rattle.std.proofs.Common.{subst}
 use Rattle.phases.specs.inner.Meets.{IsMemory, MeetsBut}
 use Rattle.fta_run.specs.Due.{made_model_text}
-use Rattle.fta_run.specs.Ready.{held_text}
+use Rattle.fta_run.specs.inner.Ready.{held_text}
 use Rattle.fta_run.proofs.made.make.Goals as goal
 
 pub returns-then-text : goal.returns-then-text

@@ -4,7 +4,7 @@ use Rattle.phases.specs.inner.Meets.{IsMemory}
 use Rattle.phases.proofs.Steps.{◌beyond◌, ◌passes◌, ends, exits}
 use Rattle.system_answers.specs.Texts.{target_of}
 use Rattle.fta_run.specs.Due.{sized_page}
-use Rattle.fta_run.specs.Ready.{held_text}
+use Rattle.fta_run.specs.inner.Ready.{held_text}
 use Rattle.fta_run.proofs.made.sized.Goals as goal
 
 pub returns-in_err-number : goal.returns-in_err-number

@@ -1,9 +1,7 @@
-//! In which formulas each fact and each event occurs.
-
 ghost use Rattle.std.specs.Prelude.{◌≡◌, ◌+◌, ◌<◌, ◌||◌, ◌&&◌, ◌==◌, ℕ, [], IfOk, OnOk, length, map, false, slice_index_or};
 ghost use Rattle.std.specs.List.{list_any};
 ghost use Rattle.fault_system.specs.Truth.{occurs, occurs_event};
-ghost use Rattle.fmea_rows.specs.inner.Tables.{AreUsers, AreUsersBelow, Notes, users_at};
+ghost use Rattle.fact_users.specs.inner.Users.{AreUsers, AreUsersBelow, Notes, users_at};
 
 use fault_system::{FaultSystem, Formula};
 use plain_values::{List, Mem};
@@ -11,13 +9,13 @@ use std::alloc::Global;
 
 /// The facts in whose formulas a fact or an event occurs, by its number.
 #[derive(Drop)]
-pub(crate) struct Users {
+pub struct Users {
     pub facts: Vec<List<u32>>,
     pub events: Vec<List<u32>>,
 }
 
 /// The users at a number.
-pub(crate) fn users_at(users: &[List<u32>], number: u32) -> &[u32]
+pub fn users_at(users: &[List<u32>], number: u32) -> &[u32]
     ensures { result.now ≡ slice_index_or users.now number [] }
 {
     match users.get(number as usize) {
@@ -27,7 +25,7 @@ pub(crate) fn users_at(users: &[List<u32>], number: u32) -> &[u32]
 }
 
 /// The users of all facts and events of a system.
-pub(crate) fn users_of(alloc: Global, system: &FaultSystem) -> Mem<Users>
+pub fn users_of(alloc: Global, system: &FaultSystem) -> Mem<Users>
     ensures { IfOk result (AreUsers system.now) }
 {
     let mut users = no_users(alloc, system)?;

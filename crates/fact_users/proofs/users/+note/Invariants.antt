@@ -1,8 +1,8 @@
 use Rattle.std.proofs.Common.{map, take}
 use Rattle.std.specs.List.{list_any}
 use Rattle.fault_system.specs.Truth.{occurs, occurs_event}
-use Rattle.fmea_rows.specs.inner.Tables.{Notes}
-use Rattle.fmea_rows.proofs.users.+note.Given as goal
+use Rattle.fact_users.specs.inner.Users.{Notes}
+use Rattle.fact_users.proofs.users.+note.Given as goal
 
 abbrev pub invariant-note_parts-loop-part : goal.invariant-note_parts-loop-part
 invariant-note_parts-loop-part l =

@@ -1,5 +1,5 @@
 use Rattle.std.proofs.Common.{◌≡◌, length}
-use Rattle.fmea_rows.proofs.users.empty_lists.Given as goal
+use Rattle.fact_users.proofs.users.empty_lists.Given as goal
 
 abbrev pub invariant-loop : goal.invariant-loop
 invariant-loop l = length l.lists.items ≡ l.counter

@@ -5,8 +5,8 @@ use Rattle.std.proofs.lemmas.Bool.{and_from, cases_eq, or_left, or_right}
 use Rattle.fault_system.specs.Truth.{NumberSet, occurs, occurs_event}
 use Rattle.fault_system.specs.Systems.{System, IsFact}
 use Rattle.fault_system.specs.declared.formula.FactInfo.{FactInfo}
-use Rattle.fmea_rows.specs.inner.Tables.{AreUsersBelow, Notes, users_at}
-use Rattle.fmea_rows.specs.declared.users.Users.{Users}
+use Rattle.fact_users.specs.inner.Users.{AreUsersBelow, Notes, users_at}
+use Rattle.fact_users.specs.declared.users.Users.{Users}
 
 or_none : (a : Bool) → a ≡ a || false
 or_none true = refl
