@@ -4,8 +4,8 @@
 ghost use Rattle.std.specs.Prelude.{◌≡◌, IfOk, false, map, string_bytes, true};
 ghost use Rattle.phases.specs.declared.status.Status.TheVariants.{Done, WriteFault};
 
-use fta_outside::{DiskFiles, Report, Sink, StdSink};
-use fta_run::{Status, run, write_line};
+use fta_outside::{DiskFiles, Files, Sink, StdSink};
+use fta_run::{Status, write_line};
 use plain_values::{List, Word};
 use std::alloc::{AllocError, Global};
 use std::env;
@@ -16,26 +16,32 @@ use std::rt::Env;
 /// How many bytes of the output wait until they are written together.
 const WAITING_BYTES: usize = 65_536;
 
-/// Runs the words after the program's name with the real files and streams and these reports, and gives the exit status.
+/// A program of the tool, with reports of its own.
+pub trait Program {
+    /// Runs the words with the reports of the program, as `run` of `fta_run` does; an error where there is no memory for these.
+    fn run<F: Files, S: Sink, E: Sink>(
+        &self,
+        alloc: Global,
+        words: &[Word],
+        files: &mut F,
+        out: &mut S,
+        err: &mut E,
+    ) -> Result<Status, AllocError>;
+}
+
+/// Runs the words after the program's name with the real files and streams, and gives the exit status.
 ///
 /// The output is gathered, and written when much of it waits and at the end. A word that is not UTF-8 gives no request. Where memory is
 /// wanting before or after the run, that is the status, and the line of it is written as `run` writes it.
-pub fn start(rt: &HostRuntime, reports: Vec<Box<dyn Report>>) -> ExitCode {
-    let mut reports = reports;
+pub fn start<P: Program>(rt: &HostRuntime, program: &P) -> ExitCode {
     let mut err = StdSink::new(rt.stderr());
     let status = match command_words(rt, rt.alloc()) {
-        Ok(words) => match run_words(rt, words.as_slice(), &mut err, &mut reports) {
+        Ok(words) => match run_words(rt, program, words.as_slice(), &mut err) {
             Ok(status) => status,
             Err(_) => stopped(rt.alloc(), Status::Memory, &mut err),
         },
         Err(status) => stopped(rt.alloc(), status, &mut err),
     };
-    ExitCode::from(status.exit())
-}
-
-/// Ends a program that could not start for want of memory: it writes the line of that status, and gives its exit status.
-pub fn end_without_memory(rt: &HostRuntime) -> ExitCode {
-    let status = stopped(rt.alloc(), Status::Memory, &mut StdSink::new(rt.stderr()));
     ExitCode::from(status.exit())
 }
 
@@ -47,12 +53,12 @@ fn stopped<E: Sink>(alloc: Global, status: Status, err: &mut E) -> Status
     status
 }
 
-/// Runs the words with the real files and the real output, and these reports.
-fn run_words<E: Sink>(
+/// Runs the words with the real files and the real output.
+fn run_words<P: Program, E: Sink>(
     rt: &HostRuntime,
+    program: &P,
     words: &[Word],
     err: &mut E,
-    reports: &mut Vec<Box<dyn Report>>,
 ) -> Result<Status, AllocError> {
     let alloc = rt.alloc();
     let mut files = DiskFiles::new(rt);
@@ -60,7 +66,7 @@ fn run_words<E: Sink>(
         return Err(AllocError);
     };
     let mut out = StdSink::new(&mut waiting);
-    let status = run(alloc, words, &mut files, &mut out, err, reports);
+    let status = program.run(alloc, words, &mut files, &mut out, err)?;
     Ok(ended(alloc, status, waiting.flush().is_ok(), err))
 }
 

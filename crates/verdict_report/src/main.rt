@@ -6,25 +6,34 @@ mod verdict;
 
 use crate::verdict::Verdict;
 use cut_reports::{EventUse, OrderProfile, SinglePoints};
-use fta_outside::Report;
-use fta_start::{end_without_memory, start};
-use std::alloc::AllocError;
+use fta_outside::{Files, Report, Sink};
+use fta_run::{Status, run};
+use fta_start::{Program, start};
+use plain_values::Word;
+use std::alloc::{AllocError, Global};
 use std::process::ExitCode;
 
 fn main(rt: HostRuntime) -> ExitCode {
-    match start_with_reports(&rt) {
-        Ok(code) => code,
-        Err(_) => end_without_memory(&rt),
-    }
+    start(&rt, &ToolWithVerdict)
 }
 
-/// Starts with the report behind the three of the tool's own.
-fn start_with_reports(rt: &HostRuntime) -> Result<ExitCode, AllocError> {
-    let alloc = rt.alloc();
-    let mut reports: Vec<Box<dyn Report>> = Vec::new(alloc);
-    reports.push(Box::new(alloc, OrderProfile::new(alloc))?)?;
-    reports.push(Box::new(alloc, EventUse::new(alloc))?)?;
-    reports.push(Box::new(alloc, SinglePoints::new(alloc))?)?;
-    reports.push(Box::new(alloc, Verdict::new(alloc))?)?;
-    Ok(start(rt, reports))
+/// The tool, with this report behind the three of its own.
+struct ToolWithVerdict;
+
+impl Program for ToolWithVerdict {
+    fn run<F: Files, S: Sink, E: Sink>(
+        &self,
+        alloc: Global,
+        words: &[Word],
+        files: &mut F,
+        out: &mut S,
+        err: &mut E,
+    ) -> Result<Status, AllocError> {
+        let mut reports: Vec<Box<dyn Report>> = Vec::new(alloc);
+        reports.push(Box::new(alloc, OrderProfile::new(alloc))?)?;
+        reports.push(Box::new(alloc, EventUse::new(alloc))?)?;
+        reports.push(Box::new(alloc, SinglePoints::new(alloc))?)?;
+        reports.push(Box::new(alloc, Verdict::new(alloc))?)?;
+        Ok(run(alloc, words, files, out, err, &mut reports))
+    }
 }

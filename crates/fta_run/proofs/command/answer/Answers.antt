@@ -22,59 +22,67 @@ answer_in-requires g c =
 pub returns-in_err-asked-clause-text : goal.returns-in_err-asked-clause-text
 returns-in_err-asked-clause-text g c =
     let reports = c.args.reports.now.items in
-    let names : c.items.result.now ≡ labels (voices_of (λ b. (goal.Report-dyn g (b.vtable, b.value)).label b.value) (λ b. (goal.Report-dyn g (b.vtable, b.value)).text b.value) reports) = c.items.ensures.items ∙ c.in_ok-names.ensures ∙ sym (labels_are (λ b. (goal.Report-dyn g (b.vtable, b.value)).label b.value) (λ b. (goal.Report-dyn g (b.vtable, b.value)).text b.value) reports) in
-    exits _ _ _ _ _ c.from_residual-in_err-asked.ensures.1 (unasked c.args.words.now (g.F.Files.contents c.args.files.now) (voices_of (λ b. (goal.Report-dyn g (b.vtable, b.value)).label b.value) (λ b. (goal.Report-dyn g (b.vtable, b.value)).text b.value) reports) _ _ _ c.items.result.now c.in_err-asked.field-0.0 names c.in_err-asked.ensures)
+    let voices = voices_of (λ b. (goal.Report-dyn g (b.vtable, b.value)).label b.value) (λ b. (goal.Report-dyn g (b.vtable, b.value)).text b.value) reports in
+    let names : c.items.result.now ≡ labels voices = c.items.ensures.items ∙ c.in_ok-names.ensures ∙ sym (labels_are (λ b. (goal.Report-dyn g (b.vtable, b.value)).label b.value) (λ b. (goal.Report-dyn g (b.vtable, b.value)).text b.value) reports) in
+    exits _ _ _ _ _ c.from_residual-in_err-asked.ensures.1 (unasked c.args.words.now (g.F.Files.contents c.args.files.now) voices _ _ _ c.items.result.now c.in_err-asked.field-0.0 names c.in_err-asked.ensures)
 
 pub returns-in_err-texts-clause-text : goal.returns-in_err-texts-clause-text
 returns-in_err-texts-clause-text g c =
     let reports = c.args.reports.now.items in
-    let names : c.items.result.now ≡ labels (voices_of (λ b. (goal.Report-dyn g (b.vtable, b.value)).label b.value) (λ b. (goal.Report-dyn g (b.vtable, b.value)).text b.value) reports) = c.items.ensures.items ∙ c.in_ok-names.ensures ∙ sym (labels_are (λ b. (goal.Report-dyn g (b.vtable, b.value)).label b.value) (λ b. (goal.Report-dyn g (b.vtable, b.value)).text b.value) reports) in
+    let voices = voices_of (λ b. (goal.Report-dyn g (b.vtable, b.value)).label b.value) (λ b. (goal.Report-dyn g (b.vtable, b.value)).text b.value) reports in
+    let names : c.items.result.now ≡ labels voices = c.items.ensures.items ∙ c.in_ok-names.ensures ∙ sym (labels_are (λ b. (goal.Report-dyn g (b.vtable, b.value)).label b.value) (λ b. (goal.Report-dyn g (b.vtable, b.value)).text b.value) reports) in
     let asked = request_shown c.in_ok-asked.asked in
     let given = subst (λ its. Passes (finds (IsRequest its c.args.words.now) Usage) asked) names c.in_ok-asked.ensures in
-    exits _ _ _ _ _ c.from_residual-in_err-texts.ensures.1 (unread c.args.words.now (g.F.Files.contents c.args.files.now) (voices_of (λ b. (goal.Report-dyn g (b.vtable, b.value)).label b.value) (λ b. (goal.Report-dyn g (b.vtable, b.value)).text b.value) reports) _ _ _ asked c.in_err-texts.field-0.0 given c.in_err-texts.ensures.meets)
+    exits _ _ _ _ _ c.from_residual-in_err-texts.ensures.1 (unread c.args.words.now (g.F.Files.contents c.args.files.now) voices _ _ _ asked c.in_err-texts.field-0.0 given c.in_err-texts.ensures.meets)
 
 pub returns-clause-text : goal.returns-clause-text
 returns-clause-text g c =
     let reports = c.args.reports.now.items in
-    let names : c.items.result.now ≡ labels (voices_of (λ b. (goal.Report-dyn g (b.vtable, b.value)).label b.value) (λ b. (goal.Report-dyn g (b.vtable, b.value)).text b.value) reports) = c.items.ensures.items ∙ c.in_ok-names.ensures ∙ sym (labels_are (λ b. (goal.Report-dyn g (b.vtable, b.value)).label b.value) (λ b. (goal.Report-dyn g (b.vtable, b.value)).text b.value) reports) in
+    let voices = voices_of (λ b. (goal.Report-dyn g (b.vtable, b.value)).label b.value) (λ b. (goal.Report-dyn g (b.vtable, b.value)).text b.value) reports in
+    let names : c.items.result.now ≡ labels voices = c.items.ensures.items ∙ c.in_ok-names.ensures ∙ sym (labels_are (λ b. (goal.Report-dyn g (b.vtable, b.value)).label b.value) (λ b. (goal.Report-dyn g (b.vtable, b.value)).text b.value) reports) in
     let asked = request_shown c.in_ok-asked.asked in
     let given = subst (λ its. Passes (finds (IsRequest its c.args.words.now) Usage) asked) names c.in_ok-asked.ensures in
-    answered c.args.words.now (g.F.Files.contents c.args.files.now) (voices_of (λ b. (goal.Report-dyn g (b.vtable, b.value)).label b.value) (λ b. (goal.Report-dyn g (b.vtable, b.value)).text b.value) reports) _ _ _ asked c.in_ok-texts.texts c.answer_in.result given c.in_ok-texts.ensures.meets c.answer_in.ensures.text
+    answered c.args.words.now (g.F.Files.contents c.args.files.now) voices _ _ _ asked c.in_ok-texts.texts c.answer_in.result given c.in_ok-texts.ensures.meets c.answer_in.ensures.text
 
 pub returns-clause-by_lines : goal.returns-clause-by_lines
 returns-clause-by_lines g c =
     let reports = c.args.reports.now.items in
-    let names : c.items.result.now ≡ labels (voices_of (λ b. (goal.Report-dyn g (b.vtable, b.value)).label b.value) (λ b. (goal.Report-dyn g (b.vtable, b.value)).text b.value) reports) = c.items.ensures.items ∙ c.in_ok-names.ensures ∙ sym (labels_are (λ b. (goal.Report-dyn g (b.vtable, b.value)).label b.value) (λ b. (goal.Report-dyn g (b.vtable, b.value)).text b.value) reports) in
+    let voices = voices_of (λ b. (goal.Report-dyn g (b.vtable, b.value)).label b.value) (λ b. (goal.Report-dyn g (b.vtable, b.value)).text b.value) reports in
+    let names : c.items.result.now ≡ labels voices = c.items.ensures.items ∙ c.in_ok-names.ensures ∙ sym (labels_are (λ b. (goal.Report-dyn g (b.vtable, b.value)).label b.value) (λ b. (goal.Report-dyn g (b.vtable, b.value)).text b.value) reports) in
     let asked = request_shown c.in_ok-asked.asked in
     let given = subst (λ its. Passes (finds (IsRequest its c.args.words.now) Usage) asked) names c.in_ok-asked.ensures in
-    lines_asked c.args.words.now (voices_of (λ b. (goal.Report-dyn g (b.vtable, b.value)).label b.value) (λ b. (goal.Report-dyn g (b.vtable, b.value)).text b.value) reports) asked c.answer_in.result given c.answer_in.ensures.by_lines
+    lines_asked c.args.words.now voices asked c.answer_in.result given c.answer_in.ensures.by_lines
 
 pub returns-clause-reports : goal.returns-clause-reports
 returns-clause-reports g c asked is =
     let reports = c.args.reports.now.items in
-    let names : c.items.result.now ≡ labels (voices_of (λ b. (goal.Report-dyn g (b.vtable, b.value)).label b.value) (λ b. (goal.Report-dyn g (b.vtable, b.value)).text b.value) reports) = c.items.ensures.items ∙ c.in_ok-names.ensures ∙ sym (labels_are (λ b. (goal.Report-dyn g (b.vtable, b.value)).label b.value) (λ b. (goal.Report-dyn g (b.vtable, b.value)).text b.value) reports) in
+    let voices = voices_of (λ b. (goal.Report-dyn g (b.vtable, b.value)).label b.value) (λ b. (goal.Report-dyn g (b.vtable, b.value)).text b.value) reports in
+    let names : c.items.result.now ≡ labels voices = c.items.ensures.items ∙ c.in_ok-names.ensures ∙ sym (labels_are (λ b. (goal.Report-dyn g (b.vtable, b.value)).label b.value) (λ b. (goal.Report-dyn g (b.vtable, b.value)).text b.value) reports) in
     let mine = request_shown c.in_ok-asked.asked in
     let given = subst (λ its. Passes (finds (IsRequest its c.args.words.now) Usage) mine) names c.in_ok-asked.ensures in
-    kept_as (IsKept (λ b. (goal.Report-dyn g (b.vtable, b.value)).text b.value) (λ b. (goal.Report-dyn g (b.vtable, b.value)).label b.value) (λ b. (goal.Report-dyn g (b.vtable, b.value)).report_faults b.value)) (labels (voices_of (λ b. (goal.Report-dyn g (b.vtable, b.value)).label b.value) (λ b. (goal.Report-dyn g (b.vtable, b.value)).text b.value) reports)) c.args.words.now mine asked reports c.answer_in.new.reports.items given c.answer_in.ensures.reports is
+    kept_as (IsKept (λ b. (goal.Report-dyn g (b.vtable, b.value)).text b.value) (λ b. (goal.Report-dyn g (b.vtable, b.value)).label b.value) (λ b. (goal.Report-dyn g (b.vtable, b.value)).report_faults b.value)) (labels voices) c.args.words.now mine asked reports c.answer_in.new.reports.items given c.answer_in.ensures.reports is
 
 pub returns-clause-no_reports : goal.returns-clause-no_reports
 returns-clause-no_reports g c none =
     let reports = c.args.reports.now.items in
-    let names : c.items.result.now ≡ labels (voices_of (λ b. (goal.Report-dyn g (b.vtable, b.value)).label b.value) (λ b. (goal.Report-dyn g (b.vtable, b.value)).text b.value) reports) = c.items.ensures.items ∙ c.in_ok-names.ensures ∙ sym (labels_are (λ b. (goal.Report-dyn g (b.vtable, b.value)).label b.value) (λ b. (goal.Report-dyn g (b.vtable, b.value)).text b.value) reports) in
+    let voices = voices_of (λ b. (goal.Report-dyn g (b.vtable, b.value)).label b.value) (λ b. (goal.Report-dyn g (b.vtable, b.value)).text b.value) reports in
+    let names : c.items.result.now ≡ labels voices = c.items.ensures.items ∙ c.in_ok-names.ensures ∙ sym (labels_are (λ b. (goal.Report-dyn g (b.vtable, b.value)).label b.value) (λ b. (goal.Report-dyn g (b.vtable, b.value)).text b.value) reports) in
     let asked = request_shown c.in_ok-asked.asked in
     absurd (none asked (subst (λ its. IsRequest its c.args.words.now asked) names c.in_ok-asked.ensures.passed))
 
 pub returns-clause-no_files : goal.returns-clause-no_files
 returns-clause-no_files g c none =
     let reports = c.args.reports.now.items in
-    let names : c.items.result.now ≡ labels (voices_of (λ b. (goal.Report-dyn g (b.vtable, b.value)).label b.value) (λ b. (goal.Report-dyn g (b.vtable, b.value)).text b.value) reports) = c.items.ensures.items ∙ c.in_ok-names.ensures ∙ sym (labels_are (λ b. (goal.Report-dyn g (b.vtable, b.value)).label b.value) (λ b. (goal.Report-dyn g (b.vtable, b.value)).text b.value) reports) in
+    let voices = voices_of (λ b. (goal.Report-dyn g (b.vtable, b.value)).label b.value) (λ b. (goal.Report-dyn g (b.vtable, b.value)).text b.value) reports in
+    let names : c.items.result.now ≡ labels voices = c.items.ensures.items ∙ c.in_ok-names.ensures ∙ sym (labels_are (λ b. (goal.Report-dyn g (b.vtable, b.value)).label b.value) (λ b. (goal.Report-dyn g (b.vtable, b.value)).text b.value) reports) in
     let asked = request_shown c.in_ok-asked.asked in
     absurd (none asked (subst (λ its. IsRequest its c.args.words.now asked) names c.in_ok-asked.ensures.passed))
 
 pub returns-in_err-texts-clause-no_files : goal.returns-in_err-texts-clause-no_files
 returns-in_err-texts-clause-no_files g c none =
     let reports = c.args.reports.now.items in
-    let names : c.items.result.now ≡ labels (voices_of (λ b. (goal.Report-dyn g (b.vtable, b.value)).label b.value) (λ b. (goal.Report-dyn g (b.vtable, b.value)).text b.value) reports) = c.items.ensures.items ∙ c.in_ok-names.ensures ∙ sym (labels_are (λ b. (goal.Report-dyn g (b.vtable, b.value)).label b.value) (λ b. (goal.Report-dyn g (b.vtable, b.value)).text b.value) reports) in
+    let voices = voices_of (λ b. (goal.Report-dyn g (b.vtable, b.value)).label b.value) (λ b. (goal.Report-dyn g (b.vtable, b.value)).text b.value) reports in
+    let names : c.items.result.now ≡ labels voices = c.items.ensures.items ∙ c.in_ok-names.ensures ∙ sym (labels_are (λ b. (goal.Report-dyn g (b.vtable, b.value)).label b.value) (λ b. (goal.Report-dyn g (b.vtable, b.value)).text b.value) reports) in
     let asked = request_shown c.in_ok-asked.asked in
     absurd (none asked (subst (λ its. IsRequest its c.args.words.now asked) names c.in_ok-asked.ensures.passed))
 
