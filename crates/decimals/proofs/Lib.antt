@@ -1,0 +1,5 @@
+pub mod Digits
+pub mod Rounded
+pub mod Products
+pub mod Sizes
+pub mod Left

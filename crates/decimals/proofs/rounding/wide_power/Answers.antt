@@ -1,0 +1,10 @@
+use Rattle.std.proofs.Common.{◌-◌, arith}
+use Rattle.decimals.proofs.Sizes.{wide, wide_most}
+use Rattle.decimals.proofs.rounding.wide_power.Goals as goal
+
+pub returns-clause-value : goal.returns-clause-value
+returns-clause-value c = rw (c.power.ensures, c.power-2.ensures) (wide c.args.count c.min-half.result (omega (arith, c.min-half.ensures)))
+
+pub returns-clause-most : goal.returns-clause-most
+returns-clause-most c =
+    rw (c.power.ensures, c.power-2.ensures) (wide_most c.min-half.result (c.args.count - c.min-half.result) (omega (arith, c.min-half.ensures)) (omega (arith, c.min-half.ensures, c.requires)))

@@ -1,0 +1,5 @@
+pub mod Sums
+pub mod Cases
+pub mod Steps
+pub mod Growing
+pub mod Bounding

@@ -1,0 +1,7 @@
+//! Bounds of the probability of a family of sets of events: at least and at most how often the events that occur contain one
+//! of its sets, where the events are independent.
+#![tactic(auto)]
+
+mod laws;
+
+pub use laws::{all_outcomes, by_cases, ends, grows, lower_step, upper_step};
