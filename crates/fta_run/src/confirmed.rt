@@ -19,6 +19,9 @@ use system_answers::confirmed;
 
 /// That the first text is a derivation of a target under the set of events that has this text, in the model of the root in files of the
 /// other texts.
+///
+/// It stands apart in the program: the test of steps keeps its marks on the stack, and no other command is to pay for that.
+#[inline(never)]
 pub fn confirmation(
     alloc: Global,
     root: &Root,
