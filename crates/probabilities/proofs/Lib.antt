@@ -1,5 +1,6 @@
 pub mod Sums
 pub mod Cases
-pub mod Steps
+pub mod OneStep
 pub mod Growing
 pub mod Bounding
+pub mod Deciding

@@ -1,3 +1,4 @@
 pub mod Weights
 pub mod Rates
 pub mod Bounded
+pub mod Decided

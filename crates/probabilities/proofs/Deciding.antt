@@ -1,0 +1,83 @@
+-- The bounds of the families of a store, as it grows.
+use Rattle.std.proofs.Common.{◌≡◌, ℕ, ◌+◌, ◌<◌, ◌≤◌, Bool, true, false, ◌&&◌, ◌||◌, List, length, Option, Some, refl, sym, ap, ◌∙◌, subst, arith}
+use Rattle.std.specs.Prelude.{slice_get}
+use Rattle.zdd_store.specs.inner.Family.{Family, least_number, has, covers}
+use Rattle.zdd_store.specs.inner.Store.{Families, IsIn, family_of, family_with, Fits, Keeps}
+use Rattle.zdd_store.specs.inner.Answers.{IsLeastFamily}
+use Rattle.zdd_store.specs.declared.id.Id.{Id}
+use Rattle.zdd_store.specs.declared.id.Node.{Node}
+use Rattle.zdd_families.specs.inner.Steps.{either}
+use Rattle.zdd_families.proofs.Booleans.{or_left}
+use Rattle.zdd_families.proofs.Covers.{covers-branch}
+use Rattle.zdd_families.proofs.Above.{above, covers-above, least-bound, least_number-most}
+use Rattle.zdd_families.proofs.Pairs.{found_kept}
+use Rattle.probabilities.specs.inner.Rates.{Rates}
+use Rattle.probabilities.specs.inner.Bounded.{AreParts}
+use Rattle.probabilities.specs.inner.Decided.{AreBoundsOf, IsStep, IsBounded, IsBoundedAt, KnowsBounds}
+use Rattle.probabilities.specs.declared.rates.Bounds.{Bounds}
+use Rattle.probabilities.specs.declared.rates.Rate.{Rate}
+
+-- bounds stay bounds
+pub at_kept : (whole : ℕ) (list : List Rate) (before after : Families) (id : Id) (bounds : Bounds) → Keeps before after → IsBoundedAt whole list before id bounds → IsBoundedAt whole list after id bounds
+at_kept whole list before after id bounds kept at =
+    record { found = found_kept before after id kept at.found; right = subst (λ f. IsBounded whole list f bounds) (sym (kept.same id.position at.found)) at.right }
+
+pub knows_kept : (whole : ℕ) (list : List Rate) (before after : Families) (known : Id → Option Bounds) → Keeps before after → KnowsBounds whole list before known → KnowsBounds whole list after known
+knows_kept whole list before after known kept right = λ id bounds e. at_kept whole list before after id bounds kept (right id bounds e)
+
+pub bounded_before : (whole : ℕ) (list : List Rate) (before after : Families) (id : Id) (bounds : Bounds) → Keeps before after → IsIn before id → IsBounded whole list (family_of after id) bounds → IsBounded whole list (family_of before id) bounds
+bounded_before whole list before after id bounds kept here right = subst (λ f. IsBounded whole list f bounds) (kept.same id.position here) right
+
+parts_bits : (h l r : Bool) → (l || (h && r)) ≡ (l || (h && (l || r)))
+parts_bits h true r = refl
+parts_bits h false r = refl
+
+-- what the family of a node covers with its variable is the union of the families below it
+node_parts : (before after : Families) (id with : Id) (node : Node) → Fits before node → family_of before id ≡ family_with before node
+    → IsLeastFamily (either (family_of before node.lo) (family_of before node.hi)) (family_of after with) → AreParts (family_of before id) node.var (family_of before node.lo) (family_of after with)
+node_parts before after id with node fits is least =
+    let lo = family_of before node.lo in
+    let hi = family_of before node.hi in
+    let low : node.var + 1 ≤ least_number lo = omega (arith, fits.lo_greater) in
+    let high : node.var + 1 ≤ least_number hi = omega (arith, fits.hi_greater) in
+    let most : node.var + 1 ≤ 4294967296 = omega (arith, least_number-most lo) in
+    let bound = least-bound (node.var + 1) (either lo hi) (family_of after with) most
+    (λ set. ap (λ t. t || covers hi (above (node.var + 1) set)) (covers-above (node.var + 1) lo set low) ∙ ap (λ t. covers lo set || t) (covers-above (node.var + 1) hi set high)) least in
+    record {
+      lo_greater = fits.lo_greater;
+      hi_greater = omega (arith, bound);
+      covering = λ set.
+          ap (λ f. covers f set) is ∙ covers-branch node.var lo hi set ∙ parts_bits (has set node.var) (covers lo set) (covers hi set)
+          ∙ ap (λ c. covers lo set || (has set node.var && c)) (sym (least.covering set));
+      rises = λ set h. least.covering set ∙ or_left (covers lo set) (covers hi set) h;
+    }
+
+-- it begins after the variable, also in a store that grew
+pub node_above : (before after later : Families) (id with : Id) (node : Node) → Fits before node → family_of before id ≡ family_with before node
+    → IsLeastFamily (either (family_of before node.lo) (family_of before node.hi)) (family_of after with) → Keeps after later → IsIn after with → node.var < least_number (family_of later with)
+node_above before after later id with node fits is least kept here =
+    subst (λ f. node.var < least_number f) (sym (kept.same with.position here)) (node_parts before after id with node fits is least).hi_greater
+
+-- the bounds that are made of those of the parts
+pub node_bounded : (whole : ℕ) (list : List Rate) (s0 s1 s2 s3 : Families) (id with : Id) (node : Node) (rate : Rate) (lo hi result : Bounds)
+    → IsIn s0 id → Fits s0 node → family_of s0 id ≡ family_with s0 node → least_number (family_of s0 id) ≡ node.var → Keeps s0 s1 → Keeps s1 s2 → Keeps s0 s3
+    → slice_get list node.var ≡ Some rate → node.var < length list
+    → IsIn s1 with → IsLeastFamily (either (family_of s0 node.lo) (family_of s0 node.hi)) (family_of s1 with)
+    → IsBounded whole list (family_of s1 node.lo) lo → IsBounded whole list (family_of s2 with) hi
+    → ((rates : Rates) (end event : ℕ) (family low high : Family) → IsStep whole rate lo hi rates end event family low high → AreBoundsOf whole rates end family result)
+    → IsBoundedAt whole list s3 id result
+node_bounded whole list s0 s1 s2 s3 id with node rate lo hi result here fits is top k1 k2 k3 rated inside with_in least low high step =
+    record {
+      found = found_kept s0 s3 id k3 here;
+      right = subst (λ f. IsBounded whole list f result) (sym (k3.same id.position here))
+          (λ rates right all. step rates (length list) node.var (family_of s0 id) (family_of s0 node.lo) (family_of s1 with)
+          record {
+            right = right;
+            rated = all node.var rate rated;
+            inside = inside;
+            top = top;
+            parts = node_parts s0 s1 id with node fits is least;
+            lo_bounds = bounded_before whole list s0 s1 node.lo lo k1 fits.lo_in low rates right all;
+            hi_bounds = bounded_before whole list s1 s2 with hi k2 with_in high rates right all;
+          });
+    }

@@ -1,0 +1,56 @@
+-- Decimals that bound the probability of a family of a store.
+use Rattle.std.specs.Prelude.{ℕ, ◌^◌, ◌<◌, ◌≡◌, List, length, slice_get, Option, Some, Result, IfOk, IfSome}
+use Rattle.std.specs.declared.alloc.AllocError.{AllocError}
+use Rattle.decimals.specs.inner.Decimals.{parts}
+use Rattle.zdd_store.specs.inner.Family.{Family, least_number}
+use Rattle.zdd_store.specs.inner.Store.{Families, IsIn, family_of, Keeps}
+use Rattle.zdd_store.specs.declared.id.Id.{Id}
+use Rattle.probabilities.specs.declared.rates.Bounds.{Bounds}
+use Rattle.probabilities.specs.declared.rates.Rate.{Rate}
+use Rattle.probabilities.specs.inner.Rates.{Rates, AreRates}
+use Rattle.probabilities.specs.inner.Bounded.{AreParts, IsLowerBound, IsUpperBound}
+
+-- the two decimals bound the probability of a family
+pub record AreBoundsOf (whole : ℕ) (rates : Rates) (end : ℕ) (family : Family) (bounds : Bounds) : Type 0 where
+  pub lower : IsLowerBound (10 ^ whole) rates end family (parts bounds.lower)
+  pub upper : IsUpperBound (10 ^ whole) rates end family (parts bounds.upper)
+
+-- the rate of an event, in decimals
+pub record IsRateOf (rates : Rates) (event : ℕ) (rate : Rate) : Type 0 where
+  pub low : rates.low event ≡ parts rate.low
+  pub high : rates.high event ≡ parts rate.high
+  pub low_not : rates.low_not event ≡ parts rate.low_not
+  pub high_not : rates.high_not event ≡ parts rate.high_not
+
+-- the list has the rates of the events, by their numbers
+abbrev pub AreRated : List Rate → Rates → Type 0
+AreRated list rates = (event : ℕ) (rate : Rate) → slice_get list event ≡ Some rate → IsRateOf rates event rate
+
+-- a family has these parts at its first event, and the parts have these bounds
+pub record IsStep (whole : ℕ) (rate : Rate) (lo hi : Bounds) (rates : Rates) (end event : ℕ) (family low high : Family) : Type 0 where
+  pub right : AreRates (10 ^ whole) rates
+  pub rated : IsRateOf rates event rate
+  pub inside : event < end
+  pub top : least_number family ≡ event
+  pub parts : AreParts family event low high
+  pub lo_bounds : AreBoundsOf whole rates end low lo
+  pub hi_bounds : AreBoundsOf whole rates end high hi
+
+-- the two decimals bound the probability of a family, whatever the events' probabilities are that have the rates of the list
+abbrev pub IsBounded : ℕ → List Rate → Family → Bounds → Type 0
+IsBounded whole list family bounds =
+    (rates : Rates) → AreRates (10 ^ whole) rates → AreRated list rates → AreBoundsOf whole rates (length list) family bounds
+
+-- they bound that of the family of a number
+pub record IsBoundedAt (whole : ℕ) (list : List Rate) (store : Families) (id : Id) (bounds : Bounds) : Type 0 where
+  pub found : IsIn store id
+  pub right : IsBounded whole list (family_of store id) bounds
+
+-- the bounds that are known are right
+abbrev pub KnowsBounds : ℕ → List Rate → Families → (Id → Option Bounds) → Type 0
+KnowsBounds whole list store known = (id : Id) (bounds : Bounds) → known id ≡ Some bounds → IsBoundedAt whole list store id bounds
+
+-- each number keeps its family, and where memory sufficed and it was not given up the bounds are right
+pub record Bounded (whole : ℕ) (list : List Rate) (before after : Families) (id : Id) (result : Result (Option Bounds) AllocError) : Type 0 where
+  pub kept : Keeps before after
+  pub bounds : IfOk result (λ found. IfSome found (IsBounded whole list (family_of before id)))
