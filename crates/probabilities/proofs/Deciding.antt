@@ -1,6 +1,7 @@
 -- The bounds of the families of a store, as it grows.
-use Rattle.std.proofs.Common.{◌≡◌, ℕ, ◌+◌, ◌<◌, ◌≤◌, Bool, true, false, ◌&&◌, ◌||◌, List, length, Option, Some, refl, sym, ap, ◌∙◌, subst, arith}
-use Rattle.std.specs.Prelude.{slice_get}
+use Rattle.std.proofs.Common.{◌≡◌, ℕ, ◌+◌, ◌^◌, ◌<◌, ◌≤◌, Bool, true, false, ◌&&◌, ◌||◌, List, length, Option, None, Some, Result, Ok, Err, refl, sym, ap, ◌∙◌, subst, arith}
+use Rattle.std.specs.Prelude.{slice_get, IfSome, IfOk}
+use Rattle.std.specs.declared.alloc.AllocError.{AllocError}
 use Rattle.zdd_store.specs.inner.Family.{Family, least_number, has, covers}
 use Rattle.zdd_store.specs.inner.Store.{Families, IsIn, family_of, family_with, Fits, Keeps}
 use Rattle.zdd_store.specs.inner.Answers.{IsLeastFamily}
@@ -11,9 +12,9 @@ use Rattle.zdd_families.proofs.Booleans.{or_left}
 use Rattle.zdd_families.proofs.Covers.{covers-branch}
 use Rattle.zdd_families.proofs.Above.{above, covers-above, least-bound, least_number-most}
 use Rattle.zdd_families.proofs.Pairs.{found_kept}
-use Rattle.probabilities.specs.inner.Rates.{Rates}
+use Rattle.probabilities.specs.inner.Rates.{Rates, AreRates}
 use Rattle.probabilities.specs.inner.Bounded.{AreParts}
-use Rattle.probabilities.specs.inner.Decided.{AreBoundsOf, IsStep, IsBounded, IsBoundedAt, KnowsBounds}
+use Rattle.probabilities.specs.inner.Decided.{AreBoundsOf, IsStep, AreRated, IsBounded, IsBoundedAt, KnowsBounds, FitsWhole, FitWhole, rates_of, low_of, high_of, low_not_of, high_not_of}
 use Rattle.probabilities.specs.declared.rates.Bounds.{Bounds}
 use Rattle.probabilities.specs.declared.rates.Rate.{Rate}
 
@@ -81,3 +82,26 @@ node_bounded whole list s0 s1 s2 s3 id with node rate lo hi result here fits is 
             hi_bounds = bounded_before whole list s1 s2 with hi k2 with_in high rates right all;
           });
     }
+
+-- a list of rates that fit says what fits
+pub rates_right : (whole : ℕ) (list : List Rate) → FitWhole whole list → AreRates (10 ^ whole) (rates_of whole list)
+rates_right whole list fit = record { least = λ e. low (slice_get list e) (fit e); most = λ e. high (slice_get list e) (fit e) }
+  where
+    low : (found : Option Rate) → ((rate : Rate) → found ≡ Some rate → FitsWhole whole rate) → low_not_of found + low_of found ≤ 10 ^ whole
+    low None each = omega arith
+    low (Some rate) each = (each rate refl).least
+
+    high : (found : Option Rate) → ((rate : Rate) → found ≡ Some rate → FitsWhole whole rate) → 10 ^ whole ≤ high_not_of whole found + high_of whole found
+    high None each = omega arith
+    high (Some rate) each = (each rate refl).most
+
+pub rates_rated : (whole : ℕ) (list : List Rate) → AreRated list (rates_of whole list)
+rates_rated whole list event rate is =
+    record { low = ap low_of is; high = ap (high_of whole) is; low_not = ap low_not_of is; high_not = ap (high_not_of whole) is }
+
+-- so bounds for all that have the rates of the list are bounds for what it says
+pub bounded_list : (whole : ℕ) (list : List Rate) (family : Family) (result : Result (Option Bounds) AllocError) → FitWhole whole list → IfOk result (λ found. IfSome found (IsBounded whole list family))
+    → IfOk result (λ found. IfSome found (AreBoundsOf whole (rates_of whole list) (length list) family))
+bounded_list whole list family (Err none) fit right = right
+bounded_list whole list family (Ok None) fit right = right
+bounded_list whole list family (Ok (Some bounds)) fit right = right (rates_of whole list) (rates_right whole list fit) (rates_rated whole list)

@@ -1,9 +1,9 @@
 //! The bounds of the probability of a family of a store.
 
-ghost use Rattle.std.specs.Prelude.{◌≡◌, ◌<◌, IfOk, IfSome};
+ghost use Rattle.std.specs.Prelude.{◌≡◌, ◌<◌, IfOk, IfSome, length};
 ghost use Rattle.std.specs.HashMap.{get};
 ghost use Rattle.zdd_store.specs.inner.Store.{IsIn, Keeps, family_of};
-ghost use Rattle.probabilities.specs.inner.Decided.{IsBounded, IsBoundedAt, KnowsBounds, Bounded};
+ghost use Rattle.probabilities.specs.inner.Decided.{IsBoundedAt, KnowsBounds, Bounded, AreBoundsOf, FitWhole, rates_of};
 
 use crate::rates::{Bounds, Rate};
 use crate::steps::{any_bounds, end_bounds, family_step, rate_of};
@@ -102,8 +102,9 @@ pub fn family_bounds(
     most: usize,
     id: Id,
 ) -> Mem<Option<Bounds>>
-    requires { IsIn store.old id }
-    ensures bounds { IfOk result (λ found. IfSome found (IsBounded whole rates.now (family_of store.old id))) }
+    requires id_in { IsIn store.old id }
+    requires rates { FitWhole whole rates.now }
+    ensures bounds { IfOk result (λ found. IfSome found (AreBoundsOf whole (rates_of whole rates.now) (length rates.now) (family_of store.old id))) }
     ensures kept { Keeps store.old store.new }
 {
     let mut known = HashMap::new(alloc);

@@ -1,5 +1,9 @@
 //! Bounds of the probabilities of events and of families, as decimals.
 
+ghost use Rattle.std.specs.Prelude.{◌≤◌, ◌≡◌, ◌^◌, ◌+◌, ◌-◌};
+ghost use Rattle.decimals.specs.inner.Decimals.{parts, IsNear};
+ghost use Rattle.probabilities.specs.inner.Decided.{FitsWhole};
+
 use decimals::Decimal;
 
 /// The bounds of an event's probability, and of its absence, in parts of the whole.
@@ -16,4 +20,46 @@ pub struct Rate {
 pub struct Bounds {
     pub lower: Decimal,
     pub upper: Decimal,
+}
+
+impl Rate {
+    /// The rate of an event whose probability lies between these two.
+    pub fn between(low: Decimal, high: Decimal, whole: u32) -> Rate
+        requires low { parts low ≤ 10 ^ whole }
+        requires high { parts high ≤ 10 ^ whole }
+        ensures low { result.low ≡ low }
+        ensures high { result.high ≡ high }
+        ensures fits { FitsWhole whole result }
+        ensures low_near { IsNear (10 ^ whole - parts low) (parts result.low_not) }
+        ensures high_near { IsNear (parts result.high_not) (10 ^ whole - parts high) }
+    {
+        Rate {
+            low,
+            high,
+            low_not: low.rest_down(whole),
+            high_not: high.rest_up(whole),
+        }
+    }
+
+    /// The rate of an event of which nothing is known.
+    pub fn unknown(whole: u32) -> Rate
+        ensures low { parts result.low ≡ 0 }
+        ensures high { parts result.high ≡ 10 ^ whole }
+        ensures fits { FitsWhole whole result }
+    {
+        let never = Decimal {
+            mantissa: 0,
+            exponent: 0,
+        };
+        let always = Decimal {
+            mantissa: 1,
+            exponent: whole,
+        };
+        Rate {
+            low: never,
+            high: always,
+            low_not: always,
+            high_not: never,
+        }
+    }
 }
