@@ -164,15 +164,3 @@ pub upper-full : (s : ℕ) (r : Rates) (end z : ℕ) → s ≤ z → IsUpperBoun
 upper-full s r end z le d m count first within ends start =
     let h : s * d ^ count ≤ z * d ^ count = mul-le-mul_right (d ^ count) le in
     rw (full-family d m count first within.part) (omega arith)
-
--- what is so of every family
-pub lower-any : (s : ℕ) (r : Rates) (end : ℕ) (family : Family) → IsLowerBound s r end family 0
-lower-any s r end family d m count first within ends start = omega arith
-
-pub upper-any : (s : ℕ) (r : Rates) (end : ℕ) (family : Family) (z : ℕ) → s ≤ z → IsUpperBound s r end family z
-upper-any s r end family z le d m count first within ends start =
-    let a : weight d m (numbers count first) (covers family) ≤ weight d m (numbers count first) (λ set. true) = weight-le d m (numbers count first) (covers family) (λ set. true) (λ set h. refl) in
-    let b = weight-full d m count first within.part in
-    let h : weight d m (numbers count first) (covers family) * s ≤ d ^ count * s = mul-le-mul_right s (omega arith) in
-    let k : s * d ^ count ≤ z * d ^ count = mul-le-mul_right (d ^ count) le in
-    omega arith

@@ -1,5 +1,5 @@
 -- The bounds of the families of a store, as it grows.
-use Rattle.std.proofs.Common.{◌≡◌, ℕ, ◌+◌, ◌^◌, ◌<◌, ◌≤◌, Bool, true, false, ◌&&◌, ◌||◌, List, length, Option, None, Some, Result, Ok, Err, refl, sym, ap, ◌∙◌, subst, arith}
+use Rattle.std.proofs.Common.{◌≡◌, ℕ, ◌+◌, ◌-◌, ◌*◌, ◌^◌, ◌<◌, ◌≤◌, Bool, true, false, ◌&&◌, ◌||◌, List, length, Option, None, Some, Result, Ok, Err, refl, sym, ap, ◌∙◌, subst, arith}
 use Rattle.std.specs.Prelude.{slice_get, IfSome, IfOk}
 use Rattle.std.specs.declared.alloc.AllocError.{AllocError}
 use Rattle.zdd_store.specs.inner.Family.{Family, least_number, has, covers}
@@ -14,7 +14,12 @@ use Rattle.zdd_families.proofs.Above.{above, covers-above, least-bound, least_nu
 use Rattle.zdd_families.proofs.Pairs.{found_kept}
 use Rattle.probabilities.specs.inner.Rates.{Rates, AreRates}
 use Rattle.probabilities.specs.inner.Bounded.{AreParts}
-use Rattle.probabilities.specs.inner.Decided.{AreBoundsOf, IsStep, AreRated, IsBounded, IsBoundedAt, KnowsBounds, FitsWhole, FitWhole, rates_of, low_of, high_of, low_not_of, high_not_of}
+use Rattle.probabilities.specs.inner.Decided.{AreBoundsOf, IsStep, AreRated, FitsWhole, FitWhole, rates_of, low_of, high_of, low_not_of, high_not_of}
+use Rattle.probabilities.specs.inner.Widths.{AreNarrow, IsNarrowRate, IsNarrowed}
+use Rattle.probabilities.specs.inner.Remembered.{IsBounded, IsBoundedAt, KnowsBounds}
+use Rattle.decimals.specs.inner.Decimals.{parts}
+use Rattle.std.proofs.Math.Nat.{mul-le-mul_left}
+use Rattle.probabilities.proofs.Nearness.{near_more, more_places}
 use Rattle.probabilities.specs.declared.rates.Bounds.{Bounds}
 use Rattle.probabilities.specs.declared.rates.Rate.{Rate}
 
@@ -59,6 +64,31 @@ pub node_above : (before after later : Families) (id with : Id) (node : Node) �
 node_above before after later id with node fits is least kept here =
     subst (λ f. node.var < least_number f) (sym (kept.same with.position here)) (node_parts before after id with node fits is least).hi_greater
 
+-- narrow bounds are narrow over more events
+widen : (whole places n m : ℕ) (bounds : Bounds) → n ≤ m → AreNarrow whole places n bounds → AreNarrow whole places m bounds
+widen whole places n m bounds le narrow =
+    let more : places * n ≤ places * m = mul-le-mul_left places le in
+    record {
+      within = narrow.within;
+      lower_places = more_places whole (places * n) (places * m) bounds.lower.mantissa bounds.lower.exponent more narrow.lower_places;
+      upper_places = more_places whole (places * n) (places * m) bounds.upper.mantissa bounds.upper.exponent more narrow.upper_places;
+      near = near_more (6 * n) (6 * m) (parts bounds.upper) (parts bounds.lower) (omega arith) narrow.near;
+    }
+
+-- the bounds that are made of narrow ones of the parts
+made_narrow : (whole : ℕ) (list : List Rate) (family low high : Family) (event : ℕ) (rate : Rate) (lo hi result : Bounds) → slice_get list event ≡ Some rate → event < length list
+    → least_number family ≡ event → event < least_number low → event < least_number high → IsNarrowed whole list low lo → IsNarrowed whole list high hi
+    → ((places count : ℕ) → IsNarrowRate whole places rate → AreNarrow whole places count lo → AreNarrow whole places count hi → places + places * count ≤ whole → AreNarrow whole places (count + 1) result)
+    → IsNarrowed whole list family result
+made_narrow whole list family low high event rate lo hi result rated inside top low_greater high_greater first second step places narrow fit =
+    let count = length list - (event + 1) in
+    let all : places * (count + 1) ≤ places * length list = mul-le-mul_left places (omega arith) in
+    let same : count + 1 ≡ length list - least_number family = omega arith in
+    let made = step places count (narrow event rate rated)
+    (widen whole places (length list - least_number low) count lo (omega arith) (first places narrow fit))
+    (widen whole places (length list - least_number high) count hi (omega arith) (second places narrow fit)) (omega arith) in
+    subst (λ k. AreNarrow whole places k result) same made
+
 -- the bounds that are made of those of the parts
 pub node_bounded : (whole : ℕ) (list : List Rate) (s0 s1 s2 s3 : Families) (id with : Id) (node : Node) (rate : Rate) (lo hi result : Bounds)
     → IsIn s0 id → Fits s0 node → family_of s0 id ≡ family_with s0 node → least_number (family_of s0 id) ≡ node.var → Keeps s0 s1 → Keeps s1 s2 → Keeps s0 s3
@@ -66,21 +96,28 @@ pub node_bounded : (whole : ℕ) (list : List Rate) (s0 s1 s2 s3 : Families) (id
     → IsIn s1 with → IsLeastFamily (either (family_of s0 node.lo) (family_of s0 node.hi)) (family_of s1 with)
     → IsBounded whole list (family_of s1 node.lo) lo → IsBounded whole list (family_of s2 with) hi
     → ((rates : Rates) (end event : ℕ) (family low high : Family) → IsStep whole rate lo hi rates end event family low high → AreBoundsOf whole rates end family result)
+    → ((places count : ℕ) → IsNarrowRate whole places rate → AreNarrow whole places count lo → AreNarrow whole places count hi → places + places * count ≤ whole → AreNarrow whole places (count + 1) result)
     → IsBoundedAt whole list s3 id result
-node_bounded whole list s0 s1 s2 s3 id with node rate lo hi result here fits is top k1 k2 k3 rated inside with_in least low high step =
+node_bounded whole list s0 s1 s2 s3 id with node rate lo hi result here fits is top k1 k2 k3 rated inside with_in least low high step narrow =
+    let first = bounded_before whole list s0 s1 node.lo lo k1 fits.lo_in low in
+    let second = bounded_before whole list s1 s2 with hi k2 with_in high in
+    let are = node_parts s0 s1 id with node fits is least in
     record {
       found = found_kept s0 s3 id k3 here;
       right = subst (λ f. IsBounded whole list f result) (sym (k3.same id.position here))
-          (λ rates right all. step rates (length list) node.var (family_of s0 id) (family_of s0 node.lo) (family_of s1 with)
           record {
-            right = right;
-            rated = all node.var rate rated;
-            inside = inside;
-            top = top;
-            parts = node_parts s0 s1 id with node fits is least;
-            lo_bounds = bounded_before whole list s0 s1 node.lo lo k1 fits.lo_in low rates right all;
-            hi_bounds = bounded_before whole list s1 s2 with hi k2 with_in high rates right all;
-          });
+            all = λ rates right all. step rates (length list) node.var (family_of s0 id) (family_of s0 node.lo) (family_of s1 with)
+                record {
+                  right = right;
+                  rated = all node.var rate rated;
+                  inside = inside;
+                  top = top;
+                  parts = are;
+                  lo_bounds = first.all rates right all;
+                  hi_bounds = second.all rates right all;
+                };
+            narrow = made_narrow whole list (family_of s0 id) (family_of s0 node.lo) (family_of s1 with) node.var rate lo hi result rated inside top are.lo_greater are.hi_greater first.narrow second.narrow narrow;
+          };
     }
 
 -- a list of rates that fit says what fits
@@ -104,4 +141,10 @@ pub bounded_list : (whole : ℕ) (list : List Rate) (family : Family) (result : 
     → IfOk result (λ found. IfSome found (AreBoundsOf whole (rates_of whole list) (length list) family))
 bounded_list whole list family (Err none) fit right = right
 bounded_list whole list family (Ok None) fit right = right
-bounded_list whole list family (Ok (Some bounds)) fit right = right (rates_of whole list) (rates_right whole list fit) (rates_rated whole list)
+bounded_list whole list family (Ok (Some bounds)) fit right = right.all (rates_of whole list) (rates_right whole list fit) (rates_rated whole list)
+
+pub narrow_list : (whole : ℕ) (list : List Rate) (family : Family) (result : Result (Option Bounds) AllocError) → IfOk result (λ found. IfSome found (IsBounded whole list family))
+    → IfOk result (λ found. IfSome found (IsNarrowed whole list family))
+narrow_list whole list family (Err none) right = right
+narrow_list whole list family (Ok None) right = right
+narrow_list whole list family (Ok (Some bounds)) right = right.narrow

@@ -3,4 +3,5 @@ pub mod Cases
 pub mod OneStep
 pub mod Growing
 pub mod Bounding
+pub mod Nearness
 pub mod Deciding

@@ -2,3 +2,5 @@ pub mod Weights
 pub mod Rates
 pub mod Bounded
 pub mod Decided
+pub mod Widths
+pub mod Remembered

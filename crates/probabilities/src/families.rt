@@ -3,10 +3,12 @@
 ghost use Rattle.std.specs.Prelude.{◌≡◌, ◌<◌, IfOk, IfSome, length};
 ghost use Rattle.std.specs.HashMap.{get};
 ghost use Rattle.zdd_store.specs.inner.Store.{IsIn, Keeps, family_of};
-ghost use Rattle.probabilities.specs.inner.Decided.{IsBoundedAt, KnowsBounds, Bounded, AreBoundsOf, FitWhole, rates_of};
+ghost use Rattle.probabilities.specs.inner.Decided.{AreBoundsOf, FitWhole, rates_of};
+ghost use Rattle.probabilities.specs.inner.Widths.{IsNarrowed};
+ghost use Rattle.probabilities.specs.inner.Remembered.{IsBoundedAt, KnowsBounds, Bounded};
 
 use crate::rates::{Bounds, Rate};
-use crate::steps::{any_bounds, end_bounds, family_step, rate_of};
+use crate::steps::{end_bounds, family_step, rate_of};
 use plain_values::Mem;
 use std::alloc::Global;
 use std::collections::HashMap;
@@ -47,7 +49,7 @@ fn note_bounds(
 }
 
 /// The bounds of a family; those of what it covers without its first event and with it come first. None where more families
-/// come up than there may be.
+/// come up than there may be, or an event has no rate.
 fn bounds_in(
     store: &mut Store,
     rates: &[Rate],
@@ -69,7 +71,7 @@ fn bounds_in(
         return Ok(Some(bounds));
     }
     let Some(rate) = rate_of(rates, node.var) else {
-        return Ok(Some(any_bounds(whole)));
+        return Ok(None);
     };
     if known.len() >= most {
         return Ok(None);
@@ -92,8 +94,9 @@ fn bounds_in(
 }
 
 /// The bounds of the probability that the events which occur contain a set of the family, where they are independent, from
-/// the bounds of each event by its number. It is given up (None) where more than `most` families come up on the way. Of an event
-/// without a rate nothing is known, and so of the families that begin with it. It goes as deep as there are events.
+/// the rate of each event by its number. None where it is given up, since more than `most` families come up on the way, or where
+/// an event of the family has no rate (`Rate::unknown` is one). The whole has `whole` zeros. It goes as deep as there are
+/// events.
 pub fn family_bounds(
     alloc: Global,
     store: &mut Store,
@@ -105,6 +108,7 @@ pub fn family_bounds(
     requires id_in { IsIn store.old id }
     requires rates { FitWhole whole rates.now }
     ensures bounds { IfOk result (λ found. IfSome found (AreBoundsOf whole (rates_of whole rates.now) (length rates.now) (family_of store.old id))) }
+    ensures narrow { IfOk result (λ found. IfSome found (IsNarrowed whole rates.now (family_of store.old id))) }
     ensures kept { Keeps store.old store.new }
 {
     let mut known = HashMap::new(alloc);

@@ -1,11 +1,13 @@
 //! The step from the bounds of a family's parts to those of the family.
 
 ghost use Rattle.std.specs.Prelude.{◌≤◌, ◌<◌, ◌≡◌, ◌*◌, ◌+◌, ◌^◌, min, ℕ, IfSome, slice_get, length};
-ghost use Rattle.decimals.specs.inner.Decimals.{parts};
+ghost use Rattle.decimals.specs.inner.Decimals.{parts, HasPlaces};
 ghost use Rattle.zdd_store.specs.inner.Family.{Family};
 ghost use Rattle.zdd_store.specs.inner.Store.{IsIn, family_of, IsSound};
 ghost use Rattle.probabilities.specs.inner.Rates.{Rates};
-ghost use Rattle.probabilities.specs.inner.Decided.{AreBoundsOf, IsStep, IsBounded};
+ghost use Rattle.probabilities.specs.inner.Decided.{AreBoundsOf, IsStep};
+ghost use Rattle.probabilities.specs.inner.Widths.{AreNarrow, IsNarrowRate, IsNearBelow, IsNearAbove};
+ghost use Rattle.probabilities.specs.inner.Remembered.{IsBounded};
 
 use crate::rates::{Bounds, Rate};
 use decimals::Decimal;
@@ -13,7 +15,10 @@ use zdd_store::{Id, Store};
 
 /// A lower bound of a family, from those of its first event, of the event's absence and of its parts.
 fn lower_step(rate: Rate, lo: Decimal, hi: Decimal, whole: u32) -> Decimal
-    ensures { 10 ^ whole * parts result ≤ parts rate.low_not * parts lo + parts rate.low * parts hi }
+    ensures down { 10 ^ whole * parts result ≤ parts rate.low_not * parts lo + parts rate.low * parts hi }
+    ensures near { (p q : ℕ) → HasPlaces whole p rate.low_not → HasPlaces whole p rate.low → HasPlaces whole q lo → HasPlaces whole q hi → p + q ≤ whole
+        → parts rate.low_not + parts rate.low ≤ 10 ^ whole → parts lo ≤ 10 ^ whole → parts hi ≤ 10 ^ whole
+        → IsNearBelow whole (p + q) (parts rate.low_not * parts lo + parts rate.low * parts hi) result }
 {
     let without = rate.low_not.times_down(lo, whole);
     let with = rate.low.times_down(hi, whole);
@@ -22,7 +27,9 @@ fn lower_step(rate: Rate, lo: Decimal, hi: Decimal, whole: u32) -> Decimal
 
 /// An upper bound of a family, from those of its first event, of the event's absence and of its parts.
 fn upper_step(rate: Rate, lo: Decimal, hi: Decimal, whole: u32) -> Decimal
-    ensures { min (10 ^ whole * 10 ^ whole) (parts rate.high_not * parts lo + parts rate.high * parts hi) ≤ 10 ^ whole * parts result }
+    ensures up { min (10 ^ whole * 10 ^ whole) (parts rate.high_not * parts lo + parts rate.high * parts hi) ≤ 10 ^ whole * parts result }
+    ensures near { (p q : ℕ) → HasPlaces whole p rate.high_not → HasPlaces whole p rate.high → HasPlaces whole q lo → HasPlaces whole q hi → p + q ≤ whole
+        → IsNearAbove whole (p + q) (parts rate.high_not * parts lo + parts rate.high * parts hi) result }
 {
     let without = rate.high_not.times_up(lo, whole);
     let with = rate.high.times_up(hi, whole);
@@ -31,8 +38,10 @@ fn upper_step(rate: Rate, lo: Decimal, hi: Decimal, whole: u32) -> Decimal
 
 /// The bounds of a family from those of its parts at its first event.
 pub(crate) fn family_step(rate: Rate, lo: Bounds, hi: Bounds, whole: u32) -> Bounds
-    ensures { (rates : Rates) (end event : ℕ) (family low high : Family) → IsStep whole rate lo hi rates end event family low high
+    ensures bounds { (rates : Rates) (end event : ℕ) (family low high : Family) → IsStep whole rate lo hi rates end event family low high
         → AreBoundsOf whole rates end family result }
+    ensures narrow { (places count : ℕ) → IsNarrowRate whole places rate → AreNarrow whole places count lo → AreNarrow whole places count hi
+        → places + places * count ≤ whole → AreNarrow whole places (count + 1) result }
 {
     Bounds {
         lower: lower_step(rate, lo.lower, hi.lower, whole),
@@ -64,22 +73,6 @@ pub(crate) fn end_bounds(store: &Store, rates: &[Rate], id: Id, whole: u32) -> B
     Bounds {
         lower: all,
         upper: all,
-    }
-}
-
-/// What is known of every family: nothing is the lower bound, the whole the upper one.
-pub(crate) fn any_bounds(whole: u32) -> Bounds
-    ensures { (rates : Rates) (end : ℕ) (family : Family) → AreBoundsOf whole rates end family result }
-{
-    Bounds {
-        lower: Decimal {
-            mantissa: 0,
-            exponent: 0,
-        },
-        upper: Decimal {
-            mantissa: 1,
-            exponent: whole,
-        },
     }
 }
 

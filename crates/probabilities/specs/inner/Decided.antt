@@ -1,10 +1,7 @@
 -- Decimals that bound the probability of a family of a store.
-use Rattle.std.specs.Prelude.{ℕ, ◌+◌, ◌^◌, ◌<◌, ◌≤◌, ◌≡◌, List, length, slice_get, Option, None, Some, Result, IfOk, IfSome}
-use Rattle.std.specs.declared.alloc.AllocError.{AllocError}
+use Rattle.std.specs.Prelude.{ℕ, ◌+◌, ◌^◌, ◌<◌, ◌≤◌, ◌≡◌, List, length, slice_get, Option, None, Some}
 use Rattle.decimals.specs.inner.Decimals.{parts}
 use Rattle.zdd_store.specs.inner.Family.{Family, least_number}
-use Rattle.zdd_store.specs.inner.Store.{Families, IsIn, family_of, Keeps}
-use Rattle.zdd_store.specs.declared.id.Id.{Id}
 use Rattle.probabilities.specs.declared.rates.Bounds.{Bounds}
 use Rattle.probabilities.specs.declared.rates.Rate.{Rate}
 use Rattle.probabilities.specs.inner.Rates.{Rates, AreRates}
@@ -73,20 +70,6 @@ pub record IsStep (whole : ℕ) (rate : Rate) (lo hi : Bounds) (rates : Rates) (
   pub hi_bounds : AreBoundsOf whole rates end high hi
 
 -- the two decimals bound the probability of a family, whatever the events' probabilities are that have the rates of the list
-abbrev pub IsBounded : ℕ → List Rate → Family → Bounds → Type 0
-IsBounded whole list family bounds =
+abbrev pub BoundAll : ℕ → List Rate → Family → Bounds → Type 0
+BoundAll whole list family bounds =
     (rates : Rates) → AreRates (10 ^ whole) rates → AreRated list rates → AreBoundsOf whole rates (length list) family bounds
-
--- they bound that of the family of a number
-pub record IsBoundedAt (whole : ℕ) (list : List Rate) (store : Families) (id : Id) (bounds : Bounds) : Type 0 where
-  pub found : IsIn store id
-  pub right : IsBounded whole list (family_of store id) bounds
-
--- the bounds that are known are right
-abbrev pub KnowsBounds : ℕ → List Rate → Families → (Id → Option Bounds) → Type 0
-KnowsBounds whole list store known = (id : Id) (bounds : Bounds) → known id ≡ Some bounds → IsBoundedAt whole list store id bounds
-
--- each number keeps its family, and where memory sufficed and it was not given up the bounds are right
-pub record Bounded (whole : ℕ) (list : List Rate) (before after : Families) (id : Id) (result : Result (Option Bounds) AllocError) : Type 0 where
-  pub kept : Keeps before after
-  pub bounds : IfOk result (λ found. IfSome found (IsBounded whole list (family_of before id)))

@@ -4,13 +4,10 @@ use Rattle.zdd_store.specs.inner.Family.{least_number}
 use Rattle.zdd_store.specs.inner.Store.{family_of}
 use Rattle.zdd_families.proofs.Above.{least_number-most}
 use Rattle.zdd_families.proofs.Pairs.{found_kept}
-use Rattle.zdd_families.proofs.Ways.{Keeps_same, Keeps_trans}
-use Rattle.probabilities.specs.inner.Decided.{IsBounded}
+use Rattle.zdd_families.proofs.Ways.{Keeps_trans}
+use Rattle.probabilities.specs.inner.Remembered.{IsBounded}
 use Rattle.probabilities.proofs.Deciding.{node_above, node_bounded}
 use Rattle.probabilities.proofs.families.+bounds_in.Goals as goal
-
-pub returns-in_default-rate_of-clause-bounds : goal.returns-in_default-rate_of-clause-bounds
-returns-in_default-rate_of-clause-bounds t c = record { kept = Keeps_same c.args.store.now; bounds = λ rates right all. c.any_bounds.ensures rates _ _ }
 
 pub bounds_in-requires-2 : goal.bounds_in-requires-2
 bounds_in-requires-2 t c =
@@ -33,4 +30,4 @@ note_bounds-requires-clause-bounds t c =
     (sym c.in-Some-rate_of.ensures.rate) c.in-Some-rate_of.ensures.inside c.in_ok-with.ensures.found c.in_ok-with.ensures.covers
     (subst (λ o. IfSome o (IsBounded c.args.whole c.args.rates.now (family_of s1 node.lo))) c.in-Some-2.is c.in_ok-lo.ensures.bounds.bounds)
     (subst (λ o. IfSome o (IsBounded c.args.whole c.args.rates.now (family_of s2 c.in_ok-with.with))) c.in-Some-3.is c.in_ok-hi.ensures.bounds.bounds)
-    c.family_step.ensures
+    c.family_step.ensures.bounds c.family_step.ensures.narrow

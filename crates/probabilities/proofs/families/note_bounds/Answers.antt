@@ -4,7 +4,7 @@ use Rattle.std.specs.Map.{lookup}
 use Rattle.zdd_store.specs.declared.id.Id.{Id}
 use Rattle.zdd_store.specs.contracts.id.IdPartialEq.TheImpl.{eq-value as id_eq}
 use Rattle.zdd_families.proofs.Copying.{knows_more}
-use Rattle.probabilities.specs.inner.Decided.{IsBoundedAt}
+use Rattle.probabilities.specs.inner.Remembered.{IsBoundedAt}
 use Rattle.probabilities.proofs.families.note_bounds.Goals as goal
 
 id_exact : (a b : Id) → (id_eq).it a b ≡ true → a ≡ b
