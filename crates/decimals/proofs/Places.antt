@@ -1,6 +1,7 @@
 -- How many places behind the point of the whole.
-use Rattle.std.proofs.Common.{ℕ, zero, suc, ◌+◌, ◌-◌, ◌*◌, ◌^◌, ◌≤◌, ◌<◌, ◌≡◌, inl, inr, ap, arith, refl}
+use Rattle.std.proofs.Common.{ℕ, zero, suc, ◌+◌, ◌-◌, ◌*◌, ◌^◌, ◌≤◌, ◌<◌, ◌≡◌, ◌∙◌, inl, inr, ap, arith, refl}
 use Rattle.std.specs.Prelude.{◌⊎◌}
+use Rattle.std.proofs.lemmas.Nat.{pow-add}
 use Rattle.std.proofs.Math.Nat.{one-le-pow, mul-le-mul_right}
 use Rattle.decimals.specs.inner.Decimals.{HavePlaces}
 
@@ -33,3 +34,26 @@ places_left w p n i m k (inr some) nothing = inr (omega arith)
 pub places_sum : (w p h i n j t s : ℕ) → 0 < n → j + t ≤ i → HavePlaces w p n j → HavePlaces w p s (i - t)
 places_sum w p h i n j t s some fit (inl none) = absurd (omega arith)
 places_sum w p h i n j t s some fit (inr many) = inr (omega arith)
+
+-- digits with places behind the point, at a whole that has room for them
+pub written_exact : (digits places whole : ℕ) → places ≤ whole → digits * 10 ^ (whole - places) * 10 ^ places ≡ digits * 10 ^ whole
+written_exact digits places whole fit =
+    let p : 10 ^ whole ≡ 10 ^ (whole - places) * 10 ^ places = ap (λ k. 10 ^ k) (omega arith) ∙ pow-add 10 (whole - places) places in
+    let q : digits * 10 ^ whole ≡ digits * (10 ^ (whole - places) * 10 ^ places) = ap (λ k. digits * k) p in
+    omega arith
+
+-- and at one that has not
+pub written_cut : (number places whole : ℕ) → whole < places → number * 10 ^ places ≡ number * 10 ^ (places - whole) * 10 ^ whole
+written_cut number places whole cut =
+    let p : 10 ^ places ≡ 10 ^ (places - whole) * 10 ^ whole = ap (λ k. 10 ^ k) (omega arith) ∙ pow-add 10 (places - whole) whole in
+    let q : number * 10 ^ places ≡ number * (10 ^ (places - whole) * 10 ^ whole) = ap (λ k. number * k) p in
+    omega arith
+
+pub raised : (a b k : ℕ) → a ≤ b → a * 10 ^ k ≤ b * 10 ^ k
+raised a b k le = mul-le-mul_right (10 ^ k) le
+
+pub raised_more : (a b k : ℕ) → a < b → a * 10 ^ k < b * 10 ^ k
+raised_more a b k less =
+    let z = one-le-pow k 10 (omega arith) in
+    let h : (a + 1) * 10 ^ k ≤ b * 10 ^ k = mul-le-mul_right (10 ^ k) (omega arith) in
+    omega arith
