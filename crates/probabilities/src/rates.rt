@@ -1,8 +1,9 @@
 //! Bounds of the probabilities of events and of families, as decimals.
 
-ghost use Rattle.std.specs.Prelude.{◌≤◌, ◌≡◌, ◌^◌, ◌+◌, ◌-◌};
-ghost use Rattle.decimals.specs.inner.Decimals.{parts, IsNear};
+ghost use Rattle.std.specs.Prelude.{ℕ, ◌≤◌, ◌≡◌, ◌^◌, ◌+◌, ◌-◌};
+ghost use Rattle.decimals.specs.inner.Decimals.{parts, IsNear, HasPlaces};
 ghost use Rattle.probabilities.specs.inner.Decided.{FitsWhole};
+ghost use Rattle.probabilities.specs.inner.Widths.{IsNarrowRate};
 
 use decimals::Decimal;
 
@@ -32,6 +33,8 @@ impl Rate {
         ensures fits { FitsWhole whole result }
         ensures low_near { IsNear (10 ^ whole - parts low) (parts result.low_not) }
         ensures high_near { IsNear (parts result.high_not) (10 ^ whole - parts high) }
+        ensures low_places { HasPlaces whole 36 result.low_not }
+        ensures high_places { HasPlaces whole 36 result.high_not }
     {
         Rate {
             low,
@@ -39,6 +42,17 @@ impl Rate {
             low_not: low.rest_down(whole),
             high_not: high.rest_up(whole),
         }
+    }
+
+    /// The rate of an event of this probability.
+    pub fn exact(probability: Decimal, whole: u32) -> Rate
+        requires { parts probability ≤ 10 ^ whole }
+        ensures low { result.low ≡ probability }
+        ensures high { result.high ≡ probability }
+        ensures fits { FitsWhole whole result }
+        ensures narrow { (places : ℕ) → 36 ≤ places → HasPlaces whole places probability → IsNarrowRate whole places result }
+    {
+        Rate::between(probability, probability, whole)
     }
 
     /// The rate of an event of which nothing is known.
