@@ -1,7 +1,7 @@
 //! Sums and rests at one exponent.
 
-ghost use Rattle.std.specs.Prelude.{◌≤◌, ◌+◌, ◌-◌, ◌^◌};
-ghost use Rattle.decimals.specs.inner.Decimals.{parts};
+ghost use Rattle.std.specs.Prelude.{ℕ, ◌≤◌, ◌+◌, ◌-◌, ◌^◌};
+ghost use Rattle.decimals.specs.inner.Decimals.{parts, HasPlaces, HavePlaces};
 ghost use Rattle.decimals.specs.inner.Aligned.{IsAlignedDown, IsAlignedUp};
 
 use crate::decimal::Decimal;
@@ -17,12 +17,19 @@ pub struct Aligned {
 /// At most the sum, of which the first has no smaller exponent.
 fn sum_from_down(high: Decimal, low: Decimal) -> Aligned
     requires { low.exponent ≤ high.exponent }
-    ensures { IsAlignedDown (parts high + parts low) result }
+    ensures value { IsAlignedDown (parts high + parts low) result }
+    ensures places { (whole places : ℕ) → HasPlaces whole places high → HasPlaces whole places low → HavePlaces whole places result.number result.exponent }
 {
     if high.mantissa == 0 {
         return Aligned {
             number: low.mantissa as u128,
             exponent: low.exponent,
+        };
+    }
+    if low.mantissa == 0 {
+        return Aligned {
+            number: high.mantissa as u128,
+            exponent: high.exponent,
         };
     }
     let gap = high.exponent - low.exponent;
@@ -38,12 +45,19 @@ fn sum_from_down(high: Decimal, low: Decimal) -> Aligned
 /// At least the sum, of which the first has no smaller exponent.
 fn sum_from_up(high: Decimal, low: Decimal) -> Aligned
     requires { low.exponent ≤ high.exponent }
-    ensures { IsAlignedUp (parts high + parts low) result }
+    ensures value { IsAlignedUp (parts high + parts low) result }
+    ensures places { (whole places : ℕ) → HasPlaces whole places high → HasPlaces whole places low → HavePlaces whole places result.number result.exponent }
 {
     if high.mantissa == 0 {
         return Aligned {
             number: low.mantissa as u128,
             exponent: low.exponent,
+        };
+    }
+    if low.mantissa == 0 {
+        return Aligned {
+            number: high.mantissa as u128,
+            exponent: high.exponent,
         };
     }
     let gap = high.exponent - low.exponent;
@@ -58,7 +72,8 @@ fn sum_from_up(high: Decimal, low: Decimal) -> Aligned
 
 /// At most the sum.
 pub fn sum_down(one: Decimal, other: Decimal) -> Aligned
-    ensures { IsAlignedDown (parts one + parts other) result }
+    ensures value { IsAlignedDown (parts one + parts other) result }
+    ensures places { (whole places : ℕ) → HasPlaces whole places one → HasPlaces whole places other → HavePlaces whole places result.number result.exponent }
 {
     if one.exponent < other.exponent {
         return sum_from_down(other, one);
@@ -68,7 +83,8 @@ pub fn sum_down(one: Decimal, other: Decimal) -> Aligned
 
 /// At least the sum.
 pub fn sum_up(one: Decimal, other: Decimal) -> Aligned
-    ensures { IsAlignedUp (parts one + parts other) result }
+    ensures value { IsAlignedUp (parts one + parts other) result }
+    ensures places { (whole places : ℕ) → HasPlaces whole places one → HasPlaces whole places other → HavePlaces whole places result.number result.exponent }
 {
     if one.exponent < other.exponent {
         return sum_from_up(other, one);
@@ -79,7 +95,8 @@ pub fn sum_up(one: Decimal, other: Decimal) -> Aligned
 /// At most what is left of the whole.
 pub fn left_down(taken: Decimal, whole: u32) -> Aligned
     requires { parts taken ≤ 10 ^ whole }
-    ensures { IsAlignedDown (10 ^ whole - parts taken) result }
+    ensures value { IsAlignedDown (10 ^ whole - parts taken) result }
+    ensures places { whole ≤ result.exponent + 36 }
 {
     if taken.mantissa == 0 {
         return Aligned {
@@ -99,7 +116,8 @@ pub fn left_down(taken: Decimal, whole: u32) -> Aligned
 /// At least what is left of the whole.
 pub fn left_up(taken: Decimal, whole: u32) -> Aligned
     requires { parts taken ≤ 10 ^ whole }
-    ensures { IsAlignedUp (10 ^ whole - parts taken) result }
+    ensures value { IsAlignedUp (10 ^ whole - parts taken) result }
+    ensures places { whole ≤ result.exponent + 36 }
 {
     if taken.mantissa == 0 {
         return Aligned {

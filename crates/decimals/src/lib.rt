@@ -8,5 +8,6 @@ mod aligned;
 mod arithmetic;
 mod decimal;
 mod rounding;
+mod written;
 
 pub use decimal::Decimal;

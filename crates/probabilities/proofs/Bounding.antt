@@ -12,7 +12,7 @@ use Rattle.probabilities.specs.inner.Bounded.{AreParts, IsLowerBound, IsUpperBou
 use Rattle.probabilities.proofs.Sums.{has-first, has-other}
 use Rattle.probabilities.proofs.Cases.{weight-cases, weight-same, weight-skips, weight-none, weight-le}
 use Rattle.probabilities.proofs.Growing.{weight-most, weight-all}
-use Rattle.probabilities.proofs.Steps.{low_step, high_node, low_skip, high_skip}
+use Rattle.probabilities.proofs.OneStep.{low_step, high_node, low_skip, high_skip}
 
 less_apart : (e a : ℕ) → e < a → (e == a) ≡ false
 less_apart e a less = grind (arith, common_steps)

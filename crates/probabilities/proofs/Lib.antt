@@ -1,5 +1,7 @@
 pub mod Sums
 pub mod Cases
-pub mod Steps
+pub mod OneStep
 pub mod Growing
 pub mod Bounding
+pub mod Nearness
+pub mod Deciding

@@ -1,3 +1,6 @@
 pub mod Weights
 pub mod Rates
 pub mod Bounded
+pub mod Decided
+pub mod Widths
+pub mod Remembered

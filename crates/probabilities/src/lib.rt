@@ -2,6 +2,11 @@
 //! of its sets, where the events are independent.
 #![tactic(auto)]
 
+mod families;
 mod laws;
+mod rates;
+mod steps;
 
+pub use families::family_bounds;
 pub use laws::{all_outcomes, by_cases, ends, grows, lower_step, upper_step};
+pub use rates::{Bounds, Rate};

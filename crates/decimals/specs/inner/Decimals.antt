@@ -11,6 +11,13 @@ parts x = x.mantissa * 10 ^ x.exponent
 abbrev pub IsNear : ℕ → ℕ → Type 0
 IsNear more less = more * 100000000000000000 ≤ less * 100000000000000001
 
+-- a number with zeros behind it has at most so many places behind the point of the whole: it is nothing, or has the other zeros
+abbrev pub HavePlaces : ℕ → ℕ → ℕ → ℕ → Type 0
+HavePlaces whole places number exponent = (number ≡ 0) ⊎ (whole ≤ exponent + places)
+
+abbrev pub HasPlaces : ℕ → ℕ → Decimal → Type 0
+HasPlaces whole places x = HavePlaces whole places x.mantissa x.exponent
+
 -- the number without its last digits, rounded down: no digit is dropped, or at least 18 are left
 pub record IsDown (n : ℕ) (x : Shortened) : Type 0 where
   pub short : x.mantissa ≤ 1000000000000000000

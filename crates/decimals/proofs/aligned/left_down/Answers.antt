@@ -3,8 +3,8 @@ use Rattle.decimals.proofs.Sizes.{ten_pos}
 use Rattle.decimals.proofs.Left.{few_zeros, fits_up, left_down_at}
 use Rattle.decimals.proofs.aligned.left_down.Goals as goal
 
-pub returns-then-taken-eq0 : goal.returns-then-taken-eq0
-returns-then-taken-eq0 c =
+pub returns-then-taken-eq0-clause-value : goal.returns-then-taken-eq0-clause-value
+returns-then-taken-eq0-clause-value c =
     let a = c.args.taken in
     let e : a.mantissa * 10 ^ a.exponent ≡ 0 * 10 ^ a.exponent = ap (λ t. t * 10 ^ a.exponent) c.if-taken-eq0.true in
     let z = ten_pos c.args.whole in
@@ -22,8 +22,8 @@ overflow_sub-result c =
     (fits_up a.mantissa c.cut_up-part.result a.exponent w (w - a.exponent) c.min-lift.result (omega arith) (omega (arith, c.min-lift.ensures)) c.requires
     (omega (arith, c.cut_up-part.ensures.few, a.short)) c.cut_up-part.ensures.up c.cut_up-part.ensures.below)
 
-pub returns : goal.returns
-returns c =
+pub returns-clause-value : goal.returns-clause-value
+returns-clause-value c =
     let a = c.args.taken in
     let w = c.args.whole in
     let t = c.min-lift.result in
@@ -36,3 +36,6 @@ returns c =
     let h = left_down_at a.mantissa p a.exponent w (w - a.exponent) t n (omega arith) (omega (arith, c.min-lift.ensures))
     (omega (arith, c.cut_up-part.ensures.few, a.short)) np c.cut_up-part.ensures.up c.cut_up-part.ensures.below in
     record { short = omega (arith, c.wide_power.ensures.most); down = h.0; above = h.1; full = h.2 }
+
+pub returns-clause-places : goal.returns-clause-places
+returns-clause-places c = omega (arith, c.min-lift.ensures)

@@ -1,4 +1,5 @@
 use Rattle.std.proofs.Common.{arith, ◌*◌, ◌+◌, ◌^◌, ap, ◌≡◌}
+use Rattle.decimals.proofs.Places.{places_left, nothing_up}
 use Rattle.decimals.proofs.Rounded.{shorter_up, near_up_at, whole_at}
 use Rattle.decimals.proofs.arithmetic.rounded_up.Goals as goal
 
@@ -27,3 +28,9 @@ pub returns-clause-near : goal.returns-clause-near
 returns-clause-near c n is =
     let x = c.shortened_up-short in
     near_up_at c.args.exact.number c.args.exact.exponent x.result.mantissa x.result.dropped n x.ensures.up x.ensures.below x.ensures.full is.below is.full
+
+pub returns-clause-places : goal.returns-clause-places
+returns-clause-places c places have =
+    let x = c.shortened_up-short in
+    places_left c.args.whole places c.args.exact.number c.args.exact.exponent x.result.mantissa x.result.dropped have
+    (λ none. nothing_up c.args.exact.number x.result.mantissa x.result.dropped none x.ensures.below)

@@ -59,3 +59,18 @@ high_node s t a b p d u n x y z v pos part more whole most low high step all is 
         let j : v * s ≤ d * t * s = mul-le-mul_right s all in
         let k : d * t * s ≤ d * t * z = mul-le-mul_left (d * t) i in
         omega arith
+
+-- a sum of two products, each rounded down, and one rounded down with the whole as bound
+pub sum_down : (s a b x y r : ℕ) → s * x ≤ a → s * y ≤ b → r ≤ x + y → s * r ≤ a + b
+sum_down s a b x y r ha hb hr = let h : s * r ≤ s * (x + y) = mul-le-mul_left s hr in omega arith
+
+pub sum_up : (s a b x y r : ℕ) → min (s * s) a ≤ s * x → min (s * s) b ≤ s * y → min s (x + y) ≤ r → min (s * s) (a + b) ≤ s * r
+sum_up s a b x y r ha hb hr = at (cases_lt (x + y) s)
+  where
+    at : (x + y < s) ⊎ (s ≤ x + y) → min (s * s) (a + b) ≤ s * r
+    at (inl less) =
+        let h1 : s * (x + 1) ≤ s * s = mul-le-mul_left s (omega arith) in
+        let h2 : s * (y + 1) ≤ s * s = mul-le-mul_left s (omega arith) in
+        let h3 : s * (x + y) ≤ s * r = mul-le-mul_left s (omega arith) in
+        omega arith
+    at (inr more) = let h : s * s ≤ s * r = mul-le-mul_left s (omega arith) in omega arith

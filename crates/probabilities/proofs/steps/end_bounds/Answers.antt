@@ -1,0 +1,33 @@
+use Rattle.std.proofs.Common.{◌≡◌, ◌∙◌, ◌∷◌, [], ◌*◌, ◌^◌, ap, sym, subst, inl, inr, refl, length, arith}
+use Rattle.zdd_store.specs.inner.Store.{family_at, family_of}
+use Rattle.probabilities.specs.inner.Bounded.{IsLowerBound, IsUpperBound}
+use Rattle.probabilities.proofs.Bounding.{lower-none, upper-none, lower-full, upper-full}
+use Rattle.probabilities.proofs.Nearness.{near_same}
+use Rattle.probabilities.proofs.steps.end_bounds.Goals as goal
+
+pub returns-then-id-eq0 : goal.returns-then-id-eq0
+returns-then-id-eq0 c =
+    let is : family_of c.args.store.now c.args.id ≡ [] = ap (family_at c.args.store.now) c.if-id-eq0.true ∙ c.laws.ensures.empty in
+    let s = 10 ^ c.args.whole in
+    let end = length c.args.rates.now in
+    record {
+      all = λ rates right every. record {
+        lower = subst (λ f. IsLowerBound s rates end f 0) (sym is) (lower-none s rates end);
+        upper = subst (λ f. IsUpperBound s rates end f 0) (sym is) (upper-none s rates end);
+      };
+      narrow = λ places narrow fit. record { within = omega arith; lower_places = inl refl; upper_places = inl refl; near = near_same _ 0 };
+    }
+
+pub returns : goal.returns
+returns c =
+    let at : c.args.id.position ≡ 1 = omega (arith, c.requires, c.if-id-eq0.false) in
+    let is : family_of c.args.store.now c.args.id ≡ [] ∷ [] = ap (family_at c.args.store.now) at ∙ c.laws.ensures.unit in
+    let s = 10 ^ c.args.whole in
+    let end = length c.args.rates.now in
+    record {
+      all = λ rates right every. record {
+        lower = subst (λ f. IsLowerBound s rates end f (1 * s)) (sym is) (lower-full s rates end (1 * s) (omega arith));
+        upper = subst (λ f. IsUpperBound s rates end f (1 * s)) (sym is) (upper-full s rates end (1 * s) (omega arith));
+      };
+      narrow = λ places narrow fit. record { within = omega arith; lower_places = inr (omega arith); upper_places = inr (omega arith); near = near_same _ (1 * s) };
+    }
