@@ -368,7 +368,7 @@ def refused_memory(tool, folder, options):
                 found = run(words, at, on)[:3]
                 if found == (status, output, errors):
                     as_without += 1
-                elif found[0] == 7 and found[2] == b"aadl_fta: out of memory\n" and output.startswith(found[1]) and (words[0] != "cuts" or not found[1]):
+                elif found[0] == 7 and found[2] == b"aadl_fta: out of memory\n" and output.startswith(found[1]) and (words[0] in ("tree", "fmea") or not found[1]):
                     out_of_memory += 1
                 else:
                     bad += 1
