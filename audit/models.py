@@ -367,16 +367,18 @@ class Maker:
         for (point, side) in kind.sides:
             if point in kind.features or point in kind.user_points + ["bindings"]:
                 (outward if side == "in" else inward).append(point)
+        inward *= 2
         for name, child in kind.children.items():
             for (point, side) in child.sides:
                 if point in child.features:
                     (inward if side == "in" else outward).append(f"{name}.{point}")
         text = ""
-        for index in range(self.random.randint(0, 9)):
-            if inward and outward:
+        goals = [each for each in inward if self.maybe(0.7)]
+        for index, goal in enumerate(goals):
+            if outward:
                 sign = "<->" if self.maybe(0.15) else "->"
                 word = self.random.choice(["port"] * 5 + ["feature", "bus access", "parameter"])
-                start, goal = self.pick(outward), self.pick(inward)
+                start = self.pick(outward)
                 if "access" in word and kind.children and self.maybe(0.5):
                     start = self.pick(kind.children)
                 text += f"k{kind.level}x{index}: {word} {start} {sign} {goal};\n"
