@@ -457,16 +457,21 @@ class Maker:
         kinds = [kind for kind in self.kinds if kind.item] or self.kinds
         root = kinds[-1] if self.maybe(0.7) else self.random.choice(kinds)
         name = root.name + (f".{root.item}" if root.item else "")
-        if self.maybe(0.12):
-            text = self.spoil(text)
         return text, f"{self.home[root]}::{name}"
 
-    def spoil(self, text):
-        """Drop, double or exchange a token."""
-        tokens = list(re.finditer(r"\w+|[^\w\s]+", text))
-        one, other = self.random.choice(tokens), self.random.choice(tokens)
-        new = self.random.choice(["", one.group() + " " + one.group(), other.group()])
-        return text[:one.start()] + new + text[one.end():]
+
+def spoiled(text, seed):
+    """The text with a token dropped, doubled, or exchanged for another one, or two such."""
+    chooser = random.Random(seed)
+    for _ in range(chooser.choice([1, 1, 2])):
+        tokens = list(re.finditer(r"\w+|->|::|\{\*\*|\*\*\}|[^\w\s]", text))
+        one = chooser.choice(tokens)
+        alike = [each for each in tokens if each.group().isalnum() == one.group().isalnum()]
+        other = chooser.choice(alike)
+        new = other.group() if chooser.random() < 0.6 else chooser.choice(["", one.group() + " " + one.group(), other.group(),
+                              other.group() + " " + one.group()])
+        text = text[:one.start()] + new + text[one.end():]
+    return text
 
 
 def below(kind, depth):

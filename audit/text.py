@@ -189,10 +189,10 @@ class Reader:
         depth, taken = 0, []
         while True:
             token = self.look()
-            if token.kind == "end" or (depth == 0 and token.text in CLOSING):
-                self.fail()
             if depth == 0 and token.text in stops:
                 return taken
+            if token.kind == "end" or (depth == 0 and token.text in CLOSING):
+                self.fail()
             depth += (token.text in OPENING) - (token.text in CLOSING)
             taken.append(self.take())
 
