@@ -460,6 +460,100 @@ class Maker:
         return text, f"{self.home[root]}::{name}"
 
 
+# Lines that are set behind (or, with "<", before) a place; @ stands for a name of
+# the text and # for one that may have a package.
+ODD = [
+    ("features\n", ["@: in data port;", "@: in data port [2];", "g0: feature group;",
+                    "@: refined to in data port;", "@: refined to feature;",
+                    "bindings: in data port;", "o1: refined to out event data port [3];",
+                    "z9: requires bus access @::@ {@ => 1;};", "i1: refined to feature group;"]),
+    ("subcomponents\n", ["@: device @;", "@: refined to system @;", "bindings: device @;",
+                         "z8: system @ (x => system);", "z7: system @ [2];", "z6: process;",
+                         "x0x0: refined to system;", "x0x1: refined to system @.@ in modes (m);",
+                         "z5: thread group @::@ {period => 3;};", "z4: system @.@;"]),
+    ("connections\n", ["z1: port @ -> @;", "z2: port @.@ -> @;", "z3: port processor.@ -> @;",
+                       "z3: port self.@ <-> @.@.@;", "z4: bus access @ -> @.@;",
+                       "z5: bus access @.@ -> @;", "k0x0: refined to port;",
+                       "k0x1: refined to data access {@ => 1;};", "z6: port x0x0.@ <-> x0x1.@;",
+                       "z7: feature group @ -> @;", "k0x2: refined to port @ <-> x0x0.@;",
+                       "z8: port bindings -> x0x0.bindings;", "z9: port x0x1.@ -> x0x0.binding;",
+                       "z0: port @ -> @.@ [1];"]),
+    ("<end types;", ["@: type;", "@: type extends #;", "@: type set {#, #};",
+                     "y1: type extends #;",
+                     "@: type set {@ * @};", "y2 renames type #;", "y3 renames type set #;",
+                     "@ renames type #;", "y4: type set {@::@, noerror} {@ => 1};",
+                     "t0: type set {@, y4};", "y4: type set {y1, @};"]),
+    ("error types\n", ["use types #;", "use types #, #;", "use types #;\nextends # with",
+                       "extends #, # with"]),
+    ("states\n", ["@: state;", "s1: initial state;", "@: state {#};", "s2: state {#, #};"]),
+    ("events\n", ["@: error event;", "e1: error event {#};", "@: repair event (when (x));",
+                  "g1: error event {#, #} [;];"]),
+    ("transitions\n", ["@ -[@]-> @;", "x: s0 -[e0]-> s1;", "all -[@ or in @]-> s1;",
+                       "y: s1 -[2 ormore (@, @, e0)]-> (s0 with @::@, same state with others);",
+                       "s0 -[(1 orless (@))]-> @;", "s0 -[e0{noerror}]-> @;",
+                       "s0 -[@.@ and @]-> s0;", "s1 -[in processor]-> s0{#};"]),
+    ("error propagations\n", ["@: in propagation {#};", "@: not out propagation {#};",
+                              "@.@: in propagation {#};", "processor: in propagation {#};",
+                              "memory: out propagation {noerror};", "o0: in propagation {#};",
+                              "connection: in propagation {#, #};"]),
+    ("\nflows\n", ["w0: error source @;", "@: error path @ -> @;", "w1: error sink @{#};",
+                   "w2: error path @{#} -> @{#};", "w3: error path i0 -> o0 use mappings @;",
+                   "w4: error source o0 when {#};", 'w5: error source o1 when "none";',
+                   "w6: error source @{#} when s1{#};", "w7: error sink all;"]),
+    ("component error behavior\n", ["use transformations @;", "detections\ns0 -[e0]-> o0;",
+                                    "mode mappings s0 in modes (m);", "propagations\nall -[]-> @;",
+                                    "events", "propagations\n@ -[@]-> @{#} {x};"]),
+    ("composite error behavior states\n", ["[@]-> s1;", "[x0x0.@]-> s1;", "[in @]-> s1;",
+                                           "[others]-> s1;", "k: [x0x0.s1]-> s1;",
+                                           "[in @{noerror} or x0x1.s0{#}]-> @;", "[in @.@]-> s1;",
+                                           "l: [2 ormore (x0x0.s1, x0x1.s1, x0x0.s0)]-> s1;"]),
+    ("propagation paths\n", ["@: propagation point;", "link0: @ -> @;", "link1: x0x0.@ -> @;",
+                             "link2: x0x0.x0x1.@ -> x0x1.@;", "link3: bindings -> x0x0.processor;",
+                             "link4: x0x0 -> @;"]),
+    (r"annex EMV2 {\*\*\n", ["use types #;", "use behavior #;", "use mappings @;",
+                          "use type equivalence @;", "use behavior #::@;", "properties",
+                          "connection error x end connection;",
+                          "error propagations bindings: in propagation {#}; end propagations;",
+                          "type mappings m use types x; {a} -> {b}; end mappings;",
+                          "error behavior m0 states s0: initial state; s1: state; end behavior;"]),
+    (" public\n", ["@ renames package #;", "@ renames system @::@;", "renames device @::@;",
+                   "renames @::all;", "with @, @;", "annex x {** ( \" **};",
+                   "@ renames package Q0;",
+                   "system c0 end c0;", "c7 renames system Q0::c0;", "private", "annex emv2 none;",
+                   "feature group fg features a: in data port; end fg;"]),
+    ("<annex EMV2", ["prototypes none;", "prototypes x: system;", "flows f: flow source o0;",
+                     "modes m: initial mode;", "requires modes @: mode;", "annex x {** a **};",
+                     "features z0: in feature;", "internal features e: event;"]),
+    (r"<end c\d", ["annex EMV2 {** use types #; **} in modes (m, n);",
+                   "properties a => [x => (1)];",
+                   "annex EMV2 {** use behavior #::m0; **};", "properties none;",
+                   "annex EMV2 {** component error behavior events g2: error event; "
+                   "propagations all -[g2]-> @; end component; **};", "calls x: {};",
+                   "properties actual_processor_binding => (reference(x0x0), reference(@)) "
+                   "applies to x0x1, x0x0.x0x0 in binding ();",
+                   "properties deployment_properties::actual_memory_binding => reference(x0x1.@)"
+                   " applies to @.@;", "subcomponents none;", "connections none;"]),
+]
+
+
+def odd(text, seed):
+    """The text with a few lines of ODD set in."""
+    chooser = random.Random(seed)
+    words = sorted(set(re.findall(r"[A-Za-z]\w*(?:::\w+)*", text)))
+    words = [word for word in words if re.search(r"\d", word)]
+    names = [word for word in words if "::" not in word]
+    for _ in range(chooser.choice([1, 1, 2, 3, 5])):
+        anchor, lines = chooser.choice(ODD)
+        places = list(re.finditer(anchor.lstrip("<"), text))
+        if places:
+            place = chooser.choice(places)
+            at = place.start() if anchor.startswith("<") else place.end()
+            line = re.sub("@", lambda _: chooser.choice(names), chooser.choice(lines))
+            line = re.sub("#", lambda _: chooser.choice(words), line)
+            text = text[:at] + line + "\n" + text[at:]
+    return text
+
+
 def spoiled(text, seed):
     """The text with a token dropped, doubled, or exchanged for another one, or two such."""
     chooser = random.Random(seed)
@@ -468,8 +562,9 @@ def spoiled(text, seed):
         one = chooser.choice(tokens)
         alike = [each for each in tokens if each.group().isalnum() == one.group().isalnum()]
         other = chooser.choice(alike)
-        new = other.group() if chooser.random() < 0.6 else chooser.choice(["", one.group() + " " + one.group(), other.group(),
-                              other.group() + " " + one.group()])
+        news = [other.group()] * 4 + ["", one.group() + " " + one.group(),
+                                      other.group() + " " + one.group()]
+        new = chooser.choice(news)
         text = text[:one.start()] + new + text[one.end():]
     return text
 
