@@ -4,6 +4,8 @@ import re
 
 from text import WORDS, Node, Refusal, first
 
+SETS = ("set", "set alias")  # items that stand for a set by their words
+
 MAX_COMPONENTS, MAX_DEPTH, MAX_TYPES = 4096, 32, 1024
 
 
@@ -99,9 +101,10 @@ def members(chain):
         for member in classifier.members:
             key = (member.kind, member.name)
             if member.refined:
-                if key not in farther:
+                if key in farther:
+                    found[key] = refine(member, found[key], classifier.package)
+                else:
                     faults.append(Refusal("N5", member.place))
-                found[key] = refine(member, found.get(key), classifier.package)
                 continue
             if any(name == member.name for _, name in farther + before):
                 faults.append(Refusal("N6", member.place))
@@ -110,7 +113,7 @@ def members(chain):
                 found[key] = refine(member, None, classifier.package)
         farther += before
     for member in found.values():
-        if member.array:
+        if member.array and member.kind != "connections":
             faults.append(Refusal("P2", member.array))
         if member.group:
             faults.append(Refusal("P3", member.place))
@@ -246,7 +249,7 @@ class Types:
         while item.names:
             seen.append(item)
             item = self.look_up(item.names, item.library, item.library.package, True)
-            if item is None or item in seen or item.kind == "set":
+            if item is None or item in seen or item.kind in SETS:
                 return None
             if item.kind == "type":
                 return item
@@ -305,7 +308,9 @@ class Types:
         self.libraries(text.uses, text.package)
         for term in types.terms:
             self.follow_term(term, text, False, [], [])
+            told = list(self.faults)
             self.name_term(term, text, False, named, [])
+            self.faults = told
         return sorted(number for number, above in self.above.items() if above & named)
 
     def name_term(self, term, text, in_library, named, seen):
@@ -330,29 +335,22 @@ class Types:
         if term.kind == "names":
             self.follow(term.names, text, in_library, open_items, done)
 
-    def follow(self, tokens, text, in_library, open_items, done):
+    def follow(self, tokens, text, in_library, open_items, done, is_type=False):
         """Follow a name to its item, and the item to its end; tell what is wrong."""
         item = self.look_up(tokens, text, text.package, in_library)
+        if item is None:
+            return
+        if is_type and item.kind in SETS:
+            self.faults.append(Refusal("N7", tokens[0].place))
+            return
         if item in open_items:
             self.faults.append(Refusal("N8", tokens[0].place))
-        if item is None or item in open_items or item in done:
-            return item
+        if item in open_items or item in done:
+            return
         below = open_items + [item]
         if item.kind == "set":
             for term in item.set.terms:
                 self.follow_term(term, item.library, True, below, done)
         elif item.names:
-            found = self.follow(item.names, item.library, True, below, done)
-            if found and item.kind in ("type", "type alias") and self.is_set(found):
-                self.faults.append(Refusal("N7", item.names[0].place))
+            self.follow(item.names, item.library, True, below, done, item.kind != "set alias")
         done.append(item)
-        return item
-
-    def is_set(self, item):
-        """Is an item a set, or an alias that leads to one?"""
-        seen = []
-        while item is not None and item.kind.endswith("alias") and item not in seen:
-            seen.append(item)
-            item = self.look_up(item.names, item.library, item.library.package, True)
-        return item is not None and item.kind == "set"
-
