@@ -46,6 +46,48 @@ def types(chooser):
     return text, "p::s"
 
 
+def families(chooser):
+    """Libraries without faults, most often: each item names items before it."""
+    known, libraries, text = [], [], ""
+
+    def terms(most):
+        chosen = [chooser.choice(known) for _ in range(chooser.randint(1, most))]
+        return "{" + ", ".join(chosen) + "}"
+
+    for library in ("p", "q", "r::s"):
+        uses = "".join(f"use types {each};\n" for each in libraries if chooser.random() < .3)
+        above = [each for each in libraries if chooser.random() < .4]
+        items, own = "", []
+        for number in range(chooser.randint(2, 5)):
+            one = chooser.choice(["a", "b", "c"]) + str(number)
+            plain = [name for name, is_type in own if is_type]
+            if known and chooser.random() < .3:
+                items += f"{one}: type set {terms(3)};\n"
+            elif plain and chooser.random() < .3:
+                items += f"{one} renames type {library}::{chooser.choice(plain)};\n"
+            else:
+                extended = plain and chooser.random() < .6
+                extends = f" extends {chooser.choice(plain)}" if extended else ""
+                items += f"{one}: type{extends};\n"
+            own.append((one, "type set" not in items.splitlines()[-1]))
+            known.append(f"{library}::{one}")
+        extends = f"extends {', '.join(above)} with\n" if above else ""
+        text += (f"package {library} public annex emv2 {{** error types {uses}{extends}{items}"
+                 f"end types; **}}; end {library};\n")
+        libraries.append(library)
+    order = libraries[:]
+    chooser.shuffle(order)
+    bare = [name.rsplit("::", 1)[1] for name in known]
+    known += bare
+    side = terms(3)
+    text += (f"package d public device s features i: in feature; o: out feature; n: out feature;\n"
+             f"annex emv2 {{** use types {', '.join(order)}; error propagations\n"
+             f"i: in propagation {side}; o: out propagation {terms(4)};\n"
+             f"flows f: error path i{side} -> o; g: error path i -> n{terms(2)};\n"
+             f"h: error source n{terms(2)}; end propagations; **}}; end s; end d;\n")
+    return text, "d::s"
+
+
 def members(chooser):
     """A chain of classifiers whose members have few names."""
     names = ["a", "b", "c"]
@@ -182,4 +224,4 @@ def tokens(chooser):
 def corner(seed):
     """The text and the root of a corner."""
     chooser = random.Random(seed)
-    return [types, members, names, tokens][seed % 4](chooser)
+    return [types, members, names, tokens, families][seed % 5](chooser)
