@@ -1,7 +1,7 @@
 """The grammar of core text (docs/PROFILE.md, "Core text")."""
 
 from errors import ErrorReader
-from text import Node, Reader, written
+from text import CLOSING, OPENING, Node, Reader, written
 
 RESERVED = frozenset("""abstract access all annex bus calls connections data device end event
     extends feature features flows group implementation in internal is memory modes none out
@@ -202,8 +202,8 @@ class CoreReader(Reader):
             fresh = not taken or taken[-1].text == ";"
             if depth == 0 and fresh and token.text in SECTION_STOPS:
                 return taken
-            depth += (token.text in ("(", "[", "{", "{**"))
-            depth -= (token.text in (")", "]", "}", "**}"))
+            depth += (token.text in OPENING)
+            depth -= (token.text in CLOSING)
             taken.append(self.take())
 
     def member(self, kind, read):
@@ -220,8 +220,8 @@ class CoreReader(Reader):
         for token in self.balanced(";"):
             if depth == 0 and token.text == "[" and not member.array:
                 member.array = token.place
-            depth += (token.text in ("(", "[", "{", "{**"))
-            depth -= (token.text in (")", "]", "}", "**}"))
+            depth += (token.text in OPENING)
+            depth -= (token.text in CLOSING)
         self.expect(";")
         return member
 

@@ -2,10 +2,21 @@
 
 import random
 
+FEATURES = ["in feature", "feature", "out data port", "in out event port", "feature group",
+            "requires data access"]
+PARTS = ["device e", "device e", "device", "system t1.i", "system t0", "device e (x => y)",
+         "device z", "device q::e"]
+DEVICE = ("package p public annex emv2 {** error types l: type; end types; error behavior m "
+        "events x: error event; states s: initial state; f: state; transitions s -[x]-> f; "
+        "end behavior; **};\n"
+        "device e features o: out feature; i: in feature; annex emv2 {** use types p; "
+        "use behavior m; error propagations o: out propagation {l}; i: in propagation {l}; "
+        "flows g: error source o; end propagations; **}; end e;\n")
+
 
 def types(chooser):
     """Three libraries whose items name each other, and a device that uses them."""
-    libraries, names = ["p", "q", "r"], ["a", "b", "c", "d"]
+    libraries, names, text = ["p", "q", "r"], ["a", "b", "c", "d"], ""
 
     def name():
         one = chooser.choice(names)
@@ -17,9 +28,8 @@ def types(chooser):
 
     def terms():
         found = [name() for _ in range(chooser.randint(1, 3))]
-        if chooser.random() < .1:
-            found.append(chooser.choice(["noerror", name() + " * " + name()]))
-        return "{" + ", ".join(found) + "}"
+        odd = ["noerror", name() + " * " + name()] if chooser.random() < .1 else []
+        return "{" + ", ".join(found + ([chooser.choice(odd)] if odd else [])) + "}"
 
     def item():
         one = chooser.choice(names)
@@ -28,13 +38,12 @@ def types(chooser):
             f"{one}: type set {terms()};", f"{one} renames type {name()};",
             f"{one} renames type set {name()};"]) + "\n"
 
-    text = ""
     for library in libraries:
         extends = ""
         if chooser.random() < .4:
             extends = f"extends {chooser.choice(libraries + ['z'])} with\n"
         items = "".join(item() for _ in range(chooser.randint(1, 4)))
-        alias = "k renames package " + chooser.choice(libraries + ["z"]) + ";"
+        alias = f"k renames package {chooser.choice(libraries + ['z'])};"
         text += (f"package {library} public {alias if chooser.random() < .5 else ''}\n"
                  f"annex emv2 {{** error types {uses()}{extends}{items}end types; **}};\n")
         if library == "p":
@@ -77,8 +86,7 @@ def families(chooser):
         libraries.append(library)
     order = libraries[:]
     chooser.shuffle(order)
-    bare = [name.rsplit("::", 1)[1] for name in known]
-    known += bare
+    known += [name.rsplit("::", 1)[1] for name in known]
     side = terms(3)
     text += (f"package d public device s features i: in feature; o: out feature; n: out feature;\n"
              f"annex emv2 {{** use types {', '.join(order)}; error propagations\n"
@@ -88,13 +96,30 @@ def families(chooser):
     return text, "d::s"
 
 
+def chain(chooser, section, feature, part, connection):
+    """Three types and three implementations, each of which extends the one before it."""
+    text = DEVICE
+    for number in range(3):
+        above = "" if number == 0 else f"extends t{number - 1}"
+        text += (f"system t{number} {above} {section('features', feature)}"
+                 f"{section('features', feature) if chooser.random() < .2 else ''}"
+                 f"end t{number};\n")
+    for number in range(3):
+        above = "" if number == 0 else f"extends t1.{'ijk'[number - 1]}"
+        sections = [section("subcomponents", part), section("connections", connection)]
+        sections += [section("features", feature)] if chooser.random() < .2 else []
+        chooser.shuffle(sections)
+        text += (f"system implementation t1.{'ijk'[number]} {above} {''.join(sections)}"
+                 f"end t1.{'ijk'[number]};\n")
+    return text
+
+
 def members(chooser):
     """A chain of classifiers whose members have few names."""
     names = ["a", "b", "c"]
 
     def feature():
-        kind = chooser.choice(["in feature", "feature", "out data port", "in out event port",
-                               "feature group", "requires data access"])
+        kind = chooser.choice(FEATURES)
         return f"{refined()}{kind}{array()};"
 
     def refined():
@@ -104,8 +129,7 @@ def members(chooser):
         return " [2]" if chooser.random() < .12 else ""
 
     def part():
-        kind = chooser.choice(["device e", "device e", "device", "system t1.i", "system t0",
-                               "device e (x => y)", "device z", "device q::e"])
+        kind = chooser.choice(PARTS)
         return f"{refined()}{kind}{array()};"
 
     def end():
@@ -115,8 +139,7 @@ def members(chooser):
     def connection():
         ends = f" {end()} {chooser.choice(['->', '<->'])} {end()}"
         prefix = refined()
-        if prefix and chooser.random() < .5:
-            ends = ""
+        ends = "" if prefix and chooser.random() < .5 else ends
         kind = chooser.choice(["port", "feature", "data access", "feature group"])
         return f"{prefix}{kind}{ends}{array()};"
 
@@ -125,25 +148,7 @@ def members(chooser):
                          for _ in range(chooser.choice([0, 1, 1, 2])))
         return f"{word} {lines}\n"
 
-    text = ("package p public annex emv2 {** error types l: type; end types; error behavior m "
-            "events x: error event; states s: initial state; f: state; transitions s -[x]-> f; "
-            "end behavior; **};\n"
-            "device e features o: out feature; i: in feature; annex emv2 {** use types p; "
-            "use behavior m; error propagations o: out propagation {l}; i: in propagation {l}; "
-            "flows g: error source o; end propagations; **}; end e;\n")
-    for number in range(3):
-        above = "" if number == 0 else f"extends t{number - 1}"
-        text += (f"system t{number} {above} {section('features', feature)}"
-                 f"{section('features', feature) if chooser.random() < .2 else ''}"
-                 f"end t{number};\n")
-    for number in range(3):
-        above = "" if number == 0 else f"extends t1.{'ijk'[number - 1]}"
-        sections = [section("subcomponents", part), section("connections", connection)]
-        if chooser.random() < .2:
-            sections.append(section("features", feature))
-        chooser.shuffle(sections)
-        text += (f"system implementation t1.{'ijk'[number]} {above} {''.join(sections)}"
-                 f"end t1.{'ijk'[number]};\n")
+    text = chain(chooser, section, feature, part, connection)
     return text + "end p;", "p::" + chooser.choice(["t1.i", "t1.j", "t1.k", "t2"])
 
 

@@ -1,6 +1,6 @@
 """The grammar of error model text (docs/PROFILE.md, "Error model text")."""
 
-from text import CLOSING, OPENING, Node, Reader, written
+from text import Node, Reader, written
 
 ERROR_WORDS = frozenset("""error types end use extends with properties type set renames
     noerror behavior mappings transformations events states transitions event recover repair
