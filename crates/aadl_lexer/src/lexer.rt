@@ -1,6 +1,6 @@
 //! The tokens of a whole file.
 
-ghost use Rattle.std.specs.Prelude.{◌≡◌, ℕ, List, ◌<◌, ◌≤◌, ◌+◌, ◌++◌, ◌∷◌, [], ◌↔◌, length, take, true, false, IsTrue, IfOk, IfErr, IfSome, IfNone, OnOk, MatchResult};
+ghost use Rattle.std.specs.Prelude.{◌≡◌, ℕ, List, ◌<◌, ◌≤◌, ◌+◌, ◌++◌, ◌∷◌, [], length, take, true, false, IsTrue, IfOk, IfErr, IfSome, IfNone, OnOk, MatchResult};
 ghost use Rattle.aadl_lexer.specs.Tokens.{Tokens, IsFault, RefusedAs, InCore, InAnnex, StuckInCore, StuckInAnnex, IsPlain, IsAnnex, StopsReading, AfterEmv2, tokens_of, annex_begin, annex_end};
 ghost use Rattle.aadl_syntax.specs.declared.token.Token.{Token};
 ghost use Rattle.plain_values.specs.declared.refusal.Stop.TheVariants.{Refused, Memory};

@@ -1,4 +1,3 @@
-ghost use Rattle.std.specs.Prelude.{[], ◌∷◌};
 ghost use Rattle.grammar_rules.specs.inner.Reader.{Gives};
 ghost use Rattle.aadl_parser.specs.Aliases.{package_alias, group_alias, classifier_alias, alias_of, named_alias, renames_all, last_alias, renamed, unnamed_alias};
 

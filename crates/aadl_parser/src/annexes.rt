@@ -1,4 +1,3 @@
-ghost use Rattle.std.specs.Prelude.{◌∷◌, []};
 ghost use Rattle.aadl_syntax.specs.declared.token.TokenKind.TheVariants.{AnnexEnd};
 ghost use Rattle.grammar_rules.specs.Rules.{gives, joins};
 ghost use Rattle.grammar_rules.specs.Tokens.{kind};

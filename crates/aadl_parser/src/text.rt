@@ -12,7 +12,7 @@ ghost use Rattle.aadl_parser.specs.Nesting.{IsShallow, NestedAt};
 ghost use Rattle.aadl_parser.specs.Files.{too_nested};
 ghost use Rattle.aadl_parser.specs.inner.Files.{IsUnread};
 
-use crate::nesting::{NESTING_LIMIT, too_nested_at};
+use crate::nesting::too_nested_at;
 use crate::packages::file_units;
 use aadl_syntax::{TokenList, Unit};
 use grammar_rules::{Grammar, ReadError, Reader, read_text, token_place};

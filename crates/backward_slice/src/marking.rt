@@ -1,4 +1,4 @@
-ghost use Rattle.std.specs.Prelude.{◌≡◌, ◌<◌, ◌+◌, ◌++◌, ◌∷◌, ◌&&◌, OnOk, map, false, ◌==◌};
+ghost use Rattle.std.specs.Prelude.{◌<◌, ◌&&◌, OnOk, map, false, ◌==◌};
 ghost use Rattle.std.specs.List.{list_any};
 ghost use Rattle.fault_system.specs.Truth.{occurs, occurs_event};
 ghost use Rattle.backward_slice.specs.inner.Marks.{Adds};

@@ -1,4 +1,4 @@
-ghost use Rattle.std.specs.Prelude.{◌<◌, if◌then◌else◌, MatchResult, IfOk, length};
+ghost use Rattle.std.specs.Prelude.{◌<◌, MatchResult, IfOk, length};
 ghost use Rattle.plain_values.specs.inner.Stops.{StopsFor};
 ghost use Rattle.backward_slice.specs.Slices.{HasLargeSlice, IsSlice, IsServed};
 ghost use Rattle.backward_slice.specs.inner.Marks.{IsNumbers};

@@ -1,6 +1,6 @@
 //! The moves of a listing from set to set.
 
-ghost use Rattle.std.specs.Prelude.{◌≡◌, ◌+◌, ◌<◌, ◌≤◌, ℕ, IsTrue, List as Items, [], ◌∷◌, ◌++◌, length, filter, IfNone, IfSome};
+ghost use Rattle.std.specs.Prelude.{◌≡◌, ◌+◌, ◌<◌, ◌≤◌, ℕ, IsTrue, List as Items, [], ◌∷◌, length, filter, IfNone, IfSome};
 ghost use Rattle.std.specs.List.{AllByRecursion};
 ghost use Rattle.zdd_store.specs.inner.Family.{least_number, precedes, is_within};
 ghost use Rattle.zdd_store.specs.inner.Store.{IsIn, Fits, family_of, family_with};

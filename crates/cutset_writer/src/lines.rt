@@ -1,4 +1,4 @@
-ghost use Rattle.std.specs.Prelude.{◌≡◌, ◌+◌, ◌≤◌, ◌++◌, ◌∷◌, [], IfSome, Some, length, decimal, map, option_map, sum, vec_capacity, vec_len};
+ghost use Rattle.std.specs.Prelude.{◌≡◌, ◌+◌, ◌≤◌, ◌++◌, ◌∷◌, IfSome, Some, length, decimal, option_map, vec_capacity, vec_len};
 ghost use Rattle.fault_system.specs.Systems.{event_name};
 ghost use Rattle.cutset_lister.specs.SetText.{set_text};
 ghost use Rattle.cutset_writer.specs.Text.{form_text, more_line, set_line};

@@ -1,13 +1,12 @@
-ghost use Rattle.std.specs.Prelude.{◌≡◌, ◌<◌, ◌≤◌, ℕ, List as Items, Contains, IfOk, IfSome, IsTrue, Option as Maybe, Some, option_map, vec_capacity};
+ghost use Rattle.std.specs.Prelude.{◌≡◌, ◌<◌, ◌≤◌, ℕ, List as Items, Contains, IfOk, IsTrue, Option as Maybe, Some, option_map, vec_capacity};
 ghost use Rattle.fault_system.specs.CutSets.{IsEventSet};
 ghost use Rattle.zdd_store.specs.inner.Family.{is_within};
 ghost use Rattle.zdd_store.specs.inner.Store.{IsIn, Keeps, family_of};
 ghost use Rattle.cutset_lister.specs.inner.Walks.{IsSameListing, IsStarted, all_sets, sets_left};
 ghost use Rattle.cutset_writer.specs.inner.Lengths.{most_line};
-ghost use Rattle.cutset_writer.specs.inner.Pages.{HasRoom, IsOpen, IsOpenMark, IsReady, Lists, goes_on, has_room, key_of, later, more_text, next_line, next_more, one_less};
+ghost use Rattle.cutset_writer.specs.inner.Pages.{HasRoom, IsOpenMark, IsReady, Lists, goes_on, has_room, key_of, later, more_text, next_line, next_more, one_less};
 ghost use Rattle.cutset_writer.specs.Text.{marked_page, marked_text, more_line};
 ghost use Rattle.fta_outside.specs.inner.Outside.{Writes};
-ghost use Rattle.cutset_writer.specs.declared.form.SetForm.TheVariants.{Token};
 
 use crate::bookmark::{Bookmark, keep_place, write_more};
 use crate::form::SetForm;
@@ -17,7 +16,6 @@ use fault_system::FaultSystem;
 use fta_outside::{Sink, SinkFailed, Steps, write_all};
 use plain_values::Mem;
 use std::alloc::{AllocError, Global};
-use std::marker::Brand;
 use std::sync::ledger::{Blank, Ledger};
 use zdd_store::{Id, Store};
 

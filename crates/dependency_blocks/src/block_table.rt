@@ -64,17 +64,6 @@ impl Blocks {
             None
         }
     }
-
-    /// The rank of a block; none where there is no such block.
-    pub fn rank(&self, block: u32) -> Option<u32>
-        ensures { MatchOption result (block < 4294967295 → size_of self.now block ≡ 0)
-            (λ rank. (rank ≡ block) × (0 < size_of self.now block) × (block < 4294967295)) }
-    {
-        match self.size(block) {
-            Some(_) => Some(block),
-            None => None,
-        }
-    }
 }
 
 fn size_at(sizes: &[u32], block: u32) -> u32

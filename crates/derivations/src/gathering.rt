@@ -1,8 +1,7 @@
 //! The derivation of a target under a set of events, by rounds.
-ghost use Rattle.std.specs.Prelude.{◌≡◌, ◌&&◌, ◌==◌, ◌↔◌, ◌≤◌, ◌<◌, ℕ, OnOk, IfOk, map};
+ghost use Rattle.std.specs.Prelude.{◌≡◌, ◌&&◌, ◌==◌, ◌<◌, OnOk, map};
 ghost use Rattle.std.specs.List.{list_any};
-ghost use Rattle.plain_values.specs.Rising.{RisesWithin};
-ghost use Rattle.fault_system.specs.Truth.{Has, member, occurs, occurs_event, set_of};
+ghost use Rattle.fault_system.specs.Truth.{member, occurs, occurs_event};
 ghost use Rattle.fault_system.specs.Rounds.{time_of};
 ghost use Rattle.derivations.specs.Derived.{is_before_round};
 ghost use Rattle.derivations.specs.inner.Gathered.{HasMore};

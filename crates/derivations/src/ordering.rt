@@ -1,5 +1,5 @@
 //! The order of the steps: by round, and then by the number of the fact.
-ghost use Rattle.std.specs.Prelude.{◌≡◌, ◌+◌, ◌<◌, ◌^◌, ◌%◌, ◌++◌, ◌∷◌, [], ℕ, IfOk, OnOk, cond, length, map, replicate, slice_index_or};
+ghost use Rattle.std.specs.Prelude.{◌≡◌, ◌+◌, ◌<◌, ◌^◌, ◌%◌, ◌++◌, ◌∷◌, [], ℕ, IfOk, OnOk, cond, length, map, slice_index_or};
 ghost use Rattle.std.specs.List.Sorted.{IsStrictlyIncreasing};
 ghost use Rattle.fault_system.specs.Truth.{set_of};
 ghost use Rattle.derivations.specs.inner.Ordered.{AreKeys, ArePlaces, IsOrder, key_of, place_at};

@@ -12,8 +12,8 @@ ghost use Rattle.emv2_parser.specs.Machines.{machine_extends, machine_head, mach
 ghost use Rattle.emv2_parser.specs.inner.Takes.{event-takes, state-takes, transition-takes, further_branch-takes, machine_block-takes};
 
 use aadl_syntax::{
-    Condition, EventDecl, EventKind, Identifier, MachineDecl, Source, StateDecl, StateRef,
-    TokenKind, Transition, TypeSet,
+    Condition, EventDecl, EventKind, MachineDecl, Source, StateDecl, StateRef, TokenKind,
+    Transition, TypeSet,
 };
 use emv2_parts::{
     block_end, condition_close, condition_open, error_name, label, machine_block_at, name_at,

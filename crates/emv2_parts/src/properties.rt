@@ -12,7 +12,6 @@ use crate::words::{error_name, name_at, point_at, point_name, point_word_at};
 use aadl_syntax::{Association, Identifier, TokenList, TokenRef};
 use grammar_rules::{Gathered, Parts, ReadError, Reader, Span, closes, is_sign, is_word};
 use plain_values::{List, Mem};
-use std::alloc::Global;
 
 /// A path as far as it is read: its names, whether it has been names with single dots between them so far, and whether
 /// its last token is a name.

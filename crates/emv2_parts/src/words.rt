@@ -1,8 +1,8 @@
-ghost use Rattle.std.specs.Prelude.{◌≡◌, ◌<◌, ◌≤◌, ◌^◌, IsTrue, [], ◌∷◌, length, codes};
+ghost use Rattle.std.specs.Prelude.{◌≡◌, ◌<◌, ◌≤◌, IsTrue, [], ◌∷◌, length};
 ghost use Rattle.std.specs.List.{list_all};
 ghost use Rattle.grammar_rules.specs.inner.Reader.{Gives, Begins};
 ghost use Rattle.aadl_syntax.specs.inner.Token.{shown};
-ghost use Rattle.grammar_rules.specs.Tokens.{is_identifier, is_one_of, one_of};
+ghost use Rattle.grammar_rules.specs.Tokens.{is_one_of, one_of};
 ghost use Rattle.aadl_syntax.specs.Form.{is_digit};
 ghost use Rattle.emv2_parts.specs.Words.{error_words, point_words, library_words, machine_words, clause_words, component_words, is_name, begins_point, begins_source, begins_composite, begins_transitions, begins_propagations, begins_paths, decimal, is_count, count};
 ghost use Rattle.emv2_parts.specs.Names.{error_name};

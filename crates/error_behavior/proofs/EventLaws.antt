@@ -1,10 +1,8 @@
 -- The events of a machine and then of clauses.
-use Rattle.std.proofs.Common.{◌≡◌, List, [], ◌++◌, fold, sym, ap, ◌∙◌}
+use Rattle.std.proofs.Common.{◌≡◌, [], fold, sym}
 use Rattle.std.proofs.lemmas.Grind.{fold-append}
 use Rattle.component_extension.specs.declared.effective.Effective.{Effective}
 use Rattle.error_libraries.specs.Libraries.{Table}
-use Rattle.propagation_points.specs.Points.{scopes_of}
-use Rattle.propagation_points.specs.States.{Sort}
 use Rattle.error_machines.specs.Machines.{Machine}
 use Rattle.error_machines.specs.States.{clause_events, events_of, keep_event, machine_events}
 use Rattle.std.specs.Prelude.{Option}

@@ -1,5 +1,5 @@
 -- What the named parts of a trigger mean (EMV2: error conditions over events and propagations).
-use Rattle.std.specs.Prelude.{ℕ, cond, List, ◌++◌, Option, Some, None, option_and_then}
+use Rattle.std.specs.Prelude.{cond, List, ◌++◌, Option, Some, None, option_and_then}
 use Rattle.aadl_syntax.specs.declared.error_model.Atom.{Atom}
 use Rattle.plain_values.specs.declared.refusal.Refusal.{Refusal}
 use Rattle.package_index.specs.Names.{only}

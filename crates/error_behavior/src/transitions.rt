@@ -3,7 +3,7 @@ ghost use Rattle.plain_values.specs.Order.{least, nearer};
 ghost use Rattle.std.specs.Option.{option_map_or};
 ghost use Rattle.propagation_points.specs.Settings.{state_refusals_in};
 ghost use Rattle.propagation_points.specs.States.{held_numbers};
-ghost use Rattle.error_conditions.specs.Conditions.{cause_of, condition_refusals};
+ghost use Rattle.error_conditions.specs.Conditions.{cause_of};
 ghost use Rattle.error_behavior.specs.Steps.{emission_of, origin_refusals, origin_of, outgoing_refusals, perhaps_refusals, step_of, targets_of, transition_refusals, trigger_of};
 
 use crate::steps::{Emission, Origin, Step};

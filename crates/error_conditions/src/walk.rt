@@ -1,4 +1,4 @@
-ghost use Rattle.std.specs.Prelude.{◌≡◌, ◌++◌, IfOk, OnOk, flat_map, map};
+ghost use Rattle.std.specs.Prelude.{◌≡◌, IfOk, OnOk, flat_map, map};
 ghost use Rattle.plain_values.specs.Order.{least, nearer};
 ghost use Rattle.error_conditions.specs.Conditions.{cause_of, condition_refusals};
 

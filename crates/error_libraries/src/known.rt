@@ -1,4 +1,3 @@
-ghost use Rattle.std.specs.Prelude.{◌≡◌};
 ghost use Rattle.std.specs.HashMap.{get};
 ghost use Rattle.error_libraries.specs.inner.Known.{AreFound, IsFound, same_search};
 

@@ -28,6 +28,7 @@ impl<'a> Model for ItemText<'a> {
 }
 
 impl<'a> ItemText<'a> {
+    /// The declaration of the item.
     pub fn item(&self) -> &'a TypeItem
         ensures { result.now ≡ self.now }
     {

@@ -1,5 +1,5 @@
 -- The states and the events of a component (EMV2: error behavior states and events).
-use Rattle.std.specs.Prelude.{ℕ, Bool, true, false, List, [], ◌∷◌, ◌++◌, fold, map, slice_get, Option, Some, None, option_map}
+use Rattle.std.specs.Prelude.{ℕ, Bool, true, false, List, [], ◌∷◌, ◌++◌, fold, map, slice_get, Option, Some, None}
 use Rattle.aadl_syntax.specs.declared.error_model.EventDecl.{EventDecl}
 use Rattle.aadl_syntax.specs.declared.error_model.EventKind.{EventKind}
 use Rattle.aadl_syntax.specs.declared.error_model.EventKind.TheVariants.{Error, Recover, Repair}

@@ -1,4 +1,4 @@
-ghost use Rattle.std.specs.Prelude.{◌≡◌, [], None, Some, IfErr, IfOk, OnOk, map};
+ghost use Rattle.std.specs.Prelude.{◌≡◌, None, Some, IfErr, IfOk, OnOk, map};
 ghost use Rattle.plain_values.specs.Order.{least};
 ghost use Rattle.error_libraries.specs.Libraries.{table_of};
 ghost use Rattle.propagation_points.specs.Points.{point_refusals, points_of};

@@ -1,17 +1,16 @@
 -- Rows of the types that are below some.
-use Rattle.std.proofs.Common.{ℕ, ◌<◌, ◌≤◌, ◌≡◌, inl, inr, Bool, true, false, ◌&&◌, ◌||◌, nat_lt, List, [], ◌∷◌, ◌++◌, length, map, slice_get, replicate, Option, Some, refl, sym, ap, ◌∙◌, arith}
+use Rattle.std.proofs.Common.{ℕ, ◌<◌, ◌≡◌, Bool, true, false, ◌||◌, List, [], ◌∷◌, ◌++◌, length, map, slice_get, replicate, Option, Some, refl, sym, ap, ◌∙◌, arith}
 use Rattle.std.specs.List.{list_any}
-use Rattle.std.proofs.lemmas.Bool.{cases_lt, le-ltb}
 use Rattle.std.proofs.lemmas.List.{get_or_append_left, get_or_push, length-append}
 use Rattle.std.proofs.lemmas.List.Folds.{list_any-append}
 use Rattle.std.proofs.lemmas.Option.{slice_get-get_or}
 use Rattle.error_libraries.specs.Libraries.{Table}
-use Rattle.error_types.specs.inner.Rows.{AreTypeRows, either, has_bit, numbers_in, row_below, row_of, rows_by, types_below}
-use Rattle.error_types.specs.Types.{base, base_of, is_below, is_below_in}
+use Rattle.error_types.specs.inner.Rows.{AreTypeRows, either, numbers_in, row_below, row_of, rows_by, types_below}
+use Rattle.error_types.specs.Types.{base_of, is_below}
 use Rattle.error_types.specs.inner.Types.{is_below_by}
 use Rattle.plain_values.specs.Numbered.{numbers_below}
 use Rattle.error_types.proofs.HierarchyLaws.{as-many, by-bases}
-use Rattle.error_types.proofs.RowLaws.{all-below, at-number, bit-past, bit-there, either-map, long, numbers-of, same-below}
+use Rattle.error_types.proofs.RowLaws.{all-below, at-number, either-map, long, numbers-of, same-below}
 
 or-none : (b : Bool) → (b || false) ≡ b
 or-none true = refl

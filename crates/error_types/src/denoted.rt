@@ -1,4 +1,4 @@
-ghost use Rattle.std.specs.Prelude.{◌≡◌, [], Bool, flat_map, map, slice_get, List as Items, IfOk, OnOk, Some, true, false};
+ghost use Rattle.std.specs.Prelude.{◌≡◌, [], flat_map, map, IfOk, OnOk, Some, true, false};
 ghost use Rattle.plain_values.specs.Order.{nearer};
 ghost use Rattle.error_types.specs.inner.Rows.{Adds, AreTypeRows, Remembers, row_of, types_below};
 ghost use Rattle.error_libraries.specs.Search.{named};

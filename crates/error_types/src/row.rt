@@ -1,4 +1,4 @@
-ghost use Rattle.std.specs.Prelude.{◌≡◌, ◌<◌, ◌*◌, ◌++◌, ◌∷◌, [], false, length, min, replicate, slice_set, true, IfOk, IsTrue};
+ghost use Rattle.std.specs.Prelude.{◌≡◌, ◌<◌, ◌*◌, false, length, min, replicate, slice_set, true, IfOk, IsTrue};
 ghost use Rattle.error_types.specs.inner.Rows.{either, has_bit, numbers_in};
 ghost use Rattle.error_types.specs.inner.Words.{Joins, bit_in, with_bit};
 

@@ -1,6 +1,6 @@
 //! Settling an item: where all that it names is settled, so is what is reached from it.
 
-ghost use Rattle.std.specs.Prelude.{◌≡◌, ◌<◌, ◌++◌, ◌^◌, max, slice_get, length, option_copied, option_to_list, IfOk, IfSome, IsTrue, None, Some, List as Items, Bool, ℕ, true};
+ghost use Rattle.std.specs.Prelude.{◌≡◌, ◌<◌, max, slice_get, length, option_copied, option_to_list, IfOk, IfSome, IsTrue, None, Some, List as Items, Bool, ℕ, true};
 ghost use Rattle.plain_values.specs.Order.{nearer};
 ghost use Rattle.error_types.specs.inner.Grounded.{is_stopped};
 ghost use Rattle.error_libraries.specs.Libraries.{item_at, library_scope, number_of};

@@ -5,7 +5,7 @@ ghost use Rattle.error_types.specs.inner.Leaving.{LeavesItem, Offers};
 ghost use Rattle.error_libraries.specs.inner.Tables.{has_number};
 ghost use Rattle.error_types.specs.inner.Trip.{at_visit, items_on, noting};
 
-use crate::needs::{Need, Needs, NextName};
+use crate::needs::{Needs, NextName};
 use error_libraries::ItemId;
 use plain_values::{FirstRefusal, Mem, Refusal};
 use std::alloc::{AllocError, Global};

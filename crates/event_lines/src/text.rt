@@ -1,4 +1,4 @@
-ghost use Rattle.std.specs.Prelude.{◌≡◌, ◌<◌, ◌++◌, IfOk, OnOk, length};
+ghost use Rattle.std.specs.Prelude.{◌≡◌, ◌<◌, ◌++◌, IfOk, OnOk};
 ghost use Rattle.fmea_rows.specs.Text.{rate_of, rate_text};
 ghost use Rattle.event_lines.specs.Text.{byte_text, event_line, events_text, file_word, kind_word, origin_at, spot_text};
 

@@ -1,5 +1,5 @@
 -- The first declaration of a name, as a table finds it.
-use Rattle.std.proofs.Common.{◌≡◌, ℕ, Bool, true, List, Option, None, Some, option_and_then, option_map, position, slice_get, sym, ap, ◌∙◌}
+use Rattle.std.proofs.Common.{◌≡◌, ℕ, true, List, Option, option_and_then, option_map, position, slice_get, sym, ap, ◌∙◌}
 use Rattle.std.proofs.lemmas.Slice.Eq.{bytes_eq-Decides}
 use denote.Ref.{Bor}
 use Rattle.plain_values.specs.Name.{is_same_text}

@@ -1,5 +1,5 @@
 -- Of which kind each event of a model is, and where its declaration stands.
-use Rattle.std.specs.Prelude.{ℕ, List, [], ◌∷◌, Option, None, Some, option_and_then}
+use Rattle.std.specs.Prelude.{ℕ, List, [], ◌∷◌, Option, None, option_and_then}
 use Rattle.plain_values.specs.declared.spot.Spot.{Spot}
 use Rattle.instantiator.specs.Whole.{Instance, classifier_at}
 use Rattle.model_facts.specs.Assembly.{Assembly}

@@ -1,4 +1,4 @@
-ghost use Rattle.std.specs.Prelude.{◌≡◌, ◌++◌, IfOk, OnOk, flat_map, map, option_and_then, option_map};
+ghost use Rattle.std.specs.Prelude.{◌≡◌, ◌++◌, IfOk, OnOk, flat_map, map};
 ghost use Rattle.error_models.specs.Below.{machine_of};
 ghost use Rattle.event_origins.specs.Declarations.{declarations_in, declarations_of, event_declaration, flow_declaration, inward_declaration, machine_events, named_at};
 

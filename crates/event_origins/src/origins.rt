@@ -1,5 +1,4 @@
-ghost use Rattle.std.specs.Prelude.{◌≡◌, IfOk, map, option_copied};
-ghost use Rattle.instantiator.specs.Whole.{classifier_at};
+ghost use Rattle.std.specs.Prelude.{◌≡◌, IfOk, map};
 ghost use Rattle.event_origins.specs.Origins.{kind_of, origin_of, spot_at, spot_in};
 ghost use Rattle.event_origins.specs.Declarations.{declarations_of};
 ghost use Rattle.event_origins.specs.inner.Placed.{ArePlaced};

@@ -21,7 +21,6 @@ pub(crate) struct DeclarationTable<'a> {
 impl<'a> Model for DeclarationTable<'a> {
     ghost use Rattle.std.specs.Prelude.{List};
     ghost use Rattle.std.specs.HashMap.{get};
-    ghost use denote.Ref.{Bor};
     ghost use Rattle.package_index.specs.inner.Tables.{Knows, same_text};
     ghost use Rattle.event_origins.specs.Named.{Declaration as Seen};
     ghost use Rattle.event_origins.specs.inner.Named.{has_text};

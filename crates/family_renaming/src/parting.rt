@@ -1,4 +1,4 @@
-ghost use Rattle.std.specs.Prelude.{◌≡◌, ◌<◌, IfSome, IfOk};
+ghost use Rattle.std.specs.Prelude.{◌<◌, IfSome, IfOk};
 ghost use Rattle.std.specs.HashMap.{get};
 ghost use Rattle.zdd_store.specs.inner.Store.{IsIn, family_of};
 ghost use Rattle.family_renaming.specs.inner.Splitting.{IsParted, Parted, KnowsParts};

@@ -1,6 +1,6 @@
 ghost use Rattle.std.specs.Prelude.{◌≡◌, ◌↔◌, ◌<◌, ◌^◌, ℕ, length, false, not, IfOk, OnOk, IsTrue, option_copied, slice_get};
 ghost use Rattle.std.specs.List.{list_all};
-ghost use Rattle.fault_system.specs.Truth.{NumberSet, Has, member, count_true, set_of};
+ghost use Rattle.fault_system.specs.Truth.{Has, member, set_of};
 
 use crate::bits::Bits;
 use crate::formula::{EventInfo, FactInfo};

@@ -4,10 +4,10 @@
 //! tests is right. That what is proposed always passes is not proved, so where a test failed the rounds under the event would be
 //! made anew.
 
-ghost use Rattle.std.specs.Prelude.{◌≡◌, ◌≤◌, ◌<◌, ◌+◌, ◌^◌, ◌++◌, ℕ, IfOk, IsTrue, OnOk, length, map, slice_index_or, replicate};
+ghost use Rattle.std.specs.Prelude.{◌≡◌, ◌<◌, ◌+◌, ◌^◌, ◌++◌, IfOk, IsTrue, OnOk, length};
 ghost use Rattle.plain_values.specs.Rising.{RisesWithin};
 ghost use Rattle.fault_system.specs.Truth.{member};
-ghost use Rattle.fault_system.specs.Rounds.{no_event, only, time_of};
+ghost use Rattle.fault_system.specs.Rounds.{no_event, only};
 ghost use Rattle.fault_system.specs.inner.Rounds.{IsTable};
 ghost use Rattle.fmea_rows.specs.Rows.{event_rows, rows_of};
 ghost use Rattle.fmea_rows.specs.inner.Rows.{AreRows};

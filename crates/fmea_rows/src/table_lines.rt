@@ -1,12 +1,12 @@
 //! A table as comma-separated values, line by line.
 
-ghost use Rattle.std.specs.Prelude.{◌≡◌, ◌++◌, ◌+◌, ◌<◌, All, IfOk, IsTrue, OnOk, [], false, length};
+ghost use Rattle.std.specs.Prelude.{◌≡◌, ◌++◌, ◌+◌, ◌<◌, All, OnOk, false};
 ghost use Rattle.aadl_syntax.specs.Form.{IsNumber};
 ghost use Rattle.csv.specs.Records.{fields_of};
 ghost use Rattle.csv.specs.Writing as Csv;
-ghost use Rattle.fmea_rows.specs.Text.{header, table_text};
+ghost use Rattle.fmea_rows.specs.Text.{table_text};
 ghost use Rattle.fmea_rows.specs.inner.Text.{HasFieldNames};
-ghost use Rattle.fmea_rows.specs.inner.Written.{IsAtLine, record_text, row_lines};
+ghost use Rattle.fmea_rows.specs.inner.Written.{IsAtLine, record_text};
 
 use crate::fields::{put_fields, put_header};
 use crate::row::Row;

@@ -1,6 +1,6 @@
 //! Linear tests of a changed table: where they say yes it is right, whoever proposed the changes.
 
-ghost use Rattle.std.specs.Prelude.{◌≡◌, ◌≤◌, ◌<◌, ◌+◌, ◌^◌, ℕ, IsTrue, length, slice_index_or};
+ghost use Rattle.std.specs.Prelude.{◌≤◌, ◌<◌, ◌+◌, ◌^◌, ℕ, IsTrue, slice_index_or};
 ghost use Rattle.fault_system.specs.Truth.{Has, member, set_of};
 ghost use Rattle.fault_system.specs.Rounds.{time_of};
 ghost use Rattle.fault_system.specs.inner.Rounds.{FitsFact};

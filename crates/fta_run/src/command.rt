@@ -1,4 +1,4 @@
-ghost use Rattle.std.specs.Prelude.{◌≡◌, ◌<◌, ◌≤◌, ℕ, List, IfOk, Result, length, map};
+ghost use Rattle.std.specs.Prelude.{◌≡◌, ◌<◌, ℕ, List, IfOk, Result, length, map};
 ghost use Rattle.fta_outside.specs.Outside.{Rose, Took as TookAll, TookPrefix};
 ghost use Rattle.phases.specs.Phases.{IsDue};
 ghost use Rattle.phases.specs.inner.Meets.{MeetsBut};

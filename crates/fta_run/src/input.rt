@@ -1,4 +1,4 @@
-ghost use Rattle.std.specs.Prelude.{◌≡◌, ℕ, ◌^◌, ◌<◌, ◌≤◌, suc, List, [], ◌∷◌, MatchResult, IfOk, IfErr, IfSome, Err, ◌⊎◌, All, length, sum_by, take};
+ghost use Rattle.std.specs.Prelude.{◌≡◌, ℕ, ◌<◌, ◌≤◌, suc, List, [], ◌∷◌, MatchResult, IfOk, IfErr, IfSome, Err, All, length, sum_by, take};
 ghost use Rattle.plain_values.specs.declared.refusal.Refusal.{Refusal};
 ghost use Rattle.plain_values.specs.declared.refusal.Code.TheVariants.{TooManyFiles};
 ghost use Rattle.plain_values.specs.declared.refusal.Stop.TheVariants.{Refused};

@@ -1,7 +1,7 @@
 ghost use Rattle.std.specs.Prelude.{◌≡◌, true, ◌↔◌, ◌≤◌, ◌++◌, ℕ, length, List, IsTrue, MatchOption, ◌∷◌};
 ghost use Rattle.std.specs.List.{AllByRecursion};
 ghost use Rattle.fta_words.specs.Table.{flags_of, required_of, valued_of};
-ghost use Rattle.fta_words.specs.Words.{Given, IsAllowed, is_given, option_words};
+ghost use Rattle.fta_words.specs.Words.{Given, is_given, option_words};
 ghost use Rattle.fta_words.specs.inner.Reading.{Allowed, HaveOptions, NoneStandsFirst, StandsFirst};
 
 use crate::kind::Kind;

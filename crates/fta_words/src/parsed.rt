@@ -2,7 +2,7 @@ ghost use Rattle.std.specs.Prelude.{◌≡◌, List, ℕ, Option, true, false, I
 ghost use Rattle.clap.specs.Words.{app_of, found_of, rows_of, rule_of, with_rule};
 ghost use Rattle.plain_values.specs.Name.{folded};
 ghost use Rattle.fta_words.specs.Table.{is_among};
-ghost use Rattle.fta_words.specs.Words.{AreChosen, AreOptions, Given, IsFolded, IsNumberText, Says, is_given, option_words, reports_for, value_of};
+ghost use Rattle.fta_words.specs.Words.{AreChosen, AreOptions, Given, IsNumberText, Says, is_given, option_words, reports_for, value_of};
 ghost use Rattle.fta_words.specs.inner.Parsed.{StandIn, all_flags, all_valued, flag_rule, options_app, valued_rule};
 ghost use Rattle.fta_words.specs.inner.Reading.{HaveOptions, SaysAs};
 

@@ -6,7 +6,7 @@ ghost use Rattle.galileo_reader.specs.Nodes.{event_in, events_of, gate_in, gate_
 use crate::nodes::Nodes;
 use crate::statement::{PlacedName, Statement};
 use crate::tree::{NamedEvent, NamedGate, NamedTree};
-use plain_values::{List, Mem, Name, copied};
+use plain_values::{List, Mem, copied};
 use property_reader::Rate;
 use round_gates::Input;
 use std::alloc::Global;

@@ -1,7 +1,7 @@
 //! The token at the front of a text.
 
 ghost use Rattle.std.specs.Prelude.{◌≡◌, ◌<◌, ◌≤◌, ◌+◌, drop, length, IfSome};
-ghost use Rattle.galileo_reader.specs.Marks.{blanks_len, closed_len, counts_len, figures_len, front_or, is_few, is_plain, mark_from, name_len, plain_len, rate_at, rate_len, token_at, word_at};
+ghost use Rattle.galileo_reader.specs.Marks.{blanks_len, closed_len, counts_len, figures_len, front_or, is_few, mark_from, name_len, plain_len, rate_at, rate_len, token_at, word_at};
 
 use crate::token::{Front, Mark, Token};
 use aadl_lexer::{digits_len, is_blank, is_digit, number_len};

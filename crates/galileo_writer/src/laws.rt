@@ -9,7 +9,7 @@ ghost use Rattle.round_gates.specs.Targets.{IsTreeFor};
 ghost use Rattle.round_gates.specs.inner.Targets.{IsWellMade};
 ghost use Rattle.galileo_writer.specs.Galileo.{Galileo, IsTextOf};
 ghost use Rattle.galileo_writer.specs.Truth.{TextTrue};
-ghost use Rattle.galileo_writer.specs.TreeText.{gate_name, names_of, tree_galileo, tree_text};
+ghost use Rattle.galileo_writer.specs.TreeText.{gate_name, names_of, tree_text};
 ghost use Rattle.galileo_writer.specs.inner.TreeText.{AreRates, HasTextNames};
 
 /// Bytes are one text at most.

@@ -1,6 +1,6 @@
 //! The text of a tree, line by line.
 
-ghost use Rattle.std.specs.Prelude.{◌≡◌, ◌++◌, ◌+◌, ◌<◌, ◌↔◌, ℕ, IfOk, IsTrue, [], drop, false, length};
+ghost use Rattle.std.specs.Prelude.{◌≡◌, ◌++◌, ◌+◌, ◌<◌, ◌↔◌, ℕ, IfOk, IsTrue, [], false, length};
 ghost use Rattle.fault_system.specs.Truth.{NumberSet};
 ghost use Rattle.fault_system.specs.Systems.{Holds};
 ghost use Rattle.round_gates.specs.Targets.{IsTreeFor};

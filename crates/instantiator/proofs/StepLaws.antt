@@ -14,7 +14,6 @@ use Rattle.instantiator.specs.declared.path.Component.{Component}
 use Rattle.instantiator.specs.Components.{component_at, component_below}
 use Rattle.instantiator.specs.inner.Whole.{ParentsComeFirst, PathsDiffer}
 use Rattle.instantiator.proofs.MemberNames.{name-same, same-name}
-use Rattle.instantiator.proofs.PathLaws.{front-snoc}
 
 abbrev pub is_at : List (List ℕ) → Component → Bool
 is_at path component = is_same_name component.path path

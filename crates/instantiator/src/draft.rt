@@ -1,4 +1,4 @@
-ghost use Rattle.std.specs.Prelude.{◌≡◌, ◌≤◌, ◌∷◌, [], length, None, Some, IfOk, MatchResult};
+ghost use Rattle.std.specs.Prelude.{◌≡◌, ◌≤◌, [], length, None, Some, IfOk, MatchResult};
 ghost use Rattle.instantiator.specs.Components.{found};
 ghost use Rattle.plain_values.specs.inner.Stops.{StopsAt};
 ghost use Rattle.instantiator.specs.Refused.{component_refusal, limit_refusal};

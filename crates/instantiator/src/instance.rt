@@ -10,7 +10,7 @@ ghost use Rattle.instantiator.specs.inner.Whole.{ParentsComeFirst, PathsDiffer};
 use crate::draft::Draft;
 use crate::kinds::{Kind, Kinds};
 use crate::occurrence::Occurrence;
-use crate::path::{Component, Path};
+use crate::path::Component;
 use crate::preorder::add_all;
 use crate::steps::{StepTable, Steps, numbers_of};
 use aadl_syntax::Identifier;

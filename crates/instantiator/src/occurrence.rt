@@ -1,4 +1,4 @@
-ghost use Rattle.std.specs.Prelude.{◌≡◌, ◌++◌, IfOk, map, option_copied};
+ghost use Rattle.std.specs.Prelude.{◌≡◌, IfOk, map, option_copied};
 ghost use Rattle.instantiator.specs.Components.{meant, occurrence_of, part_of, parts_of, root_of, stated_by};
 
 use crate::path::Path;

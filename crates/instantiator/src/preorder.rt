@@ -1,4 +1,4 @@
-ghost use Rattle.std.specs.Prelude.{◌≡◌, ◌≤◌, ◌-◌, length, MatchResult};
+ghost use Rattle.std.specs.Prelude.{◌≤◌, ◌-◌, length, MatchResult};
 ghost use Rattle.instantiator.specs.Components.{preorder};
 ghost use Rattle.plain_values.specs.inner.Stops.{StopsAt};
 ghost use Rattle.instantiator.specs.Refused.{first_refusal};

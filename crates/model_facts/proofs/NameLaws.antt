@@ -3,7 +3,7 @@ use Rattle.std.proofs.Common.{ℕ, zero, suc, ◌+◌, ◌<◌, ◌≡◌, ◌�
 use Rattle.std.specs.List.{AllByRecursion}
 use Rattle.std.specs.Option.{option_map_or}
 use Rattle.std.specs.Prelude.{codes}
-use Rattle.std.proofs.lemmas.List.{append-nil, append_assoc, append_cancel_left, append_cancel_right}
+use Rattle.std.proofs.lemmas.List.{append-nil, append_cancel_left, append_cancel_right}
 use Rattle.std.proofs.lemmas.Option.{get_or_from_slice_get, slice_get_within}
 use Rattle.aadl_syntax.specs.inner.Token.{IsIdentifier}
 use Rattle.error_libraries.specs.Libraries.{Table}
@@ -33,7 +33,7 @@ use Rattle.model_facts.specs.declared.keys.EventKind.TheVariants.{Declared, Sour
 use Rattle.model_facts.specs.declared.keys.FactKey.{FactKey}
 use Rattle.model_facts.specs.declared.keys.FactKind.{FactKind}
 use Rattle.model_facts.specs.declared.keys.FactKind.TheVariants.{State, Enters, Exits}
-use Rattle.model_facts.proofs.RowLaws.{IsRising, below-apart, each-at, each-or, numbered-apart, numbered-each, rising-apart, rising-none}
+use Rattle.model_facts.proofs.RowLaws.{IsRising, below-apart, each-at, numbered-apart, numbered-each, rising-apart, rising-none}
 use Rattle.model_facts.proofs.ShapeLaws.{BothRise, IsEarlier, IsShaped, Rises, SourcesDiffer, VariantsDiffer}
 use Rattle.model_facts.proofs.TextLaws.{IsForeign, behind-same, heads, identifier-lacks, lacks-by, no-byte, no-fronts, up-to}
 

@@ -1,5 +1,5 @@
 -- What is written as a token is read back.
-use Rattle.std.proofs.Common.{◌≡◌, ◌<◌, ◌≤◌, ◌==◌, ◌&&◌, ◌||◌, ℕ, zero, suc, Bool, true, false, List, [], ◌∷◌, ◌++◌, length, take, codes, Option, Some, None, slice_get, refl, sym, ap, subst, ◌∙◌, arith}
+use Rattle.std.proofs.Common.{◌≡◌, ◌<◌, ◌==◌, ◌&&◌, ◌||◌, ℕ, zero, suc, Bool, true, false, List, [], ◌∷◌, ◌++◌, length, codes, Option, Some, None, slice_get, refl, sym, ap, subst, ◌∙◌, arith}
 use Rattle.std.specs.Prelude.{IfSome, unwrap_or, slice_index_or}
 use Rattle.std.specs.List.{list_any}
 use Rattle.std.specs.Option.{option_map}
@@ -13,8 +13,8 @@ use Rattle.phases.specs.Phases.{Passes}
 use Rattle.cutset_lister.specs.SetText.{set_text}
 use Rattle.cutset_lister.specs.inner.Scanning.{Ends, names_text}
 use Rattle.cutset_lister.proofs.Scans.{set_text-first}
-use Rattle.page_tokens.specs.Forms.{AreDigits, Said, begins_new, token_text}
-use Rattle.page_tokens.specs.Starts.{IsStart, SaysStart, page_start, start_text}
+use Rattle.page_tokens.specs.Forms.{AreDigits, begins_new, token_text}
+use Rattle.page_tokens.specs.Starts.{IsStart, page_start, start_text}
 use Rattle.page_tokens.specs.inner.Starts.{HasPageNames, IsPageName}
 
 -- the name of an event of a set is one that no token can mean in another way

@@ -1,6 +1,6 @@
 //! The bounds of the probability of a family of a store.
 
-ghost use Rattle.std.specs.Prelude.{◌≡◌, ◌<◌, IfOk, IfSome, length};
+ghost use Rattle.std.specs.Prelude.{◌<◌, IfOk, IfSome, length};
 ghost use Rattle.std.specs.HashMap.{get};
 ghost use Rattle.zdd_store.specs.inner.Store.{IsIn, Keeps, family_of};
 ghost use Rattle.probabilities.specs.inner.Decided.{AreBoundsOf, FitWhole, rates_of};

@@ -1,6 +1,6 @@
 //! Bounds of the probabilities of events and of families, as decimals.
 
-ghost use Rattle.std.specs.Prelude.{ℕ, ◌≤◌, ◌≡◌, ◌^◌, ◌+◌, ◌-◌};
+ghost use Rattle.std.specs.Prelude.{ℕ, ◌≤◌, ◌≡◌, ◌^◌, ◌-◌};
 ghost use Rattle.decimals.specs.inner.Decimals.{parts, IsNear, HasPlaces};
 ghost use Rattle.probabilities.specs.inner.Decided.{FitsWhole};
 ghost use Rattle.probabilities.specs.inner.Widths.{IsNarrowRate};

@@ -3,7 +3,7 @@
 ghost use Rattle.std.specs.Prelude.{◌≤◌, ◌<◌, ◌≡◌, ◌*◌, ◌+◌, ◌^◌, min, ℕ, IfSome, slice_get, length};
 ghost use Rattle.decimals.specs.inner.Decimals.{parts, HasPlaces};
 ghost use Rattle.zdd_store.specs.inner.Family.{Family};
-ghost use Rattle.zdd_store.specs.inner.Store.{IsIn, family_of, IsSound};
+ghost use Rattle.zdd_store.specs.inner.Store.{family_of};
 ghost use Rattle.probabilities.specs.inner.Rates.{Rates};
 ghost use Rattle.probabilities.specs.inner.Decided.{AreBoundsOf, IsStep};
 ghost use Rattle.probabilities.specs.inner.Widths.{AreNarrow, IsNarrowRate, IsNearBelow, IsNearAbove};

@@ -1,4 +1,4 @@
-ghost use Rattle.std.specs.Prelude.{◌≡◌, ◌≤◌, ◌<◌, ◌^◌, ◌++◌, ◌∷◌, [], length, IfOk, OnOk, map, option_copied, option_map};
+ghost use Rattle.std.specs.Prelude.{◌≡◌, ◌≤◌, ◌<◌, ◌^◌, ◌∷◌, [], length, IfOk, map, option_copied, option_map};
 ghost use Rattle.instantiator.specs.Components.{component_below};
 ghost use Rattle.instantiator.specs.Whole.{classifier_at, effective_in};
 ghost use Rattle.propagation_links.specs.Bound.{all_bounds, bound_in, counting_along, last_binding, path_in};

@@ -1,8 +1,7 @@
-ghost use Rattle.std.specs.Prelude.{◌≡◌, All, IfOk, IfSome, codes, find, length, option_and_then, option_copied, option_map, replicate};
+ghost use Rattle.std.specs.Prelude.{◌≡◌, All, IfOk, IfSome, find, length, option_copied, replicate};
 ghost use Rattle.aadl_syntax.specs.Form.{IsNumber};
 ghost use Rattle.aadl_syntax.specs.inner.Token.{IsTokenText};
 ghost use Rattle.aadl_syntax.specs.declared.token.TokenKind.TheVariants.{Number, Word};
-ghost use Rattle.plain_values.specs.Name.{is_same_text};
 ghost use Rattle.property_reader.specs.Rates.{association_rate, conservative_rate, distribution_kind, field_named, fields_kind, fields_number, fields_rate, only_text, rate_with, rate_word, value_rate};
 
 use crate::field::{Field, fields_of};

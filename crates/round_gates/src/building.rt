@@ -1,6 +1,6 @@
 //! A tree of the gates that are reached, by fact, stage and place.
 
-ghost use Rattle.std.specs.Prelude.{◌≡◌, ◌+◌, ◌<◌, ◌≤◌, ◌^◌, ◌||◌, ◌++◌, ◌∷◌, [], ℕ, IfOk, length, map, filter, option_copied, slice_get, if◌then◌else◌};
+ghost use Rattle.std.specs.Prelude.{◌≡◌, ◌<◌, ◌^◌, ◌||◌, [], ℕ, IfOk, length, map, filter, option_copied, slice_get};
 ghost use Rattle.std.specs.HashMap.{get};
 ghost use Rattle.std.specs.List.{list_any, range_with_len};
 ghost use Rattle.fault_system.specs.Truth.{member};

@@ -1,6 +1,6 @@
 //! The gates that are reached from the last stage of a target, and no others.
 
-ghost use Rattle.std.specs.Prelude.{◌≡◌, ◌+◌, ◌<◌, ◌^◌, ◌||◌, ◌∷◌, [], IfOk, OnOk, length};
+ghost use Rattle.std.specs.Prelude.{◌≡◌, ◌<◌, ◌^◌, ◌||◌, ◌∷◌, [], IfOk, OnOk, length};
 ghost use Rattle.std.specs.HashMap.{get};
 ghost use Rattle.std.specs.List.{IsDistinct};
 ghost use Rattle.round_gates.specs.Trees.{NamesRise};

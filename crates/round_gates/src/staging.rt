@@ -1,6 +1,6 @@
 //! The tree of a target.
 
-ghost use Rattle.std.specs.Prelude.{◌≡◌, ◌+◌, ◌<◌, ◌≤◌, ◌^◌, ◌↔◌, [], true, IfErr, IfOk, OnOk, length};
+ghost use Rattle.std.specs.Prelude.{◌≡◌, ◌<◌, ◌≤◌, ◌^◌, ◌↔◌, [], true, IfErr, IfOk, OnOk, length};
 ghost use Rattle.fault_system.specs.Truth.{NumberSet};
 ghost use Rattle.std.specs.List.{AllByRecursion};
 ghost use Rattle.fault_system.specs.Systems.{Holds};

@@ -1,6 +1,5 @@
 //! What a Galileo text comes to.
 
-ghost use Rattle.std.specs.Prelude.{◌≤◌, length};
 ghost use Rattle.galileo_reader.specs.inner.Trees.{IsNamedTree};
 
 use crate::text::Text;

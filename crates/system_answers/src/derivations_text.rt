@@ -1,6 +1,6 @@
 //! Why a set of events makes a target hold, as text, and the answer on such a text.
 
-ghost use Rattle.std.specs.Prelude.{◌≡◌, ◌<◌, ◌≤◌, ◌^◌, IfOk, OnOk, length};
+ghost use Rattle.std.specs.Prelude.{◌≡◌, ◌<◌, ◌≤◌, ◌^◌, IfOk, length};
 ghost use Rattle.phases.specs.inner.Meets.{IsMemory, Meets, MeetsBut};
 ghost use Rattle.plain_values.specs.declared.refusal.Place.TheVariants.{At as Byte};
 ghost use Rattle.plain_values.specs.Refusal.{refusal};

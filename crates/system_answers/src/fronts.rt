@@ -3,7 +3,7 @@
 //! A page with a limit needs the smallest sets alone, and these may be found at once where all sets are never found. Which are tried, in
 //! which order and how long, decides how long it takes, and not what is found.
 
-ghost use Rattle.std.specs.Prelude.{◌≡◌, ◌<◌, ℕ, List as Items, Contains, IfOk, IfSome, IsTrue, Option as Maybe, Some, length, option_map, suc};
+ghost use Rattle.std.specs.Prelude.{◌≡◌, ◌<◌, ℕ, List as Items, Contains, IfOk, IfSome, IsTrue, Option as Maybe, Some, length, suc};
 ghost use Rattle.fault_system.specs.Listings.{IsWithinOrder, sets_after};
 ghost use Rattle.backward_slice.specs.Slices.{IsSlice};
 ghost use Rattle.zdd_store.specs.inner.Family.{is_within};

@@ -1,6 +1,6 @@
 //! A page of the minimal path sets of a target.
 
-ghost use Rattle.std.specs.Prelude.{◌≡◌, ◌<◌, IfErr, IfOk, OnOk, length};
+ghost use Rattle.std.specs.Prelude.{◌<◌, IfErr, IfOk, OnOk, length};
 ghost use Rattle.phases.specs.inner.Meets.{IsMemory, Meets, StopsBut};
 ghost use Rattle.phases.specs.Phases.{tests};
 ghost use Rattle.plain_values.specs.Order.{IsClear};

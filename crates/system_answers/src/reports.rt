@@ -1,19 +1,17 @@
 //! The reports on a listing that a caller hands in.
 
-ghost use Rattle.std.specs.Prelude.{◌≡◌, ◌<◌, ◌++◌, IfErr, IfOk, OnOk, length, map, true, vec_len};
+ghost use Rattle.std.specs.Prelude.{◌≡◌, ◌<◌, IfErr, IfOk, length, map, vec_len};
 ghost use Rattle.phases.specs.Phases.{Passes};
-ghost use Rattle.phases.specs.declared.status.Status.TheVariants as any_status;
 ghost use Rattle.plain_values.specs.Rising.{RisesWithin};
-ghost use Rattle.fault_system.specs.Listings.{IsListing};
 ghost use Rattle.backward_slice.specs.Slices.{IsSlice};
-ghost use Rattle.cutset_lister.specs.inner.Walks.{IsStarted, all_sets, sets_left};
+ghost use Rattle.cutset_lister.specs.inner.Walks.{IsStarted, sets_left};
 ghost use Rattle.cut_reports.specs.Feeding.{IsKept, RoseAt};
 ghost use Rattle.cut_reports.specs.inner.Feeding.{TakesEach};
-ghost use Rattle.cut_reports.specs.Places.{AtChosen, is_among};
+ghost use Rattle.cut_reports.specs.Places.{AtChosen};
 ghost use Rattle.cut_reports.specs.Texts.{reports_text};
 ghost use Rattle.system_answers.specs.Texts.{reports_of};
 ghost use Rattle.system_answers.specs.inner.Ends.{EndsReports, IsReportEnd};
-ghost use Rattle.system_answers.specs.Voices.{labels, voices_of};
+ghost use Rattle.system_answers.specs.Voices.{voices_of};
 
 use crate::cut_sets::listing_of;
 use backward_slice::Slice;

@@ -3,7 +3,7 @@
 //! For each event it is gone from the facts in whose formulas it stands to those in whose formulas these stand, as far as
 //! the formulas are true. Each fact that is found holds; that all are found is not claimed.
 
-ghost use Rattle.std.specs.Prelude.{◌≡◌, ◌+◌, ◌≤◌, ◌<◌, ◌⊎◌, ℕ, IfOk, IsTrue, OnOk, length, replicate};
+ghost use Rattle.std.specs.Prelude.{◌≡◌, ◌+◌, ◌<◌, ◌⊎◌, ℕ, IfOk, IsTrue, OnOk, length, replicate};
 ghost use Rattle.fault_system.specs.Truth.{member};
 ghost use Rattle.fault_system.specs.Systems.{Holds};
 ghost use Rattle.fault_system.specs.Rounds.{time_of};

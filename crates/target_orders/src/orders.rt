@@ -2,7 +2,6 @@ ghost use Rattle.std.specs.Prelude.{◌≡◌, ◌<◌, ◌↔◌, ◌++◌, ℕ
 ghost use Rattle.fault_system.specs.Truth.{Has, member};
 ghost use Rattle.fault_system.specs.CutSets.{IsCutSet};
 ghost use Rattle.backward_slice.specs.Slices.{IsSlice};
-ghost use Rattle.dependency_blocks.specs.Blocks.{IsBlocks};
 ghost use Rattle.target_orders.specs.Orders.{HoldsWithin, IsOrder, MayHold, NeedsAtLeast};
 ghost use Rattle.target_orders.specs.Text.{TellsOrders, order_line, order_text};
 ghost use Rattle.target_orders.specs.inner.Alone.{AreAlone};

@@ -5,7 +5,7 @@
 //! slice decides, and what depends on a large fact is large. So a slice is made for a large fact that depends on no other
 //! one, and the time goes with the number of such facts, and of groups of small ones, times the size of the system.
 
-ghost use Rattle.std.specs.Prelude.{◌≡◌, ◌<◌, ℕ, IfOk, IsTrue, OnOk, map, true};
+ghost use Rattle.std.specs.Prelude.{◌≡◌, ◌<◌, ℕ, IsTrue, OnOk, map, true};
 ghost use Rattle.std.specs.List.{list_any};
 ghost use Rattle.fault_system.specs.Truth.{Has, member, occurs};
 ghost use Rattle.dependency_blocks.specs.Blocks.{number_of};

@@ -1,7 +1,6 @@
 //! Which facts are too large to be listed.
 
-ghost use Rattle.std.specs.Prelude.{◌<◌, ◌≤◌, ℕ, All, IfOk, length};
-ghost use Rattle.target_orders.specs.Orders.{IsLarge};
+ghost use Rattle.std.specs.Prelude.{◌<◌, ◌≤◌, All, IfOk, length};
 ghost use Rattle.target_orders.specs.inner.Sizes.{KnowsSizes};
 
 use crate::marks::full;

@@ -1,4 +1,4 @@
-ghost use Rattle.std.specs.Prelude.{◌≡◌, min, IfOk};
+ghost use Rattle.std.specs.Prelude.{min, IfOk};
 ghost use Rattle.zdd_store.specs.inner.Family.{least_number, IsAntichain};
 ghost use Rattle.zdd_store.specs.inner.Store.{IsIn, family_of, Keeps};
 ghost use Rattle.zdd_store.specs.inner.Answers.{IsLeastUpTo, IsProductUpTo};

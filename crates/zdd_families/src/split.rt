@@ -1,4 +1,4 @@
-ghost use Rattle.std.specs.Prelude.{◌≡◌, ◌+◌, ◌<◌, ◌≤◌, ◌^◌, min, max, IfSome, IfNone};
+ghost use Rattle.std.specs.Prelude.{◌≡◌, ◌<◌, ◌≤◌, ◌^◌, min, max, IfSome, IfNone};
 ghost use Rattle.zdd_store.specs.inner.Family.{least_number};
 ghost use Rattle.zdd_store.specs.inner.Store.{IsIn, family_of, family_with, Fits};
 ghost use Rattle.zdd_families.specs.inner.Steps.{IsSplit};

@@ -1,4 +1,4 @@
-ghost use Rattle.std.specs.Prelude.{◌≡◌, ◌<◌, min};
+ghost use Rattle.std.specs.Prelude.{◌<◌, min};
 ghost use Rattle.zdd_store.specs.inner.Family.{least_number, IsAntichain};
 ghost use Rattle.zdd_store.specs.inner.Store.{IsIn, family_of};
 ghost use Rattle.zdd_store.specs.inner.Answers.{IsLeastFamily};

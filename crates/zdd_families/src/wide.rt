@@ -3,7 +3,7 @@
 //! A wide family covers at each variable, with it, all that it covers without it. Two such are joined as diagrams of Boolean
 //! functions are, and no set is looked for that contains another. Any family may be asked for: one that is not known to be
 //! wide is made so on the way.
-ghost use Rattle.std.specs.Prelude.{◌≡◌, ◌<◌, ◌≤◌, min, ℕ, List, IsTrue};
+ghost use Rattle.std.specs.Prelude.{◌<◌, ◌≤◌, min, ℕ, List, IsTrue};
 ghost use Rattle.zdd_store.specs.inner.Family.{least_number, covers};
 ghost use Rattle.zdd_store.specs.inner.Store.{IsIn, family_of};
 ghost use Rattle.zdd_store.specs.inner.Answers.{IsCovering, IsUnionOf, IsMeetOf};

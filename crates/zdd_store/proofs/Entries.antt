@@ -1,13 +1,11 @@
 -- The table of answers: what stands in it is right, whatever is put into it.
-use Rattle.std.proofs.Common.{◌≡◌, ℕ, ◌<◌, Bool, true, false, if◌then◌else◌, List, [], ◌∷◌, ◌++◌, length, get_or, slice_get, Some, All, refl, sym, ap, ◌∙◌, subst, arith, Contains}
+use Rattle.std.proofs.Common.{◌≡◌, ℕ, Bool, true, false, if◌then◌else◌, List, [], ◌∷◌, ◌++◌, slice_get, Some, refl, sym, subst, arith}
 use Rattle.std.proofs.lemmas.Option.{slice_get_within, get_or_from_slice_get}
 use Rattle.std.proofs.lemmas.List.Elements.{All-push}
-use Rattle.zdd_store.specs.inner.Family.{covers}
-use Rattle.zdd_store.specs.inner.Store.{Families, family_at, IsSound}
-use Rattle.zdd_store.specs.inner.Answers.{IsLeastFamily, IsAnswer, AreRight}
+use Rattle.zdd_store.specs.inner.Store.{Families, IsSound}
+use Rattle.zdd_store.specs.inner.Answers.{IsAnswer, AreRight}
 use Rattle.zdd_store.specs.inner.Family.{IsAntichain}
 use Rattle.zdd_store.specs.declared.question.Known.{Known}
-use Rattle.zdd_store.specs.declared.question.Question.{Question}
 use Rattle.zdd_store.specs.declared.question.Operation.TheVariants.{Minimal}
 use Rattle.zdd_store.proofs.Orders.{contains_none}
 

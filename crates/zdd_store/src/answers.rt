@@ -1,6 +1,6 @@
 //! The table of the answers that a store remembers. A question has one place, where a later one takes that of an earlier.
 
-ghost use Rattle.std.specs.Prelude.{◌≡◌, ◌≤◌, IfSome, length, slice_get};
+ghost use Rattle.std.specs.Prelude.{◌≡◌, IfSome, slice_get};
 ghost use Rattle.zdd_store.specs.inner.Answers.{AreRight, IsAnswer};
 ghost use Rattle.zdd_store.specs.inner.Store.{Families, IsSound};
 

@@ -1,5 +1,5 @@
 -- The steps of a walk through items.
-use Rattle.std.specs.Prelude.{◌≡◌, Bool, List, [], ◌∷◌}
+use Rattle.std.specs.Prelude.{◌≡◌, Bool, [], ◌∷◌}
 use Rattle.error_libraries.specs.Libraries.{Table}
 use Rattle.error_types.specs.inner.Trip.{IsBackAt, Trip, walk_left, with_names}
 use Rattle.error_types.specs.Walk.{Walk}

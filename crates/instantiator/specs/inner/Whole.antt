@@ -1,5 +1,5 @@
 -- Beside specs/Whole.antt: what no clause of `run` reaches.
-use Rattle.std.specs.Prelude.{◌≡◌, ◌≢◌, ◌<◌, ℕ, IsSome, List, [], ◌∷◌, length, take, fold, slice_get, AllPairs, Option, Some, None, option_and_then}
+use Rattle.std.specs.Prelude.{◌≡◌, ◌≢◌, ◌<◌, ℕ, IsSome, List, length, take, fold, slice_get, AllPairs, Some}
 use Rattle.aadl_syntax.specs.declared.core_model.PackageUnit.{PackageUnit}
 use Rattle.package_index.specs.declared.id.ClassifierId.{ClassifierId}
 use Rattle.package_index.specs.Names.{front}

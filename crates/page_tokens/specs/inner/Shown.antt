@@ -1,5 +1,4 @@
 -- What the words of a contract see of a token.
-use Rattle.std.specs.Prelude.{ℕ, List, Option}
 use Rattle.page_tokens.specs.Forms.{Said}
 use Rattle.page_tokens.specs.declared.token.Token.{Token}
 

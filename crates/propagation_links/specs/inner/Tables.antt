@@ -1,6 +1,5 @@
 -- What the tables of bindings know.
-use Rattle.std.specs.Prelude.{◌≡◌, ℕ, Bool, cond, filter, List, Option, None, Some, option_map}
-use Rattle.std.specs.List.{last_or}
+use Rattle.std.specs.Prelude.{◌≡◌, ℕ, Bool, cond, List, Option, Some, option_map}
 use denote.Ref.{Bor}
 use Rattle.aadl_syntax.specs.declared.core_model.Binding.{Binding}
 use Rattle.aadl_syntax.specs.declared.core_model.PackageUnit.{PackageUnit}

@@ -1,4 +1,4 @@
-use Rattle.std.proofs.Common.{◌≡◌, IfOk, fold, map, subst, ap, ◌∙◌}
+use Rattle.std.proofs.Common.{◌≡◌, IfOk, fold, map, subst, ◌∙◌}
 use Rattle.error_machines.specs.States.{clause_event, keep_event}
 use Rattle.error_behavior.proofs.EventLaws.{events-joined}
 use Rattle.error_behavior.proofs.events.events_of.Goals as goal

@@ -1,4 +1,3 @@
-use Rattle.std.proofs.Common.{◌∙◌}
 use Rattle.package_index.proofs.Loops.{noting-more}
 use Rattle.error_machines.specs.States.{event_refusals}
 use Rattle.error_behavior.proofs.events.note_events.Goals as goal

@@ -1,8 +1,8 @@
-use Rattle.std.proofs.Common.{◌≡◌, [], ◌++◌, ap, ◌∙◌}
+use Rattle.std.proofs.Common.{◌≡◌, [], ◌++◌, ◌∙◌}
 use Rattle.std.specs.Option.{option_map_or}
 use Rattle.plain_values.specs.Order.{least, nearer}
 use Rattle.package_index.proofs.Loops.{gathered-more, noting-more}
-use Rattle.propagation_points.specs.Settings.{held_in, state_refusals_in}
+use Rattle.propagation_points.specs.Settings.{state_refusals_in}
 use Rattle.propagation_points.specs.States.{held_numbers}
 use Rattle.error_behavior.specs.Steps.{target_numbers}
 use Rattle.error_behavior.proofs.transitions.targets_of.Goals as goal

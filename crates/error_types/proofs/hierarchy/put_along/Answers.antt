@@ -1,4 +1,4 @@
-use Rattle.std.proofs.Common.{◌-◌, ◌≡◌, length, sym, ◌∙◌, arith}
+use Rattle.std.proofs.Common.{◌-◌, length, sym, ◌∙◌, arith}
 use Rattle.error_types.proofs.WalkedRows.{walk-all, walk-begins, walk-ends, walk-goes_on, walk-room}
 use Rattle.error_types.proofs.hierarchy.put_along.Goals as goal
 

@@ -1,6 +1,6 @@
 use Rattle.std.proofs.Common.{rules, ◌≡◌, ◌∷◌, ◌++◌, ◌∙◌, List, ℕ, ap, arith, drop, slice_index_or, sym, subst}
 use Rattle.std.specs.List.{AllByRecursion}
-use Rattle.page_tokens.specs.Forms.{AreDigits, IsDigit}
+use Rattle.page_tokens.specs.Forms.{IsDigit}
 use Rattle.page_tokens.proofs.Forms.{cut_there, front_is}
 use Rattle.page_tokens.proofs.token.digits_before.Goals as goal
 

@@ -1,7 +1,7 @@
-use Rattle.std.proofs.Common.{◌≡◌, length, ap, sym, subst, ◌∙◌, arith}
+use Rattle.std.proofs.Common.{◌≡◌, length, ap, sym, subst, ◌∙◌}
 use Rattle.std.specs.Prelude.{is_ok}
 use Rattle.zdd_store.specs.inner.Family.{branch}
-use Rattle.zdd_store.specs.inner.Store.{family_at, family_of}
+use Rattle.zdd_store.specs.inner.Store.{family_of}
 use Rattle.zdd_store.specs.inner.Answers.{HasShape}
 use Rattle.zdd_store.specs.inner.Nodes.{AreShapes, HasShapeAt}
 use Rattle.zdd_store.proofs.Shaped.{shapes-pushed}

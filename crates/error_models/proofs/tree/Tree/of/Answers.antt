@@ -1,4 +1,4 @@
-use Rattle.std.proofs.Common.{map, ap, ◌∙◌}
+use Rattle.std.proofs.Common.{map, ◌∙◌}
 use Rattle.error_libraries.specs.Libraries.{table_of}
 use Rattle.error_machines.specs.States.{states_of}
 use Rattle.error_models.specs.Below.{kind_machine}

@@ -1,8 +1,5 @@
-use Rattle.std.proofs.Common.{◌≡◌, ◌<◌, List, length, sym, ap, subst, arith}
-use Rattle.zdd_store.specs.inner.Nodes.{families, AreShapes, IsStore}
-use Rattle.zdd_store.specs.inner.Answers.{AreRight}
-use Rattle.zdd_store.specs.declared.question.Known.{Known}
-use Rattle.zdd_store.specs.declared.shapes.Shape.{Shape}
+use Rattle.std.proofs.Common.{◌≡◌, length, sym, ap, subst, arith}
+use Rattle.zdd_store.specs.inner.Nodes.{families, IsStore}
 use Rattle.zdd_store.proofs.Growing.{no_nodes_store}
 use Rattle.zdd_store.proofs.store.Store.limited.Goals as goal
 
