@@ -1,5 +1,5 @@
 -- One end at most is due for the words and the contents, where these are told.
-use Rattle.std.proofs.Common.{◌≡◌, ◌≤◌, ℕ, Bool, true, false, List, [], ◌∷◌, length, Option, Some, None, IsSome, IfSome, Result, Ok, refl, sym, ap, ◌∙◌, inl, inr}
+use Rattle.std.proofs.Common.{◌≡◌, ◌≤◌, ℕ, Bool, true, false, List, [], ◌∷◌, length, Option, Some, None, IsSome, IfSome, Result, Ok, refl, sym, ap, ◌∙◌, inl, inr, codes}
 use Rattle.std.specs.List.{AllByRecursion}
 use Rattle.std.proofs.lemmas.Bool.{false≢true}
 use Rattle.plain_values.specs.declared.name.Root.{Root}
@@ -21,7 +21,7 @@ use Rattle.phases.specs.declared.status.Status.TheVariants.{Usage, Refused}
 use Rattle.phases.proofs.Leaves.{decided_answers, decided_computes, decided_finds, decided_rejects, decided_accepts, decided_tests}
 use Rattle.phases.proofs.Decided as decided
 use Rattle.fta_words.specs.declared.kind.Kind.TheVariants as kind
-use Rattle.fta_run.specs.Words.{IsRequest, Kind, Request}
+use Rattle.fta_run.specs.Words.{IsRequest, Kind, Request, is_set}
 use Rattle.system_answers.specs.Voices.{Voice, labels}
 use Rattle.model_maker.specs.Text.{text_of as made_text}
 use Rattle.model_phases.specs.declared.flat.FlatModel.{FlatModel}
@@ -146,20 +146,20 @@ make_decided number false = (limits_decided (made_text number ∷ []), λ texts 
 
 text_decided : (asked_kind : Kind) (voices : List Voice) (asked : Request) (texts : List (List ℕ)) → length (first_text texts) ≤ 4194304 → IsDecided IsSameStatus (text_for asked_kind voices asked texts)
 text_decided kind.Check voices asked texts short = (texts_model_decided asked.root texts, λ model at. tt)
-text_decided kind.Cuts voices asked texts short = cuts_in_decided asked.root asked.target asked.options.paging asked.options.tokens texts
+text_decided kind.Cuts voices asked texts short = cuts_in_decided asked.root asked.target asked.options.paging (is_set asked.options (codes "tokens")) texts
 text_decided kind.Tree voices asked texts short =
     (texts_model_decided asked.root texts, λ model at. tree_decided IsSameStatus itself asked.target model.system model.rates (plain_model asked.root texts model at).system.is_system)
 text_decided kind.Fmea voices asked texts short = (texts_model_decided asked.root texts, λ model at. tt)
 text_decided kind.Report voices asked texts short =
     (texts_model_decided asked.root texts, λ model at. report_decided IsSameStatus itself asked.target asked.options.chosen asked.options.paging.max_order voices model.system)
-text_decided kind.Make voices asked texts short = make_decided asked.number asked.options.text
-text_decided kind.Galileo voices asked texts short = tree_sets_decided asked.options.paths asked.options.paging.limit asked.options.paging.max_order (first_text texts)
+text_decided kind.Make voices asked texts short = make_decided asked.number (is_set asked.options (codes "text"))
+text_decided kind.Galileo voices asked texts short = tree_sets_decided (is_set asked.options (codes "paths")) asked.options.paging.limit asked.options.paging.max_order (first_text texts)
 text_decided kind.Paths voices asked texts short =
     (texts_model_decided asked.root texts, λ model at. plain_paths_decided asked.target asked.options.paging model.system (plain_model asked.root texts model at).system)
 text_decided kind.Why voices asked texts short = (texts_model_decided asked.root texts, λ model at. plain_why_decided asked.target asked.options.set model.system (plain_model asked.root texts model at).system)
 text_decided kind.Confirm voices asked texts short = confirmed_decided asked.root asked.target asked.options.set texts short
 text_decided kind.Targets voices asked texts short =
-    (texts_model_decided asked.root texts, λ model at. decided_accepts IsSameStatus (TellsOrders model.system (asked_targets asked.options.all model)) (one-text model.system (asked_targets asked.options.all model)))
+    (texts_model_decided asked.root texts, λ model at. decided_accepts IsSameStatus (TellsOrders model.system (asked_targets (is_set asked.options (codes "all")) model)) (one-text model.system (asked_targets (is_set asked.options (codes "all")) model)))
 text_decided kind.Events voices asked texts short = (made_decided origins_phase (origins_decided IsSameStatus itself) asked.root texts, λ model at. tt)
 text_decided kind.Review voices asked texts short = (made_decided review_phase (review_decided IsSameStatus itself) asked.root texts, λ reviewed at. tt)
 text_decided kind.Place voices asked texts short = tt

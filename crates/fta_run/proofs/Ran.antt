@@ -1,5 +1,5 @@
 -- How a run ended, and what is due.
-use Rattle.std.proofs.Common.{◌≡◌, ◌∙◌, ◌<◌, ◌⊎◌, ℕ, Bool, true, false, List, [], ◌∷◌, length, Option, None, Some, Result, Ok, Err, refl, sym, ap, subst, inl, inr}
+use Rattle.std.proofs.Common.{◌≡◌, ◌∙◌, ◌<◌, ◌⊎◌, ℕ, Bool, true, false, List, [], ◌∷◌, length, Option, None, Some, Result, Ok, Err, refl, sym, ap, subst, inl, inr, codes}
 use Rattle.std.specs.Prelude.{IfOk, IsErrAnd, IsOk, MatchResult}
 use Rattle.std.proofs.lemmas.Bool.{false≢true}
 use Rattle.std.proofs.lemmas.Result.{err_from_is_err_and}
@@ -24,7 +24,7 @@ use Rattle.model_phases.specs.declared.flat.FlatModel.{FlatModel}
 use Rattle.backward_slice.specs.Slices.{HasLargeSlice}
 use Rattle.property_reader.specs.declared.rate.Rate.{Rate}
 use Rattle.fta_words.specs.declared.kind.Kind.TheVariants as kind
-use Rattle.fta_run.specs.Words.{Kind, Request, GiveRequest, GiveNoRequest, IsRequest, file_words}
+use Rattle.fta_run.specs.Words.{Kind, Request, GiveRequest, GiveNoRequest, IsRequest, file_words, is_set}
 use Rattle.fta_run.specs.Files.{HasTooLong, HasTooMuch, LacksTokens, LacksUnits, NamesTooMany, most_files}
 use Rattle.plain_values.specs.Refusal.{of_words}
 use Rattle.fta_words.specs.declared.command.Paging.{Paging}
@@ -185,7 +185,7 @@ cuts_in_stop root target paging tokens texts =
 
 text_stops : (asked_kind : Kind) (voices : List Voice) (asked : Request) (texts : List (List ℕ)) → StopsOnly IsAnEnd (text_for asked_kind voices asked texts)
 text_stops kind.Check voices asked texts = (refusals (model_of_texts asked.root texts) (texts_model_stops asked.root texts), λ model at. tt)
-text_stops kind.Cuts voices asked texts = cuts_in_stop asked.root asked.target asked.options.paging asked.options.tokens texts
+text_stops kind.Cuts voices asked texts = cuts_in_stop asked.root asked.target asked.options.paging (is_set asked.options (codes "tokens")) texts
 text_stops kind.Tree voices asked texts = (refusals (model_of_texts asked.root texts) (texts_model_stops asked.root texts), λ model at. tree_stop asked.target model.system model.rates)
 text_stops kind.Fmea voices asked texts = (refusals (model_of_texts asked.root texts) (texts_model_stops asked.root texts), λ model at. tt)
 text_stops kind.Report voices asked texts = (
@@ -193,9 +193,9 @@ text_stops kind.Report voices asked texts = (
   λ model at.
       refusals (report_text asked.target asked.options.chosen asked.options.paging.max_order voices model.system) (report_stop asked.target asked.options.chosen asked.options.paging.max_order voices model.system),
 )
-text_stops kind.Make voices asked texts = refusals (make_text asked.number asked.options.text) (make_stop asked.number asked.options.text)
+text_stops kind.Make voices asked texts = refusals (make_text asked.number (is_set asked.options (codes "text"))) (make_stop asked.number (is_set asked.options (codes "text")))
 text_stops kind.Galileo voices asked texts =
-    refusals (sets_of_tree asked.options.paths asked.options.paging.limit asked.options.paging.max_order (first_text texts)) (tree_sets_stop asked.options.paths asked.options.paging.limit asked.options.paging.max_order (first_text texts))
+    refusals (sets_of_tree (is_set asked.options (codes "paths")) asked.options.paging.limit asked.options.paging.max_order (first_text texts)) (tree_sets_stop (is_set asked.options (codes "paths")) asked.options.paging.limit asked.options.paging.max_order (first_text texts))
 text_stops kind.Paths voices asked texts =
     (refusals (model_of_texts asked.root texts) (texts_model_stops asked.root texts), λ model at. refusals (paths_text asked.target asked.options.paging model.system) (paths_stop asked.target asked.options.paging model.system))
 text_stops kind.Why voices asked texts =
@@ -468,6 +468,12 @@ pub ready_held : (Excuse : Status → Type 0) (phase : Phase (List ℕ)) (its : 
 ready_held Excuse phase (Ok text) result is wanting met = rw is met
 ready_held Excuse phase (Err s) result is wanting end = rw is (elim end [ inl stops ↦ inl stops | inr memory ↦ inr (wanting s memory) ])
 
+-- the same of a phase by whether a flag is given
+pub ready_set : (Excuse : Status → Type 0) (phase : Bool → Phase (List ℕ)) (said so : Bool) (its : Result Held Status) (result : Result Ready Status) → said ≡ so
+    → MatchResult its (λ text. result ≡ Ok (made.Held text)) (λ status. result ≡ Err status) → ((s : Status) → IsMemory s → Excuse s) → MeetsBut IsMemory held_text (phase said) its → MeetsBut Excuse ready_text (phase so) result
+ready_set Excuse phase said so its result same ready wanting met =
+    ready_held Excuse (phase so) its result ready wanting (subst (λ (flag : Bool). MeetsBut IsMemory held_text (phase flag) its) same met)
+
 -- the same with the reports
 pub ready_told : (Excuse : Status → Type 0) (phase : Phase (List ℕ)) (its : Result Held Status) (result : Result Ready Status) → MatchResult its (λ text. result ≡ Ok (made.Held text)) (λ status. result ≡ Err status)
     → MeetsBut Excuse held_text phase its → MeetsBut Excuse ready_text phase result
@@ -499,6 +505,11 @@ told_as RoseThere root target max_order voices texts result a b same met =
 pub meets_wider : {A B : Type 0} (Excuse Wider : Status → Type 0) (value : B → A) (phase : Phase A) (result : Result B Status) → ((s : Status) → Excuse s → Wider s) → MeetsBut Excuse value phase result → MeetsBut Wider value phase result
 meets_wider Excuse Wider value phase (Ok x) wider met = met
 meets_wider Excuse Wider value phase (Err s) wider end = elim end [ inl stops ↦ inl stops | inr excused ↦ inr (wider s excused) ]
+
+-- the same of a phase by whether a flag is given
+pub meets_set : (Excuse Wider : Status → Type 0) (phase : Bool → Phase (List ℕ)) (said so : Bool) (result : Result Ready Status) → said ≡ so → ((s : Status) → Excuse s → Wider s)
+    → MeetsBut Excuse ready_text (phase said) result → MeetsBut Wider ready_text (phase so) result
+meets_set Excuse Wider phase said so result same wider met = meets_wider Excuse Wider ready_text (phase so) result wider (subst (λ (flag : Bool). MeetsBut Excuse ready_text (phase flag) result) same met)
 
 -- ---- the steps of a run
 

@@ -21,7 +21,7 @@ use Rattle.model_phases.specs.declared.events.EventModel.{EventModel}
 use Rattle.event_lines.specs.Text.{events_text as text_of_events}
 use Rattle.model_phases.specs.declared.flat.FlatModel.{FlatModel}
 use Rattle.fta_words.specs.declared.kind.Kind.TheVariants as kind
-use Rattle.fta_run.specs.Words.{Kind, Request, IsRequest}
+use Rattle.fta_run.specs.Words.{Kind, Request, IsRequest, is_set}
 use Rattle.target_orders.specs.Text.{TellsOrders}
 use Rattle.fta_run.specs.Effects.{asked_effects, asked_targets}
 use Rattle.fta_run.specs.Later.{in_later_files}
@@ -205,16 +205,16 @@ review_in root texts = do
 -- the text of a command, asked with this request, in files of these texts, where these are the reports
 abbrev pub text_for : Kind → List Voice → Request → List (List ℕ) → Phase (List ℕ)
 text_for kind.Check voices asked texts = check_in asked.root texts
-text_for kind.Cuts voices asked texts = cuts_in asked.root asked.target asked.options.paging asked.options.tokens texts
+text_for kind.Cuts voices asked texts = cuts_in asked.root asked.target asked.options.paging (is_set asked.options (codes "tokens")) texts
 text_for kind.Tree voices asked texts = tree_in asked.root asked.target texts
-text_for kind.Fmea voices asked texts = fmea_in asked.root asked.options.all texts
+text_for kind.Fmea voices asked texts = fmea_in asked.root (is_set asked.options (codes "all")) texts
 text_for kind.Report voices asked texts = report_in asked.root asked.target asked.options.chosen asked.options.paging.max_order voices texts
-text_for kind.Make voices asked texts = make_text asked.number asked.options.text
-text_for kind.Galileo voices asked texts = sets_of_tree asked.options.paths asked.options.paging.limit asked.options.paging.max_order (first_text texts)
+text_for kind.Make voices asked texts = make_text asked.number (is_set asked.options (codes "text"))
+text_for kind.Galileo voices asked texts = sets_of_tree (is_set asked.options (codes "paths")) asked.options.paging.limit asked.options.paging.max_order (first_text texts)
 text_for kind.Paths voices asked texts = paths_in asked.root asked.target asked.options.paging texts
 text_for kind.Why voices asked texts = why_in asked.root asked.target asked.options.set texts
 text_for kind.Confirm voices asked texts = confirmed_in asked.root asked.target asked.options.set texts
-text_for kind.Targets voices asked texts = targets_in asked.root asked.options.all texts
+text_for kind.Targets voices asked texts = targets_in asked.root (is_set asked.options (codes "all")) texts
 text_for kind.Events voices asked texts = events_in asked.root asked.files texts
 text_for kind.Review voices asked texts = review_in asked.root texts
 text_for kind.Place voices asked texts = place_in asked.files asked.number texts

@@ -7,7 +7,7 @@ use Rattle.fta_words.proofs.AllKinds.{ascii_text, name_is_plain}
 use Rattle.fta_words.proofs.Identifiers.{word_of}
 use Rattle.fta_words.proofs.Places.{first_of, none_of}
 use Rattle.fta_words.specs.Table.{name_of}
-use Rattle.fta_words.specs.Words.{Alone, Apart, AreDifferent, Attached, Given, IsNumberText, IsPlainWord, IsRequest, Request, before_options, file_words, is_given, option_words, value_of, with_colons}
+use Rattle.fta_words.specs.Words.{Alone, Apart, AreDifferent, Attached, Given, IsInFull, IsNumberText, IsPlainWord, IsRequest, Request, before_options, file_words, in_full, is_given, option_words, value_of, with_colons}
 
 -- a root
 joined : with_colons (codes "p" ∷ codes "q" ∷ codes "s" ∷ []) ≡ codes "p::q::s"
@@ -65,7 +65,7 @@ root = record { names = codes "p" ∷ codes "s" ∷ []; item = None }
 
 abbrev set_alone : Options
 set_alone =
-    record { paging = record { limit = None; after = None; max_order = None }; set = codes "e"; chosen = []; tokens = false; all = false; text = false; paths = false }
+    record { paging = record { limit = None; after = None; max_order = None }; set = codes "e"; chosen = []; flags = [] }
 
 abbrev asked : Request
 asked = record { kind = kind.Why; root = root; target = codes "t"; number = 0; of = None; files = codes "f" ∷ []; options = set_alone }
@@ -104,15 +104,29 @@ why_line =
             max_order = tt;
             set = refl;
             chosen = record { rise = tt; chosen_are = λ place. (λ has. absurd (none_of place has), λ less. absurd (omega (arith, less))) };
-            tokens = refl;
-            all = refl;
-            text = refl;
-            paths = refl;
+            flags = refl;
           };
     }
 
--- no request begins with an option
-no_option_first : (reports : List (List ℕ)) (bytes : List ℕ) (words : List (List ℕ)) (request : Request) → IsRequest reports ((45 ∷ bytes) ∷ words) request → ⊥
+-- short forms in full
+help_alone : in_full (codes "-h" ∷ []) ≡ codes "help" ∷ []
+help_alone = refl
+
+version_alone : in_full (codes "--version" ∷ []) ≡ codes "version" ∷ []
+version_alone = refl
+
+help_of_cuts : in_full (codes "cuts" ∷ codes "--help" ∷ []) ≡ codes "help" ∷ codes "cuts" ∷ []
+help_of_cuts = refl
+
+-- what is no command has none, and neither has a command with more words
+help_of_none : in_full (codes "cut" ∷ codes "--help" ∷ []) ≡ codes "cut" ∷ codes "--help" ∷ []
+help_of_none = refl
+
+help_of_more : in_full (codes "check" ∷ codes "p::s" ∷ codes "--help" ∷ []) ≡ codes "check" ∷ codes "p::s" ∷ codes "--help" ∷ []
+help_of_more = refl
+
+-- no request in full begins with an option
+no_option_first : (reports : List (List ℕ)) (bytes : List ℕ) (words : List (List ℕ)) (request : Request) → IsInFull reports ((45 ∷ bytes) ∷ words) request → ⊥
 no_option_first reports bytes words request is =
     let name : name_of request.kind ≡ 45 ∷ bytes = cc (is.words_are) in
     (subst IsPlainWord name (name_is_plain request.kind)).0 refl

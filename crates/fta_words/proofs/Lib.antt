@@ -8,5 +8,6 @@ mod Parses
 mod Places
 mod PlainFront
 mod Roots
+mod ShortForms
 mod Spelled
 pub mod Requests

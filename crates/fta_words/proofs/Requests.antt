@@ -3,7 +3,8 @@ use Rattle.std.proofs.Common.{◌≡◌, ℕ, Bool, true, false, if◌then◌els
 use Rattle.std.specs.Prelude.{option_map, option_to_list}
 use Rattle.std.specs.List.{AllByRecursion}
 use Rattle.std.specs.Option.{option_map_or}
-use Rattle.plain_values.specs.Name.{folded}
+use Rattle.std.proofs.lemmas.Bool.{false≢true}
+use Rattle.plain_values.specs.Name.{folded, is_same_text}
 use Rattle.plain_values.specs.Rising.{RisesWithin}
 use Rattle.plain_values.specs.declared.name.Root.{Root}
 use Rattle.fta_words.specs.declared.command.Options.{Options}
@@ -11,12 +12,13 @@ use Rattle.fta_words.specs.declared.command.Request.{Request as RequestInCode}
 use Rattle.fta_words.specs.declared.kind.Kind.{Kind}
 use Rattle.fta_words.specs.declared.kind.Shape.{Shape}
 use Rattle.fta_words.specs.declared.kind.Shape.TheVariants as shape
-use Rattle.fta_words.specs.Table.{flags_of, is_among, name_of, required_of, shape_of, valued_of}
-use Rattle.fta_words.specs.Words.{Alone, Apart, AreChosen, AreOptions, Attached, Given, IsAsked, IsFolded, IsNumberText, IsPlainWord, IsRequest, IsRoot, NamesModel, Request, Say, Says, Spelling, before_options, file_words, files_in, is_given, is_option, option_words, reports_for, spelled, value_of}
-use Rattle.fta_words.specs.inner.Reading.{Answers, IsRead, ReadsAs}
+use Rattle.fta_words.specs.Table.{flags_of, is_among, kind_named, name_of, required_of, shape_of, valued_of}
+use Rattle.fta_words.specs.Words.{Alone, Apart, AreChosen, AreOptions, Attached, Given, IsAsked, IsFolded, IsNumberText, IsInFull, IsPlainWord, IsRequest, IsRoot, NamesModel, Request, Say, Says, Spelling, before_options, file_words, files_in, in_full, is_given, is_help_of, is_option, option_words, reports_for, shape_named, spelled, value_of, word_in_full}
+use Rattle.fta_words.specs.inner.Reading.{AnswersInFull, IsRead, ReadsAs}
 use Rattle.fta_words.specs.inner.Shown.{request_shown}
 use Rattle.fta_words.proofs.AllKinds.{name_is_plain}
 use Rattle.fta_words.proofs.EachKind.{named_again, same_kind}
+use Rattle.fta_words.proofs.Names.{text-is}
 use Rattle.fta_words.proofs.Places.{chosen_rise, one_chosen}
 use Rattle.fta_words.proofs.PlainFront.{no_end, no_option}
 use Rattle.fta_words.proofs.Roots.{one_root}
@@ -52,19 +54,19 @@ whole_words (word ∷ words) = go (whole_words words) (is_option word)
     go rest false = ap (λ l. word ∷ l) rest
 
 -- the words before the first option are the name and the plain words
-pub front_is : (reports words : List (List ℕ)) (request : Request) → (is : IsRequest reports words request) → before_options words ≡ name_of request.kind ∷ is.plain
+pub front_is : (reports words : List (List ℕ)) (request : Request) → (is : IsInFull reports words request) → before_options words ≡ name_of request.kind ∷ is.plain
 front_is reports words request is =
     ap before_options is.words_are ∙ front_of (name_of request.kind ∷ is.plain) (option_words is.given) (name_is_plain request.kind, is.plain_words) (begin_with_option is.given)
 
 -- and the words behind them are the options
-back_is : (reports words : List (List ℕ)) (request : Request) → (is : IsRequest reports words request) → drop (length (before_options words)) words ≡ option_words is.given
+back_is : (reports words : List (List ℕ)) (request : Request) → (is : IsInFull reports words request) → drop (length (before_options words)) words ≡ option_words is.given
 back_is reports words request is =
     ap (λ l. drop (length l) words) (front_is reports words request is) ∙ ap (drop (length (name_of request.kind ∷ is.plain))) is.words_are
     ∙ behind (name_of request.kind ∷ is.plain) (option_words is.given)
 
 -- ---- requests as they are read
 
-pub to_read : (reports words : List (List ℕ)) (request : Request) → IsRequest reports words request → (k : Kind) (others : List (List ℕ)) → before_options words ≡ name_of k ∷ others
+pub to_read : (reports words : List (List ℕ)) (request : Request) → IsInFull reports words request → (k : Kind) (others : List (List ℕ)) → before_options words ≡ name_of k ∷ others
     → IsRead reports k others (drop (length (before_options words)) words) request
 to_read reports words request is k others front =
     let whole : name_of request.kind ∷ is.plain ≡ name_of k ∷ others = sym (front_is reports words request is) ∙ front in
@@ -83,7 +85,7 @@ to_read reports words request is k others front =
     }
 
 pub from_read : (reports words : List (List ℕ)) (k : Kind) (others : List (List ℕ)) → AllByRecursion IsPlainWord (before_options words) → before_options words ≡ name_of k ∷ others
-    → (request : Request) → IsRead reports k others (drop (length (before_options words)) words) request → IsRequest reports words request
+    → (request : Request) → IsRead reports k others (drop (length (before_options words)) words) request → IsInFull reports words request
 from_read reports words k others all front request read =
     let kinds = sym read.kind_is in
     let plain = subst (AllByRecursion IsPlainWord) front all in
@@ -102,9 +104,30 @@ from_read reports words k others all front request read =
 
 -- the answer of the plain words and those behind them is that of the words
 pub answers_from : (reports words : List (List ℕ)) (k : Kind) (others : List (List ℕ)) → AllByRecursion IsPlainWord (before_options words) → before_options words ≡ name_of k ∷ others
-    → (answer : Option RequestInCode) → ReadsAs reports k others (drop (length (before_options words)) words) answer → Answers reports words answer
+    → (answer : Option RequestInCode) → ReadsAs reports k others (drop (length (before_options words)) words) answer → AnswersInFull reports words answer
 answers_from reports words k others all front None none = λ request is. none request (to_read reports words request is k others front)
 answers_from reports words k others all front (Some request) read = from_read reports words k others all front (request_shown request) read
+
+-- ---- short forms
+
+-- plain words alone are those before the first option
+all_front : (plain : List (List ℕ)) → AllByRecursion IsPlainWord plain → before_options plain ≡ plain
+all_front [] all = refl
+all_front (word ∷ plain) all = no_end word (before_options plain) (is_option word) (no_option word all.0) ∙ ap (λ l. word ∷ l) (all_front plain all.1)
+
+all_behind : (words : List (List ℕ)) → drop (length words) words ≡ []
+all_behind [] = refl
+all_behind (word ∷ words) = all_behind words
+
+-- the answer of a short form's plain words, with nothing behind them, is that of its words in full
+pub answers_short : (reports words : List (List ℕ)) (k : Kind) (plain : List (List ℕ)) → words ≡ name_of k ∷ plain → AllByRecursion IsPlainWord plain
+    → (answer : Option RequestInCode) → ReadsAs reports k plain [] answer → AnswersInFull reports words answer
+answers_short reports words k plain are all answer reads =
+    let every : AllByRecursion IsPlainWord words = subst (AllByRecursion IsPlainWord) (sym are) (name_is_plain k, all) in
+    let front : before_options words ≡ words = all_front words every in
+    let none : drop (length (before_options words)) words ≡ [] = ap (λ (l : List (List ℕ)). drop (length l) words) front ∙ all_behind words in
+    answers_from reports words k plain (subst (AllByRecursion IsPlainWord) (sym front) every) (front ∙ are) answer
+    (subst (λ (l : List (List ℕ)). ReadsAs reports k plain l answer) (sym none) reads)
 
 -- ---- one request
 
@@ -143,9 +166,9 @@ one_say k reports given a b x y =
     let max_order = one_said IsNumberText one_number (value_of (codes "max-order") given) p.max_order q.max_order x.max_order y.max_order in
     let chosen = one_chosen (reports_for k reports) (value_of (codes "reports") given) a.chosen b.chosen x.chosen y.chosen in
     let same : ◌≡◌ {A = Options}
-    (record { paging = record { limit = p.limit; after = p.after; max_order = p.max_order }; set = a.set; chosen = a.chosen; tokens = a.tokens; all = a.all; text = a.text; paths = a.paths })
-    (record { paging = record { limit = q.limit; after = q.after; max_order = q.max_order }; set = b.set; chosen = b.chosen; tokens = b.tokens; all = b.all; text = b.text; paths = b.paths })
-    = cc (limit, after, max_order, chosen, x.set ∙ sym y.set, x.tokens ∙ sym y.tokens, x.all ∙ sym y.all, x.text ∙ sym y.text, x.paths ∙ sym y.paths) in
+    (record { paging = record { limit = p.limit; after = p.after; max_order = p.max_order }; set = a.set; chosen = a.chosen; flags = a.flags })
+    (record { paging = record { limit = q.limit; after = q.after; max_order = q.max_order }; set = b.set; chosen = b.chosen; flags = b.flags })
+    = cc (limit, after, max_order, chosen, x.set ∙ sym y.set, x.flags ∙ sym y.flags) in
     same
 
 -- what two requests have in common that plain words make
@@ -206,11 +229,15 @@ one_read reports k plain behind a b x y =
     = cc (x.kind_is ∙ sym y.kind_is, asked.roots, asked.targets, asked.numbers, asked.ofs, asked.all_files, said) in
     same
 
--- words are one request at most
-pub one_request : (reports words : List (List ℕ)) (a b : Request) → IsRequest reports words a → IsRequest reports words b → a ≡ b
-one_request reports words a b x y =
+-- words in full are one request at most
+one_in_full : (reports words : List (List ℕ)) (a b : Request) → IsInFull reports words a → IsInFull reports words b → a ≡ b
+one_in_full reports words a b x y =
     let front = front_is reports words b y in
     one_read reports b.kind y.plain (drop (length (before_options words)) words) a b (to_read reports words a x b.kind y.plain front) (to_read reports words b y b.kind y.plain front)
+
+-- words are one request at most
+pub one_request : (reports words : List (List ℕ)) (a b : Request) → IsRequest reports words a → IsRequest reports words b → a ≡ b
+one_request reports words a b x y = one_in_full reports (in_full words) a b x y
 
 -- ---- the words that name files
 
@@ -233,13 +260,62 @@ files_asked shape.Topic name words root target number None files x = ap (drop 2)
 files_asked shape.Topic name words root target number (Some of) files x = ap (drop 2) x.0 ∙ sym x.4
 files_asked shape.Alone name words root target number of files x = ap (drop 2) x.0 ∙ sym x.5
 
--- the words that name files are the files of the request
-pub file_words_are : (reports words : List (List ℕ)) (request : Request) → IsRequest reports words request → file_words words ≡ request.files
-file_words_are reports words request is =
+-- the words in full that name files are the files of the request
+files_in_full : (reports words : List (List ℕ)) (request : Request) → IsInFull reports words request → file_words words ≡ request.files
+files_in_full reports words request is =
     let front = front_is reports words request is in
     ap file_words is.words_are ∙ ap (λ s. files_in s (before_options (name_of request.kind ∷ (is.plain ++ option_words is.given)))) (ap (λ k. option_map_or shape_of k shape.Target) (named_again request.kind))
     ∙ ap (files_in (shape_of request.kind)) (sym (ap before_options is.words_are) ∙ front)
     ∙ files_asked (shape_of request.kind) (name_of request.kind) is.plain request.root request.target request.number request.of request.files is.asked
+
+-- no word that stands alone names a file
+alone_no_file : (s : Shape) (word : List ℕ) (dash : Bool) → files_in s (if dash then [] else word ∷ []) ≡ []
+alone_no_file shape.Model word true = refl
+alone_no_file shape.Model word false = refl
+alone_no_file shape.Number word true = refl
+alone_no_file shape.Number word false = refl
+alone_no_file shape.File word true = refl
+alone_no_file shape.File word false = refl
+alone_no_file shape.Place word true = refl
+alone_no_file shape.Place word false = refl
+alone_no_file shape.Target word true = refl
+alone_no_file shape.Target word false = refl
+alone_no_file shape.Derivation word true = refl
+alone_no_file shape.Derivation word false = refl
+alone_no_file shape.Topic word true = refl
+alone_no_file shape.Topic word false = refl
+alone_no_file shape.Alone word true = refl
+alone_no_file shape.Alone word false = refl
+
+word_no_file : (word : List ℕ) → file_words (word ∷ []) ≡ []
+word_no_file word = alone_no_file (shape_named word) word (is_option word)
+
+help_no_file : (name : List ℕ) (dash : Bool) → drop 3 (codes "help" ∷ (if dash then [] else name ∷ [])) ≡ []
+help_no_file name true = refl
+help_no_file name false = refl
+
+-- two words of which the second is `--help` name no file
+two_no_file : (name last : List ℕ) → is_help_of name last ≡ true → file_words (name ∷ last ∷ []) ≡ []
+two_no_file name last is = go (kind_named name) is
+  where
+    go : (k : Option Kind) → option_map_or (λ kind. is_same_text last (codes "--help")) k false ≡ true → file_words (name ∷ last ∷ []) ≡ []
+    go None found = absurd (false≢true found)
+    go (Some k) found = ap (λ (l : List ℕ). file_words (name ∷ l ∷ [])) (text-is last (codes "--help") found) ∙ alone_no_file (shape_named name) name (is_option name)
+
+-- and so the words in full name the same files
+files_kept : (words : List (List ℕ)) → file_words words ≡ file_words (in_full words)
+files_kept [] = refl
+files_kept (word ∷ []) = word_no_file word ∙ sym (word_no_file (word_in_full word))
+files_kept (name ∷ last ∷ []) = go (is_help_of name last) refl
+  where
+    go : (h : Bool) → is_help_of name last ≡ h → file_words (name ∷ last ∷ []) ≡ file_words (if h then codes "help" ∷ name ∷ [] else name ∷ last ∷ [])
+    go true is = two_no_file name last is ∙ sym (help_no_file name (is_option name))
+    go false is = refl
+files_kept (name ∷ next ∷ more ∷ words) = refl
+
+-- the words that name files are the files of the request
+pub file_words_are : (reports words : List (List ℕ)) (request : Request) → IsRequest reports words request → file_words words ≡ request.files
+file_words_are reports words request is = files_kept words ∙ files_in_full reports (in_full words) request is
 
 -- ---- the chosen reports
 
@@ -249,6 +325,6 @@ chosen_below false reports text [] are = tt
 chosen_below false reports text (place ∷ places) are = let rises = chosen_rise [] text (place ∷ places) are in absurd (omega (arith, rises.1))
 
 -- the places of the chosen reports rise, and each is one of a report
-pub places_rise : (reports words : List (List ℕ)) (request : Request) → IsRequest reports words request → RisesWithin 0 (length reports) request.options.chosen
+pub places_rise : (reports words : List (List ℕ)) (request : Request) → IsInFull reports words request → RisesWithin 0 (length reports) request.options.chosen
 places_rise reports words request is =
     chosen_below (is_among (valued_of request.kind) (codes "reports")) reports (value_of (codes "reports") is.given) request.options.chosen is.said.chosen

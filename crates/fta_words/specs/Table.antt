@@ -8,7 +8,7 @@ use Rattle.fta_words.specs.declared.kind.Kind.TheVariants as kind
 use Rattle.fta_words.specs.declared.kind.Shape.{Shape}
 use Rattle.fta_words.specs.declared.kind.Shape.TheVariants as shape
 use Rattle.fta_words.specs.declared.kind.TheConstants.{KINDS}
-use Rattle.fta_words.specs.declared.table.TheConstants.{ROWS}
+use Rattle.fta_words.specs.declared.table.TheConstants.{FLAGS, ROWS, VALUED}
 
 -- the place of the row of a command
 abbrev pub place_of : Kind → ℕ
@@ -48,6 +48,14 @@ valued_of kind = option_map_or (λ row. map (λ name. name.now) row.valued.now) 
 -- those of them that must be there
 abbrev pub required_of : Kind → List (List ℕ)
 required_of kind = option_map_or (λ row. map (λ name. name.now) row.required.now) (slice_get ROWS (place_of kind)) []
+
+-- the flags of all commands
+abbrev pub all_flags : List (List ℕ)
+all_flags = map (λ name. name.now) FLAGS
+
+-- the options with a value of all commands
+abbrev pub all_valued : List (List ℕ)
+all_valued = map (λ name. name.now) VALUED
 
 -- whether a name is among others
 abbrev pub is_among : List (List ℕ) → List ℕ → Bool

@@ -1,5 +1,5 @@
 -- The words of the command line: the name of a command, plain words by its shape, and options.
-use Rattle.std.specs.Prelude.{◌≡◌, ◌≢◌, ◌<◌, ◌≤◌, ◌↔◌, ◌+◌, ◌*◌, ◌-◌, ℕ, Bool, true, false, ◌==◌, if◌then◌else◌, List, [], ◌∷◌, ◌++◌, drop, length, map, fold, codes, Option, Some, None, IfSome, IsUtf8, Contains, option_map, option_to_list, slice_get, take, unwrap_or}
+use Rattle.std.specs.Prelude.{◌≡◌, ◌≢◌, ◌<◌, ◌≤◌, ◌↔◌, ◌+◌, ◌*◌, ◌-◌, ℕ, Bool, true, false, ◌==◌, if◌then◌else◌, List, [], ◌∷◌, ◌++◌, drop, filter, length, map, fold, codes, Option, Some, None, IfSome, IsUtf8, Contains, option_map, option_to_list, slice_get, take, unwrap_or}
 use Rattle.std.specs.List.{AllByRecursion, flat_map, join_with_byte, list_any}
 use Rattle.std.specs.Option.{option_map_or}
 use Rattle.plain_values.specs.Name.{folded, is_same_text}
@@ -9,7 +9,7 @@ use Rattle.fta_words.specs.declared.command.Options.{Options}
 use Rattle.fta_words.specs.declared.kind.Kind.{Kind}
 use Rattle.fta_words.specs.declared.kind.Shape.{Shape}
 use Rattle.fta_words.specs.declared.kind.Shape.TheVariants as shape
-use Rattle.fta_words.specs.Table.{flags_of, is_among, kind_named, name_of, required_of, shape_of, valued_of}
+use Rattle.fta_words.specs.Table.{all_flags, flags_of, is_among, kind_named, name_of, required_of, shape_of, valued_of}
 
 -- ---- plain words
 
@@ -157,18 +157,20 @@ AreChosen reports (Some text) chosen = AreNames reports text chosen
 abbrev pub reports_for : Kind → List (List ℕ) → List (List ℕ)
 reports_for kind reports = if is_among (valued_of kind) (codes "reports") then reports else []
 
--- What options say, each by its own line, which is the same for all commands. An option that is not given says nothing, and what it
--- would say is none, empty or false; but without `--reports` all reports are chosen.
+-- What options say, each by its own line, which is the same for all commands; the flags that are given, by their names, in the order of
+-- those of all commands. An option that is not given says nothing, and what it would say is none or empty; but without `--reports` all
+-- reports are chosen.
 pub record Say (kind : Kind) (reports : List (List ℕ)) (given : List Given) (options : Options) : Type 0 where
   pub limit : Says IsNumberText (value_of (codes "limit") given) options.paging.limit
   pub after : Says IsFolded (value_of (codes "after") given) options.paging.after
   pub max_order : Says IsNumberText (value_of (codes "max-order") given) options.paging.max_order
   pub set : options.set ≡ folded (unwrap_or (value_of (codes "set") given) [])
   pub chosen : AreChosen (reports_for kind reports) (value_of (codes "reports") given) options.chosen
-  pub tokens : options.tokens ≡ is_given (codes "tokens") given
-  pub all : options.all ≡ is_given (codes "all") given
-  pub text : options.text ≡ is_given (codes "text") given
-  pub paths : options.paths ≡ is_given (codes "paths") given
+  pub flags : options.flags ≡ filter (λ name. is_given name given) all_flags
+
+-- whether the flag of a name is given
+abbrev pub is_set : Options → List ℕ → Bool
+is_set options name = is_among options.flags name
 
 -- ---- requests
 
@@ -223,9 +225,9 @@ IsAsked shape.Alone words root target number of files =
     (words ≡ [])
     × (root ≡ no_root) × (target ≡ []) × (number ≡ 0) × (of ≡ None) × (files ≡ [])
 
--- The words are a request, where these are the names of the reports: the name of its command, plain words of its shape, and then
--- options which it may have, each at most once, with all that it requires.
-pub record IsRequest (reports words : List (List ℕ)) (request : Request) : Type 0 where
+-- The words, none of them a short form, are a request, where these are the names of the reports: the name of its command, plain words of
+-- its shape, and then options which it may have, each at most once, with all that it requires.
+pub record IsInFull (reports words : List (List ℕ)) (request : Request) : Type 0 where
   pub plain : List (List ℕ)
   pub given : List Given
   pub words_are : words ≡ name_of request.kind ∷ (plain ++ option_words given)
@@ -234,6 +236,28 @@ pub record IsRequest (reports words : List (List ℕ)) (request : Request) : Typ
   pub required : AllByRecursion (λ name. is_given name given ≡ true) (required_of request.kind)
   pub asked : IsAsked (shape_of request.kind) plain request.root request.target request.number request.of request.files
   pub said : Say request.kind reports given request.options
+
+-- ---- short forms
+
+-- what a word that stands alone is in full: `--help` and `-h` are `help`, `--version` and `-V` are `version`
+abbrev pub word_in_full : List ℕ → List ℕ
+word_in_full word =
+    if is_among (codes "--help" ∷ codes "-h" ∷ []) word then codes "help" else (if is_among (codes "--version" ∷ codes "-V" ∷ []) word then codes "version" else word)
+
+-- whether two words are the name of a command and `--help`
+abbrev pub is_help_of : List ℕ → List ℕ → Bool
+is_help_of name last = option_map_or (λ kind. is_same_text last (codes "--help")) (kind_named name) false
+
+-- the words in full: a command with `--help` behind it is `help` with its name
+abbrev pub in_full : List (List ℕ) → List (List ℕ)
+in_full [] = []
+in_full (word ∷ []) = word_in_full word ∷ []
+in_full (name ∷ last ∷ []) = if is_help_of name last then codes "help" ∷ name ∷ [] else name ∷ last ∷ []
+in_full (name ∷ next ∷ more ∷ words) = name ∷ next ∷ more ∷ words
+
+-- The words, in full, are a request.
+abbrev pub IsRequest : List (List ℕ) → List (List ℕ) → Request → Type 0
+IsRequest reports words request = IsInFull reports (in_full words) request
 
 -- The words give a request.
 abbrev pub GiveRequest : List (List ℕ) → List (List ℕ) → Type 0

@@ -1,7 +1,7 @@
 ghost use Rattle.std.specs.Prelude.{◌≡◌, List, IfOk, IfErr};
 ghost use Rattle.fta_words.specs.Table.{flags_of, valued_of};
-ghost use Rattle.fta_words.specs.Words.{AreOptions, Given, IsRequest, option_words};
-ghost use Rattle.fta_words.specs.inner.Reading.{Answers, HaveOptions, ReadsAs, SaysAs};
+ghost use Rattle.fta_words.specs.Words.{AreOptions, Given, IsRequest, is_set, option_words};
+ghost use Rattle.fta_words.specs.inner.Reading.{Answers, AnswersInFull, HaveOptions, ReadsAs, SaysAs};
 ghost use Rattle.fta_words.specs.inner.Reasons.{TellsUsage};
 ghost use Rattle.fta_words.specs.inner.Shown.{request_shown};
 
@@ -12,8 +12,9 @@ use crate::kind::Kind;
 use crate::options::{are_complete, are_options};
 use crate::parsed::options_said;
 use crate::plain::{are_plain, texts_of};
+use crate::short::short_form;
 use crate::table::kind_named;
-use plain_values::{List, Mem, Name, Root, Word};
+use plain_values::{List, Mem, Name, Root, Word, is_same};
 use std::alloc::Global;
 
 /// What the words ask for. What the shape of its command does not have is empty, zero or none.
@@ -35,7 +36,7 @@ pub struct Request<'a> {
     pub options: Options,
 }
 
-/// What options say. An option that is not given says none, nothing or false; but without `--reports` all reports are chosen.
+/// What options say. An option that is not given says none or nothing; but without `--reports` all reports are chosen.
 #[derive(Drop)]
 pub struct Options {
     /// Which page of a listing is asked for.
@@ -44,14 +45,22 @@ pub struct Options {
     pub set: Name,
     /// The places of the chosen reports, which rise; none where the command has no reports.
     pub chosen: List<u32>,
-    /// Whether a last line `more` has a token.
-    pub tokens: bool,
-    /// Whether all effects, or all facts, are asked for, and not those of the root alone.
-    pub all: bool,
-    /// Whether the text of a model that is made is asked for.
-    pub text: bool,
-    /// Whether the path sets of a tree are asked for, and not its cut sets.
-    pub paths: bool,
+    /// The names of the flags that are given, in the order of those of all commands: `tokens`, that a last line `more` has a token;
+    /// `all`, that all effects, or all facts, are asked for, and not those of the root alone; `text`, that the text of a model that is
+    /// made is; `paths`, that the path sets of a tree are, and not its cut sets.
+    pub flags: List<Name>,
+}
+
+impl Options {
+    /// Whether the flag of a name is given.
+    pub fn is_set(&self, name: &[u8]) -> bool
+        ensures { result ≡ is_set self.now name.now }
+    {
+        self.flags
+            .items()
+            .iter()
+            .any(|flag| is_same(flag.items(), name))
+    }
 }
 
 /// Which page of a listing is asked for.
@@ -71,7 +80,8 @@ impl<'a> Request<'a> {
     /// The plain words come first: the name of the command, and then those of its shape. The options follow, each at most once: a flag as
     /// `--x`, an option with a value as `--x=v` or as the two words `--x v`; what the command requires is there. A plain word and a
     /// value are UTF-8, not empty, and do not begin with `-`. The letters of root, target and set are folded; the places of the
-    /// chosen reports are counted from 0 and rise.
+    /// chosen reports are counted from 0 and rise. `--help` and `-h` alone are `help`, `--version` and `-V` are `version`, and a command's name
+    /// with `--help` is `help` with that name.
     ///
     /// `Usage` where the words give no request; `Memory` where memory was wanting, or there are more reports than 32 bits count.
     pub fn read(
@@ -92,6 +102,20 @@ impl<'a> Request<'a> {
 /// The request that the words give, if they give one.
 fn request_in<'a>(alloc: Global, words: &'a [Word], reports: &[Name]) -> Mem<Option<Request<'a>>>
     ensures { IfOk result (Answers reports.now words.now) }
+{
+    match short_form(words) {
+        Some(short) => request_of(alloc, short.kind, short.plain, &[], reports),
+        None => request_in_full(alloc, words, reports),
+    }
+}
+
+/// The request that words in full give, if they give one.
+fn request_in_full<'a>(
+    alloc: Global,
+    words: &'a [Word],
+    reports: &[Name],
+) -> Mem<Option<Request<'a>>>
+    ensures { IfOk result (AnswersInFull reports.now words.now) }
 {
     let plain = before_options(words);
     if !are_plain(plain) {

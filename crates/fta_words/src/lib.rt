@@ -14,6 +14,7 @@ mod options;
 mod parsed;
 mod plain;
 mod root;
+mod short;
 mod table;
 mod text;
 

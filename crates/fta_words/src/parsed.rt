@@ -1,26 +1,21 @@
-ghost use Rattle.std.specs.Prelude.{◌≡◌, List, ℕ, Option, true, false, IfOk, IfSome, Some, [], codes, fold, map, option_map, unwrap_or};
+ghost use Rattle.std.specs.Prelude.{◌≡◌, ◌++◌, ◌∷◌, OnOk, cond, filter, List, ℕ, Option, true, false, IfOk, IfSome, Some, [], codes, fold, map, option_map, unwrap_or};
+ghost use Rattle.std.specs.List.{AllByRecursion};
 ghost use Rattle.clap.specs.Words.{app_of, found_of, rows_of, rule_of, with_rule};
 ghost use Rattle.plain_values.specs.Name.{folded};
-ghost use Rattle.fta_words.specs.Table.{is_among};
+ghost use Rattle.fta_words.specs.Table.{all_flags, all_valued, is_among};
 ghost use Rattle.fta_words.specs.Words.{AreChosen, AreOptions, Given, IsNumberText, Says, is_given, option_words, reports_for, value_of};
-ghost use Rattle.fta_words.specs.inner.Parsed.{StandIn, all_flags, all_valued, flag_rule, options_app, valued_rule};
+ghost use Rattle.fta_words.specs.inner.Parsed.{StandIn, flag_rule, options_app, valued_rule};
 ghost use Rattle.fta_words.specs.inner.Reading.{HaveOptions, SaysAs};
 
 use crate::chosen::chosen_of;
 use crate::command::{Options, Paging};
 use crate::kind::Kind;
 use crate::number::number_said;
-use crate::table::{is_among, valued_of};
+use crate::table::{FLAGS, VALUED, is_among, valued_of};
 use clap::error::ErrorKind;
 use clap::{Arg, ArgAction, ArgMatches, Command};
 use plain_values::{List, Mem, Name, fold};
 use std::alloc::{AllocError, Global};
-
-/// The options of all commands that have a value.
-pub const VALUED: [&'static str; 5] = ["limit", "after", "max-order", "reports", "set"];
-
-/// The flags of all commands.
-pub const FLAGS: [&'static str; 4] = ["tokens", "all", "text", "paths"];
 
 /// What options say, as `clap` reads their words; none where a value has not its form.
 ///
@@ -65,6 +60,7 @@ fn options_found(
     };
     let after = folded_in(alloc, matches, "after")?;
     let set = text_in(alloc, matches, "set")?;
+    let flags = flags_in(alloc, matches, &FLAGS)?;
     Ok(Some(Options {
         paging: Paging {
             limit,
@@ -73,10 +69,7 @@ fn options_found(
         },
         set,
         chosen,
-        tokens: flag_in(matches, "tokens"),
-        all: flag_in(matches, "all"),
-        text: flag_in(matches, "text"),
-        paths: flag_in(matches, "paths"),
+        flags,
     }))
 }
 
@@ -168,6 +161,29 @@ fn bytes_of<'t>(text: Option<&'t str>) -> Option<&'t [u8]>
         Some(text) => Some(text.as_bytes()),
         None => None,
     }
+}
+
+/// The names of those of these flags that are given.
+fn flags_in(alloc: Global, matches: &ArgMatches<'_>, names: &[&'static str]) -> Mem<List<Name>>
+    requires { AllByRecursion (λ name. is_among all_flags name.now ≡ true) names.now }
+    ensures { (given : List Given) → StandIn (rows_of (found_of matches.now)) given → IfOk result (λ flags. flags ≡ filter (λ name. is_given name given) (map (λ name. name.now) names.now)) }
+{
+    let mut flags = List::new(alloc);
+    for name in names {
+        add_flag(alloc, matches, name, &mut flags)?;
+    }
+    Ok(flags)
+}
+
+/// Adds the name of a flag, where it is given.
+fn add_flag(alloc: Global, matches: &ArgMatches<'_>, name: &str, flags: &mut List<Name>) -> Mem<()>
+    requires { is_among all_flags name.now ≡ true }
+    ensures { (given : List Given) → StandIn (rows_of (found_of matches.now)) given → OnOk result (flags.new ≡ flags.old ++ cond (is_given name.now given) (name.now ∷ []) []) }
+{
+    if flag_in(matches, name) {
+        flags.push(List::of(Vec::from_slice(alloc, name.as_bytes())?)?)?;
+    }
+    Ok(())
 }
 
 /// Whether a flag is given.

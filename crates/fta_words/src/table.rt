@@ -40,6 +40,12 @@ pub type Names = &'static [&'static [u8]];
 /// A row of the table.
 pub type CommandRow = Row<&'static [u8], Names>;
 
+/// The flags of all commands.
+pub const FLAGS: [&'static str; 4] = ["tokens", "all", "text", "paths"];
+
+/// The options of all commands that have a value.
+pub const VALUED: [&'static str; 5] = ["limit", "after", "max-order", "reports", "set"];
+
 /// A row for each command, in the order of `KINDS`, which is that of help.
 pub const ROWS: [CommandRow; 16] = [
     Row {

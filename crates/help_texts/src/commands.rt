@@ -148,7 +148,7 @@ pub const PLACE: &[u8] =
 /// Of `help`.
 pub const HELP: &[u8] =
     b"Writes a line for each command, and the exit statuses; or the words of a command, its options, and an\n\
-    example.\n\
+    example. COMMAND --help writes the same as help COMMAND, and --help or -h alone what help does.\n\
     \n\
     Example:\n\
     ./aadl_fta help cuts\n";
@@ -156,6 +156,7 @@ pub const HELP: &[u8] =
 /// Of `version`.
 pub const VERSION: &[u8] =
     b"Writes the version of the program, and that of its profile: the texts that it accepts, and what they mean.\n\
+    --version and -V do so too.\n\
     \n\
     Example:\n\
     ./aadl_fta version\n";

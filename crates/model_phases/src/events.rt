@@ -1,6 +1,6 @@
 use crate::flat::{FlatModel, FromAssembly};
-use crate::system::NumberedModel;
 use event_origins::{EventOrigin, origins_of};
+use fact_formulas::NumberedModel;
 use model_facts::Assembly;
 use phases::Status;
 use plain_values::List;

@@ -11,8 +11,9 @@ ghost use Rattle.model_phases.specs.Tests.{IsIt};
 ghost use Rattle.model_phases.specs.inner.Tests.{MeetsTests};
 
 use crate::kinds::{Kinds, kinds_of};
-use crate::system::{NumberedModel, numbered_model};
+use crate::system::numbered_model;
 use event_rates::rates_of;
+use fact_formulas::NumberedModel;
 use fault_system::FaultSystem;
 use instantiator::Instance;
 use model_facts::{Assembly, points_of_models};

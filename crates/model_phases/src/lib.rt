@@ -10,4 +10,3 @@ mod system;
 pub use events::EventModel;
 pub use flat::{FlatModel, FromAssembly, assembled};
 pub use review::ReviewedModel;
-pub use system::NumberedModel;

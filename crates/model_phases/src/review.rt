@@ -1,5 +1,5 @@
 use crate::flat::FromAssembly;
-use crate::system::NumberedModel;
+use fact_formulas::NumberedModel;
 use model_facts::Assembly;
 use model_review::review;
 use phases::Status;
@@ -23,15 +23,7 @@ impl FromAssembly for ReviewedModel {
         assembly: &Assembly,
         model: NumberedModel,
     ) -> Result<ReviewedModel, Status> {
-        let text = review(
-            alloc,
-            assembly,
-            model.universe.items(),
-            &model.facts,
-            &model.events,
-            &model.system,
-            model.effects.items(),
-        )?;
+        let text = review(alloc, assembly, &model)?;
         Ok(ReviewedModel { text })
     }
 }

@@ -1,31 +1,17 @@
 ghost use Rattle.std.specs.Prelude.{◌≡◌, IfErr, IfOk, None, OnOk};
 ghost use Rattle.plain_values.specs.inner.Stops.{StopsAt};
 ghost use Rattle.fact_formulas.specs.Flat.{size_refusal};
-ghost use Rattle.model_phases.specs.inner.Numbered.{IsNumbered, IsSystemOf};
+ghost use Rattle.fact_formulas.specs.inner.Models.{IsSystemOf};
+ghost use Rattle.model_phases.specs.inner.Numbered.{IsNumbered};
 
-use fault_system::FaultSystem;
+use fact_formulas::NumberedModel;
 use flattener::flatten;
 use model_facts::{
     Assembly, EventTable, FactTable, are_named, event_names_are_plain, fact_names_are_plain,
     universe_of,
 };
-use plain_values::{Answer, List};
+use plain_values::Answer;
 use std::alloc::Global;
-
-/// A model with its facts and events in order, and its system.
-#[derive(Drop)]
-pub struct NumberedModel {
-    /// The error types that may be at a free side of a point, rising.
-    pub universe: List<u32>,
-    /// What may hold in it, in order.
-    pub facts: FactTable,
-    /// What may occur in it, in order.
-    pub events: EventTable,
-    /// These with what makes each fact hold.
-    pub system: FaultSystem,
-    /// The numbers of its facts that are effects of failures, rising.
-    pub effects: List<u32>,
-}
 
 /// The model that is put together, numbered. Its names are made of identifiers, and so they are plain.
 pub(crate) fn numbered_model(alloc: Global, assembly: &Assembly) -> Answer<NumberedModel>

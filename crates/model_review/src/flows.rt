@@ -22,6 +22,14 @@ use propagation_links::PointAt;
 use propagation_points::{Held, ReachedPoint};
 use std::alloc::{AllocError, Global};
 
+/// A component that is looked at, with the facts of its states.
+#[derive(Clone, Copy)]
+struct Part<'p> {
+    view: &'p View<'p>,
+    owner: u32,
+    states: &'p [u32],
+}
+
 /// The sources of a component that are hidden, or its paths.
 #[derive(Clone, Copy)]
 pub(crate) struct HiddenFlows {
@@ -43,15 +51,12 @@ impl ComponentFinding for HiddenFlows {
         model: &ErrorModel,
     ) -> Mem<()> {
         let states = view.states(alloc, owner)?;
-        add_flows(
-            alloc,
-            found,
+        let part = Part {
             view,
-            states.items(),
             owner,
-            model.flows.items(),
-            self.paths,
-        )
+            states: states.items(),
+        };
+        add_flows(alloc, found, &part, model.flows.items(), self.paths)
     }
 
     ghost nothing = { λ told seen owner. refl };
@@ -60,16 +65,14 @@ impl ComponentFinding for HiddenFlows {
 fn add_flows(
     alloc: Global,
     found: &mut List<Finding>,
-    view: &View,
-    among: &[u32],
-    owner: u32,
+    part: &Part<'_>,
     flows: &[FlowMeaning],
     paths: bool,
 ) -> Mem<()>
-    ensures { OnOk result (found.new ≡ found.old ++ numbered_from (hidden_flow paths view.now among.now owner) 0 flows.now) }
+    ensures { OnOk result (found.new ≡ found.old ++ numbered_from (hidden_flow paths part.now.view.now part.now.states.now part.now.owner) 0 flows.now) }
 {
     for (number, flow) in flows.iter().enumerate() {
-        add_flow(alloc, found, view, among, owner, number, flow, paths)?;
+        add_flow(alloc, found, part, number, flow, paths)?;
     }
     Ok(())
 }
@@ -77,81 +80,72 @@ fn add_flows(
 fn add_flow(
     alloc: Global,
     found: &mut List<Finding>,
-    view: &View,
-    among: &[u32],
-    owner: u32,
+    part: &Part<'_>,
     number: usize,
     flow: &FlowMeaning,
     paths: bool,
 ) -> Mem<()>
-    ensures { OnOk result (found.new ≡ found.old ++ hidden_flow paths view.now among.now owner number flow.now) }
+    ensures { OnOk result (found.new ≡ found.old ++ hidden_flow paths part.now.view.now part.now.states.now part.now.owner number flow.now) }
 {
     if number > 4_294_967_295 {
         return Err(AllocError);
     }
     if paths {
-        return add_path(alloc, found, view, among, owner, number as u32, flow);
+        return add_path(alloc, found, part, number as u32, flow);
     }
-    add_source(alloc, found, view, among, owner, number as u32, flow)
+    add_source(alloc, found, part, number as u32, flow)
 }
 
 fn add_source(
     alloc: Global,
     found: &mut List<Finding>,
-    view: &View,
-    among: &[u32],
-    owner: u32,
+    part: &Part<'_>,
     number: u32,
     flow: &FlowMeaning,
 ) -> Mem<()>
-    ensures { OnOk result (found.new ≡ found.old ++ hidden_source view.now among.now owner number flow.now) }
+    ensures { OnOk result (found.new ≡ found.old ++ hidden_source part.now.view.now part.now.states.now part.now.owner number flow.now) }
 {
     if is_path(flow) {
         return Ok(());
     }
-    let side = outward_of(owner, end_of(flow));
-    let types = hidden_types(alloc, view, among, owner, number, flow)?;
+    let side = outward_of(part.owner, end_of(flow));
+    let types = hidden_types(alloc, part, number, flow)?;
     let at = TypesAt { side, types };
     let is_none = at.is_empty();
-    tell_unless(found, is_none, Finding::HiddenSource(owner, number, at))
+    tell_unless(
+        found,
+        is_none,
+        Finding::HiddenSource(part.owner, number, at),
+    )
 }
 
 fn add_path(
     alloc: Global,
     found: &mut List<Finding>,
-    view: &View,
-    among: &[u32],
-    owner: u32,
+    part: &Part<'_>,
     number: u32,
     flow: &FlowMeaning,
 ) -> Mem<()>
-    ensures { OnOk result (found.new ≡ found.old ++ hidden_path view.now among.now owner number flow.now) }
+    ensures { OnOk result (found.new ≡ found.old ++ hidden_path part.now.view.now part.now.states.now part.now.owner number flow.now) }
 {
     if !is_path(flow) {
         return Ok(());
     }
-    let side = outward_of(owner, end_of(flow));
-    let types = hidden_types(alloc, view, among, owner, number, flow)?;
+    let side = outward_of(part.owner, end_of(flow));
+    let types = hidden_types(alloc, part, number, flow)?;
     let at = TypesAt { side, types };
     let is_none = at.is_empty();
-    tell_unless(found, is_none, Finding::HiddenPath(owner, number, at))
+    tell_unless(found, is_none, Finding::HiddenPath(part.owner, number, at))
 }
 
 /// The types that a flow covers without effect.
-fn hidden_types(
-    alloc: Global,
-    view: &View,
-    among: &[u32],
-    owner: u32,
-    number: u32,
-    flow: &FlowMeaning,
-) -> Mem<List<u32>>
-    ensures { IfOk result (λ types. types ≡ hidden_types view.now among.now owner number flow.now) }
+fn hidden_types(alloc: Global, part: &Part<'_>, number: u32, flow: &FlowMeaning) -> Mem<List<u32>>
+    ensures { IfOk result (λ types. types ≡ hidden_types part.now.view.now part.now.states.now part.now.owner number flow.now) }
 {
-    let side = outward_of(owner, end_of(flow));
+    let side = outward_of(part.owner, end_of(flow));
     let mut types = List::new(alloc);
-    for kind in view.types(side) {
-        let is_hidden = is_hidden_at(alloc, view, among, side, number, *kind, flow)?;
+    for kind in part.view.types(side) {
+        let is_hidden = is_hidden_at(alloc, part, side, number, *kind, flow)?;
         types.push_if(*kind, is_hidden)?;
     }
     Ok(types)
@@ -159,26 +153,16 @@ fn hidden_types(
 
 fn is_hidden_at(
     alloc: Global,
-    view: &View,
-    among: &[u32],
+    part: &Part<'_>,
     side: PointAt,
     number: u32,
     kind: u32,
     flow: &FlowMeaning,
 ) -> Mem<bool>
-    ensures { IfOk result (λ hidden. hidden ≡ option_map_or (λ target. is_hidden_flow view.now among.now side.component number kind target flow.now) (number_at view.now side kind) false) }
+    ensures { IfOk result (λ hidden. hidden ≡ option_map_or (λ target. is_hidden_flow part.now.view.now part.now.states.now part.now.owner number kind target flow.now) (number_at part.now.view.now side kind) false) }
 {
-    match view.fact_at(side, kind) {
-        Some(target) => is_hidden(
-            alloc,
-            view,
-            among,
-            side.component,
-            number,
-            kind,
-            target,
-            flow,
-        ),
+    match part.view.fact_at(side, kind) {
+        Some(target) => is_hidden(alloc, part, number, kind, target, flow),
         None => Ok(false),
     }
 }
@@ -186,86 +170,76 @@ fn is_hidden_at(
 /// Whether what a flow says of a type has no effect.
 fn is_hidden(
     alloc: Global,
-    view: &View,
-    among: &[u32],
-    owner: u32,
+    part: &Part<'_>,
     number: u32,
     kind: u32,
     target: u32,
     flow: &FlowMeaning,
 ) -> Mem<bool>
-    ensures { IfOk result (λ hidden. hidden ≡ is_hidden_flow view.now among.now owner number kind target flow.now) }
+    ensures { IfOk result (λ hidden. hidden ≡ is_hidden_flow part.now.view.now part.now.states.now part.now.owner number kind target flow.now) }
 {
     match flow {
         FlowMeaning::Event(_, reached) => Ok(
-            reached.types.covers(kind) && view.is_lost_event(target, view.source(owner, number)),
+            reached.types.covers(kind)
+                && part
+                    .view
+                    .is_lost_event(target, part.view.source(part.owner, number)),
         ),
         FlowMeaning::State(held, reached) => {
             if !reached.types.covers(kind) {
                 return Ok(false);
             }
-            is_lost_state(alloc, view, among, owner, target, held)
+            is_lost_state(alloc, part, target, held)
         }
         FlowMeaning::Carry(start, _) => {
-            let side = inward_of(owner, start.point);
-            is_lost_type(alloc, view, among, target, side, start, kind)
+            let side = inward_of(part.owner, start.point);
+            is_lost_type(alloc, part, target, side, start, kind)
         }
         FlowMeaning::Change(start, _, types) => {
             if !has_number(types.items(), kind) {
                 return Ok(false);
             }
-            is_lost_start(alloc, view, among, owner, target, start)
+            is_lost_start(alloc, part, target, start)
         }
     }
 }
 
-fn is_lost_state(
-    alloc: Global,
-    view: &View,
-    among: &[u32],
-    owner: u32,
-    target: u32,
-    held: &Held,
-) -> Mem<bool>
-    ensures { IfOk result (λ lost. lost ≡ list_any (λ state. is_lost_fact view.now among.now target (state_number view.now owner state)) (held_numbers held.now)) }
+fn is_lost_state(alloc: Global, part: &Part<'_>, target: u32, held: &Held) -> Mem<bool>
+    ensures { IfOk result (λ lost. lost ≡ list_any (λ state. is_lost_fact part.now.view.now part.now.states.now target (state_number part.now.view.now part.now.owner state)) (held_numbers held.now)) }
 {
     match held {
-        Held::One(state) => view.is_lost_fact(alloc, among, target, view.state(owner, *state)),
-        Held::Any(states) => is_lost_variant(alloc, view, among, owner, target, states.items()),
+        Held::One(state) => part.view.is_lost_fact(
+            alloc,
+            part.states,
+            target,
+            part.view.state(part.owner, *state),
+        ),
+        Held::Any(states) => is_lost_variant(alloc, part, target, states.items()),
     }
 }
 
-fn is_lost_variant(
-    alloc: Global,
-    view: &View,
-    among: &[u32],
-    owner: u32,
-    target: u32,
-    states: &[u32],
-) -> Mem<bool>
-    ensures { IfOk result (λ lost. lost ≡ list_any (λ state. is_lost_fact view.now among.now target (state_number view.now owner state)) states.now) }
+fn is_lost_variant(alloc: Global, part: &Part<'_>, target: u32, states: &[u32]) -> Mem<bool>
+    ensures { IfOk result (λ lost. lost ≡ list_any (λ state. is_lost_fact part.now.view.now part.now.states.now target (state_number part.now.view.now part.now.owner state)) states.now) }
 {
     for state in states {
-        if view.is_lost_fact(alloc, among, target, view.state(owner, *state))? {
+        if part.view.is_lost_fact(
+            alloc,
+            part.states,
+            target,
+            part.view.state(part.owner, *state),
+        )? {
             return Ok(true);
         }
     }
     Ok(false)
 }
 
-fn is_lost_start(
-    alloc: Global,
-    view: &View,
-    among: &[u32],
-    owner: u32,
-    target: u32,
-    start: &ReachedPoint,
-) -> Mem<bool>
-    ensures { IfOk result (λ lost. lost ≡ list_any (λ other. covers start.now.types other && is_lost_fact view.now among.now target (number_at view.now (inward_of owner start.now.point) other)) (types_in view.now (inward_of owner start.now.point))) }
+fn is_lost_start(alloc: Global, part: &Part<'_>, target: u32, start: &ReachedPoint) -> Mem<bool>
+    ensures { IfOk result (λ lost. lost ≡ list_any (λ other. covers start.now.types other && is_lost_fact part.now.view.now part.now.states.now target (number_at part.now.view.now (inward_of part.now.owner start.now.point) other)) (types_in part.now.view.now (inward_of part.now.owner start.now.point))) }
 {
-    let side = inward_of(owner, start.point);
-    for other in view.types(side) {
-        if is_lost_type(alloc, view, among, target, side, start, *other)? {
+    let side = inward_of(part.owner, start.point);
+    for other in part.view.types(side) {
+        if is_lost_type(alloc, part, target, side, start, *other)? {
             return Ok(true);
         }
     }
@@ -274,19 +248,19 @@ fn is_lost_start(
 
 fn is_lost_type(
     alloc: Global,
-    view: &View,
-    among: &[u32],
+    part: &Part<'_>,
     target: u32,
     side: PointAt,
     start: &ReachedPoint,
     other: u32,
 ) -> Mem<bool>
-    ensures { IfOk result (λ lost. lost ≡ (covers start.now.types other && is_lost_fact view.now among.now target (number_at view.now side other))) }
+    ensures { IfOk result (λ lost. lost ≡ (covers start.now.types other && is_lost_fact part.now.view.now part.now.states.now target (number_at part.now.view.now side other))) }
 {
     if !start.types.covers(other) {
         return Ok(false);
     }
-    view.is_lost_fact(alloc, among, target, view.fact_at(side, other))
+    part.view
+        .is_lost_fact(alloc, part.states, target, part.view.fact_at(side, other))
 }
 
 /// The inward side of a point.

@@ -12,10 +12,10 @@ ghost use Rattle.system_review.specs.Occurring.{used_in};
 ghost use Rattle.system_review.specs.Possible.{possible_in};
 
 use error_models::ErrorModel;
-use fact_formulas::fact_at;
+use fact_formulas::{NumberedModel, fact_at};
 use fault_system::{Bits, FaultSystem};
 use instantiator::Instance;
-use model_facts::{Assembly, EventKey, EventKind, EventTable, FactKey, FactKind, FactTable};
+use model_facts::{Assembly, EventKey, EventKind, FactKey, FactKind};
 use plain_values::{List, Mem};
 use propagation_links::{Link, PointAt};
 use propagation_points::Side;
@@ -27,11 +27,7 @@ use system_review::{made_by_event, made_by_fact};
 #[derive(Drop)]
 pub(crate) struct View<'v> {
     assembly: &'v Assembly<'v>,
-    universe: &'v [u32],
-    facts: &'v FactTable,
-    events: &'v EventTable,
-    system: &'v FaultSystem,
-    effects: &'v [u32],
+    model: &'v NumberedModel,
     possible: &'v Bits,
     used: &'v Bits,
 }
@@ -53,42 +49,33 @@ impl<'v> Model for View<'v> {
     ghost coded = { Prim.hlevel (codes, condition.the_row.coded, side.the_row.coded, cause.the_row.coded, formula.the_row.coded) };
 
     ghost view = { λ v. record {
-      numbered = record { assembly = v.assembly.now; universe = v.universe.now; facts = v.facts.now; events = v.events.now };
-      system = v.system.now;
-      effects = v.effects.now;
+      numbered = record { assembly = v.assembly.now; universe = v.model.now.universe; facts = v.model.now.facts; events = v.model.now.events };
+      system = v.model.now.system;
+      effects = v.model.now.effects;
     } };
 
-    ghost invariant = { λ v. ((n : ℕ) → member v.possible.now n ≡ possible_in v.system.now n) × ((n : ℕ) → member v.used.now n ≡ used_in v.system.now n) };
+    ghost invariant = { λ v. ((n : ℕ) → member v.possible.now n ≡ possible_in v.model.now.system n) × ((n : ℕ) → member v.used.now n ≡ used_in v.model.now.system n) };
 }
 
 impl<'v> View<'v> {
-    /// A model with this universe, these facts and events, and this system, in which these facts are effects, these may come
-    /// about, and these occur in formulas.
+    /// A model with its facts and events, in whose system these facts may come about, and these occur in formulas.
     pub(crate) fn new(
         assembly: &'v Assembly<'v>,
-        universe: &'v [u32],
-        facts: &'v FactTable,
-        events: &'v EventTable,
-        system: &'v FaultSystem,
-        effects: &'v [u32],
+        model: &'v NumberedModel,
         possible: &'v Bits,
         used: &'v Bits,
     ) -> View<'v>
-        requires possible { (n : ℕ) → member possible.now n ≡ possible_in system.now n }
-        requires used { (n : ℕ) → member used.now n ≡ used_in system.now n }
+        requires possible { (n : ℕ) → member possible.now n ≡ possible_in model.now.system n }
+        requires used { (n : ℕ) → member used.now n ≡ used_in model.now.system n }
         ensures { result ≡ record {
-          numbered = record { assembly = assembly.now; universe = universe.now; facts = facts.now; events = events.now };
-          system = system.now;
-          effects = effects.now;
+          numbered = record { assembly = assembly.now; universe = model.now.universe; facts = model.now.facts; events = model.now.events };
+          system = model.now.system;
+          effects = model.now.effects;
         } }
     {
         View {
             assembly,
-            universe,
-            facts,
-            events,
-            system,
-            effects,
+            model,
             possible,
             used,
         }
@@ -105,21 +92,21 @@ impl<'v> View<'v> {
     pub(crate) fn system(&self) -> &'v FaultSystem
         ensures { result.now ≡ self.now.system }
     {
-        self.system
+        &self.model.system
     }
 
     /// The facts that are effects.
     pub(crate) fn effects(&self) -> &'v [u32]
         ensures { result.now ≡ self.now.effects }
     {
-        self.effects
+        self.model.effects.items()
     }
 
     /// Whether the event of a number is an error event.
     pub(crate) fn is_error_event(&self, number: u32) -> bool
         ensures { result ≡ is_error_event self.now number }
     {
-        is_error_at(self.events.list(), number)
+        is_error_at(self.model.events.list(), number)
     }
 
     /// The instance.
@@ -157,7 +144,7 @@ impl<'v> View<'v> {
         ensures { result.now ≡ types_in self.now at }
     {
         match self.side(at) {
-            Some(side) => side_types(self.universe, side),
+            Some(side) => side_types(self.model.universe.items(), side),
             None => &[],
         }
     }
@@ -176,14 +163,14 @@ impl<'v> View<'v> {
     pub(crate) fn fact_at(&self, at: PointAt, number: u32) -> Option<u32>
         ensures { result ≡ number_at self.now at number }
     {
-        self.facts.number(fact_at(number, at))
+        self.model.facts.number(fact_at(number, at))
     }
 
     /// The number of the fact that a component is in a state.
     pub(crate) fn state(&self, owner: u32, state: u32) -> Option<u32>
         ensures { result ≡ state_number self.now owner state }
     {
-        self.facts.number(FactKey {
+        self.model.facts.number(FactKey {
             owner,
             kind: FactKind::State(state),
         })
@@ -193,7 +180,7 @@ impl<'v> View<'v> {
     pub(crate) fn source(&self, owner: u32, flow: u32) -> Option<u32>
         ensures { result ≡ source_number self.now owner flow }
     {
-        self.events.number(EventKey {
+        self.model.events.number(EventKey {
             owner,
             kind: EventKind::Source(flow),
         })
@@ -285,7 +272,7 @@ impl<'v> View<'v> {
         if !self.is_possible(cause) {
             return Ok(false);
         }
-        let made = made_by_fact(alloc, self.system, among, target, cause)?;
+        let made = made_by_fact(alloc, &self.model.system, among, target, cause)?;
         Ok(!made)
     }
 
@@ -294,7 +281,7 @@ impl<'v> View<'v> {
         ensures { result ≡ is_lost_event self.now target cause }
     {
         match cause {
-            Some(cause) => !made_by_event(self.system, target, cause),
+            Some(cause) => !made_by_event(&self.model.system, target, cause),
             None => false,
         }
     }

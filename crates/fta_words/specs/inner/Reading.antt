@@ -9,8 +9,8 @@ use Rattle.fta_words.specs.declared.command.Request.{Request as RequestInCode}
 use Rattle.fta_words.specs.declared.kind.Kind.{Kind}
 use Rattle.fta_words.specs.declared.kind.Shape.{Shape}
 use Rattle.fta_words.specs.inner.Shown.{request_shown}
-use Rattle.fta_words.specs.Table.{flags_of, required_of, shape_of, valued_of}
-use Rattle.fta_words.specs.Words.{AreOptions, Given, GiveNoRequest, IsAllowed, IsAsked, IsRequest, Request, Say, Spelling, is_given, option_words, spelled}
+use Rattle.fta_words.specs.Table.{flags_of, name_of, required_of, shape_of, valued_of}
+use Rattle.fta_words.specs.Words.{AreOptions, Given, IsAllowed, IsAsked, IsInFull, IsPlainWord, Request, Say, Spelling, in_full, is_given, option_words, spelled}
 
 -- whether letters and digits follow, each perhaps after one `_`: it goes along the bytes, and after a
 -- `_` (waiting) a letter or digit must stand
@@ -68,6 +68,16 @@ ReadsAs reports kind plain behind answer =
 abbrev pub SaysAs : Kind → List (List ℕ) → List Given → Option Options → Type 0
 SaysAs kind reports given answer = MatchOption answer ((options : Options) → Say kind reports given options → ⊥) (Say kind reports given)
 
+-- The answer is the request that words in full are, or none where they are none.
+abbrev pub AnswersInFull : List (List ℕ) → List (List ℕ) → Option RequestInCode → Type 0
+AnswersInFull reports words answer =
+    MatchOption answer ((request : Request) → IsInFull reports words request → ⊥) (λ request. IsInFull reports words (request_shown request))
+
 -- The answer is the request that the words are, or none where they are none.
 abbrev pub Answers : List (List ℕ) → List (List ℕ) → Option RequestInCode → Type 0
-Answers reports words answer = MatchOption answer (GiveNoRequest reports words) (λ request. IsRequest reports words (request_shown request))
+Answers reports words answer = AnswersInFull reports (in_full words) answer
+
+-- The words are a short form: in full they are the name of a command and these plain words.
+pub record IsShort (words : List (List ℕ)) (kind : Kind) (plain : List (List ℕ)) : Type 0 where
+  pub in_full_is : in_full words ≡ name_of kind ∷ plain
+  pub plain_words : AllByRecursion IsPlainWord plain

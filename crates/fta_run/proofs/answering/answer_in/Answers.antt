@@ -1,7 +1,8 @@
 use Rattle.std.proofs.Common.{inl}
 use Rattle.system_answers.specs.Voices.{voices_of}
 use Rattle.system_answers.proofs.Reported.{all_kept}
-use Rattle.fta_run.proofs.Ran.{held_is, meets_wider, ready_held, ready_told, told_as}
+use Rattle.fta_run.specs.Due.{cuts_in, first_text, fmea_in, make_text, sets_of_tree, targets_in}
+use Rattle.fta_run.proofs.Ran.{held_is, meets_set, meets_wider, ready_held, ready_set, ready_told, told_as}
 use Rattle.fta_run.proofs.answering.answer_in.Goals as goal
 
 pub returns-in-Check-clause-text : goal.returns-in-Check-clause-text
@@ -14,7 +15,9 @@ pub returns-in-Check-clause-reports : goal.returns-in-Check-clause-reports
 returns-in-Check-clause-reports g c = all_kept (λ b. (goal.Report-dyn g (b.vtable, b.value)).text b.value) (λ b. (goal.Report-dyn g (b.vtable, b.value)).label b.value) (λ b. (goal.Report-dyn g (b.vtable, b.value)).report_faults b.value) _ c.args.reports.now.items
 
 pub returns-in-Cuts-clause-text : goal.returns-in-Cuts-clause-text
-returns-in-Cuts-clause-text g c = rw c.in-Cuts.is (ready_held _ _ c.cuts.result c.ready_of-in-Cuts.result c.ready_of-in-Cuts.ensures (λ s memory. inl memory) c.cuts.ensures)
+returns-in-Cuts-clause-text g c =
+    let asked = c.args.asked.now in
+    rw c.in-Cuts.is (ready_set _ (λ flag. cuts_in asked.root asked.target asked.options.paging flag c.args.texts) c.is_set.result _ c.cuts.result c.ready_of-in-Cuts.result c.is_set.ensures c.ready_of-in-Cuts.ensures (λ s memory. inl memory) c.cuts.ensures)
 
 pub returns-in-Cuts-clause-by_lines : goal.returns-in-Cuts-clause-by_lines
 returns-in-Cuts-clause-by_lines g c = held_is _ c.cuts.result c.ready_of-in-Cuts.result c.ready_of-in-Cuts.ensures
@@ -23,7 +26,9 @@ pub returns-in-Cuts-clause-reports : goal.returns-in-Cuts-clause-reports
 returns-in-Cuts-clause-reports g c = all_kept (λ b. (goal.Report-dyn g (b.vtable, b.value)).text b.value) (λ b. (goal.Report-dyn g (b.vtable, b.value)).label b.value) (λ b. (goal.Report-dyn g (b.vtable, b.value)).report_faults b.value) _ c.args.reports.now.items
 
 pub returns-in-Make-clause-text : goal.returns-in-Make-clause-text
-returns-in-Make-clause-text g c = rw c.in-Make.is (ready_held _ _ c.make.result c.ready_of-in-Make.result c.ready_of-in-Make.ensures (λ s memory. inl memory) c.make.ensures)
+returns-in-Make-clause-text g c =
+    let asked = c.args.asked.now in
+    rw c.in-Make.is (ready_set _ (λ flag. make_text asked.number flag) c.is_set-in-Make.result _ c.make.result c.ready_of-in-Make.result c.is_set-in-Make.ensures c.ready_of-in-Make.ensures (λ s memory. inl memory) c.make.ensures)
 
 pub returns-in-Make-clause-by_lines : goal.returns-in-Make-clause-by_lines
 returns-in-Make-clause-by_lines g c = held_is _ c.make.result c.ready_of-in-Make.result c.ready_of-in-Make.ensures
@@ -32,7 +37,9 @@ pub returns-in-Make-clause-reports : goal.returns-in-Make-clause-reports
 returns-in-Make-clause-reports g c = all_kept (λ b. (goal.Report-dyn g (b.vtable, b.value)).text b.value) (λ b. (goal.Report-dyn g (b.vtable, b.value)).label b.value) (λ b. (goal.Report-dyn g (b.vtable, b.value)).report_faults b.value) _ c.args.reports.now.items
 
 pub returns-in-Galileo-clause-text : goal.returns-in-Galileo-clause-text
-returns-in-Galileo-clause-text g c = rw c.in-Galileo.is (ready_held _ _ c.sets_of_tree.result c.ready_of-in-Galileo.result c.ready_of-in-Galileo.ensures (λ s memory. inl memory) c.sets_of_tree.ensures)
+returns-in-Galileo-clause-text g c =
+    let asked = c.args.asked.now in
+    rw c.in-Galileo.is (ready_set _ (λ flag. sets_of_tree flag asked.options.paging.limit asked.options.paging.max_order (first_text c.args.texts)) c.is_set-in-Galileo.result _ c.sets_of_tree.result c.ready_of-in-Galileo.result c.is_set-in-Galileo.ensures c.ready_of-in-Galileo.ensures (λ s memory. inl memory) c.sets_of_tree.ensures)
 
 pub returns-in-Galileo-clause-by_lines : goal.returns-in-Galileo-clause-by_lines
 returns-in-Galileo-clause-by_lines g c = held_is _ c.sets_of_tree.result c.ready_of-in-Galileo.result c.ready_of-in-Galileo.ensures
@@ -68,7 +75,9 @@ pub returns-in-Confirm-clause-reports : goal.returns-in-Confirm-clause-reports
 returns-in-Confirm-clause-reports g c = all_kept (λ b. (goal.Report-dyn g (b.vtable, b.value)).text b.value) (λ b. (goal.Report-dyn g (b.vtable, b.value)).label b.value) (λ b. (goal.Report-dyn g (b.vtable, b.value)).report_faults b.value) _ c.args.reports.now.items
 
 pub returns-in-Targets-clause-text : goal.returns-in-Targets-clause-text
-returns-in-Targets-clause-text g c = rw c.in-Targets.is (ready_held _ _ c.targets.result c.ready_of-in-Targets.result c.ready_of-in-Targets.ensures (λ s memory. inl memory) c.targets.ensures)
+returns-in-Targets-clause-text g c =
+    let asked = c.args.asked.now in
+    rw c.in-Targets.is (ready_set _ (λ flag. targets_in asked.root flag c.args.texts) c.is_set-in-Targets.result _ c.targets.result c.ready_of-in-Targets.result c.is_set-in-Targets.ensures c.ready_of-in-Targets.ensures (λ s memory. inl memory) c.targets.ensures)
 
 pub returns-in-Targets-clause-by_lines : goal.returns-in-Targets-clause-by_lines
 returns-in-Targets-clause-by_lines g c = held_is _ c.targets.result c.ready_of-in-Targets.result c.ready_of-in-Targets.ensures
@@ -119,7 +128,9 @@ pub returns-in-Tree-clause-reports : goal.returns-in-Tree-clause-reports
 returns-in-Tree-clause-reports g c = all_kept (λ b. (goal.Report-dyn g (b.vtable, b.value)).text b.value) (λ b. (goal.Report-dyn g (b.vtable, b.value)).label b.value) (λ b. (goal.Report-dyn g (b.vtable, b.value)).report_faults b.value) _ c.args.reports.now.items
 
 pub returns-in-Fmea-clause-text : goal.returns-in-Fmea-clause-text
-returns-in-Fmea-clause-text g c = rw c.in-Fmea.is (meets_wider _ _ _ _ c.fmea.result (λ s memory. inl memory) c.fmea.ensures)
+returns-in-Fmea-clause-text g c =
+    let asked = c.args.asked.now in
+    rw c.in-Fmea.is (meets_set _ _ (λ flag. fmea_in asked.root flag c.args.texts) c.is_set-in-Fmea.result _ c.fmea.result c.is_set-in-Fmea.ensures (λ s memory. inl memory) c.fmea.ensures)
 
 pub returns-in-Fmea-clause-reports : goal.returns-in-Fmea-clause-reports
 returns-in-Fmea-clause-reports g c = all_kept (λ b. (goal.Report-dyn g (b.vtable, b.value)).text b.value) (λ b. (goal.Report-dyn g (b.vtable, b.value)).label b.value) (λ b. (goal.Report-dyn g (b.vtable, b.value)).report_faults b.value) _ c.args.reports.now.items

@@ -10,10 +10,10 @@ use Rattle.model_review.proofs.flows.hidden_types.Goals as goal
 
 pub returns : goal.returns
 returns c =
-    let seen = c.args.view.now in
+    let seen = c.args.part.now.view.now in
     let flow = c.args.flow.now in
-    let test : PointAt → ℕ → Bool = λ side kind. option_map_or (λ target. is_hidden_flow seen c.args.among.now side.component c.args.number kind target flow) (number_at seen side kind) false in
-    let side : c.outward_of-side.result ≡ outward_of c.args.owner (end_of flow) = c.outward_of-side.ensures ∙ ap (outward_of c.args.owner) c.end_of.ensures in
+    let test : PointAt → ℕ → Bool = λ side kind. option_map_or (λ target. is_hidden_flow seen c.args.part.now.states.now c.args.part.now.owner c.args.number kind target flow) (number_at seen side kind) false in
+    let side : c.outward_of-side.result ≡ outward_of c.args.part.now.owner (end_of flow) = c.outward_of-side.ensures ∙ ap (outward_of c.args.part.now.owner) c.end_of.ensures in
     c.loop-kind.invariant
     ∙ ap (filter (test c.outward_of-side.result)) (take_all c.loop-kind.kind-index c.types-kind-items.result.now c.loop-kind-test.false ∙ c.types-kind-items.ensures)
     ∙ ap (λ (s : PointAt). filter (test s) (types_in seen s)) side

@@ -5,4 +5,4 @@ use Rattle.model_review.specs.Seen.{number_at}
 use Rattle.model_review.proofs.flows.hidden_types.Given as goal
 
 abbrev pub invariant-loop-kind : goal.invariant-loop-kind
-invariant-loop-kind l = l.types ≡ filter (λ kind. option_map_or (λ target. is_hidden_flow l.view l.among l.side.component l.number kind target l.flow) (number_at l.view l.side kind) false) (take l.kind-index l.kind-items)
+invariant-loop-kind l = l.types ≡ filter (λ kind. option_map_or (λ target. is_hidden_flow l.part.view.now l.part.states.now l.part.owner l.number kind target l.flow) (number_at l.part.view.now l.side kind) false) (take l.kind-index l.kind-items)

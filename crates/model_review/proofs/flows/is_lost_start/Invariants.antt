@@ -6,4 +6,4 @@ use Rattle.model_review.specs.Seen.{is_lost_fact, number_at}
 use Rattle.model_review.proofs.flows.is_lost_start.Given as goal
 
 abbrev pub invariant-loop-other : goal.invariant-loop-other
-invariant-loop-other l = list_any (λ other. covers l.start.types other && is_lost_fact l.view l.among l.target (number_at l.view (inward_of l.owner l.start.point) other)) (take l.other-index l.other-items) ≡ false
+invariant-loop-other l = list_any (λ other. covers l.start.types other && is_lost_fact l.part.view.now l.part.states.now l.target (number_at l.part.view.now (inward_of l.part.owner l.start.point) other)) (take l.other-index l.other-items) ≡ false

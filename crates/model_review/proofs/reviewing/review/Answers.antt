@@ -21,7 +21,7 @@ pub returns-clause-exact : goal.returns-clause-exact
 returns-clause-exact c =
     let assembly = c.args.assembly.now in
     let same : c.new-view.result ≡ seen_of assembly =
-    c.new-view.ensures ∙ all-seen assembly c.args.universe.now c.args.facts.now c.args.events.now c.args.system.now c.args.effects.now c.requires.universe c.requires.facts c.requires.events c.requires.system c.requires.effects in
+    c.new-view.ensures ∙ all-seen assembly c.args.model.now.universe c.args.model.now.facts c.args.model.now.events c.args.model.now.system c.args.model.now.effects c.requires.universe c.requires.facts c.requires.events c.requires.system c.requires.effects in
     subst (λ (seen : Seen). IfOk c.review_seen.result (Reviews seen)) same c.review_seen.ensures
 
 -- what a text that is a review says of what is lost
