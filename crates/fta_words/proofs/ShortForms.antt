@@ -1,12 +1,12 @@
 -- Short forms of words.
-use Rattle.std.proofs.Common.{◌≡◌, ◌≤◌, ◌<◌, ℕ, Bool, true, false, if◌then◌else◌, List, [], ◌∷◌, length, take, Option, Some, None, codes, arith, get_or, refl, sym, ap, subst, ◌∙◌}
+use Rattle.std.proofs.Common.{◌≡◌, ◌≤◌, ◌<◌, ℕ, Bool, true, false, if◌then◌else◌, List, [], ◌∷◌, length, take, Option, Some, None, codes, arith, get_or, refl, sym, ap, subst}
 use Rattle.std.specs.Option.{option_map_or}
 use Rattle.std.proofs.lemmas.Bool.{false≢true}
 use Rattle.plain_values.specs.Name.{is_same_text}
 use Rattle.fta_words.specs.declared.kind.Kind.{Kind}
 use Rattle.fta_words.specs.declared.kind.Kind.TheVariants.{Help}
-use Rattle.fta_words.specs.Table.{kind_named, name_of}
-use Rattle.fta_words.specs.Words.{IsPlainWord, in_full, is_help_of}
+use Rattle.fta_words.specs.Table.{kind_named}
+use Rattle.fta_words.specs.Words.{IsPlainWord, is_help_of}
 use Rattle.fta_words.specs.inner.Reading.{IsShort}
 use Rattle.fta_words.proofs.AllKinds.{name_is_plain}
 use Rattle.fta_words.proofs.EachKind.{named_so}

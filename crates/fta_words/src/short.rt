@@ -1,8 +1,6 @@
 //! Short forms: words that stand for `help` or `version`.
 
-ghost use Rattle.std.specs.Prelude.{◌≡◌, ◌∷◌, [], Bool, MatchOption, codes, false};
-ghost use Rattle.std.specs.Option.{option_map_or};
-ghost use Rattle.plain_values.specs.Name.{is_same_text};
+ghost use Rattle.std.specs.Prelude.{◌≡◌, [], MatchOption, false};
 ghost use Rattle.fta_words.specs.Table.{kind_named, name_of};
 ghost use Rattle.fta_words.specs.Words.{in_full, is_help_of, word_in_full};
 ghost use Rattle.fta_words.specs.inner.Reading.{IsShort};
