@@ -1,4 +1,5 @@
-ghost use Rattle.std.specs.Prelude.{None};
+ghost use Rattle.std.specs.Prelude.{◌≡◌, ◌≤◌, None, IfOk, IfSome, IsErrOf, take};
+ghost use Rattle.fta_outside.specs.Outside.{Rose};
 
 use crate::faults::one_more;
 use crate::outside::{FileError, Files};
@@ -28,7 +29,13 @@ impl<'a, R: rt::Files> Files for DiskFiles<'a, R> {
 
     ghost faults = { λ files _. files.faults };
 
-    fn read(&mut self, alloc: Global, name: &Word, most: usize) -> Result<Vec<u8>, FileError> {
+    // As the trait has it, where nothing is told; and what is read is the front of a file that was opened.
+    fn read(&mut self, alloc: Global, name: &Word, most: usize) -> Result<Vec<u8>, FileError>
+        ensures front { IfOk result (λ _. Unit {0}) }
+        ensures failed { IsErrOf result FileError.Failed → Rose self.old.faults self.new.faults }
+        ensures never_falls { self.old.faults ≤ self.new.faults }
+        ensures opened { IfOk result (λ bytes. (file : R.File) × IfSome (R.File.remaining file) (λ whole. bytes.items ≡ take most whole)) }
+    {
         let answer = read_file(self.runtime, alloc, name.items(), most);
         if let Err(FileError::Failed) = answer {
             self.faults = one_more(self.faults);
@@ -37,12 +44,15 @@ impl<'a, R: rt::Files> Files for DiskFiles<'a, R> {
     }
 }
 
+/// The first `most` bytes of the file of a name, or all of them where they are fewer.
 fn read_file<R: rt::Files>(
     runtime: &R,
     alloc: Global,
     name: &[u8],
     most: usize,
-) -> Result<Vec<u8>, FileError> {
+) -> Result<Vec<u8>, FileError>
+    ensures { IfOk result (λ bytes. (file : R.File) × IfSome (R.File.remaining file) (λ whole. bytes.items ≡ take most whole)) }
+{
     let Ok(path) = std::str::from_utf8(name) else {
         return Err(FileError::Failed);
     };
@@ -53,7 +63,9 @@ fn read_file<R: rt::Files>(
 }
 
 /// The first `most` bytes that a reader gives, or all of them where they are fewer.
-fn read_front<F: Read + Drop>(file: F, alloc: Global, most: usize) -> Result<Vec<u8>, FileError> {
+fn read_front<F: Read + Drop>(file: F, alloc: Global, most: usize) -> Result<Vec<u8>, FileError>
+    ensures { IfOk result (λ bytes. IfSome (F.remaining file) (λ whole. bytes.items ≡ take most whole)) }
+{
     let mut bytes = Vec::new(alloc);
     match file.take(most as u64).read_to_end(&mut bytes) {
         Ok(_) => Ok(bytes),

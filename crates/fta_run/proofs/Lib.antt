@@ -6,6 +6,7 @@ mod Grammars
 mod Models
 mod OneDue
 mod Ran
+mod Read
 mod Chosen
 mod Below
 mod DerivationLaws

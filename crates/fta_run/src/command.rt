@@ -86,7 +86,7 @@ pub fn run<F: Files, S: Sink, E: Sink>(
 }
 
 /// Writes the line of a status, and forgets a fault.
-fn write_status<E: Sink>(
+pub(crate) fn write_status<E: Sink>(
     words: &[Word],
     reports: &Vec<Box<dyn Report>>,
     status: &Status,

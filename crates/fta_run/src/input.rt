@@ -11,7 +11,7 @@ ghost use Rattle.phases.specs.Phases.{answers, rejects};
 ghost use Rattle.fta_run.specs.Due.{first_text, other_texts, texts_of, units_of, within_limits};
 ghost use Rattle.fta_run.specs.Files.{AreTokens, AreUnits, AreUnitsOf, HasTooLong, HasTooMuch, LacksTokens, LacksUnits, most_bytes, most_files, most_text, too_long, too_long_from};
 ghost use Rattle.plain_values.specs.Refusal.{of_words};
-ghost use Rattle.fta_run.specs.inner.Steps.{AreFronts, IsFileEnd, IsReadEnd};
+ghost use Rattle.fta_run.specs.Held.{AreFronts, IsFileEnd, IsReadEnd};
 
 use aadl_lexer::tokens;
 use aadl_parser::units;
@@ -23,7 +23,7 @@ use std::alloc::Global;
 use std::marker::Model;
 
 /// The greatest number of files.
-const MOST_FILES: usize = 64;
+pub(crate) const MOST_FILES: usize = 64;
 
 /// The greatest length of a file, in bytes.
 const MOST_BYTES: usize = 4_194_304;
@@ -118,7 +118,11 @@ fn texts_within(texts: List<Name>) -> Result<Texts, Status>
 }
 
 /// What the files contain, of each one byte more than it may have at most.
-fn read_files<F: Files>(alloc: Global, files: &mut F, names: &[Word]) -> Result<List<Name>, Status>
+pub(crate) fn read_files<F: Files>(
+    alloc: Global,
+    files: &mut F,
+    names: &[Word],
+) -> Result<List<Name>, Status>
     requires { length names.now ≤ most_files }
     ensures fronts { IfOk result (λ texts. AreFronts (F.contents files.old) names.now texts) }
     ensures few { IfOk result (λ texts. length texts ≤ most_files) }

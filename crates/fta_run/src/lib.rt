@@ -5,6 +5,7 @@ mod answering;
 mod command;
 mod confirmed;
 mod fmea;
+mod held;
 mod input;
 mod laws;
 mod line;
@@ -16,6 +17,7 @@ mod text;
 mod words;
 
 pub use command::run;
+pub use held::run_read;
 pub use laws::{confirms_why, holds_where_confirmed, one_due, one_output};
 pub use line::write_line;
 pub use phases::Status;

@@ -7,7 +7,7 @@ mod verdict;
 use crate::verdict::Verdict;
 use cut_reports::{EventUse, OrderProfile, SinglePoints};
 use fta_outside::{Files, Report, Sink};
-use fta_run::{Status, run};
+use fta_run::{Status, run_read};
 use fta_start::{Program, start};
 use plain_values::Word;
 use std::alloc::{AllocError, Global};
@@ -34,6 +34,6 @@ impl Program for ToolWithVerdict {
         reports.push(Box::new(alloc, EventUse::new(alloc))?)?;
         reports.push(Box::new(alloc, SinglePoints::new(alloc))?)?;
         reports.push(Box::new(alloc, Verdict::new(alloc))?)?;
-        Ok(run(alloc, words, files, out, err, &mut reports))
+        Ok(run_read(alloc, words, files, out, err, &mut reports))
     }
 }

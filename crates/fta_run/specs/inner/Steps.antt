@@ -9,22 +9,8 @@ use Rattle.fta_run.specs.Words.{Request, GiveRequest, IsRequest, file_words}
 use Rattle.system_answers.specs.Voices.{Voice, labels}
 use Rattle.fta_run.specs.Answers.{TookFront, TookText, is_by_lines}
 use Rattle.fta_run.specs.Due.{due}
-use Rattle.fta_run.specs.Files.{most_bytes, most_files}
+use Rattle.fta_run.specs.Held.{IsReadEnd}
 use Rattle.system_answers.specs.inner.Ends.{IsReportFault}
-
--- What was read of each file is the front of what it contains, where that is told: one byte more than a file may have, at most.
-abbrev pub AreFronts : (List ℕ → Option (List ℕ)) → List (List ℕ) → List (List ℕ) → Type 0
-AreFronts contents files texts = AllZip (λ file text. IfSome (contents file) (λ whole. text ≡ take (suc most_bytes) whole)) files texts
-
--- Want of memory, or a fault of the file of this number, whose count of faults rose.
-abbrev pub IsFileEnd : ℕ → ℕ → ℕ → Status → Type 0
-IsFileEnd number before after status = (status ≡ Memory) ⊎ ((status ≡ ReadFault number) × Rose before after)
-
--- Want of memory, or a fault of one of the files, of which there are not too many, and the count of its faults rose.
-abbrev pub IsReadEnd : List (List ℕ) → (List ℕ → ℕ) → (List ℕ → ℕ) → Status → Type 0
-IsReadEnd files before after status =
-    (status ≡ Memory)
-    ⊎ ((file : ℕ) × (status ≡ ReadFault file) × (length files ≤ most_files) × (name : List ℕ) × (slice_get files file ≡ Some name) × Rose (before name) (after name))
 
 -- A report that the request of the words chooses failed.
 abbrev pub IsChosenFault : List (List ℕ) → List Voice → (ℕ → Type 0) → Status → Type 0

@@ -1,0 +1,65 @@
+-- A run on files that are held.
+use Rattle.std.proofs.Common.{◌≡◌, ◌≤◌, ◌⊎◌, ℕ, Bool, true, false, if◌then◌else◌, List, [], ◌∷◌, length, Option, None, Some, Result, IfSome, refl, sym, subst, arith, inl, inr}
+use Rattle.std.specs.Option.{IsSome}
+use Rattle.std.specs.List.{AllByRecursion}
+use Rattle.std.proofs.lemmas.Slice.Eq.{bytes_eq-Decides}
+use Rattle.plain_values.specs.Name.{is_same_text}
+use Rattle.phases.specs.Phases.{IsDue}
+use Rattle.phases.specs.declared.status.Status.{Status}
+use Rattle.phases.specs.declared.status.Status.TheVariants.{ReadFault}
+use Rattle.fta_outside.specs.Outside.{Seen}
+use Rattle.system_answers.specs.Voices.{Voice, labels}
+use Rattle.fta_run.specs.Answers.{AllTold, IsCaused, IsJustified, IsOutput, MayCome, Took}
+use Rattle.fta_run.specs.Due.{due}
+use Rattle.fta_run.specs.Files.{most_files}
+use Rattle.fta_run.specs.Held.{AreFronts, IsToRead, RanOn, text_of}
+use Rattle.fta_run.specs.Words.{Request, IsRequest, file_words}
+use Rattle.fta_words.proofs.Requests.{file_words_are}
+
+found_or : (test : Bool) (text : List ℕ) (later : Option (List ℕ)) → IsSome later → IsSome (if test then Some text else later)
+found_or true text later some = refl
+found_or false text later some = some
+
+found_here : (test : Bool) (text : List ℕ) (later : Option (List ℕ)) → test ≡ true → IsSome (if test then Some text else later)
+found_here true text later is = refl
+found_here false text later is = absurd (cc (is))
+
+later_told : (file text : List ℕ) (files texts names : List (List ℕ)) → AllByRecursion (λ name. IsSome (text_of files texts name)) names → AllByRecursion (λ name. IsSome (text_of (file ∷ files) (text ∷ texts) name)) names
+later_told file text files texts [] told = tt
+later_told file text files texts (name ∷ names) told = (found_or (is_same_text file name) text (text_of files texts name) told.0, later_told file text files texts names told.1)
+
+-- each of the files that were read has its text
+each_told : (contents : List ℕ → Option (List ℕ)) (files texts : List (List ℕ)) → AreFronts contents files texts → AllByRecursion (λ name. IsSome (text_of files texts name)) files
+each_told contents [] texts fronts = tt
+each_told contents (file ∷ files) [] fronts = absurd fronts
+each_told contents (file ∷ files) (text ∷ texts) fronts =
+    (found_here (is_same_text file file) text (text_of files texts file) ((bytes_eq-Decides file file).1 refl), later_told file text files texts files (each_told contents files texts fronts.1))
+
+-- where they are those of the request, all files tell what they contain
+all_told : (contents : List ℕ → Option (List ℕ)) (words : List (List ℕ)) (voices : List Voice) (files texts : List (List ℕ)) → IsToRead (labels voices) words files → AreFronts contents files texts → length (file_words words) ≤ most_files → AllTold words (text_of files texts) voices
+all_told contents words voices files texts (inl (none, inl unasked)) fronts few asked is = absurd (unasked asked is)
+all_told contents words voices files texts (inl (none, inr many)) fronts few asked is = absurd (omega (arith, many, few))
+all_told contents words voices files texts (inr (given, less, are)) fronts few asked is =
+    subst (AllByRecursion (λ name. IsSome (text_of files texts name))) (file_words_are (labels voices) words asked is)
+    (subst (AllByRecursion (λ name. IsSome (text_of files texts name))) are (each_told contents files texts fronts))
+
+-- no read of a file that is held fails
+no_cause : (names words : List (List ℕ)) (before after : Seen) (RoseThere : ℕ → Type 0) (status : Status) (file : ℕ) → IsCaused status names words (λ name. 0) (λ name. 0) before after RoseThere → status ≡ ReadFault file → ⊥
+no_cause names words before after RoseThere status file caused is =
+    let it = subst (λ (s : Status). IsCaused s names words (λ name. 0) (λ name. 0) before after RoseThere) is caused in
+    elim it.3 [ inl more ↦ omega (arith, more) | inr last ↦ omega (arith, last) ]
+
+-- a run on files that are held ended so
+pub ran_on : (contents : List ℕ → Option (List ℕ)) (words : List (List ℕ)) (voices : List Voice) (names : List (List ℕ)) (files texts : List (List ℕ)) (status : Status) (before after : Seen) (RoseThere : ℕ → Type 0)
+    → IsToRead (labels voices) words files → AreFronts contents files texts
+    → IsJustified words (text_of files texts) voices status → Took (IsOutput words (text_of files texts) voices) status before after
+    → (AllTold words (text_of files texts) voices → (its_due : Result (List ℕ) Status) → IsDue (due words (text_of files texts) voices) its_due → MayCome its_due status)
+    → IsCaused status names words (λ name. 0) (λ name. 0) before after RoseThere
+    → RanOn words (text_of files texts) voices status before after
+ran_on contents words voices names files texts status before after RoseThere named fronts verdict output complete caused =
+    record {
+      verdict = verdict;
+      output = output;
+      complete = λ few its_due is. complete (all_told contents words voices files texts named fronts few) its_due is;
+      no_fault = λ file is. no_cause names words before after RoseThere status file caused is;
+    }

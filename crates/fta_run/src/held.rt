@@ -1,0 +1,157 @@
+//! Files that were read before a run, and a run on them.
+
+ghost use Rattle.std.specs.Prelude.{◌≡◌, ◌<◌, [], ℕ, List, Option, IfErr, IfOk, MatchResult, cond, length, nat_lt, option_map, take};
+ghost use Rattle.fta_outside.specs.Outside.{Rose, Took as TookAll, TookPrefix};
+ghost use Rattle.phases.specs.declared.status.Status.TheVariants.{Memory};
+ghost use Rattle.fta_run.specs.Files.{most_files};
+ghost use Rattle.fta_run.specs.Line.{status_line};
+ghost use Rattle.fta_run.specs.Held.{AreFronts, IsReadEnd, IsToRead, RanOn, RanRead, text_of};
+ghost use Rattle.fta_run.specs.Words.{GiveNoRequest, file_words};
+ghost use Rattle.system_answers.specs.Voices.{labels, voices_of};
+
+use crate::command::{run, write_status};
+use crate::input::{MOST_FILES, read_files};
+use crate::words::request_of;
+use fta_outside::{FileError, Files, Report, Sink};
+use phases::Status;
+use plain_values::{List, Name, Word, is_same};
+use std::alloc::Global;
+use system_answers::names_of;
+
+/// Files that were read, each with its name. A read of one of them never fails, and that of another name is want of memory.
+#[derive(Drop)]
+pub(crate) struct HeldFiles<'a> {
+    names: &'a [Word],
+    texts: List<Name>,
+}
+
+impl<'a> Files for HeldFiles<'a> {
+    ghost use Rattle.fta_run.specs.Held.{text_of};
+
+    ghost contents = { λ held name. text_of held.names.now held.texts name };
+
+    ghost faults = { λ _ _. 0 };
+
+    fn read(&mut self, alloc: Global, name: &Word, most: usize) -> Result<Vec<u8>, FileError> {
+        match text_of(self.names, self.texts.items(), name.items()) {
+            Some(text) => front_of(alloc, text, most),
+            None => Err(FileError::Memory),
+        }
+    }
+}
+
+/// The text of the first of these files that has a name.
+fn text_of<'t>(names: &[Word], texts: &'t [Name], name: &[u8]) -> Option<&'t [u8]>
+    ensures { option_map (λ text. text.now) result ≡ text_of names.now texts.now name.now }
+{
+    let (other, names) = names.split_first()?;
+    let (text, texts) = texts.split_first()?;
+    if is_same(other.items(), name) {
+        return Some(text.items());
+    }
+    text_of(names, texts, name)
+}
+
+/// The first `most` bytes of a text, or all of them where they are fewer.
+fn front_of(alloc: Global, text: &[u8], most: usize) -> Result<Vec<u8>, FileError>
+    ensures { MatchResult result (λ bytes. bytes.items ≡ take most text.now) (λ error. error ≡ FileError.Memory) }
+{
+    Ok(Vec::from_slice(alloc, &text[..most.min(text.len())])?)
+}
+
+/// Runs the request that the words give on what its files were read as, as `run` does: each of the files is read once, up to one byte
+/// more than it may have, before anything is done with them.
+///
+/// Where the words give no request, or name too many files, none is read.
+pub fn run_read<F: Files, S: Sink, E: Sink>(
+    alloc: Global,
+    words: &[Word],
+    files: &mut F,
+    out: &mut S,
+    err: &mut E,
+    reports: &mut Vec<Box<dyn Report>>,
+) -> Status
+    // What is due for exactly the bytes that the reads gave comes, or a read failed.
+    ensures told { RanRead words.now (F.contents files.old) (F.faults files.old) (F.faults files.new) (voices_of label text reports.old.items) result (S.seen out.old) (S.seen out.new) }
+
+    // No file is read where there is no request, or where too many are named.
+    ensures no_files { GiveNoRequest (labels (voices_of label text reports.old.items)) words.now → files.new ≡ files.old }
+    ensures too_many { most_files < length (file_words words.now) → files.new ≡ files.old }
+
+    // `err` took exactly the line of the status where its count did not rise, and else at most a front of it.
+    ensures line { (Rose (E.seen err.old).faults (E.seen err.new).faults → ⊥) → TookAll (status_line (file_words words.now) (labels (voices_of label text reports.old.items)) result) (E.seen err.old) (E.seen err.new) }
+    ensures at_most_the_line { TookPrefix (status_line (file_words words.now) (labels (voices_of label text reports.old.items)) result) (E.seen err.old) (E.seen err.new) }
+{
+    match read_first(alloc, words, files, reports) {
+        Ok(held) => run_held(alloc, words, held, out, err, reports),
+        Err(status) => {
+            write_status(words, reports, &status, err);
+            status
+        }
+    }
+}
+
+/// Runs the request on files that are held.
+fn run_held<S: Sink, E: Sink>(
+    alloc: Global,
+    words: &[Word],
+    held: HeldFiles<'_>,
+    out: &mut S,
+    err: &mut E,
+    reports: &mut Vec<Box<dyn Report>>,
+) -> Status
+    ensures told { (contents : List ℕ → Option (List ℕ)) → IsToRead (labels (voices_of label text reports.old.items)) words.now held.names.now → AreFronts contents held.names.now held.texts → RanOn words.now (text_of held.names.now held.texts) (voices_of label text reports.old.items) result (S.seen out.old) (S.seen out.new) }
+    ensures line { (Rose (E.seen err.old).faults (E.seen err.new).faults → ⊥) → TookAll (status_line (file_words words.now) (labels (voices_of label text reports.old.items)) result) (E.seen err.old) (E.seen err.new) }
+    ensures at_most_the_line { TookPrefix (status_line (file_words words.now) (labels (voices_of label text reports.old.items)) result) (E.seen err.old) (E.seen err.new) }
+{
+    let mut held = held;
+    run(alloc, words, &mut held, out, err, reports)
+}
+
+/// The files of the request that the words give, as they were read; none where there is no request, or where too many are named.
+fn read_first<'a, F: Files>(
+    alloc: Global,
+    words: &'a [Word],
+    files: &mut F,
+    reports: &Vec<Box<dyn Report>>,
+) -> Result<HeldFiles<'a>, Status>
+    ensures named { IfOk result (λ held. IsToRead (labels (voices_of label text reports.now.items)) words.now held.names.now) }
+    ensures fronts { IfOk result (λ held. AreFronts (F.contents files.old) held.names.now held.texts) }
+    ensures fault { IfErr result (IsReadEnd (file_words words.now) (F.faults files.old) (F.faults files.new)) }
+    ensures no_files { GiveNoRequest (labels (voices_of label text reports.now.items)) words.now → files.new ≡ files.old }
+    ensures too_many { most_files < length (file_words words.now) → files.new ≡ files.old }
+{
+    let names = names_to_read(alloc, words, reports)?;
+    if names.is_empty() {
+        return Ok(HeldFiles {
+            names: &[],
+            texts: List::new(alloc),
+        });
+    }
+    let texts = read_files(alloc, files, names)?;
+    Ok(HeldFiles { names, texts })
+}
+
+/// The names of the files of the request that the words give; none where there is no request, or where they are too many.
+fn names_to_read<'a>(
+    alloc: Global,
+    words: &'a [Word],
+    reports: &Vec<Box<dyn Report>>,
+) -> Result<&'a [Word], Status>
+    ensures names { IfOk result (λ names. IsToRead (labels (voices_of label text reports.now.items)) words.now names.now) }
+    ensures memory { IfErr result (λ status. status ≡ Memory) }
+{
+    let names = names_of(alloc, reports)?;
+    match request_of(alloc, words, names.items()) {
+        Ok(asked) => Ok(if_few(asked.files)),
+        Err(Status::Usage) => Ok(&[]),
+        Err(_) => Err(Status::Memory),
+    }
+}
+
+/// These names, where they are not too many, and else none.
+fn if_few(names: &[Word]) -> &[Word]
+    ensures { result.now ≡ cond (nat_lt most_files (length names.now)) [] names.now }
+{
+    if names.len() > MOST_FILES { &[] } else { names }
+}
