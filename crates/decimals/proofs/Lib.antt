@@ -1,6 +1,4 @@
-pub mod Digits
-pub mod Rounded
-pub mod Places
-pub mod Products
-pub mod Sizes
-pub mod Left
+pub mod Cuts
+pub mod Powers
+pub mod Sums
+pub mod Bounds

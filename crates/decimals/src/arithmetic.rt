@@ -1,12 +1,12 @@
 //! Products, sums and rests of decimals, rounded down and up.
 
 ghost use Rattle.std.specs.Prelude.{ℕ, ◌≤◌, ◌*◌, ◌+◌, ◌-◌, ◌^◌, min};
-ghost use Rattle.decimals.specs.inner.Decimals.{parts, IsNear, HasPlaces, HavePlaces};
-ghost use Rattle.decimals.specs.inner.Aligned.{IsAlignedDown, IsAlignedUp};
+ghost use Rattle.decimals.specs.inner.Decimals.{parts, IsBound, IsHeld, IsNear, IsNearBound, HasPlaces, HavePlaces};
+ghost use Rattle.decimals.specs.inner.Aligned.{IsAligned};
 
-use crate::aligned::{Aligned, left_down, left_up, sum_down, sum_up};
+use crate::aligned::{Aligned, left, sum};
 use crate::decimal::Decimal;
-use crate::rounding::{shortened_down, shortened_up};
+use crate::rounding::Side;
 
 impl Decimal {
     /// At most the product, where the whole has `whole` zeros. It is near where the places of the two fit the whole.
@@ -16,26 +16,7 @@ impl Decimal {
             → parts self * parts other ≤ 10 ^ whole * 10 ^ whole → IsNear (parts self * parts other) (10 ^ whole * parts result) }
         ensures places { (p q : ℕ) → HasPlaces whole p self → HasPlaces whole q other → p + q ≤ whole → HasPlaces whole (p + q) result }
     {
-        let product = self.mantissa as u128 * other.mantissa as u128;
-        let short = shortened_down(product);
-        let total = self.exponent as u64 + other.exponent as u64 + short.dropped as u64;
-        if total < (whole as u64) {
-            return Decimal {
-                mantissa: 0,
-                exponent: 0,
-            };
-        }
-        let exponent = total - whole as u64;
-        if exponent > whole as u64 {
-            return Decimal {
-                mantissa: 0,
-                exponent: 0,
-            };
-        }
-        Decimal {
-            mantissa: short.mantissa,
-            exponent: exponent as u32,
-        }
+        product(Side::Down, self, other, whole)
     }
 
     /// At least the product, or the whole. It is near where the places of the two fit the whole.
@@ -45,32 +26,7 @@ impl Decimal {
             → IsNear (10 ^ whole * parts result) (parts self * parts other) }
         ensures places { (p q : ℕ) → HasPlaces whole p self → HasPlaces whole q other → p + q ≤ whole → HasPlaces whole (p + q) result }
     {
-        let product = self.mantissa as u128 * other.mantissa as u128;
-        let short = shortened_up(product);
-        if short.mantissa == 0 {
-            return Decimal {
-                mantissa: 0,
-                exponent: 0,
-            };
-        }
-        let total = self.exponent as u64 + other.exponent as u64 + short.dropped as u64;
-        if total < (whole as u64) {
-            return Decimal {
-                mantissa: short.mantissa,
-                exponent: 0,
-            };
-        }
-        let exponent = total - whole as u64;
-        if exponent > whole as u64 {
-            return Decimal {
-                mantissa: 1,
-                exponent: whole,
-            };
-        }
-        Decimal {
-            mantissa: short.mantissa,
-            exponent: exponent as u32,
-        }
+        product(Side::Up, self, other, whole)
     }
 
     /// At most the sum. It is near where the sum is the whole at most.
@@ -79,7 +35,7 @@ impl Decimal {
         ensures near { parts self + parts other ≤ 10 ^ whole → IsNear (parts self + parts other) (parts result) }
         ensures places { (places : ℕ) → HasPlaces whole places self → HasPlaces whole places other → HasPlaces whole places result }
     {
-        rounded_down(sum_down(self, other), whole)
+        rounded(Side::Down, sum(Side::Down, self, other), whole)
     }
 
     /// At least the sum, or the whole.
@@ -88,7 +44,7 @@ impl Decimal {
         ensures near { IsNear (parts result) (parts self + parts other) }
         ensures places { (places : ℕ) → HasPlaces whole places self → HasPlaces whole places other → HasPlaces whole places result }
     {
-        rounded_up(sum_up(self, other), whole)
+        rounded(Side::Up, sum(Side::Up, self, other), whole)
     }
 
     /// At most what is left of the whole.
@@ -98,7 +54,7 @@ impl Decimal {
         ensures near { IsNear (10 ^ whole - parts self) (parts result) }
         ensures places { HasPlaces whole 36 result }
     {
-        rounded_down(left_down(self, whole), whole)
+        rounded(Side::Down, left(Side::Down, self, whole), whole)
     }
 
     /// At least what is left of the whole.
@@ -108,54 +64,76 @@ impl Decimal {
         ensures near { IsNear (parts result) (10 ^ whole - parts self) }
         ensures places { HasPlaces whole 36 result }
     {
-        rounded_up(left_up(self, whole), whole)
+        rounded(Side::Up, left(Side::Up, self, whole), whole)
     }
 }
 
-/// At most a number with zeros behind it. It is near what that stands for, up to the whole.
-fn rounded_down(exact: Aligned, whole: u32) -> Decimal
-    requires { exact.number ≤ 2000000000000000000000000000000000000 }
-    ensures down { parts result ≤ exact.number * 10 ^ exact.exponent }
-    ensures near { (n : ℕ) → IsAlignedDown n exact → n ≤ 10 ^ whole → IsNear n (parts result) }
-    ensures places { (places : ℕ) → HavePlaces whole places exact.number exact.exponent → HasPlaces whole places result }
+/// The product, rounded to one side, or the whole.
+fn product(side: Side, one: Decimal, other: Decimal, whole: u32) -> Decimal
+    ensures bound { IsBound side (10 ^ whole * 10 ^ whole) (parts one * parts other) (10 ^ whole * parts result) }
+    ensures near { (p q : ℕ) → HasPlaces whole p one → HasPlaces whole q other → p + q ≤ whole
+        → IsNearBound side (10 ^ whole * 10 ^ whole) (parts one * parts other) (10 ^ whole * parts result) }
+    ensures places { (p q : ℕ) → HasPlaces whole p one → HasPlaces whole q other → p + q ≤ whole → HasPlaces whole (p + q) result }
 {
-    let short = shortened_down(exact.number);
-    let exponent = exact.exponent as u64 + short.dropped as u64;
-    if exponent > (whole as u64) {
+    let short = side.shortened(one.mantissa as u128 * other.mantissa as u128);
+    let total = one.exponent as u64 + other.exponent as u64 + short.dropped as u64;
+    if total < (whole as u64) {
         return Decimal {
-            mantissa: 0,
+            mantissa: side.least(short.mantissa),
             exponent: 0,
         };
     }
-    Decimal {
-        mantissa: short.mantissa,
-        exponent: exponent as u32,
-    }
+    held(side, short.mantissa, total - whole as u64, whole)
 }
 
-/// At least a number with zeros behind it, or the whole. It is near what that stands for.
-fn rounded_up(exact: Aligned, whole: u32) -> Decimal
+/// A number with zeros behind it, rounded to one side, or the whole. It is near what that stands for.
+fn rounded(side: Side, exact: Aligned, whole: u32) -> Decimal
     requires { exact.number ≤ 2000000000000000000000000000000000000 }
-    ensures up { min (10 ^ whole) (exact.number * 10 ^ exact.exponent) ≤ parts result }
-    ensures near { (n : ℕ) → IsAlignedUp n exact → IsNear (parts result) n }
+    ensures value { (n : ℕ) → IsAligned side n exact → IsBound side (10 ^ whole) n (parts result) }
+    ensures near { (n : ℕ) → IsAligned side n exact → IsNearBound side (10 ^ whole) n (parts result) }
     ensures places { (places : ℕ) → HavePlaces whole places exact.number exact.exponent → HasPlaces whole places result }
 {
-    let short = shortened_up(exact.number);
-    if short.mantissa == 0 {
-        return Decimal {
-            mantissa: 0,
-            exponent: 0,
-        };
-    }
-    let exponent = exact.exponent as u64 + short.dropped as u64;
-    if exponent > (whole as u64) {
-        return Decimal {
-            mantissa: 1,
-            exponent: whole,
-        };
+    let short = side.shortened(exact.number);
+    held(
+        side,
+        short.mantissa,
+        exact.exponent as u64 + short.dropped as u64,
+        whole,
+    )
+}
+
+/// A mantissa with so many zeros behind it, or nothing or the whole where the whole has fewer.
+fn held(side: Side, mantissa: u64, exponent: u64, whole: u32) -> Decimal
+    requires { mantissa ≤ 1000000000000000000 }
+    ensures worth { IsHeld side mantissa exponent whole (parts result) }
+    ensures places { (places : ℕ) → HavePlaces whole places mantissa exponent → HasPlaces whole places result }
+{
+    match side {
+        Side::Down => {
+            if exponent > whole as u64 {
+                return Decimal {
+                    mantissa: 0,
+                    exponent: 0,
+                };
+            }
+        }
+        Side::Up => {
+            if mantissa == 0 {
+                return Decimal {
+                    mantissa: 0,
+                    exponent: 0,
+                };
+            }
+            if exponent > whole as u64 {
+                return Decimal {
+                    mantissa: 1,
+                    exponent: whole,
+                };
+            }
+        }
     }
     Decimal {
-        mantissa: short.mantissa,
+        mantissa,
         exponent: exponent as u32,
     }
 }

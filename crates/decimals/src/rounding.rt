@@ -1,7 +1,14 @@
 //! Numbers without their last digits.
 
-ghost use Rattle.std.specs.Prelude.{◌≤◌, ◌*◌, ◌^◌, ◌<◌, ◌≡◌, ◌+◌};
-ghost use Rattle.decimals.specs.inner.Decimals.{IsDown, IsUp};
+ghost use Rattle.std.specs.Prelude.{◌≤◌, ◌^◌, ◌≡◌};
+ghost use Rattle.decimals.specs.inner.Decimals.{IsCut, IsShortened, least, opposite};
+
+/// The side to which a number is rounded.
+#[derive(Clone, Copy)]
+pub enum Side {
+    Down,
+    Up,
+}
 
 /// A number of which so many last digits were dropped.
 #[derive(Clone, Copy)]
@@ -13,37 +20,73 @@ pub struct Shortened {
 /// The greatest mantissa.
 const MOST: u128 = 1_000_000_000_000_000_000;
 
-/// The first 18 digits of a number, rounded down.
-pub fn shortened_down(number: u128) -> Shortened
-    requires { number ≤ 2000000000000000000000000000000000000 }
-    ensures { IsDown number result }
-{
-    let mut rest = number;
-    let mut dropped = 0_u32;
-    while rest > MOST && dropped < 19 {
-        rest /= 10;
-        dropped += 1;
+impl Side {
+    /// The side to which a part is rounded so that what is left of the whole is rounded to this one.
+    pub fn opposite(self) -> Side
+        ensures { result ≡ opposite self }
+    {
+        match self {
+            Side::Down => Side::Up,
+            Side::Up => Side::Down,
+        }
     }
-    Shortened {
-        mantissa: rest as u64,
-        dropped,
-    }
-}
 
-/// The first 18 digits of a number, rounded up.
-pub fn shortened_up(number: u128) -> Shortened
-    requires { number ≤ 2000000000000000000000000000000000000 }
-    ensures { IsUp number result }
-{
-    let mut rest = number;
-    let mut dropped = 0_u32;
-    while rest > MOST && dropped < 19 {
-        rest = (rest + 9) / 10;
-        dropped += 1;
+    /// What stands for so many parts of which all are too little.
+    pub fn least(self, mantissa: u64) -> u64
+        ensures { result ≡ least self mantissa }
+    {
+        match self {
+            Side::Down => 0,
+            Side::Up => mantissa,
+        }
     }
-    Shortened {
-        mantissa: rest as u64,
-        dropped,
+
+    /// A number without its last digit.
+    fn tenth(self, number: u128) -> u128
+        requires { number ≤ 2000000000000000000000000000000000000 }
+        ensures few { result ≤ number }
+        ensures cut { IsCut self number result 10 }
+    {
+        match self {
+            Side::Down => number / 10,
+            Side::Up => (number + 9) / 10,
+        }
+    }
+
+    /// The first 18 digits of a number.
+    pub fn shortened(self, number: u128) -> Shortened
+        requires { number ≤ 2000000000000000000000000000000000000 }
+        ensures { IsShortened self number result }
+    {
+        let mut rest = number;
+        let mut dropped = 0_u32;
+        while rest > MOST && dropped < 19 {
+            rest = self.tenth(rest);
+            dropped += 1;
+        }
+        Shortened {
+            mantissa: rest as u64,
+            dropped,
+        }
+    }
+
+    /// A mantissa without so many digits.
+    pub fn cut(self, number: u64, count: u32) -> u64
+        requires { number ≤ 1000000000000000000 }
+        ensures few { result ≤ number }
+        ensures cut { IsCut self number result (10 ^ count) }
+    {
+        if number == 0 {
+            return 0;
+        }
+        if count > 18 {
+            return self.least(1);
+        }
+        let part = power(count);
+        match self {
+            Side::Down => number / part,
+            Side::Up => number.div_ceil(part),
+        }
     }
 }
 
@@ -57,35 +100,6 @@ pub fn power(count: u32) -> u64
         value *= 10;
     }
     value
-}
-
-/// A mantissa without so many digits, rounded down.
-pub fn cut_down(number: u64, count: u32) -> u64
-    requires { number ≤ 1000000000000000000 }
-    ensures few { result ≤ number }
-    ensures down { result * 10 ^ count ≤ number }
-    ensures above { number < (result + 1) * 10 ^ count }
-{
-    if count > 18 {
-        return 0;
-    }
-    number / power(count)
-}
-
-/// A mantissa without so many digits, rounded up.
-pub fn cut_up(number: u64, count: u32) -> u64
-    requires { number ≤ 1000000000000000000 }
-    ensures few { result ≤ 1000000000000000000 }
-    ensures up { number ≤ result * 10 ^ count }
-    ensures below { result * 10 ^ count < number + 10 ^ count }
-{
-    if number == 0 {
-        return 0;
-    }
-    if count > 18 {
-        return 1;
-    }
-    number.div_ceil(power(count))
 }
 
 /// A power of ten, up to twice as many zeros.

@@ -1,10 +1,10 @@
 //! Numbers as they are written: digits, of which so many stand behind the point.
 
 ghost use Rattle.std.specs.Prelude.{◌≤◌, ◌≡◌, ◌*◌, ◌^◌, ◌<◌, ◌+◌};
-ghost use Rattle.decimals.specs.inner.Decimals.{parts, HasPlaces};
+ghost use Rattle.decimals.specs.inner.Decimals.{parts, HasPlaces, IsCut};
 
 use crate::decimal::Decimal;
-use crate::rounding::{cut_down, cut_up};
+use crate::rounding::Side;
 
 impl Decimal {
     /// At most the number of these digits, of which so many stand behind the point; exactly it where the whole has as many
@@ -16,16 +16,7 @@ impl Decimal {
         ensures places { places ≤ whole → HasPlaces whole places result }
         ensures above { digits * 10 ^ whole < (parts result + 1) * 10 ^ places }
     {
-        if places <= whole {
-            return Decimal {
-                mantissa: digits,
-                exponent: whole - places,
-            };
-        }
-        Decimal {
-            mantissa: cut_down(digits, places - whole),
-            exponent: 0,
-        }
+        written(Side::Down, digits, places, whole)
     }
 
     /// At least the same number; exactly it where the whole has as many zeros.
@@ -36,15 +27,25 @@ impl Decimal {
         ensures places { places ≤ whole → HasPlaces whole places result }
         ensures below { parts result * 10 ^ places < digits * 10 ^ whole + 10 ^ places }
     {
-        if places <= whole {
-            return Decimal {
-                mantissa: digits,
-                exponent: whole - places,
-            };
-        }
-        Decimal {
-            mantissa: cut_up(digits, places - whole),
-            exponent: 0,
-        }
+        written(Side::Up, digits, places, whole)
+    }
+}
+
+/// The number of these digits, of which so many stand behind the point.
+fn written(side: Side, digits: u64, places: u32, whole: u32) -> Decimal
+    requires { digits ≤ 1000000000000000000 }
+    ensures cut { IsCut side (digits * 10 ^ whole) (parts result) (10 ^ places) }
+    ensures exact { places ≤ whole → parts result * 10 ^ places ≡ digits * 10 ^ whole }
+    ensures places { places ≤ whole → HasPlaces whole places result }
+{
+    if places <= whole {
+        return Decimal {
+            mantissa: digits,
+            exponent: whole - places,
+        };
+    }
+    Decimal {
+        mantissa: side.cut(digits, places - whole),
+        exponent: 0,
     }
 }

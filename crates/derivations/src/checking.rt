@@ -11,6 +11,17 @@ use crate::given::{Given, is_true};
 use crate::marks::{mark, mark_facts, unmark, unmark_facts};
 use fault_system::{Bits, FaultSystem};
 
+/// What is checked: the steps of a derivation, of a system under a set of events.
+#[derive(Clone, Copy)]
+struct Checked<'a> {
+    /// The system.
+    system: &'a FaultSystem,
+    /// The set of events.
+    events: &'a Bits,
+    /// The steps, each with a fact that it derives.
+    steps: &'a [Firing],
+}
+
 /// Checks a derivation of a target under a set of events, whoever made it. It takes no memory, and any system, target,
 /// set and derivation will do. If it finds `Good`, the target holds under the set.
 ///
@@ -32,49 +43,44 @@ pub fn check_derivation(
     ensures sound { result ≡ Finding.Good → Holds system.now (member events.now) target }
 {
     let steps = derivation.steps.items();
-    match first_wrong_marked(system, events, steps) {
+    let checked = Checked {
+        system,
+        events,
+        steps,
+    };
+    match first_wrong_marked(&checked) {
         Some(number) => Finding::Wrong(number),
         None => end_of(steps, target),
     }
 }
 
 // The first step that is not right.
-fn first_wrong_marked(system: &FaultSystem, events: &Bits, steps: &[Firing]) -> Option<u32>
-    requires { length steps.now < 2 ^ 32 }
-    ensures { MatchOption result (AreRight system.now (member events.now) steps.now (length steps.now))
-        (λ number. IsFirstWrong system.now (member events.now) steps.now number) }
+fn first_wrong_marked(checked: &Checked<'_>) -> Option<u32>
+    requires { length checked.now.steps.now < 2 ^ 32 }
+    ensures { MatchOption result (AreRight checked.now.system.now (member checked.now.events.now) checked.now.steps.now (length checked.now.steps.now))
+        (λ number. IsFirstWrong checked.now.system.now (member checked.now.events.now) checked.now.steps.now number) }
 {
     let mut fact_marks = [false; 262_144];
     let mut event_marks = [false; 4_096];
     let fact_marks = &mut fact_marks[..];
     let event_marks = &mut event_marks[..];
-    first_wrong(system, events, steps, fact_marks, event_marks)
+    first_wrong(checked, fact_marks, event_marks)
 }
 
 // The first step that is not right. The marks are for its use alone.
 fn first_wrong(
-    system: &FaultSystem,
-    events: &Bits,
-    steps: &[Firing],
+    checked: &Checked<'_>,
     fact_marks: &mut [bool],
     event_marks: &mut [bool],
 ) -> Option<u32>
-    requires steps { length steps.now < 2 ^ 32 }
+    requires steps { length checked.now.steps.now < 2 ^ 32 }
     requires fact_marks { IsBlank fact_marks.old }
     requires event_marks { IsBlank event_marks.old }
-    ensures { MatchOption result (AreRight system.now (member events.now) steps.now (length steps.now))
-        (λ number. IsFirstWrong system.now (member events.now) steps.now number) }
+    ensures { MatchOption result (AreRight checked.now.system.now (member checked.now.events.now) checked.now.steps.now (length checked.now.steps.now))
+        (λ number. IsFirstWrong checked.now.system.now (member checked.now.events.now) checked.now.steps.now number) }
 {
-    for (number, step) in steps.iter().enumerate() {
-        if !is_right(
-            system,
-            events,
-            steps,
-            number as u32,
-            step,
-            fact_marks,
-            event_marks,
-        ) {
+    for (number, step) in checked.steps.iter().enumerate() {
+        if !is_right(checked, number as u32, step, fact_marks, event_marks) {
             return Some(number as u32);
         }
     }
@@ -83,9 +89,7 @@ fn first_wrong(
 
 // Whether a step is right.
 fn is_right(
-    system: &FaultSystem,
-    events: &Bits,
-    steps: &[Firing],
+    checked: &Checked<'_>,
     number: u32,
     step: &Firing,
     fact_marks: &mut [bool],
@@ -94,17 +98,17 @@ fn is_right(
     requires fact_marks { IsBlank fact_marks.old }
     requires event_marks { IsBlank event_marks.old }
     ensures right { result
-        ≡ is_right_step system.now (member events.now) steps.now number step.now }
+        ≡ is_right_step checked.now.system.now (member checked.now.events.now) checked.now.steps.now number step.now }
     ensures fact_marks { IsBlank fact_marks.new }
     ensures event_marks { IsBlank event_marks.new }
 {
-    if !are_events(events, step.events.items()) {
+    if !are_events(checked.events, step.events.items()) {
         return false;
     }
     if !are_earlier(step.uses.items(), number) {
         return false;
     }
-    makes_true(system, steps, step, fact_marks, event_marks)
+    makes_true(checked.system, checked.steps, step, fact_marks, event_marks)
 }
 
 // Whether the events of a step and the facts of the steps that it uses make the formula of its fact true.

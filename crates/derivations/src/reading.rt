@@ -11,6 +11,17 @@ use plain_values::{List, Mem};
 use std::alloc::Global;
 use std::marker::Model;
 
+/// By what a line is read: the names of the facts and of the events of a system, and a set of its events.
+#[derive(Clone, Copy)]
+pub(crate) struct Vocabulary<'s, 'n> {
+    /// The names of the facts.
+    pub facts: &'s Names<'n>,
+    /// The names of the events.
+    pub names: &'s Names<'n>,
+    /// The set, of which each event of a step is.
+    pub events: &'s Bits,
+}
+
 /// The number whose digits these are, with no zero in front.
 pub(crate) fn number_of(digits: &[u8]) -> Option<u32>
     ensures number { MatchOption result ((n : ℕ) → n < 2 ^ 32 → digits.now ≡ decimal n → ⊥) (λ n. digits.now ≡ decimal n) }
@@ -130,10 +141,10 @@ impl Items {
     }
 
     // Adds what a word says, if it may stand there.
-    fn add_word(&mut self, names: &Names<'_>, events: &Bits, number: u32, word: &[u8]) -> Mem<bool>
-        requires { length names.now < 2 ^ 32 }
+    fn add_word(&mut self, vocabulary: &Vocabulary<'_, '_>, number: u32, word: &[u8]) -> Mem<bool>
+        requires { length vocabulary.now.names.now < 2 ^ 32 }
         ensures { IfOk result
-            (λ read. with_word names.now (member events.now) number self.old word.now ≡ cond read (Some self.new) None) }
+            (λ read. with_word vocabulary.now.names.now (member vocabulary.now.events.now) number self.old word.now ≡ cond read (Some self.new) None) }
     {
         if begins_use(word) {
             return match use_of(number, &word[1..]) {
@@ -141,8 +152,8 @@ impl Items {
                 None => Ok(false),
             };
         }
-        match names.place(word) {
-            Some(event) => self.add_event(events, event),
+        match vocabulary.names.place(word) {
+            Some(event) => self.add_event(vocabulary.events, event),
             None => Ok(false),
         }
     }
@@ -160,22 +171,21 @@ fn begins_use(word: &[u8]) -> bool
 // What the words say that stand behind a place of a line.
 fn read_words(
     alloc: Global,
-    names: &Names<'_>,
-    events: &Bits,
+    vocabulary: &Vocabulary<'_, '_>,
     number: u32,
     line: &[u8],
     from: usize,
 ) -> Mem<Option<Items>>
-    requires names { length names.now < 2 ^ 32 }
+    requires names { length vocabulary.now.names.now < 2 ^ 32 }
     requires from { from ≤ length line.now }
     ensures { IfOk result
-        (λ items. with_words names.now (member events.now) number no_items (words_behind (drop from line.now)) ≡ items) }
+        (λ items. with_words vocabulary.now.names.now (member vocabulary.now.events.now) number no_items (words_behind (drop from line.now)) ≡ items) }
 {
     let mut items = Items::new(alloc);
     let mut at = from;
     while at < line.len() {
         let end = word_end(line, at + 1);
-        if !items.add_word(names, events, number, &line[at + 1..end])? {
+        if !items.add_word(vocabulary, number, &line[at + 1..end])? {
             return Ok(None);
         }
         at = end;
@@ -186,16 +196,14 @@ fn read_words(
 // The step of a line that has a number.
 pub(crate) fn read_line(
     alloc: Global,
-    facts: &Names<'_>,
-    names: &Names<'_>,
-    events: &Bits,
+    vocabulary: &Vocabulary<'_, '_>,
     number: u32,
     line: &[u8],
 ) -> Mem<Option<Firing>>
-    requires facts { length facts.now < 2 ^ 32 }
-    requires names { length names.now < 2 ^ 32 }
+    requires facts { length vocabulary.now.facts.now < 2 ^ 32 }
+    requires names { length vocabulary.now.names.now < 2 ^ 32 }
     ensures { IfOk result
-        (λ step. step_of facts.now names.now (member events.now) number line.now ≡ step) }
+        (λ step. step_of vocabulary.now.facts.now vocabulary.now.names.now (member vocabulary.now.events.now) number line.now ≡ step) }
 {
     let end = word_end(line, 0);
     if !is_number(&line[..end], number as u64 + 1) {
@@ -204,48 +212,45 @@ pub(crate) fn read_line(
     if end >= line.len() {
         return Ok(None);
     }
-    read_fact(alloc, facts, names, events, number, line, end)
+    read_fact(alloc, vocabulary, number, line, end)
 }
 
 // The step of what stands behind the number of a line.
 fn read_fact(
     alloc: Global,
-    facts: &Names<'_>,
-    names: &Names<'_>,
-    events: &Bits,
+    vocabulary: &Vocabulary<'_, '_>,
     number: u32,
     line: &[u8],
     end: usize,
 ) -> Mem<Option<Firing>>
-    requires facts { length facts.now < 2 ^ 32 }
-    requires names { length names.now < 2 ^ 32 }
+    requires facts { length vocabulary.now.facts.now < 2 ^ 32 }
+    requires names { length vocabulary.now.names.now < 2 ^ 32 }
     requires end { end < length line.now }
     ensures { IfOk result
-        (λ step. step_of_words facts.now names.now (member events.now) number (words_behind (drop end line.now)) ≡ step) }
+        (λ step. step_of_words vocabulary.now.facts.now vocabulary.now.names.now (member vocabulary.now.events.now) number (words_behind (drop end line.now)) ≡ step) }
 {
     let name_end = word_end(line, end + 1);
-    let Some(fact) = facts.place(&line[end + 1..name_end]) else {
+    let Some(fact) = vocabulary.facts.place(&line[end + 1..name_end]) else {
         return Ok(None);
     };
-    read_items(alloc, fact as u32, names, events, number, line, name_end)
+    read_items(alloc, fact as u32, vocabulary, number, line, name_end)
 }
 
 // The step of a fact and of what stands behind a place of a line.
 fn read_items(
     alloc: Global,
     fact: u32,
-    names: &Names<'_>,
-    events: &Bits,
+    vocabulary: &Vocabulary<'_, '_>,
     number: u32,
     line: &[u8],
     from: usize,
 ) -> Mem<Option<Firing>>
-    requires names { length names.now < 2 ^ 32 }
+    requires names { length vocabulary.now.names.now < 2 ^ 32 }
     requires from { from ≤ length line.now }
     ensures { IfOk result
-        (λ step. step_of_fact names.now (member events.now) number (words_behind (drop from line.now)) (Some fact) ≡ step) }
+        (λ step. step_of_fact vocabulary.now.names.now (member vocabulary.now.events.now) number (words_behind (drop from line.now)) (Some fact) ≡ step) }
 {
-    let Some(items) = read_words(alloc, names, events, number, line, from)? else {
+    let Some(items) = read_words(alloc, vocabulary, number, line, from)? else {
         return Ok(None);
     };
     step_with(fact, items)

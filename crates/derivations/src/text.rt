@@ -8,7 +8,7 @@ ghost use Rattle.derivations.specs.Text.{IsBadAt, IsTextOf, event_names, fact_na
 ghost use Rattle.derivations.specs.inner.Text.{AreLineNames};
 
 use crate::derivation::{Derivation, Firing};
-use crate::reading::read_line;
+use crate::reading::{Vocabulary, read_line};
 use fault_system::{Bits, FaultSystem, Names};
 use plain_values::{List, Mem};
 use std::alloc::Global;
@@ -36,7 +36,12 @@ pub fn read_steps(
 {
     let facts = fact_table(alloc, system)?;
     let names = event_table(alloc, system)?;
-    read_lines(alloc, &facts, &names, events, bytes)
+    let vocabulary = Vocabulary {
+        facts: &facts,
+        names: &names,
+        events,
+    };
+    read_lines(alloc, &vocabulary, bytes)
 }
 
 // The names of the facts.
@@ -65,19 +70,17 @@ fn event_table(alloc: Global, system: &FaultSystem) -> Mem<Names<'_>>
 // The steps of a text, where facts and events have these names; or the byte of the first bad line.
 fn read_lines(
     alloc: Global,
-    facts: &Names<'_>,
-    names: &Names<'_>,
-    events: &Bits,
+    vocabulary: &Vocabulary<'_, '_>,
     bytes: &[u8],
 ) -> Mem<Result<Derivation, usize>>
-    requires few { (length facts.now < 2 ^ 32) × (length names.now < 2 ^ 32) }
-    requires differ { NamesDiffer facts.now × NamesDiffer names.now }
-    requires line_names { AreLineNames facts.now × AreLineNames names.now }
+    requires few { (length vocabulary.now.facts.now < 2 ^ 32) × (length vocabulary.now.names.now < 2 ^ 32) }
+    requires differ { NamesDiffer vocabulary.now.facts.now × NamesDiffer vocabulary.now.names.now }
+    requires line_names { AreLineNames vocabulary.now.facts.now × AreLineNames vocabulary.now.names.now }
     ensures read { IfOk result (λ read. MatchResult read
-        (λ derivation. IsTextOf facts.now names.now (member events.now) bytes.now derivation.steps)
-        (λ at. IsBadAt facts.now names.now (member events.now) bytes.now at)) }
+        (λ derivation. IsTextOf vocabulary.now.facts.now vocabulary.now.names.now (member vocabulary.now.events.now) bytes.now derivation.steps)
+        (λ at. IsBadAt vocabulary.now.facts.now vocabulary.now.names.now (member vocabulary.now.events.now) bytes.now at)) }
     ensures only { (steps : Items Firing) → length steps < 2 ^ 32
-        → IsTextOf facts.now names.now (member events.now) bytes.now steps
+        → IsTextOf vocabulary.now.facts.now vocabulary.now.names.now (member vocabulary.now.events.now) bytes.now steps
         → IfOk result (λ read. MatchResult read (λ derivation. derivation.steps ≡ steps) (λ _. ⊥)) }
 {
     let mut steps = List::new(alloc);
@@ -88,7 +91,7 @@ fn read_lines(
         if end >= bytes.len() {
             return Ok(Err(at));
         }
-        let Some(step) = read_line(alloc, facts, names, events, number, &bytes[at..end])? else {
+        let Some(step) = read_line(alloc, vocabulary, number, &bytes[at..end])? else {
             return Ok(Err(at));
         };
         steps.push(step)?;

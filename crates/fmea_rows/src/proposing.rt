@@ -14,6 +14,15 @@ use std::collections::BinaryHeap;
 /// The round of a fact that never comes to hold: it is later than all others.
 const NEVER: u32 = 4_294_967_295;
 
+/// Where events are felt: in a system, with the users of its facts and events.
+#[derive(Clone, Copy)]
+pub(crate) struct Felt<'a> {
+    /// The system.
+    pub system: &'a FaultSystem,
+    /// The facts in whose formulas each fact and each event occurs.
+    pub users: &'a Users,
+}
+
 /// The rounds of all facts under no event and, while an event is looked at, under it as far as they are known.
 #[derive(Drop)]
 pub(crate) struct Proposer {
@@ -54,21 +63,15 @@ impl Proposer {
     /// The facts that come to hold earlier under an event alone than under none, rising, with their rounds.
     ///
     /// A fact is looked at in each round behind one in which a fact of its formula moved, and not for each such fact.
-    pub fn propose(
-        &mut self,
-        alloc: Global,
-        system: &FaultSystem,
-        users: &Users,
-        event: u32,
-    ) -> Mem<Vec<Change>> {
-        for user in users_at(users.events.as_slice(), event) {
+    pub fn propose(&mut self, alloc: Global, felt: &Felt<'_>, event: u32) -> Mem<Vec<Change>> {
+        for user in users_at(felt.users.events.as_slice(), event) {
             self.wait(*user, 1)?;
         }
         for _ in 0..u64::MAX {
             let Some((Reverse(round), fact)) = self.waiting.pop() else {
                 return self.finish(alloc);
             };
-            self.look(alloc, system, users, event, fact, round)?;
+            self.look(alloc, felt, event, fact, round)?;
         }
         self.finish(alloc)
     }
@@ -87,8 +90,7 @@ impl Proposer {
     fn look(
         &mut self,
         alloc: Global,
-        system: &FaultSystem,
-        users: &Users,
+        felt: &Felt<'_>,
         event: u32,
         fact: u32,
         round: u32,
@@ -97,7 +99,7 @@ impl Proposer {
             return Ok(());
         }
         put(self.next.as_mut_slice(), fact, NEVER);
-        let comes = self.round_of(alloc, system, event, fact)?;
+        let comes = self.round_of(alloc, felt, event, fact)?;
         if comes > round {
             return self.wait(fact, comes);
         }
@@ -105,7 +107,7 @@ impl Proposer {
         if comes < before {
             self.moved.push(Change { fact, time: before })?;
             put(self.rounds.as_mut_slice(), fact, comes);
-            for user in users_at(users.facts.as_slice(), fact) {
+            for user in users_at(felt.users.facts.as_slice(), fact) {
                 self.wait(*user, comes.saturating_add(1))?;
             }
         }
@@ -113,8 +115,8 @@ impl Proposer {
     }
 
     // The round in which a fact comes to hold by the rounds that are known.
-    fn round_of(&self, alloc: Global, system: &FaultSystem, event: u32, fact: u32) -> Mem<u32> {
-        match system.fact(fact) {
+    fn round_of(&self, alloc: Global, felt: &Felt<'_>, event: u32, fact: u32) -> Mem<u32> {
+        match felt.system.fact(fact) {
             Some(fact) => formula_round(alloc, &fact.formula, event, self.rounds.as_slice()),
             None => Ok(NEVER),
         }

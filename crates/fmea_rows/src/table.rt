@@ -15,13 +15,22 @@ ghost use Rattle.fact_users.specs.inner.Users.{AreUsers};
 ghost use Rattle.fmea_rows.specs.inner.Tables.{IsBetween, IsKnown, IsRight, changed_rows, is_new, table_rows};
 
 use crate::change::{Change, are_rising, make_changes, take_back, time_at};
-use crate::proposing::Proposer;
+use crate::proposing::{Felt, Proposer};
 use crate::row::Row;
-use crate::testing::fits_where_felt;
+use crate::testing::{Run, fits_where_felt};
 use fact_users::{Users, users_of};
 use fault_system::{Bits, FaultSystem, checked_table, table_of_rounds};
 use plain_values::{List, Mem};
 use std::alloc::Global;
+
+/// Which rows are asked: those of a system with some of its facts as effects.
+#[derive(Clone, Copy)]
+struct Asked<'a> {
+    /// The system.
+    system: &'a FaultSystem,
+    /// The rising numbers of the effects.
+    effects: &'a [u32],
+}
 
 /// What is known of all events: the rounds of all facts under no event, which facts are effects, and in which formulas each fact
 /// and each event occurs.
@@ -50,26 +59,27 @@ pub fn rows(alloc: Global, system: &FaultSystem, effects: &[u32]) -> Mem<List<Ro
     ensures rows { IfOk result (λ rows. rows ≡ rows_of system.now effects.now) }
     ensures exact { IfOk result (AreRows system.now effects.now) }
 {
-    let known = known_of(alloc, system, effects)?;
+    let asked = Asked { system, effects };
+    let known = known_of(alloc, &asked)?;
     let mut desk = desk_of(alloc, &known)?;
     let mut rows = List::new(alloc);
     for event in 0..system.events() {
-        add_rows(alloc, system, effects, &known, event, &mut desk, &mut rows)?;
+        add_rows(alloc, &asked, &known, event, &mut desk, &mut rows)?;
     }
     Ok(rows)
 }
 
 // What is known of all events.
-fn known_of(alloc: Global, system: &FaultSystem, effects: &[u32]) -> Mem<Known>
-    requires { RisesWithin 0 (length system.now.facts) effects.now }
-    ensures { IfOk result (IsKnown system.now effects.now) }
+fn known_of(alloc: Global, asked: &Asked<'_>) -> Mem<Known>
+    requires { RisesWithin 0 (length asked.now.system.now.facts) asked.now.effects.now }
+    ensures { IfOk result (IsKnown asked.now.system.now asked.now.effects.now) }
 {
     table_of_rounds();
-    let none = Bits::new(alloc, system.events())?;
+    let none = Bits::new(alloc, asked.system.events())?;
     Ok(Known {
-        base: system.rounds(alloc, &none)?,
-        effects: Bits::of(alloc, system.facts(), effects)?,
-        users: users_of(alloc, system)?,
+        base: asked.system.rounds(alloc, &none)?,
+        effects: Bits::of(alloc, asked.system.facts(), asked.effects)?,
+        users: users_of(alloc, asked.system)?,
     })
 }
 
@@ -88,28 +98,31 @@ fn desk_of(alloc: Global, known: &Known) -> Mem<Desk>
 // Adds the rows of an event.
 fn add_rows(
     alloc: Global,
-    system: &FaultSystem,
-    effects: &[u32],
+    asked: &Asked<'_>,
     known: &Known,
     event: u32,
     desk: &mut Desk,
     rows: &mut List<Row>,
 ) -> Mem<()>
-    requires event { event < length system.now.events }
-    requires rise { RisesWithin 0 (length system.now.facts) effects.now }
-    requires known { IsKnown system.now effects.now known.now }
+    requires event { event < length asked.now.system.now.events }
+    requires rise { RisesWithin 0 (length asked.now.system.now.facts) asked.now.effects.now }
+    requires known { IsKnown asked.now.system.now asked.now.effects.now known.now }
     requires between { IsBetween known.now.base event desk.old.times.items desk.old.marks.items }
-    ensures rows { OnOk result (rows.new ≡ rows.old ++ event_rows system.now effects.now event) }
+    ensures rows { OnOk result (rows.new ≡ rows.old ++ event_rows asked.now.system.now asked.now.effects.now event) }
     ensures between { OnOk result
         (IsBetween known.now.base (event + 1) desk.new.times.items desk.new.marks.items) }
 {
-    let changes = desk.proposer.propose(alloc, system, &known.users, event)?;
-    let alone = Bits::of(alloc, system.events(), &[event])?;
-    if is_right(system, known, event, &alone, changes.as_slice(), desk) {
+    let felt = Felt {
+        system: asked.system,
+        users: &known.users,
+    };
+    let changes = desk.proposer.propose(alloc, &felt, event)?;
+    let alone = Bits::of(alloc, asked.system.events(), &[event])?;
+    if is_right(asked.system, known, event, &alone, changes.as_slice(), desk) {
         add_changed(known, event, changes.as_slice(), rows)?;
         return Ok(());
     }
-    add_plain(alloc, system, known, effects, event, &alone, rows)
+    add_plain(alloc, asked, known, event, &alone, rows)
 }
 
 // Whether the table of no event with these changes is that of an event alone.
@@ -135,12 +148,15 @@ fn is_right(
         return false;
     }
     make_changes(desk.times.as_mut_slice(), changes);
-    let fits = fits_where_felt(
+    let run = Run {
         system,
+        only: alone,
+        times: desk.times.as_slice(),
+    };
+    let fits = fits_where_felt(
+        &run,
         &known.users,
         event,
-        alone,
-        desk.times.as_slice(),
         changes,
         desk.marks.as_mut_slice(),
     );
@@ -163,20 +179,25 @@ fn add_changed(known: &Known, event: u32, changes: &[Change], rows: &mut List<Ro
 // Adds the rows of an event from its own table.
 fn add_plain(
     alloc: Global,
-    system: &FaultSystem,
+    asked: &Asked<'_>,
     known: &Known,
-    effects: &[u32],
     event: u32,
     alone: &Bits,
     rows: &mut List<Row>,
 ) -> Mem<()>
     requires alone { member alone.now ≡ only event }
-    requires base { IsTable system.now no_event known.now.base }
-    ensures { OnOk result (rows.new ≡ rows.old ++ event_rows system.now effects.now event) }
+    requires base { IsTable asked.now.system.now no_event known.now.base }
+    ensures { OnOk result (rows.new ≡ rows.old ++ event_rows asked.now.system.now asked.now.effects.now event) }
 {
     table_of_rounds();
-    let times = system.rounds(alloc, alone)?;
-    add_reached(known.base.items(), times.items(), effects, event, rows)?;
+    let times = asked.system.rounds(alloc, alone)?;
+    add_reached(
+        known.base.items(),
+        times.items(),
+        asked.effects,
+        event,
+        rows,
+    )?;
     Ok(())
 }
 

@@ -11,14 +11,23 @@ use fact_users::{Users, users_at};
 use fault_system::{Bits, FaultSystem};
 use plain_values::List;
 
+/// What is tested: the table of a run of a system under one event alone.
+#[derive(Clone, Copy)]
+pub(crate) struct Run<'a> {
+    /// The system.
+    pub system: &'a FaultSystem,
+    /// The set of that event alone.
+    pub only: &'a Bits,
+    /// The round of each fact, and 0 for none.
+    pub times: &'a [u32],
+}
+
 /// Whether the times of a table fit wherever changes or an event may be felt. Each fact is tested once: those whose times fit
 /// get a mark, which is higher than all marks before.
 pub(crate) fn fits_where_felt(
-    system: &FaultSystem,
+    run: &Run<'_>,
     users: &Users,
     event: u32,
-    only: &Bits,
-    times: &[u32],
     changes: &[Change],
     marks: &mut [u32],
 ) -> bool
@@ -26,47 +35,30 @@ pub(crate) fn fits_where_felt(
     requires low { (n : ℕ) → slice_index_or marks.old n 0 ≤ event }
     ensures low { (n : ℕ) → slice_index_or marks.new n 0 ≤ event + 1 }
     ensures fits { IsTrue result
-        → FitsWhereFelt system.now users.now event (member only.now) times.now changes.now }
+        → FitsWhereFelt run.now.system.now users.now event (member run.now.only.now) run.now.times.now changes.now }
 {
     let mark = event + 1;
-    if !fit_around(
-        system,
-        users.facts.as_slice(),
-        only,
-        times,
-        changes,
-        mark,
-        marks,
-    ) {
+    if !fit_around(run, users.facts.as_slice(), changes, mark, marks) {
         return false;
     }
-    all_fit(
-        system,
-        only,
-        times,
-        users_at(users.events.as_slice(), event),
-        mark,
-        marks,
-    )
+    all_fit(run, users_at(users.events.as_slice(), event), mark, marks)
 }
 
 // Whether the times of the facts that change and of their users fit.
 fn fit_around(
-    system: &FaultSystem,
+    run: &Run<'_>,
     users: &[List<u32>],
-    only: &Bits,
-    times: &[u32],
     changes: &[Change],
     mark: u32,
     marks: &mut [u32],
 ) -> bool
-    requires { IsTested system.now (member only.now) times.now mark marks.old }
-    ensures tested { IsTested system.now (member only.now) times.now mark marks.new }
+    requires { IsTested run.now.system.now (member run.now.only.now) run.now.times.now mark marks.old }
+    ensures tested { IsTested run.now.system.now (member run.now.only.now) run.now.times.now mark marks.new }
     ensures fit { IsTrue result → (g : ℕ) → Has (set_of (facts_of changes.now)) g
-        → FitsAround system.now (member only.now) times.now users.now g }
+        → FitsAround run.now.system.now (member run.now.only.now) run.now.times.now users.now g }
 {
     for change in changes {
-        if !fits_with_users(system, users, only, times, change.fact, mark, marks) {
+        if !fits_with_users(run, users, change.fact, mark, marks) {
             return false;
         }
     }
@@ -75,39 +67,30 @@ fn fit_around(
 
 // Whether the times of a fact and of its users fit.
 fn fits_with_users(
-    system: &FaultSystem,
+    run: &Run<'_>,
     users: &[List<u32>],
-    only: &Bits,
-    times: &[u32],
     fact: u32,
     mark: u32,
     marks: &mut [u32],
 ) -> bool
-    requires { IsTested system.now (member only.now) times.now mark marks.old }
-    ensures tested { IsTested system.now (member only.now) times.now mark marks.new }
-    ensures fit { IsTrue result → FitsAround system.now (member only.now) times.now users.now fact }
+    requires { IsTested run.now.system.now (member run.now.only.now) run.now.times.now mark marks.old }
+    ensures tested { IsTested run.now.system.now (member run.now.only.now) run.now.times.now mark marks.new }
+    ensures fit { IsTrue result → FitsAround run.now.system.now (member run.now.only.now) run.now.times.now users.now fact }
 {
-    if !fits_once(system, only, times, fact, mark, marks) {
+    if !fits_once(run, fact, mark, marks) {
         return false;
     }
-    all_fit(system, only, times, users_at(users, fact), mark, marks)
+    all_fit(run, users_at(users, fact), mark, marks)
 }
 
 // Whether the times of these facts fit.
-fn all_fit(
-    system: &FaultSystem,
-    only: &Bits,
-    times: &[u32],
-    facts: &[u32],
-    mark: u32,
-    marks: &mut [u32],
-) -> bool
-    requires { IsTested system.now (member only.now) times.now mark marks.old }
-    ensures tested { IsTested system.now (member only.now) times.now mark marks.new }
-    ensures fit { IsTrue result → AllFit system.now (member only.now) times.now (set_of facts.now) }
+fn all_fit(run: &Run<'_>, facts: &[u32], mark: u32, marks: &mut [u32]) -> bool
+    requires { IsTested run.now.system.now (member run.now.only.now) run.now.times.now mark marks.old }
+    ensures tested { IsTested run.now.system.now (member run.now.only.now) run.now.times.now mark marks.new }
+    ensures fit { IsTrue result → AllFit run.now.system.now (member run.now.only.now) run.now.times.now (set_of facts.now) }
 {
     for fact in facts {
-        if !fits_once(system, only, times, *fact, mark, marks) {
+        if !fits_once(run, *fact, mark, marks) {
             return false;
         }
     }
@@ -115,23 +98,16 @@ fn all_fit(
 }
 
 // Whether the time of a fact fits; it is tested where the fact has no mark yet.
-fn fits_once(
-    system: &FaultSystem,
-    only: &Bits,
-    times: &[u32],
-    fact: u32,
-    mark: u32,
-    marks: &mut [u32],
-) -> bool
-    requires { IsTested system.now (member only.now) times.now mark marks.old }
-    ensures tested { IsTested system.now (member only.now) times.now mark marks.new }
-    ensures fits { IsTrue result → FitsFact system.now (member only.now) (time_of times.now) fact }
+fn fits_once(run: &Run<'_>, fact: u32, mark: u32, marks: &mut [u32]) -> bool
+    requires { IsTested run.now.system.now (member run.now.only.now) run.now.times.now mark marks.old }
+    ensures tested { IsTested run.now.system.now (member run.now.only.now) run.now.times.now mark marks.new }
+    ensures fits { IsTrue result → FitsFact run.now.system.now (member run.now.only.now) (time_of run.now.times.now) fact }
 {
     let at = fact as usize;
     if at < marks.len() && marks[at] == mark {
         return true;
     }
-    let fits = system.fits(only, times, fact);
+    let fits = run.system.fits(run.only, run.times, fact);
     if fits && at < marks.len() {
         marks[at] = mark;
     }

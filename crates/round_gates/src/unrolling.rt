@@ -103,29 +103,38 @@ fn size_of(blocks: &Blocks, block: u32) -> u32
     }
 }
 
+/// What is unrolled: a slice of a system, with its blocks.
+#[derive(Clone, Copy)]
+struct Sliced<'a> {
+    /// The system.
+    system: &'a FaultSystem,
+    /// The slice of a target.
+    slice: &'a Slice,
+    /// The blocks of its facts.
+    blocks: &'a Blocks,
+}
+
 /// All stages of a block.
 fn run_block(
     alloc: Global,
-    system: &FaultSystem,
-    slice: &Slice,
-    blocks: &Blocks,
+    sliced: &Sliced<'_>,
     block: u32,
     members: &[u32],
     nodes: &mut [Node],
     lines: &mut Vec<Line>,
 ) -> Mem<()>
-    requires blocks { IsBlocks system.now slice.now.facts blocks.now }
-    requires small { All (IsSmall system.now) slice.now.facts }
-    requires inside { All (λ fact. fact < length system.now.facts) slice.now.facts }
+    requires blocks { IsBlocks sliced.now.system.now sliced.now.slice.now.facts sliced.now.blocks.now }
+    requires small { All (IsSmall sliced.now.system.now) sliced.now.slice.now.facts }
+    requires inside { All (λ fact. fact < length sliced.now.system.now.facts) sliced.now.slice.now.facts }
     requires block { block < 4294967295 }
-    requires members { members.now ≡ members_of blocks.now block slice.now.facts }
-    requires before { AreUnrolled system.now blocks.now (low_nodes system.now blocks.now block) nodes.old lines.old.items }
-    ensures { OnOk result (AreUnrolled system.now blocks.now (low_nodes system.now blocks.now (block + 1)) nodes.new lines.new.items) }
+    requires members { members.now ≡ members_of sliced.now.blocks.now block sliced.now.slice.now.facts }
+    requires before { AreUnrolled sliced.now.system.now sliced.now.blocks.now (low_nodes sliced.now.system.now sliced.now.blocks.now block) nodes.old lines.old.items }
+    ensures { OnOk result (AreUnrolled sliced.now.system.now sliced.now.blocks.now (low_nodes sliced.now.system.now sliced.now.blocks.now (block + 1)) nodes.new lines.new.items) }
 {
-    let _facts = system.facts();
-    let count = size_of(blocks, block);
+    let _facts = sliced.system.facts();
+    let count = size_of(sliced.blocks, block);
     for stage in 0..count {
-        run_stage(alloc, system, stage + 1, members, nodes, lines)?;
+        run_stage(alloc, sliced.system, stage + 1, members, nodes, lines)?;
     }
     Ok(())
 }
@@ -133,33 +142,22 @@ fn run_block(
 /// All blocks, from the lowest on.
 fn run_blocks(
     alloc: Global,
-    system: &FaultSystem,
-    slice: &Slice,
-    blocks: &Blocks,
+    sliced: &Sliced<'_>,
     lists: &[List<u32>],
     nodes: &mut [Node],
     lines: &mut Vec<Line>,
 ) -> Mem<()>
-    requires blocks { IsBlocks system.now slice.now.facts blocks.now }
-    requires small { All (IsSmall system.now) slice.now.facts }
-    requires inside { All (λ fact. fact < length system.now.facts) slice.now.facts }
+    requires blocks { IsBlocks sliced.now.system.now sliced.now.slice.now.facts sliced.now.blocks.now }
+    requires small { All (IsSmall sliced.now.system.now) sliced.now.slice.now.facts }
+    requires inside { All (λ fact. fact < length sliced.now.system.now.facts) sliced.now.slice.now.facts }
     requires few { length lists.now ≤ 4294967295 }
     requires members { (block : ℕ) → block < length lists.now
-        → slice_index_or lists.now block [] ≡ members_of blocks.now block slice.now.facts }
-    requires before { AreUnrolled system.now blocks.now (low_nodes system.now blocks.now 0) nodes.old lines.old.items }
-    ensures { OnOk result (AreUnrolled system.now blocks.now (low_nodes system.now blocks.now (length lists.now)) nodes.new lines.new.items) }
+        → slice_index_or lists.now block [] ≡ members_of sliced.now.blocks.now block sliced.now.slice.now.facts }
+    requires before { AreUnrolled sliced.now.system.now sliced.now.blocks.now (low_nodes sliced.now.system.now sliced.now.blocks.now 0) nodes.old lines.old.items }
+    ensures { OnOk result (AreUnrolled sliced.now.system.now sliced.now.blocks.now (low_nodes sliced.now.system.now sliced.now.blocks.now (length lists.now)) nodes.new lines.new.items) }
 {
     for (block, members) in lists.iter().enumerate() {
-        run_block(
-            alloc,
-            system,
-            slice,
-            blocks,
-            block as u32,
-            members.items(),
-            nodes,
-            lines,
-        )?;
+        run_block(alloc, sliced, block as u32, members.items(), nodes, lines)?;
     }
     Ok(())
 }
@@ -262,11 +260,14 @@ pub(crate) fn unroll(
     let lists = lists_of(alloc, blocks, facts, bound)?;
     let mut nodes = false_nodes(alloc, system.facts())?;
     let mut lines = Vec::new(alloc);
-    run_blocks(
-        alloc,
+    let sliced = Sliced {
         system,
         slice,
         blocks,
+    };
+    run_blocks(
+        alloc,
+        &sliced,
         lists.as_slice(),
         nodes.as_mut_slice(),
         &mut lines,

@@ -1,17 +1,11 @@
 -- Numbers with zeros behind them, which stand for a number that they are near to.
-use Rattle.std.specs.Prelude.{ℕ, ◌+◌, ◌*◌, ◌^◌, ◌<◌, ◌≤◌, ◌≡◌, ◌⊎◌}
+use Rattle.std.specs.Prelude.{ℕ, ◌*◌, ◌^◌, ◌≤◌, ◌≡◌, ◌⊎◌}
 use Rattle.decimals.specs.declared.aligned.Aligned.{Aligned}
+use Rattle.decimals.specs.declared.rounding.Side.{Side}
+use Rattle.decimals.specs.inner.Decimals.{IsCut}
 
--- at most the number, by less than one of the last place: it is exact, or has 19 digits
-pub record IsAlignedDown (n : ℕ) (x : Aligned) : Type 0 where
+-- the number, rounded to the last place: it is exact, or has 19 digits
+pub record IsAligned (side : Side) (n : ℕ) (x : Aligned) : Type 0 where
   pub short : x.number ≤ 2000000000000000000000000000000000000
-  pub down : x.number * 10 ^ x.exponent ≤ n
-  pub above : n < (x.number + 1) * 10 ^ x.exponent
-  pub full : (n ≡ x.number * 10 ^ x.exponent) ⊎ (1000000000000000000 ≤ x.number)
-
--- at least the number, by less than one of the last place: it is exact, or has 19 digits
-pub record IsAlignedUp (n : ℕ) (x : Aligned) : Type 0 where
-  pub short : x.number ≤ 2000000000000000000000000000000000000
-  pub up : n ≤ x.number * 10 ^ x.exponent
-  pub below : x.number * 10 ^ x.exponent < n + 10 ^ x.exponent
+  pub cut : IsCut side n x.number (10 ^ x.exponent)
   pub full : (n ≡ x.number * 10 ^ x.exponent) ⊎ (1000000000000000000 ≤ x.number)

@@ -1,5 +1,5 @@
 use Rattle.std.proofs.Common.{arith}
-use Rattle.decimals.proofs.Sizes.{small_power}
+use Rattle.decimals.proofs.Powers.{small_power}
 use Rattle.decimals.proofs.rounding.power.Goals as goal
 
 pub overflow_mul-value : goal.overflow_mul-value

@@ -5,7 +5,7 @@ use Rattle.derivations.proofs.checking.first_wrong.Given as goal
 
 abbrev pub invariant-loop-number : goal.invariant-loop-number
 invariant-loop-number l = record {
-  right : AreRight l.system (member l.events) l.steps l.number;
+  right : AreRight l.checked.system.now (member l.checked.events.now) l.checked.steps.now l.number;
   fact_marks : IsBlank l.fact_marks;
   event_marks : IsBlank l.event_marks;
 }

@@ -8,9 +8,9 @@ use Rattle.fmea_rows.proofs.table.add_plain.Goals as goal
 
 pub returns : goal.returns
 returns c =
-    let system = c.args.system.now in
+    let system = c.args.asked.now.system.now in
     let base = c.args.known.now.base in
     let times = c.in_ok-times.times in
     let alone : IsTable system (only c.args.event) times = (c.table_of_rounds.ensures system (only c.args.event) times).1 (subst (λ (events : NumberSet). AreRounds system events times) c.requires.alone c.in_ok-times.ensures) in
-    c.in_ok-add_reached.ensures ∙ (λ i. c.args.rows.now ++ table_rows (c.items.ensures.items i) (c.items-2.ensures.items i) c.args.event c.args.effects.now)
-    ∙ ap (λ rows. c.args.rows.now ++ rows) (table-rows system c.args.event base times c.requires.base alone c.args.effects.now)
+    c.in_ok-add_reached.ensures ∙ (λ i. c.args.rows.now ++ table_rows (c.items.ensures.items i) (c.items-2.ensures.items i) c.args.event c.args.asked.now.effects.now)
+    ∙ ap (λ rows. c.args.rows.now ++ rows) (table-rows system c.args.event base times c.requires.base alone c.args.asked.now.effects.now)

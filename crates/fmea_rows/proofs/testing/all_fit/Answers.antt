@@ -10,7 +10,7 @@ pub loop-fact-preserved : goal.loop-fact-preserved
 loop-fact-preserved c = record {
   tested = c.fits_once.ensures.tested;
   fit = λ n h. ⊎_elim (λ was. c.loop-fact.invariant.fit n was)
-      (λ same. subst (FitsFact c.args.system.now (member c.args.only.now) (time_of c.args.times.now)) same (c.fits_once.ensures.fits c.if-not-fits_once.false))
+      (λ same. subst (FitsFact c.args.run.now.system.now (member c.args.run.now.only.now) (time_of c.args.run.now.times.now)) same (c.fits_once.ensures.fits c.if-not-fits_once.false))
       (among-more c.args.facts.now c.loop-fact.fact-index 0 n c.loop-fact-test.true h);
 }
 

@@ -5,6 +5,6 @@ use Rattle.fmea_rows.proofs.testing.all_fit.Given as goal
 
 abbrev pub invariant-loop-fact : goal.invariant-loop-fact
 invariant-loop-fact l = record {
-  tested : IsTested l.system (member l.only) l.times l.mark l.marks;
-  fit : AllFit l.system (member l.only) l.times (set_of (take l.fact-index l.facts));
+  tested : IsTested l.run.system.now (member l.run.only.now) l.run.times.now l.mark l.marks;
+  fit : AllFit l.run.system.now (member l.run.only.now) l.run.times.now (set_of (take l.fact-index l.facts));
 }

@@ -12,7 +12,7 @@ loop-change-preserved c =
     record {
       tested = c.fits_with_users.ensures.tested;
       fit = λ g h. ⊎_elim (λ was. c.loop-change.invariant.fit g was)
-          (λ same. subst (FitsAround c.args.system.now (member c.args.only.now) c.args.times.now c.args.users.now) same (c.fits_with_users.ensures.fit c.if-not-fits_with_users.false))
+          (λ same. subst (FitsAround c.args.run.now.system.now (member c.args.run.now.only.now) c.args.run.now.times.now c.args.users.now) same (c.fits_with_users.ensures.fit c.if-not-fits_with_users.false))
           (among-changes c.args.changes.now c.loop-change.change-index d g c.loop-change-test.true h);
     }
 

@@ -5,6 +5,6 @@ use Rattle.fmea_rows.proofs.testing.fit_around.Given as goal
 
 abbrev pub invariant-loop-change : goal.invariant-loop-change
 invariant-loop-change l = record {
-  tested : IsTested l.system (member l.only) l.times l.mark l.marks;
-  fit : (g : ℕ) → Has (set_of (facts_of (take l.change-index l.changes))) g → FitsAround l.system (member l.only) l.times l.users g;
+  tested : IsTested l.run.system.now (member l.run.only.now) l.run.times.now l.mark l.marks;
+  fit : (g : ℕ) → Has (set_of (facts_of (take l.change-index l.changes))) g → FitsAround l.run.system.now (member l.run.only.now) l.run.times.now l.users g;
 }

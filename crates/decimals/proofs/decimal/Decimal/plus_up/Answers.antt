@@ -1,7 +1,7 @@
 use Rattle.decimals.proofs.decimal.Decimal.plus_up.Goals as goal
 
 pub returns-clause-near : goal.returns-clause-near
-returns-clause-near c = c.rounded_up.ensures.near _ c.sum_up.ensures.value
+returns-clause-near c = c.rounded.ensures.near _ c.sum.ensures.value
 
 pub returns-clause-places : goal.returns-clause-places
-returns-clause-places c places first second = c.rounded_up.ensures.places places (c.sum_up.ensures.places c.args.whole places first second)
+returns-clause-places c places first second = c.rounded.ensures.places places (c.sum.ensures.places c.args.whole places first second)

@@ -2,4 +2,4 @@ use Rattle.std.proofs.Common.{inr}
 use Rattle.decimals.proofs.decimal.Decimal.rest_down.Goals as goal
 
 pub returns-clause-places : goal.returns-clause-places
-returns-clause-places c = c.rounded_down.ensures.places 36 (inr c.left_down.ensures.places)
+returns-clause-places c = c.rounded.ensures.places 36 (inr c.left.ensures.places)
