@@ -10,7 +10,7 @@ ghost use Rattle.fta_outside.specs.inner.Outside.{Writes};
 
 use crate::bookmark::{Bookmark, keep_place};
 use crate::form::SetForm;
-use crate::page::{PageWriter, write_on_ledger};
+use crate::page::{PageWriter, Source, write_on_ledger};
 use fault_system::FaultSystem;
 use fta_outside::{Sink, SinkFailed};
 use plain_values::List;
@@ -108,14 +108,16 @@ impl ListingPage {
             after,
             limit,
         } = self;
-        write_on_ledger::<S, Brand>(
-            &mut writer.listing,
-            &system,
-            &store,
+        let source = Source {
+            system: &system,
+            store: &store,
             form,
-            numbers_of(&after),
             limit,
-            &mut writer.line,
+        };
+        write_on_ledger::<S, Brand>(
+            &source,
+            numbers_of(&after),
+            &mut writer,
             &mut mark,
             sink,
             Blank::new(1),

@@ -52,15 +52,24 @@ impl PageWriter {
     }
 }
 
+/// What a page is written from.
+#[derive(Clone, Copy)]
+pub(crate) struct Source<'a> {
+    /// The system whose events the sets have.
+    pub(crate) system: &'a FaultSystem,
+    /// The store that has the sets.
+    pub(crate) store: &'a Store,
+    /// How the events of a set stand in its line.
+    pub(crate) form: SetForm,
+    /// How many sets may stand on the page.
+    pub(crate) limit: Option<u32>,
+}
+
 /// Writes a page, and counts its steps on a ledger of its own.
 pub(crate) fn write_on_ledger<S: Sink, L: Ledger>(
-    listing: &mut Listing,
-    system: &FaultSystem,
-    store: &Store,
-    form: SetForm,
+    source: &Source<'_>,
     after: Option<&[u32]>,
-    limit: Option<u32>,
-    line: &mut Vec<u8>,
+    writer: &mut PageWriter,
     mark: &mut Option<Bookmark>,
     sink: &mut S,
     blank: Blank,
@@ -68,44 +77,35 @@ pub(crate) fn write_on_ledger<S: Sink, L: Ledger>(
     requires name { blank.name ≡ L.name }
     requires parts { blank.parts ≡ L.parts }
     requires some { 0 < L.parts }
-    requires started { IsStarted store.now listing.old }
-    requires left { sets_left store.now listing.old ≡ all_sets store.now listing.old }
-    requires room { HasRoom system.now (most_line system.now) (all_sets store.now listing.old) }
-    requires wide { most_line system.now ≤ vec_capacity line.old }
-    requires open { IsOpenMark system.now mark.old }
-    requires named { more_text mark.old ≡ more_line (key_of mark.old) system.now (option_map (λ set. set.now) after) }
-    ensures { Writes (marked_page form system.now (key_of mark.old) (option_map (λ set. set.now) after.entry) limit (all_sets store.now listing.old)) result (S.seen sink.old) (S.seen sink.new) }
+    requires ready { IsReady source.now.system.now source.now.store.now writer.old }
+    requires open { IsOpenMark source.now.system.now mark.old }
+    requires named { more_text mark.old ≡ more_line (key_of mark.old) source.now.system.now (option_map (λ set. set.now) after) }
+    ensures { Writes (marked_page source.now.form source.now.system.now (key_of mark.old) (option_map (λ set. set.now) after.entry) source.now.limit (all_sets source.now.store.now writer.old.listing)) result (S.seen sink.old) (S.seen sink.new) }
 {
     let mut steps = Steps::<L>::new(blank);
     if let Some(set) = after {
-        listing.seek(store, set, &mut steps);
+        writer.listing.seek(source.store, set, &mut steps);
     }
-    write_sets(
-        listing, system, store, form, limit, line, mark, sink, &mut steps,
-    )
+    write_sets(source, writer, mark, sink, &mut steps)
 }
 
 /// Writes the sets that are left, as many as the limit lets, and the last line.
 fn write_sets<S: Sink, L: Ledger>(
-    listing: &mut Listing,
-    system: &FaultSystem,
-    store: &Store,
-    form: SetForm,
-    limit: Option<u32>,
-    line: &mut Vec<u8>,
+    source: &Source<'_>,
+    writer: &mut PageWriter,
     mark: &mut Option<Bookmark>,
     sink: &mut S,
     steps: &mut Steps<L>,
 ) -> Result<(), SinkFailed>
-    requires started { IsStarted store.now listing.old }
-    requires room { HasRoom system.now (most_line system.now) (sets_left store.now listing.old) }
-    requires wide { most_line system.now ≤ vec_capacity line.old }
-    requires open { IsOpenMark system.now mark.old }
-    ensures { (last : Maybe (Items ℕ)) → more_text mark.old ≡ more_line (key_of mark.old) system.now last
-        → Writes (marked_text form system.now (key_of mark.old) last limit (sets_left store.now listing.old)) result (S.seen sink.old) (S.seen sink.new) }
+    requires started { IsStarted source.now.store.now writer.old.listing }
+    requires room { HasRoom source.now.system.now (most_line source.now.system.now) (sets_left source.now.store.now writer.old.listing) }
+    requires wide { most_line source.now.system.now ≤ vec_capacity writer.old.line }
+    requires open { IsOpenMark source.now.system.now mark.old }
+    ensures { (last : Maybe (Items ℕ)) → more_text mark.old ≡ more_line (key_of mark.old) source.now.system.now last
+        → Writes (marked_text source.now.form source.now.system.now (key_of mark.old) last source.now.limit (sets_left source.now.store.now writer.old.listing)) result (S.seen sink.old) (S.seen sink.new) }
 {
-    let mut room = limit;
-    while write_next(listing, system, store, form, room, line, mark, sink, steps)? {
+    let mut room = source.limit;
+    while write_next(source, room, writer, mark, sink, steps)? {
         room = one_less(room);
     }
     Ok(())
@@ -129,41 +129,38 @@ fn has_room(limit: Option<u32>) -> bool
     }
 }
 
-/// Writes the line of the next set if the limit lets it stand, and else the last line; whether the page goes on.
+/// Writes the line of the next set if the room that is left lets it stand, and else the last line; whether the page goes on.
 fn write_next<S: Sink, L: Ledger>(
-    listing: &mut Listing,
-    system: &FaultSystem,
-    store: &Store,
-    form: SetForm,
-    limit: Option<u32>,
-    line: &mut Vec<u8>,
+    source: &Source<'_>,
+    room: Option<u32>,
+    writer: &mut PageWriter,
     mark: &mut Option<Bookmark>,
     sink: &mut S,
     steps: &mut Steps<L>,
 ) -> Result<bool, SinkFailed>
-    requires started { IsStarted store.now listing.old }
-    requires room { HasRoom system.now (most_line system.now) (sets_left store.now listing.old) }
-    requires wide { most_line system.now ≤ vec_capacity line.old }
-    requires open { IsOpenMark system.now mark.old }
-    ensures wrote { Writes (next_line form system.now (more_text mark.old) limit (sets_left store.now listing.old)) result (S.seen sink.old) (S.seen sink.new) }
-    ensures goes { IfOk result (λ on. on ≡ goes_on limit (sets_left store.now listing.old)) }
-    ensures same { IsSameListing store.now listing.old listing.new }
-    ensures left { sets_left store.now listing.new ≡ later (sets_left store.now listing.old) }
-    ensures room { vec_capacity line.old ≤ vec_capacity line.new }
-    ensures named { IfOk result (λ on. IsTrue on → more_text mark.new ≡ next_more (key_of mark.old) system.now (sets_left store.now listing.old)) }
+    requires started { IsStarted source.now.store.now writer.old.listing }
+    requires fits { HasRoom source.now.system.now (most_line source.now.system.now) (sets_left source.now.store.now writer.old.listing) }
+    requires wide { most_line source.now.system.now ≤ vec_capacity writer.old.line }
+    requires open { IsOpenMark source.now.system.now mark.old }
+    ensures wrote { Writes (next_line source.now.form source.now.system.now (more_text mark.old) room (sets_left source.now.store.now writer.old.listing)) result (S.seen sink.old) (S.seen sink.new) }
+    ensures goes { IfOk result (λ on. on ≡ goes_on room (sets_left source.now.store.now writer.old.listing)) }
+    ensures same { IsSameListing source.now.store.now writer.old.listing writer.new.listing }
+    ensures left { sets_left source.now.store.now writer.new.listing ≡ later (sets_left source.now.store.now writer.old.listing) }
+    ensures wide { vec_capacity writer.old.line ≤ vec_capacity writer.new.line }
+    ensures named { IfOk result (λ on. IsTrue on → more_text mark.new ≡ next_more (key_of mark.old) source.now.system.now (sets_left source.now.store.now writer.old.listing)) }
     ensures key { key_of mark.new ≡ key_of mark.old }
-    ensures open { IsOpenMark system.now mark.new }
+    ensures open { IsOpenMark source.now.system.now mark.new }
 {
-    let Some(set) = listing.next(store, steps) else {
+    let Some(set) = writer.listing.next(source.store, steps) else {
         write_all(sink, b"end\n")?;
         return Ok(false);
     };
-    if !has_room(limit) {
+    if !has_room(room) {
         write_more(mark, sink)?;
         return Ok(false);
     }
-    put_line(form, system, set, line);
-    keep_place(mark, system, Some(set));
-    write_all(sink, line.as_slice())?;
+    put_line(source.form, source.system, set, &mut writer.line);
+    keep_place(mark, source.system, Some(set));
+    write_all(sink, writer.line.as_slice())?;
     Ok(true)
 }

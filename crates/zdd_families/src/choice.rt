@@ -3,7 +3,7 @@ ghost use Rattle.zdd_store.specs.inner.Store.{IsIn, family_of, Keeps};
 ghost use Rattle.zdd_store.specs.inner.Answers.{IsLeastFamily, IsLeastUpTo};
 ghost use Rattle.zdd_families.specs.inner.Steps.{Answered};
 ghost use Rattle.zdd_families.specs.inner.Unions.{HasMinimalSets, IsUnionOfSome, some_of};
-ghost use Rattle.zdd_families.specs.inner.Rows.{IsMinimalNumber, IsRow, IsNextRow, with_part};
+ghost use Rattle.zdd_families.specs.inner.Rows.{IsMinimalNumber, IsRow, IsRun, IsNextRow, with_part};
 
 use crate::families::note_minimal;
 use crate::minimal::minimal_sets;
@@ -12,6 +12,15 @@ use crate::union::kept_union;
 use plain_values::Mem;
 use std::alloc::Global;
 use zdd_store::{Id, Store};
+
+/// A part that is said again and again.
+#[derive(Clone, Copy)]
+struct Run {
+    /// Its minimal sets.
+    part: Id,
+    /// How many times it is said.
+    times: usize,
+}
 
 /// An entry of the table with one part more, said once or several times: of the entry at its place, and of that so many places below.
 fn next_entry(store: &mut Store, part: Id, below: Id, here: Id, most: u32) -> Mem<Id>
@@ -24,28 +33,27 @@ fn next_entry(store: &mut Store, part: Id, below: Id, here: Id, most: u32) -> Me
     kept_union(store, here, with)
 }
 
-/// Makes the entries from `low` to `high` of a row anew, with one part more that is said so many times. The highest comes first, so
-/// that each is made of entries of the row as it was.
+/// Makes the entries from `low` to `high` of a row anew, with the part of a run more. The highest comes first, so that each is made
+/// of entries of the row as it was.
 fn next_row(
     store: &mut Store,
     row: &mut [Id],
-    part: Id,
-    times: usize,
+    run: Run,
     low: usize,
     high: usize,
     most: u32,
 ) -> Mem<()>
     requires within { high < length row.old }
-    requires part_is { IsMinimalNumber store.old part }
+    requires part_is { IsMinimalNumber store.old run.part }
     requires row_is { All (IsMinimalNumber store.old) row.old }
-    ensures next { OnOk result (IsNextRow most store.old store.new part times low high row.old row.new) }
+    ensures next { OnOk result (IsNextRow most store.old store.new run.part run.times low high row.old row.new) }
     ensures kept { Keeps store.old store.new }
 {
     let mut above = high + 1;
     while above > low {
         let at = above - 1;
-        let below = at.saturating_sub(times);
-        row[at] = next_entry(store, part, row[below], row[at], most)?;
+        let below = at.saturating_sub(run.times);
+        row[at] = next_entry(store, run.part, row[below], row[at], most)?;
         above = at;
     }
     Ok(())
@@ -82,6 +90,22 @@ fn first_of_run(parts: &[Id], end: usize) -> usize
     first
 }
 
+/// The run that ends before the place `end`.
+fn run_before(store: &mut Store, parts: &[Id], end: usize) -> Mem<Run>
+    requires some { 0 < end }
+    requires within { end ≤ length parts.now }
+    requires parts_in { All (IsIn store.old) parts.now }
+    ensures ends { IfOk result (IsRun store.old store.new parts.now end) }
+    ensures kept { Keeps store.old store.new }
+{
+    let first = first_of_run(parts, end);
+    let part = minimal_sets(store, parts[first])?;
+    Ok(Run {
+        part,
+        times: end - first,
+    })
+}
+
 /// Puts all parts into the row of no parts, from the last to the first. Only those entries are made from which the one at k can
 /// still be reached: k times n - k + 1 for n parts, and fewer where a part is said again and again.
 fn fill_row(store: &mut Store, k: usize, parts: &[Id], most: u32, row: &mut [Id]) -> Mem<()>
@@ -93,11 +117,11 @@ fn fill_row(store: &mut Store, k: usize, parts: &[Id], most: u32, row: &mut [Id]
 {
     let mut at = parts.len();
     while at > 0 {
-        let first = first_of_run(parts, at);
-        let part = minimal_sets(store, parts[first])?;
+        let last = run_before(store, parts, at)?;
+        let first = at - last.times;
         let low = k.saturating_sub(first).max(1);
         let high = k.min(parts.len() - first);
-        next_row(store, row, part, at - first, low, high, most)?;
+        next_row(store, row, last, low, high, most)?;
         at = first;
     }
     Ok(())

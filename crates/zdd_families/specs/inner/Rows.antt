@@ -7,11 +7,20 @@ use Rattle.zdd_store.specs.inner.Answers.{IsLeastUpTo}
 use Rattle.zdd_store.specs.declared.id.Id.{Id}
 use Rattle.zdd_families.specs.inner.Steps.{IsFound}
 use Rattle.zdd_families.specs.inner.Unions.{some_of}
+use Rattle.zdd_families.specs.declared.choice.Run.{Run}
 
 -- a number of the store whose family has no set within another
 pub record IsMinimalNumber (store : Families) (id : Id) : Type 0 where
   pub found : IsIn store id
   pub apart : IsAntichain (family_of store id)
+
+-- A run ends before a place of some parts: so many times one part is said, and its number has the minimal sets of this part.
+pub record IsRun (before after : Families) (parts : List Id) (end : ℕ) (run : Run) : Type 0 where
+  pub some : 0 < run.times
+  pub within : run.times ≤ end
+  pub same : (at : ℕ) (d : Id) → end - run.times ≤ at → at < end → slice_index_or parts at d ≡ slice_index_or parts (end - run.times) d
+  pub part : IsMinimalNumber after run.part
+  pub covering : (d : Id) (set : List ℕ) → covers (family_of after run.part) set ≡ covers (family_of before (slice_index_or parts (end - run.times) d)) set
 
 -- the entry at each place k of a row, from the place `first` on, has the minimal sets of at least k of the families
 abbrev pub IsRow : ℕ → ℕ → Families → List Family → List Id → Type 0

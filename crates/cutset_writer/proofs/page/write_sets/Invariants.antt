@@ -8,13 +8,13 @@ use Rattle.cutset_writer.specs.Text.{more_line}
 use Rattle.cutset_writer.proofs.page.write_sets.Given as goal
 
 abbrev pub invariant-loop-room : goal.invariant-loop-room
-invariant-loop-room g l = IsStarted l.store l.listing
-    × HasRoom l.system (most_line l.system) (sets_left l.store l.listing)
-    × (most_line l.system ≤ vec_capacity l.line)
-    × IsOpenMark l.system l.mark
+invariant-loop-room g l = IsStarted l.source.store.now l.writer.listing
+    × HasRoom l.source.system.now (most_line l.source.system.now) (sets_left l.source.store.now l.writer.listing)
+    × (most_line l.source.system.now ≤ vec_capacity l.writer.line)
+    × IsOpenMark l.source.system.now l.mark
     × (key_of l.mark ≡ key_of l.fn.mark)
-    × ((last : Option (List ℕ)) → more_text l.fn.mark ≡ more_line (key_of l.fn.mark) l.system last
-    → IsWritten l.form l.system (key_of l.fn.mark) last l.fn.limit (sets_left l.store l.fn.listing) (g.S.Sink.seen l.fn.sink) (g.S.Sink.seen l.sink) (more_text l.mark) l.room (sets_left l.store l.listing))
+    × ((last : Option (List ℕ)) → more_text l.fn.mark ≡ more_line (key_of l.fn.mark) l.source.system.now last
+    → IsWritten l.source.form l.source.system.now (key_of l.fn.mark) last l.source.limit (sets_left l.source.store.now l.fn.writer.listing) (g.S.Sink.seen l.fn.sink) (g.S.Sink.seen l.sink) (more_text l.mark) l.room (sets_left l.source.store.now l.writer.listing))
 
 abbrev pub decreases-loop-room : goal.decreases-loop-room
-decreases-loop-room g l = length (sets_left l.store l.listing)
+decreases-loop-room g l = length (sets_left l.source.store.now l.writer.listing)
