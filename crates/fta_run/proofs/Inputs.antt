@@ -15,7 +15,7 @@ use Rattle.phases.specs.Phases.{Passed, Passes, Stops}
 use Rattle.phases.specs.declared.status.Status.TheVariants.{Refused}
 use Rattle.fta_run.specs.Due.{first_text, texts_of}
 use Rattle.fta_run.specs.Files.{HasTooLong, HasTooMuch, MayContain, NamesTooMany, most_bytes, most_files, most_text, too_long, too_long_from}
-use Rattle.fta_run.specs.Held.{AreFronts}
+use Rattle.fta_run.specs.inner.Held.{AreFronts}
 
 -- ---- noting the files that are too long, one after the other
 

@@ -46,7 +46,7 @@ use Rattle.system_answers.specs.Voices.{Voice, labels}
 use Rattle.model_maker.specs.Text.{text_of as made_text}
 use Rattle.cut_reports.specs.Places.{AtChosen}
 use Rattle.fta_run.specs.Answers.{AllTold, AnswersWords, BeginsWithMemory, IsCaused, IsJustified, IsManyAnswer, IsOutput, IsSameStatus, MayCome, Took, is_by_lines}
-use Rattle.fta_run.specs.Held.{IsReadEnd}
+use Rattle.fta_run.specs.inner.Held.{IsReadEnd}
 use Rattle.fta_run.specs.inner.Steps.{AsksLines, IsExcused, Runs, ended}
 use Rattle.fta_words.proofs.Requests.{file_words_are, one_request}
 use Rattle.fta_outside.specs.Outside.{Rose, Seen, TookPrefix}

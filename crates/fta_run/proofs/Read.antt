@@ -12,7 +12,7 @@ use Rattle.system_answers.specs.Voices.{Voice, labels}
 use Rattle.fta_run.specs.Answers.{AllTold, IsCaused, IsJustified, IsOutput, MayCome, Took}
 use Rattle.fta_run.specs.Due.{due}
 use Rattle.fta_run.specs.Files.{most_files}
-use Rattle.fta_run.specs.Held.{AreFronts, IsToRead, RanOn, text_of}
+use Rattle.fta_run.specs.inner.Held.{AreFronts, IsToRead, RanOn, text_of}
 use Rattle.fta_run.specs.Words.{Request, IsRequest, file_words}
 use Rattle.fta_words.proofs.Requests.{file_words_are}
 

@@ -3,7 +3,6 @@ pub mod Later
 pub mod Due
 pub mod Effects
 pub mod Files
-pub mod Held
 pub mod Line
 pub mod Model
 pub mod Text

@@ -1,3 +1,4 @@
 pub mod Files
 pub mod Steps
 pub mod Ready
+pub mod Held

@@ -5,7 +5,7 @@ ghost use Rattle.fta_outside.specs.Outside.{Rose, Took as TookAll, TookPrefix};
 ghost use Rattle.phases.specs.declared.status.Status.TheVariants.{Memory};
 ghost use Rattle.fta_run.specs.Files.{most_files};
 ghost use Rattle.fta_run.specs.Line.{status_line};
-ghost use Rattle.fta_run.specs.Held.{AreFronts, IsReadEnd, IsToRead, RanOn, RanRead, text_of};
+ghost use Rattle.fta_run.specs.inner.Held.{AreFronts, IsReadEnd, IsToRead, RanOn, RanRead, text_of};
 ghost use Rattle.fta_run.specs.Words.{GiveNoRequest, file_words};
 ghost use Rattle.system_answers.specs.Voices.{labels, voices_of};
 
@@ -26,7 +26,7 @@ pub(crate) struct HeldFiles<'a> {
 }
 
 impl<'a> Files for HeldFiles<'a> {
-    ghost use Rattle.fta_run.specs.Held.{text_of};
+    ghost use Rattle.fta_run.specs.inner.Held.{text_of};
 
     ghost contents = { λ held name. text_of held.names.now held.texts name };
 

@@ -11,7 +11,7 @@ ghost use Rattle.phases.specs.Phases.{answers, rejects};
 ghost use Rattle.fta_run.specs.Due.{first_text, other_texts, texts_of, units_of, within_limits};
 ghost use Rattle.fta_run.specs.Files.{AreTokens, AreUnits, AreUnitsOf, HasTooLong, HasTooMuch, LacksTokens, LacksUnits, most_bytes, most_files, most_text, too_long, too_long_from};
 ghost use Rattle.plain_values.specs.Refusal.{of_words};
-ghost use Rattle.fta_run.specs.Held.{AreFronts, IsFileEnd, IsReadEnd};
+ghost use Rattle.fta_run.specs.inner.Held.{AreFronts, IsFileEnd, IsReadEnd};
 
 use aadl_lexer::tokens;
 use aadl_parser::units;

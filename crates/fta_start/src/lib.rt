@@ -18,7 +18,17 @@ const WAITING_BYTES: usize = 65_536;
 
 /// A program of the tool, with reports of its own.
 pub trait Program {
-    /// Runs the words with the reports of the program, as `run` of `fta_run` does; an error where there is no memory for these.
+    ghost use Rattle.std.specs.Prelude.{◌≡◌, IfOk, List, OnErr};
+    ghost use Rattle.fta_outside.specs.Outside.{Rose, Took, TookPrefix};
+    ghost use Rattle.system_answers.specs.Voices.{Voice, labels};
+    ghost use Rattle.fta_run.specs.inner.Held.{RanRead};
+    ghost use Rattle.fta_run.specs.Line.{status_line};
+    ghost use Rattle.fta_run.specs.Words.{file_words};
+
+    /// Its reports, by their names and their texts.
+    ghost voices: { Self → List Voice };
+
+    /// Runs the words with the reports of the program, as `run_read` of `fta_run` does; an error where there is no memory for these.
     fn run<F: Files, S: Sink, E: Sink>(
         &self,
         alloc: Global,
@@ -26,7 +36,11 @@ pub trait Program {
         files: &mut F,
         out: &mut S,
         err: &mut E,
-    ) -> Result<Status, AllocError>;
+    ) -> Result<Status, AllocError>
+        ensures told { IfOk result (λ status. RanRead words.now (F.contents files.old) (F.faults files.old) (F.faults files.new) (voices self.now) status (S.seen out.old) (S.seen out.new)) }
+        ensures line { IfOk result (λ status. (Rose (E.seen err.old).faults (E.seen err.new).faults → ⊥) → Took (status_line (file_words words.now) (labels (voices self.now)) status) (E.seen err.old) (E.seen err.new)) }
+        ensures at_most_the_line { IfOk result (λ status. TookPrefix (status_line (file_words words.now) (labels (voices self.now)) status) (E.seen err.old) (E.seen err.new)) }
+        ensures nothing { OnErr result ((S.seen out.new).taken ≡ (S.seen out.old).taken) };
 }
 
 /// Runs the words after the program's name with the real files and streams, and gives the exit status.

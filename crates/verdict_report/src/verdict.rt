@@ -27,7 +27,9 @@ impl Verdict {
 impl Report for Verdict {
     ghost stands_for = { λ report sets. report.single ≡ list_any (λ set. length set == 1) sets };
 
-    ghost text = { λ _ sets names. if list_any (λ set. length set == 1) sets then codes "single failure\n" else codes "no single failure\n" };
+    ghost use Rattle.verdict_report.specs.inner.Verdict.{verdict_text};
+
+    ghost text = { λ _ sets names. verdict_text sets names };
 
     ghost width = { λ report. report.begun };
 

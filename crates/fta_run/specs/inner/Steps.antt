@@ -9,7 +9,7 @@ use Rattle.fta_run.specs.Words.{Request, GiveRequest, IsRequest, file_words}
 use Rattle.system_answers.specs.Voices.{Voice, labels}
 use Rattle.fta_run.specs.Answers.{TookFront, TookText, is_by_lines}
 use Rattle.fta_run.specs.Due.{due}
-use Rattle.fta_run.specs.Held.{IsReadEnd}
+use Rattle.fta_run.specs.inner.Held.{IsReadEnd}
 use Rattle.system_answers.specs.inner.Ends.{IsReportFault}
 
 -- A report that the request of the words chooses failed.

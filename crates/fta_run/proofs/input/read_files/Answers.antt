@@ -1,6 +1,6 @@
 use Rattle.std.proofs.Common.{◌≡◌, IfSome, arith, sym, subst, ◌∙◌, take}
 use Rattle.std.proofs.lemmas.List.Elements.{all_zip_more}
-use Rattle.fta_run.specs.Held.{AreFronts}
+use Rattle.fta_run.specs.inner.Held.{AreFronts}
 use Rattle.fta_run.proofs.input.read_files.Goals as goal
 
 pub loop-number-preserved : goal.loop-number-preserved

@@ -1,5 +1,5 @@
 use Rattle.std.proofs.Common.{◌≡◌, ◌≤◌, ℕ, List, take}
-use Rattle.fta_run.specs.Held.{AreFronts}
+use Rattle.fta_run.specs.inner.Held.{AreFronts}
 use Rattle.fta_run.proofs.input.read_files.Given as goal
 
 abbrev pub invariant-loop-number : goal.invariant-loop-number
