@@ -7,7 +7,8 @@ use Rattle.std.proofs.lemmas.Bool.Decides.{nat_tests}
 use Rattle.std.proofs.lemmas.Str.{IsUtf8-append, IsUtf8-from_ascii}
 use Rattle.clap.proofs.WalkLemmas.{both}
 use Rattle.fta_words.specs.declared.kind.Kind.{Kind}
-use Rattle.fta_words.specs.Table.{all_flags, all_valued, flags_of, is_among, name_of, valued_of}
+use Rattle.fta_words.specs.Table.{all_flags, flags_of, is_among, name_of, valued_of}
+use Rattle.fta_words.specs.inner.Parsed.{all_valued}
 use Rattle.fta_words.specs.Words.{Alone, Apart, AreOptions, Attached, Given, IsAllowed, IsPlainWord, Spelling, option_words, spelled}
 use Rattle.fta_words.specs.inner.Reading.{Allowed, HaveOptions}
 use Rattle.fta_words.proofs.EachKind.{every_kind}

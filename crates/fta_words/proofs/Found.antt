@@ -16,9 +16,9 @@ use Rattle.clap.specs.Takes.{default_passes, entered_passes, is_valid, settle_pa
 use Rattle.clap.specs.Simple.{entered}
 use Rattle.clap.specs.declared.parser.matches.ValueSource.TheVariants.{DefaultValue}
 use Rattle.clap.proofs.OnLiterals.{clap_on_literals}
-use Rattle.fta_words.specs.Table.{all_flags, all_valued, is_among}
+use Rattle.fta_words.specs.Table.{all_flags, is_among}
 use Rattle.fta_words.specs.Words.{Alone, Apart, AreOptions, Attached, Given, IsAllowed, Spelling, is_given, option_words, value_in, value_of}
-use Rattle.fta_words.specs.inner.Parsed.{StandIn, options_app}
+use Rattle.fta_words.specs.inner.Parsed.{StandIn, all_valued, options_app}
 use Rattle.fta_words.specs.inner.Reading.{Allowed}
 use Rattle.fta_words.proofs.EachKind.{all_true}
 use Rattle.fta_words.proofs.Names.{has_name, text-is, text-same}

@@ -6,7 +6,8 @@ use Rattle.std.proofs.lemmas.Bool.{false≢true}
 use Rattle.clap.proofs.WalkLemmas.{both}
 use Rattle.plain_values.specs.Name.{is_same_text}
 use Rattle.fta_words.specs.declared.kind.Kind.{Kind}
-use Rattle.fta_words.specs.Table.{all_flags, all_valued, flags_of, is_among, valued_of}
+use Rattle.fta_words.specs.Table.{all_flags, flags_of, is_among, valued_of}
+use Rattle.fta_words.specs.inner.Parsed.{all_valued}
 use Rattle.fta_words.specs.Words.{Alone, Apart, AreDifferent, Attached, Given, IsAllowed, IsPlainWord, Spelling, is_given, option_words, spelled}
 use Rattle.fta_words.specs.inner.Reading.{Allowed, HaveOptions, NoneStandsFirst, StandsFirst}
 use Rattle.fta_words.specs.inner.Naming.{Without}

@@ -8,7 +8,7 @@ use Rattle.fta_words.specs.declared.kind.Kind.TheVariants as kind
 use Rattle.fta_words.specs.declared.kind.Shape.{Shape}
 use Rattle.fta_words.specs.declared.kind.Shape.TheVariants as shape
 use Rattle.fta_words.specs.declared.kind.TheConstants.{KINDS}
-use Rattle.fta_words.specs.declared.table.TheConstants.{FLAGS, ROWS, VALUED}
+use Rattle.fta_words.specs.declared.table.TheConstants.{FLAGS, ROWS}
 
 -- the place of the row of a command
 abbrev pub place_of : Kind → ℕ
@@ -52,10 +52,6 @@ required_of kind = option_map_or (λ row. map (λ name. name.now) row.required.n
 -- the flags of all commands
 abbrev pub all_flags : List (List ℕ)
 all_flags = map (λ name. name.now) FLAGS
-
--- the options with a value of all commands
-abbrev pub all_valued : List (List ℕ)
-all_valued = map (λ name. name.now) VALUED
 
 -- whether a name is among others
 abbrev pub is_among : List (List ℕ) → List ℕ → Bool

@@ -2,9 +2,9 @@ ghost use Rattle.std.specs.Prelude.{◌≡◌, ◌++◌, ◌∷◌, OnOk, cond, 
 ghost use Rattle.std.specs.List.{AllByRecursion};
 ghost use Rattle.clap.specs.Words.{app_of, found_of, rows_of, rule_of, with_rule};
 ghost use Rattle.plain_values.specs.Name.{folded};
-ghost use Rattle.fta_words.specs.Table.{all_flags, all_valued, is_among};
+ghost use Rattle.fta_words.specs.Table.{all_flags, is_among};
 ghost use Rattle.fta_words.specs.Words.{AreChosen, AreOptions, Given, IsNumberText, Says, is_given, option_words, reports_for, value_of};
-ghost use Rattle.fta_words.specs.inner.Parsed.{StandIn, flag_rule, options_app, valued_rule};
+ghost use Rattle.fta_words.specs.inner.Parsed.{StandIn, all_valued, flag_rule, options_app, valued_rule};
 ghost use Rattle.fta_words.specs.inner.Reading.{HaveOptions, SaysAs};
 
 use crate::chosen::chosen_of;

@@ -1,9 +1,10 @@
 -- The command line of options, as `clap` sees it.
-use Rattle.std.specs.Prelude.{◌≡◌, true, List, Some, codes, fold, if◌then◌else◌}
+use Rattle.std.specs.Prelude.{◌≡◌, true, List, Some, codes, fold, map, if◌then◌else◌}
 use Rattle.clap.specs.Words.{App, Row, Rule, Text, first_of, new_app, new_rule, one_of, with_rule}
 use Rattle.clap.specs.Simple.{on_top}
 use Rattle.clap.specs.declared.builder.action.ArgAction.TheVariants.{Set, SetTrue}
-use Rattle.fta_words.specs.Table.{all_flags, all_valued, is_among}
+use Rattle.fta_words.specs.declared.table.TheConstants.{VALUED}
+use Rattle.fta_words.specs.Table.{all_flags, is_among}
 use Rattle.fta_words.specs.Words.{Given, is_given, value_of}
 
 -- an option that has a value
@@ -17,6 +18,10 @@ flag_rule name = record (new_rule name) { long = Some name; action = Some SetTru
 -- a command line without a name of the program and without help
 abbrev pub bare_app : App
 bare_app = on_top (λ s. record s { disable_help_flag = true }) (on_top (λ s. record s { no_binary_name = true }) (new_app (codes "aadl_fta")))
+
+-- the options with a value of all commands
+abbrev pub all_valued : List Text
+all_valued = map (λ name. name.now) VALUED
 
 -- all options of all commands
 abbrev pub options_app : App

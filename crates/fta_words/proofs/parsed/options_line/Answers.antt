@@ -2,8 +2,8 @@ use Rattle.std.proofs.Common.{◌≡◌, ◌∙◌, ap, fold, true}
 use Rattle.std.proofs.lemmas.Result.{IfOk-weaker}
 use Rattle.clap.specs.Words.{app_of, with_rule}
 use Rattle.clap.specs.Simple.{app_of_fields, on_top}
-use Rattle.fta_words.specs.Table.{all_flags, all_valued}
-use Rattle.fta_words.specs.inner.Parsed.{bare_app, flag_rule, valued_rule}
+use Rattle.fta_words.specs.Table.{all_flags}
+use Rattle.fta_words.specs.inner.Parsed.{all_valued, bare_app, flag_rule, valued_rule}
 use Rattle.fta_words.proofs.parsed.options_line.Goals as goal
 
 pub returns : goal.returns
