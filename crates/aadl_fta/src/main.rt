@@ -1,18 +1,10 @@
 //! The program.
 #![tactic(auto)]
 
-ghost use Rattle.std.specs.Prelude.{◌≡◌};
-ghost use Rattle.fta_outside.specs.Outside.{Rose, Took as TookAll, TookPrefix};
-ghost use Rattle.system_answers.specs.Voices.{labels, voices_of};
-ghost use Rattle.fta_run.specs.inner.Held.{RanRead};
-ghost use Rattle.fta_run.specs.Line.{status_line};
-ghost use Rattle.fta_run.specs.Words.{file_words};
-ghost use Rattle.fta_start.specs.inner.Own.{own_voices};
-
 use cut_reports::{EventUse, OrderProfile, SinglePoints};
 use fta_outside::{Files, Report, Sink};
-use fta_run::{Status, run_read};
-use fta_start::{Program, start};
+use fta_run::Status;
+use fta_start::{Program, run_with, start};
 use plain_values::Word;
 use std::alloc::{AllocError, Global};
 use std::process::ExitCode;
@@ -41,23 +33,6 @@ impl Program for Tool {
         reports.push(Box::new(alloc, OrderProfile::new(alloc))?)?;
         reports.push(Box::new(alloc, EventUse::new(alloc))?)?;
         reports.push(Box::new(alloc, SinglePoints::new(alloc))?)?;
-        Ok(run_with(alloc, words, files, out, err, &mut reports))
+        Ok(run_with(self, alloc, words, files, out, err, &mut reports))
     }
-}
-
-/// Runs the words with these reports, which are those of the program.
-fn run_with<F: Files, S: Sink, E: Sink>(
-    alloc: Global,
-    words: &[Word],
-    files: &mut F,
-    out: &mut S,
-    err: &mut E,
-    reports: &mut Vec<Box<dyn Report>>,
-) -> Status
-    requires { voices_of label text reports.old.items ≡ own_voices }
-    ensures told { RanRead words.now (F.contents files.old) (F.faults files.old) (F.faults files.new) own_voices result (S.seen out.old) (S.seen out.new) }
-    ensures line { (Rose (E.seen err.old).faults (E.seen err.new).faults → ⊥) → TookAll (status_line (file_words words.now) (labels own_voices) result) (E.seen err.old) (E.seen err.new) }
-    ensures at_most_the_line { TookPrefix (status_line (file_words words.now) (labels own_voices) result) (E.seen err.old) (E.seen err.new) }
-{
-    run_read(alloc, words, files, out, err, reports)
 }

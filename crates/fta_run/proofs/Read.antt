@@ -1,5 +1,5 @@
 -- A run on files that are held.
-use Rattle.std.proofs.Common.{◌≡◌, ◌≤◌, ◌⊎◌, ℕ, Bool, true, false, if◌then◌else◌, List, [], ◌∷◌, length, Option, None, Some, Result, IfSome, refl, sym, subst, arith, inl, inr}
+use Rattle.std.proofs.Common.{◌≡◌, ◌≤◌, ℕ, Bool, true, false, if◌then◌else◌, List, [], ◌∷◌, length, Option, Some, Result, refl, subst, arith, inl, inr}
 use Rattle.std.specs.Option.{IsSome}
 use Rattle.std.specs.List.{AllByRecursion}
 use Rattle.std.proofs.lemmas.Slice.Eq.{bytes_eq-Decides}
@@ -13,7 +13,7 @@ use Rattle.fta_run.specs.Answers.{AllTold, IsCaused, IsJustified, IsOutput, MayC
 use Rattle.fta_run.specs.Due.{due}
 use Rattle.fta_run.specs.Files.{most_files}
 use Rattle.fta_run.specs.inner.Held.{AreFronts, IsToRead, RanOn, text_of}
-use Rattle.fta_run.specs.Words.{Request, IsRequest, file_words}
+use Rattle.fta_run.specs.Words.{file_words}
 use Rattle.fta_words.proofs.Requests.{file_words_are}
 
 found_or : (test : Bool) (text : List ℕ) (later : Option (List ℕ)) → IsSome later → IsSome (if test then Some text else later)

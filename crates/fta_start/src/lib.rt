@@ -2,10 +2,15 @@
 #![tactic(auto)]
 
 ghost use Rattle.std.specs.Prelude.{◌≡◌, IfOk, false, map, string_bytes, true};
+ghost use Rattle.fta_outside.specs.Outside.{Rose, Took, TookPrefix};
 ghost use Rattle.phases.specs.declared.status.Status.TheVariants.{Done, WriteFault};
+ghost use Rattle.system_answers.specs.Voices.{labels, voices_of};
+ghost use Rattle.fta_run.specs.inner.Held.{RanRead};
+ghost use Rattle.fta_run.specs.Line.{status_line};
+ghost use Rattle.fta_run.specs.Words.{file_words};
 
-use fta_outside::{DiskFiles, Files, Sink, StdSink};
-use fta_run::{Status, write_line};
+use fta_outside::{DiskFiles, Files, Report, Sink, StdSink};
+use fta_run::{Status, run_read, write_line};
 use plain_values::{List, Word};
 use std::alloc::{AllocError, Global};
 use std::env;
@@ -41,6 +46,25 @@ pub trait Program {
         ensures line { IfOk result (λ status. (Rose (E.seen err.old).faults (E.seen err.new).faults → ⊥) → Took (status_line (file_words words.now) (labels (voices self.now)) status) (E.seen err.old) (E.seen err.new)) }
         ensures at_most_the_line { IfOk result (λ status. TookPrefix (status_line (file_words words.now) (labels (voices self.now)) status) (E.seen err.old) (E.seen err.new)) }
         ensures nothing { OnErr result ((S.seen out.new).taken ≡ (S.seen out.old).taken) };
+}
+
+/// Runs the words with these reports, which are those of the program.
+pub fn run_with<P: Program, F: Files, S: Sink, E: Sink>(
+    program: &P,
+    alloc: Global,
+    words: &[Word],
+    files: &mut F,
+    out: &mut S,
+    err: &mut E,
+    reports: &mut Vec<Box<dyn Report>>,
+) -> Status
+    requires { voices_of label text reports.old.items ≡ P.voices program.now }
+    ensures told { RanRead words.now (F.contents files.old) (F.faults files.old) (F.faults files.new) (P.voices program.now) result (S.seen out.old) (S.seen out.new) }
+    ensures line { (Rose (E.seen err.old).faults (E.seen err.new).faults → ⊥) → Took (status_line (file_words words.now) (labels (P.voices program.now)) result) (E.seen err.old) (E.seen err.new) }
+    ensures at_most_the_line { TookPrefix (status_line (file_words words.now) (labels (P.voices program.now)) result) (E.seen err.old) (E.seen err.new) }
+{
+    let _ = program;
+    run_read(alloc, words, files, out, err, reports)
 }
 
 /// Runs the words after the program's name with the real files and streams, and gives the exit status.

@@ -1,10 +1,9 @@
 -- What the steps of a run owe each other, beside that they meet their phases.
-use Rattle.std.specs.Prelude.{◌≡◌, ◌≤◌, ◌⊎◌, true, ℕ, List, length, take, suc, Option, Some, IfSome, Result, Ok, Err, MatchResult, slice_get}
-use Rattle.std.specs.List.{AllZip}
+use Rattle.std.specs.Prelude.{◌≡◌, ◌⊎◌, true, ℕ, List, Option, Result, Ok, Err, MatchResult}
 use Rattle.fta_outside.specs.Outside.{Rose, Seen}
 use Rattle.phases.specs.Phases.{Passes, Stops}
 use Rattle.phases.specs.declared.status.Status.{Status}
-use Rattle.phases.specs.declared.status.Status.TheVariants.{Done, ReadFault, WriteFault, Memory}
+use Rattle.phases.specs.declared.status.Status.TheVariants.{Done, WriteFault, Memory}
 use Rattle.fta_run.specs.Words.{Request, GiveRequest, IsRequest, file_words}
 use Rattle.system_answers.specs.Voices.{Voice, labels}
 use Rattle.fta_run.specs.Answers.{TookFront, TookText, is_by_lines}
