@@ -22,4 +22,4 @@ pub use orders::OrderProfile;
 pub use singles::SinglePoints;
 pub use stop::ReportStop;
 pub use uses::EventUse;
-pub use whole::report_text;
+pub use whole::{Listed, report_text};

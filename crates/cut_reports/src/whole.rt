@@ -17,31 +17,39 @@ use plain_values::Name;
 use std::sync::ledger::Ledger;
 use zdd_store::Store;
 
+/// What is listed: sets of a store, of events that have names.
+#[derive(Clone, Copy)]
+pub struct Listed<'a> {
+    /// The store that has the sets.
+    pub store: &'a Store,
+    /// The names of the events.
+    pub names: &'a [Name],
+}
+
 /// Gives each chosen report all the sets, and then adds the heading lines and the texts of the chosen reports.
 pub fn report_text<L: Ledger>(
     reports: &mut Vec<Box<dyn Report>>,
     chosen: &[u32],
     listing: &mut Listing,
-    store: &Store,
+    listed: &Listed<'_>,
     steps: &mut Steps<L>,
-    names: &[Name],
     to: &mut Vec<u8>,
 ) -> Result<(), ReportStop>
     requires chosen { RisesWithin 0 (vec_len reports.old) chosen.now }
-    requires started { IsStarted store.now listing.old }
-    requires sets { TakesEach (Some (length names.now)) (sets_left store.now listing.old) }
-    ensures text { OnOk result (to.new.items ≡ to.old.items ++ reports_text label text chosen.now (sets_left store.now listing.old) names.now reports.old.items) }
+    requires started { IsStarted listed.now.store.now listing.old }
+    requires sets { TakesEach (Some (length listed.now.names.now)) (sets_left listed.now.store.now listing.old) }
+    ensures text { OnOk result (to.new.items ≡ to.old.items ++ reports_text label text chosen.now (sets_left listed.now.store.now listing.old) listed.now.names.now reports.old.items) }
     ensures kept { AtChosen chosen.now (IsKept text label report_faults) reports.old.items reports.new.items }
     ensures failed { IfErr result (FaultAt (λ at. (is_among chosen.now at ≡ true) × RoseAt report_faults at reports.old.items reports.new.items)) }
     ensures count { vec_len reports.new ≡ vec_len reports.old }
 {
-    if let Err(stop) = begin_all(reports, chosen, names.len()) {
+    if let Err(stop) = begin_all(reports, chosen, listed.names.len()) {
         return Err(stop);
     }
-    if let Err(fault) = feed(reports, chosen, listing, store, steps) {
+    if let Err(fault) = feed(reports, chosen, listing, listed.store, steps) {
         return Err(ReportStop::Fault(fault.report));
     }
-    match finish_all(reports, chosen, names, to) {
+    match finish_all(reports, chosen, listed.names, to) {
         Ok(()) => Ok(()),
         Err(end) => Err(end),
     }

@@ -9,7 +9,6 @@ use crate::filling::{fill, fill_fact};
 use crate::inner_order::inner_order;
 use crate::race::{Distance, Race, Try};
 use crate::setting::{Asked, Setting};
-use backward_slice::Slice;
 use family_renaming::in_event_order;
 use plain_values::Mem;
 use std::alloc::{AllocError, Global};
@@ -103,11 +102,12 @@ fn family_by(
     let order = inner_order(alloc, system, turn.way, agenda.facts(), target)?;
     let setting = Setting {
         system,
+        slice: asked.slice,
         order: order.variables(),
         most: asked.most,
         form: turn.form,
     };
-    let now = families(alloc, store, &setting, asked.slice, &mut agenda, distance)?;
+    let now = families(alloc, store, &setting, &mut agenda, distance)?;
     let number = number_at(now.as_slice(), target);
     let inner = least_family(store, asked.most, number)?;
     distance.find();
@@ -128,25 +128,16 @@ fn families(
     alloc: Global,
     store: &mut Store,
     setting: &Setting<'_>,
-    slice: &Slice,
     agenda: &mut Agenda,
     distance: &mut Distance,
 ) -> Mem<Vec<Id>>
-    requires { IsSlice setting.now.system.now slice.now.target slice.now }
+    requires { IsSlice setting.now.system.now setting.now.slice.now.target setting.now.slice.now }
     ensures kept { Keeps store.old store.new }
     ensures filled { IfOk result (λ now.
-        IsFilled (task_of setting.now) slice.now.facts store.new now.items) }
+        IsFilled (task_of setting.now) setting.now.slice.now.facts store.new now.items) }
 {
     let mut now = no_families(alloc, store, setting.system.facts())?;
-    fill_in_order(
-        alloc,
-        store,
-        setting,
-        slice,
-        agenda,
-        distance,
-        now.as_mut_slice(),
-    )?;
+    fill_in_order(alloc, store, setting, agenda, distance, now.as_mut_slice())?;
     Ok(now)
 }
 
@@ -167,21 +158,20 @@ fn fill_in_order(
     alloc: Global,
     store: &mut Store,
     setting: &Setting<'_>,
-    slice: &Slice,
     agenda: &mut Agenda,
     distance: &mut Distance,
     now: &mut [Id],
 ) -> Mem<()>
-    requires slice { IsSlice setting.now.system.now slice.now.target slice.now }
+    requires slice { IsSlice setting.now.system.now setting.now.slice.now.target setting.now.slice.now }
     requires long { length now.old ≡ length setting.now.system.now.facts }
     requires none { All (λ id. id.position ≡ 0) now.old }
     ensures kept { Keeps store.old store.new }
     ensures filled { OnOk result
-        (IsFilled (task_of setting.now) slice.now.facts store.new now.new) }
+        (IsFilled (task_of setting.now) setting.now.slice.now.facts store.new now.new) }
 {
     store.laws();
     settle(alloc, store, setting, agenda, distance, now)?;
-    fill(alloc, store, setting, slice.facts.items(), now)
+    fill(alloc, store, setting, setting.slice.facts.items(), now)
 }
 
 /// Makes the families of the facts of an agenda, each again where that of a fact of its formula is another.

@@ -25,4 +25,5 @@ mod singles;
 mod thinning;
 
 pub use laws::in_slice;
+pub use setting::Asked;
 pub use singles::{family, family_in_rounds};

@@ -3,22 +3,30 @@ use backward_slice::Slice;
 use dependency_blocks::Blocks;
 use fault_system::FaultSystem;
 
-/// Of what the minimal cut sets are asked: the target of a slice of a system, with its blocks, and of how many events they may be
-/// at most.
+/// Of what the minimal cut sets are asked: the target of a slice of a system, within a greatest order where one is given.
 #[derive(Clone, Copy)]
-pub(crate) struct Asked<'a> {
-    pub(crate) system: &'a FaultSystem,
-    pub(crate) slice: &'a Slice,
-    pub(crate) blocks: &'a Blocks,
-    pub(crate) most: Option<u32>,
+pub struct Asked<'a> {
+    /// The system.
+    pub system: &'a FaultSystem,
+    /// The facts and events on which the target depends.
+    pub slice: &'a Slice,
+    /// The blocks of these facts. They decide how long it takes, and not what is found.
+    pub blocks: &'a Blocks,
+    /// The greatest number of events that a set may have.
+    pub most: Option<u32>,
 }
 
-/// By what the families of facts are made: the system, the variables of its events, the greatest order, and the form of the
-/// families on the way.
+/// By what the families of the facts of a slice are made.
 #[derive(Clone, Copy)]
 pub(crate) struct Setting<'a> {
+    /// The system.
     pub(crate) system: &'a FaultSystem,
+    /// The slice.
+    pub(crate) slice: &'a Slice,
+    /// The variables of the events.
     pub(crate) order: &'a [u32],
+    /// The greatest number of events that a set may have.
     pub(crate) most: Option<u32>,
+    /// The form of the families on the way.
     pub(crate) form: Form,
 }

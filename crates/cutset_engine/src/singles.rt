@@ -6,72 +6,49 @@ ghost use Rattle.fault_system.specs.Listings.{IsWithinOrder};
 ghost use Rattle.zdd_store.specs.inner.Family.{IsAntichain};
 ghost use Rattle.zdd_store.specs.inner.Store.{IsIn, family_of, Keeps};
 ghost use Rattle.zdd_families.specs.inner.Unions.{HasMinimalSets, IsInEither};
-ghost use Rattle.backward_slice.specs.Slices.{IsSlice};
 ghost use Rattle.cutset_engine.specs.inner.Families.{HasAsked, HasMinimalCutSets, IsAskedOfSlice};
 ghost use Rattle.cutset_engine.specs.inner.ThinSystems.{AreSingles};
 
 use crate::families::{first_family, raced_family};
 use crate::setting::Asked;
 use crate::thinning::thinned;
-use backward_slice::{Slice, slice};
-use dependency_blocks::{Blocks, blocks};
+use backward_slice::slice;
+use dependency_blocks::blocks;
 use fault_system::{Bits, FaultSystem};
 use plain_values::{Answer, Mem, Stop};
 use std::alloc::{AllocError, Global};
 use zdd_families::{look, min_union};
 use zdd_store::{Id, Node, Store};
 
-/// The minimal cut sets of the target of a slice, of at most so many events where a greatest order is given, as a family
-/// of sets of event numbers. The blocks decide how long it takes, and not what is found.
+/// The minimal cut sets that are asked for, as a family of sets of event numbers.
 ///
 /// Where they are not found at once, the sets of one event are found first. The others have none of these events, and none needs the
 /// target on the way to the target: so they are found in a smaller system. Each number of the store keeps its family, also where
 /// memory is refused.
-pub fn family(
-    alloc: Global,
-    system: &FaultSystem,
-    slice: &Slice,
-    blocks: &Blocks,
-    most: Option<u32>,
-    store: &mut Store,
-) -> Mem<Id>
-    requires { IsSlice system.now slice.now.target slice.now }
+pub fn family(alloc: Global, asked: &Asked<'_>, store: &mut Store) -> Mem<Id>
+    requires { IsAskedOfSlice asked.now }
     ensures found { IfOk result (IsIn store.new) }
-    ensures exact { IfOk result (λ id. HasMinimalCutSets system.now slice.now.target most (family_of store.new id)) }
+    ensures exact { IfOk result (λ id. HasAsked asked.now (family_of store.new id)) }
     ensures kept { Keeps store.old store.new }
 {
-    family_in_rounds(alloc, system, slice, blocks, most, u32::MAX, store)
+    family_in_rounds(alloc, asked, u32::MAX, store)
 }
 
 /// The same, given up after so many rounds of tries, each of which may remember sixteen times as much as those of the round before.
 /// To give up is a refused growth of memory.
-pub fn family_in_rounds(
-    alloc: Global,
-    system: &FaultSystem,
-    slice: &Slice,
-    blocks: &Blocks,
-    most: Option<u32>,
-    rounds: u32,
-    store: &mut Store,
-) -> Mem<Id>
-    requires { IsSlice system.now slice.now.target slice.now }
+pub fn family_in_rounds(alloc: Global, asked: &Asked<'_>, rounds: u32, store: &mut Store) -> Mem<Id>
+    requires { IsAskedOfSlice asked.now }
     ensures found { IfOk result (IsIn store.new) }
-    ensures exact { IfOk result (λ id. HasMinimalCutSets system.now slice.now.target most (family_of store.new id)) }
+    ensures exact { IfOk result (λ id. HasAsked asked.now (family_of store.new id)) }
     ensures kept { Keeps store.old store.new }
 {
-    let asked = Asked {
-        system,
-        slice,
-        blocks,
-        most,
-    };
-    if let Ok(id) = first_family(alloc, &asked, store) {
+    if let Ok(id) = first_family(alloc, asked, store) {
         return Ok(id);
     }
-    if allows_one(most) {
-        return ones_first(alloc, &asked, rounds, store);
+    if allows_one(asked.most) {
+        return ones_first(alloc, asked, rounds, store);
     }
-    raced_family(alloc, &asked, rounds, store)
+    raced_family(alloc, asked, rounds, store)
 }
 
 /// Whether sets of one event are asked for.

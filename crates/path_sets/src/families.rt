@@ -12,7 +12,7 @@ ghost use Rattle.path_sets.specs.inner.PathSets.{AreServedEvents, HasMinimalPath
 
 use crate::duals::dual;
 use backward_slice::slice;
-use cutset_engine::{family, in_slice};
+use cutset_engine::{Asked, family, in_slice};
 use dependency_blocks::blocks;
 use fault_system::FaultSystem;
 use plain_values::{Answer, List};
@@ -72,7 +72,13 @@ fn cut_family(
     store.laws();
     let slice = slice(alloc, system, target)?;
     let blocks = blocks(alloc, system, &slice)?;
-    let family = family(alloc, system, &slice, &blocks, most, store)?;
+    let asked = Asked {
+        system,
+        slice: &slice,
+        blocks: &blocks,
+        most,
+    };
+    let family = family(alloc, &asked, store)?;
     Ok(PathFamily {
         family,
         events: slice.events,

@@ -11,7 +11,7 @@ ghost use Rattle.system_answers.specs.inner.Ends.{EndsReports};
 ghost use Rattle.system_answers.specs.Texts.{cuts_text, paths_text, report_text, tree_text};
 ghost use Rattle.system_answers.specs.Voices.{voices_of};
 
-use crate::cut_sets::{find_begin, find_slice, find_start, page};
+use crate::cut_sets::{find_begin, find_slice, find_start, named_key, page};
 use crate::path_pages::path_page;
 use crate::reports::text_of_reports;
 use crate::target::find_target;
@@ -42,7 +42,8 @@ pub fn cuts(
     let number = find_target(&system, target)?;
     let start = find_begin(alloc, &system, paging, key)?;
     let part = find_slice(alloc, &system, number)?;
-    Ok(page(alloc, system, &part, start, paging, tokens, key)?)
+    let digits = named_key(tokens, key);
+    Ok(page(alloc, system, &part, start, paging, digits)?)
 }
 
 /// A page of the minimal path sets of a target in a system.

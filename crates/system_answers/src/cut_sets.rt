@@ -1,11 +1,14 @@
 //! A page of the minimal cut sets of a target.
 
-ghost use Rattle.std.specs.Prelude.{◌≡◌, ◌<◌, IfOk, IfSome, Some, length};
+ghost use Rattle.std.specs.Prelude.{◌≡◌, ◌<◌, ℕ, List as Items, Contains, IfOk, IfSome, IsTrue, Some, length, option_map};
 ghost use Rattle.phases.specs.Phases.{Passes};
 ghost use Rattle.phases.specs.inner.Meets.{Meets};
 ghost use Rattle.fault_system.specs.CutSets.{IsEventSet};
 ghost use Rattle.fault_system.specs.Listings.{IsListing};
 ghost use Rattle.backward_slice.specs.Slices.{IsSlice};
+ghost use Rattle.zdd_store.specs.inner.Family.{is_within};
+ghost use Rattle.zdd_store.specs.inner.Store.{IsIn, family_of};
+ghost use Rattle.cutset_engine.specs.inner.Families.{HasMinimalCutSets};
 ghost use Rattle.cutset_lister.specs.inner.Walks.{IsStarted, all_sets, sets_left};
 ghost use Rattle.cutset_writer.specs.inner.Pages.{IsReady};
 ghost use Rattle.cutset_lister.specs.inner.SetText.{HasTokenNames};
@@ -14,7 +17,7 @@ ghost use Rattle.system_answers.specs.Texts.{begin_of, named_key, page_in, page_
 
 use crate::fronts::page_family;
 use backward_slice::{Slice, slice};
-use cutset_engine::{family, in_slice};
+use cutset_engine::{Asked, family, in_slice};
 use cutset_lister::{Listing, read_token};
 use cutset_writer::{Bookmark, ListingPage, PageWriter, SetForm};
 use dependency_blocks::blocks;
@@ -24,7 +27,7 @@ use page_tokens::read_page_token;
 use phases::Status;
 use plain_values::{List, Mem};
 use std::alloc::Global;
-use zdd_store::Store;
+use zdd_store::{Id, Store};
 
 /// The set after which a page begins, where a text of it is given.
 pub fn find_start(
@@ -67,32 +70,30 @@ pub fn find_slice(alloc: Global, system: &FaultSystem, target: u32) -> Result<Sl
     Ok(part)
 }
 
-/// The page of the listing of the target of a slice, perhaps with a token in the last line.
+/// The digits that the last line of a page names, where it is to have a token.
+pub fn named_key(tokens: bool, key: &[u8; 64]) -> Option<&[u8; 64]>
+    ensures { option_map (λ digits. digits.now) result ≡ named_key tokens key.now }
+{
+    if tokens { Some(key) } else { None }
+}
+
+/// The page of the listing of the target of a slice; where the digits of a key are given, with a token in the last line.
 pub fn page(
     alloc: Global,
     system: FaultSystem,
     part: &Slice,
     start: Option<List<u32>>,
     paging: &Paging,
-    tokens: bool,
-    key: &[u8; 64],
+    key: Option<&[u8; 64]>,
 ) -> Mem<ListingPage>
     requires slice { IsSlice system part.now.target part.now }
     requires start { IfSome start (IsEventSet system) }
-    ensures { IfOk result (Passes (page_of part.now.target start paging.now (named_key tokens key.now) system)) }
+    ensures { IfOk result (Passes (page_of part.now.target start paging.now (option_map (λ digits. digits.now) key.entry) system)) }
 {
-    if tokens {
-        return marked_page(alloc, system, part, start, paging, key);
+    match key {
+        Some(digits) => marked_page(alloc, system, part, start, paging, digits),
+        None => page_in(alloc, system, part, SetForm::Token, start, paging),
     }
-    page_in(
-        alloc,
-        system,
-        part,
-        SetForm::Token,
-        start,
-        paging.limit,
-        paging.max_order,
-    )
 }
 
 /// The page of the listing of the target of a slice, with a token in the last line.
@@ -109,10 +110,9 @@ fn marked_page(
     ensures { IfOk result (Passes (page_of part.now.target start paging.now (Some key.now) system)) }
 {
     let mut store = Store::new(alloc);
-    let (limit, most) = (paging.limit, paging.max_order);
-    let writer = limited_writer(alloc, &system, part, &start, limit, most, &mut store)?;
+    let writer = limited_writer(alloc, &system, part, &start, paging, &mut store)?;
     let bookmark = Bookmark::new(alloc, &system, key)?;
-    Ok(ListingPage::marked(system, store, writer, bookmark, start, limit))
+    Ok(ListingPage::marked(system, store, writer, bookmark, start, paging.limit))
 }
 
 /// A page of the listing of the target of a slice, whose sets stand in this form.
@@ -122,15 +122,14 @@ pub fn page_in(
     part: &Slice,
     form: SetForm,
     start: Option<List<u32>>,
-    limit: Option<u32>,
-    max_order: Option<u32>,
+    paging: &Paging,
 ) -> Mem<ListingPage>
     requires { IsSlice system part.now.target part.now }
-    ensures { IfOk result (Passes (page_in form part.now.target start limit max_order system)) }
+    ensures { IfOk result (Passes (page_in form part.now.target start paging.now.limit paging.now.max_order system)) }
 {
     let mut store = Store::new(alloc);
-    let writer = limited_writer(alloc, &system, part, &start, limit, max_order, &mut store)?;
-    Ok(ListingPage::new(system, store, writer, form, start, limit))
+    let writer = limited_writer(alloc, &system, part, &start, paging, &mut store)?;
+    Ok(ListingPage::new(system, store, writer, form, start, paging.limit))
 }
 
 /// A listing whose page is that of the listing of the target of a slice, about to be written: where a limit is given, it may have the
@@ -140,18 +139,47 @@ fn limited_writer(
     system: &FaultSystem,
     part: &Slice,
     start: &Option<List<u32>>,
-    limit: Option<u32>,
-    max_order: Option<u32>,
+    paging: &Paging,
     store: &mut Store,
 ) -> Mem<PageWriter>
     requires { IsSlice system.now part.now.target part.now }
     ensures ready { IfOk result (IsReady system.now store.new) }
-    ensures page { IfOk result (λ writer. GivesPage system.now part.now.target max_order start.now limit (all_sets store.new writer.listing)) }
+    ensures page { IfOk result (λ writer. GivesPage system.now part.now.target paging.now.max_order start.now paging.now.limit (all_sets store.new writer.listing)) }
 {
     in_slice();
     let found = blocks(alloc, system, part)?;
-    let sets = page_family(alloc, system, part, &found, start, limit, max_order, store)?;
+    let asked = Asked {
+        system,
+        slice: part,
+        blocks: &found,
+        most: paging.max_order,
+    };
+    let sets = page_family(alloc, &asked, start, paging.limit, store)?;
     PageWriter::start(alloc, system, store, sets, part.events.items())
+}
+
+/// The minimal cut sets of the target of a slice, as a family.
+fn cut_family(
+    alloc: Global,
+    system: &FaultSystem,
+    part: &Slice,
+    max_order: Option<u32>,
+    store: &mut Store,
+) -> Mem<Id>
+    requires { IsSlice system.now part.now.target part.now }
+    ensures found { IfOk result (IsIn store.new) }
+    ensures exact { IfOk result (λ id. HasMinimalCutSets system.now part.now.target max_order (family_of store.new id)) }
+    ensures among { IfOk result (λ id. (set : Items ℕ) → Contains (family_of store.new id) set → IsTrue (is_within set part.now.events)) }
+{
+    in_slice();
+    let found = blocks(alloc, system, part)?;
+    let asked = Asked {
+        system,
+        slice: part,
+        blocks: &found,
+        most: max_order,
+    };
+    family(alloc, &asked, store)
 }
 
 /// The listing of the target of a slice, about to be written.
@@ -166,9 +194,7 @@ pub fn page_writer(
     ensures ready { IfOk result (IsReady system.now store.new) }
     ensures listing { IfOk result (λ writer. IsListing system.now part.now.target max_order (all_sets store.new writer.listing)) }
 {
-    in_slice();
-    let found = blocks(alloc, system, part)?;
-    let sets = family(alloc, system, part, &found, max_order, store)?;
+    let sets = cut_family(alloc, system, part, max_order, store)?;
     PageWriter::start(alloc, system, store, sets, part.events.items())
 }
 
@@ -185,8 +211,6 @@ pub fn listing_of(
     ensures left { IfOk result (λ listing. sets_left store.new listing ≡ all_sets store.new listing) }
     ensures listing { IfOk result (λ listing. IsListing system.now part.now.target max_order (all_sets store.new listing)) }
 {
-    in_slice();
-    let found = blocks(alloc, system, part)?;
-    let sets = family(alloc, system, part, &found, max_order, store)?;
+    let sets = cut_family(alloc, system, part, max_order, store)?;
     Listing::start(alloc, store, sets, part.events.items())
 }

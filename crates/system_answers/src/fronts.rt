@@ -5,21 +5,18 @@
 
 ghost use Rattle.std.specs.Prelude.{◌≡◌, ◌<◌, ℕ, List as Items, Contains, IfOk, IfSome, IsTrue, Option as Maybe, Some, length, suc};
 ghost use Rattle.fault_system.specs.Listings.{IsWithinOrder, sets_after};
-ghost use Rattle.backward_slice.specs.Slices.{IsSlice};
+ghost use Rattle.cutset_engine.specs.inner.Families.{IsAskedOfSlice};
 ghost use Rattle.zdd_store.specs.inner.Family.{is_within};
 ghost use Rattle.zdd_store.specs.inner.Store.{IsIn, Keeps, family_of};
 ghost use Rattle.cutset_lister.specs.inner.Walks.{IsStarted, all_sets, sets_left};
 ghost use Rattle.cutset_writer.specs.inner.Pages.{Lists};
-ghost use Rattle.system_answers.specs.inner.Fronts.{ServesPage};
+ghost use Rattle.system_answers.specs.inner.Fronts.{ServesAsked};
 
-use backward_slice::Slice;
-use cutset_engine::{family_in_rounds, in_slice};
+use cutset_engine::{Asked, family_in_rounds, in_slice};
 use cutset_lister::Listing;
-use dependency_blocks::Blocks;
-use fault_system::FaultSystem;
 use fta_outside::Steps;
 use plain_values::{List, Mem};
-use std::alloc::{AllocError, Global};
+use std::alloc::Global;
 use std::marker::Brand;
 use std::sync::ledger::{Blank, Ledger};
 use zdd_store::{Id, Store};
@@ -30,117 +27,98 @@ const ROUNDS: u32 = 3;
 /// More orders than are tried below 1,024 events.
 const ORDERS: u32 = 64;
 
-/// A family of minimal cut sets of the target of a slice, whose page is that of all of them. Each number of the store keeps its family,
-/// also where memory is refused.
+/// Which sets of a listing a page with a limit has.
+#[derive(Clone, Copy)]
+struct Window<'a> {
+    /// The set behind which the page begins; none where it begins before all sets.
+    start: &'a Option<List<u32>>,
+    /// How many sets it has at most.
+    limit: u32,
+}
+
+/// A family of minimal cut sets, whose page is that of all those that are asked for. Each number of the store keeps its family, also
+/// where memory is refused.
 ///
 /// Where a limit is given, all sets are asked for in a few rounds, then those of small orders in a few rounds, and so on.
 pub(crate) fn page_family(
     alloc: Global,
-    system: &FaultSystem,
-    part: &Slice,
-    blocks: &Blocks,
+    asked: &Asked<'_>,
     start: &Option<List<u32>>,
     limit: Option<u32>,
-    most: Option<u32>,
     store: &mut Store,
 ) -> Mem<Id>
-    requires { IsSlice system.now part.now.target part.now }
+    requires { IsAskedOfSlice asked.now }
     ensures found { IfOk result (IsIn store.new) }
-    ensures serves { IfOk result (λ id. ServesPage system.now part.now.target most start.now limit (family_of store.new id)) }
+    ensures serves { IfOk result (λ id. ServesAsked asked.now start.now limit (family_of store.new id)) }
     ensures kept { Keeps store.old store.new }
 {
     match limit {
-        Some(limit) => limited_family(alloc, system, part, blocks, start, limit, most, store),
-        None => whole_family(alloc, system, part, blocks, most, u32::MAX, store),
+        Some(limit) => {
+            let window = Window { start, limit };
+            limited_family(alloc, asked, &window, store)
+        }
+        None => whole_family(alloc, asked, u32::MAX, store),
     }
 }
 
 /// The same, where a limit is given.
 fn limited_family(
     alloc: Global,
-    system: &FaultSystem,
-    part: &Slice,
-    blocks: &Blocks,
-    start: &Option<List<u32>>,
-    limit: u32,
-    most: Option<u32>,
+    asked: &Asked<'_>,
+    window: &Window<'_>,
     store: &mut Store,
 ) -> Mem<Id>
-    requires { IsSlice system.now part.now.target part.now }
+    requires { IsAskedOfSlice asked.now }
     ensures found { IfOk result (IsIn store.new) }
-    ensures serves { IfOk result (λ id. ServesPage system.now part.now.target most start.now (Some limit) (family_of store.new id)) }
+    ensures serves { IfOk result (λ id. ServesAsked asked.now window.now.start.now (Some window.now.limit) (family_of store.new id)) }
     ensures kept { Keeps store.old store.new }
 {
     for round in 0..ROUNDS {
-        if let Ok(id) = whole_family(alloc, system, part, blocks, most, round + 2, store) {
+        if let Ok(id) = whole_family(alloc, asked, round + 2, store) {
             return Ok(id);
         }
-        if let Ok(id) = front_family(
-            alloc,
-            system,
-            part,
-            blocks,
-            start,
-            limit,
-            most,
-            round + 1,
-            store,
-        ) {
+        if let Ok(Some(id)) = front_family(alloc, asked, window, round + 1, store) {
             return Ok(id);
         }
     }
-    whole_family(alloc, system, part, blocks, most, u32::MAX, store)
+    whole_family(alloc, asked, u32::MAX, store)
 }
 
-/// All minimal cut sets of the target, given up after so many rounds.
-fn whole_family(
-    alloc: Global,
-    system: &FaultSystem,
-    part: &Slice,
-    blocks: &Blocks,
-    most: Option<u32>,
-    rounds: u32,
-    store: &mut Store,
-) -> Mem<Id>
-    requires { IsSlice system.now part.now.target part.now }
+/// All minimal cut sets that are asked for, given up after so many rounds.
+fn whole_family(alloc: Global, asked: &Asked<'_>, rounds: u32, store: &mut Store) -> Mem<Id>
+    requires { IsAskedOfSlice asked.now }
     ensures found { IfOk result (IsIn store.new) }
-    ensures serves { IfOk result (λ id. (start : Maybe (Items ℕ)) (limit : Maybe ℕ) → ServesPage system.now part.now.target most start limit (family_of store.new id)) }
+    ensures serves { IfOk result (λ id. (start : Maybe (Items ℕ)) (limit : Maybe ℕ) → ServesAsked asked.now start limit (family_of store.new id)) }
     ensures kept { Keeps store.old store.new }
 {
-    family_in_rounds(alloc, system, part, blocks, most, rounds, store)
+    family_in_rounds(alloc, asked, rounds, store)
 }
 
-/// The minimal cut sets of a small order, of which more than the limit stand behind the start of the page. That there is no such order,
-/// or that all are given up after so many rounds, is a refused growth of memory.
+/// The minimal cut sets of a small order, of which more than the limit stand behind the start of the page; none where there is no such
+/// order. That an order is given up after so many rounds is a refused growth of memory.
 fn front_family(
     alloc: Global,
-    system: &FaultSystem,
-    part: &Slice,
-    blocks: &Blocks,
-    start: &Option<List<u32>>,
-    limit: u32,
-    most: Option<u32>,
+    asked: &Asked<'_>,
+    window: &Window<'_>,
     rounds: u32,
     store: &mut Store,
-) -> Mem<Id>
-    requires { IsSlice system.now part.now.target part.now }
-    ensures found { IfOk result (IsIn store.new) }
-    ensures serves { IfOk result (λ id. ServesPage system.now part.now.target most start.now (Some limit) (family_of store.new id)) }
+) -> Mem<Option<Id>>
+    requires { IsAskedOfSlice asked.now }
+    ensures found { IfOk result (λ answer. IfSome answer (IsIn store.new)) }
+    ensures serves { IfOk result (λ answer. IfSome answer (λ id. ServesAsked asked.now window.now.start.now (Some window.now.limit) (family_of store.new id))) }
     ensures kept { Keeps store.old store.new }
 {
-    let mut order = first_order(start);
+    let mut order = first_order(window.start);
     for turn in 0..ORDERS {
-        if !is_smaller(order, most) || order as usize >= part.events.items().len() {
-            return Err(AllocError);
+        if !is_smaller(order, asked.most) || order as usize >= asked.slice.events.items().len() {
+            return Ok(None);
         }
-        if let Some(id) = front_of_order(
-            alloc, system, part, blocks, start, limit, most, order, rounds, store,
-        )? {
-            return Ok(id);
+        if let Some(id) = front_of_order(alloc, asked, window, order, rounds, store)? {
+            return Ok(Some(id));
         }
         order = next_order(order);
     }
-    Err(AllocError)
+    Ok(None)
 }
 
 /// The first order that is tried: no smaller set stands behind the start of a page.
@@ -169,54 +147,54 @@ fn is_smaller(order: u32, most: Option<u32>) -> bool
 /// The minimal cut sets of at most so many events, if more than the limit of them stand behind the start of the page.
 fn front_of_order(
     alloc: Global,
-    system: &FaultSystem,
-    part: &Slice,
-    blocks: &Blocks,
-    start: &Option<List<u32>>,
-    limit: u32,
-    most: Option<u32>,
+    asked: &Asked<'_>,
+    window: &Window<'_>,
     order: u32,
     rounds: u32,
     store: &mut Store,
 ) -> Mem<Option<Id>>
-    requires slice { IsSlice system.now part.now.target part.now }
-    requires allowed { (set : Items ℕ) → IsWithinOrder (Some order) set → IsWithinOrder most set }
+    requires slice { IsAskedOfSlice asked.now }
+    requires allowed { (set : Items ℕ) → IsWithinOrder (Some order) set → IsWithinOrder asked.now.most set }
     ensures found { IfOk result (λ answer. IfSome answer (IsIn store.new)) }
-    ensures serves { IfOk result (λ answer. IfSome answer (λ id. ServesPage system.now part.now.target most start.now (Some limit) (family_of store.new id))) }
+    ensures serves { IfOk result (λ answer. IfSome answer (λ id. ServesAsked asked.now window.now.start.now (Some window.now.limit) (family_of store.new id))) }
     ensures kept { Keeps store.old store.new }
 {
     in_slice();
-    let id = family_in_rounds(alloc, system, part, blocks, Some(order), rounds, store)?;
-    if has_more_sets(alloc, store, id, part.events.items(), start, limit)? {
+    let small = Asked {
+        system: asked.system,
+        slice: asked.slice,
+        blocks: asked.blocks,
+        most: Some(order),
+    };
+    let id = family_in_rounds(alloc, &small, rounds, store)?;
+    if has_more_sets(alloc, store, id, asked.slice.events.items(), window)? {
         return Ok(Some(id));
     }
     Ok(None)
 }
 
-/// Whether more sets of a family than so many stand behind the start of a page.
+/// Whether more sets of a family stand behind the start of a page than it has.
 fn has_more_sets(
     alloc: Global,
     store: &mut Store,
     family: Id,
     events: &[u32],
-    start: &Option<List<u32>>,
-    limit: u32,
+    window: &Window<'_>,
 ) -> Mem<bool>
     requires found { IsIn store.old family }
     requires among { (set : Items ℕ) → Contains (family_of store.old family) set → IsTrue (is_within set events.now) }
-    ensures more { IfOk result (λ more. IsTrue more → (sets : Items (Items ℕ)) → Lists (family_of store.old family) sets → limit < length (sets_after start.now sets)) }
+    ensures more { IfOk result (λ more. IsTrue more → (sets : Items (Items ℕ)) → Lists (family_of store.old family) sets → window.now.limit < length (sets_after window.now.start.now sets)) }
     ensures kept { Keeps store.old store.new }
 {
     let mut listing = Listing::start(alloc, store, family, events)?;
-    Ok(has_more_behind::<Brand>(&mut listing, store, start, limit, Blank::new(1)))
+    Ok(has_more_behind::<Brand>(&mut listing, store, window, Blank::new(1)))
 }
 
-/// Whether more sets of a listing than so many stand behind the start of a page. Its steps are counted on a ledger of its own.
+/// Whether more sets of a listing stand behind the start of a page than it has. Its steps are counted on a ledger of its own.
 fn has_more_behind<L: Ledger>(
     listing: &mut Listing,
     store: &Store,
-    start: &Option<List<u32>>,
-    limit: u32,
+    window: &Window<'_>,
     blank: Blank,
 ) -> bool
     requires name { blank.name ≡ L.name }
@@ -224,15 +202,15 @@ fn has_more_behind<L: Ledger>(
     requires some { 0 < L.parts }
     requires started { IsStarted store.now listing.old }
     requires left { sets_left store.now listing.old ≡ all_sets store.now listing.old }
-    ensures { IsTrue result → limit < length (sets_after start.now (all_sets store.now listing.old)) }
+    ensures { IsTrue result → window.now.limit < length (sets_after window.now.start.now (all_sets store.now listing.old)) }
 {
     let mut steps = Steps::<L>::new(blank);
-    match start {
+    match window.start {
         Some(set) => {
             listing.seek(store, set.items(), &mut steps);
-            has_more_left(listing, store, limit, &mut steps)
+            has_more_left(listing, store, window.limit, &mut steps)
         }
-        None => has_more_left(listing, store, limit, &mut steps),
+        None => has_more_left(listing, store, window.limit, &mut steps),
     }
 }
 

@@ -11,6 +11,7 @@ ghost use Rattle.system_answers.specs.Texts.{galileo_paths_text, galileo_text, n
 use crate::cut_sets::{find_slice, page_in};
 use crate::path_pages::dual_page;
 use cutset_writer::{ListingPage, SetForm};
+use fta_words::Paging;
 use galileo_reader::{Flaw, GalileoFault, NamedTree, no_feedback, read, to_system};
 use phases::Status;
 use plain_values::{Code, Place, Refusal};
@@ -90,15 +91,12 @@ fn sets_of(
 {
     let (system, target) = to_system(alloc, tree)?;
     let part = find_slice(alloc, &system, target)?;
-    Ok(page_in(
-        alloc,
-        system,
-        &part,
-        SetForm::Quoted,
-        None,
+    let paging = Paging {
         limit,
+        after: None,
         max_order,
-    )?)
+    };
+    Ok(page_in(alloc, system, &part, SetForm::Quoted, None, &paging)?)
 }
 
 /// The page of the minimal path sets of a tree in which no gate reaches itself.

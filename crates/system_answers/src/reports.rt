@@ -15,7 +15,7 @@ ghost use Rattle.system_answers.specs.Voices.{voices_of};
 
 use crate::cut_sets::listing_of;
 use backward_slice::Slice;
-use cut_reports::{ReportStop, name_of, report_text};
+use cut_reports::{Listed, ReportStop, name_of, report_text};
 use cutset_lister::Listing;
 use fault_system::{EventInfo, FaultSystem};
 use fta_outside::{Report, Steps};
@@ -62,15 +62,11 @@ pub fn text_of_reports(
     let mut store = Store::new(alloc);
     let mut listing = listing_of(alloc, system, part, max_order, &mut store)?;
     let names = event_names(alloc, system)?;
-    report_on_ledger::<Brand>(
-        alloc,
-        reports,
-        chosen,
-        &mut listing,
-        &store,
-        names.items(),
-        Blank::new(1),
-    )
+    let listed = Listed {
+        store: &store,
+        names: names.items(),
+    };
+    report_on_ledger::<Brand>(alloc, reports, chosen, &mut listing, &listed, Blank::new(1))
 }
 
 /// The names of the events of a system.
@@ -96,25 +92,22 @@ fn report_on_ledger<L: Ledger>(
     reports: &mut Vec<Box<dyn Report>>,
     chosen: &[u32],
     listing: &mut Listing,
-    store: &Store,
-    names: &[Name],
+    listed: &Listed<'_>,
     blank: Blank,
 ) -> Result<Vec<u8>, Status>
     requires name { blank.name ≡ L.name }
     requires parts { blank.parts ≡ L.parts }
     requires some { 0 < L.parts }
     requires chosen { RisesWithin 0 (vec_len reports.old) chosen.now }
-    requires started { IsStarted store.now listing.old }
-    requires sets { TakesEach (Some (length names.now)) (sets_left store.now listing.old) }
-    ensures text { IfOk result (λ made. made.items ≡ reports_text label text chosen.now (sets_left store.now listing.old) names.now reports.old.items) }
+    requires started { IsStarted listed.now.store.now listing.old }
+    requires sets { TakesEach (Some (length listed.now.names.now)) (sets_left listed.now.store.now listing.old) }
+    ensures text { IfOk result (λ made. made.items ≡ reports_text label text chosen.now (sets_left listed.now.store.now listing.old) listed.now.names.now reports.old.items) }
     ensures kept { AtChosen chosen.now (IsKept text label report_faults) reports.old.items reports.new.items }
     ensures failed { IfErr result (IsReportEnd chosen.now (λ place. RoseAt report_faults place reports.old.items reports.new.items)) }
 {
     let mut steps = Steps::<L>::new(blank);
     let mut made = Vec::new(alloc);
-    match report_text(
-        reports, chosen, listing, store, &mut steps, names, &mut made,
-    ) {
+    match report_text(reports, chosen, listing, listed, &mut steps, &mut made) {
         Ok(()) => Ok(made),
         Err(ReportStop::Fault(place)) => Err(Status::ReportFault(place)),
         Err(ReportStop::Memory) => Err(Status::Memory),

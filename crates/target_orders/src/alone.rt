@@ -9,8 +9,8 @@ ghost use Rattle.fault_system.specs.Systems.{Holds};
 ghost use Rattle.fault_system.specs.Rounds.{time_of};
 ghost use Rattle.target_orders.specs.inner.Alone.{AreAlone, AreAlways, IsRest, IsWalk};
 
+use crate::known::Known;
 use crate::marks::{put, take};
-use crate::sizes::Sizes;
 use fact_users::{Users, users_at, users_of};
 use fault_system::{Bits, FaultSystem, Numbers};
 use plain_values::Mem;
@@ -29,6 +29,8 @@ pub(crate) struct Walk {
     pub is_whole: bool,
     // how many times a formula was looked at
     pub steps: u64,
+    // how many times one may be, before the next event is begun
+    pub most: u64,
 }
 
 /// The facts that hold under no event, and those with one stamp.
@@ -64,8 +66,8 @@ fn write_stamp(stamps: &mut Vec<u32>, fact: u32, stamp: u32)
     }
 }
 
-/// Facts that hold under one event alone, of those that hold under some event and are not known to be large. These hold under
-/// no event, and those under some; of these it is known whether they are large; and of the list it is asked.
+/// Facts that hold under one event alone, of those that hold under some event and are not known to be large; it is asked of the
+/// facts of the list.
 ///
 /// First each fact is gone on from under one event alone, so that each formula is looked at as often as it has places. What
 /// is found is all where a fact holds if one fact of its formula does. Where some are left, all events are gone on from
@@ -73,67 +75,58 @@ fn write_stamp(stamps: &mut Vec<u32>, fact: u32, stamp: u32)
 pub(crate) fn alone(
     alloc: Global,
     system: &FaultSystem,
-    always: &Bits,
-    perhaps: &Bits,
-    sizes: &Sizes,
+    known: &Known<'_>,
     facts: &[u32],
 ) -> Mem<Bits>
-    requires { AreAlways system.now always.now }
+    requires { AreAlways system.now known.now.always.now }
     ensures { IfOk result (AreAlone system.now) }
 {
     let mut found = Bits::new(alloc, system.facts())?;
-    if left(always, perhaps, sizes, &found, facts) < 16 {
+    if left(known, &found, facts) < 16 {
         return Ok(found);
     }
     let users = users_of(alloc, system)?;
-    look_at_all(alloc, system, &users, always, &mut found, false, u64::MAX)?;
-    let left = left(always, perhaps, sizes, &found, facts);
+    let first = first_walk(alloc, system, false, u64::MAX)?;
+    look_at_all(system, &users, known.always, first, &mut found)?;
+    let left = left(known, &found, facts);
     let most = left.saturating_mul(u64::from(system.facts())) / 8;
-    look_at_all(
-        alloc,
-        system,
-        &users,
-        always,
-        &mut found,
-        true,
-        most.min(16_777_216),
-    )?;
+    let second = first_walk(alloc, system, true, most.min(16_777_216))?;
+    look_at_all(system, &users, known.always, second, &mut found)?;
     Ok(found)
 }
 
-// How many of some facts hold under some event and are not large, as far as it is known, and are not found yet.
-fn left(always: &Bits, perhaps: &Bits, sizes: &Sizes, found: &Bits, facts: &[u32]) -> u64 {
+/// How many of some facts hold under some event and are not large, as far as it is known, and are not found yet.
+fn left(known: &Known<'_>, found: &Bits, facts: &[u32]) -> u64 {
     let mut left = 0u64;
     for fact in facts {
-        if is_left(always, perhaps, sizes, found, *fact) {
+        if is_left(known, found, *fact) {
             left = left.saturating_add(1);
         }
     }
     left
 }
 
-fn is_left(always: &Bits, perhaps: &Bits, sizes: &Sizes, found: &Bits, fact: u32) -> bool {
-    let is_known = always.has(fact) || sizes.large.has(fact) || found.has(fact);
-    perhaps.has(fact) && !is_known
+/// Whether a fact holds under some event and is not large, as far as it is known, and is not found yet.
+fn is_left(known: &Known<'_>, found: &Bits, fact: u32) -> bool {
+    let is_known = known.always.has(fact) || known.sizes.large.has(fact) || found.has(fact);
+    known.perhaps.has(fact) && !is_known
 }
 
-// Finds facts event by event, for so many steps.
+/// Finds facts event by event, until a walk has gone as far as it may.
 fn look_at_all(
-    alloc: Global,
     system: &FaultSystem,
     users: &Users,
     always: &Bits,
+    mut walk: Walk,
     found: &mut Bits,
-    is_whole: bool,
-    most: u64,
 ) -> Mem<()>
     requires always { AreAlways system.now always.now }
+    requires rest { IsRest 0 walk }
     requires found { AreAlone system.now found.old }
     ensures { OnOk result (AreAlone system.now found.new) }
 {
-    let mut walk = first_walk(alloc, system, is_whole)?;
     for event in 0..system.events() {
-        if walk.steps >= most {
+        if walk.steps >= walk.most {
             return Ok(());
         }
         look_at(system, users, always, &mut walk, found, event)?;
@@ -141,7 +134,8 @@ fn look_at_all(
     Ok(())
 }
 
-fn first_walk(alloc: Global, system: &FaultSystem, is_whole: bool) -> Mem<Walk>
+/// A walk at its beginning, which may look at so many formulas.
+fn first_walk(alloc: Global, system: &FaultSystem, is_whole: bool, most: u64) -> Mem<Walk>
     ensures { IfOk result (IsRest 0) }
 {
     let events = Bits::new(alloc, system.events())?;
@@ -152,6 +146,7 @@ fn first_walk(alloc: Global, system: &FaultSystem, is_whole: bool) -> Mem<Walk>
         waiting: Vec::new(alloc),
         is_whole,
         steps: 0,
+        most,
     })
 }
 

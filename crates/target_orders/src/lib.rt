@@ -3,6 +3,7 @@
 
 mod alone;
 mod closing;
+mod known;
 mod laws;
 mod marks;
 mod order;

@@ -8,10 +8,11 @@ ghost use Rattle.target_orders.specs.inner.Alone.{AreAlone};
 ghost use Rattle.target_orders.specs.inner.Sizes.{KnowsSizes};
 
 use crate::alone::alone;
+use crate::known::Known;
 use crate::order::Order;
-use crate::sizes::{Sizes, known_sizes};
+use crate::sizes::known_sizes;
 use backward_slice::{Slice, slice};
-use cutset_engine::family;
+use cutset_engine::{Asked, family};
 use dependency_blocks::{Blocks, blocks};
 use fault_system::{Bits, FaultSystem};
 use itoa::Buffer;
@@ -29,10 +30,15 @@ pub fn orders_text(alloc: Global, system: &FaultSystem, facts: &[u32]) -> Mem<Ve
     let always = system.holds(alloc, &Bits::new(alloc, system.events())?)?;
     let perhaps = system.holds(alloc, &all_events(alloc, system)?)?;
     let sizes = known_sizes(alloc, system, facts)?;
-    let alone = alone(alloc, system, &always, &perhaps, &sizes, facts)?;
+    let known = Known {
+        always: &always,
+        perhaps: &perhaps,
+        sizes: &sizes,
+    };
+    let alone = alone(alloc, system, &known, facts)?;
     let mut text = Vec::new(alloc);
     for fact in facts {
-        let order = order_of(alloc, system, &always, &perhaps, &alone, &sizes, *fact)?;
+        let order = order_of(alloc, system, &known, &alone, *fact)?;
         push_line(&mut text, system, *fact, order)?;
     }
     text.extend_from_slice(b"end\n")?;
@@ -77,34 +83,31 @@ fn all_events(alloc: Global, system: &FaultSystem) -> Mem<Bits>
     Ok(events)
 }
 
-/// What it takes to make a fact hold, where these are the facts that hold under no event, those that hold under some, facts
-/// that hold under one alone, and facts of which it is known whether they are large.
+/// What it takes to make a fact hold, where this is known of the facts, and these hold under one event alone.
 fn order_of(
     alloc: Global,
     system: &FaultSystem,
-    always: &Bits,
-    perhaps: &Bits,
+    known: &Known<'_>,
     alone: &Bits,
-    sizes: &Sizes,
     fact: u32,
 ) -> Mem<Order>
     requires fact { fact < length system.now.facts }
-    requires always { Has (member always.now) fact ↔ IsCutSet system.now fact [] }
-    requires perhaps { Has (member perhaps.now) fact ↔ MayHold system.now fact }
+    requires always { Has (member known.now.always.now) fact ↔ IsCutSet system.now fact [] }
+    requires perhaps { Has (member known.now.perhaps.now) fact ↔ MayHold system.now fact }
     requires alone { AreAlone system.now alone.now }
-    requires sizes { KnowsSizes system.now sizes.now }
+    requires sizes { KnowsSizes system.now known.now.sizes.now }
     ensures { IfOk result (IsOrder system.now fact) }
 {
-    if always.has(fact) {
+    if known.always.has(fact) {
         return Ok(Order::Always);
     }
-    if !perhaps.has(fact) {
+    if !known.perhaps.has(fact) {
         return Ok(Order::Never);
     }
-    if sizes.large.has(fact) {
+    if known.sizes.large.has(fact) {
         return Ok(Order::Large);
     }
-    if alone.has(fact) && sizes.small.has(fact) {
+    if alone.has(fact) && known.sizes.small.has(fact) {
         return Ok(Order::Least(1));
     }
     match slice(alloc, system, fact) {
@@ -145,7 +148,13 @@ fn holds_within(
     ensures { IfOk result (λ answer. IsTrue answer ↔ HoldsWithin system.now part.now.target count) }
 {
     let mut store = Store::new(alloc);
-    let sets = family(alloc, system, part, found, Some(count), &mut store)?;
+    let asked = Asked {
+        system,
+        slice: part,
+        blocks: found,
+        most: Some(count),
+    };
+    let sets = family(alloc, &asked, &mut store)?;
     store.laws();
     let is_empty = sets == Id::EMPTY;
     Ok(!is_empty)

@@ -22,6 +22,17 @@ use fault_system::{Bits, FaultSystem, Formula};
 use plain_values::{Mem, Stop};
 use std::alloc::{AllocError, Global};
 
+/// Of which facts of a system it is asked whether they are large.
+#[derive(Clone, Copy)]
+pub(crate) struct Question<'a> {
+    /// The system.
+    pub system: &'a FaultSystem,
+    /// The blocks of all its facts.
+    pub blocks: &'a Blocks,
+    /// The facts that are asked of.
+    pub asked: &'a Bits,
+}
+
 fn value(values: &[u32], at: u32) -> u32 {
     values.get(at as usize).copied().unwrap_or(4_294_967_295)
 }
@@ -72,71 +83,66 @@ fn fill_place(order: &mut [u32], places: &mut [u32], blocks: &Blocks, fact: u32)
 /// Settles which of the facts that are asked of are large.
 pub(crate) fn settle(
     alloc: Global,
-    system: &FaultSystem,
-    blocks: &Blocks,
-    asked: &Bits,
+    question: &Question<'_>,
     order: &[u32],
     sizes: &mut Sizes,
 ) -> Mem<()>
-    requires numbered { AreAllBlocks system.now blocks.now }
-    requires before { KnowsSizes system.now sizes.old }
-    ensures { OnOk result (KnowsSizes system.now sizes.new) }
+    requires numbered { AreAllBlocks question.now.system.now question.now.blocks.now }
+    requires before { KnowsSizes question.now.system.now sizes.old }
+    ensures { OnOk result (KnowsSizes question.now.system.now sizes.new) }
 {
     let mut width = order.len();
     for at in 0..order.len() {
-        width = settle_first(alloc, system, blocks, asked, &order[at..], width, sizes)?;
+        width = settle_first(alloc, question, &order[at..], width, sizes)?;
     }
     Ok(())
 }
 
-// Settles the first of some facts, and others with it; how many to gather for the next time.
+/// Settles the first of some facts, and others with it; how many to gather for the next time.
 fn settle_first(
     alloc: Global,
-    system: &FaultSystem,
-    blocks: &Blocks,
-    asked: &Bits,
+    question: &Question<'_>,
     rest: &[u32],
     width: usize,
     sizes: &mut Sizes,
 ) -> Mem<usize>
-    requires numbered { AreAllBlocks system.now blocks.now }
-    requires before { KnowsSizes system.now sizes.old }
-    ensures { OnOk result (KnowsSizes system.now sizes.new) }
+    requires numbered { AreAllBlocks question.now.system.now question.now.blocks.now }
+    requires before { KnowsSizes question.now.system.now sizes.old }
+    ensures { OnOk result (KnowsSizes question.now.system.now sizes.new) }
 {
     let Some(fact) = rest.first().copied() else {
         return Ok(width);
     };
-    if !is_open(asked, sizes, fact) {
+    if !is_open(question.asked, sizes, fact) {
         return Ok(width);
     }
-    let settled = settle_many(alloc, system, asked, rest, width, sizes)?;
+    let settled = settle_many(alloc, question, rest, width, sizes)?;
     if settled > 0 {
         return Ok(settled.saturating_mul(2));
     }
-    if settle_by_slice(alloc, system, fact, sizes)? {
-        pass_on(system, blocks, rest, sizes);
+    if settle_by_slice(alloc, question.system, fact, sizes)? {
+        pass_on(question.system, question.blocks, rest, sizes);
     }
     Ok(2)
 }
 
-// Finds that the first of some facts are small, at most so many, by halves; how many, or 0 where it is one at most.
+/// Finds that the first of some facts are small, at most so many, by halves; how many, or 0 where it is one at most.
 fn settle_many(
     alloc: Global,
-    system: &FaultSystem,
-    asked: &Bits,
+    question: &Question<'_>,
     rest: &[u32],
     width: usize,
     sizes: &mut Sizes,
 ) -> Mem<usize>
-    requires { KnowsSizes system.now sizes.old }
-    ensures { OnOk result (KnowsSizes system.now sizes.new) }
+    requires { KnowsSizes question.now.system.now sizes.old }
+    ensures { OnOk result (KnowsSizes question.now.system.now sizes.new) }
 {
     let mut width = width;
     for half in 0..64u32 {
         if width < 2 {
             return Ok(0);
         }
-        if are_found_small(alloc, system, asked, front(rest, width), sizes)? {
+        if are_found_small(alloc, question, front(rest, width), sizes)? {
             return Ok(width);
         }
         width /= 2;
@@ -148,18 +154,17 @@ fn front(facts: &[u32], most: usize) -> &[u32] {
     &facts[..most.min(facts.len())]
 }
 
-// Gathers what some facts depend on, and finds that all of it is small, where it is not too much.
+/// Gathers what some facts depend on, and finds that all of it is small, where it is not too much.
 fn are_found_small(
     alloc: Global,
-    system: &FaultSystem,
-    asked: &Bits,
+    question: &Question<'_>,
     facts: &[u32],
     sizes: &mut Sizes,
 ) -> Mem<bool>
-    requires { KnowsSizes system.now sizes.old }
-    ensures { OnOk result (KnowsSizes system.now sizes.new) }
+    requires { KnowsSizes question.now.system.now sizes.old }
+    ensures { OnOk result (KnowsSizes question.now.system.now sizes.new) }
 {
-    let found = small_part(alloc, system, asked, sizes, facts)?;
+    let found = small_part(alloc, question.system, question.asked, sizes, facts)?;
     match found {
         Some(part) => {
             put_all(&mut sizes.small, &part);

@@ -4,7 +4,7 @@ ghost use Rattle.std.specs.Prelude.{◌<◌, ◌≤◌, All, IfOk, length};
 ghost use Rattle.target_orders.specs.inner.Sizes.{KnowsSizes};
 
 use crate::marks::full;
-use crate::settling::{order_of_blocks, settle};
+use crate::settling::{Question, order_of_blocks, settle};
 use dependency_blocks::all_blocks;
 use fault_system::{Bits, FaultSystem};
 use plain_values::Mem;
@@ -54,7 +54,12 @@ fn found_sizes(alloc: Global, system: &FaultSystem, asked: &Bits) -> Mem<Sizes>
     let blocks = all_blocks(alloc, system)?;
     let order = order_of_blocks(alloc, system, &blocks)?;
     let mut sizes = none_known(alloc, system)?;
-    settle(alloc, system, &blocks, asked, order.as_slice(), &mut sizes)?;
+    let question = Question {
+        system,
+        blocks: &blocks,
+        asked,
+    };
+    settle(alloc, &question, order.as_slice(), &mut sizes)?;
     Ok(sizes)
 }
 

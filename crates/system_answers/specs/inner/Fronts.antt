@@ -5,6 +5,7 @@ use Rattle.fault_system.specs.CutSets.{IsMinimalCutSet}
 use Rattle.fault_system.specs.Listings.{IsListing, first_of, has_more, sets_after}
 use Rattle.fault_system.specs.inner.Listings.{IsPage}
 use Rattle.zdd_store.specs.inner.Family.{Family}
+use Rattle.cutset_engine.specs.declared.setting.Asked.{Asked}
 use Rattle.cutset_writer.specs.inner.Pages.{Lists}
 
 -- The page of these sets is that of the target's listing.
@@ -17,3 +18,7 @@ pub record GivesPage (system : System) (target : ℕ) (most : Option ℕ) (start
 pub record ServesPage (system : System) (target : ℕ) (most : Option ℕ) (start : Option (List ℕ)) (limit : Option ℕ) (family : Family) : Type 0 where
   pub minimal : (set : List ℕ) → Contains family set → IsMinimalCutSet system target set
   pub page : (sets : List (List ℕ)) → Lists family sets → GivesPage system target most start limit sets
+
+-- the same, for the target and the greatest order that are asked for
+abbrev pub ServesAsked : Asked → Option (List ℕ) → Option ℕ → Family → Type 0
+ServesAsked asked start limit family = ServesPage asked.system.now asked.slice.now.target asked.most start limit family

@@ -15,7 +15,7 @@ returns-in-Err-feed-clause-kept g c = kept_more _ _ _ _ _ _ _ c.in_default.ensur
 
 pub returns-in-Ok-clause-text : goal.returns-in-Ok-clause-text
 returns-in-Ok-clause-text g c =
-    c.in-Ok.ensures.text (sets_left c.args.store.now c.args.listing.now) (fed_stand _ _ _ _ _ _ _ _ c.in_default.ensures.begun c.in_default-feed.ensures.took)
+    c.in-Ok.ensures.text (sets_left c.args.listed.now.store.now c.args.listing.now) (fed_stand _ _ _ _ _ _ _ _ c.in_default.ensures.begun c.in_default-feed.ensures.took)
     ∙ ap (λ t. c.args.to.now.items ++ t) (parts_same _ _ _ c.args.chosen.now _ _ _ _ _ (kept_more _ _ _ _ _ _ _ c.in_default.ensures.kept c.in_default-feed.ensures.kept))
 
 pub returns-in-Ok-clause-kept : goal.returns-in-Ok-clause-kept

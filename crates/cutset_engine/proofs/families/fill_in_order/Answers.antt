@@ -10,4 +10,4 @@ settle-requires c =
 
 pub fill-requires-clause-causes : goal.fill-requires-clause-causes
 fill-requires-clause-causes c =
-    subst (HaveTheirCauses c.args.setting.now.system.now) (sym c.items.ensures.items) (slice-causes c.args.setting.now.system.now c.args.slice.now.target c.args.slice.now c.requires.slice)
+    subst (HaveTheirCauses c.args.setting.now.system.now) (sym c.items.ensures.items) (slice-causes c.args.setting.now.system.now c.args.setting.now.slice.now.target c.args.setting.now.slice.now c.requires.slice)

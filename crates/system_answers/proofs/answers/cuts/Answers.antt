@@ -1,4 +1,4 @@
-use Rattle.std.proofs.Common.{subst}
+use Rattle.std.proofs.Common.{ℕ, List, Option, subst}
 use Rattle.phases.specs.Phases.{Passes}
 use Rattle.phases.proofs.Steps.{◌beyond◌, ◌passes◌, ends, exits}
 use Rattle.system_answers.specs.Texts.{named_key, page_of}
@@ -11,7 +11,8 @@ returns-in_err-part c = exits _ _ _ _ _ c.from_residual-in_err-part.ensures.1 (c
 pub returns : goal.returns
 returns c =
     let page = named_key c.args.tokens c.args.key.now in
-    let its = subst (λ target. Passes (page_of target c.in_ok-start.start c.args.paging.now page c.args.system) c.in_ok-page.field-0) c.in_ok-part.ensures.passed.is_slice.target_is c.in_ok-page.ensures in
+    let named = subst (λ (digits : Option (List ℕ)). Passes (page_of c.in_ok-part.part.target c.in_ok-start.start c.args.paging.now digits c.args.system) c.in_ok-page.field-0) c.named_key-digits.ensures c.in_ok-page.ensures in
+    let its = subst (λ target. Passes (page_of target c.in_ok-start.start c.args.paging.now page c.args.system) c.in_ok-page.field-0) c.in_ok-part.ensures.passed.is_slice.target_is named in
     c.in_ok-number.ensures passes c.in_ok-start.ensures passes c.in_ok-part.ensures passes its
 
 pub page-requires-clause-start : goal.page-requires-clause-start

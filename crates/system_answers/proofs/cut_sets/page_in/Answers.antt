@@ -6,4 +6,4 @@ use Rattle.system_answers.proofs.cut_sets.page_in.Goals as goal
 
 pub returns : goal.returns
 returns c =
-    subst (Passes (page_in c.args.form c.args.part.now.target c.args.start c.args.limit c.args.max_order c.args.system)) (sym c.new.ensures) (given-page c.in_ok-writer.ensures.page c.args.form)
+    subst (Passes (page_in c.args.form c.args.part.now.target c.args.start c.args.paging.now.limit c.args.paging.now.max_order c.args.system)) (sym c.new.ensures) (given-page c.in_ok-writer.ensures.page c.args.form)

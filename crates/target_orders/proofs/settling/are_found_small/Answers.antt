@@ -8,6 +8,6 @@ use Rattle.target_orders.proofs.settling.are_found_small.Goals as goal
 pub returns-in-Some : goal.returns-in-Some
 returns-in-Some c = record {
   large_are = c.requires.large_are;
-  small_are = small-put c.args.system.now c.args.sizes.now.small c.put_all.new.marks (member c.in-Some.part) c.put_all.ensures c.requires.small_are
-      (subst (λ (found : Option (List Bool)). IfSome found (AreSmall c.args.system.now)) c.in-Some.is c.in_ok-found.ensures);
+  small_are = small-put c.args.question.now.system.now c.args.sizes.now.small c.put_all.new.marks (member c.in-Some.part) c.put_all.ensures c.requires.small_are
+      (subst (λ (found : Option (List Bool)). IfSome found (AreSmall c.args.question.now.system.now)) c.in-Some.is c.in_ok-found.ensures);
 }

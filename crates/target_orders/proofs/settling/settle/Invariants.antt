@@ -2,4 +2,4 @@ use Rattle.target_orders.specs.inner.Sizes.{KnowsSizes}
 use Rattle.target_orders.proofs.settling.settle.Given as goal
 
 abbrev pub invariant-loop-at : goal.invariant-loop-at
-invariant-loop-at l = KnowsSizes l.system l.sizes
+invariant-loop-at l = KnowsSizes l.question.system.now l.sizes
