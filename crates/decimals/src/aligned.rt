@@ -14,7 +14,7 @@ pub struct Aligned {
     pub exponent: u32,
 }
 
-/// The sum, of which the first has no smaller exponent.
+/// The sum, rounded to one side, of which the first has no smaller exponent.
 fn sum_from(side: Side, high: Decimal, low: Decimal) -> Aligned
     requires { low.exponent ≤ high.exponent }
     ensures value { IsAligned side (parts high + parts low) result }
@@ -42,7 +42,7 @@ fn sum_from(side: Side, high: Decimal, low: Decimal) -> Aligned
     }
 }
 
-/// The sum.
+/// The sum, rounded to one side.
 pub fn sum(side: Side, one: Decimal, other: Decimal) -> Aligned
     ensures value { IsAligned side (parts one + parts other) result }
     ensures places { (whole places : ℕ) → HasPlaces whole places one → HasPlaces whole places other → HavePlaces whole places result.number result.exponent }
@@ -53,7 +53,7 @@ pub fn sum(side: Side, one: Decimal, other: Decimal) -> Aligned
     sum_from(side, one, other)
 }
 
-/// What is left of the whole.
+/// What is left of the whole, rounded to one side.
 pub fn left(side: Side, taken: Decimal, whole: u32) -> Aligned
     requires { parts taken ≤ 10 ^ whole }
     ensures value { IsAligned side (10 ^ whole - parts taken) result }

@@ -6,7 +6,9 @@ ghost use Rattle.decimals.specs.inner.Decimals.{IsCut, IsShortened, least, oppos
 /// The side to which a number is rounded.
 #[derive(Clone, Copy)]
 pub enum Side {
+    /// At most the number.
     Down,
+    /// At least the number.
     Up,
 }
 
@@ -41,7 +43,7 @@ impl Side {
         }
     }
 
-    /// A number without its last digit.
+    /// A number without its last digit, rounded to this side.
     fn tenth(self, number: u128) -> u128
         requires { number ≤ 2000000000000000000000000000000000000 }
         ensures few { result ≤ number }
@@ -53,7 +55,7 @@ impl Side {
         }
     }
 
-    /// The first 18 digits of a number.
+    /// The first 18 digits of a number, rounded to this side.
     pub fn shortened(self, number: u128) -> Shortened
         requires { number ≤ 2000000000000000000000000000000000000 }
         ensures { IsShortened self number result }
@@ -70,7 +72,7 @@ impl Side {
         }
     }
 
-    /// A mantissa without so many digits.
+    /// A mantissa without so many digits, rounded to this side.
     pub fn cut(self, number: u64, count: u32) -> u64
         requires { number ≤ 1000000000000000000 }
         ensures few { result ≤ number }

@@ -31,7 +31,7 @@ impl Decimal {
     }
 }
 
-/// The number of these digits, of which so many stand behind the point.
+/// The number of these digits, of which so many stand behind the point, rounded to one side.
 fn written(side: Side, digits: u64, places: u32, whole: u32) -> Decimal
     requires { digits ≤ 1000000000000000000 }
     ensures cut { IsCut side (digits * 10 ^ whole) (parts result) (10 ^ places) }

@@ -36,12 +36,7 @@ pub fn read_steps(
 {
     let facts = fact_table(alloc, system)?;
     let names = event_table(alloc, system)?;
-    let vocabulary = Vocabulary {
-        facts: &facts,
-        names: &names,
-        events,
-    };
-    read_lines(alloc, &vocabulary, bytes)
+    read_lines(alloc, &facts, &names, events, bytes)
 }
 
 // The names of the facts.
@@ -70,19 +65,26 @@ fn event_table(alloc: Global, system: &FaultSystem) -> Mem<Names<'_>>
 // The steps of a text, where facts and events have these names; or the byte of the first bad line.
 fn read_lines(
     alloc: Global,
-    vocabulary: &Vocabulary<'_, '_>,
+    facts: &Names<'_>,
+    names: &Names<'_>,
+    events: &Bits,
     bytes: &[u8],
 ) -> Mem<Result<Derivation, usize>>
-    requires few { (length vocabulary.now.facts.now < 2 ^ 32) × (length vocabulary.now.names.now < 2 ^ 32) }
-    requires differ { NamesDiffer vocabulary.now.facts.now × NamesDiffer vocabulary.now.names.now }
-    requires line_names { AreLineNames vocabulary.now.facts.now × AreLineNames vocabulary.now.names.now }
+    requires few { (length facts.now < 2 ^ 32) × (length names.now < 2 ^ 32) }
+    requires differ { NamesDiffer facts.now × NamesDiffer names.now }
+    requires line_names { AreLineNames facts.now × AreLineNames names.now }
     ensures read { IfOk result (λ read. MatchResult read
-        (λ derivation. IsTextOf vocabulary.now.facts.now vocabulary.now.names.now (member vocabulary.now.events.now) bytes.now derivation.steps)
-        (λ at. IsBadAt vocabulary.now.facts.now vocabulary.now.names.now (member vocabulary.now.events.now) bytes.now at)) }
+        (λ derivation. IsTextOf facts.now names.now (member events.now) bytes.now derivation.steps)
+        (λ at. IsBadAt facts.now names.now (member events.now) bytes.now at)) }
     ensures only { (steps : Items Firing) → length steps < 2 ^ 32
-        → IsTextOf vocabulary.now.facts.now vocabulary.now.names.now (member vocabulary.now.events.now) bytes.now steps
+        → IsTextOf facts.now names.now (member events.now) bytes.now steps
         → IfOk result (λ read. MatchResult read (λ derivation. derivation.steps ≡ steps) (λ _. ⊥)) }
 {
+    let vocabulary = Vocabulary {
+        facts,
+        names,
+        events,
+    };
     let mut steps = List::new(alloc);
     let mut at = 0;
     while at < bytes.len() {
@@ -91,7 +93,7 @@ fn read_lines(
         if end >= bytes.len() {
             return Ok(Err(at));
         }
-        let Some(step) = read_line(alloc, vocabulary, number, &bytes[at..end])? else {
+        let Some(step) = read_line(alloc, &vocabulary, number, &bytes[at..end])? else {
             return Ok(Err(at));
         };
         steps.push(step)?;

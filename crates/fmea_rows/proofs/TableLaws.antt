@@ -65,7 +65,7 @@ changed-push times (d ∷ changes) c = changed-push (set times d.fact d.time) ch
 
 module _ (system : System) (event : ℕ) (events : NumberSet) (base : List ℕ) (changes : List Change) (users : Users) where
   pub checked : events ≡ only event → event < length system.events → length base ≡ length system.facts → AreUsers system users
-      → RisesWithin 0 (length system.facts) (facts_of changes) → FitsWhereFelt system users event events (changed base changes) changes
+      → RisesWithin 0 (length system.facts) (facts_of changes) → FitsWhereFelt (record { system = system; events = events; times = changed base changes }) users event changes
       → IsChecked system event base (changed base changes) (facts_of changes)
   checked alone fits size are rise felt = record {
     count = length-changed base changes ∙ size;

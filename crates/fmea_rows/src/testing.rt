@@ -1,10 +1,8 @@
 //! Linear tests of a changed table: where they say yes it is right, whoever proposed the changes.
 
 ghost use Rattle.std.specs.Prelude.{◌≤◌, ◌<◌, ◌+◌, ◌^◌, ℕ, IsTrue, slice_index_or};
-ghost use Rattle.fault_system.specs.Truth.{Has, member, set_of};
-ghost use Rattle.fault_system.specs.Rounds.{time_of};
-ghost use Rattle.fault_system.specs.inner.Rounds.{FitsFact};
-ghost use Rattle.fmea_rows.specs.inner.Tables.{AllFit, FitsAround, FitsWhereFelt, IsTested, facts_of};
+ghost use Rattle.fault_system.specs.Truth.{Has, set_of};
+ghost use Rattle.fmea_rows.specs.inner.Tables.{AllFit, Fits, FitsAround, FitsWhereFelt, IsTested, facts_of, tested_of};
 
 use crate::change::Change;
 use fact_users::{Users, users_at};
@@ -35,7 +33,7 @@ pub(crate) fn fits_where_felt(
     requires low { (n : ℕ) → slice_index_or marks.old n 0 ≤ event }
     ensures low { (n : ℕ) → slice_index_or marks.new n 0 ≤ event + 1 }
     ensures fits { IsTrue result
-        → FitsWhereFelt run.now.system.now users.now event (member run.now.only.now) run.now.times.now changes.now }
+        → FitsWhereFelt (tested_of run.now) users.now event changes.now }
 {
     let mark = event + 1;
     if !fit_around(run, users.facts.as_slice(), changes, mark, marks) {
@@ -52,10 +50,10 @@ fn fit_around(
     mark: u32,
     marks: &mut [u32],
 ) -> bool
-    requires { IsTested run.now.system.now (member run.now.only.now) run.now.times.now mark marks.old }
-    ensures tested { IsTested run.now.system.now (member run.now.only.now) run.now.times.now mark marks.new }
+    requires { IsTested (tested_of run.now) mark marks.old }
+    ensures tested { IsTested (tested_of run.now) mark marks.new }
     ensures fit { IsTrue result → (g : ℕ) → Has (set_of (facts_of changes.now)) g
-        → FitsAround run.now.system.now (member run.now.only.now) run.now.times.now users.now g }
+        → FitsAround (tested_of run.now) users.now g }
 {
     for change in changes {
         if !fits_with_users(run, users, change.fact, mark, marks) {
@@ -73,9 +71,9 @@ fn fits_with_users(
     mark: u32,
     marks: &mut [u32],
 ) -> bool
-    requires { IsTested run.now.system.now (member run.now.only.now) run.now.times.now mark marks.old }
-    ensures tested { IsTested run.now.system.now (member run.now.only.now) run.now.times.now mark marks.new }
-    ensures fit { IsTrue result → FitsAround run.now.system.now (member run.now.only.now) run.now.times.now users.now fact }
+    requires { IsTested (tested_of run.now) mark marks.old }
+    ensures tested { IsTested (tested_of run.now) mark marks.new }
+    ensures fit { IsTrue result → FitsAround (tested_of run.now) users.now fact }
 {
     if !fits_once(run, fact, mark, marks) {
         return false;
@@ -85,9 +83,9 @@ fn fits_with_users(
 
 // Whether the times of these facts fit.
 fn all_fit(run: &Run<'_>, facts: &[u32], mark: u32, marks: &mut [u32]) -> bool
-    requires { IsTested run.now.system.now (member run.now.only.now) run.now.times.now mark marks.old }
-    ensures tested { IsTested run.now.system.now (member run.now.only.now) run.now.times.now mark marks.new }
-    ensures fit { IsTrue result → AllFit run.now.system.now (member run.now.only.now) run.now.times.now (set_of facts.now) }
+    requires { IsTested (tested_of run.now) mark marks.old }
+    ensures tested { IsTested (tested_of run.now) mark marks.new }
+    ensures fit { IsTrue result → AllFit (tested_of run.now) (set_of facts.now) }
 {
     for fact in facts {
         if !fits_once(run, *fact, mark, marks) {
@@ -99,9 +97,9 @@ fn all_fit(run: &Run<'_>, facts: &[u32], mark: u32, marks: &mut [u32]) -> bool
 
 // Whether the time of a fact fits; it is tested where the fact has no mark yet.
 fn fits_once(run: &Run<'_>, fact: u32, mark: u32, marks: &mut [u32]) -> bool
-    requires { IsTested run.now.system.now (member run.now.only.now) run.now.times.now mark marks.old }
-    ensures tested { IsTested run.now.system.now (member run.now.only.now) run.now.times.now mark marks.new }
-    ensures fits { IsTrue result → FitsFact run.now.system.now (member run.now.only.now) (time_of run.now.times.now) fact }
+    requires { IsTested (tested_of run.now) mark marks.old }
+    ensures tested { IsTested (tested_of run.now) mark marks.new }
+    ensures fits { IsTrue result → Fits (tested_of run.now) fact }
 {
     let at = fact as usize;
     if at < marks.len() && marks[at] == mark {

@@ -11,6 +11,7 @@ use Rattle.fmea_rows.specs.declared.change.Change.{Change}
 use Rattle.fact_users.specs.inner.Users.{AreUsers, users_at}
 use Rattle.fact_users.specs.declared.users.Users.{Users}
 use Rattle.fmea_rows.specs.declared.table.Known.{Known}
+use Rattle.fmea_rows.specs.declared.testing.Run.{Run}
 
 -- ---- changes of a table
 
@@ -36,23 +37,36 @@ pub record IsKnown (system : System) (effects : List ℕ) (known : Known) : Type
 
 -- ---- tests
 
+-- what a run says of it: the system, the events, and the round of each fact
+pub record Tested : Type 0 where
+  pub system : System
+  pub events : NumberSet
+  pub times : List ℕ
+
+abbrev pub tested_of : Run → Tested
+tested_of run = record { system = run.system.now; events = member run.only.now; times = run.times.now }
+
+-- the time of a fact fits
+abbrev pub Fits : Tested → ℕ → Type 0
+Fits run fact = FitsFact run.system run.events (time_of run.times) fact
+
 -- the times of these facts fit
-abbrev pub AllFit : System → NumberSet → List ℕ → NumberSet → Type 0
-AllFit system events times facts = (n : ℕ) → Has facts n → FitsFact system events (time_of times) n
+abbrev pub AllFit : Tested → NumberSet → Type 0
+AllFit run facts = (n : ℕ) → Has facts n → Fits run n
 
 -- the time of a fact fits, and those of its users do
-abbrev pub FitsAround : System → NumberSet → List ℕ → List (List ℕ) → ℕ → Type 0
-FitsAround system events times users fact = FitsFact system events (time_of times) fact × AllFit system events times (users_at users fact)
+abbrev pub FitsAround : Tested → List (List ℕ) → ℕ → Type 0
+FitsAround run users fact = Fits run fact × AllFit run (users_at users fact)
 
 -- no mark is higher than this one, and the times of the facts that have it fit
-pub record IsTested (system : System) (events : NumberSet) (times : List ℕ) (mark : ℕ) (marks : List ℕ) : Type 0 where
+pub record IsTested (run : Tested) (mark : ℕ) (marks : List ℕ) : Type 0 where
   pub low : (n : ℕ) → slice_index_or marks n 0 ≤ mark
-  pub fit : (n : ℕ) → slice_index_or marks n 0 ≡ mark → FitsFact system events (time_of times) n
+  pub fit : (n : ℕ) → slice_index_or marks n 0 ≡ mark → Fits run n
 
 -- the times fit wherever changes or an event may be felt
-pub record FitsWhereFelt (system : System) (users : Users) (event : ℕ) (events : NumberSet) (times : List ℕ) (changes : List Change) : Type 0 where
-  pub around : (g : ℕ) → Has (set_of (facts_of changes)) g → FitsAround system events times users.facts.items g
-  pub at_event : AllFit system events times (users_at users.events.items event)
+pub record FitsWhereFelt (run : Tested) (users : Users) (event : ℕ) (changes : List Change) : Type 0 where
+  pub around : (g : ℕ) → Has (set_of (facts_of changes)) g → FitsAround run users.facts.items g
+  pub at_event : AllFit run (users_at users.events.items event)
 
 -- between two events: the table is that of no event, and no mark is higher than the number of events that are done
 pub record IsBetween (base : List ℕ) (done : ℕ) (times marks : List ℕ) : Type 0 where

@@ -2,7 +2,7 @@ use Rattle.std.proofs.Common.{ℕ, ◌≡◌, ◌∙◌, List, ap, length, subst
 use Rattle.std.proofs.lemmas.List.{with_items_is}
 use Rattle.plain_values.specs.Rising.{RisesWithin}
 use Rattle.fault_system.specs.Truth.{member}
-use Rattle.fmea_rows.specs.inner.Tables.{FitsWhereFelt, changed, facts_of}
+use Rattle.fmea_rows.specs.inner.Tables.{FitsWhereFelt, Tested, changed, facts_of}
 use Rattle.fmea_rows.proofs.TableLaws.{checked}
 use Rattle.fmea_rows.proofs.table.is_right.Goals as goal
 
@@ -15,8 +15,9 @@ returns-clause-right c = λ yes.
     let times : c.as_slice.result.now ≡ changed known.base changes =
     c.as_slice.ensures.value ∙ with_items_is c.args.desk.now.times c.make_changes.new.times (c.make_changes.auto.times ∙ c.as_mut_slice.ensures.len)
     ∙ c.make_changes.ensures ∙ ap (λ (ts : List ℕ). changed ts changes) (c.as_mut_slice.ensures.value ∙ c.requires.between.same) in
-    let felt : FitsWhereFelt system known.users c.args.event (member c.args.alone.now) (changed known.base changes) changes =
-    subst (λ (ts : List ℕ). FitsWhereFelt system known.users c.args.event (member c.args.alone.now) ts changes) times (c.fits_where_felt-fits.ensures.fits yes) in
+    let run : List ℕ → Tested = λ ts. record { system = system; events = member c.args.alone.now; times = ts } in
+    let felt : FitsWhereFelt (run (changed known.base changes)) known.users c.args.event changes =
+    subst (λ (ts : List ℕ). FitsWhereFelt (run ts) known.users c.args.event changes) times (c.fits_where_felt-fits.ensures.fits yes) in
     record {
       rise = rise;
       table = c.checked_table.ensures system c.args.event known.base (changed known.base changes) (facts_of changes) c.requires.base

@@ -1,8 +1,7 @@
 use Rattle.std.proofs.Common.{ℕ, ◌≤◌, List, length, sym, subst, ⊎_elim, arith}
 use Rattle.std.proofs.lemmas.List.{take_all}
-use Rattle.fault_system.specs.Truth.{Has, member, set_of}
-use Rattle.fault_system.specs.Rounds.{time_of}
-use Rattle.fault_system.specs.inner.Rounds.{FitsFact}
+use Rattle.fault_system.specs.Truth.{Has, set_of}
+use Rattle.fmea_rows.specs.inner.Tables.{Fits, tested_of}
 use Rattle.fmea_rows.proofs.TestLaws.{among-more}
 use Rattle.fmea_rows.proofs.testing.all_fit.Goals as goal
 
@@ -10,7 +9,7 @@ pub loop-fact-preserved : goal.loop-fact-preserved
 loop-fact-preserved c = record {
   tested = c.fits_once.ensures.tested;
   fit = λ n h. ⊎_elim (λ was. c.loop-fact.invariant.fit n was)
-      (λ same. subst (FitsFact c.args.run.now.system.now (member c.args.run.now.only.now) (time_of c.args.run.now.times.now)) same (c.fits_once.ensures.fits c.if-not-fits_once.false))
+      (λ same. subst (Fits (tested_of c.args.run.now)) same (c.fits_once.ensures.fits c.if-not-fits_once.false))
       (among-more c.args.facts.now c.loop-fact.fact-index 0 n c.loop-fact-test.true h);
 }
 

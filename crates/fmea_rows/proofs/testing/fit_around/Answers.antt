@@ -1,7 +1,7 @@
 use Rattle.std.proofs.Common.{◌≤◌, List, length, sym, subst, ⊎_elim, arith}
 use Rattle.std.proofs.lemmas.List.{take_all}
-use Rattle.fault_system.specs.Truth.{Has, member, set_of}
-use Rattle.fmea_rows.specs.inner.Tables.{FitsAround, facts_of}
+use Rattle.fault_system.specs.Truth.{Has, set_of}
+use Rattle.fmea_rows.specs.inner.Tables.{FitsAround, facts_of, tested_of}
 use Rattle.fmea_rows.specs.declared.change.Change.{Change}
 use Rattle.fmea_rows.proofs.TestLaws.{among-changes}
 use Rattle.fmea_rows.proofs.testing.fit_around.Goals as goal
@@ -12,7 +12,7 @@ loop-change-preserved c =
     record {
       tested = c.fits_with_users.ensures.tested;
       fit = λ g h. ⊎_elim (λ was. c.loop-change.invariant.fit g was)
-          (λ same. subst (FitsAround c.args.run.now.system.now (member c.args.run.now.only.now) c.args.run.now.times.now c.args.users.now) same (c.fits_with_users.ensures.fit c.if-not-fits_with_users.false))
+          (λ same. subst (FitsAround (tested_of c.args.run.now) c.args.users.now) same (c.fits_with_users.ensures.fit c.if-not-fits_with_users.false))
           (among-changes c.args.changes.now c.loop-change.change-index d g c.loop-change-test.true h);
     }
 

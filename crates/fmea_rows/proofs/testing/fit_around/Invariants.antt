@@ -1,10 +1,10 @@
 use Rattle.std.proofs.Common.{ℕ, take}
-use Rattle.fault_system.specs.Truth.{Has, member, set_of}
-use Rattle.fmea_rows.specs.inner.Tables.{FitsAround, IsTested, facts_of}
+use Rattle.fault_system.specs.Truth.{Has, set_of}
+use Rattle.fmea_rows.specs.inner.Tables.{FitsAround, IsTested, facts_of, tested_of}
 use Rattle.fmea_rows.proofs.testing.fit_around.Given as goal
 
 abbrev pub invariant-loop-change : goal.invariant-loop-change
 invariant-loop-change l = record {
-  tested : IsTested l.run.system.now (member l.run.only.now) l.run.times.now l.mark l.marks;
-  fit : (g : ℕ) → Has (set_of (facts_of (take l.change-index l.changes))) g → FitsAround l.run.system.now (member l.run.only.now) l.run.times.now l.users g;
+  tested : IsTested (tested_of l.run) l.mark l.marks;
+  fit : (g : ℕ) → Has (set_of (facts_of (take l.change-index l.changes))) g → FitsAround (tested_of l.run) l.users g;
 }
