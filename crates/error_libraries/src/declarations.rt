@@ -20,6 +20,13 @@ use std::alloc::Global;
 use std::collections::HashMap;
 use std::marker::Model;
 
+/// What names are looked up in: the packages, and their libraries.
+#[derive(Clone, Copy)]
+struct Declared<'t, 'a> {
+    index: &'t Index<'a>,
+    libraries: &'t [Library<'a>],
+}
+
 /// What the libraries of all packages declare. Contracts see the packages, the libraries and the types.
 #[derive(Drop)]
 pub struct Declarations<'i, 'a> {
@@ -144,16 +151,11 @@ impl<'i, 'a> Declarations<'i, 'a> {
         ensures target { IfOk result (λ target. target ≡ (named self.old scope.now reference.now).target) }
         ensures first { OnOk result (first.new ≡ nearer first.old (named self.old scope.now reference.now).first) }
     {
-        let libraries = self.libraries.items();
-        named(
-            alloc,
-            self.index,
-            &mut self.known,
-            libraries,
-            scope,
-            reference,
-            first,
-        )
+        let declared = Declared {
+            index: self.index,
+            libraries: self.libraries.items(),
+        };
+        named(alloc, &declared, &mut self.known, scope, reference, first)
     }
 
     /// The same in the text of the library of a package.
@@ -170,15 +172,11 @@ impl<'i, 'a> Declarations<'i, 'a> {
     {
         let libraries = self.libraries.items();
         let scope = scope_at(libraries, &self.nowhere, home);
-        named(
-            alloc,
-            self.index,
-            &mut self.known,
+        let declared = Declared {
+            index: self.index,
             libraries,
-            scope,
-            reference,
-            first,
-        )
+        };
+        named(alloc, &declared, &mut self.known, scope, reference, first)
     }
 }
 
@@ -196,25 +194,25 @@ fn scope_at<'t>(libraries: &'t [Library<'_>], nowhere: &'t Scope, home: u32) -> 
 /// What a reference means in a text, by these libraries. Its first refusal is noted.
 fn named<'a>(
     alloc: Global,
-    index: &Index<'a>,
+    declared: &Declared<'_, 'a>,
     known: &mut Known<'a>,
-    libraries: &[Library<'a>],
     scope: &Scope,
     reference: &'a Ref,
     first: &mut FirstRefusal,
 ) -> Mem<Option<ItemId>>
-    requires { AreFound libraries.now (get same_search known.old) }
-    ensures known { AreFound libraries.now (get same_search known.new) }
-    ensures target { IfOk result (λ target. target ≡ (named (of_libraries index.now libraries.now) scope.now reference.now).target) }
-    ensures first { OnOk result (first.new ≡ nearer first.old (named (of_libraries index.now libraries.now) scope.now reference.now).first) }
+    requires { AreFound declared.now.libraries.now (get same_search known.old) }
+    ensures known { AreFound declared.now.libraries.now (get same_search known.new) }
+    ensures target { IfOk result (λ target. target ≡ (named (of_libraries declared.now.index.now declared.now.libraries.now) scope.now reference.now).target) }
+    ensures first { OnOk result (first.new ≡ nearer first.old (named (of_libraries declared.now.index.now declared.now.libraries.now) scope.now reference.now).first) }
 {
+    let libraries = declared.libraries;
     let names = Words::Identifiers(reference.names.items());
     let front = names.front();
     if front.len() == 0 {
         let searched = scope.libraries.items();
         return named_in(alloc, known, libraries, searched, reference, first);
     }
-    match index.find_package(scope.package, front) {
+    match declared.index.find_package(scope.package, front) {
         Some(number) => named_in(alloc, known, libraries, &[number], reference, first),
         None => {
             first.note(Refusal::at(Code::UnknownPackage, reference.spot));

@@ -15,6 +15,13 @@ use plain_values::{Code, FirstRefusal, List, Mem, Refusal};
 use std::alloc::Global;
 use std::collections::HashMap;
 
+/// What is gathered of written terms: the row of the types that they denote, and the first refusal.
+#[derive(Drop)]
+struct Gathered {
+    row: Row,
+    first: FirstRefusal,
+}
+
 /// What is remembered at first: the rows of the types.
 pub(crate) fn memory_of(
     alloc: Global,
@@ -59,30 +66,34 @@ pub(crate) fn denoted<'a>(
     ensures types { IfOk result (λ types. types ≡ types_below declarations.old (flat_map (term_types declarations.old scope.now) terms.now)) }
     ensures first { OnOk result (first.new ≡ nearer first.old (terms_first declarations.old scope.now terms.now)) }
 {
-    let mut row = Row::new(alloc, declarations.types().len() as u32)?;
-    add_terms(alloc, declarations, memory, scope, terms, &mut row, first)?;
-    row.numbers(alloc)
+    let row = Row::new(alloc, declarations.types().len() as u32)?;
+    let mut gathered = Gathered {
+        row,
+        first: FirstRefusal::new(),
+    };
+    add_terms(alloc, declarations, memory, scope, terms, &mut gathered)?;
+    first.note_some(gathered.first.noted());
+    gathered.row.numbers(alloc)
 }
 
-/// Puts the types that terms denote into a row. Their first refusal is noted.
+/// Gathers the types that terms denote. Their first refusal is noted.
 fn add_terms<'a>(
     alloc: Global,
     declarations: &mut Declarations<'_, 'a>,
     memory: &mut Memory,
     scope: &Scope,
     terms: &'a [Term],
-    row: &mut Row,
-    first: &mut FirstRefusal,
+    gathered: &mut Gathered,
 ) -> Mem<()>
     requires memory { Remembers declarations.old memory.old }
-    requires row { row.old ≡ row_of declarations.old [] }
+    requires row { gathered.old.row ≡ row_of declarations.old [] }
     ensures kept { declarations.new ≡ declarations.old }
     ensures memory { Remembers declarations.old memory.new }
-    ensures row { OnOk result (row.new ≡ row_of declarations.old (flat_map (term_types declarations.old scope.now) terms.now)) }
-    ensures first { OnOk result (first.new ≡ nearer first.old (terms_first declarations.old scope.now terms.now)) }
+    ensures row { OnOk result (gathered.new.row ≡ row_of declarations.old (flat_map (term_types declarations.old scope.now) terms.now)) }
+    ensures first { OnOk result (gathered.new.first ≡ nearer gathered.old.first (terms_first declarations.old scope.now terms.now)) }
 {
     for term in terms {
-        add_term(alloc, declarations, memory, scope, term, row, first)?;
+        add_term(alloc, declarations, memory, scope, term, gathered)?;
     }
     Ok(())
 }
@@ -94,23 +105,22 @@ fn add_term<'a>(
     memory: &mut Memory,
     scope: &Scope,
     term: &'a Term,
-    row: &mut Row,
-    first: &mut FirstRefusal,
+    gathered: &mut Gathered,
 ) -> Mem<()>
     requires { Remembers declarations.old memory.old }
     ensures kept { declarations.new ≡ declarations.old }
     ensures memory { Remembers declarations.old memory.new }
-    ensures row { OnOk result (Adds declarations.old row.old row.new (term_types declarations.old scope.now term.now)) }
-    ensures first { OnOk result (first.new ≡ nearer first.old (term_first declarations.old scope.now term.now)) }
+    ensures row { OnOk result (Adds declarations.old gathered.old.row gathered.new.row (term_types declarations.old scope.now term.now)) }
+    ensures first { OnOk result (gathered.new.first ≡ nearer gathered.old.first (term_first declarations.old scope.now term.now)) }
 {
     match term {
         Term::NoError(_) => Ok(()),
         Term::Product(spot) => {
-            first.note(Refusal::at(Code::TypeProduct, *spot));
+            gathered.first.note(Refusal::at(Code::TypeProduct, *spot));
             Ok(())
         }
         Term::One(reference) => {
-            add_name(alloc, declarations, memory, scope, reference, row, first)
+            add_name(alloc, declarations, memory, scope, reference, gathered)
         }
     }
 }
@@ -122,19 +132,25 @@ fn add_name<'a>(
     memory: &mut Memory,
     scope: &Scope,
     reference: &'a Ref,
-    row: &mut Row,
-    first: &mut FirstRefusal,
+    gathered: &mut Gathered,
 ) -> Mem<()>
     requires { Remembers declarations.old memory.old }
     ensures kept { declarations.new ≡ declarations.old }
     ensures memory { Remembers declarations.old memory.new }
-    ensures row { OnOk result (Adds declarations.old row.old row.new (reached false declarations.old (named declarations.old scope.now reference.now).target).types) }
-    ensures first { OnOk result (first.new ≡ nearer first.old (nearer (named declarations.old scope.now reference.now).first (reached true declarations.old (named declarations.old scope.now reference.now).target).first)) }
+    ensures row { OnOk result (Adds declarations.old gathered.old.row gathered.new.row (reached false declarations.old (named declarations.old scope.now reference.now).target).types) }
+    ensures first { OnOk result (gathered.new.first ≡ nearer gathered.old.first (nearer (named declarations.old scope.now reference.now).first (reached true declarations.old (named declarations.old scope.now reference.now).target).first)) }
 {
     let mut met = FirstRefusal::new();
     let target = declarations.named(alloc, scope, reference, &mut met)?;
-    add_reached(alloc, declarations, memory, target, row, &mut met)?;
-    first.note_some(met.noted());
+    add_reached(
+        alloc,
+        declarations,
+        memory,
+        target,
+        &mut gathered.row,
+        &mut met,
+    )?;
+    gathered.first.note_some(met.noted());
     Ok(())
 }
 

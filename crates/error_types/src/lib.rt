@@ -7,10 +7,12 @@ mod hierarchy;
 mod memory;
 mod needs;
 mod reach;
+mod reading;
 mod row;
 mod settle;
 mod table;
 mod trip;
 mod walk;
 
+pub use reading::Reading;
 pub use table::TypeTable;

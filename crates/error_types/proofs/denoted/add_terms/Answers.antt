@@ -15,7 +15,7 @@ loop-term-preserved c =
     let i = c.loop-term.term-index in
     let kept = c.loop-term.invariant.kept in
     let so_far = flat_map (term_types table scope) (take i terms) in
-    let adds = subst (λ t. Adds t c.loop-term.row c.add_term.new.row (term_types t scope term)) kept c.in_ok-add_term.ensures.row in
+    let adds = subst (λ t. Adds t c.loop-term.gathered.row c.add_term.new.gathered.row (term_types t scope term)) kept c.in_ok-add_term.ensures.row in
     record {
       kept = c.add_term.ensures.kept ∙ kept;
       memory = subst (λ t. Remembers t c.add_term.new.memory) kept c.add_term.ensures.memory;
@@ -23,6 +23,6 @@ loop-term-preserved c =
           adds so_far c.loop-term.invariant.row
           ∙ ap (row_of table) (gathered-more terms i term c.loop-term-test.true c.term-item.is (term_types table scope) [] so_far (so_far ++ term_types table scope term) refl refl);
       first =
-          terms-more table scope terms i term c.loop-term-test.true c.term-item.is c.loop-term.first c.add_term.new.first _
-          (c.in_ok-add_term.ensures.first ∙ ap (λ t. nearer c.loop-term.first (term_first t scope term)) kept) c.loop-term.invariant.first;
+          terms-more table scope terms i term c.loop-term-test.true c.term-item.is c.loop-term.gathered.first c.add_term.new.gathered.first _
+          (c.in_ok-add_term.ensures.first ∙ ap (λ t. nearer c.loop-term.gathered.first (term_first t scope term)) kept) c.loop-term.invariant.first;
     }

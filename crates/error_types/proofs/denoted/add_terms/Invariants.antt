@@ -8,6 +8,6 @@ abbrev pub invariant-loop-term : goal.invariant-loop-term
 invariant-loop-term l = record {
   kept : l.declarations ≡ l.fn.declarations;
   memory : Remembers l.fn.declarations l.memory;
-  row : l.row ≡ row_of l.fn.declarations (flat_map (term_types l.fn.declarations l.scope) (take l.term-index l.terms));
-  first : nearer l.first (terms_first l.fn.declarations l.scope (drop l.term-index l.terms)) ≡ nearer l.fn.first (terms_first l.fn.declarations l.scope l.terms);
+  row : l.gathered.row ≡ row_of l.fn.declarations (flat_map (term_types l.fn.declarations l.scope) (take l.term-index l.terms));
+  first : nearer l.gathered.first (terms_first l.fn.declarations l.scope (drop l.term-index l.terms)) ≡ nearer l.fn.gathered.first (terms_first l.fn.declarations l.scope l.terms);
 }

@@ -10,4 +10,4 @@ add_terms-requires-clause-row c = c.in_ok-row.ensures ∙ ap (λ types. replicat
 pub returns-clause-types : goal.returns-clause-types
 returns-clause-types c =
     let table = c.args.declarations.now in
-    IfOk-weaker c.numbers.result _ _ (λ numbers is. is ∙ row-numbers table c.add_terms.new.row (flat_map (term_types table c.args.scope.now) c.args.terms.now) c.in_ok-add_terms.ensures.row) c.numbers.ensures
+    IfOk-weaker c.numbers.result _ _ (λ numbers is. is ∙ row-numbers table c.add_terms.new.gathered.row (flat_map (term_types table c.args.scope.now) c.args.terms.now) c.in_ok-add_terms.ensures.row) c.numbers.ensures
