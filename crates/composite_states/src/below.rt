@@ -9,7 +9,7 @@ ghost use Rattle.error_conditions.specs.declared.cause.Cause.TheVariants.{Any};
 
 use aadl_syntax::{Atom, Identifier};
 use error_conditions::{Atoms, Cause, StateBelow, note_no_errors, point_meaning};
-use error_types::TypeTable;
+use error_types::Reading;
 use package_index::Words;
 use plain_values::{Code, FirstRefusal, List, Mem, Spot};
 use propagation_points::{Held, Setting, Sort, Sorts};
@@ -59,15 +59,14 @@ impl<'s, 'a, B: StatesBelow<'a>> Atoms for CompositePlace<'s, 'a, B> {
     fn meaning<'t>(
         &self,
         alloc: Global,
-        types: &mut TypeTable<'_, 't>,
+        reading: &mut Reading<'_, 't>,
         atom: &'t Atom,
-        first: &mut FirstRefusal,
     ) -> Mem<Cause> {
-        note_no_errors(first, &atom.set);
+        note_no_errors(&mut reading.first, &atom.set);
         if atom.inward {
-            return point_meaning(alloc, &self.setting, types, atom, first);
+            return point_meaning(alloc, &self.setting, reading, atom);
         }
-        state_named(alloc, types, &self.setting, self.below, atom, first)
+        state_named(alloc, reading, &self.setting, self.below, atom)
     }
 }
 
@@ -75,20 +74,19 @@ impl<'s, 'a, B: StatesBelow<'a>> Atoms for CompositePlace<'s, 'a, B> {
 #[tactic(auto, using(plain_values::proofs::Noting::noted_more))]
 fn state_named<'a, 't, B: StatesBelow<'a>>(
     alloc: Global,
-    types: &mut TypeTable<'_, 't>,
+    reading: &mut Reading<'_, 't>,
     setting: &Setting,
     below: &B,
     atom: &'t Atom,
-    first: &mut FirstRefusal,
 ) -> Mem<Cause>
-    ensures kept { types.new ≡ types.old }
-    ensures meaning { IfOk result (λ cause. cause ≡ state_named (B.states_at below.now) types.old setting.now atom.now) }
-    ensures first { OnOk result (first.new ≡ nearer first.old (least (state_named_refusals (B.states_at below.now) types.old setting.now atom.now))) }
+    ensures kept { reading.new.types ≡ reading.old.types }
+    ensures meaning { IfOk result (λ cause. cause ≡ state_named (B.states_at below.now) reading.old.types setting.now atom.now) }
+    ensures first { OnOk result (reading.new.first ≡ nearer reading.old.first (least (state_named_refusals (B.states_at below.now) reading.old.types setting.now atom.now))) }
 {
     let names = atom.names.items();
-    match known_state(below, names, atom.spot, first) {
+    match known_state(below, names, atom.spot, &mut reading.first) {
         Some(state) => {
-            let held = setting.held(alloc, types, state, &atom.set, first)?;
+            let held = setting.held(alloc, reading, state, &atom.set)?;
             held_cause(alloc, path_of(names), held)
         }
         None => Ok(Cause::Any(List::new(alloc))),

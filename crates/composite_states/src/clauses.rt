@@ -12,10 +12,19 @@ use component_extension::{Effective, InClause};
 use error_conditions::{Cause, cause_of};
 use error_libraries::Scope;
 use error_machines::States;
-use error_types::TypeTable;
+use error_types::Reading;
 use plain_values::{Code, FirstRefusal, List, Mem};
 use propagation_points::{Held, Points, Setting, scopes_of};
 use std::alloc::Global;
+
+/// What is around the composite clauses of a component: its points and states, the texts of its clauses, and what lies below it.
+#[derive(Drop)]
+struct Around<'s, 'a, B> {
+    points: &'s Points<'a>,
+    states: &'s States<'a>,
+    scopes: &'s [Scope],
+    below: &'s B,
+}
 
 /// The composite clauses of a component with these points and states, in order, over the states of the components below.
 ///
@@ -25,57 +34,57 @@ use std::alloc::Global;
 pub fn clauses_of<'a, B: StatesBelow<'a>>(
     alloc: Global,
     effective: &Effective<'a>,
-    types: &mut TypeTable<'_, 'a>,
+    reading: &mut Reading<'_, 'a>,
     points: &Points<'a>,
     states: &States<'a>,
     below: &B,
-    first: &mut FirstRefusal,
 ) -> Mem<List<ClauseMeaning>>
-    ensures kept { types.new ≡ types.old }
-    ensures clauses { IfOk result (λ clauses. clauses ≡ clauses_of (B.states_at below.now) types.old points.now states.now effective.now) }
-    ensures first { OnOk result (first.new ≡ nearer first.old (least (composite_clause_refusals (B.states_at below.now) types.old points.now states.now effective.now))) }
+    ensures kept { reading.new.types ≡ reading.old.types }
+    ensures clauses { IfOk result (λ clauses. clauses ≡ clauses_of (B.states_at below.now) reading.old.types points.now states.now effective.now) }
+    ensures first { OnOk result (reading.new.first ≡ nearer reading.old.first (least (composite_clause_refusals (B.states_at below.now) reading.old.types points.now states.now effective.now))) }
 {
-    let scopes = scopes_of(alloc, types, effective.clauses.items())?;
+    let scopes = scopes_of(alloc, &reading.types, effective.clauses.items())?;
     let composites = effective.behavior.composites.items();
-    clauses_in(
-        alloc,
-        types,
+    let around = Around {
         points,
         states,
-        scopes.items(),
+        scopes: scopes.items(),
         below,
-        composites,
-        first,
-    )
+    };
+    clauses_in(alloc, reading, &around, composites)
 }
 
+/// The meanings of clauses in these surroundings, in order. Their refusals are noted.
 fn clauses_in<'s, 'a, B: StatesBelow<'a>>(
     alloc: Global,
-    types: &mut TypeTable<'_, 'a>,
-    points: &'s Points<'a>,
-    states: &'s States<'a>,
-    scopes: &'s [Scope],
-    below: &'s B,
+    reading: &mut Reading<'_, 'a>,
+    around: &Around<'s, 'a, B>,
     composites: &[InClause<'a, Composite>],
-    first: &mut FirstRefusal,
 ) -> Mem<List<ClauseMeaning>>
-    ensures kept { types.new ≡ types.old }
-    ensures clauses { IfOk result (λ clauses. clauses ≡ clauses_in (B.states_at below.now) types.old points.now states.now.sorts scopes.now composites.now) }
-    ensures first { OnOk result (first.new ≡ nearer first.old (least (refusals_in (B.states_at below.now) types.old points.now states.now scopes.now composites.now))) }
+    ensures kept { reading.new.types ≡ reading.old.types }
+    ensures clauses { IfOk result (λ clauses. clauses ≡ clauses_in (B.states_at around.now.below.now) reading.old.types around.now.points.now around.now.states.now.sorts around.now.scopes.now composites.now) }
+    ensures first { OnOk result (reading.new.first ≡ nearer reading.old.first (least (refusals_in (B.states_at around.now.below.now) reading.old.types around.now.points.now around.now.states.now around.now.scopes.now composites.now))) }
 {
     let mut clauses = List::new(alloc);
     for composite in composites {
-        let setting = Setting::of_clause(points, &states.sorts, scopes, composite.scope());
-        let place = CompositePlace { setting, below };
-        let initial = states.initial.items();
+        let setting = Setting::of_clause(
+            around.points,
+            &around.states.sorts,
+            around.scopes,
+            composite.scope(),
+        );
+        let place = CompositePlace {
+            setting,
+            below: around.below,
+        };
+        let initial = around.states.initial.items();
         add_clause(
             alloc,
             &mut clauses,
-            types,
+            reading,
             &place,
             initial,
             composite.item(),
-            first,
         )?;
     }
     Ok(clauses)
@@ -85,20 +94,19 @@ fn clauses_in<'s, 'a, B: StatesBelow<'a>>(
 fn add_clause<'a, B: StatesBelow<'a>>(
     alloc: Global,
     clauses: &mut List<ClauseMeaning>,
-    types: &mut TypeTable<'_, 'a>,
+    reading: &mut Reading<'_, 'a>,
     place: &CompositePlace<'_, 'a, B>,
     initial: &[bool],
     composite: &'a Composite,
-    first: &mut FirstRefusal,
 ) -> Mem<()>
-    ensures kept { types.new ≡ types.old }
-    ensures clauses { OnOk result (clauses.new ≡ clauses.old ++ clause_of (B.states_at place.now.below) place.now.setting types.old composite.now) }
-    ensures first { OnOk result (first.new ≡ nearer first.old (least (clause_refusals (B.states_at place.now.below) place.now.setting types.old initial.now composite.now))) }
+    ensures kept { reading.new.types ≡ reading.old.types }
+    ensures clauses { OnOk result (clauses.new ≡ clauses.old ++ clause_of (B.states_at place.now.below) place.now.setting reading.old.types composite.now) }
+    ensures first { OnOk result (reading.new.first ≡ nearer reading.old.first (least (clause_refusals (B.states_at place.now.below) place.now.setting reading.old.types initial.now composite.now))) }
 {
-    let condition = condition_of(alloc, types, place, &composite.condition, first)?;
-    let held = place.setting.refer(alloc, types, &composite.target, first)?;
+    let condition = condition_of(alloc, reading, place, &composite.condition)?;
+    let held = place.setting.refer(alloc, reading, &composite.target)?;
     let target = place.setting.place(&composite.target);
-    note_others(first, initial, target, composite);
+    note_others(&mut reading.first, initial, target, composite);
     add_meaning(alloc, clauses, held, condition)
 }
 
@@ -145,17 +153,16 @@ fn is_not_initial(initial: &[bool], state: Option<u32>) -> bool
 /// The meaning of a condition, if there is one. Its refusals are noted.
 fn condition_of<'a, B: StatesBelow<'a>>(
     alloc: Global,
-    types: &mut TypeTable<'_, 'a>,
+    reading: &mut Reading<'_, 'a>,
     place: &CompositePlace<'_, 'a, B>,
     condition: &'a Option<Condition>,
-    first: &mut FirstRefusal,
 ) -> Mem<Option<Cause>>
-    ensures kept { types.new ≡ types.old }
-    ensures condition { IfOk result (λ found. found ≡ condition_of (B.states_at place.now.below) place.now.setting types.old condition.now) }
-    ensures first { OnOk result (first.new ≡ nearer first.old (least (perhaps_refusals (B.states_at place.now.below) place.now.setting types.old condition.now))) }
+    ensures kept { reading.new.types ≡ reading.old.types }
+    ensures condition { IfOk result (λ found. found ≡ condition_of (B.states_at place.now.below) place.now.setting reading.old.types condition.now) }
+    ensures first { OnOk result (reading.new.first ≡ nearer reading.old.first (least (perhaps_refusals (B.states_at place.now.below) place.now.setting reading.old.types condition.now))) }
 {
     match condition {
-        Some(condition) => Ok(Some(cause_of(alloc, place, types, condition, first)?)),
+        Some(condition) => Ok(Some(cause_of(alloc, place, reading, condition)?)),
         None => Ok(None),
     }
 }

@@ -13,7 +13,7 @@ use aadl_syntax::{MachineDecl, Outgoing, Transition};
 use component_extension::{Effective, InClause};
 use error_libraries::Scope;
 use error_machines::UsedMachine;
-use error_types::TypeTable;
+use error_types::{Reading, TypeTable};
 use plain_values::{Code, FirstRefusal, List, Mem};
 use propagation_points::{Points, Sorts, scopes_of};
 use std::alloc::Global;
@@ -45,20 +45,18 @@ pub fn behavior_of<'a>(
     effective: &Effective<'a>,
     machine: &Option<UsedMachine<'a>>,
     states: &Sorts<'a>,
-    types: &mut TypeTable<'_, 'a>,
+    reading: &mut Reading<'_, 'a>,
     points: &Points<'a>,
-    first: &mut FirstRefusal,
 ) -> Mem<ErrorBehavior<'a>>
-    requires { states.now ≡ (states_of types.old machine.now).sorts }
-    ensures kept { types.new ≡ types.old }
-    ensures behavior { IfOk result (λ behavior. behavior ≡ behavior_of types.old points.now machine.now effective.now) }
-    ensures first { OnOk result (first.new ≡ nearer first.old (least (behavior_refusals types.old points.now machine.now effective.now))) }
+    requires { states.now ≡ (states_of reading.old.types machine.now).sorts }
+    ensures kept { reading.new.types ≡ reading.old.types }
+    ensures behavior { IfOk result (λ behavior. behavior ≡ behavior_of reading.old.types points.now machine.now effective.now) }
+    ensures first { OnOk result (reading.new.first ≡ nearer reading.old.first (least (behavior_refusals reading.old.types points.now machine.now effective.now))) }
 {
-    let texts = texts_of(alloc, types, machine, effective)?;
-    let events = events_of(alloc, types, machine, effective, &texts)?;
-    let (steps, emissions) = meanings(
-        alloc, types, points, states, &events, &texts, machine, effective, first,
-    )?;
+    let texts = texts_of(alloc, &reading.types, machine, effective)?;
+    let events = events_of(alloc, &mut reading.types, machine, effective, &texts)?;
+    let words = Vocabulary::new(points, states, &events);
+    let (steps, emissions) = meanings(alloc, reading, &words, &texts, machine, effective)?;
     Ok(ErrorBehavior {
         events,
         steps,
@@ -97,28 +95,24 @@ fn machine_text(
     }
 }
 
-/// The steps and the emissions of a component with these points, states, events and texts. All refusals are noted.
+/// The steps and the emissions of a component with these words and texts. All refusals are noted.
 #[tactic(auto, using(plain_values::proofs::Noting::noted_more))]
 fn meanings<'s, 'a>(
     alloc: Global,
-    types: &mut TypeTable<'_, 'a>,
-    points: &'s Points<'a>,
-    states: &'s Sorts<'a>,
-    events: &'s Sorts<'a>,
+    reading: &mut Reading<'_, 'a>,
+    words: &Vocabulary<'s, 'a>,
     texts: &'s Texts,
     machine: &Option<UsedMachine<'a>>,
     effective: &Effective<'a>,
-    first: &mut FirstRefusal,
 ) -> Mem<(List<Step>, List<Emission>)>
-    ensures kept { types.new ≡ types.old }
-    ensures steps { IfOk result (λ made. made.0 ≡ (behavior_with types.old (record { points = points.now; states = states.now; events = events.now }) texts.now machine.now effective.now).steps) }
-    ensures emissions { IfOk result (λ made. made.1 ≡ (behavior_with types.old (record { points = points.now; states = states.now; events = events.now }) texts.now machine.now effective.now).emissions) }
-    ensures first { OnOk result (first.new ≡ nearer first.old (least (refusals_with types.old (record { points = points.now; states = states.now; events = events.now }) texts.now machine.now effective.now))) }
+    ensures kept { reading.new.types ≡ reading.old.types }
+    ensures steps { IfOk result (λ made. made.0 ≡ (behavior_with reading.old.types words.now texts.now machine.now effective.now).steps) }
+    ensures emissions { IfOk result (λ made. made.1 ≡ (behavior_with reading.old.types words.now texts.now machine.now effective.now).emissions) }
+    ensures first { OnOk result (reading.new.first ≡ nearer reading.old.first (least (refusals_with reading.old.types words.now texts.now machine.now effective.now))) }
 {
-    let words = Vocabulary::new(points, states, events);
-    let steps = steps_of(alloc, types, &words, texts, machine, effective, first)?;
+    let steps = steps_of(alloc, reading, words, texts, machine, effective)?;
     let outgoing = effective.behavior.outgoing.items();
-    let emissions = emissions_of(alloc, types, &words, texts, outgoing, first)?;
+    let emissions = emissions_of(alloc, reading, words, texts, outgoing)?;
     Ok((steps, emissions))
 }
 
@@ -126,21 +120,20 @@ fn meanings<'s, 'a>(
 #[tactic(auto, using(plain_values::proofs::Noting::noted_more))]
 fn steps_of<'s, 'a>(
     alloc: Global,
-    types: &mut TypeTable<'_, 'a>,
+    reading: &mut Reading<'_, 'a>,
     words: &Vocabulary<'s, 'a>,
     texts: &'s Texts,
     machine: &Option<UsedMachine<'a>>,
     effective: &Effective<'a>,
-    first: &mut FirstRefusal,
 ) -> Mem<List<Step>>
-    ensures kept { types.new ≡ types.old }
-    ensures steps { IfOk result (λ steps. steps ≡ machine_steps types.old words.now texts.now machine.now ++ clause_steps types.old words.now texts.now effective.now.behavior.transitions) }
-    ensures first { OnOk result (first.new ≡ nearer first.old (least (step_refusals types.old words.now texts.now machine.now effective.now))) }
+    ensures kept { reading.new.types ≡ reading.old.types }
+    ensures steps { IfOk result (λ steps. steps ≡ machine_steps reading.old.types words.now texts.now machine.now ++ clause_steps reading.old.types words.now texts.now effective.now.behavior.transitions) }
+    ensures first { OnOk result (reading.new.first ≡ nearer reading.old.first (least (step_refusals reading.old.types words.now texts.now machine.now effective.now))) }
 {
-    let mut steps = machine_steps(alloc, types, words, texts, machine, first)?;
-    note_clause_events(first, effective.behavior.events.items());
+    let mut steps = machine_steps(alloc, reading, words, texts, machine)?;
+    note_clause_events(&mut reading.first, effective.behavior.events.items());
     let transitions = effective.behavior.transitions.items();
-    add_clause_steps(alloc, &mut steps, types, words, texts, transitions, first)?;
+    add_clause_steps(alloc, &mut steps, reading, words, texts, transitions)?;
     Ok(steps)
 }
 
@@ -148,27 +141,20 @@ fn steps_of<'s, 'a>(
 #[tactic(auto, using(plain_values::proofs::Noting::noted_more))]
 fn machine_steps<'s, 'a>(
     alloc: Global,
-    types: &mut TypeTable<'_, 'a>,
+    reading: &mut Reading<'_, 'a>,
     words: &Vocabulary<'s, 'a>,
     texts: &'s Texts,
     machine: &Option<UsedMachine<'a>>,
-    first: &mut FirstRefusal,
 ) -> Mem<List<Step>>
-    ensures kept { types.new ≡ types.old }
-    ensures steps { IfOk result (λ steps. steps ≡ machine_steps types.old words.now texts.now machine.now) }
-    ensures first { OnOk result (first.new ≡ nearer first.old (least (machine_refusals types.old words.now texts.now machine.now))) }
+    ensures kept { reading.new.types ≡ reading.old.types }
+    ensures steps { IfOk result (λ steps. steps ≡ machine_steps reading.old.types words.now texts.now machine.now) }
+    ensures first { OnOk result (reading.new.first ≡ nearer reading.old.first (least (machine_refusals reading.old.types words.now texts.now machine.now))) }
 {
     match machine {
         Some(machine) => {
-            note_machine(first, machine.decl());
+            note_machine(&mut reading.first, machine.decl());
             let place = words.place(machine_scope(texts));
-            steps_at(
-                alloc,
-                types,
-                &place,
-                machine.decl().transitions.items(),
-                first,
-            )
+            steps_at(alloc, reading, &place, machine.decl().transitions.items())
         }
         None => Ok(List::new(alloc)),
     }
@@ -202,18 +188,17 @@ fn note_machine(first: &mut FirstRefusal, decl: &MachineDecl)
 /// The steps of transitions that stand in one place. Their refusals are noted.
 fn steps_at<'a>(
     alloc: Global,
-    types: &mut TypeTable<'_, 'a>,
+    reading: &mut Reading<'_, 'a>,
     place: &TriggerPlace<'_, 'a>,
     transitions: &'a [Transition],
-    first: &mut FirstRefusal,
 ) -> Mem<List<Step>>
-    ensures kept { types.new ≡ types.old }
-    ensures steps { IfOk result (λ steps. steps ≡ flat_map (step_of place.now types.old) transitions.now) }
-    ensures first { OnOk result (first.new ≡ nearer first.old (least (flat_map (transition_refusals place.now types.old) transitions.now))) }
+    ensures kept { reading.new.types ≡ reading.old.types }
+    ensures steps { IfOk result (λ steps. steps ≡ flat_map (step_of place.now reading.old.types) transitions.now) }
+    ensures first { OnOk result (reading.new.first ≡ nearer reading.old.first (least (flat_map (transition_refusals place.now reading.old.types) transitions.now))) }
 {
     let mut steps = List::new(alloc);
     for transition in transitions {
-        add_step(alloc, &mut steps, types, place, transition, first)?;
+        add_step(alloc, &mut steps, reading, place, transition)?;
     }
     Ok(steps)
 }
@@ -222,19 +207,18 @@ fn steps_at<'a>(
 fn add_clause_steps<'s, 'a>(
     alloc: Global,
     steps: &mut List<Step>,
-    types: &mut TypeTable<'_, 'a>,
+    reading: &mut Reading<'_, 'a>,
     words: &Vocabulary<'s, 'a>,
     texts: &'s Texts,
     transitions: &[InClause<'a, Transition>],
-    first: &mut FirstRefusal,
 ) -> Mem<()>
-    ensures kept { types.new ≡ types.old }
-    ensures steps { OnOk result (steps.new ≡ steps.old ++ clause_steps types.old words.now texts.now transitions.now) }
-    ensures first { OnOk result (first.new ≡ nearer first.old (least (clause_transition_refusals types.old words.now texts.now transitions.now))) }
+    ensures kept { reading.new.types ≡ reading.old.types }
+    ensures steps { OnOk result (steps.new ≡ steps.old ++ clause_steps reading.old.types words.now texts.now transitions.now) }
+    ensures first { OnOk result (reading.new.first ≡ nearer reading.old.first (least (clause_transition_refusals reading.old.types words.now texts.now transitions.now))) }
 {
     for transition in transitions {
         let place = words.place(clause_scope(texts, transition.scope()));
-        add_step(alloc, steps, types, &place, transition.item(), first)?;
+        add_step(alloc, steps, reading, &place, transition.item())?;
     }
     Ok(())
 }
@@ -242,27 +226,19 @@ fn add_clause_steps<'s, 'a>(
 /// The emissions of outgoing conditions of clauses. Their refusals are noted.
 fn emissions_of<'s, 'a>(
     alloc: Global,
-    types: &mut TypeTable<'_, 'a>,
+    reading: &mut Reading<'_, 'a>,
     words: &Vocabulary<'s, 'a>,
     texts: &'s Texts,
     outgoing: &[InClause<'a, Outgoing>],
-    first: &mut FirstRefusal,
 ) -> Mem<List<Emission>>
-    ensures kept { types.new ≡ types.old }
-    ensures emissions { IfOk result (λ emissions. emissions ≡ clause_emissions types.old words.now texts.now outgoing.now) }
-    ensures first { OnOk result (first.new ≡ nearer first.old (least (clause_outgoing_refusals types.old words.now texts.now outgoing.now))) }
+    ensures kept { reading.new.types ≡ reading.old.types }
+    ensures emissions { IfOk result (λ emissions. emissions ≡ clause_emissions reading.old.types words.now texts.now outgoing.now) }
+    ensures first { OnOk result (reading.new.first ≡ nearer reading.old.first (least (clause_outgoing_refusals reading.old.types words.now texts.now outgoing.now))) }
 {
     let mut emissions = List::new(alloc);
     for condition in outgoing {
         let place = words.place(clause_scope(texts, condition.scope()));
-        add_emission(
-            alloc,
-            &mut emissions,
-            types,
-            &place,
-            condition.item(),
-            first,
-        )?;
+        add_emission(alloc, &mut emissions, reading, &place, condition.item())?;
     }
     Ok(emissions)
 }

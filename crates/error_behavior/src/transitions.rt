@@ -10,26 +10,25 @@ use crate::steps::{Emission, Origin, Step};
 use crate::triggers::TriggerPlace;
 use aadl_syntax::{Condition, Outgoing, StateRef, Transition};
 use error_conditions::{Cause, cause_of};
-use error_types::TypeTable;
-use plain_values::{FirstRefusal, List, Mem};
+use error_types::Reading;
+use plain_values::{List, Mem};
 use propagation_points::{Held, PointUse, ReachedPoint, Setting};
 use std::alloc::Global;
 
 /// From where a transition or an outgoing condition goes. The refusals of its state are noted.
 fn origin_of<'a>(
     alloc: Global,
-    types: &mut TypeTable<'_, 'a>,
+    reading: &mut Reading<'_, 'a>,
     setting: &Setting<'_, 'a>,
     state: &'a Option<StateRef>,
-    first: &mut FirstRefusal,
 ) -> Mem<Option<Origin>>
-    ensures kept { types.new ≡ types.old }
-    ensures origin { IfOk result (λ origin. origin ≡ origin_of types.old setting.now state.now) }
-    ensures first { OnOk result (first.new ≡ nearer first.old (least (origin_refusals types.old setting.now state.now))) }
+    ensures kept { reading.new.types ≡ reading.old.types }
+    ensures origin { IfOk result (λ origin. origin ≡ origin_of reading.old.types setting.now state.now) }
+    ensures first { OnOk result (reading.new.first ≡ nearer reading.old.first (least (origin_refusals reading.old.types setting.now state.now))) }
 {
     match state {
         Some(state) => {
-            let held = setting.refer(alloc, types, state, first)?;
+            let held = setting.refer(alloc, reading, state)?;
             Ok(held.map(|held| Origin::From(held)))
         }
         None => Ok(Some(Origin::Always)),
@@ -39,18 +38,17 @@ fn origin_of<'a>(
 /// The states to which a transition leads. The refusals of their names are noted.
 fn targets_of<'a>(
     alloc: Global,
-    types: &mut TypeTable<'_, 'a>,
+    reading: &mut Reading<'_, 'a>,
     setting: &Setting<'_, 'a>,
     targets: &'a [StateRef],
-    first: &mut FirstRefusal,
 ) -> Mem<List<u32>>
-    ensures kept { types.new ≡ types.old }
-    ensures targets { IfOk result (λ numbers. numbers ≡ targets_of types.old setting.now targets.now) }
-    ensures first { OnOk result (first.new ≡ nearer first.old (least (flat_map (state_refusals_in types.old setting.now) targets.now))) }
+    ensures kept { reading.new.types ≡ reading.old.types }
+    ensures targets { IfOk result (λ numbers. numbers ≡ targets_of reading.old.types setting.now targets.now) }
+    ensures first { OnOk result (reading.new.first ≡ nearer reading.old.first (least (flat_map (state_refusals_in reading.old.types setting.now) targets.now))) }
 {
     let mut numbers = List::new(alloc);
     for target in targets {
-        let held = setting.refer(alloc, types, target, first)?;
+        let held = setting.refer(alloc, reading, target)?;
         add_held(&mut numbers, &held)?;
     }
     Ok(numbers)
@@ -79,48 +77,35 @@ fn add_numbers(numbers: &mut List<u32>, more: &[u32]) -> Mem<()>
 pub(crate) fn add_step<'a>(
     alloc: Global,
     steps: &mut List<Step>,
-    types: &mut TypeTable<'_, 'a>,
+    reading: &mut Reading<'_, 'a>,
     place: &TriggerPlace<'_, 'a>,
     transition: &'a Transition,
-    first: &mut FirstRefusal,
 ) -> Mem<()>
-    ensures kept { types.new ≡ types.old }
-    ensures steps { OnOk result (steps.new ≡ steps.old ++ step_of place.now types.old transition.now) }
-    ensures first { OnOk result (first.new ≡ nearer first.old (least (transition_refusals place.now types.old transition.now))) }
+    ensures kept { reading.new.types ≡ reading.old.types }
+    ensures steps { OnOk result (steps.new ≡ steps.old ++ step_of place.now reading.old.types transition.now) }
+    ensures first { OnOk result (reading.new.first ≡ nearer reading.old.first (least (transition_refusals place.now reading.old.types transition.now))) }
 {
-    if let Some(step) = step_of(alloc, types, place, transition, first)? {
+    if let Some(step) = step_of(alloc, reading, place, transition)? {
         steps.push(step)?;
     }
     Ok(())
 }
 
+/// The step of a transition, if it has one. Its refusals are noted.
 #[tactic(auto, using(plain_values::proofs::Noting::noted_more))]
 fn step_of<'a>(
     alloc: Global,
-    types: &mut TypeTable<'_, 'a>,
+    reading: &mut Reading<'_, 'a>,
     place: &TriggerPlace<'_, 'a>,
     transition: &'a Transition,
-    first: &mut FirstRefusal,
 ) -> Mem<Option<Step>>
-    ensures kept { types.new ≡ types.old }
-    ensures step { IfOk result (λ step. option_to_list step ≡ step_of place.now types.old transition.now) }
-    ensures first { OnOk result (first.new ≡ nearer first.old (least (transition_refusals place.now types.old transition.now))) }
+    ensures kept { reading.new.types ≡ reading.old.types }
+    ensures step { IfOk result (λ step. option_to_list step ≡ step_of place.now reading.old.types transition.now) }
+    ensures first { OnOk result (reading.new.first ≡ nearer reading.old.first (least (transition_refusals place.now reading.old.types transition.now))) }
 {
-    let origin = origin_of(
-        alloc,
-        types,
-        &place.setting,
-        &transition.source.state,
-        first,
-    )?;
-    let trigger = cause_of(alloc, place, types, &transition.condition, first)?;
-    let targets = targets_of(
-        alloc,
-        types,
-        &place.setting,
-        transition.targets.items(),
-        first,
-    )?;
+    let origin = origin_of(alloc, reading, &place.setting, &transition.source.state)?;
+    let trigger = cause_of(alloc, place, reading, &transition.condition)?;
+    let targets = targets_of(alloc, reading, &place.setting, transition.targets.items())?;
     Ok(step_from(origin, trigger, targets))
 }
 
@@ -140,17 +125,16 @@ fn step_from(origin: Option<Origin>, trigger: Cause, targets: List<u32>) -> Opti
 /// The meaning of a trigger, if there is one. Its refusals are noted.
 fn trigger_of<'a>(
     alloc: Global,
-    types: &mut TypeTable<'_, 'a>,
+    reading: &mut Reading<'_, 'a>,
     place: &TriggerPlace<'_, 'a>,
     condition: &'a Option<Condition>,
-    first: &mut FirstRefusal,
 ) -> Mem<Option<Cause>>
-    ensures kept { types.new ≡ types.old }
-    ensures trigger { IfOk result (λ trigger. trigger ≡ trigger_of place.now types.old condition.now) }
-    ensures first { OnOk result (first.new ≡ nearer first.old (least (perhaps_refusals place.now types.old condition.now))) }
+    ensures kept { reading.new.types ≡ reading.old.types }
+    ensures trigger { IfOk result (λ trigger. trigger ≡ trigger_of place.now reading.old.types condition.now) }
+    ensures first { OnOk result (reading.new.first ≡ nearer reading.old.first (least (perhaps_refusals place.now reading.old.types condition.now))) }
 {
     match condition {
-        Some(condition) => Ok(Some(cause_of(alloc, place, types, condition, first)?)),
+        Some(condition) => Ok(Some(cause_of(alloc, place, reading, condition)?)),
         None => Ok(None),
     }
 }
@@ -159,37 +143,36 @@ fn trigger_of<'a>(
 pub(crate) fn add_emission<'a>(
     alloc: Global,
     emissions: &mut List<Emission>,
-    types: &mut TypeTable<'_, 'a>,
+    reading: &mut Reading<'_, 'a>,
     place: &TriggerPlace<'_, 'a>,
     outgoing: &'a Outgoing,
-    first: &mut FirstRefusal,
 ) -> Mem<()>
-    ensures kept { types.new ≡ types.old }
-    ensures emissions { OnOk result (emissions.new ≡ emissions.old ++ emission_of place.now types.old outgoing.now) }
-    ensures first { OnOk result (first.new ≡ nearer first.old (least (outgoing_refusals place.now types.old outgoing.now))) }
+    ensures kept { reading.new.types ≡ reading.old.types }
+    ensures emissions { OnOk result (emissions.new ≡ emissions.old ++ emission_of place.now reading.old.types outgoing.now) }
+    ensures first { OnOk result (reading.new.first ≡ nearer reading.old.first (least (outgoing_refusals place.now reading.old.types outgoing.now))) }
 {
-    if let Some(emission) = emission_of(alloc, types, place, outgoing, first)? {
+    if let Some(emission) = emission_of(alloc, reading, place, outgoing)? {
         emissions.push(emission)?;
     }
     Ok(())
 }
 
+/// The emission of an outgoing condition, if it has one. Its refusals are noted.
 #[tactic(auto, using(plain_values::proofs::Noting::noted_more))]
 fn emission_of<'a>(
     alloc: Global,
-    types: &mut TypeTable<'_, 'a>,
+    reading: &mut Reading<'_, 'a>,
     place: &TriggerPlace<'_, 'a>,
     outgoing: &'a Outgoing,
-    first: &mut FirstRefusal,
 ) -> Mem<Option<Emission>>
-    ensures kept { types.new ≡ types.old }
-    ensures emission { IfOk result (λ emission. option_to_list emission ≡ emission_of place.now types.old outgoing.now) }
-    ensures first { OnOk result (first.new ≡ nearer first.old (least (outgoing_refusals place.now types.old outgoing.now))) }
+    ensures kept { reading.new.types ≡ reading.old.types }
+    ensures emission { IfOk result (λ emission. option_to_list emission ≡ emission_of place.now reading.old.types outgoing.now) }
+    ensures first { OnOk result (reading.new.first ≡ nearer reading.old.first (least (outgoing_refusals place.now reading.old.types outgoing.now))) }
 {
-    let origin = origin_of(alloc, types, &place.setting, &outgoing.source.state, first)?;
-    let trigger = trigger_of(alloc, types, place, &outgoing.condition, first)?;
+    let origin = origin_of(alloc, reading, &place.setting, &outgoing.source.state)?;
+    let trigger = trigger_of(alloc, reading, place, &outgoing.condition)?;
     let used = PointUse::new(&outgoing.point, true, &outgoing.set);
-    let reached = place.setting.reached(alloc, types, &used, first)?;
+    let reached = place.setting.reached(alloc, reading, &used)?;
     Ok(emission_from(origin, trigger, reached))
 }
 

@@ -5,8 +5,8 @@ ghost use Rattle.error_behavior.specs.Triggers.{event_named, event_or_point, eve
 use aadl_syntax::Atom;
 use error_conditions::{Atoms, Cause, event_cause, note_no_errors, point_meaning};
 use error_libraries::Scope;
-use error_types::TypeTable;
-use plain_values::{FirstRefusal, Mem};
+use error_types::Reading;
+use plain_values::Mem;
 use propagation_points::{Points, Setting, Sort, Sorts, only_name};
 use std::alloc::Global;
 use std::marker::Model;
@@ -101,12 +101,11 @@ impl<'s, 'a> Atoms for TriggerPlace<'s, 'a> {
     fn meaning<'t>(
         &self,
         alloc: Global,
-        types: &mut TypeTable<'_, 't>,
+        reading: &mut Reading<'_, 't>,
         atom: &'t Atom,
-        first: &mut FirstRefusal,
     ) -> Mem<Cause> {
-        note_no_errors(first, &atom.set);
-        event_or_point(alloc, &self.setting, types, atom, self.event(atom), first)
+        note_no_errors(&mut reading.first, &atom.set);
+        event_or_point(alloc, &self.setting, reading, atom, self.event(atom))
     }
 }
 
@@ -114,20 +113,19 @@ impl<'s, 'a> Atoms for TriggerPlace<'s, 'a> {
 fn event_or_point<'a>(
     alloc: Global,
     setting: &Setting,
-    types: &mut TypeTable<'_, 'a>,
+    reading: &mut Reading<'_, 'a>,
     atom: &'a Atom,
     event: Option<&Sort>,
-    first: &mut FirstRefusal,
 ) -> Mem<Cause>
-    ensures kept { types.new ≡ types.old }
-    ensures meaning { IfOk result (λ cause. cause ≡ event_or_point types.old setting.now atom.now (option_copied event.entry)) }
-    ensures first { OnOk result (first.new ≡ nearer first.old (least (event_or_point_refusals types.old setting.now atom.now (option_copied event.entry)))) }
+    ensures kept { reading.new.types ≡ reading.old.types }
+    ensures meaning { IfOk result (λ cause. cause ≡ event_or_point reading.old.types setting.now atom.now (option_copied event.entry)) }
+    ensures first { OnOk result (reading.new.first ≡ nearer reading.old.first (least (event_or_point_refusals reading.old.types setting.now atom.now (option_copied event.entry)))) }
 {
     match event {
         Some(event) => {
-            let held = setting.held(alloc, types, event, &atom.set, first)?;
+            let held = setting.held(alloc, reading, event, &atom.set)?;
             event_cause(alloc, held)
         }
-        None => point_meaning(alloc, setting, types, atom, first),
+        None => point_meaning(alloc, setting, reading, atom),
     }
 }

@@ -7,7 +7,7 @@ ghost use Rattle.error_conditions.specs.declared.cause.Cause.TheVariants.{Any, E
 
 use crate::cause::Cause;
 use aadl_syntax::{Atom, Term, TypeSet};
-use error_types::TypeTable;
+use error_types::Reading;
 use plain_values::{Code, FirstRefusal, List, Mem};
 use propagation_points::{Held, PointUse, ReachedPoint, Setting};
 use std::alloc::Global;
@@ -16,16 +16,15 @@ use std::alloc::Global;
 pub fn point_meaning<'a>(
     alloc: Global,
     setting: &Setting,
-    types: &mut TypeTable<'_, 'a>,
+    reading: &mut Reading<'_, 'a>,
     atom: &'a Atom,
-    first: &mut FirstRefusal,
 ) -> Mem<Cause>
-    ensures kept { types.new ≡ types.old }
-    ensures meaning { IfOk result (λ cause. cause ≡ point_meaning types.old setting.now atom.now) }
-    ensures first { OnOk result (first.new ≡ nearer first.old (least (refusals_in types.old setting.now (atom_use atom.now)))) }
+    ensures kept { reading.new.types ≡ reading.old.types }
+    ensures meaning { IfOk result (λ cause. cause ≡ point_meaning reading.old.types setting.now atom.now) }
+    ensures first { OnOk result (reading.new.first ≡ nearer reading.old.first (least (refusals_in reading.old.types setting.now (atom_use atom.now)))) }
 {
     let used = PointUse::of_atom(atom);
-    let reached = setting.reached(alloc, types, &used, first)?;
+    let reached = setting.reached(alloc, reading, &used)?;
     Ok(point_cause(alloc, reached))
 }
 

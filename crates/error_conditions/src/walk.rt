@@ -4,8 +4,8 @@ ghost use Rattle.error_conditions.specs.Conditions.{cause_of, condition_refusals
 
 use crate::cause::Cause;
 use aadl_syntax::{Atom, Condition};
-use error_types::TypeTable;
-use plain_values::{Code, FirstRefusal, List, Mem};
+use error_types::Reading;
+use plain_values::{Code, List, Mem};
 use std::alloc::Global;
 
 /// What the named parts of a condition mean where it stands.
@@ -25,13 +25,12 @@ pub trait Atoms {
     fn meaning<'a>(
         &self,
         alloc: Global,
-        types: &mut TypeTable<'_, 'a>,
+        reading: &mut Reading<'_, 'a>,
         atom: &'a Atom,
-        first: &mut FirstRefusal,
     ) -> Mem<Cause>
-        ensures kept { types.new ≡ types.old }
-        ensures meaning { IfOk result (λ cause. cause ≡ meaning self.now types.old atom.now) }
-        ensures first { OnOk result (first.new ≡ nearer first.old (least (faults self.now types.old atom.now))) };
+        ensures kept { reading.new.types ≡ reading.old.types }
+        ensures meaning { IfOk result (λ cause. cause ≡ meaning self.now reading.old.types atom.now) }
+        ensures first { OnOk result (reading.new.first ≡ nearer reading.old.first (least (faults self.now reading.old.types atom.now))) };
 }
 
 /// The meaning of a condition, from those of its named parts. Their refusals are noted, and P5 at each `orless`.
@@ -39,37 +38,24 @@ pub trait Atoms {
 pub fn cause_of<'a, A: Atoms>(
     alloc: Global,
     atoms: &A,
-    types: &mut TypeTable<'_, 'a>,
+    reading: &mut Reading<'_, 'a>,
     condition: &'a Condition,
-    first: &mut FirstRefusal,
 ) -> Mem<Cause>
-    ensures kept { types.new ≡ types.old }
-    ensures cause { IfOk result (λ cause. cause ≡ cause_of (A.meaning atoms.now types.old) condition.now) }
-    ensures first { OnOk result (first.new ≡ nearer first.old (least (condition_refusals (A.faults atoms.now types.old) condition.now))) }
+    ensures kept { reading.new.types ≡ reading.old.types }
+    ensures cause { IfOk result (λ cause. cause ≡ cause_of (A.meaning atoms.now reading.old.types) condition.now) }
+    ensures first { OnOk result (reading.new.first ≡ nearer reading.old.first (least (condition_refusals (A.faults atoms.now reading.old.types) condition.now))) }
 {
     match condition {
-        Condition::Atom(atom) => atoms.meaning(alloc, types, atom, first),
-        Condition::All(parts) => Ok(Cause::All(causes_of(
-            alloc,
-            atoms,
-            types,
-            parts.items(),
-            first,
-        )?)),
-        Condition::Any(parts) => Ok(Cause::Any(causes_of(
-            alloc,
-            atoms,
-            types,
-            parts.items(),
-            first,
-        )?)),
+        Condition::Atom(atom) => atoms.meaning(alloc, reading, atom),
+        Condition::All(parts) => Ok(Cause::All(causes_of(alloc, atoms, reading, parts.items())?)),
+        Condition::Any(parts) => Ok(Cause::Any(causes_of(alloc, atoms, reading, parts.items())?)),
         Condition::AtLeast(least, parts) => Ok(Cause::AtLeast(
             *least,
-            causes_of(alloc, atoms, types, parts.items(), first)?,
+            causes_of(alloc, atoms, reading, parts.items())?,
         )),
         Condition::AtMost(_, parts, spot) => {
-            first.note_if(true, Code::OrLess, *spot);
-            causes_of(alloc, atoms, types, parts.items(), first)?;
+            reading.first.note_if(true, Code::OrLess, *spot);
+            causes_of(alloc, atoms, reading, parts.items())?;
             Ok(Cause::Any(List::new(alloc)))
         }
     }
@@ -80,17 +66,16 @@ pub fn cause_of<'a, A: Atoms>(
 fn causes_of<'a, A: Atoms>(
     alloc: Global,
     atoms: &A,
-    types: &mut TypeTable<'_, 'a>,
+    reading: &mut Reading<'_, 'a>,
     parts: &'a [Condition],
-    first: &mut FirstRefusal,
 ) -> Mem<List<Cause>>
-    ensures kept { types.new ≡ types.old }
-    ensures causes { IfOk result (λ causes. causes ≡ map (cause_of (A.meaning atoms.now types.old)) parts.now) }
-    ensures first { OnOk result (first.new ≡ nearer first.old (least (flat_map (condition_refusals (A.faults atoms.now types.old)) parts.now))) }
+    ensures kept { reading.new.types ≡ reading.old.types }
+    ensures causes { IfOk result (λ causes. causes ≡ map (cause_of (A.meaning atoms.now reading.old.types)) parts.now) }
+    ensures first { OnOk result (reading.new.first ≡ nearer reading.old.first (least (flat_map (condition_refusals (A.faults atoms.now reading.old.types)) parts.now))) }
 {
     let mut causes = List::new(alloc);
     for part in parts {
-        causes.push(cause_of(alloc, atoms, types, part, first)?)?;
+        causes.push(cause_of(alloc, atoms, reading, part)?)?;
     }
     Ok(causes)
 }

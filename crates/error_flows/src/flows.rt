@@ -10,7 +10,7 @@ use crate::meaning::FlowMeaning;
 use aadl_syntax::{Flow, FlowKind, Identifier, StateRef};
 use component_extension::{Effective, InClause};
 use error_libraries::Scope;
-use error_types::TypeTable;
+use error_types::Reading;
 use plain_values::{Code, FirstRefusal, List, Mem, Spot};
 use propagation_points::{Held, PointUse, Points, Reach, ReachedPoint, Setting, Sorts, scopes_of};
 use std::alloc::Global;
@@ -23,19 +23,18 @@ use std::alloc::Global;
 pub fn flows_of<'a>(
     alloc: Global,
     effective: &Effective<'a>,
-    types: &mut TypeTable<'_, 'a>,
+    reading: &mut Reading<'_, 'a>,
     points: &Points<'a>,
     states: &Sorts<'a>,
-    first: &mut FirstRefusal,
 ) -> Mem<List<FlowMeaning>>
-    ensures kept { types.new ≡ types.old }
-    ensures flows { IfOk result (λ flows. flows ≡ flows_of types.old points.now states.now effective.now) }
-    ensures first { OnOk result (first.new ≡ nearer first.old (least (all_flow_refusals types.old points.now states.now effective.now))) }
+    ensures kept { reading.new.types ≡ reading.old.types }
+    ensures flows { IfOk result (λ flows. flows ≡ flows_of reading.old.types points.now states.now effective.now) }
+    ensures first { OnOk result (reading.new.first ≡ nearer reading.old.first (least (all_flow_refusals reading.old.types points.now states.now effective.now))) }
 {
-    let scopes = scopes_of(alloc, types, effective.clauses.items())?;
+    let scopes = scopes_of(alloc, &reading.types, effective.clauses.items())?;
     let flows = effective.propagations.flows.items();
-    let found = meanings(alloc, types, points, states, scopes.items(), flows, first)?;
-    note_mappings(first, effective.others.mappings.items());
+    let found = meanings(alloc, reading, points, states, scopes.items(), flows)?;
+    note_mappings(&mut reading.first, effective.others.mappings.items());
     Ok(found)
 }
 
@@ -48,23 +47,23 @@ fn note_mappings(first: &mut FirstRefusal, mappings: &[Spot])
     }
 }
 
+/// The meanings of flows that are read in these texts, in order. Their refusals are noted.
 fn meanings<'s, 'a>(
     alloc: Global,
-    types: &mut TypeTable<'_, 'a>,
+    reading: &mut Reading<'_, 'a>,
     points: &'s Points<'a>,
     states: &'s Sorts<'a>,
     scopes: &'s [Scope],
     flows: &[InClause<'a, Flow>],
-    first: &mut FirstRefusal,
 ) -> Mem<List<FlowMeaning>>
-    ensures kept { types.new ≡ types.old }
-    ensures flows { IfOk result (λ found. found ≡ meanings types.old points.now states.now scopes.now flows.now) }
-    ensures first { OnOk result (first.new ≡ nearer first.old (least (refusals_of_flows types.old points.now states.now scopes.now flows.now))) }
+    ensures kept { reading.new.types ≡ reading.old.types }
+    ensures flows { IfOk result (λ found. found ≡ meanings reading.old.types points.now states.now scopes.now flows.now) }
+    ensures first { OnOk result (reading.new.first ≡ nearer reading.old.first (least (refusals_of_flows reading.old.types points.now states.now scopes.now flows.now))) }
 {
     let mut found = List::new(alloc);
     for flow in flows {
         let setting = Setting::of_clause(points, states, scopes, flow.scope());
-        add_meaning(alloc, &mut found, types, &setting, flow.item(), first)?;
+        add_meaning(alloc, &mut found, reading, &setting, flow.item())?;
     }
     Ok(found)
 }
@@ -73,46 +72,45 @@ fn meanings<'s, 'a>(
 fn add_meaning<'a>(
     alloc: Global,
     found: &mut List<FlowMeaning>,
-    types: &mut TypeTable<'_, 'a>,
+    reading: &mut Reading<'_, 'a>,
     setting: &Setting<'_, 'a>,
     flow: &'a Flow,
-    first: &mut FirstRefusal,
 ) -> Mem<()>
-    ensures kept { types.new ≡ types.old }
-    ensures found { OnOk result (found.new ≡ found.old ++ option_to_list (flow_meaning types.old setting.now flow.now.name flow.now.kind)) }
-    ensures first { OnOk result (first.new ≡ nearer first.old (least (flow_refusals types.old setting.now flow.now.kind))) }
+    ensures kept { reading.new.types ≡ reading.old.types }
+    ensures found { OnOk result (found.new ≡ found.old ++ option_to_list (flow_meaning reading.old.types setting.now flow.now.name flow.now.kind)) }
+    ensures first { OnOk result (reading.new.first ≡ nearer reading.old.first (least (flow_refusals reading.old.types setting.now flow.now.kind))) }
 {
-    if let Some(meaning) = meaning_of(alloc, types, setting, flow, first)? {
+    if let Some(meaning) = meaning_of(alloc, reading, setting, flow)? {
         found.push(meaning)?;
     }
     Ok(())
 }
 
+/// The meaning of a flow, if it has one. Its refusals are noted.
 fn meaning_of<'a>(
     alloc: Global,
-    types: &mut TypeTable<'_, 'a>,
+    reading: &mut Reading<'_, 'a>,
     setting: &Setting<'_, 'a>,
     flow: &'a Flow,
-    first: &mut FirstRefusal,
 ) -> Mem<Option<FlowMeaning>>
-    ensures kept { types.new ≡ types.old }
-    ensures meaning { IfOk result (λ meaning. meaning ≡ flow_meaning types.old setting.now flow.now.name flow.now.kind) }
-    ensures first { OnOk result (first.new ≡ nearer first.old (least (flow_refusals types.old setting.now flow.now.kind))) }
+    ensures kept { reading.new.types ≡ reading.old.types }
+    ensures meaning { IfOk result (λ meaning. meaning ≡ flow_meaning reading.old.types setting.now flow.now.name flow.now.kind) }
+    ensures first { OnOk result (reading.new.first ≡ nearer reading.old.first (least (flow_refusals reading.old.types setting.now flow.now.kind))) }
 {
     match &flow.kind {
         FlowKind::Source(point, set, state) => {
             let used = PointUse::new(point, true, set);
-            source(alloc, types, setting, &flow.name, &used, state, first)
+            source(alloc, reading, setting, &flow.name, &used, state)
         }
         FlowKind::Sink(point, set) => {
             let used = PointUse::new(point, false, set);
-            setting.reached(alloc, types, &used, first)?;
+            setting.reached(alloc, reading, &used)?;
             Ok(None)
         }
         FlowKind::Path(from, from_set, to, to_set, mapping) => {
             let start = PointUse::new(from, false, from_set);
             let end = PointUse::new(to, true, to_set);
-            path(alloc, types, setting, &start, &end, *mapping, first)
+            path(alloc, reading, setting, &start, &end, *mapping)
         }
     }
 }
@@ -121,20 +119,19 @@ fn meaning_of<'a>(
 #[tactic(auto, using(plain_values::proofs::Noting::noted_more))]
 fn source<'a>(
     alloc: Global,
-    types: &mut TypeTable<'_, 'a>,
+    reading: &mut Reading<'_, 'a>,
     setting: &Setting<'_, 'a>,
     name: &Identifier,
     used: &PointUse<'a>,
     state: &'a Option<StateRef>,
-    first: &mut FirstRefusal,
 ) -> Mem<Option<FlowMeaning>>
-    ensures kept { types.new ≡ types.old }
-    ensures meaning { IfOk result (λ meaning. meaning ≡ option_and_then (source_meaning types.old setting.now name.now state.now) (reached_in types.old setting.now used.now)) }
-    ensures first { OnOk result (first.new ≡ nearer first.old (least (refusals_in types.old setting.now used.now ++ when_refusals types.old setting.now state.now))) }
+    ensures kept { reading.new.types ≡ reading.old.types }
+    ensures meaning { IfOk result (λ meaning. meaning ≡ option_and_then (source_meaning reading.old.types setting.now name.now state.now) (reached_in reading.old.types setting.now used.now)) }
+    ensures first { OnOk result (reading.new.first ≡ nearer reading.old.first (least (refusals_in reading.old.types setting.now used.now ++ when_refusals reading.old.types setting.now state.now))) }
 {
-    let reached = setting.reached(alloc, types, used, first)?;
+    let reached = setting.reached(alloc, reading, used)?;
     match state {
-        Some(state) => state_source(alloc, types, setting, state, reached, first),
+        Some(state) => state_source(alloc, reading, setting, state, reached),
         None => event_source(alloc, name, reached),
     }
 }
@@ -155,17 +152,16 @@ fn event_source(
 /// The meaning of a source in a state. The refusals of the state are noted.
 fn state_source<'a>(
     alloc: Global,
-    types: &mut TypeTable<'_, 'a>,
+    reading: &mut Reading<'_, 'a>,
     setting: &Setting<'_, 'a>,
     state: &'a StateRef,
     reached: Option<ReachedPoint>,
-    first: &mut FirstRefusal,
 ) -> Mem<Option<FlowMeaning>>
-    ensures kept { types.new ≡ types.old }
-    ensures meaning { IfOk result (λ meaning. meaning ≡ option_and_then (λ reached. option_map (λ held. State held reached) (held_in types.old setting.now state.now)) reached) }
-    ensures first { OnOk result (first.new ≡ nearer first.old (least (state_refusals_in types.old setting.now state.now))) }
+    ensures kept { reading.new.types ≡ reading.old.types }
+    ensures meaning { IfOk result (λ meaning. meaning ≡ option_and_then (λ reached. option_map (λ held. State held reached) (held_in reading.old.types setting.now state.now)) reached) }
+    ensures first { OnOk result (reading.new.first ≡ nearer reading.old.first (least (state_refusals_in reading.old.types setting.now state.now))) }
 {
-    let held = setting.refer(alloc, types, state, first)?;
+    let held = setting.refer(alloc, reading, state)?;
     Ok(state_meaning(held, reached))
 }
 
@@ -179,20 +175,19 @@ fn state_meaning(held: Option<Held>, reached: Option<ReachedPoint>) -> Option<Fl
 #[tactic(auto, using(plain_values::proofs::Noting::noted_more))]
 fn path<'a>(
     alloc: Global,
-    types: &mut TypeTable<'_, 'a>,
+    reading: &mut Reading<'_, 'a>,
     setting: &Setting<'_, 'a>,
     start: &PointUse<'a>,
     end: &PointUse<'a>,
     mapping: Option<Spot>,
-    first: &mut FirstRefusal,
 ) -> Mem<Option<FlowMeaning>>
-    ensures kept { types.new ≡ types.old }
-    ensures meaning { IfOk result (λ meaning. meaning ≡ option_and_then (λ start. option_map (λ end. path_meaning start end.point end.types) (reached_in types.old setting.now end.now)) (reached_in types.old setting.now start.now)) }
-    ensures first { OnOk result (first.new ≡ nearer first.old (least (refusals_in types.old setting.now start.now ++ (refusals_in types.old setting.now end.now ++ refused_there Mapping mapping)))) }
+    ensures kept { reading.new.types ≡ reading.old.types }
+    ensures meaning { IfOk result (λ meaning. meaning ≡ option_and_then (λ start. option_map (λ end. path_meaning start end.point end.types) (reached_in reading.old.types setting.now end.now)) (reached_in reading.old.types setting.now start.now)) }
+    ensures first { OnOk result (reading.new.first ≡ nearer reading.old.first (least (refusals_in reading.old.types setting.now start.now ++ (refusals_in reading.old.types setting.now end.now ++ refused_there Mapping mapping)))) }
 {
-    let from = setting.reached(alloc, types, start, first)?;
-    let to = setting.reached(alloc, types, end, first)?;
-    first.note_at(Code::Mapping, mapping);
+    let from = setting.reached(alloc, reading, start)?;
+    let to = setting.reached(alloc, reading, end)?;
+    reading.first.note_at(Code::Mapping, mapping);
     Ok(path_meaning(from, to))
 }
 

@@ -19,7 +19,7 @@ use composite_states::{ClauseMeaning, clauses_of};
 use error_behavior::{ErrorBehavior, behavior_of};
 use error_flows::{FlowMeaning, flows_of};
 use error_machines::{States, UsedMachine, states_of};
-use error_types::TypeTable;
+use error_types::Reading;
 use instantiator::Instance;
 use plain_values::{Answer, FirstRefusal, List};
 use propagation_points::{Points, Sorts, points_of};
@@ -34,23 +34,23 @@ pub fn models_of<'a>(
     alloc: Global,
     instance: &Instance<'_, 'a>,
     machines: &[Option<UsedMachine<'a>>],
-    types: &mut TypeTable<'_, 'a>,
+    reading: &mut Reading<'_, 'a>,
 ) -> Answer<List<ErrorModel<'a>>>
     requires machines { machines.now ≡ map (kind_machine instance.now.packages) instance.now.kinds }
-    requires table { types.old ≡ table_of instance.now.packages }
-    ensures kept { types.new ≡ types.old }
-    ensures models { IfOk result (λ models. models ≡ map (model_of types.old instance.now.kinds) instance.now.kinds) }
-    ensures accepted { OnOk result (models_refusal types.old instance.now.kinds ≡ None) }
-    ensures refused { IfErr result (StopsAt (models_refusal types.old instance.now.kinds)) }
+    requires table { reading.old.types ≡ table_of instance.now.packages }
+    ensures kept { reading.new.types ≡ reading.old.types }
+    ensures models { IfOk result (λ models. models ≡ map (model_of reading.old.types instance.now.kinds) instance.now.kinds) }
+    ensures accepted { OnOk result (models_refusal reading.old.types instance.now.kinds ≡ None) }
+    ensures refused { IfErr result (StopsAt (models_refusal reading.old.types instance.now.kinds)) }
 {
-    let tree = Tree::of(alloc, instance, machines, types)?;
+    let tree = Tree::of(alloc, instance, machines, &mut reading.types)?;
     let mut models = List::new(alloc);
     for (number, kind) in instance.kinds().iter().enumerate() {
         let below = BelowKind {
             tree: &tree,
             classifier: kind.classifier,
         };
-        let model = model_of(alloc, &kind.effective, &machines[number], types, &below)?;
+        let model = model_of(alloc, &kind.effective, &machines[number], reading, &below)?;
         models.push(model)?;
     }
     Ok(models)
@@ -61,19 +61,19 @@ fn model_of<'a>(
     alloc: Global,
     effective: &Effective<'a>,
     machine: &Option<UsedMachine<'a>>,
-    types: &mut TypeTable<'_, 'a>,
+    reading: &mut Reading<'_, 'a>,
     below: &BelowKind<'_, '_, '_, 'a>,
 ) -> Answer<ErrorModel<'a>>
-    ensures kept { types.new ≡ types.old }
-    ensures model { IfOk result (λ model. model ≡ model_with types.old effective.now machine.now (states_below below.now.tree.packages below.now.tree.kinds (Some below.now.classifier))) }
-    ensures accepted { OnOk result (refusal_with types.old effective.now machine.now (states_below below.now.tree.packages below.now.tree.kinds (Some below.now.classifier)) ≡ None) }
-    ensures refused { IfErr result (StopsAt (refusal_with types.old effective.now machine.now (states_below below.now.tree.packages below.now.tree.kinds (Some below.now.classifier)))) }
+    ensures kept { reading.new.types ≡ reading.old.types }
+    ensures model { IfOk result (λ model. model ≡ model_with reading.old.types effective.now machine.now (states_below below.now.tree.packages below.now.tree.kinds (Some below.now.classifier))) }
+    ensures accepted { OnOk result (refusal_with reading.old.types effective.now machine.now (states_below below.now.tree.packages below.now.tree.kinds (Some below.now.classifier)) ≡ None) }
+    ensures refused { IfErr result (StopsAt (refusal_with reading.old.types effective.now machine.now (states_below below.now.tree.packages below.now.tree.kinds (Some below.now.classifier)))) }
 {
-    let points = points(alloc, effective, types)?;
-    let states = states_of(alloc, types, machine)?;
-    let behavior = behavior(alloc, effective, machine, &states.sorts, types, &points)?;
-    let flows = flows(alloc, effective, types, &points, &states.sorts)?;
-    let composites = composites(alloc, effective, types, &points, &states, below)?;
+    let points = points(alloc, effective, reading)?;
+    let states = states_of(alloc, &mut reading.types, machine)?;
+    let behavior = behavior(alloc, effective, machine, &states.sorts, reading, &points)?;
+    let flows = flows(alloc, effective, reading, &points, &states.sorts)?;
+    let composites = composites(alloc, effective, reading, &points, &states, below)?;
     Ok(ErrorModel {
         points,
         states,
@@ -90,75 +90,79 @@ fn is_composite(composites: &[InClause<'_, Composite>]) -> bool
     composites.len() > 0
 }
 
+/// The points of a component, whose refusals are tested.
 fn points<'a>(
     alloc: Global,
     effective: &Effective<'a>,
-    types: &mut TypeTable<'_, 'a>,
+    reading: &mut Reading<'_, 'a>,
 ) -> Answer<Points<'a>>
-    ensures kept { types.new ≡ types.old }
-    ensures points { IfOk result (λ points. points ≡ points_of types.old effective.now) }
-    ensures accepted { OnOk result (least (point_refusals types.old effective.now) ≡ None) }
-    ensures refused { IfErr result (StopsAt (least (point_refusals types.old effective.now))) }
+    ensures kept { reading.new.types ≡ reading.old.types }
+    ensures points { IfOk result (λ points. points ≡ points_of reading.old.types effective.now) }
+    ensures accepted { OnOk result (least (point_refusals reading.old.types effective.now) ≡ None) }
+    ensures refused { IfErr result (StopsAt (least (point_refusals reading.old.types effective.now))) }
 {
-    let mut first = FirstRefusal::new();
-    let points = points_of(alloc, effective, types, &mut first)?;
-    first.settle()?;
+    reading.first = FirstRefusal::new();
+    let points = points_of(alloc, effective, reading)?;
+    reading.first.settle()?;
     Ok(points)
 }
 
+/// The error behavior of a component, whose refusals are tested.
 fn behavior<'a>(
     alloc: Global,
     effective: &Effective<'a>,
     machine: &Option<UsedMachine<'a>>,
     states: &Sorts<'a>,
-    types: &mut TypeTable<'_, 'a>,
+    reading: &mut Reading<'_, 'a>,
     points: &Points<'a>,
 ) -> Answer<ErrorBehavior<'a>>
-    requires { states.now ≡ (states_of types.old machine.now).sorts }
-    ensures kept { types.new ≡ types.old }
-    ensures behavior { IfOk result (λ behavior. behavior ≡ behavior_of types.old points.now machine.now effective.now) }
-    ensures accepted { OnOk result (least (behavior_refusals types.old points.now machine.now effective.now) ≡ None) }
-    ensures refused { IfErr result (StopsAt (least (behavior_refusals types.old points.now machine.now effective.now))) }
+    requires { states.now ≡ (states_of reading.old.types machine.now).sorts }
+    ensures kept { reading.new.types ≡ reading.old.types }
+    ensures behavior { IfOk result (λ behavior. behavior ≡ behavior_of reading.old.types points.now machine.now effective.now) }
+    ensures accepted { OnOk result (least (behavior_refusals reading.old.types points.now machine.now effective.now) ≡ None) }
+    ensures refused { IfErr result (StopsAt (least (behavior_refusals reading.old.types points.now machine.now effective.now))) }
 {
-    let mut first = FirstRefusal::new();
-    let behavior = behavior_of(alloc, effective, machine, states, types, points, &mut first)?;
-    first.settle()?;
+    reading.first = FirstRefusal::new();
+    let behavior = behavior_of(alloc, effective, machine, states, reading, points)?;
+    reading.first.settle()?;
     Ok(behavior)
 }
 
+/// The meanings of the flows of a component, whose refusals are tested.
 fn flows<'a>(
     alloc: Global,
     effective: &Effective<'a>,
-    types: &mut TypeTable<'_, 'a>,
+    reading: &mut Reading<'_, 'a>,
     points: &Points<'a>,
     states: &Sorts<'a>,
 ) -> Answer<List<FlowMeaning>>
-    ensures kept { types.new ≡ types.old }
-    ensures flows { IfOk result (λ flows. flows ≡ flows_of types.old points.now states.now effective.now) }
-    ensures accepted { OnOk result (least (all_flow_refusals types.old points.now states.now effective.now) ≡ None) }
-    ensures refused { IfErr result (StopsAt (least (all_flow_refusals types.old points.now states.now effective.now))) }
+    ensures kept { reading.new.types ≡ reading.old.types }
+    ensures flows { IfOk result (λ flows. flows ≡ flows_of reading.old.types points.now states.now effective.now) }
+    ensures accepted { OnOk result (least (all_flow_refusals reading.old.types points.now states.now effective.now) ≡ None) }
+    ensures refused { IfErr result (StopsAt (least (all_flow_refusals reading.old.types points.now states.now effective.now))) }
 {
-    let mut first = FirstRefusal::new();
-    let flows = flows_of(alloc, effective, types, points, states, &mut first)?;
-    first.settle()?;
+    reading.first = FirstRefusal::new();
+    let flows = flows_of(alloc, effective, reading, points, states)?;
+    reading.first.settle()?;
     Ok(flows)
 }
 
+/// The composite clauses of a component, whose refusals are tested.
 fn composites<'a>(
     alloc: Global,
     effective: &Effective<'a>,
-    types: &mut TypeTable<'_, 'a>,
+    reading: &mut Reading<'_, 'a>,
     points: &Points<'a>,
     states: &States<'a>,
     below: &BelowKind<'_, '_, '_, 'a>,
 ) -> Answer<List<ClauseMeaning>>
-    ensures kept { types.new ≡ types.old }
-    ensures clauses { IfOk result (λ clauses. clauses ≡ clauses_of (states_below below.now.tree.packages below.now.tree.kinds (Some below.now.classifier)) types.old points.now states.now effective.now) }
-    ensures accepted { OnOk result (least (composite_clause_refusals (states_below below.now.tree.packages below.now.tree.kinds (Some below.now.classifier)) types.old points.now states.now effective.now) ≡ None) }
-    ensures refused { IfErr result (StopsAt (least (composite_clause_refusals (states_below below.now.tree.packages below.now.tree.kinds (Some below.now.classifier)) types.old points.now states.now effective.now))) }
+    ensures kept { reading.new.types ≡ reading.old.types }
+    ensures clauses { IfOk result (λ clauses. clauses ≡ clauses_of (states_below below.now.tree.packages below.now.tree.kinds (Some below.now.classifier)) reading.old.types points.now states.now effective.now) }
+    ensures accepted { OnOk result (least (composite_clause_refusals (states_below below.now.tree.packages below.now.tree.kinds (Some below.now.classifier)) reading.old.types points.now states.now effective.now) ≡ None) }
+    ensures refused { IfErr result (StopsAt (least (composite_clause_refusals (states_below below.now.tree.packages below.now.tree.kinds (Some below.now.classifier)) reading.old.types points.now states.now effective.now))) }
 {
-    let mut first = FirstRefusal::new();
-    let clauses = clauses_of(alloc, effective, types, points, states, below, &mut first)?;
-    first.settle()?;
+    reading.first = FirstRefusal::new();
+    let clauses = clauses_of(alloc, effective, reading, points, states, below)?;
+    reading.first.settle()?;
     Ok(clauses)
 }

@@ -5,7 +5,7 @@ ghost use Rattle.error_models.specs.Below.{kind_machine};
 ghost use Rattle.error_models.specs.Refused.{all_set_refusals};
 
 use error_machines::UsedMachine;
-use error_types::TypeTable;
+use error_types::Reading;
 use instantiator::Instance;
 use plain_values::{Answer, FirstRefusal, Mem};
 use std::alloc::Global;
@@ -19,34 +19,34 @@ pub fn test_sets<'a>(
     alloc: Global,
     instance: &Instance<'_, 'a>,
     machines: &[Option<UsedMachine<'a>>],
-    types: &mut TypeTable<'_, 'a>,
+    reading: &mut Reading<'_, 'a>,
 ) -> Answer<()>
     requires machines { machines.now ≡ map (kind_machine instance.now.packages) instance.now.kinds }
-    requires packages { types.old.packages ≡ instance.now.packages }
-    ensures kept { types.new ≡ types.old }
-    ensures accepted { OnOk result (all_set_refusals types.old instance.now.kinds ≡ []) }
-    ensures refused { IfErr result (StopsAtFirst (Contains (all_set_refusals types.old instance.now.kinds))) }
+    requires packages { reading.old.types.packages ≡ instance.now.packages }
+    ensures kept { reading.new.types ≡ reading.old.types }
+    ensures accepted { OnOk result (all_set_refusals reading.old.types instance.now.kinds ≡ []) }
+    ensures refused { IfErr result (StopsAtFirst (Contains (all_set_refusals reading.old.types instance.now.kinds))) }
 {
-    let mut first = FirstRefusal::new();
-    note_sets(alloc, instance, machines, types, &mut first)?;
-    first.settle()?;
+    reading.first = FirstRefusal::new();
+    note_sets(alloc, instance, machines, reading)?;
+    reading.first.settle()?;
     Ok(())
 }
 
+/// Notes the refusals of the written sets that the components of an instance use.
 fn note_sets<'a>(
     alloc: Global,
     instance: &Instance<'_, 'a>,
     machines: &[Option<UsedMachine<'a>>],
-    types: &mut TypeTable<'_, 'a>,
-    first: &mut FirstRefusal,
+    reading: &mut Reading<'_, 'a>,
 ) -> Mem<()>
     requires machines { machines.now ≡ map (kind_machine instance.now.packages) instance.now.kinds }
-    requires packages { types.old.packages ≡ instance.now.packages }
-    ensures kept { types.new ≡ types.old }
-    ensures first { OnOk result (first.new ≡ nearer first.old (least (all_set_refusals types.old instance.now.kinds))) }
+    requires packages { reading.old.types.packages ≡ instance.now.packages }
+    ensures kept { reading.new.types ≡ reading.old.types }
+    ensures first { OnOk result (reading.new.first ≡ nearer reading.old.first (least (all_set_refusals reading.old.types instance.now.kinds))) }
 {
     for (number, kind) in instance.kinds().iter().enumerate() {
-        note_used_sets(alloc, &kind.effective, &machines[number], types, first)?;
+        note_used_sets(alloc, &kind.effective, &machines[number], reading)?;
     }
     Ok(())
 }

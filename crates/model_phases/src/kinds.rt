@@ -10,7 +10,7 @@ ghost use Rattle.model_phases.specs.inner.Tests.{MeetsTests};
 
 use error_machines::UsedMachine;
 use error_models::{ErrorModel, machines_of, models_of, test_sets};
-use error_types::TypeTable;
+use error_types::{Reading, TypeTable};
 use instantiator::Instance;
 use phases::Status;
 use plain_values::List;
@@ -33,9 +33,12 @@ pub(crate) fn kinds_of<'i, 'a>(
     ensures models { IfOk result (λ kinds. kinds.models ≡ map (model_of (table_of instance.now.packages) instance.now.kinds) instance.now.kinds) }
 {
     let machines = machines_in(alloc, instance)?;
-    let mut types = types_of(alloc, instance)?;
-    let models = models_with(alloc, instance, &machines, &mut types)?;
-    Ok(Kinds { types, models })
+    let mut reading = reading_of(alloc, instance)?;
+    let models = models_with(alloc, instance, &machines, &mut reading)?;
+    Ok(Kinds {
+        types: reading.types,
+        models,
+    })
 }
 
 /// The machines of the kinds of an instance, in order; a kind may use none.
@@ -49,12 +52,12 @@ fn machines_in<'a>(
     Ok(machines_of(alloc, instance)?)
 }
 
-/// The error types of the packages of an instance.
-fn types_of<'i, 'a>(alloc: Global, instance: &Instance<'i, 'a>) -> Result<TypeTable<'i, 'a>, Status>
+/// A reading with the error types of the packages of an instance.
+fn reading_of<'i, 'a>(alloc: Global, instance: &Instance<'i, 'a>) -> Result<Reading<'i, 'a>, Status>
     ensures tested { MeetsTests (tests (HasTooManyTypes instance.now.packages)) result }
-    ensures types { IfOk result (λ types. types ≡ table_of instance.now.packages) }
+    ensures types { IfOk result (λ reading. reading.types ≡ table_of instance.now.packages) }
 {
-    Ok(TypeTable::new(alloc, instance.index())?)
+    Ok(Reading::new(TypeTable::new(alloc, instance.index())?))
 }
 
 /// The error models of the kinds of an instance, which have these machines, once the written sets that they use are tested.
@@ -62,14 +65,14 @@ fn models_with<'a>(
     alloc: Global,
     instance: &Instance<'_, 'a>,
     machines: &List<Option<UsedMachine<'a>>>,
-    types: &mut TypeTable<'_, 'a>,
+    reading: &mut Reading<'_, 'a>,
 ) -> Result<List<ErrorModel<'a>>, Status>
     requires machines { machines.now ≡ map (kind_machine instance.now.packages) instance.now.kinds }
-    requires table { types.old ≡ table_of instance.now.packages }
-    ensures tested { MeetsTests (content_tests types.old instance.now.kinds) result }
-    ensures kept { types.new ≡ types.old }
-    ensures models { IfOk result (λ models. models ≡ map (model_of types.old instance.now.kinds) instance.now.kinds) }
+    requires table { reading.old.types ≡ table_of instance.now.packages }
+    ensures tested { MeetsTests (content_tests reading.old.types instance.now.kinds) result }
+    ensures kept { reading.new.types ≡ reading.old.types }
+    ensures models { IfOk result (λ models. models ≡ map (model_of reading.old.types instance.now.kinds) instance.now.kinds) }
 {
-    test_sets(alloc, instance, machines.items(), types)?;
-    Ok(models_of(alloc, instance, machines.items(), types)?)
+    test_sets(alloc, instance, machines.items(), reading)?;
+    Ok(models_of(alloc, instance, machines.items(), reading)?)
 }

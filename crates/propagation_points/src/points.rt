@@ -10,7 +10,7 @@ use crate::point::Point;
 use crate::side::Side;
 use aadl_syntax::PointItem;
 use component_extension::{Effective, InClause};
-use error_types::TypeTable;
+use error_types::{Reading, TypeTable};
 use plain_values::{Code, FirstRefusal, List, Mem};
 use std::alloc::Global;
 use std::collections::HashMap;
@@ -108,15 +108,18 @@ impl<'a> Points<'a> {
 pub fn points_of<'a>(
     alloc: Global,
     effective: &Effective<'a>,
-    types: &mut TypeTable<'_, 'a>,
-    first: &mut FirstRefusal,
+    reading: &mut Reading<'_, 'a>,
 ) -> Mem<Points<'a>>
-    ensures kept { types.new ≡ types.old }
-    ensures points { IfOk result (λ points. points ≡ points_of types.old effective.now) }
-    ensures first { OnOk result (first.new ≡ nearer first.old (least (point_refusals types.old effective.now))) }
+    ensures kept { reading.new.types ≡ reading.old.types }
+    ensures points { IfOk result (λ points. points ≡ points_of reading.old.types effective.now) }
+    ensures first { OnOk result (reading.new.first ≡ nearer reading.old.first (least (point_refusals reading.old.types effective.now))) }
 {
-    let points = made_points(alloc, effective, types)?;
-    note_propagations(first, &points, effective.propagations.points.items());
+    let points = made_points(alloc, effective, &mut reading.types)?;
+    note_propagations(
+        &mut reading.first,
+        &points,
+        effective.propagations.points.items(),
+    );
     Ok(points)
 }
 

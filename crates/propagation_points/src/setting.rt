@@ -8,8 +8,8 @@ use crate::states::{Sort, Sorts};
 use crate::uses::{PointUse, ReachedPoint, reach_within, reached};
 use aadl_syntax::{StateRef, TypeSet};
 use error_libraries::Scope;
-use error_types::TypeTable;
-use plain_values::{Code, FirstRefusal, Mem};
+use error_types::Reading;
+use plain_values::{Code, Mem};
 use std::alloc::Global;
 use std::marker::Model;
 
@@ -73,31 +73,29 @@ impl<'s, 'a> Setting<'s, 'a> {
     pub fn reached<'t>(
         &self,
         alloc: Global,
-        types: &mut TypeTable<'_, 't>,
+        reading: &mut Reading<'_, 't>,
         used: &PointUse<'t>,
-        first: &mut FirstRefusal,
     ) -> Mem<Option<ReachedPoint>>
-        ensures kept { types.new ≡ types.old }
-        ensures reached { IfOk result (λ found. found ≡ reached_in types.old self.now used.now) }
-        ensures first { OnOk result (first.new ≡ nearer first.old (least (refusals_in types.old self.now used.now))) }
+        ensures kept { reading.new.types ≡ reading.old.types }
+        ensures reached { IfOk result (λ found. found ≡ reached_in reading.old.types self.now used.now) }
+        ensures first { OnOk result (reading.new.first ≡ nearer reading.old.first (least (refusals_in reading.old.types self.now used.now))) }
     {
-        reached(alloc, self.points, types, self.scope, used, first)
+        reached(alloc, self.points, reading, self.scope, used)
     }
 
     /// What a name of a state or an event with this set behind it selects. N10 is noted.
     pub fn held<'t>(
         &self,
         alloc: Global,
-        types: &mut TypeTable<'_, 't>,
+        reading: &mut Reading<'_, 't>,
         sort: &Sort,
         set: &'t Option<TypeSet>,
-        first: &mut FirstRefusal,
     ) -> Mem<Held>
-        ensures kept { types.new ≡ types.old }
-        ensures held { IfOk result (λ held. held ≡ held_by types.old self.now.scope sort.now set.now) }
-        ensures first { OnOk result (first.new ≡ nearer first.old (least (sort_refusals types.old self.now.scope (Some sort.now) set.now))) }
+        ensures kept { reading.new.types ≡ reading.old.types }
+        ensures held { IfOk result (λ held. held ≡ held_by reading.old.types self.now.scope sort.now set.now) }
+        ensures first { OnOk result (reading.new.first ≡ nearer reading.old.first (least (sort_refusals reading.old.types self.now.scope (Some sort.now) set.now))) }
     {
-        let reach = reach_within(alloc, types, self.scope, Some(types_of(sort)), set, first)?;
+        let reach = reach_within(alloc, reading, self.scope, Some(types_of(sort)), set)?;
         selected(alloc, sort.first(), sort.types(), &reach)
     }
 
@@ -113,18 +111,17 @@ impl<'s, 'a> Setting<'s, 'a> {
     pub fn refer<'t>(
         &self,
         alloc: Global,
-        types: &mut TypeTable<'_, 't>,
+        reading: &mut Reading<'_, 't>,
         state: &'t StateRef,
-        first: &mut FirstRefusal,
     ) -> Mem<Option<Held>>
-        ensures kept { types.new ≡ types.old }
-        ensures held { IfOk result (λ held. held ≡ held_in types.old self.now state.now) }
-        ensures first { OnOk result (first.new ≡ nearer first.old (least (state_refusals_in types.old self.now state.now))) }
+        ensures kept { reading.new.types ≡ reading.old.types }
+        ensures held { IfOk result (λ held. held ≡ held_in reading.old.types self.now state.now) }
+        ensures first { OnOk result (reading.new.first ≡ nearer reading.old.first (least (state_refusals_in reading.old.types self.now state.now))) }
     {
         match self.states.find(state.name.text()) {
-            Some(sort) => Ok(Some(self.held(alloc, types, sort, &state.set, first)?)),
+            Some(sort) => Ok(Some(self.held(alloc, reading, sort, &state.set)?)),
             None => {
-                first.note_if(true, Code::UnknownState, state.spot);
+                reading.first.note_if(true, Code::UnknownState, state.spot);
                 Ok(None)
             }
         }

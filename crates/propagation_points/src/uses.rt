@@ -8,8 +8,8 @@ use crate::points::Points;
 use crate::side::{Reach, Side, has_other};
 use aadl_syntax::{Atom, Identifier, PointRef, TypeSet};
 use error_libraries::Scope;
-use error_types::TypeTable;
-use plain_values::{Code, FirstRefusal, Mem, Spot};
+use error_types::Reading;
+use plain_values::{Code, Mem, Spot};
 use std::alloc::Global;
 use std::marker::Model;
 
@@ -98,19 +98,18 @@ impl<'a> PointUse<'a> {
 pub fn reached<'a>(
     alloc: Global,
     points: &Points,
-    types: &mut TypeTable<'_, 'a>,
+    reading: &mut Reading<'_, 'a>,
     scope: Option<&Scope>,
     used: &PointUse<'a>,
-    first: &mut FirstRefusal,
 ) -> Mem<Option<ReachedPoint>>
-    ensures kept { types.new ≡ types.old }
-    ensures reached { IfOk result (λ found. found ≡ reached types.old points.now (option_copied scope.entry) used.now) }
-    ensures first { OnOk result (first.new ≡ nearer first.old (least (use_refusals types.old points.now (option_copied scope.entry) used.now))) }
+    ensures kept { reading.new.types ≡ reading.old.types }
+    ensures reached { IfOk result (λ found. found ≡ reached reading.old.types points.now (option_copied scope.entry) used.now) }
+    ensures first { OnOk result (reading.new.first ≡ nearer reading.old.first (least (use_refusals reading.old.types points.now (option_copied scope.entry) used.now))) }
 {
     let side = used.side(points);
     let is_absent = is_absent(side);
-    first.note_if(is_absent, used.unknown, used.spot);
-    let reach = reach_within(alloc, types, scope, declared_for(side), used.set, first)?;
+    reading.first.note_if(is_absent, used.unknown, used.spot);
+    let reach = reach_within(alloc, reading, scope, declared_for(side), used.set)?;
     Ok(reached_at(used.place(points), is_absent, reach))
 }
 
@@ -129,22 +128,23 @@ fn reached_at(place: Option<u32>, is_absent: bool, types: Reach) -> Option<Reach
 /// What a set reaches. N10 is noted where it has a type outside those that are declared, if any are.
 pub(crate) fn reach_within<'a>(
     alloc: Global,
-    types: &mut TypeTable<'_, 'a>,
+    reading: &mut Reading<'_, 'a>,
     scope: Option<&Scope>,
     declared: Option<&[u32]>,
     set: &'a Option<TypeSet>,
-    first: &mut FirstRefusal,
 ) -> Mem<Reach>
-    ensures kept { types.new ≡ types.old }
-    ensures reach { IfOk result (λ reach. reach ≡ reach_of types.old (option_copied scope.entry) set.now) }
-    ensures first { OnOk result (first.new ≡ nearer first.old (least (set_outside types.old (option_copied scope.entry) (option_map (λ types. types.now) declared.entry) set.now))) }
+    ensures kept { reading.new.types ≡ reading.old.types }
+    ensures reach { IfOk result (λ reach. reach ≡ reach_of reading.old.types (option_copied scope.entry) set.now) }
+    ensures first { OnOk result (reading.new.first ≡ nearer reading.old.first (least (set_outside reading.old.types (option_copied scope.entry) (option_map (λ types. types.now) declared.entry) set.now))) }
 {
     let Some(set) = set else {
         return Ok(Reach::Whole);
     };
-    let reached = types_in(alloc, types, scope, set)?;
+    let reached = types_in(alloc, &mut reading.types, scope, set)?;
     let is_outside = is_outside(reached.items(), declared);
-    first.note_if(is_outside, Code::NotContained, set.spot);
+    reading
+        .first
+        .note_if(is_outside, Code::NotContained, set.spot);
     Ok(Reach::Only(reached))
 }
 

@@ -11,7 +11,7 @@ use aadl_syntax::{MachineDecl, Ref, TypeSet};
 use component_extension::{Behavior, ClauseText, Effective, InClause, Propagations};
 use error_libraries::Scope;
 use error_machines::UsedMachine;
-use error_types::TypeTable;
+use error_types::{Reading, TypeTable};
 use plain_values::{FirstRefusal, Mem};
 use propagation_points::scopes_of;
 use std::alloc::Global;
@@ -23,36 +23,33 @@ pub fn note_used_sets<'a>(
     alloc: Global,
     effective: &Effective<'a>,
     machine: &Option<UsedMachine<'a>>,
-    types: &mut TypeTable<'_, 'a>,
-    first: &mut FirstRefusal,
+    reading: &mut Reading<'_, 'a>,
 ) -> Mem<()>
-    ensures kept { types.new ≡ types.old }
-    ensures first { OnOk result (first.new ≡ nearer first.old (least (used_set_refusals types.old machine.now effective.now))) }
+    ensures kept { reading.new.types ≡ reading.old.types }
+    ensures first { OnOk result (reading.new.first ≡ nearer reading.old.first (least (used_set_refusals reading.old.types machine.now effective.now))) }
 {
-    note_clauses(alloc, effective, types, first)?;
-    note_machine(alloc, machine, types, first)
+    note_clauses(alloc, effective, reading)?;
+    note_machine(alloc, machine, reading)
 }
 
 /// Notes the refusals of the sets of the effective items of a component, and of the libraries that their clauses use.
 fn note_clauses<'a>(
     alloc: Global,
     effective: &Effective<'a>,
-    types: &mut TypeTable<'_, 'a>,
-    first: &mut FirstRefusal,
+    reading: &mut Reading<'_, 'a>,
 ) -> Mem<()>
-    ensures kept { types.new ≡ types.old }
-    ensures first { OnOk result (first.new ≡ nearer first.old (least (clause_set_refusals types.old effective.now))) }
+    ensures kept { reading.new.types ≡ reading.old.types }
+    ensures first { OnOk result (reading.new.first ≡ nearer reading.old.first (least (clause_set_refusals reading.old.types effective.now))) }
 {
     let clauses = effective.clauses.items();
-    let scopes = scopes_of(alloc, types, clauses)?;
+    let scopes = scopes_of(alloc, &reading.types, clauses)?;
     let mut marks = no_marks(alloc, clauses.len())?;
     note_with(
         alloc,
         effective,
-        types,
+        reading,
         scopes.items(),
         marks.as_mut_slice(),
-        first,
     )?;
     Ok(())
 }
@@ -69,18 +66,22 @@ fn no_marks(alloc: Global, count: usize) -> Mem<Vec<bool>>
 fn note_with<'a>(
     alloc: Global,
     effective: &Effective<'a>,
-    types: &mut TypeTable<'_, 'a>,
+    reading: &mut Reading<'_, 'a>,
     scopes: &[Scope],
     marks: &mut [bool],
-    first: &mut FirstRefusal,
 ) -> Mem<()>
     requires none { (number : ℕ) → slice_index_or marks.old number false ≡ false }
     requires long { length marks.old ≡ length effective.now.clauses }
-    ensures kept { types.new ≡ types.old }
-    ensures first { OnOk result (first.new ≡ nearer first.old (least (refusals_with types.old scopes.now effective.now))) }
+    ensures kept { reading.new.types ≡ reading.old.types }
+    ensures first { OnOk result (reading.new.first ≡ nearer reading.old.first (least (refusals_with reading.old.types scopes.now effective.now))) }
 {
-    note_effective(alloc, effective, types, scopes, marks, first)?;
-    note_uses(types, effective.clauses.items(), marks, first);
+    note_effective(alloc, effective, reading, scopes, marks)?;
+    note_uses(
+        &reading.types,
+        effective.clauses.items(),
+        marks,
+        &mut reading.first,
+    );
     Ok(())
 }
 
@@ -89,96 +90,94 @@ fn note_with<'a>(
 fn note_effective<'a>(
     alloc: Global,
     effective: &Effective<'a>,
-    types: &mut TypeTable<'_, 'a>,
+    reading: &mut Reading<'_, 'a>,
     scopes: &[Scope],
     marks: &mut [bool],
-    first: &mut FirstRefusal,
 ) -> Mem<()>
-    ensures kept { types.new ≡ types.old }
-    ensures first { OnOk result (first.new ≡ nearer first.old (least (effective_refusals types.old scopes.now effective.now))) }
+    ensures kept { reading.new.types ≡ reading.old.types }
+    ensures first { OnOk result (reading.new.first ≡ nearer reading.old.first (least (effective_refusals reading.old.types scopes.now effective.now))) }
     ensures marks { OnOk result (Marked marks.old marks.new (is_used effective.now)) }
 {
-    note_propagations(alloc, &effective.propagations, types, scopes, marks, first)?;
-    note_behavior(alloc, &effective.behavior, types, scopes, marks, first)
+    note_propagations(alloc, &effective.propagations, reading, scopes, marks)?;
+    note_behavior(alloc, &effective.behavior, reading, scopes, marks)
 }
 
+/// Notes the refusals of the sets of points and flows, and marks the clauses in which they stand.
 #[tactic(auto, using(plain_values::proofs::Noting::noted_more))]
 fn note_propagations<'a>(
     alloc: Global,
     propagations: &Propagations<'a>,
-    types: &mut TypeTable<'_, 'a>,
+    reading: &mut Reading<'_, 'a>,
     scopes: &[Scope],
     marks: &mut [bool],
-    first: &mut FirstRefusal,
 ) -> Mem<()>
-    ensures kept { types.new ≡ types.old }
-    ensures first { OnOk result (first.new ≡ nearer first.old (least (propagation_refusals types.old scopes.now propagations.now))) }
+    ensures kept { reading.new.types ≡ reading.old.types }
+    ensures first { OnOk result (reading.new.first ≡ nearer reading.old.first (least (propagation_refusals reading.old.types scopes.now propagations.now))) }
     ensures marks { OnOk result (Marked marks.old marks.new (propagation_uses propagations.now)) }
 {
     let points = propagations.points.items();
-    note_items(alloc, types, scopes, points, marks, first)?;
+    note_items(alloc, reading, scopes, points, marks)?;
     let flows = propagations.flows.items();
-    note_items(alloc, types, scopes, flows, marks, first)?;
+    note_items(alloc, reading, scopes, flows, marks)?;
     Ok(())
 }
 
+/// Notes the refusals of the sets of behavior items, and marks the clauses in which they stand.
 fn note_behavior<'a>(
     alloc: Global,
     behavior: &Behavior<'a>,
-    types: &mut TypeTable<'_, 'a>,
+    reading: &mut Reading<'_, 'a>,
     scopes: &[Scope],
     marks: &mut [bool],
-    first: &mut FirstRefusal,
 ) -> Mem<()>
-    ensures kept { types.new ≡ types.old }
-    ensures first { OnOk result (first.new ≡ nearer first.old (least (behavior_refusals types.old scopes.now behavior.now))) }
+    ensures kept { reading.new.types ≡ reading.old.types }
+    ensures first { OnOk result (reading.new.first ≡ nearer reading.old.first (least (behavior_refusals reading.old.types scopes.now behavior.now))) }
     ensures marks { OnOk result (Marked marks.old marks.new (behavior_uses behavior.now)) }
 {
     let events = behavior.events.items();
-    note_items(alloc, types, scopes, events, marks, first)?;
+    note_items(alloc, reading, scopes, events, marks)?;
     let transitions = behavior.transitions.items();
-    note_items(alloc, types, scopes, transitions, marks, first)?;
+    note_items(alloc, reading, scopes, transitions, marks)?;
     let outgoing = behavior.outgoing.items();
-    note_items(alloc, types, scopes, outgoing, marks, first)?;
+    note_items(alloc, reading, scopes, outgoing, marks)?;
     let composites = behavior.composites.items();
-    note_items(alloc, types, scopes, composites, marks, first)?;
+    note_items(alloc, reading, scopes, composites, marks)?;
     Ok(())
 }
 
 /// Notes the refusals of the sets of items, and marks the clauses in which the items with sets stand.
 fn note_items<'a, T: HasSets>(
     alloc: Global,
-    types: &mut TypeTable<'_, 'a>,
+    reading: &mut Reading<'_, 'a>,
     scopes: &[Scope],
     items: &[InClause<'a, T>],
     marks: &mut [bool],
-    first: &mut FirstRefusal,
 ) -> Mem<()>
-    ensures kept { types.new ≡ types.old }
-    ensures first { OnOk result (first.new ≡ nearer first.old (least (items_refusals T.sets types.old scopes.now items.now))) }
+    ensures kept { reading.new.types ≡ reading.old.types }
+    ensures first { OnOk result (reading.new.first ≡ nearer reading.old.first (least (items_refusals T.sets reading.old.types scopes.now items.now))) }
     ensures marks { OnOk result (Marked marks.old marks.new (use_clause T.sets items.now)) }
 {
     for item in items {
-        note_item(alloc, types, scopes, item, marks, first)?;
+        note_item(alloc, reading, scopes, item, marks)?;
     }
     Ok(())
 }
 
+/// Notes the refusals of the sets of an item, and marks its clause where it has one.
 fn note_item<'a, T: HasSets>(
     alloc: Global,
-    types: &mut TypeTable<'_, 'a>,
+    reading: &mut Reading<'_, 'a>,
     scopes: &[Scope],
     item: &InClause<'a, T>,
     marks: &mut [bool],
-    first: &mut FirstRefusal,
 ) -> Mem<()>
-    ensures kept { types.new ≡ types.old }
-    ensures first { OnOk result (first.new ≡ nearer first.old (least (item_refusals T.sets types.old scopes.now item.now))) }
+    ensures kept { reading.new.types ≡ reading.old.types }
+    ensures first { OnOk result (reading.new.first ≡ nearer reading.old.first (least (item_refusals T.sets reading.old.types scopes.now item.now))) }
     ensures marks { OnOk result (Marked marks.old marks.new (λ number. uses_clause T.sets number item.now)) }
 {
     let mut sets = WrittenSets::new(alloc);
     item.item().add_sets(&mut sets)?;
-    note_sets(alloc, types, scope_at(scopes, item.scope()), &sets, first)?;
+    note_sets(alloc, reading, scope_at(scopes, item.scope()), &sets)?;
     mark(marks, item.scope(), is_some_set(&sets));
     Ok(())
 }
@@ -207,32 +206,31 @@ fn mark(marks: &mut [bool], number: usize, is_so: bool)
 /// Notes the first refusals of sets that are read in a text, if there is the text.
 fn note_sets<'a>(
     alloc: Global,
-    types: &mut TypeTable<'_, 'a>,
+    reading: &mut Reading<'_, 'a>,
     scope: Option<&Scope>,
     sets: &WrittenSets<'a>,
-    first: &mut FirstRefusal,
 ) -> Mem<()>
-    ensures kept { types.new ≡ types.old }
-    ensures first { OnOk result (first.new ≡ nearer first.old (least (flat_map (set_fault types.old (option_copied scope.entry)) sets.now))) }
+    ensures kept { reading.new.types ≡ reading.old.types }
+    ensures first { OnOk result (reading.new.first ≡ nearer reading.old.first (least (flat_map (set_fault reading.old.types (option_copied scope.entry)) sets.now))) }
 {
     for set in sets.sets() {
-        note_set(alloc, types, scope, set, first)?;
+        note_set(alloc, reading, scope, set)?;
     }
     Ok(())
 }
 
+/// Notes the first refusal of a set that is read in a text, if there is the text.
 fn note_set<'a>(
     alloc: Global,
-    types: &mut TypeTable<'_, 'a>,
+    reading: &mut Reading<'_, 'a>,
     scope: Option<&Scope>,
     set: &'a TypeSet,
-    first: &mut FirstRefusal,
 ) -> Mem<()>
-    ensures kept { types.new ≡ types.old }
-    ensures first { OnOk result (first.new ≡ nearer first.old (least (set_fault types.old (option_copied scope.entry) set.now))) }
+    ensures kept { reading.new.types ≡ reading.old.types }
+    ensures first { OnOk result (reading.new.first ≡ nearer reading.old.first (least (set_fault reading.old.types (option_copied scope.entry) set.now))) }
 {
     if let Some(scope) = scope {
-        types.denote(alloc, scope, set, first)?;
+        reading.denote(alloc, scope, set)?;
     }
     Ok(())
 }
@@ -268,15 +266,14 @@ fn is_marked(marks: &[bool], number: usize) -> bool
 fn note_machine<'a>(
     alloc: Global,
     machine: &Option<UsedMachine<'a>>,
-    types: &mut TypeTable<'_, 'a>,
-    first: &mut FirstRefusal,
+    reading: &mut Reading<'_, 'a>,
 ) -> Mem<()>
-    ensures kept { types.new ≡ types.old }
-    ensures first { OnOk result (first.new ≡ nearer first.old (least (machine_set_refusals types.old machine.now))) }
+    ensures kept { reading.new.types ≡ reading.old.types }
+    ensures first { OnOk result (reading.new.first ≡ nearer reading.old.first (least (machine_set_refusals reading.old.types machine.now))) }
 {
     if let Some(machine) = machine {
         let sets = machine_sets(alloc, machine.decl())?;
-        note_machine_sets(alloc, types, machine, &sets, first)?;
+        note_machine_sets(alloc, reading, machine, &sets)?;
     }
     Ok(())
 }
@@ -285,18 +282,23 @@ fn note_machine<'a>(
 #[tactic(auto, using(plain_values::proofs::Noting::noted_more))]
 fn note_machine_sets<'a>(
     alloc: Global,
-    types: &mut TypeTable<'_, 'a>,
+    reading: &mut Reading<'_, 'a>,
     machine: &UsedMachine<'a>,
     sets: &WrittenSets<'a>,
-    first: &mut FirstRefusal,
 ) -> Mem<()>
-    ensures kept { types.new ≡ types.old }
-    ensures first { OnOk result (first.new ≡ nearer first.old (least (sets_refusals types.old machine.now sets.now))) }
+    ensures kept { reading.new.types ≡ reading.old.types }
+    ensures first { OnOk result (reading.new.first ≡ nearer reading.old.first (least (sets_refusals reading.old.types machine.now sets.now))) }
 {
     let uses = machine.decl().uses.items();
-    note_unknown_if(types, is_some_set(sets), machine.package(), uses, first);
-    let scope = types.text_scope(alloc, machine.package(), uses)?;
-    note_sets(alloc, types, Some(&scope), sets, first)?;
+    note_unknown_if(
+        &reading.types,
+        is_some_set(sets),
+        machine.package(),
+        uses,
+        &mut reading.first,
+    );
+    let scope = reading.types.text_scope(alloc, machine.package(), uses)?;
+    note_sets(alloc, reading, Some(&scope), sets)?;
     Ok(())
 }
 

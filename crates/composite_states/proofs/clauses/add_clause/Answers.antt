@@ -13,14 +13,14 @@ pub returns-clause-first : goal.returns-clause-first
 returns-clause-first g c =
     let place = c.args.place.now in
     let below = g.B.StatesBelow.states_at place.below in
-    let table = c.args.types.now in
+    let table = c.args.reading.now.types in
     let composite = c.args.composite.now in
     let initial = c.args.initial.now in
     let setting : c.place.inside.setting ≡ place.setting = ap (λ p. p.setting) c.place.view_is in
-    let same : c.condition_of.new.types ≡ table = c.in_ok-condition.ensures.kept in
-    let noted = noted-three c.args.first.now c.condition_of.new.first c.refer.new.first (perhaps_refusals below place.setting table composite.condition) (state_refusals_in table place.setting composite.target)
+    let same : c.condition_of.new.reading.types ≡ table = c.in_ok-condition.ensures.kept in
+    let noted = noted-three c.args.reading.now.first c.condition_of.new.reading.first c.refer.new.reading.first (perhaps_refusals below place.setting table composite.condition) (state_refusals_in table place.setting composite.target)
     c.in_ok-condition.ensures.first
-    (c.in_ok-held.ensures.first ∙ (λ i. nearer c.condition_of.new.first (least (state_refusals_in (same i) (setting i) composite.target))))
+    (c.in_ok-held.ensures.first ∙ (λ i. nearer c.condition_of.new.reading.first (least (state_refusals_in (same i) (setting i) composite.target))))
     c.note_others.new.first (others_refusals place.setting.states initial composite)
-    (c.note_others.ensures ∙ ap (λ target. nearer c.refer.new.first (least (refused_so (is_none composite.condition && is_not_initial initial target) Others composite.spot))) (c.place-target.ensures ∙ ap (λ each. place_of_sort each.states composite.target.name) setting)) in
+    (c.note_others.ensures ∙ ap (λ target. nearer c.refer.new.reading.first (least (refused_so (is_none composite.condition && is_not_initial initial target) Others composite.spot))) (c.place-target.ensures ∙ ap (λ each. place_of_sort each.states composite.target.name) setting)) in
     on_ok_weaker _ (λ _. noted) c.add_meaning.ensures

@@ -5,7 +5,7 @@ use Rattle.composite_states.proofs.clauses.clauses_in.Given as goal
 
 abbrev pub invariant-loop-composite : goal.invariant-loop-composite
 invariant-loop-composite g l = record {
-  kept : l.types ≡ l.fn.types;
-  clauses : l.clauses ≡ clauses_in (g.B.StatesBelow.states_at l.below) l.fn.types l.points l.states.sorts l.scopes (take l.composite-index l.composites);
-  first : nearer l.first (least (refusals_in (g.B.StatesBelow.states_at l.below) l.fn.types l.points l.states l.scopes (drop l.composite-index l.composites))) ≡ nearer l.fn.first (least (refusals_in (g.B.StatesBelow.states_at l.below) l.fn.types l.points l.states l.scopes l.composites));
+  kept : l.reading.types ≡ l.fn.reading.types;
+  clauses : l.clauses ≡ clauses_in (g.B.StatesBelow.states_at l.around.below.now) l.fn.reading.types l.around.points.now l.around.states.now.sorts l.around.scopes.now (take l.composite-index l.composites);
+  first : nearer l.reading.first (least (refusals_in (g.B.StatesBelow.states_at l.around.below.now) l.fn.reading.types l.around.points.now l.around.states.now l.around.scopes.now (drop l.composite-index l.composites))) ≡ nearer l.fn.reading.first (least (refusals_in (g.B.StatesBelow.states_at l.around.below.now) l.fn.reading.types l.around.points.now l.around.states.now l.around.scopes.now l.composites));
 }

@@ -7,10 +7,10 @@ use Rattle.composite_states.proofs.clauses.clauses_of.Goals as goal
 pub returns-clause-first : goal.returns-clause-first
 returns-clause-first g c =
     let below = g.B.StatesBelow.states_at c.args.below.now in
-    let table = c.args.types.now in
+    let table = c.args.reading.now.types in
     let effective = c.args.effective.now in
     let scopes : c.items-2.result.now ≡ scopes_of table.packages effective.clauses = c.items-2.ensures.items ∙ c.in_ok-scopes.ensures ∙ ap (scopes_of table.packages) c.items.ensures.items in
     let all =
     ap (λ texts. refusals_in below table c.args.points.now c.args.states.now texts c.items-composites.result.now) scopes
     ∙ ap (refusals_in below table c.args.points.now c.args.states.now (scopes_of table.packages effective.clauses)) c.items-composites.ensures.items in
-    subst (λ faults. OnOk c.clauses_in.result (c.clauses_in.new.first ≡ nearer c.args.first.now (least faults))) all c.clauses_in.ensures.first
+    subst (λ faults. OnOk c.clauses_in.result (c.clauses_in.new.reading.first ≡ nearer c.args.reading.now.first (least faults))) all c.clauses_in.ensures.first

@@ -10,14 +10,14 @@ pub loop-transition-preserved : goal.loop-transition-preserved
 loop-transition-preserved c =
     let words = c.args.words.now in
     let texts = c.args.texts.now in
-    let table = c.args.types.now in
+    let table = c.args.reading.now.types in
     let one = c.transition-item.result in
-    let kept : c.loop-transition.types ≡ table = c.loop-transition.invariant.kept in
+    let kept : c.loop-transition.reading.types ≡ table = c.loop-transition.invariant.kept in
     let here : c.place-place.result ≡ clause_place words texts one.scope = c.place-place.ensures ∙ ap (place_in words) c.clause_scope.ensures ∙ ap (clause_place words texts) c.scope.ensures in
     record {
       kept = c.in_ok-add_step.ensures.kept ∙ kept;
       steps = gathered-more c.args.transitions.now c.loop-transition.transition-index one c.loop-transition-test.true c.transition-item.is (λ each. step_of (clause_place words texts each.scope) table each.item) c.args.steps.now c.loop-transition.steps _ c.loop-transition.invariant.steps
           (c.in_ok-add_step.ensures.steps ∙ (λ i. c.loop-transition.steps ++ step_of (here i) (kept i) (c.item.ensures i)));
-      first = noting-more c.args.transitions.now c.loop-transition.transition-index one c.loop-transition-test.true c.transition-item.is (λ each. transition_refusals (clause_place words texts each.scope) table each.item) c.loop-transition.first _ _
-          (c.in_ok-add_step.ensures.first ∙ (λ i. nearer c.loop-transition.first (least (transition_refusals (here i) (kept i) (c.item.ensures i))))) c.loop-transition.invariant.first;
+      first = noting-more c.args.transitions.now c.loop-transition.transition-index one c.loop-transition-test.true c.transition-item.is (λ each. transition_refusals (clause_place words texts each.scope) table each.item) c.loop-transition.reading.first _ _
+          (c.in_ok-add_step.ensures.first ∙ (λ i. nearer c.loop-transition.reading.first (least (transition_refusals (here i) (kept i) (c.item.ensures i))))) c.loop-transition.invariant.first;
     }

@@ -10,14 +10,14 @@ pub loop-condition-preserved : goal.loop-condition-preserved
 loop-condition-preserved c =
     let words = c.args.words.now in
     let texts = c.args.texts.now in
-    let table = c.args.types.now in
+    let table = c.args.reading.now.types in
     let one = c.condition-item.result in
-    let kept : c.loop-condition.types ≡ table = c.loop-condition.invariant.kept in
+    let kept : c.loop-condition.reading.types ≡ table = c.loop-condition.invariant.kept in
     let here : c.place-place.result ≡ clause_place words texts one.scope = c.place-place.ensures ∙ ap (place_in words) c.clause_scope.ensures ∙ ap (clause_place words texts) c.scope.ensures in
     record {
       kept = c.in_ok-add_emission.ensures.kept ∙ kept;
       emissions = gathered-more c.args.outgoing.now c.loop-condition.condition-index one c.loop-condition-test.true c.condition-item.is (λ each. emission_of (clause_place words texts each.scope) table each.item) [] c.loop-condition.emissions _ c.loop-condition.invariant.emissions
           (c.in_ok-add_emission.ensures.emissions ∙ (λ i. c.loop-condition.emissions ++ emission_of (here i) (kept i) (c.item.ensures i)));
-      first = noting-more c.args.outgoing.now c.loop-condition.condition-index one c.loop-condition-test.true c.condition-item.is (λ each. outgoing_refusals (clause_place words texts each.scope) table each.item) c.loop-condition.first _ _
-          (c.in_ok-add_emission.ensures.first ∙ (λ i. nearer c.loop-condition.first (least (outgoing_refusals (here i) (kept i) (c.item.ensures i))))) c.loop-condition.invariant.first;
+      first = noting-more c.args.outgoing.now c.loop-condition.condition-index one c.loop-condition-test.true c.condition-item.is (λ each. outgoing_refusals (clause_place words texts each.scope) table each.item) c.loop-condition.reading.first _ _
+          (c.in_ok-add_emission.ensures.first ∙ (λ i. nearer c.loop-condition.reading.first (least (outgoing_refusals (here i) (kept i) (c.item.ensures i))))) c.loop-condition.invariant.first;
     }

@@ -5,7 +5,7 @@ use Rattle.error_behavior.proofs.behavior.emissions_of.Given as goal
 
 abbrev pub invariant-loop-condition : goal.invariant-loop-condition
 invariant-loop-condition l = record {
-  kept : l.types ≡ l.fn.types;
-  emissions : l.emissions ≡ clause_emissions l.fn.types l.words l.texts (take l.condition-index l.outgoing);
-  first : nearer l.first (least (clause_outgoing_refusals l.fn.types l.words l.texts (drop l.condition-index l.outgoing))) ≡ nearer l.fn.first (least (clause_outgoing_refusals l.fn.types l.words l.texts l.outgoing));
+  kept : l.reading.types ≡ l.fn.reading.types;
+  emissions : l.emissions ≡ clause_emissions l.fn.reading.types l.words l.texts (take l.condition-index l.outgoing);
+  first : nearer l.reading.first (least (clause_outgoing_refusals l.fn.reading.types l.words l.texts (drop l.condition-index l.outgoing))) ≡ nearer l.fn.reading.first (least (clause_outgoing_refusals l.fn.reading.types l.words l.texts l.outgoing));
 }

@@ -5,7 +5,7 @@ use Rattle.error_behavior.proofs.behavior.steps_at.Given as goal
 
 abbrev pub invariant-loop-transition : goal.invariant-loop-transition
 invariant-loop-transition l = record {
-  kept : l.types ≡ l.fn.types;
-  steps : l.steps ≡ flat_map (step_of l.place l.fn.types) (take l.transition-index l.transitions);
-  first : nearer l.first (least (flat_map (transition_refusals l.place l.fn.types) (drop l.transition-index l.transitions))) ≡ nearer l.fn.first (least (flat_map (transition_refusals l.place l.fn.types) l.transitions));
+  kept : l.reading.types ≡ l.fn.reading.types;
+  steps : l.steps ≡ flat_map (step_of l.place l.fn.reading.types) (take l.transition-index l.transitions);
+  first : nearer l.reading.first (least (flat_map (transition_refusals l.place l.fn.reading.types) (drop l.transition-index l.transitions))) ≡ nearer l.fn.reading.first (least (flat_map (transition_refusals l.place l.fn.reading.types) l.transitions));
 }

@@ -13,12 +13,12 @@ use Rattle.error_behavior.proofs.transitions.emission_of.Goals as goal
 pub returns-clause-emission : goal.returns-clause-emission
 returns-clause-emission c =
     let place = c.args.place.now in
-    let table = c.args.types.now in
+    let table = c.args.reading.now.types in
     let outgoing = c.args.outgoing.now in
     let origin = c.in_ok-origin.origin in
     let setting : c.place.inside.setting ≡ place.setting = ap (λ p. p.setting) c.place.view_is in
-    let same : c.origin_of.new.types ≡ table = c.in_ok-origin.ensures.kept in
-    let still : c.trigger_of.new.types ≡ table = c.in_ok-trigger.ensures.kept ∙ same in
+    let same : c.origin_of.new.reading.types ≡ table = c.in_ok-origin.ensures.kept in
+    let still : c.trigger_of.new.reading.types ≡ table = c.in_ok-trigger.ensures.kept ∙ same in
     let emission : Option Cause → Option ReachedPoint → Origin → Option Emission = λ trigger reached from. option_map (λ point. record { origin = from; trigger = trigger; reached = point }) reached in
     let meant = trigger_of place table outgoing.condition in
     let used = point_use outgoing.point true outgoing.set in
@@ -33,13 +33,13 @@ returns-clause-emission c =
 pub returns-clause-first : goal.returns-clause-first
 returns-clause-first c =
     let place = c.args.place.now in
-    let table = c.args.types.now in
+    let table = c.args.reading.now.types in
     let outgoing = c.args.outgoing.now in
     let setting : c.place.inside.setting ≡ place.setting = ap (λ p. p.setting) c.place.view_is in
-    let same : c.origin_of.new.types ≡ table = c.in_ok-origin.ensures.kept in
-    let still : c.trigger_of.new.types ≡ table = c.in_ok-trigger.ensures.kept ∙ same in
-    noted-three c.args.first.now c.origin_of.new.first c.trigger_of.new.first (origin_refusals table place.setting outgoing.source.state) (perhaps_refusals place table outgoing.condition)
-    (c.in_ok-origin.ensures.first ∙ ap (λ each. nearer c.args.first.now (least (origin_refusals table each outgoing.source.state))) setting)
-    (c.in_ok-trigger.ensures.first ∙ ap (λ types. nearer c.origin_of.new.first (least (perhaps_refusals place types outgoing.condition))) same)
-    c.reached.new.first (refusals_in table place.setting (point_use outgoing.point true outgoing.set))
-    (c.in_ok-reached.ensures.first ∙ (λ i. nearer c.trigger_of.new.first (least (refusals_in (still i) (setting i) (c.new-used.ensures i)))))
+    let same : c.origin_of.new.reading.types ≡ table = c.in_ok-origin.ensures.kept in
+    let still : c.trigger_of.new.reading.types ≡ table = c.in_ok-trigger.ensures.kept ∙ same in
+    noted-three c.args.reading.now.first c.origin_of.new.reading.first c.trigger_of.new.reading.first (origin_refusals table place.setting outgoing.source.state) (perhaps_refusals place table outgoing.condition)
+    (c.in_ok-origin.ensures.first ∙ ap (λ each. nearer c.args.reading.now.first (least (origin_refusals table each outgoing.source.state))) setting)
+    (c.in_ok-trigger.ensures.first ∙ ap (λ types. nearer c.origin_of.new.reading.first (least (perhaps_refusals place types outgoing.condition))) same)
+    c.reached.new.reading.first (refusals_in table place.setting (point_use outgoing.point true outgoing.set))
+    (c.in_ok-reached.ensures.first ∙ (λ i. nearer c.trigger_of.new.reading.first (least (refusals_in (still i) (setting i) (c.new-used.ensures i)))))

@@ -13,12 +13,12 @@ use Rattle.error_behavior.proofs.transitions.step_of.Goals as goal
 pub returns-clause-step : goal.returns-clause-step
 returns-clause-step c =
     let place = c.args.place.now in
-    let table = c.args.types.now in
+    let table = c.args.reading.now.types in
     let transition = c.args.transition.now in
     let origin = c.in_ok-origin.origin in
     let setting : c.place.inside.setting ≡ place.setting = ap (λ p. p.setting) c.place.view_is in
-    let same : c.origin_of.new.types ≡ table = c.in_ok-origin.ensures.kept in
-    let still : c.cause_of.new.types ≡ table = c.in_ok-trigger.ensures.kept ∙ same in
+    let same : c.origin_of.new.reading.types ≡ table = c.in_ok-origin.ensures.kept in
+    let still : c.cause_of.new.reading.types ≡ table = c.in_ok-trigger.ensures.kept ∙ same in
     let step : Cause → List ℕ → Origin → Step = λ trigger targets from. record { origin = from; trigger = trigger; targets = targets } in
     let meant = cause_of (trigger_meaning place table) transition.condition in
     ap option_to_list (c.step_from.ensures
@@ -32,13 +32,13 @@ returns-clause-step c =
 pub returns-clause-first : goal.returns-clause-first
 returns-clause-first c =
     let place = c.args.place.now in
-    let table = c.args.types.now in
+    let table = c.args.reading.now.types in
     let transition = c.args.transition.now in
     let setting : c.place.inside.setting ≡ place.setting = ap (λ p. p.setting) c.place.view_is in
-    let same : c.origin_of.new.types ≡ table = c.in_ok-origin.ensures.kept in
-    let still : c.cause_of.new.types ≡ table = c.in_ok-trigger.ensures.kept ∙ same in
-    noted-three c.args.first.now c.origin_of.new.first c.cause_of.new.first (origin_refusals table place.setting transition.source.state) (condition_refusals (trigger_refusals place table) transition.condition)
-    (c.in_ok-origin.ensures.first ∙ ap (λ each. nearer c.args.first.now (least (origin_refusals table each transition.source.state))) setting)
-    (c.in_ok-trigger.ensures.first ∙ ap (λ types. nearer c.origin_of.new.first (least (condition_refusals (trigger_refusals place types) transition.condition))) same)
-    c.targets_of.new.first (flat_map (state_refusals_in table place.setting) transition.targets)
-    (c.in_ok-targets.ensures.first ∙ (λ i. nearer c.cause_of.new.first (least (flat_map (state_refusals_in (still i) (setting i)) (c.items.ensures.items i)))))
+    let same : c.origin_of.new.reading.types ≡ table = c.in_ok-origin.ensures.kept in
+    let still : c.cause_of.new.reading.types ≡ table = c.in_ok-trigger.ensures.kept ∙ same in
+    noted-three c.args.reading.now.first c.origin_of.new.reading.first c.cause_of.new.reading.first (origin_refusals table place.setting transition.source.state) (condition_refusals (trigger_refusals place table) transition.condition)
+    (c.in_ok-origin.ensures.first ∙ ap (λ each. nearer c.args.reading.now.first (least (origin_refusals table each transition.source.state))) setting)
+    (c.in_ok-trigger.ensures.first ∙ ap (λ types. nearer c.origin_of.new.reading.first (least (condition_refusals (trigger_refusals place types) transition.condition))) same)
+    c.targets_of.new.reading.first (flat_map (state_refusals_in table place.setting) transition.targets)
+    (c.in_ok-targets.ensures.first ∙ (λ i. nearer c.cause_of.new.reading.first (least (flat_map (state_refusals_in (still i) (setting i)) (c.items.ensures.items i)))))

@@ -11,42 +11,42 @@ use Rattle.error_conditions.proofs.walk.+condition.Goals as goal
 pub cause_of-returns-in_ok-causes_of-in-All-clause-first :
     goal.cause_of-returns-in_ok-causes_of-in-All-clause-first
 cause_of-returns-in_ok-causes_of-in-All-clause-first g t c =
-    let faults = g.A.Atoms.faults c.args.atoms.now c.args.types.now in
+    let faults = g.A.Atoms.faults c.args.atoms.now c.args.reading.now.types in
     c.in_ok-causes_of-in-All.ensures.first
-    ∙ ap (λ all. nearer c.args.first.now (least all)) (ap (flat_map (condition_refusals faults)) c.items.ensures.items ∙ sym (faults-All faults c.in-All.parts) ∙ ap (condition_refusals faults) (sym c.in-All.is))
+    ∙ ap (λ all. nearer c.args.reading.now.first (least all)) (ap (flat_map (condition_refusals faults)) c.items.ensures.items ∙ sym (faults-All faults c.in-All.parts) ∙ ap (condition_refusals faults) (sym c.in-All.is))
 
 pub cause_of-returns-in_ok-causes_of-in-Any-clause-first :
     goal.cause_of-returns-in_ok-causes_of-in-Any-clause-first
 cause_of-returns-in_ok-causes_of-in-Any-clause-first g t c =
-    let faults = g.A.Atoms.faults c.args.atoms.now c.args.types.now in
+    let faults = g.A.Atoms.faults c.args.atoms.now c.args.reading.now.types in
     c.in_ok-causes_of-in-Any.ensures.first
-    ∙ ap (λ all. nearer c.args.first.now (least all)) (ap (flat_map (condition_refusals faults)) c.items-in-Any.ensures.items ∙ sym (faults-Any faults c.in-Any.parts) ∙ ap (condition_refusals faults) (sym c.in-Any.is))
+    ∙ ap (λ all. nearer c.args.reading.now.first (least all)) (ap (flat_map (condition_refusals faults)) c.items-in-Any.ensures.items ∙ sym (faults-Any faults c.in-Any.parts) ∙ ap (condition_refusals faults) (sym c.in-Any.is))
 
 pub cause_of-returns-in_ok-causes_of-in-AtLeast-clause-first :
     goal.cause_of-returns-in_ok-causes_of-in-AtLeast-clause-first
 cause_of-returns-in_ok-causes_of-in-AtLeast-clause-first g t c =
-    let faults = g.A.Atoms.faults c.args.atoms.now c.args.types.now in
+    let faults = g.A.Atoms.faults c.args.atoms.now c.args.reading.now.types in
     c.in_ok-causes_of-in-AtLeast.ensures.first
-    ∙ ap (λ all. nearer c.args.first.now (least all)) (ap (flat_map (condition_refusals faults)) c.items-in-AtLeast.ensures.items ∙ sym (faults-AtLeast faults c.in-AtLeast.least c.in-AtLeast.parts) ∙ ap (condition_refusals faults) (sym c.in-AtLeast.is))
+    ∙ ap (λ all. nearer c.args.reading.now.first (least all)) (ap (flat_map (condition_refusals faults)) c.items-in-AtLeast.ensures.items ∙ sym (faults-AtLeast faults c.in-AtLeast.least c.in-AtLeast.parts) ∙ ap (condition_refusals faults) (sym c.in-AtLeast.is))
 
 pub cause_of-returns-in_ok-causes_of-in-AtMost-clause-first :
     goal.cause_of-returns-in_ok-causes_of-in-AtMost-clause-first
 cause_of-returns-in_ok-causes_of-in-AtMost-clause-first g t c =
-    let faults = g.A.Atoms.faults c.args.atoms.now c.args.types.now in
+    let faults = g.A.Atoms.faults c.args.atoms.now c.args.reading.now.types in
     c.in_ok-causes_of-in-AtMost.ensures.first
     ∙ ap (λ all. nearer c.note_if.new.self (least all)) (ap (flat_map (condition_refusals faults)) c.items-in-AtMost.ensures.items)
-    ∙ noted-more c.args.first.now c.note_if.new.self (refused_so true OrLess c.in-AtMost.spot) (flat_map (condition_refusals faults) c.in-AtMost.parts) c.note_if.ensures
-    ∙ ap (λ all. nearer c.args.first.now (least all)) (sym (faults-AtMost faults c.in-AtMost.field-0 c.in-AtMost.parts c.in-AtMost.spot) ∙ ap (condition_refusals faults) (sym c.in-AtMost.is))
+    ∙ noted-more c.args.reading.now.first c.note_if.new.self (refused_so true OrLess c.in-AtMost.spot) (flat_map (condition_refusals faults) c.in-AtMost.parts) c.note_if.ensures
+    ∙ ap (λ all. nearer c.args.reading.now.first (least all)) (sym (faults-AtMost faults c.in-AtMost.field-0 c.in-AtMost.parts c.in-AtMost.spot) ∙ ap (condition_refusals faults) (sym c.in-AtMost.is))
 
 pub causes_of-loop-part-preserved : goal.causes_of-loop-part-preserved
 causes_of-loop-part-preserved g t c =
     let atoms = c.args.atoms.now in
-    let table = c.args.types.now in
-    let kept : c.loop-part.types ≡ table = c.loop-part.invariant.kept in
+    let table = c.args.reading.now.types in
+    let kept : c.loop-part.reading.types ≡ table = c.loop-part.invariant.kept in
     record {
       kept = c.in_ok-cause_of.ensures.kept ∙ kept;
       causes = map-more (cause_of (g.A.Atoms.meaning atoms table)) c.args.parts.now c.loop-part.part-index c.part-item.result c.in_ok-cause_of.field-0 c.loop-part.causes c.push.new.self c.loop-part-test.true c.part-item.is
           c.loop-part.invariant.causes c.in_ok-push.ensures.ok (c.in_ok-cause_of.ensures.cause ∙ (λ i. cause_of (g.A.Atoms.meaning atoms (kept i)) c.part-item.result));
-      first = noting-more c.args.parts.now c.loop-part.part-index c.part-item.result c.loop-part-test.true c.part-item.is (condition_refusals (g.A.Atoms.faults atoms table)) c.loop-part.first _ _
-          (c.in_ok-cause_of.ensures.first ∙ (λ i. nearer c.loop-part.first (least (condition_refusals (g.A.Atoms.faults atoms (kept i)) c.part-item.result)))) c.loop-part.invariant.first;
+      first = noting-more c.args.parts.now c.loop-part.part-index c.part-item.result c.loop-part-test.true c.part-item.is (condition_refusals (g.A.Atoms.faults atoms table)) c.loop-part.reading.first _ _
+          (c.in_ok-cause_of.ensures.first ∙ (λ i. nearer c.loop-part.reading.first (least (condition_refusals (g.A.Atoms.faults atoms (kept i)) c.part-item.result)))) c.loop-part.invariant.first;
     }

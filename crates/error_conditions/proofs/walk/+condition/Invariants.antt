@@ -5,7 +5,7 @@ use Rattle.error_conditions.proofs.walk.+condition.Given as goal
 
 abbrev pub invariant-causes_of-loop-part : goal.invariant-causes_of-loop-part
 invariant-causes_of-loop-part g l = record {
-  kept : l.types ≡ l.fn.types;
-  causes : l.causes ≡ map (cause_of (g.A.Atoms.meaning l.atoms l.fn.types)) (take l.part-index l.parts);
-  first : nearer l.first (least (flat_map (condition_refusals (g.A.Atoms.faults l.atoms l.fn.types)) (drop l.part-index l.parts))) ≡ nearer l.fn.first (least (flat_map (condition_refusals (g.A.Atoms.faults l.atoms l.fn.types)) l.parts));
+  kept : l.reading.types ≡ l.fn.reading.types;
+  causes : l.causes ≡ map (cause_of (g.A.Atoms.meaning l.atoms l.fn.reading.types)) (take l.part-index l.parts);
+  first : nearer l.reading.first (least (flat_map (condition_refusals (g.A.Atoms.faults l.atoms l.fn.reading.types)) (drop l.part-index l.parts))) ≡ nearer l.fn.reading.first (least (flat_map (condition_refusals (g.A.Atoms.faults l.atoms l.fn.reading.types)) l.parts));
 }

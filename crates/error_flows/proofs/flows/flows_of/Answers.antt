@@ -9,11 +9,11 @@ use Rattle.error_flows.proofs.flows.flows_of.Goals as goal
 
 pub returns-clause-first : goal.returns-clause-first
 returns-clause-first c =
-    let table = c.args.types.now in
+    let table = c.args.reading.now.types in
     let effective = c.args.effective.now in
     let points = c.args.points.now in
     let states = c.args.states.now in
     let scopes : c.items-2.result.now ≡ scopes_of table.packages effective.clauses = c.items-2.ensures.items ∙ c.in_ok-scopes.ensures ∙ ap (scopes_of table.packages) c.items.ensures.items in
-    c.note_mappings.ensures ∙ ap (λ mappings. nearer c.meanings.new.first (least (flat_map (refused_so true Mapping) mappings))) c.items-3.ensures.items
-    ∙ noted-more c.args.first.now c.meanings.new.first (refusals_of_flows table points states (scopes_of table.packages effective.clauses) effective.propagations.flows) (flat_map (refused_so true Mapping) effective.others.mappings)
-    (c.in_ok-found.ensures.first ∙ (λ i. nearer c.args.first.now (least (refusals_of_flows table points states (scopes i) (c.items-flows.ensures.items i)))))
+    c.note_mappings.ensures ∙ ap (λ mappings. nearer c.meanings.new.reading.first (least (flat_map (refused_so true Mapping) mappings))) c.items-3.ensures.items
+    ∙ noted-more c.args.reading.now.first c.meanings.new.reading.first (refusals_of_flows table points states (scopes_of table.packages effective.clauses) effective.propagations.flows) (flat_map (refused_so true Mapping) effective.others.mappings)
+    (c.in_ok-found.ensures.first ∙ (λ i. nearer c.args.reading.now.first (least (refusals_of_flows table points states (scopes i) (c.items-flows.ensures.items i)))))

@@ -9,9 +9,9 @@ use Rattle.error_flows.proofs.flows.meaning_of.Goals as goal
 
 pub returns-in-Path-clause-first : goal.returns-in-Path-clause-first
 returns-in-Path-clause-first c =
-    let table = c.args.types.now in
+    let table = c.args.reading.now.types in
     let setting = c.args.setting.now in
     let mapping = refused_there Mapping c.in-Path.mapping in
-    subst (λ kind. OnOk c.path.result (c.path.new.first ≡ nearer c.args.first.now (least (flow_refusals table setting kind)))) (sym c.in-Path.is)
-    (subst (λ start. OnOk c.path.result (c.path.new.first ≡ nearer c.args.first.now (least (refusals_in table setting start ++ (refusals_in table setting (point_use c.in-Path.to true c.in-Path.to_set) ++ mapping))))) c.new-start.ensures
-    (subst (λ end. OnOk c.path.result (c.path.new.first ≡ nearer c.args.first.now (least (refusals_in table setting c.new-start.result ++ (refusals_in table setting end ++ mapping))))) c.new-end.ensures c.path.ensures.first))
+    subst (λ kind. OnOk c.path.result (c.path.new.reading.first ≡ nearer c.args.reading.now.first (least (flow_refusals table setting kind)))) (sym c.in-Path.is)
+    (subst (λ start. OnOk c.path.result (c.path.new.reading.first ≡ nearer c.args.reading.now.first (least (refusals_in table setting start ++ (refusals_in table setting (point_use c.in-Path.to true c.in-Path.to_set) ++ mapping))))) c.new-start.ensures
+    (subst (λ end. OnOk c.path.result (c.path.new.reading.first ≡ nearer c.args.reading.now.first (least (refusals_in table setting c.new-start.result ++ (refusals_in table setting end ++ mapping))))) c.new-end.ensures c.path.ensures.first))

@@ -8,13 +8,13 @@ use Rattle.error_flows.proofs.flows.meanings.Goals as goal
 pub loop-flow-preserved : goal.loop-flow-preserved
 loop-flow-preserved c =
     let flow = c.flow-item.result in
-    let kept : c.loop-flow.types ≡ c.args.types.now = c.loop-flow.invariant.kept in
+    let kept : c.loop-flow.reading.types ≡ c.args.reading.now.types = c.loop-flow.invariant.kept in
     let setting = clause_setting c.args.points.now c.args.states.now c.args.scopes.now in
     let here : c.of_clause-setting.result ≡ setting flow.scope = c.of_clause-setting.ensures ∙ ap setting c.scope.ensures in
     record {
       kept = c.in_ok-add_meaning.ensures.kept ∙ kept;
-      found = gathered-more c.args.flows.now c.loop-flow.flow-index flow c.loop-flow-test.true c.flow-item.is (λ each. option_to_list (flow_meaning c.args.types.now (setting each.scope) each.item.name each.item.kind)) [] c.loop-flow.found _ c.loop-flow.invariant.found
+      found = gathered-more c.args.flows.now c.loop-flow.flow-index flow c.loop-flow-test.true c.flow-item.is (λ each. option_to_list (flow_meaning c.args.reading.now.types (setting each.scope) each.item.name each.item.kind)) [] c.loop-flow.found _ c.loop-flow.invariant.found
           (c.in_ok-add_meaning.ensures.found ∙ (λ i. c.loop-flow.found ++ option_to_list (flow_meaning (kept i) (here i) (c.item.ensures i).name (c.item.ensures i).kind)));
-      first = noting-more c.args.flows.now c.loop-flow.flow-index flow c.loop-flow-test.true c.flow-item.is (λ each. flow_refusals c.args.types.now (setting each.scope) each.item.kind) c.loop-flow.first _ _
-          (c.in_ok-add_meaning.ensures.first ∙ (λ i. nearer c.loop-flow.first (least (flow_refusals (kept i) (here i) (c.item.ensures i).kind)))) c.loop-flow.invariant.first;
+      first = noting-more c.args.flows.now c.loop-flow.flow-index flow c.loop-flow-test.true c.flow-item.is (λ each. flow_refusals c.args.reading.now.types (setting each.scope) each.item.kind) c.loop-flow.reading.first _ _
+          (c.in_ok-add_meaning.ensures.first ∙ (λ i. nearer c.loop-flow.reading.first (least (flow_refusals (kept i) (here i) (c.item.ensures i).kind)))) c.loop-flow.invariant.first;
     }

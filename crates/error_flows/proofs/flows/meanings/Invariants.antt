@@ -5,7 +5,7 @@ use Rattle.error_flows.proofs.flows.meanings.Given as goal
 
 abbrev pub invariant-loop-flow : goal.invariant-loop-flow
 invariant-loop-flow l = record {
-  kept : l.types ≡ l.fn.types;
-  found : l.found ≡ meanings l.fn.types l.points l.states l.scopes (take l.flow-index l.flows);
-  first : nearer l.first (least (refusals_of_flows l.fn.types l.points l.states l.scopes (drop l.flow-index l.flows))) ≡ nearer l.fn.first (least (refusals_of_flows l.fn.types l.points l.states l.scopes l.flows));
+  kept : l.reading.types ≡ l.fn.reading.types;
+  found : l.found ≡ meanings l.fn.reading.types l.points l.states l.scopes (take l.flow-index l.flows);
+  first : nearer l.reading.first (least (refusals_of_flows l.fn.reading.types l.points l.states l.scopes (drop l.flow-index l.flows))) ≡ nearer l.fn.reading.first (least (refusals_of_flows l.fn.reading.types l.points l.states l.scopes l.flows));
 }

@@ -8,11 +8,11 @@ use Rattle.error_flows.proofs.flows.path.Goals as goal
 
 pub returns-clause-first : goal.returns-clause-first
 returns-clause-first c =
-    let table = c.args.types.now in
+    let table = c.args.reading.now.types in
     let setting = c.args.setting.now in
     let start = refusals_in table setting c.args.start.now in
     let end = refusals_in table setting c.args.end.now in
     let mapping = refused_there Mapping c.args.mapping in
     c.note_at.ensures
-    ∙ noted-more c.reached.new.first c.reached-2.new.first end mapping (c.in_ok-to.ensures.first ∙ ap (λ types. nearer c.reached.new.first (least (refusals_in types setting c.args.end.now))) c.in_ok-from.ensures.kept)
-    ∙ noted-more c.args.first.now c.reached.new.first start (end ++ mapping) c.in_ok-from.ensures.first
+    ∙ noted-more c.reached.new.reading.first c.reached-2.new.reading.first end mapping (c.in_ok-to.ensures.first ∙ ap (λ types. nearer c.reached.new.reading.first (least (refusals_in types setting c.args.end.now))) c.in_ok-from.ensures.kept)
+    ∙ noted-more c.args.reading.now.first c.reached.new.reading.first start (end ++ mapping) c.in_ok-from.ensures.first

@@ -15,7 +15,7 @@ use Rattle.error_models.proofs.models.model_of.Goals as goal
 
 pub returns-in_err-behavior-clause-refused : goal.returns-in_err-behavior-clause-refused
 returns-in_err-behavior-clause-refused c =
-    let table = c.args.types.now in
+    let table = c.args.reading.now.types in
     let effective = c.args.effective.now in
     let machine = c.args.machine.now in
     let below = states_below c.args.below.now.tree.packages c.args.below.now.tree.kinds (Some c.args.below.now.classifier) in
@@ -33,7 +33,7 @@ returns-in_err-behavior-clause-refused c =
 
 pub returns-in_err-flows-clause-refused : goal.returns-in_err-flows-clause-refused
 returns-in_err-flows-clause-refused c =
-    let table = c.args.types.now in
+    let table = c.args.reading.now.types in
     let effective = c.args.effective.now in
     let machine = c.args.machine.now in
     let below = states_below c.args.below.now.tree.packages c.args.below.now.tree.kinds (Some c.args.below.now.classifier) in
@@ -44,10 +44,10 @@ returns-in_err-flows-clause-refused c =
     let last = least (composite_clause_refusals below table (points_of table effective) (states_of table machine) effective) in
     let start : c.states_of.new.types ≡ table = c.in_ok-states.ensures.kept ∙ c.in_ok-points.ensures.kept in
     let states : c.in_ok-states.states ≡ states_of table machine = c.in_ok-states.ensures.states ∙ ap (λ types. states_of types machine) c.in_ok-points.ensures.kept in
-    let kept : c.behavior.new.types ≡ table = c.in_ok-behavior.ensures.kept ∙ start in
+    let kept : c.behavior.new.reading.types ≡ table = c.in_ok-behavior.ensures.kept ∙ start in
     let same : least (behavior_refusals c.states_of.new.types c.in_ok-points.points machine effective) ≡ second =
     λ i. least (behavior_refusals (start i) (c.in_ok-points.ensures.points i) machine effective) in
-    let next : least (all_flow_refusals c.behavior.new.types c.in_ok-points.points c.in_ok-states.states.sorts effective) ≡ third =
+    let next : least (all_flow_refusals c.behavior.new.reading.types c.in_ok-points.points c.in_ok-states.states.sorts effective) ≡ third =
     λ i. least (all_flow_refusals (kept i) (c.in_ok-points.ensures.points i) (states i).sorts effective) in
     let p = err_from_is_err_and c.from_residual-in_err-flows.result c.from_residual-in_err-flows.ensures.1 in
     rw (p.1, p.2) (none-stops first (option_or second (option_or third last)) stop c.in_ok-points.ensures.accepted
@@ -55,7 +55,7 @@ returns-in_err-flows-clause-refused c =
 
 pub returns-in_err-composites-clause-refused : goal.returns-in_err-composites-clause-refused
 returns-in_err-composites-clause-refused c =
-    let table = c.args.types.now in
+    let table = c.args.reading.now.types in
     let effective = c.args.effective.now in
     let machine = c.args.machine.now in
     let below = states_below c.args.below.now.tree.packages c.args.below.now.tree.kinds (Some c.args.below.now.classifier) in
@@ -66,13 +66,13 @@ returns-in_err-composites-clause-refused c =
     let last = least (composite_clause_refusals below table (points_of table effective) (states_of table machine) effective) in
     let start : c.states_of.new.types ≡ table = c.in_ok-states.ensures.kept ∙ c.in_ok-points.ensures.kept in
     let states : c.in_ok-states.states ≡ states_of table machine = c.in_ok-states.ensures.states ∙ ap (λ types. states_of types machine) c.in_ok-points.ensures.kept in
-    let kept : c.behavior.new.types ≡ table = c.in_ok-behavior.ensures.kept ∙ start in
-    let kept_on : c.flows.new.types ≡ table = c.in_ok-flows.ensures.kept ∙ kept in
+    let kept : c.behavior.new.reading.types ≡ table = c.in_ok-behavior.ensures.kept ∙ start in
+    let kept_on : c.flows.new.reading.types ≡ table = c.in_ok-flows.ensures.kept ∙ kept in
     let same : least (behavior_refusals c.states_of.new.types c.in_ok-points.points machine effective) ≡ second =
     λ i. least (behavior_refusals (start i) (c.in_ok-points.ensures.points i) machine effective) in
-    let next : least (all_flow_refusals c.behavior.new.types c.in_ok-points.points c.in_ok-states.states.sorts effective) ≡ third =
+    let next : least (all_flow_refusals c.behavior.new.reading.types c.in_ok-points.points c.in_ok-states.states.sorts effective) ≡ third =
     λ i. least (all_flow_refusals (kept i) (c.in_ok-points.ensures.points i) (states i).sorts effective) in
-    let here : least (composite_clause_refusals below c.flows.new.types c.in_ok-points.points c.in_ok-states.states effective) ≡ last =
+    let here : least (composite_clause_refusals below c.flows.new.reading.types c.in_ok-points.points c.in_ok-states.states effective) ≡ last =
     λ i. least (composite_clause_refusals below (kept_on i) (c.in_ok-points.ensures.points i) (states i) effective) in
     let p = err_from_is_err_and c.from_residual-in_err-composites.result c.from_residual-in_err-composites.ensures.1 in
     rw (p.1, p.2) (none-stops first (option_or second (option_or third last)) stop c.in_ok-points.ensures.accepted
@@ -83,12 +83,12 @@ pub returns-clause-model : goal.returns-clause-model
 returns-clause-model c =
     let effective = c.args.effective.now in
     let machine = c.args.machine.now in
-    let table = c.args.types.now in
+    let table = c.args.reading.now.types in
     let below = states_below c.args.below.now.tree.packages c.args.below.now.tree.kinds (Some c.args.below.now.classifier) in
     let start : c.states_of.new.types ≡ table = c.in_ok-states.ensures.kept ∙ c.in_ok-points.ensures.kept in
     let states : c.in_ok-states.states ≡ states_of table machine = c.in_ok-states.ensures.states ∙ ap (λ types. states_of types machine) c.in_ok-points.ensures.kept in
-    let kept : c.behavior.new.types ≡ table = c.in_ok-behavior.ensures.kept ∙ start in
-    let kept_on : c.flows.new.types ≡ table = c.in_ok-flows.ensures.kept ∙ kept in
+    let kept : c.behavior.new.reading.types ≡ table = c.in_ok-behavior.ensures.kept ∙ start in
+    let kept_on : c.flows.new.reading.types ≡ table = c.in_ok-flows.ensures.kept ∙ kept in
     let behavior : c.in_ok-behavior.behavior ≡ behavior_of table (points_of table effective) machine effective =
     c.in_ok-behavior.ensures.behavior ∙ (λ i. behavior_of (start i) (c.in_ok-points.ensures.points i) machine effective) in
     let flows : c.in_ok-flows.flows ≡ flows_of table (points_of table effective) (states_of table machine).sorts effective =
@@ -107,7 +107,7 @@ returns-clause-model c =
 
 pub returns-clause-accepted : goal.returns-clause-accepted
 returns-clause-accepted c =
-    let table = c.args.types.now in
+    let table = c.args.reading.now.types in
     let effective = c.args.effective.now in
     let machine = c.args.machine.now in
     let below = states_below c.args.below.now.tree.packages c.args.below.now.tree.kinds (Some c.args.below.now.classifier) in
@@ -117,13 +117,13 @@ returns-clause-accepted c =
     let last = least (composite_clause_refusals below table (points_of table effective) (states_of table machine) effective) in
     let start : c.states_of.new.types ≡ table = c.in_ok-states.ensures.kept ∙ c.in_ok-points.ensures.kept in
     let states : c.in_ok-states.states ≡ states_of table machine = c.in_ok-states.ensures.states ∙ ap (λ types. states_of types machine) c.in_ok-points.ensures.kept in
-    let kept : c.behavior.new.types ≡ table = c.in_ok-behavior.ensures.kept ∙ start in
-    let kept_on : c.flows.new.types ≡ table = c.in_ok-flows.ensures.kept ∙ kept in
+    let kept : c.behavior.new.reading.types ≡ table = c.in_ok-behavior.ensures.kept ∙ start in
+    let kept_on : c.flows.new.reading.types ≡ table = c.in_ok-flows.ensures.kept ∙ kept in
     let same : least (behavior_refusals c.states_of.new.types c.in_ok-points.points machine effective) ≡ second =
     λ i. least (behavior_refusals (start i) (c.in_ok-points.ensures.points i) machine effective) in
-    let next : least (all_flow_refusals c.behavior.new.types c.in_ok-points.points c.in_ok-states.states.sorts effective) ≡ third =
+    let next : least (all_flow_refusals c.behavior.new.reading.types c.in_ok-points.points c.in_ok-states.states.sorts effective) ≡ third =
     λ i. least (all_flow_refusals (kept i) (c.in_ok-points.ensures.points i) (states i).sorts effective) in
-    let here : least (composite_clause_refusals below c.flows.new.types c.in_ok-points.points c.in_ok-states.states effective) ≡ last =
+    let here : least (composite_clause_refusals below c.flows.new.reading.types c.in_ok-points.points c.in_ok-states.states effective) ≡ last =
     λ i. least (composite_clause_refusals below (kept_on i) (c.in_ok-points.ensures.points i) (states i) effective) in
     none-or first (option_or second (option_or third last)) c.in_ok-points.ensures.accepted
     (none-or second (option_or third last) (sym same ∙ c.in_ok-behavior.ensures.accepted)

@@ -57,7 +57,7 @@ module _ (table types : Table) (packages : List PackageUnit) (ids : List Classif
 
 pub returns-in_err-model-clause-refused : goal.returns-in_err-model-clause-refused
 returns-in_err-model-clause-refused c =
-    let table = c.args.types.now in
+    let table = c.args.reading.now.types in
     let ids = c.args.instance.now.kinds in
     let i = c.loop-number.number in
     let one = c.kind-item.result in
@@ -65,7 +65,7 @@ returns-in_err-model-clause-refused c =
     let all = c.kinds-kind-items.ensures.kinds in
     let stop = c.in_err-model.field-0.0 in
     let tested =
-    refusal table c.loop-number.types c.args.instance.now.packages ids c.kinds-kind-items.result.now c.args.machines.now c.in_ok-tree.tree i one c.index-machines-number.result within all c.requires.machines (ap (λ (types : Table). types.packages) c.requires.table) c.loop-number.invariant.kept
+    refusal table c.loop-number.reading.types c.args.instance.now.packages ids c.kinds-kind-items.result.now c.args.machines.now c.in_ok-tree.tree i one c.index-machines-number.result within all c.requires.machines (ap (λ (types : Table). types.packages) c.requires.table) c.loop-number.invariant.kept
     c.in_ok-tree.ensures.tree c.kind-item.is c.index-machines-number.is in
     let inside : i < length ids = subst (λ n. i < n) (ap length all ∙ length-map ids (kind_of c.args.instance.now.packages)) within in
     let number = get_or ids i one.classifier in
@@ -75,19 +75,19 @@ returns-in_err-model-clause-refused c =
 
 pub loop-number-preserved : goal.loop-number-preserved
 loop-number-preserved c =
-    let table = c.args.types.now in
+    let table = c.args.reading.now.types in
     let packages = c.args.instance.now.packages in
     let ids = c.args.instance.now.kinds in
     let i = c.loop-number.number in
     let one = c.kind-item.result in
     let within = c.loop-number-test.true in
     let all = c.kinds-kind-items.ensures.kinds in
-    let kept : c.loop-number.types ≡ table = c.loop-number.invariant.kept in
+    let kept : c.loop-number.reading.types ≡ table = c.loop-number.invariant.kept in
     let tested =
-    refusal table c.loop-number.types packages ids c.kinds-kind-items.result.now c.args.machines.now c.in_ok-tree.tree i one c.index-machines-number.result within all c.requires.machines (ap (λ (types : Table). types.packages) c.requires.table) kept c.in_ok-tree.ensures.tree c.kind-item.is
+    refusal table c.loop-number.reading.types packages ids c.kinds-kind-items.result.now c.args.machines.now c.in_ok-tree.tree i one c.index-machines-number.result within all c.requires.machines (ap (λ (types : Table). types.packages) c.requires.table) kept c.in_ok-tree.ensures.tree c.kind-item.is
     c.index-machines-number.is in
     let made =
-    model table c.loop-number.types packages ids c.kinds-kind-items.result.now c.args.machines.now c.in_ok-tree.tree i one c.index-machines-number.result within all c.requires.machines (ap (λ (types : Table). types.packages) c.requires.table) kept c.in_ok-tree.ensures.tree c.kind-item.is
+    model table c.loop-number.reading.types packages ids c.kinds-kind-items.result.now c.args.machines.now c.in_ok-tree.tree i one c.index-machines-number.result within all c.requires.machines (ap (λ (types : Table). types.packages) c.requires.table) kept c.in_ok-tree.ensures.tree c.kind-item.is
     c.index-machines-number.is in
     let inside : i < length ids = subst (λ n. i < n) (ap length all ∙ length-map ids (kind_of packages)) within in
     let number = get_or ids i one.classifier in
@@ -100,7 +100,7 @@ loop-number-preserved c =
 
 pub returns-clause-models : goal.returns-clause-models
 returns-clause-models c =
-    let table = c.args.types.now in
+    let table = c.args.reading.now.types in
     let ids = c.args.instance.now.kinds in
     let packages = c.args.instance.now.packages in
     let all = c.kinds-kind-items.ensures.kinds in
@@ -109,7 +109,7 @@ returns-clause-models c =
 
 pub returns-clause-accepted : goal.returns-clause-accepted
 returns-clause-accepted c =
-    let table = c.args.types.now in
+    let table = c.args.reading.now.types in
     let ids = c.args.instance.now.kinds in
     let packages = c.args.instance.now.packages in
     let all = c.kinds-kind-items.ensures.kinds in

@@ -5,7 +5,7 @@ use Rattle.error_models.proofs.models.models_of.Given as goal
 
 abbrev pub invariant-loop-number : goal.invariant-loop-number
 invariant-loop-number l = record {
-  kept : l.types ≡ l.fn.types;
-  models : l.models ≡ map (model_of l.fn.types l.instance.kinds) (take l.number l.instance.kinds);
-  left : first_of (map (model_refusal l.fn.types l.instance.kinds) (drop l.number l.instance.kinds)) ≡ first_of (map (model_refusal l.fn.types l.instance.kinds) l.instance.kinds);
+  kept : l.reading.types ≡ l.fn.reading.types;
+  models : l.models ≡ map (model_of l.fn.reading.types l.instance.kinds) (take l.number l.instance.kinds);
+  left : first_of (map (model_refusal l.fn.reading.types l.instance.kinds) (drop l.number l.instance.kinds)) ≡ first_of (map (model_refusal l.fn.reading.types l.instance.kinds) l.instance.kinds);
 }

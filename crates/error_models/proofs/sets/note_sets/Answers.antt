@@ -19,7 +19,7 @@ faults-of table id = refl
 
 pub loop-number-preserved : goal.loop-number-preserved
 loop-number-preserved c =
-    let table = c.args.types.now in
+    let table = c.args.reading.now.types in
     let packages = c.args.instance.now.packages in
     let ids = c.args.instance.now.kinds in
     let i = c.loop-number.number in
@@ -29,13 +29,13 @@ loop-number-preserved c =
     let id = get_or ids i one.classifier in
     let machines = c.requires.machines in
     let same : table.packages ≡ packages = c.requires.packages in
-    let kept : c.loop-number.types ≡ table = c.loop-number.invariant.kept in
+    let kept : c.loop-number.reading.types ≡ table = c.loop-number.invariant.kept in
     let kind : one ≡ kind_of packages id = made-at (kind_of packages) ids c.kinds-kind-items.result.now i one.classifier one all within c.kind-item.is in
     let machine : c.index-machines-number.result ≡ kind_machine packages id = made-at (kind_machine packages) ids c.args.machines.now i one.classifier c.index-machines-number.result machines within c.index-machines-number.is in
-    let made : used_set_refusals c.loop-number.types c.index-machines-number.result one.effective ≡ set_refusals table id =
+    let made : used_set_refusals c.loop-number.reading.types c.index-machines-number.result one.effective ≡ set_refusals table id =
     (λ k. used_set_refusals (kept k) (machine k) (kind k).effective) ∙ (λ k. used_set_refusals table (kind_machine (sym same k) id) (effective_of (sym same k) id)) ∙ faults-of table id in
     record {
       kept = c.in_ok-note_used_sets.ensures.kept ∙ kept;
-      first = noting-more ids i id within (get_or_default ids i one.classifier id within) (set_refusals table) c.loop-number.first _ _
-          (c.in_ok-note_used_sets.ensures.first ∙ ap (λ faults. nearer c.loop-number.first (least faults)) made) c.loop-number.invariant.first;
+      first = noting-more ids i id within (get_or_default ids i one.classifier id within) (set_refusals table) c.loop-number.reading.first _ _
+          (c.in_ok-note_used_sets.ensures.first ∙ ap (λ faults. nearer c.loop-number.reading.first (least faults)) made) c.loop-number.invariant.first;
     }

@@ -5,6 +5,6 @@ use Rattle.error_models.proofs.sets.note_sets.Given as goal
 
 abbrev pub invariant-loop-number : goal.invariant-loop-number
 invariant-loop-number l = record {
-  kept : l.types ≡ l.fn.types;
-  first : nearer l.first (least (flat_map (set_refusals l.fn.types) (drop l.number l.instance.kinds))) ≡ nearer l.fn.first (least (flat_map (set_refusals l.fn.types) l.instance.kinds));
+  kept : l.reading.types ≡ l.fn.reading.types;
+  first : nearer l.reading.first (least (flat_map (set_refusals l.fn.reading.types) (drop l.number l.instance.kinds))) ≡ nearer l.fn.reading.first (least (flat_map (set_refusals l.fn.reading.types) l.instance.kinds));
 }

@@ -10,7 +10,7 @@ use Rattle.model_phases.proofs.kinds.models_with.Goals as goal
 
 pub returns-in_err-models_of-clause-tested : goal.returns-in_err-models_of-clause-tested
 returns-in_err-models_of-clause-tested c =
-    let types = c.args.types.now in
+    let types = c.args.reading.now.types in
     let kinds = c.args.instance.now.kinds in
     let stop = c.in_err-models_of.field-0.0 in
     tests_stop (content_tests types kinds) (status_of stop) c.from_residual-in_err-models_of.result c.from_residual-in_err-models_of.ensures.1

@@ -6,7 +6,7 @@ use Rattle.used_sets.proofs.faults.note_clauses.Goals as goal
 
 pub returns-clause-first : goal.returns-clause-first
 returns-clause-first c =
-    let table = c.args.types.now in
+    let table = c.args.reading.now.types in
     let effective = c.args.effective.now in
     let scopes : c.items.result.now ≡ scopes_of table.packages effective.clauses = c.items.ensures.items ∙ c.in_ok-scopes.ensures ∙ ap (scopes_of table.packages) c.items-clauses.ensures.items in
-    c.in_ok-note_with.ensures.first ∙ ap (λ texts. nearer c.args.first.now (least (refusals_with table texts effective))) scopes
+    c.in_ok-note_with.ensures.first ∙ ap (λ texts. nearer c.args.reading.now.first (least (refusals_with table texts effective))) scopes

@@ -9,4 +9,4 @@ returns-clause-first g c =
     let scopes = c.args.scopes.now in
     let written : c.add_sets.new.written ≡ g.T.HasSets.sets item.item = c.in_ok-add_sets.ensures ∙ (λ i. c.new-sets.ensures i ++ g.T.HasSets.sets (c.item.ensures i)) in
     let scope : option_copied c.scope_at.result ≡ slice_get scopes item.scope = c.scope_at.ensures ∙ ap (slice_get scopes) c.scope.ensures in
-    c.in_ok-note_sets.ensures.first ∙ (λ i. nearer c.args.first.now (least (flat_map (set_fault c.args.types.now (scope i)) (written i))))
+    c.in_ok-note_sets.ensures.first ∙ (λ i. nearer c.args.reading.now.first (least (flat_map (set_fault c.args.reading.now.types (scope i)) (written i))))

@@ -11,13 +11,13 @@ loop-item-preserved g c =
     let items = c.args.items.now in
     let i = c.loop-item.item-index in
     let one = c.item-item.result in
-    let table = c.args.types.now in
-    let kept : c.loop-item.types ≡ table = c.loop-item.invariant.kept in
+    let table = c.args.reading.now.types in
+    let kept : c.loop-item.reading.types ≡ table = c.loop-item.invariant.kept in
     record {
       kept = c.in_ok-note_item.ensures.kept ∙ kept;
       marks = marked-same c.args.marks.now c.note_item.new.marks (λ number. use_clause sets (take i items) number || uses_clause sets number one) (use_clause sets (take (i + 1) items))
           (marked-then c.args.marks.now c.loop-item.marks c.note_item.new.marks (use_clause sets (take i items)) (λ number. uses_clause sets number one) c.loop-item.invariant.marks c.in_ok-note_item.ensures.marks)
           (λ number. sym (any-more items i one c.loop-item-test.true c.item-item.is (uses_clause sets number)));
-      first = noting-more items i one c.loop-item-test.true c.item-item.is (item_refusals sets table c.args.scopes.now) c.loop-item.first _ _
-          (c.in_ok-note_item.ensures.first ∙ ap (λ types. nearer c.loop-item.first (least (item_refusals sets types c.args.scopes.now one))) kept) c.loop-item.invariant.first;
+      first = noting-more items i one c.loop-item-test.true c.item-item.is (item_refusals sets table c.args.scopes.now) c.loop-item.reading.first _ _
+          (c.in_ok-note_item.ensures.first ∙ ap (λ types. nearer c.loop-item.reading.first (least (item_refusals sets types c.args.scopes.now one))) kept) c.loop-item.invariant.first;
     }

@@ -8,12 +8,12 @@ use Rattle.used_sets.proofs.faults.note_machine_sets.Goals as goal
 
 pub returns-clause-first : goal.returns-clause-first
 returns-clause-first c =
-    let table = c.args.types.now in
+    let table = c.args.reading.now.types in
     let machine = c.args.machine.now in
     let sets = c.args.sets.now in
     let uses : c.items-uses.result.now ≡ machine.item.uses = c.items-uses.ensures.items ∙ ap (λ decl. decl.uses) c.decl.ensures in
     let scope : c.in_ok-scope.scope ≡ text_scope table.packages machine.«package» machine.item.uses = c.in_ok-scope.ensures ∙ (λ i. text_scope table.packages (c.package-2.ensures i) (uses i)) in
-    noted-two c.args.first.now c.note_unknown_if.new.first c.note_sets.new.first
+    noted-two c.args.reading.now.first c.note_unknown_if.new.first c.note_sets.new.reading.first
     (cond (is_some_set sets) (unknown_libraries table.packages machine.«package» machine.item.uses) []) (flat_map (set_fault table (Some (text_scope table.packages machine.«package» machine.item.uses))) sets)
-    (c.note_unknown_if.ensures ∙ (λ i. nearer c.args.first.now (least (cond (c.is_some_set.ensures i) (unknown_libraries table.packages (c.package.ensures i) (uses i)) []))))
+    (c.note_unknown_if.ensures ∙ (λ i. nearer c.args.reading.now.first (least (cond (c.is_some_set.ensures i) (unknown_libraries table.packages (c.package.ensures i) (uses i)) []))))
     (c.in_ok-note_sets.ensures.first ∙ ap (λ text. nearer c.note_unknown_if.new.first (least (flat_map (set_fault table (Some text)) sets))) scope)

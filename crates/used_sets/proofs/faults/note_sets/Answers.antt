@@ -8,18 +8,18 @@ use Rattle.used_sets.proofs.faults.note_sets.Goals as goal
 pub loop-set-preserved : goal.loop-set-preserved
 loop-set-preserved c =
     let scope = option_copied c.args.scope in
-    let table = c.args.types.now in
-    let kept : c.loop-set.types ≡ table = c.loop-set.invariant.kept in
+    let table = c.args.reading.now.types in
+    let kept : c.loop-set.reading.types ≡ table = c.loop-set.invariant.kept in
     record {
       kept = c.in_ok-note_set.ensures.kept ∙ kept;
-      first = noting-more c.sets-set-items.result.now c.loop-set.set-index c.set-item.result c.loop-set-test.true c.set-item.is (λ set. set_fault table scope set.now) c.loop-set.first _ _
-          (c.in_ok-note_set.ensures.first ∙ ap (λ types. nearer c.loop-set.first (least (set_fault types scope c.set-item.result.now))) kept) c.loop-set.invariant.first;
+      first = noting-more c.sets-set-items.result.now c.loop-set.set-index c.set-item.result c.loop-set-test.true c.set-item.is (λ set. set_fault table scope set.now) c.loop-set.reading.first _ _
+          (c.in_ok-note_set.ensures.first ∙ ap (λ types. nearer c.loop-set.reading.first (least (set_fault types scope c.set-item.result.now))) kept) c.loop-set.invariant.first;
     }
 
 pub returns-clause-first : goal.returns-clause-first
 returns-clause-first c =
     let scope = option_copied c.args.scope in
-    let table = c.args.types.now in
+    let table = c.args.reading.now.types in
     let sets = c.sets-set-items.result.now in
-    noting-end sets c.loop-set.set-index (λ set. set_fault table scope set.now) c.loop-set.first _ c.loop-set-test.false c.loop-set.invariant.first
-    ∙ ap (λ all. nearer c.args.first.now (least all)) (sym (flat_map-map (set_fault table scope) (λ set. set.now) sets) ∙ ap (flat_map (set_fault table scope)) c.sets-set-items.ensures)
+    noting-end sets c.loop-set.set-index (λ set. set_fault table scope set.now) c.loop-set.reading.first _ c.loop-set-test.false c.loop-set.invariant.first
+    ∙ ap (λ all. nearer c.args.reading.now.first (least all)) (sym (flat_map-map (set_fault table scope) (λ set. set.now) sets) ∙ ap (flat_map (set_fault table scope)) c.sets-set-items.ensures)

@@ -5,6 +5,6 @@ use Rattle.used_sets.proofs.faults.note_sets.Given as goal
 
 abbrev pub invariant-loop-set : goal.invariant-loop-set
 invariant-loop-set l = record {
-  kept : l.types ≡ l.fn.types;
-  first : nearer l.first (least (flat_map (λ set. set_fault l.fn.types (option_copied l.scope) set.now) (drop l.set-index l.set-items))) ≡ nearer l.fn.first (least (flat_map (λ set. set_fault l.fn.types (option_copied l.scope) set.now) l.set-items));
+  kept : l.reading.types ≡ l.fn.reading.types;
+  first : nearer l.reading.first (least (flat_map (λ set. set_fault l.fn.reading.types (option_copied l.scope) set.now) (drop l.set-index l.set-items))) ≡ nearer l.fn.reading.first (least (flat_map (λ set. set_fault l.fn.reading.types (option_copied l.scope) set.now) l.set-items));
 }

@@ -10,15 +10,15 @@ use Rattle.used_sets.proofs.faults.note_with.Goals as goal
 
 pub returns-clause-first : goal.returns-clause-first
 returns-clause-first c =
-    let table = c.args.types.now in
+    let table = c.args.reading.now.types in
     let effective = c.args.effective.now in
-    let kept : c.note_effective.new.types ≡ table = c.in_ok-note_effective.ensures.kept in
+    let kept : c.note_effective.new.reading.types ≡ table = c.in_ok-note_effective.ensures.kept in
     let marked = c.in_ok-note_effective.ensures.marks in
     let told = λ (number : ℕ). slice_index_or c.note_effective.new.marks number false in
     let same : (number : ℕ) (clause : Clause) → number < 0 + length effective.clauses → uses_fault table told number clause ≡ uses_fault table (is_used effective) number clause =
     λ number clause within.
     let here : number < length c.args.marks.now = subst (λ n. number < n) (sym c.requires.long) (omega (arith, within)) in
     ap (λ b. cond b (unknown_libraries table.packages clause.«package» clause.item.uses) []) (marked.marked number here ∙ ap (λ b. b || is_used effective number) (c.requires.none number)) in
-    noted-two c.args.first.now c.note_effective.new.first c.note_uses.new.first (effective_refusals table c.args.scopes.now effective) (numbered_from (uses_fault table (is_used effective)) 0 effective.clauses)
+    noted-two c.args.reading.now.first c.note_effective.new.reading.first c.note_uses.new.first (effective_refusals table c.args.scopes.now effective) (numbered_from (uses_fault table (is_used effective)) 0 effective.clauses)
     c.in_ok-note_effective.ensures.first
-    (c.note_uses.ensures ∙ (λ i. nearer c.note_effective.new.first (least (numbered_from (uses_fault (kept i) told) 0 (c.items.ensures.items i)))) ∙ ap (λ all. nearer c.note_effective.new.first (least all)) (numbered-same (uses_fault table told) (uses_fault table (is_used effective)) 0 effective.clauses same))
+    (c.note_uses.ensures ∙ (λ i. nearer c.note_effective.new.reading.first (least (numbered_from (uses_fault (kept i) told) 0 (c.items.ensures.items i)))) ∙ ap (λ all. nearer c.note_effective.new.reading.first (least all)) (numbered-same (uses_fault table told) (uses_fault table (is_used effective)) 0 effective.clauses same))
