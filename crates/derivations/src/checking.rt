@@ -1,9 +1,9 @@
-ghost use Rattle.std.specs.Prelude.{◌≡◌, ◌<◌, ◌↔◌, ◌^◌, ℕ, if◌then◌else◌, length, nat_lt, slice_get, MatchOption};
+ghost use Rattle.std.specs.Prelude.{◌≡◌, ◌<◌, ◌↔◌, ◌^◌, ℕ, if◌then◌else◌, length, nat_lt, slice_get};
 ghost use Rattle.std.specs.List.{list_all};
 ghost use Rattle.fault_system.specs.Truth.{member, set_of};
 ghost use Rattle.fault_system.specs.Systems.{Holds};
-ghost use Rattle.derivations.specs.Steps.{AreRight, HasWrongEnd, IsFirstWrong, IsGood, ends_with, facts_of, is_made_true, is_right_step};
-ghost use Rattle.derivations.specs.inner.Steps.{IsFinding};
+ghost use Rattle.derivations.specs.Steps.{HasWrongEnd, IsFirstWrong, IsGood, ends_with, facts_of, is_made_true, is_right_step};
+ghost use Rattle.derivations.specs.inner.Steps.{HasFirstWrong, IsFinding};
 ghost use Rattle.derivations.specs.inner.Marked.{IsBlank};
 
 use crate::derivation::{Derivation, Finding, Firing};
@@ -57,8 +57,7 @@ pub fn check_derivation(
 // The first step that is not right.
 fn first_wrong_marked(checked: &Checked<'_>) -> Option<u32>
     requires { length checked.now.steps.now < 2 ^ 32 }
-    ensures { MatchOption result (AreRight checked.now.system.now (member checked.now.events.now) checked.now.steps.now (length checked.now.steps.now))
-        (λ number. IsFirstWrong checked.now.system.now (member checked.now.events.now) checked.now.steps.now number) }
+    ensures { HasFirstWrong checked.now result }
 {
     let mut fact_marks = [false; 262_144];
     let mut event_marks = [false; 4_096];
@@ -76,8 +75,7 @@ fn first_wrong(
     requires steps { length checked.now.steps.now < 2 ^ 32 }
     requires fact_marks { IsBlank fact_marks.old }
     requires event_marks { IsBlank event_marks.old }
-    ensures { MatchOption result (AreRight checked.now.system.now (member checked.now.events.now) checked.now.steps.now (length checked.now.steps.now))
-        (λ number. IsFirstWrong checked.now.system.now (member checked.now.events.now) checked.now.steps.now number) }
+    ensures { HasFirstWrong checked.now result }
 {
     for (number, step) in checked.steps.iter().enumerate() {
         if !is_right(checked, number as u32, step, fact_marks, event_marks) {

@@ -3,8 +3,8 @@
 ghost use Rattle.std.specs.Prelude.{◌≡◌, ◌+◌, ◌<◌, ◌≤◌, ◌++◌, ◌∷◌, [], ℕ, All, IfOk, IfSome, OnOk, length, map, flat_map, slice_index_or};
 ghost use Rattle.dependency_blocks.specs.Blocks.{IsBlocks, number_of, size_of};
 ghost use Rattle.round_gates.specs.inner.Walks.{node_in};
-ghost use Rattle.round_gates.specs.Stages.{fact_walk, low_nodes};
-ghost use Rattle.round_gates.specs.inner.Unrolled.{AreUnrolled, IsSmall, IsUnrolling, found_in, lines_in, members_of, written};
+ghost use Rattle.round_gates.specs.Stages.{fact_walk};
+ghost use Rattle.round_gates.specs.inner.Unrolled.{AreUnrolledBelow, IsSliced, IsSmall, IsUnrolling, found_in, lines_in, members_in, members_of, written};
 
 use crate::node::{Line, Node, Part, Stage};
 use crate::walking::walk_formula;
@@ -123,13 +123,11 @@ fn run_block(
     nodes: &mut [Node],
     lines: &mut Vec<Line>,
 ) -> Mem<()>
-    requires blocks { IsBlocks sliced.now.system.now sliced.now.slice.now.facts sliced.now.blocks.now }
-    requires small { All (IsSmall sliced.now.system.now) sliced.now.slice.now.facts }
-    requires inside { All (λ fact. fact < length sliced.now.system.now.facts) sliced.now.slice.now.facts }
+    requires sliced { IsSliced sliced.now }
     requires block { block < 4294967295 }
-    requires members { members.now ≡ members_of sliced.now.blocks.now block sliced.now.slice.now.facts }
-    requires before { AreUnrolled sliced.now.system.now sliced.now.blocks.now (low_nodes sliced.now.system.now sliced.now.blocks.now block) nodes.old lines.old.items }
-    ensures { OnOk result (AreUnrolled sliced.now.system.now sliced.now.blocks.now (low_nodes sliced.now.system.now sliced.now.blocks.now (block + 1)) nodes.new lines.new.items) }
+    requires members { members.now ≡ members_in sliced.now block }
+    requires before { AreUnrolledBelow sliced.now block nodes.old lines.old.items }
+    ensures { OnOk result (AreUnrolledBelow sliced.now (block + 1) nodes.new lines.new.items) }
 {
     let _facts = sliced.system.facts();
     let count = size_of(sliced.blocks, block);
@@ -147,14 +145,12 @@ fn run_blocks(
     nodes: &mut [Node],
     lines: &mut Vec<Line>,
 ) -> Mem<()>
-    requires blocks { IsBlocks sliced.now.system.now sliced.now.slice.now.facts sliced.now.blocks.now }
-    requires small { All (IsSmall sliced.now.system.now) sliced.now.slice.now.facts }
-    requires inside { All (λ fact. fact < length sliced.now.system.now.facts) sliced.now.slice.now.facts }
+    requires sliced { IsSliced sliced.now }
     requires few { length lists.now ≤ 4294967295 }
     requires members { (block : ℕ) → block < length lists.now
-        → slice_index_or lists.now block [] ≡ members_of sliced.now.blocks.now block sliced.now.slice.now.facts }
-    requires before { AreUnrolled sliced.now.system.now sliced.now.blocks.now (low_nodes sliced.now.system.now sliced.now.blocks.now 0) nodes.old lines.old.items }
-    ensures { OnOk result (AreUnrolled sliced.now.system.now sliced.now.blocks.now (low_nodes sliced.now.system.now sliced.now.blocks.now (length lists.now)) nodes.new lines.new.items) }
+        → slice_index_or lists.now block [] ≡ members_in sliced.now block }
+    requires before { AreUnrolledBelow sliced.now 0 nodes.old lines.old.items }
+    ensures { OnOk result (AreUnrolledBelow sliced.now (length lists.now) nodes.new lines.new.items) }
 {
     for (block, members) in lists.iter().enumerate() {
         run_block(alloc, sliced, block as u32, members.items(), nodes, lines)?;

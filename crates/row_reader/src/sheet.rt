@@ -232,6 +232,7 @@ fn run_rows<T: Tool>(tool: &T, row: &Row, trial: Trial, line: Line, report: &mut
     }
 }
 
+/// Runs a row once for each number that stands in a line `each:`.
 fn run_each<T: Tool>(
     tool: &T,
     row: &Row,
@@ -241,24 +242,24 @@ fn run_each<T: Tool>(
     report: &mut Report,
 ) {
     for word in numbers.split(|b| *b == b' ') {
-        let (low, high) = cut(word, b"-");
-        let high = if high.is_empty() { low } else { high };
-        match (number_of(low), number_of(high)) {
-            (Some(low), Some(high)) => run_range(tool, row, trial, line, low, high, report),
-            _ => report.fail_to_read(line, word, "after `each` stand numbers, as 3 or 5-17"),
-        }
+        run_word(tool, row, trial, line, word, report);
     }
 }
 
-fn run_range<T: Tool>(
+/// Runs a row once for each number of a word, as 3 or 5-17.
+fn run_word<T: Tool>(
     tool: &T,
     row: &Row,
     trial: Trial,
     line: Line,
-    low: u64,
-    high: u64,
+    word: &[u8],
     report: &mut Report,
 ) {
+    let (low, high) = cut(word, b"-");
+    let high = if high.is_empty() { low } else { high };
+    let (Some(low), Some(high)) = (number_of(low), number_of(high)) else {
+        return report.fail_to_read(line, word, "after `each` stand numbers, as 3 or 5-17");
+    };
     for number in low..=high {
         let mut hole = Text::new(row.texts.alloc());
         hole.put_number(number);

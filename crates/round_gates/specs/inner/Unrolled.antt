@@ -1,16 +1,17 @@
 -- The stages of all blocks, one after another, from the lowest block on.
-use Rattle.std.specs.Prelude.{ℕ, ◌<◌, ◌≡◌, ◌^◌, List, [], ◌∷◌, length, filter, Contains, ◌==◌, if◌then◌else◌}
+use Rattle.std.specs.Prelude.{ℕ, ◌<◌, ◌≡◌, ◌^◌, List, [], ◌∷◌, length, All, filter, Contains, ◌==◌, if◌then◌else◌}
 use Rattle.std.specs.List.{AllByRecursion}
 use Rattle.fault_system.specs.Systems.{System, IsFact}
 use Rattle.fault_system.specs.declared.formula.FactInfo.{FactInfo}
-use Rattle.dependency_blocks.specs.Blocks.{BlockNumbers}
+use Rattle.dependency_blocks.specs.Blocks.{BlockNumbers, IsBlocks}
 use Rattle.round_gates.specs.declared.node.Line.{Line}
 use Rattle.round_gates.specs.declared.node.Node.{Node}
 use Rattle.round_gates.specs.declared.node.Part.{Part}
 use Rattle.round_gates.specs.declared.node.Stage.{Stage}
+use Rattle.round_gates.specs.declared.unrolling.Sliced.{Sliced}
 use Rattle.round_gates.specs.Walks.{places}
 use Rattle.round_gates.specs.inner.Walks.{node_in}
-use Rattle.round_gates.specs.Stages.{in_block, fact_walk, last_node, IsGateOf}
+use Rattle.round_gates.specs.Stages.{in_block, fact_walk, last_node, low_nodes, IsGateOf}
 use Rattle.round_gates.specs.inner.Lines.{IsKnown, InOrder}
 
 -- the formula of a fact has fewer than 2 ^ 32 places
@@ -45,6 +46,20 @@ pub record AreUnrolled (system : System) (numbers : BlockNumbers) (now : ℕ →
   pub gates : AllByRecursion (IsGateOf system numbers) lines
   pub ordered : InOrder (length system.events) [] lines
   pub known : (fact : ℕ) → IsKnown (length system.events) lines (node_in nodes fact)
+
+-- a slice of a system with its blocks, whose facts are facts of the system with small formulas
+pub record IsSliced (sliced : Sliced) : Type 0 where
+  pub blocks : IsBlocks sliced.system.now sliced.slice.now.facts sliced.blocks.now
+  pub small : All (IsSmall sliced.system.now) sliced.slice.now.facts
+  pub inside : All (λ fact. fact < length sliced.system.now.facts) sliced.slice.now.facts
+
+-- the facts of one of its blocks
+abbrev pub members_in : Sliced → ℕ → List ℕ
+members_in sliced block = members_of sliced.blocks.now block sliced.slice.now.facts
+
+-- the blocks below a number are unrolled
+abbrev pub AreUnrolledBelow : Sliced → ℕ → List Node → List Line → Type 0
+AreUnrolledBelow sliced block = AreUnrolled sliced.system.now sliced.blocks.now (low_nodes sliced.system.now sliced.blocks.now block)
 
 -- the last nodes of the facts of a slice, and the gates of their stages
 pub record IsUnrolling (system : System) (facts : List ℕ) (numbers : BlockNumbers) (nodes : List Node) (lines : List Line) : Type 0 where
