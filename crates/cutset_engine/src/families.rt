@@ -9,9 +9,10 @@ use crate::filling::{fill, fill_fact};
 use crate::inner_order::inner_order;
 use crate::race::{Distance, Race, Try};
 use crate::setting::{Asked, Setting};
+use crate::unfound::Unfound;
 use family_renaming::in_event_order;
 use plain_values::Mem;
-use std::alloc::{AllocError, Global};
+use std::alloc::Global;
 use zdd_families::{copied, minimal_family, up_to_size};
 use zdd_store::{Id, Store};
 
@@ -22,14 +23,14 @@ const TRIES: u32 = 24;
 /// of sets of event numbers. The blocks decide how long it takes, and not what is found.
 ///
 /// It is tried with one order of the variables after the other, and each try ends where it remembers too much; then those
-/// that came farthest may remember more. After so many rounds it is given up, which is a refused growth of memory. What a try that
-/// was given up made is dropped. Each number of the store keeps its family, also where memory is refused.
+/// that came farthest may remember more. After so many rounds it is given up. What a try that was given up made is dropped. Each
+/// number of the store keeps its family, also where memory is refused.
 pub(crate) fn raced_family(
     alloc: Global,
     asked: &Asked<'_>,
     rounds: u32,
     store: &mut Store,
-) -> Mem<Id>
+) -> Result<Id, Unfound>
     requires { IsAskedOfSlice asked.now }
     ensures found { IfOk result (IsIn store.new) }
     ensures exact { IfOk result (λ id. HasAsked asked.now (family_of store.new id)) }
@@ -38,7 +39,7 @@ pub(crate) fn raced_family(
     let mut race = Race::new(asked.most.is_none());
     for turn in 0..TRIES {
         if race.rounds() >= rounds {
-            return Err(AllocError);
+            return Err(Unfound::GivenUp);
         }
         let mut distance = Distance::NONE;
         if let Ok(id) = family_within(alloc, asked, race.next(), &mut distance, store) {
@@ -48,7 +49,8 @@ pub(crate) fn raced_family(
     }
     let mut distance = Distance::NONE;
     let all = race.last();
-    family_within(alloc, asked, all, &mut distance, store)
+    let answer = family_within(alloc, asked, all, &mut distance, store)?;
+    Ok(answer)
 }
 
 /// The family, where the first try finds it.

@@ -23,7 +23,9 @@ mod race;
 mod setting;
 mod singles;
 mod thinning;
+mod unfound;
 
 pub use laws::in_slice;
 pub use setting::Asked;
 pub use singles::{family, family_in_rounds};
+pub use unfound::Unfound;

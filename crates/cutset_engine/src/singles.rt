@@ -1,21 +1,23 @@
 //! The minimal cut sets of a target: first those of one event, and then all others, in a system without these events.
 
-ghost use Rattle.std.specs.Prelude.{◌≡◌, ◌<◌, ◌⊎◌, ℕ, List, Some, IfOk, IsTrue, length};
+ghost use Rattle.std.specs.Prelude.{◌≡◌, ◌<◌, ◌⊎◌, ℕ, List, Some, IfOk, IfSome, IsTrue, length};
 ghost use Rattle.fault_system.specs.Truth.{Has, member};
 ghost use Rattle.fault_system.specs.Listings.{IsWithinOrder};
 ghost use Rattle.zdd_store.specs.inner.Family.{IsAntichain};
 ghost use Rattle.zdd_store.specs.inner.Store.{IsIn, family_of, Keeps};
 ghost use Rattle.zdd_families.specs.inner.Unions.{HasMinimalSets, IsInEither};
+ghost use Rattle.backward_slice.specs.Slices.{IsSlice};
 ghost use Rattle.cutset_engine.specs.inner.Families.{HasAsked, HasMinimalCutSets, IsAskedOfSlice};
 ghost use Rattle.cutset_engine.specs.inner.ThinSystems.{AreSingles};
 
 use crate::families::{first_family, raced_family};
 use crate::setting::Asked;
 use crate::thinning::thinned;
-use backward_slice::slice;
+use crate::unfound::Unfound;
+use backward_slice::{Slice, slice};
 use dependency_blocks::blocks;
 use fault_system::{Bits, FaultSystem};
-use plain_values::{Answer, Mem, Stop};
+use plain_values::{Mem, Stop};
 use std::alloc::{AllocError, Global};
 use zdd_families::{look, min_union};
 use zdd_store::{Id, Node, Store};
@@ -24,19 +26,26 @@ use zdd_store::{Id, Node, Store};
 ///
 /// Where they are not found at once, the sets of one event are found first. The others have none of these events, and none needs the
 /// target on the way to the target: so they are found in a smaller system. Each number of the store keeps its family, also where
-/// memory is refused.
+/// memory is refused. It is not given up, since there are fewer rounds of tries than are allowed.
 pub fn family(alloc: Global, asked: &Asked<'_>, store: &mut Store) -> Mem<Id>
     requires { IsAskedOfSlice asked.now }
     ensures found { IfOk result (IsIn store.new) }
     ensures exact { IfOk result (λ id. HasAsked asked.now (family_of store.new id)) }
     ensures kept { Keeps store.old store.new }
 {
-    family_in_rounds(alloc, asked, u32::MAX, store)
+    match family_in_rounds(alloc, asked, u32::MAX, store) {
+        Ok(id) => Ok(id),
+        Err(_) => Err(AllocError),
+    }
 }
 
 /// The same, given up after so many rounds of tries, each of which may remember sixteen times as much as those of the round before.
-/// To give up is a refused growth of memory.
-pub fn family_in_rounds(alloc: Global, asked: &Asked<'_>, rounds: u32, store: &mut Store) -> Mem<Id>
+pub fn family_in_rounds(
+    alloc: Global,
+    asked: &Asked<'_>,
+    rounds: u32,
+    store: &mut Store,
+) -> Result<Id, Unfound>
     requires { IsAskedOfSlice asked.now }
     ensures found { IfOk result (IsIn store.new) }
     ensures exact { IfOk result (λ id. HasAsked asked.now (family_of store.new id)) }
@@ -89,7 +98,12 @@ fn put_single(alone: &mut Bits, node: Node)
 }
 
 /// The minimal cut sets of the target, where sets of one event are asked for.
-fn ones_first(alloc: Global, asked: &Asked<'_>, rounds: u32, store: &mut Store) -> Mem<Id>
+fn ones_first(
+    alloc: Global,
+    asked: &Asked<'_>,
+    rounds: u32,
+    store: &mut Store,
+) -> Result<Id, Unfound>
     requires slice { IsAskedOfSlice asked.now }
     requires allowed { (set : List ℕ) → IsWithinOrder (Some 1) set → IsWithinOrder asked.now.most set }
     ensures found { IfOk result (IsIn store.new) }
@@ -115,7 +129,7 @@ fn with_others(
     ones: Id,
     alone: &Bits,
     store: &mut Store,
-) -> Mem<Id>
+) -> Result<Id, Unfound>
     requires slice { IsAskedOfSlice asked.now }
     requires allowed { (set : List ℕ) → IsWithinOrder (Some 1) set → IsWithinOrder asked.now.most set }
     requires ones_in { IsIn store.old ones }
@@ -127,10 +141,10 @@ fn with_others(
 {
     let target = asked.slice.target;
     let thin = thinned(alloc, asked.system, alone, target)?;
-    match sliced_family(alloc, &thin, target, asked.most, rounds, store) {
-        Ok(rest) => joined(store, ones, rest),
-        Err(Stop::Refused(_)) => raced_family(alloc, asked, rounds, store),
-        Err(Stop::Memory) => Err(AllocError),
+    let others = sliced_family(alloc, &thin, target, asked.most, rounds, store)?;
+    match others {
+        Some(rest) => Ok(joined(store, ones, rest)?),
+        None => raced_family(alloc, asked, rounds, store),
     }
 }
 
@@ -147,7 +161,7 @@ fn joined(store: &mut Store, ones: Id, rest: Id) -> Mem<Id>
     min_union(store, ones, rest)
 }
 
-/// The minimal cut sets of a target of a system, found in its slice.
+/// The minimal cut sets of a target of a system, found in its slice; none where this is too large.
 fn sliced_family(
     alloc: Global,
     system: &FaultSystem,
@@ -155,21 +169,40 @@ fn sliced_family(
     most: Option<u32>,
     rounds: u32,
     store: &mut Store,
-) -> Answer<Id>
+) -> Result<Option<Id>, Unfound>
     requires { target < length system.now.facts }
-    ensures found { IfOk result (IsIn store.new) }
-    ensures exact { IfOk result (λ id. HasMinimalCutSets system.now target most (family_of store.new id)) }
+    ensures found { IfOk result (λ answer. IfSome answer (IsIn store.new)) }
+    ensures exact { IfOk result (λ answer. IfSome answer (λ id. HasMinimalCutSets system.now target most (family_of store.new id))) }
     ensures kept { Keeps store.old store.new }
 {
     store.laws();
-    let slice = slice(alloc, system, target)?;
-    let blocks = blocks(alloc, system, &slice)?;
+    match slice(alloc, system, target) {
+        Ok(part) => Ok(Some(part_family(alloc, system, &part, most, rounds, store)?)),
+        Err(Stop::Refused(_)) => Ok(None),
+        Err(Stop::Memory) => Err(Unfound::Memory),
+    }
+}
+
+/// The minimal cut sets of the target of a slice of a system.
+fn part_family(
+    alloc: Global,
+    system: &FaultSystem,
+    part: &Slice,
+    most: Option<u32>,
+    rounds: u32,
+    store: &mut Store,
+) -> Result<Id, Unfound>
+    requires { IsSlice system.now part.now.target part.now }
+    ensures found { IfOk result (IsIn store.new) }
+    ensures exact { IfOk result (λ id. HasMinimalCutSets system.now part.now.target most (family_of store.new id)) }
+    ensures kept { Keeps store.old store.new }
+{
+    let blocks = blocks(alloc, system, part)?;
     let asked = Asked {
         system,
-        slice: &slice,
+        slice: part,
         blocks: &blocks,
         most,
     };
-    let family = raced_family(alloc, &asked, rounds, store)?;
-    Ok(family)
+    raced_family(alloc, &asked, rounds, store)
 }

@@ -12,7 +12,7 @@ ghost use Rattle.cutset_lister.specs.inner.Walks.{IsStarted, all_sets, sets_left
 ghost use Rattle.cutset_writer.specs.inner.Pages.{Lists};
 ghost use Rattle.system_answers.specs.inner.Fronts.{ServesAsked};
 
-use cutset_engine::{Asked, family_in_rounds, in_slice};
+use cutset_engine::{Asked, Unfound, family, family_in_rounds, in_slice};
 use cutset_lister::Listing;
 use fta_outside::Steps;
 use plain_values::{List, Mem};
@@ -57,7 +57,7 @@ pub(crate) fn page_family(
             let window = Window { start, limit };
             limited_family(alloc, asked, &window, store)
         }
-        None => whole_family(alloc, asked, u32::MAX, store),
+        None => whole_family(alloc, asked, store),
     }
 }
 
@@ -74,18 +74,33 @@ fn limited_family(
     ensures kept { Keeps store.old store.new }
 {
     for round in 0..ROUNDS {
-        if let Ok(id) = whole_family(alloc, asked, round + 2, store) {
+        if let Ok(id) = tried_family(alloc, asked, round + 2, store) {
             return Ok(id);
         }
         if let Ok(Some(id)) = front_family(alloc, asked, window, round + 1, store) {
             return Ok(id);
         }
     }
-    whole_family(alloc, asked, u32::MAX, store)
+    whole_family(alloc, asked, store)
 }
 
-/// All minimal cut sets that are asked for, given up after so many rounds.
-fn whole_family(alloc: Global, asked: &Asked<'_>, rounds: u32, store: &mut Store) -> Mem<Id>
+/// All minimal cut sets that are asked for, however long it takes.
+fn whole_family(alloc: Global, asked: &Asked<'_>, store: &mut Store) -> Mem<Id>
+    requires { IsAskedOfSlice asked.now }
+    ensures found { IfOk result (IsIn store.new) }
+    ensures serves { IfOk result (λ id. (start : Maybe (Items ℕ)) (limit : Maybe ℕ) → ServesAsked asked.now start limit (family_of store.new id)) }
+    ensures kept { Keeps store.old store.new }
+{
+    family(alloc, asked, store)
+}
+
+/// The same, given up after so many rounds.
+fn tried_family(
+    alloc: Global,
+    asked: &Asked<'_>,
+    rounds: u32,
+    store: &mut Store,
+) -> Result<Id, Unfound>
     requires { IsAskedOfSlice asked.now }
     ensures found { IfOk result (IsIn store.new) }
     ensures serves { IfOk result (λ id. (start : Maybe (Items ℕ)) (limit : Maybe ℕ) → ServesAsked asked.now start limit (family_of store.new id)) }
@@ -95,14 +110,14 @@ fn whole_family(alloc: Global, asked: &Asked<'_>, rounds: u32, store: &mut Store
 }
 
 /// The minimal cut sets of a small order, of which more than the limit stand behind the start of the page; none where there is no such
-/// order. That an order is given up after so many rounds is a refused growth of memory.
+/// order. An order is given up after so many rounds.
 fn front_family(
     alloc: Global,
     asked: &Asked<'_>,
     window: &Window<'_>,
     rounds: u32,
     store: &mut Store,
-) -> Mem<Option<Id>>
+) -> Result<Option<Id>, Unfound>
     requires { IsAskedOfSlice asked.now }
     ensures found { IfOk result (λ answer. IfSome answer (IsIn store.new)) }
     ensures serves { IfOk result (λ answer. IfSome answer (λ id. ServesAsked asked.now window.now.start.now (Some window.now.limit) (family_of store.new id))) }
@@ -152,7 +167,7 @@ fn front_of_order(
     order: u32,
     rounds: u32,
     store: &mut Store,
-) -> Mem<Option<Id>>
+) -> Result<Option<Id>, Unfound>
     requires slice { IsAskedOfSlice asked.now }
     requires allowed { (set : Items ℕ) → IsWithinOrder (Some order) set → IsWithinOrder asked.now.most set }
     ensures found { IfOk result (λ answer. IfSome answer (IsIn store.new)) }

@@ -5,4 +5,4 @@ use Rattle.system_answers.proofs.fronts.whole_family.Goals as goal
 
 pub returns-clause-serves : goal.returns-clause-serves
 returns-clause-serves c =
-    IfOk-weaker c.family_in_rounds.result _ _ (λ id exact. serves-whole c.args.asked.now.system.now c.args.asked.now.slice.now.target c.args.asked.now.most (family_of c.family_in_rounds.new.store id) exact) c.family_in_rounds.ensures.exact
+    IfOk-weaker c.family.result _ _ (λ id exact. serves-whole c.args.asked.now.system.now c.args.asked.now.slice.now.target c.args.asked.now.most (family_of c.family.new.store id) exact) c.family.ensures.exact
