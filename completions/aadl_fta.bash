@@ -13,7 +13,7 @@ _aadl_fta_names() {
 }
 
 _aadl_fta() {
-  local commands='check cuts tree fmea report make galileo paths why confirm targets events review place help version'
+  local commands='check cuts tree fmea report make galileo paths why confirm targets events review place explain help version'
   local cur prev words cword options='' files_from=0
   # A colon and an equals sign end a word for bash. bash-completion joins what they part; without it a root counts as several words.
   if declare -F _get_comp_words_by_ref >/dev/null; then

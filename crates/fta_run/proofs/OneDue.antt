@@ -164,6 +164,7 @@ text_decided kind.Events voices asked texts short = (made_decided origins_phase 
 text_decided kind.Review voices asked texts short = (made_decided review_phase (review_decided IsSameStatus itself) asked.root texts, λ reviewed at. tt)
 text_decided kind.Place voices asked texts short = tt
 text_decided kind.Help voices asked texts short = tt
+text_decided kind.Explain voices asked texts short = tt
 text_decided kind.Version voices asked texts short = tt
 
 request_decided : (contents : List ℕ → Option (List ℕ)) (voices : List Voice) (asked : Request) → AllByRecursion (λ file. IsSome (contents file)) asked.files → IsDecided IsSameStatus (request_text contents voices asked)

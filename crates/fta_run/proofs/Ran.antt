@@ -207,6 +207,7 @@ text_stops kind.Events voices asked texts = (refusals (made_of_texts origins_pha
 text_stops kind.Review voices asked texts = (refusals (made_of_texts review_phase asked.root texts) (made_stops review_phase review_stop asked.root texts), λ model at. tt)
 text_stops kind.Place voices asked texts = tt
 text_stops kind.Help voices asked texts = tt
+text_stops kind.Explain voices asked texts = tt
 text_stops kind.Version voices asked texts = tt
 
 request_stops : (contents : List ℕ → Option (List ℕ)) (voices : List Voice) (asked : Request) → StopsOnly IsAnEnd (request_text contents voices asked)

@@ -11,7 +11,7 @@ use Rattle.cutset_writer.specs.declared.form.SetForm.TheVariants.{Token}
 use Rattle.page_tokens.specs.Keys.{asked_digits}
 use Rattle.model_maker.specs.Text.{text_of as made_text}
 use Rattle.text_places.specs.Places.{place_text}
-use Rattle.help_texts.specs.Texts.{help_text, version_text}
+use Rattle.help_texts.specs.Texts.{explain_text, help_text, version_text}
 use Rattle.fmea_rows.specs.Rows.{rows_of}
 use Rattle.fmea_rows.specs.Text.{table_text}
 use Rattle.fta_words.specs.declared.command.Paging.{Paging}
@@ -218,6 +218,7 @@ text_for kind.Targets voices asked texts = targets_in asked.root (is_set asked.o
 text_for kind.Events voices asked texts = events_in asked.root asked.files texts
 text_for kind.Review voices asked texts = review_in asked.root texts
 text_for kind.Place voices asked texts = place_in asked.files asked.number texts
+text_for kind.Explain voices asked texts = yields (explain_text asked.target)
 text_for kind.Help voices asked texts = yields (help_text asked.of)
 text_for kind.Version voices asked texts = yields version_text
 

@@ -7,7 +7,7 @@ ghost use Rattle.plain_values.specs.Rising.{RisesWithin};
 ghost use Rattle.cut_reports.specs.Feeding.{IsKept, RoseAt};
 ghost use Rattle.cut_reports.specs.Places.{AtChosen};
 ghost use Rattle.fta_words.specs.inner.Shown.{request_shown};
-ghost use Rattle.help_texts.specs.Texts.{help_text};
+ghost use Rattle.help_texts.specs.Texts.{explain_text, help_text};
 ghost use Rattle.model_phases.specs.Named.{IsPlainModel};
 ghost use Rattle.system_answers.specs.inner.Ends.{EndsReports};
 ghost use Rattle.system_answers.specs.Voices.{voices_of};
@@ -27,7 +27,7 @@ use cutset_writer::ListingPage;
 use event_lines::events_text;
 use fta_outside::Report;
 use fta_words::{Kind, Paging, Request};
-use help_texts::{help_text, version_text};
+use help_texts::{explain_text, help_text, version_text};
 use model_phases::{EventModel, FlatModel, FromAssembly, ReviewedModel};
 use page_tokens::asked_digest;
 use phases::Status;
@@ -85,6 +85,7 @@ pub fn answer_in(
         Kind::Events => ready_of(events(alloc, root, asked.files, texts)),
         Kind::Review => ready_of(review(alloc, root, texts)),
         Kind::Place => ready_of(place(alloc, asked.files, asked.number, texts)),
+        Kind::Explain => Ok(Ready::Held(explain(target))),
         Kind::Help => ready_of(help(alloc, asked.of)),
         Kind::Version => Ok(Ready::Held(Held::Fixed(version_text()))),
     }
@@ -267,6 +268,13 @@ fn first_name(names: &[Word]) -> &[u8]
         Some(name) => name.items(),
         None => &[],
     }
+}
+
+/// What is said of the refusal whose code has this name.
+fn explain(code: &Name) -> Held
+    ensures { held_text result ≡ explain_text code.now }
+{
+    Held::Fixed(explain_text(code.items()))
 }
 
 /// What the tool does, or a command of it.

@@ -212,6 +212,10 @@ one_asked shape.File words root root₂ target target₂ number number₂ of of�
 one_asked shape.Place words root root₂ target target₂ number number₂ of of₂ files files₂ x y =
     let same = same_file files files₂ x.0 y.0 x.2 y.2 (sym x.1 ∙ y.1) in
     record { roots = x.4 ∙ sym y.4; targets = x.5 ∙ sym y.5; numbers = one_number y.0 number number₂ (subst (λ w. IsNumberText w number) same.1 x.3) y.3; ofs = x.6 ∙ sym y.6; all_files = same.0 }
+one_asked shape.Code words root root₂ target target₂ number number₂ of of₂ files files₂ x y =
+    let both : x.0 ∷ [] ≡ y.0 ∷ [] = sym x.1 ∙ y.1 in
+    let word : x.0 ≡ y.0 = cc (both) in
+    record { roots = x.4 ∙ sym y.4; targets = x.2 ∙ ap folded word ∙ sym y.2; numbers = x.5 ∙ sym y.5; ofs = x.6 ∙ sym y.6; all_files = x.7 ∙ sym y.7 }
 one_asked shape.Topic words root root₂ target target₂ number number₂ of of₂ files files₂ x y =
     record { roots = x.1 ∙ sym y.1; targets = x.2 ∙ sym y.2; numbers = x.3 ∙ sym y.3; ofs = one_topic of of₂ (sym x.0 ∙ y.0); all_files = x.4 ∙ sym y.4 }
 one_asked shape.Alone words root root₂ target target₂ number number₂ of of₂ files files₂ x y =
@@ -256,6 +260,7 @@ files_asked shape.Derivation name words root target number of files x = ap (drop
 files_asked shape.Number name words root target number of files x = ap (drop 1) x.1 ∙ sym x.8
 files_asked shape.File name words root target number of files x = x.0
 files_asked shape.Place name words root target number of files x = ap (take 1) x.1 ∙ only_file files x.0 x.2
+files_asked shape.Code name words root target number of files x = ap (drop 1) x.1 ∙ sym x.7
 files_asked shape.Topic name words root target number None files x = ap (drop 2) x.0 ∙ sym x.4
 files_asked shape.Topic name words root target number (Some of) files x = ap (drop 2) x.0 ∙ sym x.4
 files_asked shape.Alone name words root target number of files x = ap (drop 2) x.0 ∙ sym x.5
@@ -282,6 +287,8 @@ alone_no_file shape.Target word true = refl
 alone_no_file shape.Target word false = refl
 alone_no_file shape.Derivation word true = refl
 alone_no_file shape.Derivation word false = refl
+alone_no_file shape.Code word true = refl
+alone_no_file shape.Code word false = refl
 alone_no_file shape.Topic word true = refl
 alone_no_file shape.Topic word false = refl
 alone_no_file shape.Alone word true = refl

@@ -8,7 +8,7 @@ use Rattle.fta_words.specs.declared.kind.Kind.TheVariants as kind
 use Rattle.fta_words.specs.declared.kind.Shape.{Shape}
 use Rattle.fta_words.specs.declared.kind.Shape.TheVariants as shape
 use Rattle.fta_words.specs.declared.kind.TheConstants.{KINDS}
-use Rattle.fta_words.specs.declared.table.TheConstants.{FLAGS, ROWS}
+use Rattle.fta_words.specs.declared.table.TheConstants.{CODES, FLAGS, ROWS}
 
 -- the place of the row of a command
 abbrev pub place_of : Kind → ℕ
@@ -26,8 +26,9 @@ place_of kind.Targets = 10
 place_of kind.Events = 11
 place_of kind.Review = 12
 place_of kind.Place = 13
-place_of kind.Help = 14
-place_of kind.Version = 15
+place_of kind.Explain = 14
+place_of kind.Help = 15
+place_of kind.Version = 16
 
 -- the name of a command
 abbrev pub name_of : Kind → List ℕ
@@ -52,6 +53,10 @@ required_of kind = option_map_or (λ row. map (λ name. name.now) row.required.n
 -- the flags of all commands
 abbrev pub all_flags : List (List ℕ)
 all_flags = map (λ name. name.now) FLAGS
+
+-- the codes of refusals, in lower case
+abbrev pub all_codes : List (List ℕ)
+all_codes = map (λ name. name.now) CODES
 
 -- whether a name is among others
 abbrev pub is_among : List (List ℕ) → List ℕ → Bool

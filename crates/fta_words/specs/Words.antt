@@ -9,7 +9,7 @@ use Rattle.fta_words.specs.declared.command.Options.{Options}
 use Rattle.fta_words.specs.declared.kind.Kind.{Kind}
 use Rattle.fta_words.specs.declared.kind.Shape.{Shape}
 use Rattle.fta_words.specs.declared.kind.Shape.TheVariants as shape
-use Rattle.fta_words.specs.Table.{all_flags, flags_of, is_among, kind_named, name_of, required_of, shape_of, valued_of}
+use Rattle.fta_words.specs.Table.{all_codes, all_flags, flags_of, is_among, kind_named, name_of, required_of, shape_of, valued_of}
 
 -- ---- plain words
 
@@ -179,7 +179,7 @@ pub record Request : Type 0 where
   pub kind : Kind
   -- the root of a model
   pub root : Root
-  -- the name of a fact of it
+  -- the name of a fact of it, or that of the code of a refusal
   pub target : List ℕ
   -- the size of a model that is made, or a byte of a text
   pub number : ℕ
@@ -218,6 +218,9 @@ IsAsked shape.File words root target number of files =
 IsAsked shape.Place words root target number of files =
     (byte_word : List ℕ) × (words ≡ files ++ byte_word ∷ []) × (length files ≡ 1) × IsNumberText byte_word number
     × (root ≡ no_root) × (target ≡ []) × (of ≡ None)
+IsAsked shape.Code words root target number of files =
+    (code_word : List ℕ) × (words ≡ code_word ∷ []) × IsFolded code_word target × (is_among all_codes target ≡ true)
+    × (root ≡ no_root) × (number ≡ 0) × (of ≡ None) × (files ≡ [])
 IsAsked shape.Topic words root target number of files =
     (words ≡ option_to_list (option_map name_of of))
     × (root ≡ no_root) × (target ≡ []) × (number ≡ 0) × (files ≡ [])
@@ -287,6 +290,7 @@ shape_named name = option_map_or shape_of (kind_named name) shape.Target
 abbrev pub files_in : Shape → List (List ℕ) → List (List ℕ)
 files_in shape.Model words = drop 2 words
 files_in shape.Number words = drop 2 words
+files_in shape.Code words = drop 2 words
 files_in shape.File words = drop 1 words
 files_in shape.Place words = take 1 (drop 1 words)
 files_in shape.Target words = drop 3 words

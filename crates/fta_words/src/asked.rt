@@ -8,7 +8,7 @@ ghost use Rattle.fta_words.specs.inner.Reading.{AsksAs};
 use crate::kind::{Kind, Shape};
 use crate::number::number_of;
 use crate::root::root_in;
-use crate::table::{kind_named, shape_of};
+use crate::table::{CODES, is_among, kind_named, shape_of};
 use plain_values::{List, Mem, Name, Root, Word, fold};
 use std::alloc::Global;
 
@@ -33,6 +33,7 @@ pub(crate) fn asked_of<'a>(alloc: Global, kind: Kind, words: &'a [Word]) -> Mem<
         Shape::Number => Ok(number(alloc, words)),
         Shape::File => Ok(file(alloc, words)),
         Shape::Place => Ok(place(alloc, words)),
+        Shape::Code => code(alloc, words),
         Shape::Topic => Ok(topic(alloc, words)),
         Shape::Alone => Ok(alone(alloc, words)),
     }
@@ -143,6 +144,26 @@ fn place<'a>(alloc: Global, words: &'a [Word]) -> Option<Asked<'a>>
         of: None,
         files,
     })
+}
+
+/// The name of the code of a refusal.
+fn code<'a>(alloc: Global, words: &'a [Word]) -> Mem<Option<Asked<'a>>>
+    ensures { IfOk result (AsksAs shape.Code words.now) }
+{
+    let [code] = words else {
+        return Ok(None);
+    };
+    let target = fold(alloc, code.items())?;
+    if !is_among(&CODES, target.items()) {
+        return Ok(None);
+    }
+    Ok(Some(Asked {
+        root: no_root(alloc),
+        target,
+        number: 0,
+        of: None,
+        files: &[],
+    }))
 }
 
 /// The name of a command, or nothing.

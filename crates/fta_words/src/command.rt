@@ -24,7 +24,7 @@ pub struct Request<'a> {
     pub kind: Kind,
     /// The root of a model, whose letters are folded.
     pub root: Root,
-    /// The name of a fact of it, folded.
+    /// The name of a fact of it, folded, or that of the code of a refusal.
     pub target: Name,
     /// The size of a model that is made, from 1 to 512, or a byte of a text.
     pub number: u32,

@@ -15,12 +15,13 @@ pub enum Kind {
     Events,
     Review,
     Place,
+    Explain,
     Help,
     Version,
 }
 
 /// All commands, in order.
-pub const KINDS: [Kind; 16] = [
+pub const KINDS: [Kind; 17] = [
     Kind::Check,
     Kind::Cuts,
     Kind::Tree,
@@ -35,6 +36,7 @@ pub const KINDS: [Kind; 16] = [
     Kind::Events,
     Kind::Review,
     Kind::Place,
+    Kind::Explain,
     Kind::Help,
     Kind::Version,
 ];
@@ -54,6 +56,8 @@ pub enum Shape {
     File,
     /// `FILE BYTE`
     Place,
+    /// the name of the code of a refusal
+    Code,
     /// the name of a command, or nothing
     Topic,
     /// nothing

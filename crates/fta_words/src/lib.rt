@@ -22,4 +22,4 @@ pub use command::{Options, Paging, Request};
 pub use error::WordsFault;
 pub use files::file_words;
 pub use kind::{KINDS, Kind, Shape};
-pub use table::{about_of, are_named, name_of, optional_of, usage_of};
+pub use table::{CODES, about_of, are_named, name_of, optional_of, usage_of};

@@ -46,8 +46,17 @@ pub const FLAGS: [&'static str; 4] = ["tokens", "all", "text", "paths"];
 /// The options of all commands that have a value.
 pub const VALUED: [&'static str; 5] = ["limit", "after", "max-order", "reports", "set"];
 
+/// The codes of refusals, in lower case.
+pub const CODES: [&'static [u8]; 57] = [
+    b"l1", b"l2", b"l3", b"s1", b"n1", b"n2", b"n3", b"n4", b"n5", b"n6", b"n7", b"n8", b"n9",
+    b"n10", b"n11", b"n12", b"n13", b"n14", b"n15", b"p1", b"p2", b"p3", b"p4", b"p5", b"p6",
+    b"p7", b"p8", b"p9", b"p11", b"p12", b"m1", b"m2", b"m13", b"m3", b"m4", b"m5", b"m6", b"m7",
+    b"m8", b"m9", b"m10", b"m11", b"m12", b"m14", b"t1", b"k1", b"k2", b"k3", b"v1", b"v2", b"v3",
+    b"g1", b"g6", b"g4", b"g5", b"g2", b"g3",
+];
+
 /// A row for each command, in the order of `KINDS`, which is that of help.
-pub const ROWS: [CommandRow; 16] = [
+pub const ROWS: [CommandRow; 17] = [
     Row {
         kind: Kind::Check,
         name: b"check",
@@ -203,6 +212,17 @@ pub const ROWS: [CommandRow; 16] = [
         about: b"the line and the column of a byte, as a refusal names it",
     },
     Row {
+        kind: Kind::Explain,
+        name: b"explain",
+        shape: Shape::Code,
+        flags: &[],
+        valued: &[],
+        required: &[],
+        usage: b"explain CODE",
+        optional: b"",
+        about: b"what a refusal says, and what to write instead",
+    },
+    Row {
         kind: Kind::Help,
         name: b"help",
         shape: Shape::Topic,
@@ -229,7 +249,7 @@ pub const ROWS: [CommandRow; 16] = [
 /// The place of the row of a command.
 fn place_of(kind: Kind) -> usize
     ensures place { result ≡ place_of kind }
-    ensures within { result < 16 }
+    ensures within { result < 17 }
 {
     kind as usize
 }

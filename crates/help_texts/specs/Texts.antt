@@ -1,11 +1,13 @@
--- What `help` and `version` write. The texts stand in src/commands.rt.
-use Rattle.std.specs.Prelude.{ℕ, List, ◌++◌, codes, Option, None, Some}
+-- What `help`, `version` and `explain` write. The texts stand in src/commands.rt and src/explanations.rt.
+use Rattle.std.specs.Prelude.{ℕ, List, [], ◌∷◌, ◌++◌, codes, if◌then◌else◌, map, Option, None, Some}
 use Rattle.std.specs.List.{flat_map}
-use Rattle.fta_words.specs.Table.{about_of, optional_of, usage_of}
+use Rattle.plain_values.specs.Name.{is_same_text}
+use Rattle.fta_words.specs.Table.{about_of, all_codes, optional_of, usage_of}
 use Rattle.fta_words.specs.declared.kind.TheConstants.{KINDS}
 use Rattle.fta_words.specs.declared.kind.Kind.{Kind}
 use Rattle.fta_words.specs.declared.kind.Kind.TheVariants as kind
-use Rattle.help_texts.specs.declared.commands.TheConstants.{CHECK, CUTS, TREE, FMEA, REPORT, MAKE, GALILEO, PATHS, WHY, CONFIRM, TARGETS, EVENTS, REVIEW, PLACE, HELP, VERSION, STATUSES, VERSIONS}
+use Rattle.help_texts.specs.declared.commands.TheConstants.{CHECK, CUTS, TREE, FMEA, REPORT, MAKE, GALILEO, PATHS, WHY, CONFIRM, TARGETS, EVENTS, REVIEW, PLACE, EXPLAIN, HELP, VERSION, STATUSES, VERSIONS}
+use Rattle.help_texts.specs.declared.explanations.TheConstants.{EXPLANATIONS}
 
 -- what a command writes, its options, and an example
 abbrev pub lines_of : Kind → List ℕ
@@ -23,6 +25,7 @@ lines_of kind.Targets = TARGETS.now
 lines_of kind.Events = EVENTS.now
 lines_of kind.Review = REVIEW.now
 lines_of kind.Place = PLACE.now
+lines_of kind.Explain = EXPLAIN.now
 lines_of kind.Help = HELP.now
 lines_of kind.Version = VERSION.now
 
@@ -38,3 +41,17 @@ help_text (Some kind) = codes "aadl_fta " ++ usage_of kind ++ optional_of kind +
 -- what `version` writes: the version of the program, and that of the profile
 abbrev pub version_text : List ℕ
 version_text = VERSIONS.now
+
+-- the texts on refusals, in the order of their codes
+abbrev pub all_explanations : List (List ℕ)
+all_explanations = map (λ text. text.now) EXPLANATIONS
+
+-- the text on the first of these codes that has a name; nothing where none has
+abbrev pub explained : List (List ℕ) → List (List ℕ) → List ℕ → List ℕ
+explained [] texts name = []
+explained (code ∷ codes) [] name = []
+explained (code ∷ codes) (text ∷ texts) name = if is_same_text code name then text else explained codes texts name
+
+-- what `explain` writes of the refusal whose code has a name, in lower case
+abbrev pub explain_text : List ℕ → List ℕ
+explain_text name = explained all_codes all_explanations name

@@ -145,6 +145,14 @@ pub const PLACE: &[u8] =
     Example, in the folder of the repository:\n\
     ./aadl_fta place examples/wrong.aadl 152\n";
 
+/// Of `explain`.
+pub const EXPLAIN: &[u8] =
+    b"Writes what a refusal says, by its code, and what to write instead. The code is the first word behind the\n\
+    name of the program in the line of a refusal.\n\
+    \n\
+    Example:\n\
+    ./aadl_fta explain N2\n";
+
 /// Of `help`.
 pub const HELP: &[u8] =
     b"Writes a line for each command, and the exit statuses; or the words of a command, its options, and an\n\

@@ -1,7 +1,10 @@
-//! What `help` and `version` write.
+//! What `help`, `version` and `explain` write.
 #![tactic(auto)]
 
 mod commands;
+mod explained;
+mod explanations;
 mod texts;
 
+pub use explained::{codes_are_explained, explain_text};
 pub use texts::{help_text, version_text};

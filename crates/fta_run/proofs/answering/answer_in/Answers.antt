@@ -135,6 +135,9 @@ returns-in-Fmea-clause-text g c =
 pub returns-in-Fmea-clause-reports : goal.returns-in-Fmea-clause-reports
 returns-in-Fmea-clause-reports g c = all_kept (λ b. (goal.Report-dyn g (b.vtable, b.value)).text b.value) (λ b. (goal.Report-dyn g (b.vtable, b.value)).label b.value) (λ b. (goal.Report-dyn g (b.vtable, b.value)).report_faults b.value) _ c.args.reports.now.items
 
+pub returns-in-Explain-clause-reports : goal.returns-in-Explain-clause-reports
+returns-in-Explain-clause-reports g c = all_kept (λ b. (goal.Report-dyn g (b.vtable, b.value)).text b.value) (λ b. (goal.Report-dyn g (b.vtable, b.value)).label b.value) (λ b. (goal.Report-dyn g (b.vtable, b.value)).report_faults b.value) _ c.args.reports.now.items
+
 pub returns-in-Version-clause-reports : goal.returns-in-Version-clause-reports
 returns-in-Version-clause-reports g c = all_kept (λ b. (goal.Report-dyn g (b.vtable, b.value)).text b.value) (λ b. (goal.Report-dyn g (b.vtable, b.value)).label b.value) (λ b. (goal.Report-dyn g (b.vtable, b.value)).report_faults b.value) _ c.args.reports.now.items
 
