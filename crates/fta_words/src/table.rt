@@ -242,7 +242,7 @@ pub const ROWS: [CommandRow; 17] = [
         required: &[],
         usage: b"version",
         optional: b"",
-        about: b"the version of the program and of its profile",
+        about: b"the versions of the program, of its profile, and of what its commands write",
     },
 ];
 

@@ -163,8 +163,9 @@ pub const HELP: &[u8] =
 
 /// Of `version`.
 pub const VERSION: &[u8] =
-    b"Writes the version of the program, and that of its profile: the texts that it accepts, and what they mean.\n\
-    --version and -V do so too.\n\
+    b"Writes the version of the program, that of its profile (the texts that it accepts, and what they mean), and\n\
+    that of the format of what each command writes: it rises where a line has another form or a kind of line\n\
+    is new. --version and -V write the same.\n\
     \n\
     Example:\n\
     ./aadl_fta version\n";
@@ -173,6 +174,7 @@ pub const VERSION: &[u8] =
 pub const STATUSES: &[u8] =
     b"exit status: 0 written whole, 1 no command, 2 refused, 3 no tree of a constant target, 4 a file not read, 5 the output not written, 6 a report failed, 7 out of memory\n";
 
-/// The version of the program, and that of its profile.
+/// The version of the program, that of its profile, and those of the formats of what its commands write.
 pub const VERSIONS: &[u8] = b"aadl_fta 0.1.0\n\
-    profile 1\n";
+    profile 1\n\
+    formats: check 1 cuts 1 tree 1 fmea 1 report 1 make 1 galileo 1 paths 1 why 1 confirm 1 targets 1 events 1 review 1 place 1\n";
