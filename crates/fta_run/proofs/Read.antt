@@ -1,5 +1,6 @@
 -- A run on files that are held.
-use Rattle.std.proofs.Common.{◌≡◌, ◌≤◌, ℕ, Bool, true, false, if◌then◌else◌, List, [], ◌∷◌, length, Option, Some, Result, refl, subst, arith, inl, inr}
+use Rattle.std.proofs.Common.{◌≡◌, ◌≤◌, ◌<◌, ℕ, Bool, true, false, if◌then◌else◌, List, [], ◌∷◌, length, Option, Some, Result, refl, sym, subst, arith, inl, inr}
+use Rattle.std.specs.Prelude.{cond}
 use Rattle.std.specs.Option.{IsSome}
 use Rattle.std.specs.List.{AllByRecursion}
 use Rattle.std.proofs.lemmas.Slice.Eq.{bytes_eq-Decides}
@@ -13,7 +14,7 @@ use Rattle.fta_run.specs.Answers.{AllTold, IsCaused, IsJustified, IsOutput, MayC
 use Rattle.fta_run.specs.Due.{due}
 use Rattle.fta_run.specs.Files.{most_files}
 use Rattle.fta_run.specs.inner.Held.{AreFronts, IsToRead, RanOn, text_of}
-use Rattle.fta_run.specs.Words.{file_words}
+use Rattle.fta_run.specs.Words.{GiveRequest, IsRequest, Request, file_words}
 use Rattle.fta_words.proofs.Requests.{file_words_are}
 
 found_or : (test : Bool) (text : List ℕ) (later : Option (List ℕ)) → IsSome later → IsSome (if test then Some text else later)
@@ -42,6 +43,22 @@ all_told contents words voices files texts (inl (none, inr many)) fronts few ask
 all_told contents words voices files texts (inr (given, less, are)) fronts few asked is =
     subst (AllByRecursion (λ name. IsSome (text_of files texts name))) (file_words_are (labels voices) words asked is)
     (subst (AllByRecursion (λ name. IsSome (text_of files texts name))) are (each_told contents files texts fronts))
+
+-- of files that are read there are not too many
+pub few_read : (names words files : List (List ℕ)) → IsToRead names words files → length files ≤ most_files
+few_read names words files (inl (none, why)) = subst (λ (l : List (List ℕ)). length l ≤ most_files) (sym none) (omega arith)
+few_read names words files (inr (given, few, are)) = subst (λ (l : List (List ℕ)). length l ≤ most_files) (sym are) few
+
+-- where some are read, they are those of a request
+pub some_read : (names words files : List (List ℕ)) → IsToRead names words files → (files ≡ [] → ⊥) → GiveRequest names words × (length (file_words words) ≤ most_files) × (files ≡ file_words words)
+some_read names words files (inl (none, why)) some = absurd (some none)
+some_read names words files (inr asked) some = asked
+
+-- the files of a request, where they are not too many
+pub asked_read : (names words : List (List ℕ)) (asked : Request) (many : Bool) → IsRequest names words asked → (many ≡ true → most_files < length asked.files) → (many ≡ false → length asked.files ≤ most_files) → IsToRead names words (cond many [] asked.files)
+asked_read names words asked true is over within = inl (refl, inr (subst (λ (l : List (List ℕ)). most_files < length l) (sym (file_words_are names words asked is)) (over refl)))
+asked_read names words asked false is over within =
+    inr ((asked, is), subst (λ (l : List (List ℕ)). length l ≤ most_files) (sym (file_words_are names words asked is)) (within refl), sym (file_words_are names words asked is))
 
 -- no read of a file that is held fails
 no_cause : (names words : List (List ℕ)) (before after : Seen) (RoseThere : ℕ → Type 0) (status : Status) (file : ℕ) → IsCaused status names words (λ name. 0) (λ name. 0) before after RoseThere → status ≡ ReadFault file → ⊥
