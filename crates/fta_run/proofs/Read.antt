@@ -7,13 +7,13 @@ use Rattle.std.proofs.lemmas.Slice.Eq.{bytes_eq-Decides}
 use Rattle.plain_values.specs.Name.{is_same_text}
 use Rattle.phases.specs.Phases.{IsDue}
 use Rattle.phases.specs.declared.status.Status.{Status}
-use Rattle.phases.specs.declared.status.Status.TheVariants.{ReadFault}
-use Rattle.fta_outside.specs.Outside.{Seen}
+use Rattle.phases.specs.declared.status.Status.TheVariants.{ReadFault, WriteFault}
+use Rattle.fta_outside.specs.Outside.{Rose, Seen}
 use Rattle.system_answers.specs.Voices.{Voice, labels}
 use Rattle.fta_run.specs.Answers.{AllTold, IsCaused, IsJustified, IsOutput, MayCome, Took}
 use Rattle.fta_run.specs.Due.{due}
 use Rattle.fta_run.specs.Files.{most_files}
-use Rattle.fta_run.specs.inner.Held.{AreFronts, IsToRead, RanOn, text_of}
+use Rattle.fta_run.specs.inner.Held.{AreFronts, IsReadEnd, IsReportCaused, IsToRead, RanOn, text_of}
 use Rattle.fta_run.specs.Words.{GiveRequest, IsRequest, Request, file_words}
 use Rattle.fta_words.proofs.Requests.{file_words_are}
 
@@ -66,6 +66,18 @@ no_cause names words before after RoseThere status file caused is =
     let it = subst (λ (s : Status). IsCaused s names words (λ name. 0) (λ name. 0) before after RoseThere) is caused in
     elim it.3 [ inl more ↦ omega (arith, more) | inr last ↦ omega (arith, last) ]
 
+-- a write failed only where the count rose, and a report where it is chosen and its count rose
+write_cause : (names words : List (List ℕ)) (before after : Seen) (RoseThere : ℕ → Type 0) (status : Status) → IsCaused status names words (λ name. 0) (λ name. 0) before after RoseThere → status ≡ WriteFault → Rose before.faults after.faults
+write_cause names words before after RoseThere status caused is = subst (λ (s : Status). IsCaused s names words (λ name. 0) (λ name. 0) before after RoseThere) is caused
+
+pub report_cause : (names words : List (List ℕ)) (before after : Seen) (RoseThere : ℕ → Type 0) (status : Status) → IsCaused status names words (λ name. 0) (λ name. 0) before after RoseThere → IsReportCaused names words RoseThere status
+report_cause names words before after RoseThere status caused = λ place is. subst (λ (s : Status). IsCaused s names words (λ name. 0) (λ name. 0) before after RoseThere) is caused
+
+-- where a read failed, no report did
+pub none_failed : (names words : List (List ℕ)) (RoseThere : ℕ → Type 0) (files : List (List ℕ)) (before after : List ℕ → ℕ) (status : Status) → IsReadEnd files before after status → IsReportCaused names words RoseThere status
+none_failed names words RoseThere files before after status (inl memory) = λ place is. absurd (cc (memory, is))
+none_failed names words RoseThere files before after status (inr fault) = λ place is. let here = fault.1 in absurd (cc (here, is))
+
 -- a run on files that are held ended so
 pub ran_on : (contents : List ℕ → Option (List ℕ)) (words : List (List ℕ)) (voices : List Voice) (names : List (List ℕ)) (files texts : List (List ℕ)) (status : Status) (before after : Seen) (RoseThere : ℕ → Type 0)
     → IsToRead (labels voices) words files → AreFronts contents files texts
@@ -79,4 +91,5 @@ ran_on contents words voices names files texts status before after RoseThere nam
       output = output;
       complete = λ few its_due is. complete (all_told contents words voices files texts named fronts few) its_due is;
       no_fault = λ file is. no_cause names words before after RoseThere status file caused is;
+      write_fault = write_cause names words before after RoseThere status caused;
     }

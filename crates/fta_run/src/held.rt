@@ -5,8 +5,10 @@ ghost use Rattle.fta_outside.specs.Outside.{Rose, Took as TookAll, TookPrefix};
 ghost use Rattle.phases.specs.declared.status.Status.TheVariants.{Memory};
 ghost use Rattle.fta_run.specs.Files.{most_files};
 ghost use Rattle.fta_run.specs.Line.{status_line};
-ghost use Rattle.fta_run.specs.inner.Held.{AreFronts, IsReadEnd, IsToRead, RanOn, RanRead, text_of};
-ghost use Rattle.fta_run.specs.Words.{GiveNoRequest, file_words};
+ghost use Rattle.fta_run.specs.inner.Held.{AreFronts, IsReadEnd, IsReportCaused, IsToRead, RanOn, RanRead, text_of};
+ghost use Rattle.cut_reports.specs.Feeding.{IsKept, RoseAt};
+ghost use Rattle.cut_reports.specs.Places.{AtChosen};
+ghost use Rattle.fta_run.specs.Words.{GiveNoRequest, IsRequest, Request as AnyRequest, file_words};
 ghost use Rattle.system_answers.specs.Voices.{labels, voices_of};
 
 use crate::command::{run, write_status};
@@ -74,6 +76,11 @@ pub fn run_read<F: Files, S: Sink, E: Sink>(
     // What is due for exactly the bytes that the reads gave comes, or a read failed.
     ensures told { RanRead words.now (F.contents files.old) (F.faults files.old) (F.faults files.new) (voices_of label text reports.old.items) result (S.seen out.old) (S.seen out.new) }
 
+    // The list of reports is kept as by `run`, and a report fails only where the request chooses it and its count rose.
+    ensures reports { (asked : AnyRequest) → IsRequest (labels (voices_of label text reports.old.items)) words.now asked → AtChosen asked.options.chosen (IsKept text label report_faults) reports.old.items reports.new.items }
+    ensures no_reports { GiveNoRequest (labels (voices_of label text reports.old.items)) words.now → reports.new ≡ reports.old }
+    ensures report_fault { IsReportCaused (labels (voices_of label text reports.old.items)) words.now (λ place. RoseAt report_faults place reports.old.items reports.new.items) result }
+
     // No file is read where there is no request, or where too many are named.
     ensures no_files { GiveNoRequest (labels (voices_of label text reports.old.items)) words.now → files.new ≡ files.old }
     ensures too_many { most_files < length (file_words words.now) → files.new ≡ files.old }
@@ -101,6 +108,9 @@ fn run_held<S: Sink, E: Sink>(
     reports: &mut Vec<Box<dyn Report>>,
 ) -> Status
     ensures told { (contents : List ℕ → Option (List ℕ)) → IsToRead (labels (voices_of label text reports.old.items)) words.now held.names.now → AreFronts contents held.names.now held.texts → RanOn words.now (text_of held.names.now held.texts) (voices_of label text reports.old.items) result (S.seen out.old) (S.seen out.new) }
+    ensures reports { (asked : AnyRequest) → IsRequest (labels (voices_of label text reports.old.items)) words.now asked → AtChosen asked.options.chosen (IsKept text label report_faults) reports.old.items reports.new.items }
+    ensures no_reports { GiveNoRequest (labels (voices_of label text reports.old.items)) words.now → reports.new ≡ reports.old }
+    ensures report_fault { IsReportCaused (labels (voices_of label text reports.old.items)) words.now (λ place. RoseAt report_faults place reports.old.items reports.new.items) result }
     ensures line { (Rose (E.seen err.old).faults (E.seen err.new).faults → ⊥) → TookAll (status_line (file_words words.now) (labels (voices_of label text reports.old.items)) result) (E.seen err.old) (E.seen err.new) }
     ensures at_most_the_line { TookPrefix (status_line (file_words words.now) (labels (voices_of label text reports.old.items)) result) (E.seen err.old) (E.seen err.new) }
 {

@@ -1,16 +1,17 @@
 -- What is read of the files, and a run on files that are read before it.
-use Rattle.std.specs.Prelude.{◌≡◌, ◌≤◌, ◌<◌, ◌⊎◌, ℕ, suc, List, [], ◌∷◌, Option, None, Some, IfSome, Result, if◌then◌else◌, length, slice_get, take}
+use Rattle.std.specs.Prelude.{◌≡◌, ◌≤◌, ◌<◌, ◌⊎◌, true, ℕ, suc, List, [], ◌∷◌, Option, None, Some, IfSome, Result, if◌then◌else◌, length, slice_get, take}
 use Rattle.std.specs.List.{AllZip}
 use Rattle.plain_values.specs.Name.{is_same_text}
 use Rattle.phases.specs.Phases.{IsDue}
 use Rattle.phases.specs.declared.status.Status.{Status}
-use Rattle.phases.specs.declared.status.Status.TheVariants.{Memory, ReadFault}
+use Rattle.phases.specs.declared.status.Status.TheVariants.{Memory, ReadFault, ReportFault, WriteFault}
 use Rattle.fta_outside.specs.Outside.{Rose, Seen}
 use Rattle.system_answers.specs.Voices.{Voice, labels}
 use Rattle.fta_run.specs.Answers.{IsJustified, IsOutput, MayCome, Took}
 use Rattle.fta_run.specs.Due.{due}
 use Rattle.fta_run.specs.Files.{most_bytes, most_files}
-use Rattle.fta_run.specs.Words.{GiveNoRequest, GiveRequest, file_words}
+use Rattle.cut_reports.specs.Places.{is_among}
+use Rattle.fta_run.specs.Words.{GiveNoRequest, GiveRequest, IsRequest, Request, file_words}
 
 -- What was read of each file is the front of what it contains, where that is told: one byte more than a file may have, at most.
 abbrev pub AreFronts : (List ℕ → Option (List ℕ)) → List (List ℕ) → List (List ℕ) → Type 0
@@ -45,6 +46,12 @@ pub record RanOn (words : List (List ℕ)) (contents : List ℕ → Option (List
   pub output : Took (IsOutput words contents voices) status before after
   pub complete : length (file_words words) ≤ most_files → (its_due : Result (List ℕ) Status) → IsDue (due words contents voices) its_due → MayCome its_due status
   pub no_fault : (file : ℕ) → status ≡ ReadFault file → ⊥
+  pub write_fault : status ≡ WriteFault → Rose before.faults after.faults
+
+-- A report failed only where the request chooses it, and its count of faults rose.
+abbrev pub IsReportCaused : List (List ℕ) → List (List ℕ) → (ℕ → Type 0) → Status → Type 0
+IsReportCaused names words RoseThere status =
+    (place : ℕ) → status ≡ ReportFault place → (asked : Request) × IsRequest names words asked × (is_among asked.options.chosen place ≡ true) × RoseThere place
 
 -- What comes of words whose files are read first: memory was wanting, or a read of one of them failed, and nothing was written; or the
 -- files were read, and the run ended on exactly the bytes that the reads gave.
