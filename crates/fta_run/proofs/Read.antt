@@ -1,8 +1,10 @@
 -- A run on files that are held.
-use Rattle.std.proofs.Common.{◌≡◌, ◌≤◌, ◌<◌, ℕ, Bool, true, false, if◌then◌else◌, List, [], ◌∷◌, length, Option, Some, Result, refl, sym, subst, arith, inl, inr}
+use Rattle.std.proofs.Common.{◌≡◌, ◌≤◌, ◌<◌, ◌==◌, ◌∙◌, ℕ, nat_lt, Bool, true, false, if◌then◌else◌, List, [], ◌∷◌, length, Option, Some, Result, refl, ap, sym, subst, arith, inl, inr}
 use Rattle.std.specs.Prelude.{cond}
 use Rattle.std.specs.Option.{IsSome}
 use Rattle.std.specs.List.{AllByRecursion}
+use Rattle.std.proofs.lemmas.Bool.{false≢true}
+use Rattle.std.proofs.lemmas.Bool.Decides.{nat_tests}
 use Rattle.std.proofs.lemmas.Slice.Eq.{bytes_eq-Decides}
 use Rattle.plain_values.specs.Name.{is_same_text}
 use Rattle.phases.specs.Phases.{IsDue}
@@ -54,11 +56,33 @@ pub some_read : (names words files : List (List ℕ)) → IsToRead names words f
 some_read names words files (inl (none, why)) some = absurd (some none)
 some_read names words files (inr asked) some = asked
 
+over_is : (n : ℕ) → nat_lt most_files n ≡ true → most_files < n
+over_is n is = grind (arith, nat_tests)
+
+within_is : (n : ℕ) → nat_lt most_files n ≡ false → n ≤ most_files
+within_is n is = grind (arith, nat_tests)
+
 -- the files of a request, where they are not too many
-pub asked_read : (names words : List (List ℕ)) (asked : Request) (many : Bool) → IsRequest names words asked → (many ≡ true → most_files < length asked.files) → (many ≡ false → length asked.files ≤ most_files) → IsToRead names words (cond many [] asked.files)
-asked_read names words asked true is over within = inl (refl, inr (subst (λ (l : List (List ℕ)). most_files < length l) (sym (file_words_are names words asked is)) (over refl)))
-asked_read names words asked false is over within =
-    inr ((asked, is), subst (λ (l : List (List ℕ)). length l ≤ most_files) (sym (file_words_are names words asked is)) (within refl), sym (file_words_are names words asked is))
+pub asked_read : (names words : List (List ℕ)) (asked : Request) → IsRequest names words asked → IsToRead names words (cond (nat_lt most_files (length asked.files)) [] asked.files)
+asked_read names words asked is = go (nat_lt most_files (length asked.files)) refl
+  where
+    its : asked.files ≡ file_words words
+    its = sym (file_words_are names words asked is)
+
+    go : (many : Bool) → nat_lt most_files (length asked.files) ≡ many → IsToRead names words (cond many [] asked.files)
+    go true over = inl (refl, inr (subst (λ (l : List (List ℕ)). most_files < length l) its (over_is (length asked.files) over)))
+    go false within = inr ((asked, is), subst (λ (l : List (List ℕ)). length l ≤ most_files) its (within_is (length asked.files) within), its)
+
+-- files are none, or some
+zero_is : (n : ℕ) → (n == 0) ≡ true → n ≡ 0
+zero_is n is = grind (arith, nat_tests)
+
+pub none_are : (files : List (List ℕ)) → (length files == 0) ≡ true → files ≡ []
+none_are [] is = refl
+none_are (file ∷ files) is = absurd (omega (arith, zero_is (length (file ∷ files)) is))
+
+pub some_are : (files : List (List ℕ)) → (length files == 0) ≡ false → files ≡ [] → ⊥
+some_are files is none = false≢true (sym is ∙ ap (λ (l : List (List ℕ)). length l == 0) none)
 
 -- no read of a file that is held fails
 no_cause : (names words : List (List ℕ)) (before after : Seen) (RoseThere : ℕ → Type 0) (status : Status) (file : ℕ) → IsCaused status names words (λ name. 0) (λ name. 0) before after RoseThere → status ≡ ReadFault file → ⊥

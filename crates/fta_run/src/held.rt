@@ -107,7 +107,7 @@ fn run_held<S: Sink, E: Sink>(
     err: &mut E,
     reports: &mut Vec<Box<dyn Report>>,
 ) -> Status
-    ensures told { (contents : List ℕ → Option (List ℕ)) → IsToRead (labels (voices_of label text reports.old.items)) words.now held.names.now → AreFronts contents held.names.now held.texts → RanOn words.now (text_of held.names.now held.texts) (voices_of label text reports.old.items) result (S.seen out.old) (S.seen out.new) }
+    ensures told { (contents : List ℕ → Option (List ℕ)) → IsToRead (labels (voices_of label text reports.old.items)) words.now held.entry.names.now → AreFronts contents held.entry.names.now held.entry.texts → RanOn words.now (text_of held.entry.names.now held.entry.texts) (voices_of label text reports.old.items) result (S.seen out.old) (S.seen out.new) }
     ensures reports { (asked : AnyRequest) → IsRequest (labels (voices_of label text reports.old.items)) words.now asked → AtChosen asked.options.chosen (IsKept text label report_faults) reports.old.items reports.new.items }
     ensures no_reports { GiveNoRequest (labels (voices_of label text reports.old.items)) words.now → reports.new ≡ reports.old }
     ensures report_fault { IsReportCaused (labels (voices_of label text reports.old.items)) words.now (λ place. RoseAt report_faults place reports.old.items reports.new.items) result }

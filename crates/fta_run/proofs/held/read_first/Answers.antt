@@ -1,0 +1,18 @@
+use Rattle.std.proofs.Common.{◌∙◌, sym, subst}
+use Rattle.fta_run.specs.inner.Held.{IsToRead}
+use Rattle.fta_run.proofs.Read.{none_are, some_are, some_read}
+use Rattle.fta_run.proofs.held.read_first.Goals as goal
+
+pub returns-then-is_empty-clause-named : goal.returns-then-is_empty-clause-named
+returns-then-is_empty-clause-named g c =
+    subst (IsToRead _ c.args.words.now) (none_are c.in_ok-names.names.now (sym c.is_empty.ensures ∙ c.if-is_empty.true)) c.in_ok-names.ensures.names
+
+pub returns-in_err-texts-clause-no_files : goal.returns-in_err-texts-clause-no_files
+returns-in_err-texts-clause-no_files g c = λ none.
+    let some = some_read _ _ _ c.in_ok-names.ensures.names (some_are c.in_ok-names.names.now (sym c.is_empty.ensures ∙ c.if-is_empty.false)) in
+    absurd (none some.0.0 some.0.1)
+
+pub returns-clause-no_files : goal.returns-clause-no_files
+returns-clause-no_files g c = λ none.
+    let some = some_read _ _ _ c.in_ok-names.ensures.names (some_are c.in_ok-names.names.now (sym c.is_empty.ensures ∙ c.if-is_empty.false)) in
+    absurd (none some.0.0 some.0.1)
