@@ -1,6 +1,7 @@
 use Rattle.std.proofs.Common.{◌≡◌, List, ℕ, map, refl, sym, subst, inl, inr}
 use Rattle.system_answers.specs.Voices.{labels, voices_of}
 use Rattle.system_answers.proofs.Reported.{all_kept, labels_are}
+use Rattle.cut_reports.specs.Feeding.{RoseAt}
 use Rattle.fta_outside.specs.Outside.{Took, TookPrefix}
 use Rattle.fta_run.specs.Line.{status_line}
 use Rattle.fta_run.specs.Words.{file_words}
@@ -28,4 +29,7 @@ pub returns-in-Err-clause-reports : goal.returns-in-Err-clause-reports
 returns-in-Err-clause-reports g c = λ asked is. all_kept (λ b. (goal.Report-dyn g (b.vtable, b.value)).text b.value) (λ b. (goal.Report-dyn g (b.vtable, b.value)).label b.value) (λ b. (goal.Report-dyn g (b.vtable, b.value)).report_faults b.value) _ c.args.reports.now.items
 
 pub returns-in-Err-clause-report_fault : goal.returns-in-Err-clause-report_fault
-returns-in-Err-clause-report_fault g c = none_failed _ _ _ _ _ _ c.in-Err.status c.in-Err.ensures.fault
+returns-in-Err-clause-report_fault g c =
+    none_failed (labels (voices_of (λ b. (goal.Report-dyn g (b.vtable, b.value)).label b.value) (λ b. (goal.Report-dyn g (b.vtable, b.value)).text b.value) c.args.reports.now.items)) c.args.words.now
+    (λ place. RoseAt (λ b. (goal.Report-dyn g (b.vtable, b.value)).report_faults b.value) place c.args.reports.now.items c.args.reports.now.items) (file_words c.args.words.now) (g.F.Files.faults c.args.files.now) (g.F.Files.faults c.read_first.new.files)
+    c.in-Err.status c.in-Err.ensures.fault
