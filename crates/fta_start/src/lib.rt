@@ -14,7 +14,7 @@ use fta_run::{Status, run_read, write_line};
 use plain_values::{List, Word};
 use std::alloc::{AllocError, Global};
 use std::env;
-use std::io::{BufWriter, ErrorKind};
+use std::io::{BufWriter, ErrorKind, Write};
 use std::process::ExitCode;
 use std::rt::Env;
 

@@ -1,6 +1,6 @@
 //! A real file and a real stream. Rows run over files and sinks in memory.
 
-use fta_outside::{DiskFiles, FileError, SinkFailed, StdSink, write_all};
+use fta_outside::{DiskFiles, FileError, Files, Sink, SinkFailed, StdSink, write_all};
 use plain_values::{Mem, Word};
 use std::alloc::Global;
 use std::fs;
