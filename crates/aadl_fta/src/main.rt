@@ -4,7 +4,7 @@
 use cut_reports::{EventUse, OrderProfile, SinglePoints};
 use fta_outside::{Files, Report, Sink};
 use fta_run::Status;
-use fta_start::{Program, run_with, start};
+use fta_start::{Program, run_own, start};
 use plain_values::Word;
 use std::alloc::{AllocError, Global};
 use std::process::ExitCode;
@@ -33,6 +33,6 @@ impl Program for Tool {
         reports.push(Box::new(alloc, OrderProfile::new(alloc))?)?;
         reports.push(Box::new(alloc, EventUse::new(alloc))?)?;
         reports.push(Box::new(alloc, SinglePoints::new(alloc))?)?;
-        Ok(run_with(self, alloc, words, files, out, err, &mut reports))
+        Ok(run_own(alloc, words, files, out, err, &mut reports))
     }
 }

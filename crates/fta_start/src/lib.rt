@@ -5,6 +5,7 @@ ghost use Rattle.std.specs.Prelude.{◌≡◌, IfOk, false, map, string_bytes, t
 ghost use Rattle.fta_outside.specs.Outside.{Rose, Took, TookPrefix};
 ghost use Rattle.phases.specs.declared.status.Status.TheVariants.{Done, WriteFault};
 ghost use Rattle.system_answers.specs.Voices.{labels, voices_of};
+ghost use Rattle.fta_start.specs.inner.Own.{own_voices};
 ghost use Rattle.fta_run.specs.inner.Held.{RanRead};
 ghost use Rattle.fta_run.specs.Line.{status_line};
 ghost use Rattle.fta_run.specs.Words.{file_words};
@@ -48,9 +49,8 @@ pub trait Program {
         ensures nothing { OnErr result ((S.seen out.new).taken ≡ (S.seen out.old).taken) };
 }
 
-/// Runs the words with these reports, which are those of the program.
-pub fn run_with<P: Program, F: Files, S: Sink, E: Sink>(
-    program: &P,
+/// Runs the words with these reports, which are those of the tool.
+pub fn run_own<F: Files, S: Sink, E: Sink>(
     alloc: Global,
     words: &[Word],
     files: &mut F,
@@ -58,12 +58,11 @@ pub fn run_with<P: Program, F: Files, S: Sink, E: Sink>(
     err: &mut E,
     reports: &mut Vec<Box<dyn Report>>,
 ) -> Status
-    requires { voices_of label text reports.old.items ≡ P.voices program.now }
-    ensures told { RanRead words.now (F.contents files.old) (F.faults files.old) (F.faults files.new) (P.voices program.now) result (S.seen out.old) (S.seen out.new) }
-    ensures line { (Rose (E.seen err.old).faults (E.seen err.new).faults → ⊥) → Took (status_line (file_words words.now) (labels (P.voices program.now)) result) (E.seen err.old) (E.seen err.new) }
-    ensures at_most_the_line { TookPrefix (status_line (file_words words.now) (labels (P.voices program.now)) result) (E.seen err.old) (E.seen err.new) }
+    requires { voices_of label text reports.old.items ≡ own_voices }
+    ensures told { RanRead words.now (F.contents files.old) (F.faults files.old) (F.faults files.new) own_voices result (S.seen out.old) (S.seen out.new) }
+    ensures line { (Rose (E.seen err.old).faults (E.seen err.new).faults → ⊥) → Took (status_line (file_words words.now) (labels own_voices) result) (E.seen err.old) (E.seen err.new) }
+    ensures at_most_the_line { TookPrefix (status_line (file_words words.now) (labels own_voices) result) (E.seen err.old) (E.seen err.new) }
 {
-    let _ = program;
     run_read(alloc, words, files, out, err, reports)
 }
 

@@ -4,7 +4,7 @@ use Rattle.system_answers.specs.Voices.{Voice, labels}
 use Rattle.fta_run.specs.Line.{status_line}
 use Rattle.fta_run.specs.Words.{file_words}
 use Rattle.fta_run.specs.inner.Held.{RanRead}
-use Rattle.fta_start.proofs.run_with.Goals as goal
+use Rattle.fta_start.proofs.run_own.Goals as goal
 
 pub returns-clause-told : goal.returns-clause-told
 returns-clause-told g c =
