@@ -2,6 +2,8 @@
 
 import random
 
+from slips import slips
+
 FEATURES = ["in feature", "feature", "out data port", "in out event port", "feature group",
             "requires data access"]
 PARTS = ["device e", "device e", "device", "system t1.i", "system t0", "device e (x => y)",
@@ -229,4 +231,4 @@ def tokens(chooser):
 def corner(seed):
     """The text and the root of a corner."""
     chooser = random.Random(seed)
-    return [types, members, names, tokens, families][seed % 5](chooser)
+    return [types, members, names, tokens, families, slips][seed % 6](chooser)
