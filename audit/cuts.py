@@ -41,10 +41,10 @@ def is_true(formula, events, facts):
     kind = formula[0]
     if kind in ("fact", "event"):
         return formula[1] in (facts if kind == "fact" else events)
-    count = sum(is_true(part, events, facts) for part in formula[-1])
-    if kind == "and":
-        return count == len(formula[1])
-    return count >= (1 if kind == "or" else formula[1])
+    true = (is_true(part, events, facts) for part in formula[-1])
+    if kind in ("and", "or"):
+        return all(true) if kind == "and" else any(true)
+    return sum(true) >= formula[1]
 
 
 def holds(formulas, target, events):
