@@ -77,8 +77,8 @@ def smallest(sets, most):
             break
         if not any(other <= each for other in kept):
             kept.append(each)
-    if len(kept) > MAX_SETS:
-        raise TooLarge
+        if len(kept) > MAX_SETS:
+            raise TooLarge
     return kept
 
 
