@@ -179,15 +179,15 @@ class Review:
                 yield f"open {self.with_types(side, self.types_of(side))}"
 
     def never(self):
-        """`never FACT` of states of the root, and `never SIDE{TYPES}`."""
-        for fact in self.effects:
-            if fact[1] == "state" and fact not in self.may:
-                yield f"never {self.facts.print(fact)}"
+        """`never SIDE{TYPES}`, and behind all of these `never FACT` of states of the root."""
         for side in self.sides("out"):
             lost = [number for number in self.types_of(side)
                     if side + (number,) not in self.may]
             if self.declared(side) and lost:
                 yield f"never {self.with_types(side, lost)}"
+        for fact in self.effects:
+            if fact[1] == "state" and fact not in self.may:
+                yield f"never {self.facts.print(fact)}"
 
     def unused_states(self):
         """`unused-state FACT`."""
