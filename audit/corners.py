@@ -2,6 +2,9 @@
 
 import random
 
+from lanes import lanes
+from slips import slips
+
 FEATURES = ["in feature", "feature", "out data port", "in out event port", "feature group",
             "requires data access"]
 PARTS = ["device e", "device e", "device", "system t1.i", "system t0", "device e (x => y)",
@@ -226,7 +229,10 @@ def tokens(chooser):
     ]), "p::s")
 
 
+KINDS = [types, members, names, tokens, families] * 3 + [slips] * 4 + [lanes]
+
+
 def corner(seed):
     """The text and the root of a corner."""
     chooser = random.Random(seed)
-    return [types, members, names, tokens, families][seed % 5](chooser)
+    return KINDS[seed % len(KINDS)](chooser)

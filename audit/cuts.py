@@ -41,10 +41,10 @@ def is_true(formula, events, facts):
     kind = formula[0]
     if kind in ("fact", "event"):
         return formula[1] in (facts if kind == "fact" else events)
-    count = sum(is_true(part, events, facts) for part in formula[-1])
-    if kind == "and":
-        return count == len(formula[1])
-    return count >= (1 if kind == "or" else formula[1])
+    true = (is_true(part, events, facts) for part in formula[-1])
+    if kind in ("and", "or"):
+        return all(true) if kind == "and" else any(true)
+    return sum(true) >= formula[1]
 
 
 def holds(formulas, target, events):
@@ -69,27 +69,32 @@ def by_definition(facts, target):
     return found
 
 
-def smallest(sets):
-    """The sets of which no proper subset is among them."""
+def smallest(sets, most):
+    """The sets of at most so many events of which no proper subset is among them."""
     kept = []
     for each in sorted(set(sets), key=len):
+        if most is not None and len(each) > most:
+            break
         if not any(other <= each for other in kept):
             kept.append(each)
-    if len(kept) > MAX_SETS:
-        raise TooLarge
+        if len(kept) > MAX_SETS:
+            raise TooLarge
     return kept
 
 
-def expand(formula, known):
-    """The smallest sets of events that make a formula true, from those of the facts."""
+def expand(formula, known, most=None):
+    """The smallest sets of events that make a formula true, from those of the facts.
+
+    With `most` only those of at most so many events.
+    """
     kind = formula[0]
     if kind == "event":
         return [frozenset([formula[1]])]
     if kind == "fact":
         return known.get(formula[1], [])
-    parts = [expand(part, known) for part in formula[-1]]
+    parts = [expand(part, known, most) for part in formula[-1]]
     if kind == "or":
-        return smallest(each for part in parts for each in part)
+        return smallest((each for part in parts for each in part), most)
     # at_least[k]: the sets that make at least k of the parts so far true
     need = len(parts) if kind == "and" else formula[1]
     at_least = [[frozenset()]] + [[] for _ in range(min(need, len(parts) + 1))]
@@ -98,7 +103,7 @@ def expand(formula, known):
     for part in parts:
         for k in range(need, 0, -1):
             both = [one | other for one in at_least[k - 1] for other in part]
-            at_least[k] = smallest(at_least[k] + both)
+            at_least[k] = smallest(at_least[k] + both, most)
     return at_least[need]
 
 

@@ -160,7 +160,7 @@ class ErrorReader(Reader):
     def machine(self):
         """An error behavior, behind these words."""
         machine = Node(name=self.name().text, faults=[], uses=[], events=[], states=[],
-                       transitions=[])
+                       transitions=[], properties=[])
         extends = self.accept("extends")
         if extends:
             machine.faults.append(("P12", extends.place))
@@ -175,7 +175,7 @@ class ErrorReader(Reader):
                     self.names()
                     self.expect(";")
             elif word.text == "properties":
-                self.properties()
+                machine.properties += self.properties()
             else:
                 self.block(word.text, machine)
         self.expect("end", "behavior", ";")
@@ -259,24 +259,32 @@ class ErrorReader(Reader):
         return goal
 
     def properties(self):
-        """Properties, which mean nothing for cut sets."""
+        """Properties: of each its names, the tokens of its value, and its targets."""
+        found = []
         while self.is_name():
-            self.names()
+            names, targets = self.names(), []
             self.one_of("=>", "+=>")
-            if not self.balanced(";", "applies"):
+            value = self.balanced(";", "applies")
+            if not value:
                 self.fail()
             if self.accept("applies"):
                 self.expect("to")
-                self.list_of(self.applies_target)
+                targets = self.list_of(self.applies_target)
             self.expect(";")
+            found.append(Node(names=written(names), value=value, targets=targets))
+        return found
 
     def applies_target(self):
-        """One or more of ID, word, `.`, `^` and `@`."""
-        signs = (".", "^", "@") + POINT_WORDS
+        """One or more of ID, word, `.`, `^` and `@`; names with dots, or None for others."""
+        signs, tokens = (".", "^", "@") + POINT_WORDS, []
         if not (self.is_name() or self.is_next(*signs)):
             self.fail()
         while self.is_name() or self.is_next(*signs):
-            self.take()
+            tokens.append(self.take())
+        names, dots = tokens[::2], tokens[1::2]
+        is_path = len(names) > len(dots) and set(written(dots)) <= {"."}
+        is_path = is_path and all(token.kind == "word" for token in names)
+        return written(names) if is_path else None
 
     # Clauses
 
@@ -284,7 +292,7 @@ class ErrorReader(Reader):
         """What an annex of a classifier says."""
         clause = Node(uses=[], behavior=None, mapping_faults=[], connection_faults=[],
                       propagations=[], flows=[], events=[], transitions=[], outgoing=[],
-                      composites=[], points=[], paths=[])
+                      composites=[], points=[], paths=[], properties=[])
         while self.look().kind != "end":
             word = self.one_of("use", "error", "component", "composite", "connection",
                                "propagation", "properties")
@@ -294,7 +302,7 @@ class ErrorReader(Reader):
             if read:
                 read(clause, word)
             else:
-                self.properties()
+                clause.properties += self.properties()
         return clause
 
     def use(self, clause, word):
@@ -334,8 +342,8 @@ class ErrorReader(Reader):
         name = self.name()
         self.expect(":", "error")
         kind = self.one_of("source", "sink", "path").text
-        flow = Node(name=name.text, kind=kind, point=self.point(), set=self.maybe_set(),
-                    state=None, mapping=None)
+        flow = Node(name=name.text, place=name.place, kind=kind, point=self.point(),
+                    set=self.maybe_set(), state=None, mapping=None)
         if kind == "source" and self.accept("when"):
             if self.is_next("{"):
                 self.set()

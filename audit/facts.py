@@ -73,7 +73,7 @@ class Facts:
 
     def read_points(self, part, faults):
         """The points of a component: for each name its sides, declared, "open" or None."""
-        part.sides = {}
+        part.sides, part.places = {}, {}
         for member in part.members:
             if member.kind == "features":
                 part.sides[member.name] = {side: "open" if side in member.sides else None
@@ -92,6 +92,7 @@ class Facts:
                 faults.append(Refusal("N9", item.point[0].place))
             elif not item.negated:
                 part.sides[name][item.direction] = item.set.numbers
+                part.places[item.direction, name] = item.point[0].place
 
     def side(self, part, point, direction):
         """The types that a side may have, or None where it is not there."""
@@ -142,6 +143,7 @@ class Facts:
             if event.kind != "error":
                 faults.append(Refusal("P8", event.place))
             part.error_events.setdefault(event.name, event.set and event.set.numbers)
+            part.places.setdefault(("error", event.name), event.place)
         for item in machine.transitions + [item for item, _ in part.transitions]:
             formula = ("and", [self.holds(part, item.source, faults),
                                self.condition(part, item.condition, False, faults)])
@@ -204,6 +206,7 @@ class Facts:
             inward = flow.kind != "source"
             types = self.select(part, flow.point, flow.set, "in" if inward else "out", faults)
             if flow.kind == "source":
+                part.places["source", flow.name] = flow.place
                 reason = ("event", (part.number, "source", flow.name, None))
                 if flow.state:
                     reason = self.holds(part, flow.state, faults)
@@ -270,40 +273,40 @@ class Facts:
     # Links
 
     def read_links(self):
-        """Phase 14: which sides lead into which side."""
-        self.incoming = {}
+        """Phase 14: which sides lead into which side; and what each written one gives."""
+        self.incoming, self.links, self.given = {}, [], []
         for part in self.parts:
-            faults, links = [], []
+            faults, written_ones = [], []
             for member in part.members:
                 if member.kind == "connections":
-                    self.connection(part, member, links, faults)
+                    written_ones.append((member.name, *self.connection(part, member, faults)))
             for path, _ in part.paths:
                 ends = [self.path_end(part, end, faults) for end in path.ends]
-                links.append(tuple(ends))
+                written_ones.append((path.name, ends, [ends]))
             for clause in part.clauses:
                 faults += [Refusal(code, place) for code, place in clause.connection_faults]
             first(faults)
-            for start, goal in links:
-                self.link(part, start, goal)
+            for name, ends, pairs in written_ones:
+                joined = [self.link(part, start, goal) for start, goal in pairs]
+                self.given.append((part, name, ends, any(joined)))
         for start, goal in binding_links(self.parts, self.below):
             self.join(start, goal)
 
-    def connection(self, part, member, links, faults):
-        """The links of a connection, and what is wrong with its ends."""
+    def connection(self, part, member, faults):
+        """What the ends of a connection mean, and the pairs of ends that it links."""
         for end in member.ends:
             if len(end.names) > 2:
                 faults.append(Refusal("P3", end.place))
         if any(end.names[0] in ("processor", "self") for end in member.ends):
-            return
+            return [self.end(part, end, member.access, []) for end in member.ends], []
         if any(len(end.names) > 2 for end in member.ends):
             for end in member.ends:
                 if len(end.names) < 3:
                     self.end(part, end, member.access, faults)
-            return
+            return [], []
         start, goal = [self.end(part, end, member.access, faults) for end in member.ends]
-        links.append((start, goal))
-        if member.both or member.access:
-            links.append((goal, start))
+        both = member.both or member.access
+        return [start, goal], [(start, goal)] + ([(goal, start)] if both else [])
 
     def end(self, part, end, access, faults):
         """The component and the point of an end of a connection, or None."""
@@ -333,17 +336,21 @@ class Facts:
         return None
 
     def link(self, part, start, goal):
-        """The link between two ends that are written in a component."""
-        if start and goal:
-            (start_part, start_point), (goal_part, goal_point) = start, goal
-            self.join((start_part, start_point, "in" if start_part is part else "out"),
-                      (goal_part, goal_point, "out" if goal_part is part else "in"))
+        """The link between two ends that are written in a component; does it stand?"""
+        if not (start and goal):
+            return False
+        (start_part, start_point), (goal_part, goal_point) = start, goal
+        return self.join((start_part, start_point, "in" if start_part is part else "out"),
+                         (goal_part, goal_point, "out" if goal_part is part else "in"))
 
     def join(self, start, goal):
         """A link from side to side; it has no effect where one of them is not there."""
-        if self.side(*start) is not None and self.side(*goal) is not None:
-            key = (goal[0].number, goal[2], goal[1])
-            self.incoming.setdefault(key, []).append((start[0].number, start[2], start[1]))
+        if self.side(*start) is None or self.side(*goal) is None:
+            return False
+        ends = [(part.number, direction, point) for part, point, direction in (start, goal)]
+        self.links.append(tuple(ends))
+        self.incoming.setdefault(ends[1], []).append(ends[0])
+        return True
 
     # Facts and events
 

@@ -3,6 +3,8 @@
 import random
 import re
 
+import rated
+
 
 class Kind:
     """What a maker knows of a classifier that it wrote."""
@@ -22,7 +24,7 @@ class Maker:
     """Writes one model from a seed."""
 
     def __init__(self, seed):
-        self.random = random.Random(seed)
+        self.random, self.rates = random.Random(seed), random.Random(f"rates {seed}")
         self.wrong = self.random.choice([0, 0, 0, 0, 0.002, 0.01, 0.04])
         self.libraries, self.machines, self.kinds, self.terms = [], [], [], []
         self.plain = []
@@ -172,6 +174,7 @@ class Maker:
         for _ in range(self.random.randint(0, 4)):
             text += self.transition(states, triggers, ["u", "v"])
         self.machines.append((f"{library}::{name}", events, states))
+        text += rated.block(self.rates, list(events) + ["g0", "w0"], 3)
         return text + "end behavior;\n"
 
     # Classifiers
@@ -331,6 +334,7 @@ class Maker:
             text += f"component error behavior\n{behavior}end component;\n"
         if composite and self.maybe(0.5):
             text += self.composite(kind, states)
+        text += rated.block(self.rates, rated.keys(self, kind, below(kind, 3)), 6)
         return text + paths + "**};\n"
 
     def type(self, number):

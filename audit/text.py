@@ -77,7 +77,7 @@ def plain_tokens(text, file, start, end, annexes):
             if not found:
                 raise Refusal("L1", (file, at))
             tokens.append(Node(kind=found.lastgroup, text=found.group().lower(),
-                               place=(file, at)))
+                               spelled=found.group(), place=(file, at)))
         at = found.end()
 
 

@@ -1,0 +1,237 @@
+"""The text of `review` (docs/REVIEW_FINDINGS.md): each group of lines is a function."""
+
+from cuts import is_true, leaves
+from rounds import effects, is_effect, rounds
+
+
+class Review:
+    """Finds what a model leaves without effect, and where its errors stop."""
+
+    def __init__(self, facts):
+        self.facts, self.formulas = facts, facts.formulas
+        self.may = rounds(facts, set(facts.events))  # the facts that may come about
+        self.used = {leaf for formula in self.formulas.values() for leaf in leaves(formula)}
+        self.effects = effects(facts)
+
+    def lines(self):
+        """All lines in their order."""
+        groups = (self.hidden_sources, self.hidden_paths, self.hidden_links,
+                  self.hidden_transitions, self.not_declared, self.stops_here, self.no_links,
+                  self.open_sides, self.never, self.unused_states, self.loops,
+                  self.unused_events, self.no_effect, self.unreached_events)
+        return [line for group in groups for line in group()] + ["end"]
+
+    # What lines are made of
+
+    def side_name(self, side):
+        """`root.v/in:r1` of the side (component, direction, point)."""
+        number, direction, point = side
+        return f"{self.facts.parts[number].path}/{direction}:{point}"
+
+    def with_types(self, side, types):
+        """`root.v/in:r1{lib::t,lib::u}`."""
+        names = [self.facts.types.types[number].print for number in sorted(types)]
+        return self.side_name(side) + "{" + ",".join(names) + "}"
+
+    def types_of(self, side):
+        """The types that a side may have; none where it is not there."""
+        number, direction, point = side
+        return self.facts.side(self.facts.parts[number], point, direction) or []
+
+    def declared(self, side):
+        """Is the side declared by a propagation?"""
+        number, direction, point = side
+        return isinstance(self.facts.parts[number].sides[point][direction], list)
+
+    def sides(self, direction):
+        """The inward or outward sides that are there, in order."""
+        return [(part.number, direction, point) for part in self.facts.parts
+                for point in part.sides
+                if self.facts.side(part, point, direction) is not None]
+
+    def flows(self, *kinds):
+        """The components and flows of these kinds, in order."""
+        return [(part, flow) for part in self.facts.parts for flow, _ in part.flows
+                if flow.kind in kinds]
+
+    def selected(self, part, point, types, direction):
+        """The side of a point, and the types that a set selects there."""
+        side = (part.number, direction, point[0].text)
+        return side, self.facts.select(part, point, types, direction, [])
+
+    # By itself
+
+    def event_makes(self, event, fact):
+        """Is the formula true where this event alone occurs, and no fact holds?"""
+        return is_true(self.formulas[fact], {event}, set())
+
+    def fact_makes(self, cause, part, fact):
+        """Is it true where the cause holds with what follows from it by way of the states of
+        the component, and no event occurs?"""
+        holding, states = {cause}, [each for each in self.formulas
+                                    if each[:2] == (part.number, "state")]
+        grown = True
+        while grown:
+            fresh = {state for state in states if state not in holding
+                     and is_true(self.formulas[state], set(), holding)}
+            grown = bool(fresh)
+            holding |= fresh
+        return is_true(self.formulas[fact], set(), holding)
+
+    # The lines
+
+    def hidden_sources(self):
+        """`hidden-source OWNER/NAME at SIDE{TYPES}`."""
+        for part, flow in self.flows("source"):
+            side, types = self.selected(part, flow.point, flow.set, "out")
+            if flow.state:
+                states = [state for state in self.facts.states(part, flow.state, [])
+                          if state in self.may]
+                lost = [number for number in types for state in states
+                        if not self.fact_makes(state, part, side + (number,))]
+            else:
+                event = (part.number, "source", flow.name, None)
+                lost = [number for number in types
+                        if not self.event_makes(event, side + (number,))]
+            if lost:
+                yield (f"hidden-source {part.path}/{flow.name} at "
+                       + self.with_types(side, set(lost)))
+
+    def hidden_paths(self):
+        """`hidden-path OWNER/NAME at SIDE{TYPES}`."""
+        for part, flow in self.flows("path"):
+            start, taken = self.selected(part, flow.point, flow.set, "in")
+            side, ends = self.selected(part, flow.target, flow.target_set, "out")
+            coming = [number for number in taken if start + (number,) in self.may]
+            lost = {end for end in ends for number in coming
+                    if (flow.target_set or end == number)
+                    and not self.fact_makes(start + (number,), part, side + (end,))}
+            if lost:
+                yield f"hidden-path {part.path}/{flow.name} at {self.with_types(side, lost)}"
+
+    def coming(self, start):
+        """The types that may come along the links of a side."""
+        return [number for number in self.types_of(start) if start + (number,) in self.may]
+
+    def hidden_links(self):
+        """`hidden-link SIDE -> SIDE{TYPES}`."""
+        for start, goal in self.facts.links:
+            if goal[1] == "out":
+                part = self.facts.parts[goal[0]]
+                lost = [number for number in self.coming(start)
+                        if number in self.types_of(goal) and not self.fact_makes(
+                            start + (number,), part, goal + (number,))]
+                if lost:
+                    yield (f"hidden-link {self.side_name(start)} -> "
+                           + self.with_types(goal, lost))
+
+    def hidden_transitions(self):
+        """`hidden-transitions OWNER N`."""
+        for part in self.facts.parts:
+            items = part.machine.transitions if part.machine else []
+            items = items + [item for item, _ in part.transitions]
+            count = sum(any(not part.states[goal.name].initial for goal in item.goals)
+                        for item in items)
+            if part.composites and count:
+                yield f"hidden-transitions {part.path} {count}"
+
+    def not_declared(self):
+        """`not-declared SIDE{TYPES} -> SIDE`."""
+        for start, goal in self.facts.links:
+            if self.declared(goal):
+                lost = set(self.coming(start)) - set(self.types_of(goal))
+                if lost:
+                    yield (f"not-declared {self.with_types(start, lost)} -> "
+                           + self.side_name(goal))
+
+    def stops_here(self):
+        """`stops-here SIDE{TYPES}`."""
+        for side in self.sides("in"):
+            part, point = self.facts.parts[side[0]], side[2]
+            flows = [flow for flow, _ in part.flows if flow.point[0].text == point]
+            if any(flow.kind == "sink" for flow in flows):
+                continue
+            types = {number for number in self.coming(side)
+                     if ("fact", side + (number,)) not in self.used}
+            for flow in flows:
+                if flow.kind == "path":
+                    _, taken = self.selected(part, flow.point, flow.set, "in")
+                    _, ends = self.selected(part, flow.target, flow.target_set, "out")
+                    types -= set(taken) if flow.target_set and ends else set()
+                    types -= set(taken) & set(ends) if not flow.target_set else set()
+            if types:
+                yield f"stops-here {self.with_types(side, types)}"
+
+    def no_links(self):
+        """`no-link OWNER/NAME`."""
+        for part, name, ends, links in self.facts.given:
+            sides = [(other.number, direction, point)
+                     for other, point in [end for end in ends if end] if point in other.sides
+                     for direction in ("in", "out")]
+            if not links and any(self.declared(side) and self.types_of(side)
+                                 for side in sides):
+                yield f"no-link {part.path}/{name}"
+
+    def open_sides(self):
+        """`open SIDE{TYPES}`."""
+        for side in self.sides("in"):
+            if self.declared(side) and side not in self.facts.incoming and self.types_of(side):
+                yield f"open {self.with_types(side, self.types_of(side))}"
+
+    def never(self):
+        """`never SIDE{TYPES}`, and behind all of these `never FACT` of states of the root."""
+        for side in self.sides("out"):
+            lost = [number for number in self.types_of(side)
+                    if side + (number,) not in self.may]
+            if self.declared(side) and lost:
+                yield f"never {self.with_types(side, lost)}"
+        for fact in self.effects:
+            if fact[1] == "state" and fact not in self.may:
+                yield f"never {self.facts.print(fact)}"
+
+    def unused_states(self):
+        """`unused-state FACT`."""
+        for fact in self.formulas:
+            if (fact[0] != 0 and fact[1] == "state" and is_effect(self.facts, fact)
+                    and fact in self.may and ("fact", fact) not in self.used):
+                yield f"unused-state {self.facts.print(fact)}"
+
+    def loops(self):
+        """`loop N FACT`."""
+        reached = {fact: self.reached(fact) for fact in self.formulas}
+        told = set()
+        for fact in self.formulas:
+            loop = {other for other in reached[fact] if fact in reached[other]}
+            if loop and fact not in told:
+                yield f"loop {len(loop)} {self.facts.print(fact)}"
+                told |= loop
+
+    def reached(self, fact):
+        """The facts on which a fact depends, itself only where a way leads back to it."""
+        found, open_facts = set(), [fact]
+        while open_facts:
+            for kind, key in leaves(self.formulas[open_facts.pop()]):
+                if kind == "fact" and key not in found:
+                    found.add(key)
+                    open_facts.append(key)
+        return found
+
+    def unused_events(self):
+        """`unused-event EVENT`."""
+        for event in self.facts.events:
+            if event[1] == "error" and ("event", event) not in self.used:
+                yield f"unused-event {self.facts.print(event)}"
+
+    def no_effect(self):
+        """`no-effect root`."""
+        if not self.effects:
+            yield "no-effect root"
+
+    def unreached_events(self):
+        """`unreached-event EVENT`."""
+        facts = set(self.effects).union(*map(self.reached, self.effects))
+        reached = {leaf for fact in facts for leaf in leaves(self.formulas[fact])}
+        for event in self.facts.events:
+            leaf = ("event", event)
+            if self.effects and leaf in self.used and leaf not in reached:
+                yield f"unreached-event {self.facts.print(event)}"
