@@ -1,0 +1,7 @@
+pub mod Joined
+pub mod Left
+pub mod Noted
+pub mod Reading
+pub mod Labels
+pub mod ReadBack
+pub mod Examples

@@ -1,0 +1,12 @@
+pub mod Labels
+pub mod OneMef
+pub mod TreeLeft
+pub mod Positions
+pub mod Based
+pub mod Truth
+pub mod Written
+pub mod Soundness
+pub mod WellMade
+pub mod Examples
+pub mod BasedWorth
+pub mod Pieces

@@ -1,0 +1,15 @@
+use Rattle.std.proofs.Common.{◌++◌, codes, decimal, map}
+use Rattle.galileo_writer.specs.TreeText.{gate_name}
+use Rattle.open_psa_writer.specs.inner.Mef.{formula_text, label_text}
+use Rattle.open_psa_writer.specs.inner.TreeMef.{gate_number, numbered}
+use Rattle.open_psa_writer.proofs.Pieces.{before, before-three}
+use Rattle.open_psa_writer.proofs.gates.push_gate.Goals as goal
+
+pub returns : goal.returns
+returns c =
+    let label = label_text (gate_name c.args.system.now c.args.gate.now) in
+    let formula = formula_text c.args.gate.now.kind (map (numbered c.args.top) c.args.gate.now.inputs) in
+    let back = codes "</define-gate>\n" in
+    before-three c.args.line.now.items (codes "<define-gate name=\"g") (decimal (gate_number c.args.top c.args.at)) (codes "\">\n") (label ++ (formula ++ back)) c.in_ok-push_gate_head.ensures
+    (before c.push_gate_head.new.line.items label (formula ++ back) c.in_ok-push_gate_label.ensures
+    (before c.push_gate_label.new.line.items formula back c.in_ok-push_gate_formula.ensures c.in_ok-extend_from_slice.ensures.items))

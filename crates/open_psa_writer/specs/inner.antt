@@ -1,0 +1,7 @@
+pub mod Based
+pub mod Mef
+pub mod Numbers
+pub mod Sound
+pub mod TreeMef
+pub mod Truth
+pub mod Worth
