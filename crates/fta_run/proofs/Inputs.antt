@@ -11,11 +11,12 @@ use Rattle.plain_values.specs.declared.refusal.Refusal.{Refusal}
 use Rattle.plain_values.specs.Order.{IsClear, IsFirst, least, nearer}
 use Rattle.plain_values.proofs.OrderLaws.{nearer-none, noted-more, least-first, first_alone}
 use Rattle.plain_values.specs.Refusal.{refusal, of_words}
-use Rattle.phases.specs.Phases.{Passed, Passes, Stops}
+use Rattle.phases.specs.Phases.{Passed, Passes, Stops, tests}
 use Rattle.phases.specs.declared.status.Status.TheVariants.{Refused}
 use Rattle.fta_run.specs.Due.{first_text, texts_of}
 use Rattle.fta_run.specs.Files.{HasTooLong, HasTooMuch, MayContain, NamesTooMany, most_bytes, most_files, most_text, too_long, too_long_from}
 use Rattle.fta_run.specs.inner.Held.{AreFronts}
+use Rattle.fta_run.specs.inner.Read.{few_texts}
 
 -- ---- noting the files that are too long, one after the other
 
@@ -141,6 +142,15 @@ pub many_refused : (contents : List ℕ → Option (List ℕ)) (files : List (Li
 many_refused contents files many =
     let first : IsFirst (NamesTooMany files) (of_words TooManyFiles) = first_alone (NamesTooMany files) (of_words TooManyFiles) (many, refl) (λ other also. also.1) in
     record { stopped = inl (of_words TooManyFiles, first, refl) }
+
+-- the same of texts that were read
+pub few_refused : (texts : List (List ℕ)) → most_files < length texts → Stops (few_texts texts) (Refused (of_words TooManyFiles))
+few_refused texts many =
+    let first : IsFirst (NamesTooMany texts) (of_words TooManyFiles) = first_alone (NamesTooMany texts) (of_words TooManyFiles) (many, refl) (λ other also. also.1) in
+    record { stopped = inl (of_words TooManyFiles, first, refl) }
+
+pub few_pass : (texts : List (List ℕ)) → length texts ≤ most_files → Passes (tests (NamesTooMany texts)) tt
+few_pass texts few = record { passed = clear_few texts few }
 
 -- a file is too long
 pub long_refused : (contents : List ℕ → Option (List ℕ)) (files read : List (List ℕ)) (refusal : Refusal) → length files ≤ most_files → AreFronts contents files read → IsFirst (HasTooLong read) refusal → Stops (texts_of contents files) (Refused refusal)

@@ -163,6 +163,7 @@ text_decided kind.Targets voices asked texts short =
 text_decided kind.Events voices asked texts short = (made_decided origins_phase (origins_decided IsSameStatus itself) asked.root texts, λ model at. tt)
 text_decided kind.Review voices asked texts short = (made_decided review_phase (review_decided IsSameStatus itself) asked.root texts, λ reviewed at. tt)
 text_decided kind.Place voices asked texts short = tt
+text_decided kind.Manifest voices asked texts short = (texts_model_decided asked.root texts, λ model at. tt)
 text_decided kind.Help voices asked texts short = tt
 text_decided kind.Explain voices asked texts short = tt
 text_decided kind.Version voices asked texts short = tt

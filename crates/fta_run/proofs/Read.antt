@@ -12,7 +12,7 @@ use Rattle.phases.specs.declared.status.Status.{Status}
 use Rattle.phases.specs.declared.status.Status.TheVariants.{ReadFault, WriteFault}
 use Rattle.fta_outside.specs.Outside.{Rose, Seen}
 use Rattle.system_answers.specs.Voices.{Voice, labels}
-use Rattle.fta_run.specs.Answers.{AllTold, IsCaused, IsJustified, IsOutput, MayCome, Took}
+use Rattle.fta_run.specs.Answers.{AllTold, AnswersWords, IsCaused, IsJustified, IsOutput, MayCome, Took}
 use Rattle.fta_run.specs.Due.{due}
 use Rattle.fta_run.specs.Files.{most_files}
 use Rattle.fta_run.specs.inner.Held.{AreFronts, IsReadEnd, IsReportCaused, IsToRead, RanOn, text_of}
@@ -117,3 +117,8 @@ ran_on contents words voices names files texts status before after RoseThere nam
       no_fault = λ file is. no_cause names words before after RoseThere status file caused is;
       write_fault = write_cause names words before after RoseThere status caused;
     }
+
+-- a read ended so, of words that give a request
+pub read_answers : (names words files : List (List ℕ)) (before after : List ℕ → ℕ) (status : Status) → IsReadEnd files before after status → GiveRequest names words → AnswersWords status names words
+read_answers names words files before after status (inl memory) given = subst (λ (s : Status). AnswersWords s names words) (sym memory) tt
+read_answers names words files before after status (inr fault) given = let here = fault.1 in subst (λ (s : Status). AnswersWords s names words) (sym here) given

@@ -8,7 +8,8 @@ use Rattle.package_index.specs.Lookup.{packages_of}
 use Rattle.fault_system.specs.Listings.{IsListing}
 use Rattle.cutset_writer.specs.Text.{listing_page}
 use Rattle.cutset_writer.specs.declared.form.SetForm.TheVariants.{Token}
-use Rattle.page_tokens.specs.Keys.{asked_digits}
+use Rattle.page_tokens.specs.Keys.{asked_digits, root_text}
+use Rattle.file_digests.specs.Digests.{digest_lines}
 use Rattle.model_maker.specs.Text.{text_of as made_text}
 use Rattle.text_places.specs.Places.{place_text}
 use Rattle.help_texts.specs.Texts.{explain_text, help_text, version_text}
@@ -202,6 +203,20 @@ review_in root texts = do
   reviewed ← made_of_texts review_phase root texts
   yields reviewed.text
 
+-- the line of a root
+abbrev pub root_line : Root → List ℕ
+root_line root = codes "root " ++ (root_text root ++ codes "\n")
+
+-- the text of `manifest`: the version of the program, the root, what `check` writes, and the digests of the files
+abbrev pub manifest_text : Root → List (List ℕ) → List (List ℕ) → FlatModel → List ℕ
+manifest_text root files texts model =
+    version_text ++ (root_line root ++ (numbers_text model.components (length model.system.facts) (length model.system.events) ++ digest_lines files texts))
+
+abbrev pub manifest_in : Root → List (List ℕ) → List (List ℕ) → Phase (List ℕ)
+manifest_in root files texts = do
+  model ← model_of_texts root texts
+  yields (manifest_text root files texts model)
+
 -- the text of a command, asked with this request, in files of these texts, where these are the reports
 abbrev pub text_for : Kind → List Voice → Request → List (List ℕ) → Phase (List ℕ)
 text_for kind.Check voices asked texts = check_in asked.root texts
@@ -218,6 +233,7 @@ text_for kind.Targets voices asked texts = targets_in asked.root (is_set asked.o
 text_for kind.Events voices asked texts = events_in asked.root asked.files texts
 text_for kind.Review voices asked texts = review_in asked.root texts
 text_for kind.Place voices asked texts = place_in asked.files asked.number texts
+text_for kind.Manifest voices asked texts = manifest_in asked.root asked.files texts
 text_for kind.Explain voices asked texts = yields (explain_text asked.target)
 text_for kind.Help voices asked texts = yields (help_text asked.of)
 text_for kind.Version voices asked texts = yields version_text

@@ -12,13 +12,14 @@ ghost use Rattle.model_phases.specs.Named.{IsPlainModel};
 ghost use Rattle.system_answers.specs.inner.Ends.{EndsReports};
 ghost use Rattle.system_answers.specs.Voices.{voices_of};
 ghost use Rattle.fta_run.specs.Answers.{is_by_lines};
-ghost use Rattle.fta_run.specs.Due.{check_in, cuts_in, events_in, first_name, first_text, fmea_in, made_of_texts, model_of_texts, paths_in, place_in, report_in, review_in, sets_of_tree, targets_in, text_for, tree_in, why_in};
+ghost use Rattle.fta_run.specs.Due.{check_in, cuts_in, events_in, first_name, first_text, fmea_in, made_of_texts, manifest_in, model_of_texts, paths_in, place_in, report_in, review_in, sets_of_tree, targets_in, text_for, tree_in, why_in};
 ghost use Rattle.fta_run.specs.inner.Ready.{IsByLines, held_text, ready_text};
 
 use crate::confirmed::confirmation;
 use crate::fmea::table_of;
 use crate::input::Texts;
 use crate::made::make;
+use crate::manifest::manifest_text;
 use crate::model::model_of_texts;
 use crate::ready::{Held, Ready, ready_of};
 use crate::targets::orders_of;
@@ -85,6 +86,7 @@ pub fn answer_in(
         Kind::Events => ready_of(events(alloc, root, asked.files, texts)),
         Kind::Review => ready_of(review(alloc, root, texts)),
         Kind::Place => ready_of(place(alloc, asked.files, asked.number, texts)),
+        Kind::Manifest => ready_of(manifest(alloc, root, asked.files, texts)),
         Kind::Explain => Ok(Ready::Held(explain(target))),
         Kind::Help => ready_of(help(alloc, asked.of)),
         Kind::Version => Ok(Ready::Held(Held::Fixed(version_text()))),
@@ -250,6 +252,22 @@ fn review(alloc: Global, root: &Root, texts: Texts) -> Result<Held, Status>
 {
     let reviewed: ReviewedModel = model_in(alloc, root, texts)?;
     Ok(Held::Bytes(reviewed.text))
+}
+
+/// Of which program and of which files of these names a result on the model of a root is.
+fn manifest(alloc: Global, root: &Root, names: &[Word], texts: Texts) -> Result<Held, Status>
+    ensures { MeetsBut IsMemory held_text (manifest_in root.now names.now texts) result }
+{
+    let model = model_at(alloc, root, &texts)?;
+    let text = manifest_text(alloc, root, names, texts.items(), &model)?;
+    Ok(Held::Text(text))
+}
+
+/// The model of a root in files of these texts, which are held on, as a system.
+fn model_at(alloc: Global, root: &Root, texts: &Texts) -> Result<FlatModel, Status>
+    ensures { Meets (model_of_texts root.now texts.now) result }
+{
+    model_of_texts(alloc, root, texts.items())
 }
 
 /// Where a byte stands in the text of the first file.

@@ -70,6 +70,7 @@ pub fn run<F: Files, S: Sink, E: Sink>(
     // and the name. Where there is no request, all reports are as before.
     ensures reports { (asked : AnyRequest) → IsRequest (labels (voices_of label text reports.old.items)) words.now asked → AtChosen asked.options.chosen (IsKept text label report_faults) reports.old.items reports.new.items }
     ensures no_reports { GiveNoRequest (labels (voices_of label text reports.old.items)) words.now → reports.new ≡ reports.old }
+    ensures names { map label reports.new.items ≡ map label reports.old.items }
 
     // No file is read where there is no request, or where too many are named; too many are refused, whatever the files tell.
     ensures no_files { GiveNoRequest (labels (voices_of label text reports.old.items)) words.now → files.new ≡ files.old }
@@ -86,7 +87,7 @@ pub fn run<F: Files, S: Sink, E: Sink>(
 }
 
 /// Writes the line of a status, and forgets a fault.
-pub(crate) fn write_status<E: Sink>(
+pub fn write_status<E: Sink>(
     words: &[Word],
     reports: &Vec<Box<dyn Report>>,
     status: &Status,

@@ -1,8 +1,9 @@
 //! Files that were read before a run, and a run on them.
 
-ghost use Rattle.std.specs.Prelude.{◌≡◌, ◌<◌, [], ℕ, List, Option, IfErr, IfOk, MatchResult, cond, length, nat_lt, option_map, take};
+ghost use Rattle.std.specs.Prelude.{◌≡◌, ◌<◌, [], ℕ, List, Option, IfErr, IfOk, MatchResult, cond, length, map, nat_lt, option_map, take};
 ghost use Rattle.fta_outside.specs.Outside.{Rose, Took as TookAll, TookPrefix};
 ghost use Rattle.phases.specs.declared.status.Status.TheVariants.{Memory};
+ghost use Rattle.fta_run.specs.Answers.{AnswersWords, BeginsWithMemory, IsManyAnswer};
 ghost use Rattle.fta_run.specs.Files.{most_files};
 ghost use Rattle.fta_run.specs.Line.{status_line};
 ghost use Rattle.fta_run.specs.inner.Held.{AreFronts, IsReadEnd, IsReportCaused, IsToRead, RanOn, RanRead, text_of};
@@ -20,22 +21,29 @@ use plain_values::{List, Name, Word, is_same};
 use std::alloc::Global;
 use system_answers::names_of;
 
+/// The names of the files of the request that words give, and what was read of each.
+#[derive(Drop)]
+pub struct ReadFiles<'a> {
+    pub names: &'a [Word],
+    pub texts: List<Name>,
+}
+
 /// Files that were read, each with its name. A read of one of them never fails, and that of another name is want of memory.
 #[derive(Drop)]
-pub(crate) struct HeldFiles<'a> {
+struct HeldFiles<'a> {
     names: &'a [Word],
-    texts: List<Name>,
+    texts: &'a [Name],
 }
 
 impl<'a> Files for HeldFiles<'a> {
     ghost use Rattle.fta_run.specs.inner.Held.{text_of};
 
-    ghost contents = { λ held name. text_of held.names.now held.texts name };
+    ghost contents = { λ held name. text_of held.names.now held.texts.now name };
 
     ghost faults = { λ _ _. 0 };
 
     fn read(&mut self, alloc: Global, name: &Word, most: usize) -> Result<Vec<u8>, FileError> {
-        match text_of(self.names, self.texts.items(), name.items()) {
+        match text_of(self.names, self.texts, name.items()) {
             Some(text) => front_of(alloc, text, most),
             None => Err(FileError::Memory),
         }
@@ -73,24 +81,31 @@ pub fn run_read<F: Files, S: Sink, E: Sink>(
     err: &mut E,
     reports: &mut Vec<Box<dyn Report>>,
 ) -> Status
+    // Usage comes exactly where the words give no request.
+    ensures words { AnswersWords result (labels (voices_of label text reports.old.items)) words.now }
+
     // What is due for exactly the bytes that the reads gave comes, or a read failed.
     ensures told { RanRead words.now (F.contents files.old) (F.faults files.old) (F.faults files.new) (voices_of label text reports.old.items) result (S.seen out.old) (S.seen out.new) }
+
+    // Once a text was begun, no memory is wanting, but for the lines of a tree and of a table.
+    ensures begins { (asked : AnyRequest) → IsRequest (labels (voices_of label text reports.old.items)) words.now asked → BeginsWithMemory asked.kind result (S.seen out.old) (S.seen out.new) }
 
     // The list of reports is kept as by `run`, and a report fails only where the request chooses it and its count rose.
     ensures reports { (asked : AnyRequest) → IsRequest (labels (voices_of label text reports.old.items)) words.now asked → AtChosen asked.options.chosen (IsKept text label report_faults) reports.old.items reports.new.items }
     ensures no_reports { GiveNoRequest (labels (voices_of label text reports.old.items)) words.now → reports.new ≡ reports.old }
     ensures report_fault { IsReportCaused (labels (voices_of label text reports.old.items)) words.now (λ place. RoseAt report_faults place reports.old.items reports.new.items) result }
 
-    // No file is read where there is no request, or where too many are named.
+    // No file is read where there is no request, or where too many are named; too many are refused, whatever the files tell.
     ensures no_files { GiveNoRequest (labels (voices_of label text reports.old.items)) words.now → files.new ≡ files.old }
     ensures too_many { most_files < length (file_words words.now) → files.new ≡ files.old }
+    ensures many { most_files < length (file_words words.now) → IsManyAnswer result }
 
     // `err` took exactly the line of the status where its count did not rise, and else at most a front of it.
     ensures line { (Rose (E.seen err.old).faults (E.seen err.new).faults → ⊥) → TookAll (status_line (file_words words.now) (labels (voices_of label text reports.old.items)) result) (E.seen err.old) (E.seen err.new) }
     ensures at_most_the_line { TookPrefix (status_line (file_words words.now) (labels (voices_of label text reports.old.items)) result) (E.seen err.old) (E.seen err.new) }
 {
     match read_first(alloc, words, files, reports) {
-        Ok(held) => run_held(alloc, words, held, out, err, reports),
+        Ok(read) => run_held(alloc, words, &read, out, err, reports),
         Err(status) => {
             write_status(words, reports, &status, err);
             status
@@ -98,48 +113,58 @@ pub fn run_read<F: Files, S: Sink, E: Sink>(
     }
 }
 
-/// Runs the request on files that are held.
-fn run_held<S: Sink, E: Sink>(
+/// Runs the request that the words give, as `run` does, on files that were read.
+pub fn run_held<S: Sink, E: Sink>(
     alloc: Global,
     words: &[Word],
-    held: HeldFiles<'_>,
+    read: &ReadFiles<'_>,
     out: &mut S,
     err: &mut E,
     reports: &mut Vec<Box<dyn Report>>,
 ) -> Status
-    ensures told { (contents : List ℕ → Option (List ℕ)) → IsToRead (labels (voices_of label text reports.old.items)) words.now held.entry.names.now → AreFronts contents held.entry.names.now held.entry.texts → RanOn words.now (text_of held.entry.names.now held.entry.texts) (voices_of label text reports.old.items) result (S.seen out.old) (S.seen out.new) }
+    ensures words { AnswersWords result (labels (voices_of label text reports.old.items)) words.now }
+    ensures told { (contents : List ℕ → Option (List ℕ)) → IsToRead (labels (voices_of label text reports.old.items)) words.now read.now.names.now → AreFronts contents read.now.names.now read.now.texts → RanOn words.now (text_of read.now.names.now read.now.texts) (voices_of label text reports.old.items) result (S.seen out.old) (S.seen out.new) }
+    ensures begins { (asked : AnyRequest) → IsRequest (labels (voices_of label text reports.old.items)) words.now asked → BeginsWithMemory asked.kind result (S.seen out.old) (S.seen out.new) }
     ensures reports { (asked : AnyRequest) → IsRequest (labels (voices_of label text reports.old.items)) words.now asked → AtChosen asked.options.chosen (IsKept text label report_faults) reports.old.items reports.new.items }
     ensures no_reports { GiveNoRequest (labels (voices_of label text reports.old.items)) words.now → reports.new ≡ reports.old }
     ensures report_fault { IsReportCaused (labels (voices_of label text reports.old.items)) words.now (λ place. RoseAt report_faults place reports.old.items reports.new.items) result }
+    ensures names { map label reports.new.items ≡ map label reports.old.items }
+    ensures many { most_files < length (file_words words.now) → IsManyAnswer result }
     ensures line { (Rose (E.seen err.old).faults (E.seen err.new).faults → ⊥) → TookAll (status_line (file_words words.now) (labels (voices_of label text reports.old.items)) result) (E.seen err.old) (E.seen err.new) }
     ensures at_most_the_line { TookPrefix (status_line (file_words words.now) (labels (voices_of label text reports.old.items)) result) (E.seen err.old) (E.seen err.new) }
 {
-    let mut held = held;
+    let mut held = HeldFiles {
+        names: read.names,
+        texts: read.texts.items(),
+    };
     run(alloc, words, &mut held, out, err, reports)
 }
 
-/// The files of the request that the words give, as they were read; none where there is no request, or where too many are named.
-fn read_first<'a, F: Files>(
+/// The files of the request that the words give, as they were read; none where there is no request, or where too many are named. A status
+/// is want of memory, or a fault of a file of the request.
+pub fn read_first<'a, F: Files>(
     alloc: Global,
     words: &'a [Word],
     files: &mut F,
     reports: &Vec<Box<dyn Report>>,
-) -> Result<HeldFiles<'a>, Status>
-    ensures named { IfOk result (λ held. IsToRead (labels (voices_of label text reports.now.items)) words.now held.names.now) }
-    ensures fronts { IfOk result (λ held. AreFronts (F.contents files.old) held.names.now held.texts) }
+) -> Result<ReadFiles<'a>, Status>
+    ensures named { IfOk result (λ read. IsToRead (labels (voices_of label text reports.now.items)) words.now read.names.now) }
+    ensures fronts { IfOk result (λ read. AreFronts (F.contents files.old) read.names.now read.texts) }
     ensures fault { IfErr result (IsReadEnd (file_words words.now) (F.faults files.old) (F.faults files.new)) }
+    ensures words { IfErr result (λ status. AnswersWords status (labels (voices_of label text reports.now.items)) words.now) }
+    ensures many { IfErr result (λ status. most_files < length (file_words words.now) → IsManyAnswer status) }
     ensures no_files { GiveNoRequest (labels (voices_of label text reports.now.items)) words.now → files.new ≡ files.old }
     ensures too_many { most_files < length (file_words words.now) → files.new ≡ files.old }
 {
     let names = names_to_read(alloc, words, reports)?;
     if names.is_empty() {
-        return Ok(HeldFiles {
+        return Ok(ReadFiles {
             names: &[],
             texts: List::new(alloc),
         });
     }
     let texts = read_files(alloc, files, names)?;
-    Ok(HeldFiles { names, texts })
+    Ok(ReadFiles { names, texts })
 }
 
 /// The names of the files of the request that the words give; none where there is no request, or where they are too many.

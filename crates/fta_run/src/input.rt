@@ -163,7 +163,7 @@ fn whole_text(bytes: Vec<u8>) -> Result<Name, Status>
 }
 
 /// Refuses the first text that is too long.
-fn check_each(texts: &[Name]) -> Result<(), Refusal>
+pub(crate) fn check_each(texts: &[Name]) -> Result<(), Refusal>
     requires { length texts.now ≤ most_files }
     ensures { MatchResult result (λ _. too_long_from 0 texts.now ≡ []) (λ refusal. IsFirst (HasTooLong texts.now) refusal) }
 {
@@ -183,7 +183,7 @@ fn note_too_long(first: &mut FirstRefusal, file: u32, text: &[u8])
 }
 
 /// Refuses texts that are too long together.
-fn check_total(texts: &[Name]) -> Result<(), Refusal>
+pub(crate) fn check_total(texts: &[Name]) -> Result<(), Refusal>
     ensures { MatchResult result (λ _. sum_by length texts.now ≤ most_text) (λ refusal. HasTooMuch texts.now refusal) }
 {
     let mut total: u64 = 0;

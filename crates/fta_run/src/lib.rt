@@ -4,20 +4,23 @@
 mod answering;
 mod command;
 mod confirmed;
+mod few;
 mod fmea;
 mod held;
 mod input;
 mod laws;
 mod line;
 mod made;
+mod manifest;
 mod model;
 mod ready;
 mod targets;
 mod text;
 mod words;
 
-pub use command::run;
-pub use held::run_read;
+pub use command::{run, write_status};
+pub use few::{model_read, units_read};
+pub use held::{ReadFiles, read_first, run_held, run_read};
 pub use laws::{confirms_why, holds_where_confirmed, one_due, one_output};
 pub use line::write_line;
 pub use phases::Status;

@@ -26,9 +26,10 @@ place_of kind.Targets = 10
 place_of kind.Events = 11
 place_of kind.Review = 12
 place_of kind.Place = 13
-place_of kind.Explain = 14
-place_of kind.Help = 15
-place_of kind.Version = 16
+place_of kind.Manifest = 14
+place_of kind.Explain = 15
+place_of kind.Help = 16
+place_of kind.Version = 17
 
 -- the name of a command
 abbrev pub name_of : Kind → List ℕ

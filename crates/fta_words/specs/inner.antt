@@ -1,3 +1,4 @@
+pub mod Explained
 pub mod Naming
 pub mod Parsed
 pub mod Reading

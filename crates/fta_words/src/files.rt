@@ -72,7 +72,8 @@ pub(crate) fn before_options(words: &[Word]) -> &[Word]
     words
 }
 
-fn is_option(word: &[u8]) -> bool
+/// Whether a word begins with `-`.
+pub fn is_option(word: &[u8]) -> bool
     ensures { result ≡ is_option word.now }
 {
     match word {

@@ -15,13 +15,14 @@ pub enum Kind {
     Events,
     Review,
     Place,
+    Manifest,
     Explain,
     Help,
     Version,
 }
 
 /// All commands, in order.
-pub const KINDS: [Kind; 17] = [
+pub const KINDS: [Kind; 18] = [
     Kind::Check,
     Kind::Cuts,
     Kind::Tree,
@@ -36,6 +37,7 @@ pub const KINDS: [Kind; 17] = [
     Kind::Events,
     Kind::Review,
     Kind::Place,
+    Kind::Manifest,
     Kind::Explain,
     Kind::Help,
     Kind::Version,

@@ -7,6 +7,7 @@ mod asked;
 mod chosen;
 mod command;
 mod error;
+mod explained;
 mod files;
 mod kind;
 mod number;
@@ -20,6 +21,10 @@ mod text;
 
 pub use command::{Options, Paging, Request};
 pub use error::WordsFault;
-pub use files::file_words;
+pub use explained::explained_call;
+pub use files::{file_words, is_option};
 pub use kind::{KINDS, Kind, Shape};
-pub use table::{CODES, about_of, are_named, name_of, optional_of, usage_of};
+pub use table::{
+    CODES, Names, about_of, are_named, flags_of, is_among, kind_named, name_of, optional_of,
+    usage_of, valued_of,
+};

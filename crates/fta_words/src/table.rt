@@ -56,7 +56,7 @@ pub const CODES: [&'static [u8]; 57] = [
 ];
 
 /// A row for each command, in the order of `KINDS`, which is that of help.
-pub const ROWS: [CommandRow; 17] = [
+pub const ROWS: [CommandRow; 18] = [
     Row {
         kind: Kind::Check,
         name: b"check",
@@ -212,6 +212,17 @@ pub const ROWS: [CommandRow; 17] = [
         about: b"the line and the column of a byte, as a refusal names it",
     },
     Row {
+        kind: Kind::Manifest,
+        name: b"manifest",
+        shape: Shape::Model,
+        flags: &[],
+        valued: &[],
+        required: &[],
+        usage: b"manifest ROOT FILE..",
+        optional: b"",
+        about: b"of which program and which files a result is, to be kept beside it",
+    },
+    Row {
         kind: Kind::Explain,
         name: b"explain",
         shape: Shape::Code,
@@ -219,8 +230,8 @@ pub const ROWS: [CommandRow; 17] = [
         valued: &[],
         required: &[],
         usage: b"explain CODE",
-        optional: b"",
-        about: b"what a refusal says, and what to write instead",
+        optional: b" | CALL..",
+        about: b"what a refusal says, and what to write instead; or why a call is refused",
     },
     Row {
         kind: Kind::Help,
@@ -249,7 +260,7 @@ pub const ROWS: [CommandRow; 17] = [
 /// The place of the row of a command.
 fn place_of(kind: Kind) -> usize
     ensures place { result ≡ place_of kind }
-    ensures within { result < 17 }
+    ensures within { result < 18 }
 {
     kind as usize
 }
@@ -312,14 +323,14 @@ pub fn about_of(kind: Kind) -> &'static [u8]
 }
 
 /// The flags of a command.
-pub(crate) fn flags_of(kind: Kind) -> Names
+pub fn flags_of(kind: Kind) -> Names
     ensures { map (λ name. name.now) result.now ≡ flags_of kind }
 {
     option_names_of(kind).0
 }
 
 /// The options of a command that have a value.
-pub(crate) fn valued_of(kind: Kind) -> Names
+pub fn valued_of(kind: Kind) -> Names
     ensures { map (λ name. name.now) result.now ≡ valued_of kind }
 {
     option_names_of(kind).1
@@ -347,7 +358,7 @@ pub(crate) fn has_valued(kind: Kind, name: &[u8]) -> bool
 }
 
 /// Whether a name is among others.
-pub(crate) fn is_among(names: &[&[u8]], name: &[u8]) -> bool
+pub fn is_among(names: &[&[u8]], name: &[u8]) -> bool
     ensures value { result ≡ is_among (map (λ name. name.now) names.now) name.now }
     ensures means { IsTrue result ↔ Contains (map (λ name. name.now) names.now) name.now }
 {
@@ -362,7 +373,7 @@ fn is_some_same(names: &[&[u8]], name: &[u8]) -> bool
 }
 
 /// The command of a name.
-pub(crate) fn kind_named(name: &[u8]) -> Option<Kind>
+pub fn kind_named(name: &[u8]) -> Option<Kind>
     ensures { result ≡ kind_named name.now }
 {
     kind_among(&KINDS, name)

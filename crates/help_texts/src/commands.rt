@@ -145,13 +145,24 @@ pub const PLACE: &[u8] =
     Example, in the folder of the repository:\n\
     ./aadl_fta place examples/wrong.aadl 152\n";
 
+/// Of `manifest`.
+pub const MANIFEST: &[u8] =
+    b"Tests the texts of a model as check does, and writes of which program and of which files a result is: the\n\
+    version of the program, the root, the numbers of components, facts and events, and the SHA-256 of each\n\
+    file with its name, as sha256sum -c reads it. Keep these lines beside the tables of the model.\n\
+    \n\
+    Example, in the folder of the repository:\n\
+    ./aadl_fta manifest Acs::Control.dual examples/attitude_control.aadl\n";
+
 /// Of `explain`.
 pub const EXPLAIN: &[u8] =
     b"Writes what a refusal says, by its code, and what to write instead. The code is the first word behind the\n\
-    name of the program in the line of a refusal.\n\
+    name of the program in the line of a refusal. With the words of another call behind it, it does what the\n\
+    call does but for its output, and writes why the call is refused: the refusal, its line and column or the\n\
+    word that it is about, the nearest names that there are, and what to write instead.\n\
     \n\
-    Example:\n\
-    ./aadl_fta explain N2\n";
+    Example, in the folder of the repository:\n\
+    ./aadl_fta explain cuts Acs::Control.dual root/out:torque examples/attitude_control.aadl\n";
 
 /// Of `help`.
 pub const HELP: &[u8] =
@@ -177,4 +188,4 @@ pub const STATUSES: &[u8] =
 /// The version of the program, that of its profile, and those of the formats of what its commands write.
 pub const VERSIONS: &[u8] = b"aadl_fta 0.1.0\n\
     profile 1\n\
-    formats: check 1 cuts 1 tree 1 fmea 1 report 1 make 1 galileo 1 paths 1 why 1 confirm 1 targets 1 events 1 review 1 place 1\n";
+    formats: check 1 cuts 1 tree 1 fmea 1 report 1 make 1 galileo 1 paths 1 why 1 confirm 1 targets 1 events 1 review 1 place 1 manifest 1\n";

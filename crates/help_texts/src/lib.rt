@@ -5,6 +5,8 @@ mod commands;
 mod explained;
 mod explanations;
 mod texts;
+mod usage;
 
 pub use explained::{codes_are_explained, explain_text};
 pub use texts::{help_text, version_text};
+pub use usage::{before_sign, push_usage};

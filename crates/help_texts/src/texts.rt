@@ -88,6 +88,7 @@ fn lines_of(kind: Kind) -> &'static [u8]
         Kind::Events => texts::EVENTS,
         Kind::Review => texts::REVIEW,
         Kind::Place => texts::PLACE,
+        Kind::Manifest => texts::MANIFEST,
         Kind::Explain => texts::EXPLAIN,
         Kind::Help => texts::HELP,
         Kind::Version => texts::VERSION,

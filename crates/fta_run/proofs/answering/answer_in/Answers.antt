@@ -103,6 +103,15 @@ returns-in-Review-clause-by_lines g c = held_is _ c.review.result c.ready_of-in-
 pub returns-in-Review-clause-reports : goal.returns-in-Review-clause-reports
 returns-in-Review-clause-reports g c = all_kept (λ b. (goal.Report-dyn g (b.vtable, b.value)).text b.value) (λ b. (goal.Report-dyn g (b.vtable, b.value)).label b.value) (λ b. (goal.Report-dyn g (b.vtable, b.value)).report_faults b.value) _ c.args.reports.now.items
 
+pub returns-in-Manifest-clause-text : goal.returns-in-Manifest-clause-text
+returns-in-Manifest-clause-text g c = rw c.in-Manifest.is (ready_held _ _ c.manifest.result c.ready_of-in-Manifest.result c.ready_of-in-Manifest.ensures (λ s memory. inl memory) c.manifest.ensures)
+
+pub returns-in-Manifest-clause-by_lines : goal.returns-in-Manifest-clause-by_lines
+returns-in-Manifest-clause-by_lines g c = held_is _ c.manifest.result c.ready_of-in-Manifest.result c.ready_of-in-Manifest.ensures
+
+pub returns-in-Manifest-clause-reports : goal.returns-in-Manifest-clause-reports
+returns-in-Manifest-clause-reports g c = all_kept (λ b. (goal.Report-dyn g (b.vtable, b.value)).text b.value) (λ b. (goal.Report-dyn g (b.vtable, b.value)).label b.value) (λ b. (goal.Report-dyn g (b.vtable, b.value)).report_faults b.value) _ c.args.reports.now.items
+
 pub returns-in-Place-clause-text : goal.returns-in-Place-clause-text
 returns-in-Place-clause-text g c = rw c.in-Place.is (ready_held _ _ c.place.result c.ready_of-in-Place.result c.ready_of-in-Place.ensures (λ s memory. inl memory) c.place.ensures)
 

@@ -10,7 +10,7 @@ use Rattle.fta_run.proofs.held.run_read.Goals as goal
 
 pub returns-in-Ok-clause-told : goal.returns-in-Ok-clause-told
 returns-in-Ok-clause-told g c =
-    inr (c.in-Ok.held.names.now, c.in-Ok.held.texts, c.in-Ok.ensures.named, c.in-Ok.ensures.fronts, c.run_held.ensures.told (g.F.Files.contents c.args.files.now) c.in-Ok.ensures.named c.in-Ok.ensures.fronts)
+    inr (c.in-Ok.read.names.now, c.in-Ok.read.texts, c.in-Ok.ensures.named, c.in-Ok.ensures.fronts, c.run_held.ensures.told (g.F.Files.contents c.args.files.now) c.in-Ok.ensures.named c.in-Ok.ensures.fronts)
 
 pub returns-in-Err-clause-told : goal.returns-in-Err-clause-told
 returns-in-Err-clause-told g c = inl (c.in-Err.ensures.fault, refl)
@@ -33,3 +33,6 @@ returns-in-Err-clause-report_fault g c =
     none_failed (labels (voices_of (λ b. (goal.Report-dyn g (b.vtable, b.value)).label b.value) (λ b. (goal.Report-dyn g (b.vtable, b.value)).text b.value) c.args.reports.now.items)) c.args.words.now
     (λ place. RoseAt (λ b. (goal.Report-dyn g (b.vtable, b.value)).report_faults b.value) place c.args.reports.now.items c.args.reports.now.items) (file_words c.args.words.now) (g.F.Files.faults c.args.files.now) (g.F.Files.faults c.read_first.new.files)
     c.in-Err.status c.in-Err.ensures.fault
+
+pub returns-in-Err-clause-begins : goal.returns-in-Err-clause-begins
+returns-in-Err-clause-begins g c = λ asked is other memory. refl
