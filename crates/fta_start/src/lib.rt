@@ -6,12 +6,13 @@ ghost use Rattle.fta_outside.specs.Outside.{Rose, Took, TookPrefix};
 ghost use Rattle.phases.specs.declared.status.Status.TheVariants.{Done, WriteFault};
 ghost use Rattle.system_answers.specs.Voices.{labels, voices_of};
 ghost use Rattle.fta_start.specs.inner.Own.{own_voices};
-ghost use Rattle.fta_run.specs.inner.Held.{RanRead};
+ghost use Rattle.explained_calls.specs.inner.Calls.{Comes, asked_words};
 ghost use Rattle.fta_run.specs.Line.{status_line};
 ghost use Rattle.fta_run.specs.Words.{file_words};
 
+use explained_calls::run_explained;
 use fta_outside::{DiskFiles, Files, Report, Sink, StdSink};
-use fta_run::{Status, run_read, write_line};
+use fta_run::{Status, write_line};
 use plain_values::{List, Word};
 use std::alloc::{AllocError, Global};
 use std::env;
@@ -27,14 +28,14 @@ pub trait Program {
     ghost use Rattle.std.specs.Prelude.{◌≡◌, IfOk, List, OnErr};
     ghost use Rattle.fta_outside.specs.Outside.{Rose, Took, TookPrefix};
     ghost use Rattle.system_answers.specs.Voices.{Voice, labels};
-    ghost use Rattle.fta_run.specs.inner.Held.{RanRead};
+    ghost use Rattle.explained_calls.specs.inner.Calls.{Comes, asked_words};
     ghost use Rattle.fta_run.specs.Line.{status_line};
     ghost use Rattle.fta_run.specs.Words.{file_words};
 
     /// Its reports, by their names and their texts.
     ghost voices: { Self → List Voice };
 
-    /// Runs the words with the reports of the program, as `run_read` of `fta_run` does; an error where there is no memory for these.
+    /// Runs the words with the reports of the program, as `run_explained` of `explained_calls` does; an error where there is no memory for these.
     fn run<F: Files, S: Sink, E: Sink>(
         &self,
         alloc: Global,
@@ -43,9 +44,9 @@ pub trait Program {
         out: &mut S,
         err: &mut E,
     ) -> Result<Status, AllocError>
-        ensures told { IfOk result (λ status. RanRead words.now (F.contents files.old) (F.faults files.old) (F.faults files.new) (voices self.now) status (S.seen out.old) (S.seen out.new)) }
-        ensures line { IfOk result (λ status. (Rose (E.seen err.old).faults (E.seen err.new).faults → ⊥) → Took (status_line (file_words words.now) (labels (voices self.now)) status) (E.seen err.old) (E.seen err.new)) }
-        ensures at_most_the_line { IfOk result (λ status. TookPrefix (status_line (file_words words.now) (labels (voices self.now)) status) (E.seen err.old) (E.seen err.new)) }
+        ensures comes { IfOk result (λ status. Comes words.now (F.contents files.old) (F.faults files.old) (F.faults files.new) (voices self.now) status (S.seen out.old) (S.seen out.new)) }
+        ensures line { IfOk result (λ status. (Rose (E.seen err.old).faults (E.seen err.new).faults → ⊥) → Took (status_line (file_words (asked_words words.now)) (labels (voices self.now)) status) (E.seen err.old) (E.seen err.new)) }
+        ensures at_most_the_line { IfOk result (λ status. TookPrefix (status_line (file_words (asked_words words.now)) (labels (voices self.now)) status) (E.seen err.old) (E.seen err.new)) }
         ensures nothing { OnErr result ((S.seen out.new).taken ≡ (S.seen out.old).taken) };
 }
 
@@ -59,11 +60,11 @@ pub fn run_own<F: Files, S: Sink, E: Sink>(
     reports: &mut Vec<Box<dyn Report>>,
 ) -> Status
     requires { voices_of label text reports.old.items ≡ own_voices }
-    ensures told { RanRead words.now (F.contents files.old) (F.faults files.old) (F.faults files.new) own_voices result (S.seen out.old) (S.seen out.new) }
-    ensures line { (Rose (E.seen err.old).faults (E.seen err.new).faults → ⊥) → Took (status_line (file_words words.now) (labels own_voices) result) (E.seen err.old) (E.seen err.new) }
-    ensures at_most_the_line { TookPrefix (status_line (file_words words.now) (labels own_voices) result) (E.seen err.old) (E.seen err.new) }
+    ensures comes { Comes words.now (F.contents files.old) (F.faults files.old) (F.faults files.new) own_voices result (S.seen out.old) (S.seen out.new) }
+    ensures line { (Rose (E.seen err.old).faults (E.seen err.new).faults → ⊥) → Took (status_line (file_words (asked_words words.now)) (labels own_voices) result) (E.seen err.old) (E.seen err.new) }
+    ensures at_most_the_line { TookPrefix (status_line (file_words (asked_words words.now)) (labels own_voices) result) (E.seen err.old) (E.seen err.new) }
 {
-    run_read(alloc, words, files, out, err, reports)
+    run_explained(alloc, words, files, out, err, reports)
 }
 
 /// Runs the words after the program's name with the real files and streams, and gives the exit status.

@@ -7,15 +7,16 @@ ghost use Rattle.fta_outside.specs.Outside.{Rose, Took as TookAll, TookPrefix};
 ghost use Rattle.system_answers.specs.Voices.{labels, voices_of};
 ghost use Rattle.fta_run.specs.Line.{status_line};
 ghost use Rattle.fta_run.specs.Words.{file_words};
-ghost use Rattle.fta_run.specs.inner.Held.{RanRead};
+ghost use Rattle.explained_calls.specs.inner.Calls.{Comes, asked_words};
 ghost use Rattle.verdict_report.specs.inner.Verdict.{all_voices};
 
 mod verdict;
 
 use crate::verdict::Verdict;
 use cut_reports::{EventUse, OrderProfile, SinglePoints};
+use explained_calls::run_explained;
 use fta_outside::{Files, Report, Sink};
-use fta_run::{Status, run_read};
+use fta_run::Status;
 use fta_start::{Program, start};
 use plain_values::Word;
 use std::alloc::{AllocError, Global};
@@ -60,9 +61,9 @@ fn run_all<F: Files, S: Sink, E: Sink>(
     reports: &mut Vec<Box<dyn Report>>,
 ) -> Status
     requires { voices_of label text reports.old.items ≡ all_voices }
-    ensures told { RanRead words.now (F.contents files.old) (F.faults files.old) (F.faults files.new) all_voices result (S.seen out.old) (S.seen out.new) }
-    ensures line { (Rose (E.seen err.old).faults (E.seen err.new).faults → ⊥) → TookAll (status_line (file_words words.now) (labels all_voices) result) (E.seen err.old) (E.seen err.new) }
-    ensures at_most_the_line { TookPrefix (status_line (file_words words.now) (labels all_voices) result) (E.seen err.old) (E.seen err.new) }
+    ensures comes { Comes words.now (F.contents files.old) (F.faults files.old) (F.faults files.new) all_voices result (S.seen out.old) (S.seen out.new) }
+    ensures line { (Rose (E.seen err.old).faults (E.seen err.new).faults → ⊥) → TookAll (status_line (file_words (asked_words words.now)) (labels all_voices) result) (E.seen err.old) (E.seen err.new) }
+    ensures at_most_the_line { TookPrefix (status_line (file_words (asked_words words.now)) (labels all_voices) result) (E.seen err.old) (E.seen err.new) }
 {
-    run_read(alloc, words, files, out, err, reports)
+    run_explained(alloc, words, files, out, err, reports)
 }

@@ -1,0 +1,5 @@
+use Rattle.std.proofs.Common.{◌≡◌, map, take}
+use Rattle.explained_calls.proofs.near.event_names.Given as goal
+
+abbrev pub invariant-loop-event : goal.invariant-loop-event
+invariant-loop-event l = map (λ name. name.now) l.names.items ≡ map (λ event. event.name) (take l.event-index l.events)

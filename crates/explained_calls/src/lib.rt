@@ -1,0 +1,9 @@
+//! `explain` with the words of another call behind it: why that call is refused.
+#![tactic(auto)]
+
+mod call;
+mod closed;
+mod explanation;
+mod near;
+
+pub use call::run_explained;
