@@ -1,8 +1,8 @@
 //! Rows that run the tool, with files and sinks in memory.
 
 use cut_reports::{EventUse, FailingReport, OrderProfile, SinglePoints};
+use explained_calls::run_explained;
 use fta_outside::{MemoryFiles, MemorySink, Report};
-use fta_run::run;
 use plain_values::{List, Mem, Word};
 use row_reader::{Row, Text, Tool, cut, has_key, head_and_body, number_of};
 use std::alloc::Global;
@@ -86,7 +86,7 @@ fn put_run(
         let failing = numbers_of(alloc, row, b"failing report:", scratch)?;
         reports.push(Box::new(alloc, FailingReport::new(alloc, failing))?)?;
     }
-    let status = run(alloc, words, files, &mut out, &mut err, &mut reports);
+    let status = run_explained(alloc, words, files, &mut out, &mut err, &mut reports);
     found.put_number(u64::from(status.exit()));
     found.put(b"\nout:\n");
     found.put(out.bytes());
