@@ -43,7 +43,7 @@ CALLS = [
     (["tree", ROOT, "root/out:torque", MODEL], 2, ["aadl_fta: T1 UnknownTarget", "TARGET root/out:torque"]),
     (["why", ROOT, TARGET, MODEL, "--set", "root.cpu/fail"], 2, ["aadl_fta: K1 BadToken", "near root.cpu/failure"]),
     (["why", ROOT, TARGET, MODEL, "--set", "root.g1/failure"], 2, ["aadl_fta: K3 NotCutSet", "TOKEN root.g1/failure"]),
-    (["check", "p::s", "examples/wrong.aadl"], 2, ["aadl_fta: S1 Syntax examples/wrong.aadl:152", "examples/wrong.aadl:7:24"]),
+    (["check", "p::s", "examples/wrong.aadl"], 2, ["aadl_fta: S1 Syntax examples/wrong.aadl:152", "examples/wrong.aadl:7:25"]),
     (["check", ROOT, MODEL, MODEL], 2, ["N1 DuplicateUnit"]),
     (["check", "Lib::Main.i", "examples/with_library.aadl"], 2, ["ROOT Lib::Main.i"]),
     (["galileo", MODEL], 2, ["G1 BadLine"]),
