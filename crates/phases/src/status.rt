@@ -1,11 +1,11 @@
 ghost use Rattle.std.specs.Prelude.{◌≡◌};
 
 use fta_outside::WriteError;
-use plain_values::{Refusal, Stop};
+use plain_values::{Name, Refusal, Stop};
 use std::alloc::{AllocError, AllocFailed};
 
 /// How a run ended.
-#[derive(Clone, Copy, PartialEq, Eq)]
+#[derive(Drop)]
 pub enum Status {
     /// All input was read and all output was taken.
     Done,
@@ -15,6 +15,8 @@ pub enum Status {
     Refused(Refusal),
     /// The target of a tree holds under no event at all (true), or fails under all of them (false), so it has no tree.
     Constant(bool),
+    /// An event of a tree has no rate, where each must have one: the name of the first such event.
+    Unrated(Name),
     /// A page token names another input: the digits of its key, and those of the key of what the words ask for.
     StaleToken { token: [u8; 64], input: [u8; 64] },
     /// The file word of this number, counted from 0, could not be read.
@@ -39,6 +41,7 @@ impl Status {
             Status::Usage => 1,
             Status::Refused(_) => 2,
             Status::StaleToken { .. } => 2,
+            Status::Unrated(_) => 2,
             Status::Constant(_) => 3,
             Status::ReadFault(_) => 4,
             Status::WriteFault => 5,
