@@ -12,10 +12,10 @@ use Rattle.round_gates.specs.declared.tree.Gate.{Gate}
 use Rattle.round_gates.specs.declared.tree.Input.{Input}
 use Rattle.round_gates.specs.declared.tree.Input.TheVariants as inputs
 use Rattle.round_gates.specs.declared.tree.Tree.{Tree}
-use Rattle.dot_writer.specs.inner.Shown.{shown}
-use Rattle.dot_writer.specs.inner.Words.{words_of}
-use Rattle.dot_writer.specs.inner.Picture.{boxes_text}
-use Rattle.dot_writer.specs.inner.TreePicture.{boxes_of, sheet_of}
+use Rattle.dot_writer.specs.Shown.{shown}
+use Rattle.dot_writer.specs.Words.{words_of}
+use Rattle.dot_writer.specs.Picture.{boxes_text}
+use Rattle.dot_writer.specs.TreePicture.{boxes_of, sheet_of}
 
 -- ---- words
 

@@ -5,9 +5,9 @@ use Rattle.std.specs.Option.{option_map_or}
 use Rattle.plain_values.specs.Name.{is_same_text}
 use Rattle.round_gates.specs.declared.node.GateKind.{GateKind}
 use Rattle.round_gates.specs.declared.node.GateKind.TheVariants.{And, Or, AtLeast}
-use Rattle.dot_writer.specs.inner.Shown.{shown}
-use Rattle.dot_writer.specs.inner.Words.{behind, happening, part_name, spoken, typed_words, until, verb_of, words_of}
-use Rattle.dot_writer.specs.inner.Picture.{Box, box_look, legend_line, number, symbol, symbol_row, transfer_sign, words_row}
+use Rattle.dot_writer.specs.Shown.{shown}
+use Rattle.dot_writer.specs.Words.{behind, happening, part_name, spoken, typed_words, until, verb_of, words_of}
+use Rattle.dot_writer.specs.Picture.{Box, box_look, legend_line, number, symbol, symbol_row, transfer_sign, words_row}
 use Rattle.dot_writer.proofs.Reading.{Lacks, lacks-both, lacks-decimal, lacks-shown, lacks-text}
 
 typed-lacks : (text : List ℕ) → Lacks (typed_words text)

@@ -4,8 +4,8 @@ use Rattle.std.specs.Option.{option_map_or}
 use Rattle.round_gates.specs.declared.tree.Gate.{Gate}
 use Rattle.round_gates.specs.declared.tree.Input.{Input}
 use Rattle.dot_writer.specs.declared.sheet.Sheet.{Sheet}
-use Rattle.dot_writer.specs.inner.Picture.{arc_line, arc_lines, box_line, boxes_text}
-use Rattle.dot_writer.specs.inner.TreePicture.{arc_of, box_of, boxes_of, inputs_at}
+use Rattle.dot_writer.specs.Picture.{arc_line, arc_lines, box_line, boxes_text}
+use Rattle.dot_writer.specs.TreePicture.{arc_of, box_of, boxes_of, inputs_at}
 use Rattle.dot_writer.specs.inner.DotText.{arcs_from, boxes_from}
 
 drop-more : {X : Type 0} (xs : List X) (n : ℕ) (x : X) → slice_get xs n ≡ Some x → drop n xs ≡ x ∷ drop (suc n) xs

@@ -12,7 +12,7 @@ use Rattle.round_gates.specs.declared.tree.Input.{Input}
 use Rattle.round_gates.specs.Trees.{has_gate, is_gate}
 use Rattle.dot_writer.specs.declared.usages.Usage.{Usage}
 use Rattle.dot_writer.specs.declared.usages.Usage.TheVariants.{Unused, Once, Shared}
-use Rattle.dot_writer.specs.inner.TreePicture.{usage_of, usages_of, users, uses}
+use Rattle.dot_writer.specs.TreePicture.{usage_of, usages_of, users, uses}
 use Rattle.dot_writer.specs.inner.DotText.{noted, used_by}
 
 -- ---- a gate that has an input twice is noted once

@@ -19,9 +19,9 @@ use Rattle.galileo_writer.specs.TreeText.{gate_name, name_at}
 use Rattle.galileo_writer.proofs.Bytes.{cut-first}
 use Rattle.dot_writer.specs.declared.sheet.Sheet.{Sheet}
 use Rattle.dot_writer.specs.declared.sheet.Title.{Title}
-use Rattle.dot_writer.specs.inner.Shown.{shown}
-use Rattle.dot_writer.specs.inner.Picture.{Arc, EventArc, BoxArc, TransferArc, Box, arc_line, arc_lines, box_line, box_look, boxes_text, edge_line, event_form, event_line, event_look, head_text, kind_told, kind_word, leaf, leaf_edge, leaf_head, legend_line, number, rate_told, shape, style_text, symbols_text, transfer_line, transfer_look}
-use Rattle.dot_writer.specs.inner.TreePicture.{arc_of, boxes_of, dot_text, is_below, sheet_of, usage_at}
+use Rattle.dot_writer.specs.Shown.{shown}
+use Rattle.dot_writer.specs.Picture.{Arc, EventArc, BoxArc, TransferArc, Box, arc_line, arc_lines, box_line, box_look, boxes_text, edge_line, event_form, event_line, event_look, head_text, kind_told, kind_word, leaf, leaf_edge, leaf_head, legend_line, number, rate_told, shape, style_text, symbols_text, transfer_line, transfer_look}
+use Rattle.dot_writer.specs.TreePicture.{arc_of, boxes_of, dot_text, is_below, sheet_of, usage_at}
 use Rattle.dot_writer.specs.inner.ReadBack.{IsByte, IsPlainInput, IsPlainGate, IsShortInput, IsTellable, ToldInput, told_gate, told_input, tree_told}
 use Rattle.dot_writer.proofs.Labels.{legend-lacks, look-lacks}
 use Rattle.dot_writer.proofs.Reading.{Lacks, apart, lacks-both, lacks-text, no-digit, quote-no-digit, read-decimal, read-shown, rest-same}

@@ -7,7 +7,7 @@ use Rattle.std.proofs.lemmas.Bool.{false≢true, eq-eqb}
 use Rattle.std.proofs.lemmas.Fmt.{decimal_injective}
 use Rattle.fault_system.proofs.Elements.{In, In-append}
 use Rattle.galileo_writer.proofs.Bytes.{IsDigit, cut-digits, decimal-digits}
-use Rattle.dot_writer.specs.inner.Shown.{is_plain, shown, shown_byte}
+use Rattle.dot_writer.specs.Shown.{is_plain, shown, shown_byte}
 use Rattle.dot_writer.specs.inner.ReadBack.{IsByte}
 
 -- texts that begin with different bytes are not the same

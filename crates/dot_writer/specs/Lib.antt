@@ -1,1 +1,5 @@
+pub mod Picture
+pub mod Shown
+pub mod TreePicture
+pub mod Words
 pub mod inner

@@ -1,6 +1,2 @@
 pub mod DotText
-pub mod Picture
 pub mod ReadBack
-pub mod Shown
-pub mod TreePicture
-pub mod Words

@@ -2,8 +2,8 @@
 
 ghost use Rattle.std.specs.Prelude.{◌≡◌, ◌++◌, OnOk, flat_map, option_copied};
 ghost use Rattle.galileo_writer.specs.TreeText.{gate_name};
-ghost use Rattle.dot_writer.specs.inner.Picture.{box_line, box_look, head_text, kind_told, kind_word, legend_line, style_text, symbol, symbol_row, symbols_text, tooltip, transfer_sign, words_row};
-ghost use Rattle.dot_writer.specs.inner.TreePicture.{box_of, box_words, is_inner, is_shared, of_one_formula, usage_at};
+ghost use Rattle.dot_writer.specs.Picture.{box_line, box_look, head_text, kind_told, kind_word, legend_line, style_text, symbol, symbol_row, symbols_text, tooltip, transfer_sign, words_row};
+ghost use Rattle.dot_writer.specs.TreePicture.{box_of, box_words, is_inner, is_shared, of_one_formula, usage_at};
 
 use crate::gates::gate_at;
 use crate::leaves::{push_decimal, push_number, push_tooltip, usage_at};

@@ -2,7 +2,7 @@
 
 ghost use Rattle.std.specs.Prelude.{◌≡◌, ◌++◌, ◌+◌, ◌<◌, ◌^◌, IfOk, IsTrue, [], false, length};
 ghost use Rattle.std.specs.Option.{option_map_or};
-ghost use Rattle.dot_writer.specs.inner.TreePicture.{dot_text};
+ghost use Rattle.dot_writer.specs.TreePicture.{dot_text};
 ghost use Rattle.dot_writer.specs.inner.DotText.{arcs_from, boxes_from};
 
 use crate::boxes::{push_box, push_head_text};

@@ -2,7 +2,7 @@
 
 ghost use Rattle.std.specs.Prelude.{◌≡◌, ◌+◌, ◌<◌, ◌^◌, IfOk, IfSome, length, option_copied, slice_get};
 ghost use Rattle.galileo_writer.specs.TreeText.{name_at};
-ghost use Rattle.dot_writer.specs.inner.TreePicture.{inputs_at};
+ghost use Rattle.dot_writer.specs.TreePicture.{inputs_at};
 
 use fault_system::FaultSystem;
 use galileo_writer::gate_name;

@@ -5,7 +5,7 @@ ghost use Rattle.fault_system.specs.Systems.{System};
 ghost use Rattle.property_reader.specs.declared.rate.Rate.{Rate};
 ghost use Rattle.round_gates.specs.declared.tree.Tree.{Tree};
 ghost use Rattle.dot_writer.specs.declared.sheet.Title.{Title};
-ghost use Rattle.dot_writer.specs.inner.TreePicture.{dot_text};
+ghost use Rattle.dot_writer.specs.TreePicture.{dot_text};
 ghost use Rattle.dot_writer.specs.inner.ReadBack.{IsTellable, tree_told};
 
 /// A text tells of one tree at most: trees with the same text have the same gates in the same order, with their names, their kinds

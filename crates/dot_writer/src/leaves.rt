@@ -3,9 +3,9 @@
 ghost use Rattle.std.specs.Prelude.{◌≡◌, ◌+◌, ◌++◌, OnOk, [], decimal, unwrap_or};
 ghost use Rattle.fault_system.specs.Systems.{event_name};
 ghost use Rattle.galileo_writer.specs.TreeText.{name_at, rate_of};
-ghost use Rattle.dot_writer.specs.inner.Picture.{arc_line, edge_line, event_form, event_line, event_look, is_mark, leaf, leaf_edge, leaf_head, number, rate_sign, rate_told, rate_words, shape, tooltip, transfer_line, transfer_look};
-ghost use Rattle.dot_writer.specs.inner.TreePicture.{arc_of, is_below, usage_at};
-ghost use Rattle.dot_writer.specs.inner.Words.{behind};
+ghost use Rattle.dot_writer.specs.Picture.{arc_line, edge_line, event_form, event_line, event_look, is_mark, leaf, leaf_edge, leaf_head, number, rate_sign, rate_told, rate_words, shape, tooltip, transfer_line, transfer_look};
+ghost use Rattle.dot_writer.specs.TreePicture.{arc_of, is_below, usage_at};
+ghost use Rattle.dot_writer.specs.Words.{behind};
 
 use crate::gates::name_at;
 use crate::sheet::Sheet;
@@ -273,7 +273,7 @@ fn push_rate_words(line: &mut Vec<u8>, kind: RateKind, text: &[u8]) -> Mem<()>
 }
 
 /// Whether a rate is only the mark of an event that has none: the probability 1.
-fn is_mark(kind: RateKind, text: &[u8]) -> bool
+pub fn is_mark(kind: RateKind, text: &[u8]) -> bool
     ensures { result ≡ is_mark kind text.now }
 {
     match kind {

@@ -13,4 +13,5 @@ mod words;
 
 pub use dot_lines::DotLines;
 pub use laws::one_tree;
+pub use leaves::is_mark;
 pub use sheet::Title;

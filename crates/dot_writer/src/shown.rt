@@ -2,7 +2,7 @@
 
 ghost use Rattle.std.specs.Prelude.{◌≡◌, ◌<◌, ◌++◌, OnOk, false};
 ghost use Rattle.std.specs.Fmt.{digit_glyph};
-ghost use Rattle.dot_writer.specs.inner.Shown.{is_plain, is_sign, shown, shown_byte};
+ghost use Rattle.dot_writer.specs.Shown.{is_plain, is_sign, shown, shown_byte};
 
 use plain_values::Mem;
 

@@ -3,7 +3,7 @@
 ghost use Rattle.std.specs.Prelude.{◌≡◌, ◌==◌, ◌<◌, ℕ, IfOk, length, replicate, slice_index_or};
 ghost use Rattle.round_gates.specs.Trees.{has_gate, is_gate};
 ghost use Rattle.dot_writer.specs.declared.usages.Usage.TheVariants.{Unused};
-ghost use Rattle.dot_writer.specs.inner.TreePicture.{usages_of};
+ghost use Rattle.dot_writer.specs.TreePicture.{usages_of};
 ghost use Rattle.dot_writer.specs.inner.DotText.{noted, used_by};
 
 use crate::gates::inputs_at;

@@ -1,7 +1,7 @@
 //! The words of a box.
 
 ghost use Rattle.std.specs.Prelude.{◌≡◌, ◌<◌, ◌++◌, IfSome, OnOk, length, option_copied};
-ghost use Rattle.dot_writer.specs.inner.Words.{behind, happening, part_name, place_of, spoken, typed_words, until, verb_of, words_of};
+ghost use Rattle.dot_writer.specs.Words.{behind, happening, part_name, place_of, spoken, typed_words, until, verb_of, words_of};
 
 use crate::shown::push_shown;
 use plain_values::{Mem, is_same};

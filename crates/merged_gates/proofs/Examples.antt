@@ -9,7 +9,7 @@ use Rattle.round_gates.specs.declared.tree.Input.TheVariants as inputs
 use Rattle.round_gates.specs.declared.tree.Tree.{Tree}
 use Rattle.round_gates.specs.Trees.{has_gate}
 use Rattle.round_gates.proofs.Basics.{some_inner}
-use Rattle.merged_gates.specs.inner.Merged.{IsSettled, MayHaveOne, joins}
+use Rattle.merged_gates.specs.Merged.{IsSettled, MayHaveOne, joins}
 use Rattle.merged_gates.specs.inner.Solutions.{once_from}
 use Rattle.merged_gates.specs.inner.Tests.{rises_from}
 

@@ -14,7 +14,7 @@ use Rattle.round_gates.specs.Trees.{InputsOnce}
 use Rattle.round_gates.specs.Truths.{kind_true}
 use Rattle.round_gates.specs.inner.Trees.{input_true}
 use Rattle.round_gates.proofs.Basics.{all-map}
-use Rattle.merged_gates.specs.inner.Merged.{InputsRise, comes_before, same_input}
+use Rattle.merged_gates.specs.Merged.{InputsRise, comes_before, same_input}
 use Rattle.merged_gates.specs.inner.Solutions.{AreStands, HasSameInputs, IsJoin, once_from, stand_of}
 use Rattle.merged_gates.specs.inner.Tests.{rises_from}
 

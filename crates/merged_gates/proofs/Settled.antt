@@ -14,7 +14,7 @@ use Rattle.round_gates.specs.declared.tree.Tree.{Tree}
 use Rattle.round_gates.specs.Trees.{LeadsTo, NamesRise, has_gate, key_cmp, key_of}
 use Rattle.round_gates.specs.inner.Targets.{IsWellMade, IsWellMadeGate}
 use Rattle.round_gates.proofs.Basics.{some_inner}
-use Rattle.merged_gates.specs.inner.Merged.{HasOtherParent, IsSettled, joins}
+use Rattle.merged_gates.specs.Merged.{HasOtherParent, IsSettled, joins}
 use Rattle.merged_gates.specs.inner.Tests.{AllLater, IsMerging, RisesAt, StaysApart, input_text, kind_text, number_at, shape_text}
 use Rattle.merged_gates.proofs.Solutions.{gate-within, later-at}
 

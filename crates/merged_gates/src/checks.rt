@@ -9,7 +9,7 @@ ghost use Rattle.round_gates.specs.declared.tree.Input.{Input as AnInput};
 ghost use Rattle.std.specs.declared.cmp.Ordering.TheVariants.{Less};
 ghost use Rattle.round_gates.specs.Trees.{key_cmp, key_of};
 ghost use Rattle.round_gates.specs.inner.Targets.{IsWellMadeGate, IsWithin, MayHave};
-ghost use Rattle.merged_gates.specs.inner.Merged.{HasKindOf, InputsRise, IsReached, MayHaveOne, joins};
+ghost use Rattle.merged_gates.specs.Merged.{HasKindOf, InputsRise, IsReached, MayHaveOne, joins};
 ghost use Rattle.merged_gates.specs.inner.Tests.{AreParentsOf, AreRight, HasSource, IsCopy, IsRight, IsTested, RisesAt, StaysApart, is_an_event, moved, number_at};
 
 use crate::gates::{joins, same_kind};

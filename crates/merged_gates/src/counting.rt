@@ -7,7 +7,7 @@ ghost use Rattle.round_gates.specs.Truths.{kind_true};
 ghost use Rattle.round_gates.specs.declared.node.GateKind.TheVariants.{AtLeast};
 ghost use Rattle.round_gates.specs.inner.Trees.{input_true};
 ghost use Rattle.round_gates.specs.declared.tree.Input.TheVariants as inputs;
-ghost use Rattle.merged_gates.specs.inner.Merged.{same_input};
+ghost use Rattle.merged_gates.specs.Merged.{same_input};
 ghost use Rattle.merged_gates.specs.inner.Solutions.{IsSolution, Keeps, Solves, stand_of};
 
 use crate::gates::{put, stand_of, stands_for};

@@ -6,7 +6,7 @@ ghost use Rattle.round_gates.specs.Truths.{kind_true};
 ghost use Rattle.round_gates.specs.inner.Trees.{gate_true, input_true};
 ghost use Rattle.round_gates.specs.declared.tree.Input.{Input as AnInput};
 ghost use Rattle.round_gates.specs.declared.tree.Input.TheVariants as inputs;
-ghost use Rattle.merged_gates.specs.inner.Merged.{counts, joins};
+ghost use Rattle.merged_gates.specs.Merged.{counts, joins};
 ghost use Rattle.merged_gates.specs.inner.Solutions.{IsSolution, stand_of};
 
 use crate::inputs::same_inputs;

@@ -2,7 +2,7 @@
 
 ghost use Rattle.std.specs.Prelude.{◌≡◌, ◌∷◌, [], IfOk, IsTrue, None};
 ghost use Rattle.std.specs.List.Sorted.{IsPermutation};
-ghost use Rattle.merged_gates.specs.inner.Merged.{comes_before, same_input};
+ghost use Rattle.merged_gates.specs.Merged.{comes_before, same_input};
 ghost use Rattle.merged_gates.specs.inner.Solutions.{HasSameInputs, is_same, once_from};
 ghost use Rattle.merged_gates.specs.inner.Tests.{rises_from};
 

@@ -4,7 +4,8 @@ ghost use Rattle.std.specs.Prelude.{◌≡◌, ◌<◌, ◌^◌, ◌↔◌, ℕ,
 ghost use Rattle.fault_system.specs.Truth.{NumberSet};
 ghost use Rattle.round_gates.specs.inner.Targets.{IsWellMade};
 ghost use Rattle.round_gates.specs.inner.Trees.{TreeHolds};
-ghost use Rattle.merged_gates.specs.inner.Merged.{AllStay, IsReached, IsSettled};
+ghost use Rattle.merged_gates.specs.inner.Merged.{AllStay};
+ghost use Rattle.merged_gates.specs.Merged.{IsReached, IsSettled};
 ghost use Rattle.merged_gates.specs.inner.Solutions.{AreStands, IsSolution, KeepsGates, KeepsTop, Solves};
 ghost use Rattle.merged_gates.specs.inner.Tests.{IsMerging, IsRanked};
 

@@ -4,7 +4,7 @@ ghost use Rattle.std.specs.Prelude.{◌≡◌, ◌<◌, ◌^◌, ◌∷◌, ◌|
 ghost use Rattle.fault_system.specs.Truth.{member};
 ghost use Rattle.round_gates.specs.Trees.{has_gate, is_gate};
 ghost use Rattle.round_gates.specs.declared.tree.Input.{Input as AnInput};
-ghost use Rattle.merged_gates.specs.inner.Merged.{has_input};
+ghost use Rattle.merged_gates.specs.Merged.{has_input};
 ghost use Rattle.merged_gates.specs.inner.Tests.{AreCounted, AreParents, AreReachedFrom, CountsBoth, IsParent};
 
 use crate::gates::counts;

@@ -2,8 +2,8 @@
 use Rattle.std.proofs.Common.{ℕ, ◌≡◌, List, [], ◌∷◌, ◌++◌, codes, decimal, ap, ◌∙◌, sym, refl}
 use Rattle.std.specs.List.{flat_map}
 use Rattle.std.proofs.lemmas.List.{append_assoc, append-nil}
-use Rattle.open_psa_writer.specs.inner.Mef.{Number, Digit, number_text}
-use Rattle.open_psa_writer.specs.inner.Numbers.{digit_of, digits_behind}
+use Rattle.open_psa_writer.specs.Mef.{Number, Digit, number_text}
+use Rattle.open_psa_writer.specs.Numbers.{digit_of, digits_behind}
 use Rattle.open_psa_writer.specs.inner.Based.{digit_text, opened}
 
 opened-more : (digits t : List ℕ) → opened digits ++ (codes "<add>\n<mul>\n" ++ t) ≡ codes "<add>\n<mul>\n" ++ (opened digits ++ t)

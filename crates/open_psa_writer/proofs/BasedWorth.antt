@@ -5,8 +5,8 @@ use Rattle.std.specs.Str.Parse.{digits_value}
 use Rattle.std.proofs.lemmas.Bool.{false≢true, leb-true}
 use Rattle.std.proofs.lemmas.Fmt.{decimal_is_IsNumeral}
 use Rattle.aadl_syntax.specs.Form.{is_digit, is_hexadecimal}
-use Rattle.open_psa_writer.specs.inner.Mef.{Number, Digit}
-use Rattle.open_psa_writer.specs.inner.Numbers.{digit_of, digits_behind}
+use Rattle.open_psa_writer.specs.Mef.{Number, Digit}
+use Rattle.open_psa_writer.specs.Numbers.{digit_of, digits_behind}
 use Rattle.open_psa_writer.specs.inner.Worth.{number_worth, worth_behind}
 
 within : (a b : Bool) (n most : ℕ) → (b ≡ true → n ≤ most) → a && b ≡ true → n ≤ most

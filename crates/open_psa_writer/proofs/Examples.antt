@@ -13,9 +13,9 @@ use Rattle.round_gates.specs.declared.tree.Gate.{Gate}
 use Rattle.round_gates.specs.declared.tree.Input.{Input}
 use Rattle.round_gates.specs.declared.tree.Input.TheVariants as inputs
 use Rattle.round_gates.specs.declared.tree.Tree.{Tree}
-use Rattle.open_psa_writer.specs.inner.Mef.{Figures, Digit, byte_text}
-use Rattle.open_psa_writer.specs.inner.Numbers.{number_of}
-use Rattle.open_psa_writer.specs.inner.TreeMef.{mef_text}
+use Rattle.open_psa_writer.specs.Mef.{Figures, Digit, byte_text}
+use Rattle.open_psa_writer.specs.Numbers.{number_of}
+use Rattle.open_psa_writer.specs.TreeMef.{mef_text}
 
 -- ---- numbers
 

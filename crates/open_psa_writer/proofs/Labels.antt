@@ -6,7 +6,7 @@ use Rattle.std.specs.List.{AllByRecursion, flat_map}
 use Rattle.std.proofs.lemmas.List.{append_assoc, append_cancel_left}
 use Rattle.fault_system.proofs.Elements.{In, In-append}
 use Rattle.galileo_writer.proofs.Bytes.{cut-first}
-use Rattle.open_psa_writer.specs.inner.Mef.{byte_text, hex_text, label_text}
+use Rattle.open_psa_writer.specs.Mef.{byte_text, hex_text, label_text}
 
 -- ---- the six forms of a byte
 

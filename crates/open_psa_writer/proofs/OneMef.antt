@@ -12,7 +12,7 @@ use Rattle.round_gates.specs.declared.node.GateKind.TheVariants.{And, Or, AtLeas
 use Rattle.round_gates.specs.declared.tree.Input.{Input}
 use Rattle.round_gates.specs.declared.tree.Input.TheVariants as inputs
 use Rattle.galileo_writer.proofs.Bytes.{cut-first, decimal-lacks}
-use Rattle.open_psa_writer.specs.inner.Mef.{Number, Figures, Digit, MefGate, MefEvent, Mef, IsMefOf, IsPlainEvent, IsPlainGate, IsPlainInput, IsPlainKind, IsPlainNumber, IsWord, close_text, end_text, event_text, figures_text, formula_text, gate_text, head_text, input_text, label_text, middle_text, number_text, open_text, rate_text}
+use Rattle.open_psa_writer.specs.Mef.{Number, Figures, Digit, MefGate, MefEvent, Mef, IsMefOf, IsPlainEvent, IsPlainGate, IsPlainInput, IsPlainKind, IsPlainNumber, IsWord, close_text, end_text, event_text, figures_text, formula_text, gate_text, head_text, input_text, label_text, middle_text, number_text, open_text, rate_text}
 use Rattle.open_psa_writer.proofs.Labels.{read-label}
 
 -- ---- what is read of two texts that go on alike: the same, and the same behind it

@@ -8,8 +8,8 @@ use Rattle.property_reader.specs.declared.rate.Rate.{Rate}
 use Rattle.round_gates.specs.declared.tree.Gate.{Gate}
 use Rattle.round_gates.specs.declared.tree.Tree.{Tree}
 use Rattle.galileo_writer.proofs.Names.{item-there}
-use Rattle.open_psa_writer.specs.inner.Mef.{MefGate}
-use Rattle.open_psa_writer.specs.inner.TreeMef.{gate_number, gates_from, mef_gate, no_gate, tree_mef}
+use Rattle.open_psa_writer.specs.Mef.{MefGate}
+use Rattle.open_psa_writer.specs.TreeMef.{gate_number, gates_from, mef_gate, no_gate, tree_mef}
 
 -- ---- numbers of gates
 

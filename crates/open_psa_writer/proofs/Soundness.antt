@@ -12,9 +12,10 @@ use Rattle.round_gates.specs.declared.tree.Tree.{Tree}
 use Rattle.round_gates.specs.Trees.{is_event}
 use Rattle.round_gates.specs.inner.Targets.{IsWithin}
 use Rattle.galileo_writer.proofs.Names.{item-there}
-use Rattle.open_psa_writer.specs.inner.Mef.{Mef, MefEvent, MefGate}
-use Rattle.open_psa_writer.specs.inner.Sound.{IsDefined, IsSoundMef, gates_of}
-use Rattle.open_psa_writer.specs.inner.TreeMef.{gate_number, gates_from, mef_event, mef_gate, numbered, tree_mef, HasInputEvents, IsMefGate, IsMefTree}
+use Rattle.open_psa_writer.specs.Mef.{Mef, MefEvent, MefGate}
+use Rattle.open_psa_writer.specs.Sound.{IsDefined, IsSoundMef, gates_of}
+use Rattle.open_psa_writer.specs.inner.TreeMef.{HasInputEvents, IsMefGate, IsMefTree}
+use Rattle.open_psa_writer.specs.TreeMef.{gate_number, gates_from, mef_event, mef_gate, numbered, tree_mef}
 use Rattle.open_psa_writer.proofs.Positions.{all-gates, each-gate, one-position}
 use Rattle.open_psa_writer.proofs.Truth.{all-at, or-right, or-true}
 use Rattle.std.proofs.lemmas.Bool.{eqb-false, eq-eqb}

@@ -7,8 +7,9 @@ use Rattle.fault_system.specs.Systems.{System}
 use Rattle.property_reader.specs.declared.rate.Rate.{Rate}
 use Rattle.round_gates.specs.declared.tree.Gate.{Gate}
 use Rattle.round_gates.specs.declared.tree.Tree.{Tree}
-use Rattle.open_psa_writer.specs.inner.Mef.{event_text, gate_text}
-use Rattle.open_psa_writer.specs.inner.TreeMef.{gates_from, mef_event, mef_gate, events_text, others_text, past_top}
+use Rattle.open_psa_writer.specs.Mef.{event_text, gate_text}
+use Rattle.open_psa_writer.specs.inner.TreeMef.{events_text, others_text, past_top}
+use Rattle.open_psa_writer.specs.TreeMef.{gates_from, mef_event, mef_gate}
 
 -- what stands from a position on
 drop-more : {X : Type 0} (xs : List X) (at : ℕ) (x : X) → slice_get xs at ≡ Some x → drop at xs ≡ x ∷ drop (suc at) xs

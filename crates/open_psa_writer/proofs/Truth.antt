@@ -18,9 +18,10 @@ use Rattle.round_gates.specs.inner.Trees.{TreeHolds, gate_true, input_true}
 use Rattle.galileo_writer.specs.Truth.{NameSet}
 use Rattle.galileo_writer.specs.TreeText.{names_of}
 use Rattle.galileo_writer.proofs.Names.{has-own, named-at}
-use Rattle.open_psa_writer.specs.inner.Mef.{MefGate}
-use Rattle.open_psa_writer.specs.inner.Truth.{Tells, given_events, is_true, mef_gate_true}
-use Rattle.open_psa_writer.specs.inner.TreeMef.{gate_number, mef_event, mef_gate, numbered, tree_mef, HasInputEvents, IsMefGate, IsMefTree}
+use Rattle.open_psa_writer.specs.Mef.{MefGate}
+use Rattle.open_psa_writer.specs.Truth.{Tells, given_events, is_true, mef_gate_true}
+use Rattle.open_psa_writer.specs.inner.TreeMef.{HasInputEvents, IsMefGate, IsMefTree}
+use Rattle.open_psa_writer.specs.TreeMef.{gate_number, mef_event, mef_gate, numbered, tree_mef}
 use Rattle.open_psa_writer.proofs.Positions.{all-gates, each-gate, position-back, position_of}
 
 pub all-at : {X : Type 0} (P : X → Type 0) (xs : List X) → AllByRecursion P xs → (n : ℕ) (x : X) → slice_get xs n ≡ Some x → P x

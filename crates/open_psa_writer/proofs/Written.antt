@@ -23,10 +23,11 @@ use Rattle.round_gates.proofs.TreeTruth.{tree-truth}
 use Rattle.galileo_writer.specs.TreeText.{names_of}
 use Rattle.galileo_writer.specs.inner.TreeText.{AreRates}
 use Rattle.galileo_writer.proofs.Bytes.{decimal-lacks}
-use Rattle.open_psa_writer.specs.inner.Mef.{Figures, Digit, IsMefOf, IsPlainEvent, IsPlainGate, IsPlainInput, IsPlainKind, IsPlainNumber, Mef, Number}
-use Rattle.open_psa_writer.specs.inner.Numbers.{base_len, digit_of, digits_behind, number_of, plain}
-use Rattle.open_psa_writer.specs.inner.Truth.{MefTrue, Tells}
-use Rattle.open_psa_writer.specs.inner.TreeMef.{mef_event, mef_text, numbered, tree_mef, IsMefGate, IsMefTree}
+use Rattle.open_psa_writer.specs.Mef.{Figures, Digit, IsMefOf, IsPlainEvent, IsPlainGate, IsPlainInput, IsPlainKind, IsPlainNumber, Mef, Number}
+use Rattle.open_psa_writer.specs.Numbers.{base_len, digit_of, digits_behind, number_of, plain}
+use Rattle.open_psa_writer.specs.Truth.{MefTrue, Tells}
+use Rattle.open_psa_writer.specs.inner.TreeMef.{IsMefGate, IsMefTree}
+use Rattle.open_psa_writer.specs.TreeMef.{mef_event, mef_text, numbered, tree_mef}
 use Rattle.open_psa_writer.proofs.Positions.{all-gates, number-most}
 use Rattle.open_psa_writer.proofs.OneMef.{one-mef}
 use Rattle.open_psa_writer.proofs.Truth.{all-at, mef-from-tree, tree-from-mef}

@@ -1,7 +1,3 @@
 pub mod Based
-pub mod Mef
-pub mod Numbers
-pub mod Sound
 pub mod TreeMef
-pub mod Truth
 pub mod Worth

@@ -2,10 +2,10 @@
 
 ghost use Rattle.std.specs.Prelude.{◌≡◌, ◌++◌, OnOk, codes, decimal, map};
 ghost use Rattle.std.specs.List.{flat_map};
-ghost use Rattle.open_psa_writer.specs.inner.Mef.{close_text, formula_text, gate_text, input_text, label_text, open_text};
+ghost use Rattle.open_psa_writer.specs.Mef.{close_text, formula_text, gate_text, input_text, label_text, open_text};
 ghost use Rattle.round_gates.specs.declared.node.GateKind.TheVariants.{AtLeast};
 ghost use Rattle.galileo_writer.specs.TreeText.{gate_name};
-ghost use Rattle.open_psa_writer.specs.inner.TreeMef.{gate_number, mef_gate, numbered};
+ghost use Rattle.open_psa_writer.specs.TreeMef.{gate_number, mef_gate, numbered};
 
 use crate::names::{push_label, push_number};
 use fault_system::FaultSystem;

@@ -11,11 +11,12 @@ ghost use Rattle.round_gates.specs.Targets.{IsTreeFor};
 ghost use Rattle.round_gates.specs.inner.Targets.{IsWellMade};
 ghost use Rattle.galileo_writer.specs.TreeText.{names_of};
 ghost use Rattle.galileo_writer.specs.inner.TreeText.{AreRates};
-ghost use Rattle.open_psa_writer.specs.inner.Mef.{Figures, Mef, IsMefOf};
-ghost use Rattle.open_psa_writer.specs.inner.Numbers.{digits_behind};
+ghost use Rattle.open_psa_writer.specs.Mef.{Figures, Mef, IsMefOf};
+ghost use Rattle.open_psa_writer.specs.Numbers.{digits_behind};
 ghost use Rattle.open_psa_writer.specs.inner.Worth.{number_worth, worth_behind};
-ghost use Rattle.open_psa_writer.specs.inner.Truth.{MefTrue};
-ghost use Rattle.open_psa_writer.specs.inner.TreeMef.{mef_text, tree_mef, IsMefTree};
+ghost use Rattle.open_psa_writer.specs.Truth.{MefTrue};
+ghost use Rattle.open_psa_writer.specs.inner.TreeMef.{IsMefTree};
+ghost use Rattle.open_psa_writer.specs.TreeMef.{mef_text, tree_mef};
 
 /// Bytes are one text at most.
 pub fn one_mef()

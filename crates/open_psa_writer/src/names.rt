@@ -3,7 +3,7 @@
 ghost use Rattle.std.specs.Prelude.{◌≡◌, ◌++◌, ◌<◌, OnOk, decimal, false};
 ghost use Rattle.std.specs.Fmt.{digit_glyph};
 ghost use Rattle.std.specs.List.{flat_map};
-ghost use Rattle.open_psa_writer.specs.inner.Mef.{byte_text, hex_text, label_text};
+ghost use Rattle.open_psa_writer.specs.Mef.{byte_text, hex_text, label_text};
 
 use itoa::Buffer;
 use plain_values::Mem;

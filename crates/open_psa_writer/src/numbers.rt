@@ -6,9 +6,9 @@ ghost use Rattle.aadl_syntax.specs.Form.{is_hexadecimal};
 ghost use Rattle.fault_system.specs.Systems.{event_name};
 ghost use Rattle.property_reader.specs.declared.rate.RateKind.TheVariants.{Lambda};
 ghost use Rattle.galileo_writer.specs.TreeText.{rate_of};
-ghost use Rattle.open_psa_writer.specs.inner.Mef.{Figures, event_text, figures_text, label_text, number_text, rate_text};
-ghost use Rattle.open_psa_writer.specs.inner.Numbers.{base_len, digit_of, digits_behind, number_of, plain};
-ghost use Rattle.open_psa_writer.specs.inner.TreeMef.{mef_event};
+ghost use Rattle.open_psa_writer.specs.Mef.{Figures, event_text, figures_text, label_text, number_text, rate_text};
+ghost use Rattle.open_psa_writer.specs.Numbers.{base_len, digit_of, digits_behind, number_of, plain};
+ghost use Rattle.open_psa_writer.specs.TreeMef.{mef_event};
 ghost use Rattle.open_psa_writer.specs.inner.Based.{digit_text, digits_in, opened};
 
 use crate::gates::push_element;

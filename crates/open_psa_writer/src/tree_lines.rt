@@ -8,9 +8,10 @@ ghost use Rattle.round_gates.specs.Targets.{IsTreeFor};
 ghost use Rattle.round_gates.specs.inner.Trees.{TreeHolds};
 ghost use Rattle.galileo_writer.specs.TreeText.{names_of};
 ghost use Rattle.galileo_writer.specs.inner.TreeText.{AreRates};
-ghost use Rattle.open_psa_writer.specs.inner.Sound.{IsSoundMef};
-ghost use Rattle.open_psa_writer.specs.inner.Truth.{MefTrue};
-ghost use Rattle.open_psa_writer.specs.inner.TreeMef.{mef_text, tree_mef, IsMefTree, past_top, text_left};
+ghost use Rattle.open_psa_writer.specs.Sound.{IsSoundMef};
+ghost use Rattle.open_psa_writer.specs.Truth.{MefTrue};
+ghost use Rattle.open_psa_writer.specs.inner.TreeMef.{IsMefTree, past_top, text_left};
+ghost use Rattle.open_psa_writer.specs.TreeMef.{mef_text, tree_mef};
 ghost use Rattle.open_psa_writer.specs.declared.tree_lines.Place.TheVariants.{Start, Gates, Events};
 
 use crate::gates::push_gate;

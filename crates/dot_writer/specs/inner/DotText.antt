@@ -4,8 +4,8 @@ use Rattle.std.specs.Option.{option_map_or}
 use Rattle.dot_writer.specs.declared.sheet.Sheet.{Sheet}
 use Rattle.dot_writer.specs.declared.usages.Usage.{Usage}
 use Rattle.dot_writer.specs.declared.usages.Usage.TheVariants.{Unused, Once, Shared}
-use Rattle.dot_writer.specs.inner.Picture.{arc_lines, boxes_text, head_text}
-use Rattle.dot_writer.specs.inner.TreePicture.{arc_of, boxes_of, inputs_at}
+use Rattle.dot_writer.specs.Picture.{arc_lines, boxes_text, head_text}
+use Rattle.dot_writer.specs.TreePicture.{arc_of, boxes_of, inputs_at}
 
 -- the lines of what is below the gate at a position, from a place on
 abbrev pub arcs_from : Sheet → ℕ → ℕ → List ℕ

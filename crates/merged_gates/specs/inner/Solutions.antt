@@ -8,7 +8,7 @@ use Rattle.round_gates.specs.declared.tree.Gate.{Gate}
 use Rattle.round_gates.specs.declared.tree.Input.{Input}
 use Rattle.round_gates.specs.declared.tree.Input.TheVariants as inputs
 use Rattle.round_gates.specs.inner.Trees.{gate_true, input_true}
-use Rattle.merged_gates.specs.inner.Merged.{same_input}
+use Rattle.merged_gates.specs.Merged.{same_input}
 
 -- a set of positions has a gate exactly where the gate is true under the events and the set
 abbrev pub IsSolution : NumberSet → NumberSet → List Gate → Type 0

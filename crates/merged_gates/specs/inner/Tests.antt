@@ -13,7 +13,7 @@ use Rattle.round_gates.specs.declared.tree.Input.TheVariants as inputs
 use Rattle.round_gates.specs.declared.tree.Tree.{Tree}
 use Rattle.round_gates.specs.Trees.{events_in, key_cmp, key_of, LeadsTo}
 use Rattle.round_gates.specs.inner.Targets.{IsWellMadeGate}
-use Rattle.merged_gates.specs.inner.Merged.{HasInput, HasKindOf, HasOtherParent, InputsRise, IsCountedTwice, IsReached, MayHaveOne, comes_before, has_input, joins}
+use Rattle.merged_gates.specs.Merged.{HasInput, HasKindOf, HasOtherParent, InputsRise, IsCountedTwice, IsReached, MayHaveOne, comes_before, has_input, joins}
 
 -- the number at a place of a list, and 0 behind its end
 abbrev pub number_at : List ℕ → ℕ → ℕ

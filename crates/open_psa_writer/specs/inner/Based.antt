@@ -2,8 +2,8 @@
 use Rattle.std.specs.Prelude.{ℕ, List, ◌++◌, codes, decimal, filter}
 use Rattle.std.specs.List.{flat_map}
 use Rattle.aadl_syntax.specs.Form.{is_hexadecimal}
-use Rattle.open_psa_writer.specs.inner.Mef.{figures_text}
-use Rattle.open_psa_writer.specs.inner.Numbers.{digit_of}
+use Rattle.open_psa_writer.specs.Mef.{figures_text}
+use Rattle.open_psa_writer.specs.Numbers.{digit_of}
 
 -- the bytes that are hexadecimal digits
 abbrev pub digits_in : List ℕ → List ℕ

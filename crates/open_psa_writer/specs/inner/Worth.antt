@@ -1,8 +1,8 @@
 -- What numbers to a base are worth.
 use Rattle.std.specs.Prelude.{ℕ, ◌+◌, ◌*◌, List, [], ◌∷◌}
 use Rattle.std.specs.Str.Parse.{digits_value}
-use Rattle.open_psa_writer.specs.inner.Mef.{Number, Figures, Digit}
-use Rattle.open_psa_writer.specs.inner.Numbers.{digit_of}
+use Rattle.open_psa_writer.specs.Mef.{Number, Figures, Digit}
+use Rattle.open_psa_writer.specs.Numbers.{digit_of}
 
 -- what a number of a text is worth, whose figures are decimal digits
 abbrev pub number_worth : Number → ℕ

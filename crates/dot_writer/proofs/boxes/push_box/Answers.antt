@@ -1,7 +1,7 @@
 use Rattle.std.proofs.Common.{codes, ◌++◌}
 use Rattle.galileo_writer.specs.TreeText.{gate_name}
-use Rattle.dot_writer.specs.inner.Picture.{box_look, kind_told, number, tooltip}
-use Rattle.dot_writer.specs.inner.TreePicture.{box_of}
+use Rattle.dot_writer.specs.Picture.{box_look, kind_told, number, tooltip}
+use Rattle.dot_writer.specs.TreePicture.{box_of}
 use Rattle.dot_writer.proofs.Joined.{joined-four, joined-three}
 use Rattle.dot_writer.proofs.boxes.push_box.Goals as goal
 

@@ -1,6 +1,6 @@
 use Rattle.std.proofs.Common.{codes}
-use Rattle.dot_writer.specs.inner.Picture.{symbol_row, words_row}
-use Rattle.dot_writer.specs.inner.TreePicture.{box_of, box_words}
+use Rattle.dot_writer.specs.Picture.{symbol_row, words_row}
+use Rattle.dot_writer.specs.TreePicture.{box_of, box_words}
 use Rattle.dot_writer.proofs.Joined.{joined-four}
 use Rattle.dot_writer.proofs.boxes.push_box_look.Goals as goal
 

@@ -1,5 +1,5 @@
 use Rattle.std.proofs.Common.{codes, flat_map, ◌++◌, ap, ◌∙◌}
-use Rattle.dot_writer.specs.inner.Picture.{legend_line, style_text, symbols_text}
+use Rattle.dot_writer.specs.Picture.{legend_line, style_text, symbols_text}
 use Rattle.dot_writer.proofs.Joined.{joined-four}
 use Rattle.dot_writer.proofs.boxes.push_head_text.Goals as goal
 

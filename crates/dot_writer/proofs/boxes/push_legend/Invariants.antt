@@ -1,5 +1,5 @@
 use Rattle.std.proofs.Common.{◌≡◌, ◌++◌, flat_map, take}
-use Rattle.dot_writer.specs.inner.Picture.{legend_line}
+use Rattle.dot_writer.specs.Picture.{legend_line}
 use Rattle.dot_writer.proofs.boxes.push_legend.Given as goal
 
 abbrev pub invariant-loop-told : goal.invariant-loop-told

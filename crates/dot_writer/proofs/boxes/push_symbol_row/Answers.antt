@@ -1,6 +1,6 @@
 use Rattle.std.proofs.Common.{codes}
-use Rattle.dot_writer.specs.inner.Picture.{symbol, transfer_sign}
-use Rattle.dot_writer.specs.inner.TreePicture.{is_shared, usage_at}
+use Rattle.dot_writer.specs.Picture.{symbol, transfer_sign}
+use Rattle.dot_writer.specs.TreePicture.{is_shared, usage_at}
 use Rattle.dot_writer.proofs.Joined.{joined-four}
 use Rattle.dot_writer.proofs.boxes.push_symbol_row.Goals as goal
 

@@ -1,5 +1,5 @@
 use Rattle.galileo_writer.specs.TreeText.{rate_of}
-use Rattle.dot_writer.specs.inner.Picture.{event_form, event_look, leaf_edge, leaf_head}
+use Rattle.dot_writer.specs.Picture.{event_form, event_look, leaf_edge, leaf_head}
 use Rattle.dot_writer.proofs.Joined.{joined-four}
 use Rattle.dot_writer.proofs.leaves.push_event_line.Goals as goal
 

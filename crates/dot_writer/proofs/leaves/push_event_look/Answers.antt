@@ -1,7 +1,7 @@
 use Rattle.std.proofs.Common.{codes, ◌++◌}
 use Rattle.galileo_writer.specs.TreeText.{rate_of}
-use Rattle.dot_writer.specs.inner.Words.{words_of}
-use Rattle.dot_writer.specs.inner.Picture.{rate_words}
+use Rattle.dot_writer.specs.Words.{words_of}
+use Rattle.dot_writer.specs.Picture.{rate_words}
 use Rattle.dot_writer.proofs.Joined.{joined, joined-four}
 use Rattle.dot_writer.proofs.leaves.push_event_look.Goals as goal
 

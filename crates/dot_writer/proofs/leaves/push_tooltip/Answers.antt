@@ -1,5 +1,5 @@
 use Rattle.std.proofs.Common.{codes}
-use Rattle.dot_writer.specs.inner.Shown.{shown}
+use Rattle.dot_writer.specs.Shown.{shown}
 use Rattle.dot_writer.proofs.Joined.{joined-three}
 use Rattle.dot_writer.proofs.leaves.push_tooltip.Goals as goal
 

@@ -1,5 +1,5 @@
 use Rattle.std.proofs.Common.{◌≡◌, ◌++◌, take}
-use Rattle.dot_writer.specs.inner.Shown.{shown}
+use Rattle.dot_writer.specs.Shown.{shown}
 use Rattle.dot_writer.proofs.shown.push_shown.Given as goal
 
 abbrev pub invariant-loop-byte : goal.invariant-loop-byte

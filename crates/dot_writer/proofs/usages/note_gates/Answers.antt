@@ -1,7 +1,7 @@
 use Rattle.std.proofs.Common.{length, slice_index_or, ap, ◌∙◌, ◌≡◌, arith}
 use Rattle.round_gates.specs.Trees.{has_gate}
 use Rattle.dot_writer.specs.declared.usages.Usage.TheVariants.{Unused}
-use Rattle.dot_writer.specs.inner.TreePicture.{usage_of, users, uses}
+use Rattle.dot_writer.specs.TreePicture.{usage_of, users, uses}
 use Rattle.dot_writer.specs.inner.DotText.{noted}
 use Rattle.dot_writer.proofs.Noted.{all-noted, gate-more}
 use Rattle.dot_writer.proofs.usages.note_gates.Goals as goal

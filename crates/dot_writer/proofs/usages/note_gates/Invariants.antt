@@ -1,6 +1,6 @@
 use Rattle.std.proofs.Common.{ℕ, ◌≡◌, ◌<◌, ◌≤◌, length, slice_index_or}
 use Rattle.dot_writer.specs.declared.usages.Usage.TheVariants.{Unused}
-use Rattle.dot_writer.specs.inner.TreePicture.{usage_of, users}
+use Rattle.dot_writer.specs.TreePicture.{usage_of, users}
 use Rattle.dot_writer.proofs.usages.note_gates.Given as goal
 
 abbrev pub invariant-loop-position : goal.invariant-loop-position

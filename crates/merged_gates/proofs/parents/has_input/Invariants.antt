@@ -1,5 +1,5 @@
 use Rattle.std.proofs.Common.{◌≡◌, drop}
-use Rattle.merged_gates.specs.inner.Merged.{has_input}
+use Rattle.merged_gates.specs.Merged.{has_input}
 use Rattle.merged_gates.proofs.parents.has_input.Given as goal
 
 abbrev pub invariant-loop-other : goal.invariant-loop-other

@@ -1,7 +1,7 @@
 use Rattle.std.proofs.Common.{◌++◌, codes, decimal, map}
 use Rattle.galileo_writer.specs.TreeText.{gate_name}
-use Rattle.open_psa_writer.specs.inner.Mef.{formula_text, label_text}
-use Rattle.open_psa_writer.specs.inner.TreeMef.{gate_number, numbered}
+use Rattle.open_psa_writer.specs.Mef.{formula_text, label_text}
+use Rattle.open_psa_writer.specs.TreeMef.{gate_number, numbered}
 use Rattle.open_psa_writer.proofs.Pieces.{before, before-three}
 use Rattle.open_psa_writer.proofs.gates.push_gate.Goals as goal
 

@@ -1,7 +1,7 @@
 use Rattle.std.proofs.Common.{◌≡◌, ◌++◌, map, take}
 use Rattle.std.specs.List.{flat_map}
-use Rattle.open_psa_writer.specs.inner.Mef.{input_text}
-use Rattle.open_psa_writer.specs.inner.TreeMef.{numbered}
+use Rattle.open_psa_writer.specs.Mef.{input_text}
+use Rattle.open_psa_writer.specs.TreeMef.{numbered}
 use Rattle.open_psa_writer.proofs.gates.push_inputs.Given as goal
 
 abbrev pub invariant-loop-input : goal.invariant-loop-input

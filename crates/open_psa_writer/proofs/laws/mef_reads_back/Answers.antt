@@ -1,6 +1,6 @@
 use Rattle.std.proofs.Common.{sym, subst}
-use Rattle.open_psa_writer.specs.inner.Mef.{IsMefOf}
-use Rattle.open_psa_writer.specs.inner.TreeMef.{mef_text, tree_mef}
+use Rattle.open_psa_writer.specs.Mef.{IsMefOf}
+use Rattle.open_psa_writer.specs.TreeMef.{mef_text, tree_mef}
 use Rattle.open_psa_writer.proofs.OneMef.{one-mef}
 use Rattle.open_psa_writer.proofs.Written.{is-mef}
 use Rattle.open_psa_writer.proofs.laws.mef_reads_back.Goals as goal

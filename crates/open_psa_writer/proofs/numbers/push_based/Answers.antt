@@ -1,7 +1,7 @@
 use Rattle.std.proofs.Common.{◌++◌, codes, ap, ◌∙◌, sym}
 use Rattle.std.specs.List.{flat_map}
-use Rattle.open_psa_writer.specs.inner.Mef.{Figures}
-use Rattle.open_psa_writer.specs.inner.Numbers.{plain}
+use Rattle.open_psa_writer.specs.Mef.{Figures}
+use Rattle.open_psa_writer.specs.Numbers.{plain}
 use Rattle.open_psa_writer.specs.inner.Based.{digit_text, digits_in, opened}
 use Rattle.open_psa_writer.proofs.Based.{behind-text}
 use Rattle.open_psa_writer.proofs.Pieces.{before}

@@ -1,6 +1,6 @@
 use Rattle.std.proofs.Common.{◌++◌, codes, decimal}
-use Rattle.open_psa_writer.specs.inner.Mef.{figures_text}
-use Rattle.open_psa_writer.specs.inner.Numbers.{digit_of, plain}
+use Rattle.open_psa_writer.specs.Mef.{figures_text}
+use Rattle.open_psa_writer.specs.Numbers.{digit_of, plain}
 use Rattle.open_psa_writer.specs.inner.Based.{digit_text}
 use Rattle.open_psa_writer.proofs.Pieces.{before}
 use Rattle.open_psa_writer.proofs.numbers.push_digit.Goals as goal

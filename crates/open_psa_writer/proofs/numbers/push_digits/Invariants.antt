@@ -1,6 +1,6 @@
 use Rattle.std.proofs.Common.{◌≡◌, ◌++◌, take}
 use Rattle.std.specs.List.{flat_map}
-use Rattle.open_psa_writer.specs.inner.Numbers.{plain}
+use Rattle.open_psa_writer.specs.Numbers.{plain}
 use Rattle.open_psa_writer.specs.inner.Based.{digit_text, digits_in}
 use Rattle.open_psa_writer.proofs.numbers.push_digits.Given as goal
 

@@ -1,8 +1,8 @@
 use Rattle.std.proofs.Common.{◌+◌, ◌++◌, codes, decimal}
 use Rattle.fault_system.specs.Systems.{event_name}
 use Rattle.galileo_writer.specs.TreeText.{rate_of}
-use Rattle.open_psa_writer.specs.inner.Mef.{label_text, rate_text}
-use Rattle.open_psa_writer.specs.inner.Numbers.{number_of}
+use Rattle.open_psa_writer.specs.Mef.{label_text, rate_text}
+use Rattle.open_psa_writer.specs.Numbers.{number_of}
 use Rattle.open_psa_writer.proofs.Pieces.{before, before-three}
 use Rattle.open_psa_writer.proofs.numbers.push_event.Goals as goal
 

@@ -1,6 +1,6 @@
 use Rattle.std.proofs.Common.{◌++◌, codes}
-use Rattle.open_psa_writer.specs.inner.Mef.{number_text}
-use Rattle.open_psa_writer.specs.inner.Numbers.{number_of}
+use Rattle.open_psa_writer.specs.Mef.{number_text}
+use Rattle.open_psa_writer.specs.Numbers.{number_of}
 use Rattle.open_psa_writer.proofs.Pieces.{before}
 use Rattle.open_psa_writer.proofs.numbers.push_exponential.Goals as goal
 

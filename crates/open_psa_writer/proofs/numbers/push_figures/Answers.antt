@@ -1,5 +1,5 @@
 use Rattle.std.proofs.Common.{◌++◌, codes}
-use Rattle.open_psa_writer.specs.inner.Numbers.{plain}
+use Rattle.open_psa_writer.specs.Numbers.{plain}
 use Rattle.open_psa_writer.proofs.Pieces.{before}
 use Rattle.open_psa_writer.proofs.numbers.push_figures.Goals as goal
 

@@ -1,5 +1,5 @@
 use Rattle.std.proofs.Common.{◌≡◌, ◌++◌, take}
-use Rattle.open_psa_writer.specs.inner.Numbers.{plain}
+use Rattle.open_psa_writer.specs.Numbers.{plain}
 use Rattle.open_psa_writer.proofs.numbers.push_plain.Given as goal
 
 abbrev pub invariant-loop-byte : goal.invariant-loop-byte

@@ -1,6 +1,6 @@
 use Rattle.std.proofs.Common.{◌++◌, Some, ap, ◌∙◌, sym, slice_get}
 use Rattle.std.proofs.lemmas.Option.{slice_get_past, slice_get-get_or}
-use Rattle.open_psa_writer.specs.inner.Mef.{end_text, middle_text}
+use Rattle.open_psa_writer.specs.Mef.{end_text, middle_text}
 use Rattle.open_psa_writer.specs.inner.TreeMef.{events_text}
 use Rattle.open_psa_writer.proofs.TreeLeft.{no-step, other-step}
 use Rattle.open_psa_writer.proofs.tree_lines.put_other.Goals as goal

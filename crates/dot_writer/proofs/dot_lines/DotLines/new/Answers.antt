@@ -1,7 +1,7 @@
 use Rattle.std.proofs.Common.{ℕ, List, ap}
 use Rattle.dot_writer.specs.declared.usages.Usage.{Usage}
-use Rattle.dot_writer.specs.inner.Picture.{picture_text}
-use Rattle.dot_writer.specs.inner.TreePicture.{sheet_picture}
+use Rattle.dot_writer.specs.Picture.{picture_text}
+use Rattle.dot_writer.specs.TreePicture.{sheet_picture}
 use Rattle.dot_writer.proofs.dot_lines.DotLines.new.Goals as goal
 
 pub returns : goal.returns

@@ -7,8 +7,8 @@ use Rattle.property_reader.specs.declared.rate.RateKind.TheVariants.{Prob, Lambd
 use Rattle.property_reader.specs.Rates.{rate_word}
 use Rattle.round_gates.specs.declared.node.GateKind.{GateKind}
 use Rattle.round_gates.specs.declared.node.GateKind.TheVariants.{And, Or, AtLeast}
-use Rattle.dot_writer.specs.inner.Shown.{shown}
-use Rattle.dot_writer.specs.inner.Words.{behind, until, words_of}
+use Rattle.dot_writer.specs.Shown.{shown}
+use Rattle.dot_writer.specs.Words.{behind, until, words_of}
 
 -- what a box has below it: an event by its name and its rate, the box of a position, or a transfer to a box that is drawn
 -- elsewhere, by its position and its name

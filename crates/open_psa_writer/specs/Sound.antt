@@ -3,7 +3,7 @@ use Rattle.std.specs.Prelude.{ℕ, ◌≢◌, List, ◌∷◌, map, AllPairs, Co
 use Rattle.std.specs.List.{AllByRecursion}
 use Rattle.round_gates.specs.declared.tree.Input.{Input}
 use Rattle.round_gates.specs.declared.tree.Input.TheVariants as inputs
-use Rattle.open_psa_writer.specs.inner.Mef.{Mef, MefGate}
+use Rattle.open_psa_writer.specs.Mef.{Mef, MefGate}
 
 -- no two numbers are the same
 abbrev pub NumbersDiffer : List ℕ → Type 0

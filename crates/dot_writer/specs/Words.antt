@@ -2,7 +2,7 @@
 use Rattle.std.specs.Prelude.{ℕ, ◌+◌, ◌==◌, if◌then◌else◌, List, [], ◌++◌, codes, take, drop, position, unwrap_or, Option, Some, None}
 use Rattle.std.specs.Option.{option_map, option_map_or}
 use Rattle.plain_values.specs.Name.{is_same_text}
-use Rattle.dot_writer.specs.inner.Shown.{shown}
+use Rattle.dot_writer.specs.Shown.{shown}
 
 -- the place of the first of a byte
 abbrev pub place_of : ℕ → List ℕ → Option ℕ

@@ -6,7 +6,7 @@ use Rattle.round_gates.specs.Truths.{kind_true}
 use Rattle.round_gates.specs.declared.tree.Input.{Input}
 use Rattle.round_gates.specs.declared.tree.Input.TheVariants as inputs
 use Rattle.galileo_writer.specs.Truth.{NameSet}
-use Rattle.open_psa_writer.specs.inner.Mef.{Mef, MefEvent, MefGate, IsMefOf}
+use Rattle.open_psa_writer.specs.Mef.{Mef, MefEvent, MefGate, IsMefOf}
 
 -- the basic events whose names are among the given ones, by their numbers
 abbrev pub given_events : List MefEvent → NameSet → NumberSet

@@ -2,7 +2,7 @@
 use Rattle.std.specs.Prelude.{ℕ, ◌-◌, ◌==◌, not, nat_le, if◌then◌else◌, List, [], ◌∷◌, codes, decimal, drop, filter, length, take}
 use Rattle.std.specs.List.{prefix_len}
 use Rattle.aadl_syntax.specs.Form.{is_hexadecimal}
-use Rattle.open_psa_writer.specs.inner.Mef.{Number, Figures, Digit}
+use Rattle.open_psa_writer.specs.Mef.{Number, Figures, Digit}
 
 -- a number without the underscores between its figures, which mean nothing
 abbrev pub plain : List ℕ → List ℕ

@@ -14,7 +14,7 @@ use Rattle.dot_writer.specs.declared.sheet.Sheet.{Sheet}
 use Rattle.dot_writer.specs.declared.sheet.Title.{Title}
 use Rattle.dot_writer.specs.declared.usages.Usage.{Usage}
 use Rattle.dot_writer.specs.declared.usages.Usage.TheVariants.{Unused, Once, Shared}
-use Rattle.dot_writer.specs.inner.Picture.{Arc, EventArc, BoxArc, TransferArc, Box, Picture, picture_text}
+use Rattle.dot_writer.specs.Picture.{Arc, EventArc, BoxArc, TransferArc, Box, Picture, picture_text}
 
 -- ---- which gates use a gate
 
