@@ -16,7 +16,8 @@ use Rattle.galileo_reader.specs.declared.token.Front.{Front}
 use Rattle.galileo_reader.specs.declared.token.Mark.{Mark}
 use Rattle.galileo_reader.specs.declared.token.Token.{Token}
 use Rattle.galileo_reader.specs.declared.token.Token.TheVariants as tokens
-use Rattle.galileo_reader.specs.Marks.{blanks_len, closed_len, counts_len, figures_len, front_or, is_few, is_plain, mark_from, name_len, plain_len, rate_at, rate_len, starts, token_at, word_at}
+use Rattle.galileo_reader.specs.Marks.{mark_from}
+use Rattle.galileo_reader.specs.Tokens.{blanks_len, closed_len, counts_len, figures_len, front_or, is_few, is_plain, name_len, plain_len, rate_at, rate_len, starts, token_at, word_at}
 use Rattle.galileo_reader.specs.Statements.{digit_value, value_from}
 
 prefix-more : (test : ℕ → Bool) (b : ℕ) (rest : List ℕ) (is : Bool) → test b ≡ is → prefix_len test (b ∷ rest) ≡ cond is (1 + prefix_len test rest) 0
@@ -36,7 +37,7 @@ abbrev pub mark : Token → ℕ → ℕ → Mark
 mark token at len = record { token = token; at = at; len = len }
 
 pub mark-again : (front blanks : List ℕ) (b : ℕ) (rest : List ℕ) (t : Token) (len : ℕ) → AllByRecursion (λ b. is_blank b ≡ true) blanks → is_blank b ≡ false → token_at (b ∷ rest) ≡ Some (record { token = t; len = len })
-    → mark_from (front ++ (blanks ++ b ∷ rest)) (length front) ≡ Some (mark t (length front + length blanks) len)
+    → mark_from false (front ++ (blanks ++ b ∷ rest)) (length front) ≡ Some (mark t (length front + length blanks) len)
 unfolding mark_from
 mark-again front blanks b rest t len all stop is =
     let text : List ℕ = front ++ (blanks ++ b ∷ rest) in

@@ -17,3 +17,5 @@ pub mod WrittenTrees
 pub mod RoundTrip
 pub mod WrittenTruth
 pub mod WrittenSets
+pub mod GapLaws
+pub mod Pieces

@@ -1,17 +1,17 @@
 -- A text has one answer.
-use Rattle.std.proofs.Common.{ℕ, ◌≡◌, List, Option, Some, None, Result, Ok, Err, MatchResult, Bor, option_copied, inl, inr, ⊎_elim, ap, ◌∙◌, sym, subst, refl}
+use Rattle.std.proofs.Common.{ℕ, Bool, ◌≡◌, List, Option, Some, None, Result, Ok, Err, MatchResult, Bor, option_copied, inl, inr, ⊎_elim, ap, ◌∙◌, sym, subst, refl}
 use Rattle.std.proofs.lemmas.Bool.{cases_order}
 use Rattle.galileo_reader.specs.declared.statement.PlacedName.{PlacedName}
 use Rattle.galileo_reader.specs.declared.statement.Statement.{Statement}
 use Rattle.galileo_reader.specs.declared.tree.Flaw.{Flaw}
-use Rattle.galileo_reader.specs.declared.tree.Flaw.TheVariants.{BadLine, BadCount, DuplicateNode, NoTop, UnknownNode, Cyclic}
+use Rattle.galileo_reader.specs.declared.tree.Flaw.TheVariants.{BadLine, DynamicGate, BadCount, DuplicateNode, NoTop, UnknownNode, Cyclic}
 use Rattle.galileo_reader.specs.declared.tree.GalileoFault.{GalileoFault}
 use Rattle.galileo_reader.specs.declared.tree.GalileoFault.TheVariants.{Refused, Memory}
 use Rattle.galileo_reader.specs.declared.tree.NamedGate.{NamedGate}
 use Rattle.galileo_reader.specs.declared.tree.NamedTree.{NamedTree}
 use Rattle.galileo_reader.specs.Nodes.{bad_count, place_of_gate, second_line, top_of, tree_of, unknown_node}
 use Rattle.galileo_reader.specs.Statements.{AreLines, IsBadAt}
-use Rattle.galileo_reader.specs.Trees.{AreFlawed, HasCycleAt, IsFirstCyclic, IsFlawed, IsRead, IsTreeOf}
+use Rattle.galileo_reader.specs.Trees.{AreFlawed, HasCycleAt, IsFirstCyclic, IsFlawed, IsRead, IsTreeOf, line_flaw}
 use Rattle.galileo_reader.specs.inner.Trees.{HasNoTree, HaveNoTree, IsCyclicIn}
 use Rattle.galileo_reader.proofs.TextLaws.{bad-apart, one-bad, one-reading}
 
@@ -41,6 +41,7 @@ one-tree lines a b x y =
 
 tree-apart : (lines : List Statement) (tree : NamedTree) (flaw : Flaw) → IsTreeOf lines tree → AreFlawed lines flaw → ⊥
 tree-apart lines tree (BadLine at) is h = h
+tree-apart lines tree (DynamicGate at) is h = h
 tree-apart lines tree (BadCount at) is h = some-none (bad_count lines) at h is.counts
 tree-apart lines tree (DuplicateNode at) is h = some-none (second_line lines) at h.1 is.once
 tree-apart lines tree NoTop is h = some-none (top_of lines) is.top is.top_is h.2
@@ -52,31 +53,37 @@ tree-apart lines tree (Cyclic at) is h =
 
 one-flaw : (lines : List Statement) (a b : Flaw) → AreFlawed lines a → AreFlawed lines b → a ≡ b
 one-flaw lines (BadLine m) b x y = absurd x
+one-flaw lines (DynamicGate m) b x y = absurd x
 one-flaw lines (BadCount m) (BadLine n) x y = absurd y
+one-flaw lines (BadCount m) (DynamicGate n) x y = absurd y
 one-flaw lines (BadCount m) (BadCount n) x y = ap BadCount (one-some (bad_count lines) m n x y)
 one-flaw lines (BadCount m) (DuplicateNode n) x y = absurd (some-none (bad_count lines) m x y.0)
 one-flaw lines (BadCount m) NoTop x y = absurd (some-none (bad_count lines) m x y.0)
 one-flaw lines (BadCount m) (UnknownNode n) x y = absurd (some-none (bad_count lines) m x y.0)
 one-flaw lines (BadCount m) (Cyclic n) x y = absurd (some-none (bad_count lines) m x y.0)
 one-flaw lines (DuplicateNode m) (BadLine n) x y = absurd y
+one-flaw lines (DuplicateNode m) (DynamicGate n) x y = absurd y
 one-flaw lines (DuplicateNode m) (BadCount n) x y = absurd (some-none (bad_count lines) n y x.0)
 one-flaw lines (DuplicateNode m) (DuplicateNode n) x y = ap DuplicateNode (one-some (second_line lines) m n x.1 y.1)
 one-flaw lines (DuplicateNode m) NoTop x y = absurd (some-none (second_line lines) m x.1 y.1)
 one-flaw lines (DuplicateNode m) (UnknownNode n) x y = absurd (some-none (second_line lines) m x.1 y.1)
 one-flaw lines (DuplicateNode m) (Cyclic n) x y = absurd (some-none (second_line lines) m x.1 y.1)
 one-flaw lines NoTop (BadLine n) x y = absurd y
+one-flaw lines NoTop (DynamicGate n) x y = absurd y
 one-flaw lines NoTop (BadCount n) x y = absurd (some-none (bad_count lines) n y x.0)
 one-flaw lines NoTop (DuplicateNode n) x y = absurd (some-none (second_line lines) n y.1 x.1)
 one-flaw lines NoTop NoTop x y = refl
 one-flaw lines NoTop (UnknownNode n) x y = absurd (some-none (top_of lines) y.2.0 y.2.1 x.2)
 one-flaw lines NoTop (Cyclic n) x y = absurd (some-none (top_of lines) y.3.top y.3.top_is x.2)
 one-flaw lines (UnknownNode m) (BadLine n) x y = absurd y
+one-flaw lines (UnknownNode m) (DynamicGate n) x y = absurd y
 one-flaw lines (UnknownNode m) (BadCount n) x y = absurd (some-none (bad_count lines) n y x.0)
 one-flaw lines (UnknownNode m) (DuplicateNode n) x y = absurd (some-none (second_line lines) n y.1 x.1)
 one-flaw lines (UnknownNode m) NoTop x y = absurd (some-none (top_of lines) x.2.0 x.2.1 y.2)
 one-flaw lines (UnknownNode m) (UnknownNode n) x y = ap UnknownNode (one-some (unknown_node lines) m n x.3 y.3)
 one-flaw lines (UnknownNode m) (Cyclic n) x y = absurd (some-none (unknown_node lines) m x.3 y.2)
 one-flaw lines (Cyclic m) (BadLine n) x y = absurd y
+one-flaw lines (Cyclic m) (DynamicGate n) x y = absurd y
 one-flaw lines (Cyclic m) (BadCount n) x y = absurd (some-none (bad_count lines) n y x.0)
 one-flaw lines (Cyclic m) (DuplicateNode n) x y = absurd (some-none (second_line lines) n y.1 x.1)
 one-flaw lines (Cyclic m) NoTop x y = absurd (some-none (top_of lines) x.3.top x.3.top_is y.2)
@@ -85,41 +92,41 @@ one-flaw lines (Cyclic m) (Cyclic n) x y = ap Cyclic (one-cycle lines m n x.3 y.
 
 -- ---- of texts
 
-same-lines : (text : List ℕ) (a b : List Statement) → AreLines text 0 a → AreLines text 0 b → a ≡ b
-same-lines text a b = one-reading text 0 a b
+same-lines : (wide : Bool) (text : List ℕ) (a b : List Statement) → AreLines wide text 0 a → AreLines wide text 0 b → a ≡ b
+same-lines wide text a b = one-reading wide text 0 a b
 
-pub one-read : (text : List ℕ) (a b : NamedTree) → IsRead text a → IsRead text b → a ≡ b
-one-read text a b (ls, are, x) (ms, also, y) = one-tree ls a b x (subst (λ lines. IsTreeOf lines b) (same-lines text ms ls also are) y)
+pub one-read : (wide : Bool) (text : List ℕ) (a b : NamedTree) → IsRead wide text a → IsRead wide text b → a ≡ b
+one-read wide text a b (ls, are, x) (ms, also, y) = one-tree ls a b x (subst (λ lines. IsTreeOf lines b) (same-lines wide text ms ls also are) y)
 
-pub read-apart : (text : List ℕ) (tree : NamedTree) (flaw : Flaw) → IsRead text tree → IsFlawed text flaw → ⊥
-read-apart text tree flaw (ls, are, is) wrong =
+pub read-apart : (wide : Bool) (text : List ℕ) (tree : NamedTree) (flaw : Flaw) → IsRead wide text tree → IsFlawed wide text flaw → ⊥
+read-apart wide text tree flaw (ls, are, is) wrong =
     ⊎_elim
-    (λ (at, ms, bad, same). bad-apart text 0 ls ms at are bad)
-    (λ (ms, also, h). tree-apart ls tree flaw is (subst (λ lines. AreFlawed lines flaw) (same-lines text ms ls also are) h)) wrong
+    (λ (at, ms, bad, same). bad-apart wide text 0 ls ms at are bad)
+    (λ (ms, also, h). tree-apart ls tree flaw is (subst (λ lines. AreFlawed lines flaw) (same-lines wide text ms ls also are) h)) wrong
 
-pub one-wrong : (text : List ℕ) (a b : Flaw) → IsFlawed text a → IsFlawed text b → a ≡ b
-one-wrong text a b x y =
+pub one-wrong : (wide : Bool) (text : List ℕ) (a b : Flaw) → IsFlawed wide text a → IsFlawed wide text b → a ≡ b
+one-wrong wide text a b x y =
     ⊎_elim
     (λ (m, ls, bad, is_m). ⊎_elim
-    (λ (n, ms, also, is_n). is_m ∙ ap BadLine (one-bad text 0 ls ms m n bad also) ∙ sym is_n)
-    (λ (ms, are, h). absurd (bad-apart text 0 ms ls m are bad)) y)
+    (λ (n, ms, also, is_n). is_m ∙ ap (line_flaw wide text) (one-bad wide text 0 ls ms m n bad also) ∙ sym is_n)
+    (λ (ms, are, h). absurd (bad-apart wide text 0 ms ls m are bad)) y)
     (λ (ls, are, h). ⊎_elim
-    (λ (n, ms, bad, is_n). absurd (bad-apart text 0 ls ms n are bad))
-    (λ (ms, also, k). one-flaw ls a b h (subst (λ lines. AreFlawed lines b) (same-lines text ms ls also are) k)) y) x
+    (λ (n, ms, bad, is_n). absurd (bad-apart wide text 0 ls ms n are bad))
+    (λ (ms, also, k). one-flaw ls a b h (subst (λ lines. AreFlawed lines b) (same-lines wide text ms ls also are) k)) y) x
 
 -- ---- what the code answers
 
-pub bad-line : (text : List ℕ) (at : ℕ) → ((lines : List Statement) × IsBadAt text 0 lines at) → HasNoTree text (Refused (BadLine at))
-bad-line text at (lines, bad) = inl (at, lines, bad, refl)
+pub bad-line : (wide : Bool) (text : List ℕ) (at : ℕ) → ((lines : List Statement) × IsBadAt wide text 0 lines at) → HasNoTree wide text (Refused (line_flaw wide text at))
+bad-line wide text at (lines, bad) = inl (at, lines, bad, refl)
 
 -- what lines have no tree for, their text has none for
-pub lines-none : (text : List ℕ) (lines : List Statement) (fault : GalileoFault) → AreLines text 0 lines → HaveNoTree lines fault → HasNoTree text fault
-lines-none text lines (Refused flaw) are h = inr (lines, are, h)
-lines-none text lines Memory are h = tt
+pub lines-none : (wide : Bool) (text : List ℕ) (lines : List Statement) (fault : GalileoFault) → AreLines wide text 0 lines → HaveNoTree lines fault → HasNoTree wide text fault
+lines-none wide text lines (Refused flaw) are h = inr (lines, are, h)
+lines-none wide text lines Memory are h = tt
 
-pub lines-answer : (text : List ℕ) (lines : List Statement) (result : Result NamedTree GalileoFault) → AreLines text 0 lines → MatchResult result (IsTreeOf lines) (HaveNoTree lines) → MatchResult result (IsRead text) (HasNoTree text)
-lines-answer text lines (Ok tree) are is = (lines, are, is)
-lines-answer text lines (Err fault) are h = lines-none text lines fault are h
+pub lines-answer : (wide : Bool) (text : List ℕ) (lines : List Statement) (result : Result NamedTree GalileoFault) → AreLines wide text 0 lines → MatchResult result (IsTreeOf lines) (HaveNoTree lines) → MatchResult result (IsRead wide text) (HasNoTree wide text)
+lines-answer wide text lines (Ok tree) are is = (lines, are, is)
+lines-answer wide text lines (Err fault) are h = lines-none wide text lines fault are h
 
 -- a cycle in the tree of lines
 pub cycle-none : (lines : List Statement) (top : PlacedName) (tree : NamedTree) (fault : GalileoFault) → bad_count lines ≡ None → second_line lines ≡ None → top_of lines ≡ Some top → unknown_node lines ≡ None → tree ≡ tree_of lines top
@@ -127,6 +134,7 @@ pub cycle-none : (lines : List Statement) (top : PlacedName) (tree : NamedTree) 
 cycle-none lines top tree (Refused (Cyclic at)) counts once top_is known is (n, first, place) =
     (counts, once, known, record { gate = n; top = top; top_is = top_is; cyclic = subst (λ (t : NamedTree). IsFirstCyclic t.gates n) is first; at_is = place })
 cycle-none lines top tree (Refused (BadLine at)) counts once top_is known is h = absurd h
+cycle-none lines top tree (Refused (DynamicGate at)) counts once top_is known is h = absurd h
 cycle-none lines top tree (Refused (BadCount at)) counts once top_is known is h = absurd h
 cycle-none lines top tree (Refused (DuplicateNode at)) counts once top_is known is h = absurd h
 cycle-none lines top tree (Refused NoTop) counts once top_is known is h = absurd h

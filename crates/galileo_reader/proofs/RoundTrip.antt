@@ -1,5 +1,5 @@
 -- The text of a well-made tree reads as the tree.
-use Rattle.std.proofs.Common.{◌≤◌, List, length}
+use Rattle.std.proofs.Common.{false, ◌≤◌, List, length}
 use Rattle.fault_system.specs.Systems.{IsSystem, System}
 use Rattle.galileo_writer.specs.TreeText.{tree_text}
 use Rattle.galileo_writer.specs.inner.TreeText.{AreRates, HasTextNames}
@@ -12,7 +12,7 @@ use Rattle.galileo_reader.specs.Trees.{IsRead}
 use Rattle.galileo_reader.specs.inner.Written.{named_tree}
 use Rattle.galileo_reader.proofs.WrittenTrees.{round-trip}
 
-pub text-read : (system : System) (tree : Tree) (rates : List Rate) → IsSystem system → HasTextNames system → AreRates system rates → IsWellMade system tree → length (tree_text system tree rates) ≤ 4194304 → IsRead (tree_text system tree rates) (named_tree system tree rates)
+pub text-read : (system : System) (tree : Tree) (rates : List Rate) → IsSystem system → HasTextNames system → AreRates system rates → IsWellMade system tree → length (tree_text system tree rates) ≤ 4194304 → IsRead false (tree_text system tree rates) (named_tree system tree rates)
 text-read system tree rates is_system names are_rates made few =
     round-trip system names tree made rates are_rates (record {
       good = good system is_system names tree made;

@@ -1,5 +1,5 @@
 -- A text is true exactly where its tree, as a text, is.
-use Rattle.std.proofs.Common.{ℕ, ◌≡◌, ◌↔◌, true, List, [], ◌∷◌, ◌++◌, map, flat_map, option_to_list, Some, None, Result, Ok, Err, IfOk, MatchResult, ap, ◌∙◌, sym, subst}
+use Rattle.std.proofs.Common.{ℕ, Bool, ◌≡◌, ◌↔◌, true, List, [], ◌∷◌, ◌++◌, map, flat_map, option_to_list, Some, None, Result, Ok, Err, IfOk, MatchResult, ap, ◌∙◌, sym, subst}
 use Rattle.std.specs.List.{AllByRecursion}
 use Rattle.round_gates.specs.declared.node.GateKind.{GateKind}
 use Rattle.galileo_writer.specs.Galileo.{Line, GateLine}
@@ -87,10 +87,10 @@ same-name : (a b : PlacedName) → Some a ≡ Some b → a ≡ b
 same-name a b e = cc
 
 -- a text is true where its tree is
-pub text-truth : (text : List ℕ) (lines : List Statement) (tree : NamedTree) → AreLines text 0 lines → IsTreeOf lines tree → (given : NameSet) → StaticTrue text given ↔ Tells (tree_galileo tree) given
-text-truth text lines tree are is given = (
+pub text-truth : (wide : Bool) (text : List ℕ) (lines : List Statement) (tree : NamedTree) → AreLines wide text 0 lines → IsTreeOf lines tree → (given : NameSet) → StaticTrue wide text given ↔ Tells (tree_galileo tree) given
+text-truth wide text lines tree are is given = (
   (λ is_true.
-      let same : is_true.lines ≡ lines = one-reading text 0 is_true.lines lines is_true.are_lines are in
+      let same : is_true.lines ≡ lines = one-reading wide text 0 is_true.lines lines is_true.are_lines are in
       let top : is_true.top ≡ is.top = same-name is_true.top is.top (sym is_true.top_is ∙ ap top_of same ∙ is.top_is) in
       let tells : Tells (galileo_of lines is.top) given = subst (λ ls. Tells (galileo_of ls is.top) given) same (subst (λ t. Tells (galileo_of is_true.lines t) given) top is_true.tells) in
       subst (λ t. Tells (tree_galileo t) given) (sym is.tree_is) (tells-tree lines is.top is.top_is is.known given tells)),
@@ -113,7 +113,7 @@ pub answer-named : (lines found : List Statement) (result : Result NamedTree Gal
 answer-named lines found (Ok tree) same is = tree-named found tree is
 answer-named lines found (Err fault) same h = tt
 
-pub answer-truth : (text : List ℕ) (lines found : List Statement) (result : Result NamedTree GalileoFault) → AreLines text 0 lines → found ≡ lines → MatchResult result (IsTreeOf found) (HaveNoTree found)
-    → IfOk result (λ tree. (given : NameSet) → StaticTrue text given ↔ Tells (tree_galileo tree) given)
-answer-truth text lines found (Ok tree) are same is = text-truth text lines tree are (subst (λ ls. IsTreeOf ls tree) same is)
-answer-truth text lines found (Err fault) are same h = tt
+pub answer-truth : (wide : Bool) (text : List ℕ) (lines found : List Statement) (result : Result NamedTree GalileoFault) → AreLines wide text 0 lines → found ≡ lines → MatchResult result (IsTreeOf found) (HaveNoTree found)
+    → IfOk result (λ tree. (given : NameSet) → StaticTrue wide text given ↔ Tells (tree_galileo tree) given)
+answer-truth wide text lines found (Ok tree) are same is = text-truth wide text lines tree are (subst (λ ls. IsTreeOf ls tree) same is)
+answer-truth wide text lines found (Err fault) are same h = tt

@@ -21,8 +21,9 @@ use Rattle.galileo_reader.specs.declared.statement.Statement.TheVariants.{Top, G
 use Rattle.galileo_reader.specs.declared.token.Mark.{Mark}
 use Rattle.galileo_reader.specs.declared.token.Token.{Token}
 use Rattle.galileo_reader.specs.declared.token.Token.TheVariants as tokens
-use Rattle.galileo_reader.specs.Marks.{LineMarks, blanks_len, is_end, is_plain, token_at}
-use Rattle.galileo_reader.specs.Statements.{AreLines, count_of, figures, first_rate, gate_with, least_of, names_of, part, placed, statement_of, value_from, word_len}
+use Rattle.galileo_reader.specs.Marks.{LineMarks, is_end}
+use Rattle.galileo_reader.specs.Tokens.{blanks_len, is_plain, token_at}
+use Rattle.galileo_reader.specs.Statements.{AreLines, count_of, figures, gate_with, least_of, names_of, part, placed, statement_of, value_from, word_len}
 use Rattle.galileo_reader.proofs.Again.{and-again, counts-again, end-again, lambda-again, mark, mark-again, or-again, prob-again, token-again, top-again, value-again}
 
 -- ---- tokens as they are written
@@ -62,7 +63,7 @@ grown-long front blanks first more =
     omega (arith, whole, part)
 
 -- a line of written tokens
-pub line-again : (front : List ℕ) (ps : List Piece) (rest : List ℕ) → Readable ps (59 ∷ rest) → LineMarks (front ++ (pieces_text ps ++ 59 ∷ rest)) (length front) (marks_at (length front) ps) (length front + length (pieces_text ps) + 1)
+pub line-again : (front : List ℕ) (ps : List Piece) (rest : List ℕ) → Readable ps (59 ∷ rest) → LineMarks false (front ++ (pieces_text ps ++ 59 ∷ rest)) (length front) (marks_at (length front) ps) (length front + length (pieces_text ps) + 1)
 line-again front [] rest r = (mark tokens.End (length front + 0) 1, mark-again front [] 59 rest tokens.End 1 tt refl (end-again rest), refl, refl)
 line-again front (p ∷ ps) rest r =
     let T = pieces_text ps in
@@ -71,13 +72,13 @@ line-again front (p ∷ ps) rest r =
     let long = grown-long front p.blanks p.first p.more in
     let first = mark-again front p.blanks p.first (p.more ++ (T ++ R)) p.token (1 + length p.more) r.0 r.1 r.2 in
     let after = line-again (front ++ (p.blanks ++ p.first ∷ p.more)) ps rest r.4 in
-    let moved = subst (λ t. LineMarks t (length (front ++ (p.blanks ++ p.first ∷ p.more))) (marks_at (length (front ++ (p.blanks ++ p.first ∷ p.more))) ps) (length (front ++ (p.blanks ++ p.first ∷ p.more)) + length T + 1)) (grown front p.blanks p.first p.more (T ++ R)) after in
-    let placed = subst (λ n. LineMarks (front ++ (p.blanks ++ p.first ∷ (p.more ++ (T ++ R)))) n (marks_at n ps) (n + length T + 1)) long moved in
+    let moved = subst (λ t. LineMarks false t (length (front ++ (p.blanks ++ p.first ∷ p.more))) (marks_at (length (front ++ (p.blanks ++ p.first ∷ p.more))) ps) (length (front ++ (p.blanks ++ p.first ∷ p.more)) + length T + 1)) (grown front p.blanks p.first p.more (T ++ R)) after in
+    let placed = subst (λ n. LineMarks false (front ++ (p.blanks ++ p.first ∷ (p.more ++ (T ++ R)))) n (marks_at n ps) (n + length T + 1)) long moved in
     let size : length (p.blanks ++ p.first ∷ (p.more ++ T)) ≡ length p.blanks + length (p.first ∷ (p.more ++ T)) = length-append p.blanks (p.first ∷ (p.more ++ T)) in
     let inner : length (p.more ++ T) ≡ length p.more + length T = length-append p.more T in
     let next : length front + length p.blanks + (1 + length p.more) + length T + 1 ≡ length front + length (p.blanks ++ p.first ∷ (p.more ++ T)) + 1 = omega (arith, size, inner) in
-    let ended = subst (λ n. LineMarks (front ++ (p.blanks ++ p.first ∷ (p.more ++ (T ++ R)))) (length front + length p.blanks + (1 + length p.more)) (marks_at (length front + length p.blanks + (1 + length p.more)) ps) n) next placed in
-    subst (λ t. LineMarks t (length front) (marks_at (length front) (p ∷ ps)) (length front + length (p.blanks ++ p.first ∷ (p.more ++ T)) + 1)) (sym text) (first, r.3, ended)
+    let ended = subst (λ n. LineMarks false (front ++ (p.blanks ++ p.first ∷ (p.more ++ (T ++ R)))) (length front + length p.blanks + (1 + length p.more)) (marks_at (length front + length p.blanks + (1 + length p.more)) ps) n) next placed in
+    subst (λ t. LineMarks false t (length front) (marks_at (length front) (p ∷ ps)) (length front + length (p.blanks ++ p.first ∷ (p.more ++ T)) + 1)) (sym text) (first, r.3, ended)
 
 -- ---- names
 
@@ -407,7 +408,7 @@ rate-part text at Prob number rest there =
 
 event-read : (text : List ℕ) (name : PlacedName) (at len a b : ℕ) (kind : RateKind) (number : List ℕ) → placed text (mark tokens.Name a b) ≡ name → part text at (word_len kind) (len - word_len kind) ≡ number
     → statement_of text (mark tokens.Name a b ∷ mark (tokens.Rate kind) at len ∷ []) ≡ Some (Event name (record { kind = kind; text = number }))
-unfolding statement_of first_rate
+unfolding statement_of
 event-read text name at len a b kind number own e =
     ap (λ p. Some (Event p (record { kind = kind; text = part text at (word_len kind) (len - word_len kind) }))) own ∙ ap (λ n. Some (Event name (record { kind = kind; text = n }))) e
 
@@ -470,7 +471,7 @@ abbrev pub said_from : ℕ → List Line → List Statement
 said_from at [] = []
 said_from at (line ∷ lines) = said_at at line ∷ said_from (at + length (pieces_text (line_pieces line)) + 1) lines
 
-pub lines-again : (front : List ℕ) (lines : List Line) → AllByRecursion IsReadable lines → AreLines (front ++ 10 ∷ flat_map line_text lines) (length front) (said_from (length front) lines)
+pub lines-again : (front : List ℕ) (lines : List Line) → AllByRecursion IsReadable lines → AreLines false (front ++ 10 ∷ flat_map line_text lines) (length front) (said_from (length front) lines)
 lines-again front [] all =
     ap (λ t. length front + blanks_len t) (drop_at front (10 ∷ []) (length front) refl) ∙ sym (length-append front (10 ∷ []))
 lines-again front (line ∷ lines) all =
@@ -485,9 +486,9 @@ lines-again front (line ∷ lines) all =
     let outer : length (front ++ (pieces_text P ++ 59 ∷ [])) ≡ length front + length (pieces_text P ++ 59 ∷ []) = length-append front (pieces_text P ++ 59 ∷ []) in
     let long : length (front ++ (pieces_text P ++ 59 ∷ [])) ≡ length front + length (pieces_text P) + 1 = omega (arith, inner, outer) in
     let more = lines-again (front ++ (pieces_text P ++ 59 ∷ [])) lines all.1 in
-    let moved = subst (λ t. AreLines t (length (front ++ (pieces_text P ++ 59 ∷ []))) (said_from (length (front ++ (pieces_text P ++ 59 ∷ []))) lines)) rest_text more in
-    let placed_on = subst (λ n. AreLines (front ++ (pieces_text P ++ 59 ∷ 10 ∷ L)) n (said_from n lines)) long moved in
-    subst (λ t. AreLines t (length front) (said_from (length front) (line ∷ lines))) (sym text)
+    let moved = subst (λ t. AreLines false t (length (front ++ (pieces_text P ++ 59 ∷ []))) (said_from (length (front ++ (pieces_text P ++ 59 ∷ []))) lines)) rest_text more in
+    let placed_on = subst (λ n. AreLines false (front ++ (pieces_text P ++ 59 ∷ 10 ∷ L)) n (said_from n lines)) long moved in
+    subst (λ t. AreLines false t (length front) (said_from (length front) (line ∷ lines))) (sym text)
     (length front + length (pieces_text P) + 1, record { marks = marks_at (length front) P; line = marks; says = says }, placed_on)
 
 -- ---- the whole text
@@ -503,7 +504,7 @@ top-read : (text : List ℕ) (name : PlacedName) (at len : ℕ) → placed text 
 unfolding statement_of
 top-read text name at len own = ap (λ p. Some (Top 0 p)) own
 
-pub text-again : (top : List ℕ) (lines : List Line) → IsPlainName top → AllByRecursion IsReadable lines → AreLines (top_text top ++ flat_map line_text lines) 0 (written_statements top lines)
+pub text-again : (top : List ℕ) (lines : List Line) → IsPlainName top → AllByRecursion IsReadable lines → AreLines false (top_text top ++ flat_map line_text lines) 0 (written_statements top lines)
 text-again top lines plain all =
     let L = flat_map line_text lines in
     let P = top_pieces top in
@@ -514,15 +515,15 @@ text-again top lines plain all =
     (append_assoc (top ++ 34 ∷ []) (59 ∷ 10 ∷ []) L ∙ sym (append_assoc (top ++ 34 ∷ []) [] (59 ∷ 10 ∷ L))) in
     let readable : Readable (top_pieces top) (59 ∷ 10 ∷ L)
     = (tt, refl, top-again ((32 ∷ 34 ∷ ((top ++ 34 ∷ []) ++ [])) ++ 59 ∷ 10 ∷ L), refl, ((refl, tt), refl, name-token top (59 ∷ 10 ∷ L) plain, refl, tt)) in
-    let marks = subst (λ n. LineMarks (pieces_text P ++ 59 ∷ 10 ∷ L) 0 (marks_at 0 P) (n + 1)) (plus (length (pieces_text P))) (line-again [] P (10 ∷ L) readable) in
+    let marks = subst (λ n. LineMarks false (pieces_text P ++ 59 ∷ 10 ∷ L) 0 (marks_at 0 P) (n + 1)) (plus (length (pieces_text P))) (line-again [] P (10 ∷ L) readable) in
     let own = name-placed (116 ∷ 111 ∷ 112 ∷ 108 ∷ 101 ∷ 118 ∷ 101 ∷ 108 ∷ []) 32 top (59 ∷ 10 ∷ L) (pieces_text P ++ 59 ∷ 10 ∷ L)
     (ap (λ t. 116 ∷ 111 ∷ 112 ∷ 108 ∷ 101 ∷ 118 ∷ 101 ∷ 108 ∷ 32 ∷ 34 ∷ t) (append_assoc (top ++ 34 ∷ []) [] (59 ∷ 10 ∷ L))) in
     let says = top-read (pieces_text P ++ 59 ∷ 10 ∷ L) (record { at = 9; name = top }) 9 (1 + length (top ++ 34 ∷ [])) own in
     let rest_text : (pieces_text P ++ 59 ∷ []) ++ 10 ∷ L ≡ pieces_text P ++ 59 ∷ 10 ∷ L = append_assoc (pieces_text P) (59 ∷ []) (10 ∷ L) in
     let more = lines-again (pieces_text P ++ 59 ∷ []) lines all in
-    let moved = subst (λ t. AreLines t (length (pieces_text P ++ 59 ∷ [])) (said_from (length (pieces_text P ++ 59 ∷ [])) lines)) rest_text more in
-    let placed_on = subst (λ n. AreLines (pieces_text P ++ 59 ∷ 10 ∷ L) n (said_from n lines)) (length-append (pieces_text P) (59 ∷ [])) moved in
-    subst (λ t. AreLines t 0 (written_statements top lines)) (sym text)
+    let moved = subst (λ t. AreLines false t (length (pieces_text P ++ 59 ∷ [])) (said_from (length (pieces_text P ++ 59 ∷ [])) lines)) rest_text more in
+    let placed_on = subst (λ n. AreLines false (pieces_text P ++ 59 ∷ 10 ∷ L) n (said_from n lines)) (length-append (pieces_text P) (59 ∷ [])) moved in
+    subst (λ t. AreLines false t 0 (written_statements top lines)) (sym text)
     (length (pieces_text P) + 1, record { marks = marks_at 0 P; line = marks; says = says }, placed_on)
   where
     plus : (n : ℕ) → 0 + n ≡ n

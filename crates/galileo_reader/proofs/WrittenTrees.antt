@@ -409,7 +409,7 @@ module _ (system : System) (names : HasTextNames system) (tree : Tree) (made : I
       let (other, there, alike) = made-from tree.gates a g here in
       closed a b other in_set there (sym (same-gates other.inputs b) ∙ ap (λ (g : NamedGate). has_gate g.inputs b) alike ∙ has_b)) own)
 
-  pub round-trip : length (tree_text system tree rates) ≤ 4194304 → IsRead (tree_text system tree rates) (named_tree system tree rates)
+  pub round-trip : length (tree_text system tree rates) ≤ 4194304 → IsRead false (tree_text system tree rates) (named_tree system tree rates)
   round-trip few =
       let whole = length-append (top_text top_name) (flat_map line_text (GateLines tree.gates ++ EventLines tree.events)) in
       let parts = length-append (flat_map line_text (GateLines tree.gates)) (flat_map line_text (EventLines tree.events)) in

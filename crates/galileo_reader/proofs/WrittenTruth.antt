@@ -1,5 +1,5 @@
 -- The tree that is read of a written text is true exactly where the tree is that was written.
-use Rattle.std.proofs.Common.{ℕ, zero, suc, ◌≡◌, ◌≤◌, ◌↔◌, Bool, true, ◌==◌, List, [], ◌∷◌, ◌++◌, map, length, slice_get, slice_index_or, Some, inl, inr, ap, ◌∙◌, sym, refl}
+use Rattle.std.proofs.Common.{false, ℕ, zero, suc, ◌≡◌, ◌≤◌, ◌↔◌, Bool, true, ◌==◌, List, [], ◌∷◌, ◌++◌, map, length, slice_get, slice_index_or, Some, inl, inr, ap, ◌∙◌, sym, refl}
 use Rattle.std.specs.List.{AllByRecursion, list_any}
 use Rattle.std.specs.Option.{option_map}
 use Rattle.std.proofs.lemmas.Bool.{eq-eqb}
@@ -151,11 +151,11 @@ module _ (system : System) (is_system : IsSystem system) (names : HasTextNames s
 
 -- the written text of a target's tree is true for the names of a set of events exactly where the target holds
 pub text-holds : (system : System) (target : ℕ) (tree : Tree) (rates : List Rate) (given : NumberSet) → IsSystem system → HasTextNames system → AreRates system rates → IsTreeFor system target tree
-    → length (tree_text system tree rates) ≤ 4194304 → StaticTrue (tree_text system tree rates) (names_of system given) ↔ Holds system given target
+    → length (tree_text system tree rates) ≤ 4194304 → StaticTrue false (tree_text system tree rates) (names_of system given) ↔ Holds system given target
 text-holds system target tree rates given is_system names are_rates is few =
     let made = made-well system target tree is_system is in
     let (lines, are, of_lines) = text-read system tree rates is_system names are_rates made few in
-    let text = text-truth (tree_text system tree rates) lines (named_tree system tree rates) are of_lines (names_of system given) in
+    let text = text-truth false (tree_text system tree rates) lines (named_tree system tree rates) are of_lines (names_of system given) in
     let tells = tells-again system is_system names tree made rates (λ place. given (event_at tree.events place)) given (placed-again system is_system names tree made rates given)
     (tree-named lines (named_tree system tree rates) of_lines) in
     let truth = tree-truth system target tree given is_system is in

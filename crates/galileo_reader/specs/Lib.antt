@@ -1,3 +1,5 @@
+pub mod Tokens
+pub mod WideTokens
 pub mod Marks
 pub mod Statements
 pub mod Nodes

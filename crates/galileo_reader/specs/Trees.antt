@@ -1,15 +1,15 @@
 -- Trees of named nodes: which gates reach themselves, and what tree a text is of, or what is wrong with it.
-use Rattle.std.specs.Prelude.{ℕ, ◌<◌, ◌≡◌, ◌⊎◌, true, List, slice_get, Some, None}
+use Rattle.std.specs.Prelude.{ℕ, ◌<◌, ◌≡◌, ◌⊎◌, Bool, true, if◌then◌else◌, List, slice_get, Some, None}
 use Rattle.fault_system.specs.Truth.{NumberSet, Has}
 use Rattle.round_gates.specs.Trees.{has_gate}
 use Rattle.galileo_reader.specs.declared.statement.PlacedName.{PlacedName}
 use Rattle.galileo_reader.specs.declared.statement.Statement.{Statement}
 use Rattle.galileo_reader.specs.declared.tree.Flaw.{Flaw}
-use Rattle.galileo_reader.specs.declared.tree.Flaw.TheVariants.{BadLine, BadCount, DuplicateNode, NoTop, UnknownNode, Cyclic}
+use Rattle.galileo_reader.specs.declared.tree.Flaw.TheVariants.{BadLine, DynamicGate, BadCount, DuplicateNode, NoTop, UnknownNode, Cyclic}
 use Rattle.galileo_reader.specs.declared.tree.NamedGate.{NamedGate}
 use Rattle.galileo_reader.specs.declared.tree.NamedTree.{NamedTree}
 use Rattle.galileo_reader.specs.Nodes.{bad_count, place_of_gate, second_line, top_of, tree_of, unknown_node}
-use Rattle.galileo_reader.specs.Statements.{AreLines, IsBadAt}
+use Rattle.galileo_reader.specs.Statements.{AreLines, IsBadAt, is_dynamic_at}
 
 -- ---- trees
 
@@ -62,20 +62,25 @@ pub record HasCycleAt (lines : List Statement) (at : ℕ) : Type 0 where
 -- what is wrong with lines, where nothing is that comes before it
 abbrev pub AreFlawed : List Statement → Flaw → Type 0
 AreFlawed lines (BadLine at) = ⊥
+AreFlawed lines (DynamicGate at) = ⊥
 AreFlawed lines (BadCount at) = bad_count lines ≡ Some at
 AreFlawed lines (DuplicateNode at) = (bad_count lines ≡ None) × (second_line lines ≡ Some at)
 AreFlawed lines NoTop = (bad_count lines ≡ None) × (second_line lines ≡ None) × (top_of lines ≡ None)
 AreFlawed lines (UnknownNode at) = (bad_count lines ≡ None) × (second_line lines ≡ None) × ((top : PlacedName) × (top_of lines ≡ Some top)) × (unknown_node lines ≡ Some at)
 AreFlawed lines (Cyclic at) = (bad_count lines ≡ None) × (second_line lines ≡ None) × (unknown_node lines ≡ None) × HasCycleAt lines at
 
--- The text is that of a tree.
-abbrev pub IsRead : List ℕ → NamedTree → Type 0
-IsRead text tree = (lines : List Statement) × AreLines text 0 lines × IsTreeOf lines tree
+-- The text is that of a tree, in the first reading or in the wide one.
+abbrev pub IsRead : Bool → List ℕ → NamedTree → Type 0
+IsRead wide text tree = (lines : List Statement) × AreLines wide text 0 lines × IsTreeOf lines tree
+
+-- what is wrong where no line stands: a dynamic gate, or else that it has no reading
+abbrev pub line_flaw : Bool → List ℕ → ℕ → Flaw
+line_flaw wide text at = if is_dynamic_at wide text at then DynamicGate at else BadLine at
 
 -- a line of the text has no reading, and this is what is wrong
-abbrev pub HasBadLine : List ℕ → Flaw → Type 0
-HasBadLine text flaw = (at : ℕ) × (lines : List Statement) × IsBadAt text 0 lines at × (flaw ≡ BadLine at)
+abbrev pub HasBadLine : Bool → List ℕ → Flaw → Type 0
+HasBadLine wide text flaw = (at : ℕ) × (lines : List Statement) × IsBadAt wide text 0 lines at × (flaw ≡ line_flaw wide text at)
 
 -- What is wrong with a text: a line has no reading, or else something is wrong with its lines.
-abbrev pub IsFlawed : List ℕ → Flaw → Type 0
-IsFlawed text flaw = HasBadLine text flaw ⊎ ((lines : List Statement) × AreLines text 0 lines × AreFlawed lines flaw)
+abbrev pub IsFlawed : Bool → List ℕ → Flaw → Type 0
+IsFlawed wide text flaw = HasBadLine wide text flaw ⊎ ((lines : List Statement) × AreLines wide text 0 lines × AreFlawed lines flaw)

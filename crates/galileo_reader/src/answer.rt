@@ -1,9 +1,10 @@
 //! A text as a tree.
 
-ghost use Rattle.std.specs.Prelude.{◌≡◌, ◌↔◌, ◌≤◌, ◌<◌, ◌^◌, None, IfOk, MatchResult, length, slice_index_or};
+ghost use Rattle.std.specs.Prelude.{◌≡◌, ◌↔◌, List, ◌≤◌, ◌<◌, ◌^◌, None, IfOk, MatchResult, length, slice_index_or};
 ghost use Rattle.galileo_writer.specs.Truth.{NameSet, Tells};
 ghost use Rattle.galileo_reader.specs.Nodes.{bad_count, second_line};
-ghost use Rattle.galileo_reader.specs.Statements.{AreLines};
+ghost use Rattle.galileo_reader.specs.Statements.{AreLines, IsBadAt};
+ghost use Rattle.galileo_reader.specs.declared.statement.Statement.{Statement};
 ghost use Rattle.galileo_reader.specs.Trees.{IsAcyclic, IsRead, IsTreeOf};
 ghost use Rattle.galileo_reader.specs.inner.Trees.{HasNoTree, HaveNoTree, IsCyclicIn, IsNamedTree};
 ghost use Rattle.galileo_reader.specs.inner.Truth.{StaticTrue, tree_galileo};
@@ -11,6 +12,7 @@ ghost use Rattle.galileo_reader.specs.inner.Truth.{StaticTrue, tree_galileo};
 use crate::building::{gate_places, tree_of};
 use crate::checks::{bad_count, top_of, unknown_node};
 use crate::cycles::first_cyclic;
+use crate::dynamic::line_flaw;
 use crate::nodes::Nodes;
 use crate::reading::read_lines;
 use crate::statement::Statement;
@@ -18,14 +20,25 @@ use crate::tree::{Flaw, GalileoFault, NamedTree};
 use plain_values::List;
 use std::alloc::Global;
 
-/// The lines of a text; refused where one has no reading.
-fn lines_of(alloc: Global, text: &[u8]) -> Result<List<Statement>, GalileoFault>
-    requires { length text.now ≤ 4194304 }
-    ensures { MatchResult result (AreLines text.now 0) (HasNoTree text.now) }
+/// A text with a place where no line stands, as it is refused.
+fn refused(text: &[u8], at: u32, wide: bool) -> GalileoFault
+    requires few { length text.now ≤ 4194304 }
+    requires within { at ≤ length text.now }
+    requires bad { (lines : List Statement) × IsBadAt wide text.now 0 lines at }
+    ensures { HasNoTree wide text.now result }
 {
-    match read_lines(alloc, text)? {
+    GalileoFault::Refused(line_flaw(text, at, wide))
+}
+
+/// The lines of a text; refused where one has no reading.
+fn lines_of(alloc: Global, text: &[u8], wide: bool) -> Result<List<Statement>, GalileoFault>
+    requires { length text.now ≤ 4194304 }
+    ensures { MatchResult result (AreLines wide text.now 0) (HasNoTree wide text.now) }
+{
+    let read = read_lines(alloc, text, wide)?;
+    match read {
         Ok(lines) => Ok(lines),
-        Err(at) => Err(GalileoFault::Refused(Flaw::BadLine(at))),
+        Err(at) => Err(refused(text, at, wide)),
     }
 }
 
@@ -84,15 +97,19 @@ fn tree_of_lines(alloc: Global, lines: &[Statement]) -> Result<NamedTree, Galile
 
 /// Reads a static fault tree in Galileo text, of at most 4,194,304 bytes.
 ///
+/// The first reading takes the text as this tool writes it. The wide one also takes it as other tools do: with comments, names
+/// without quotes, keywords in any case, and attributes that do not change the sets, which are read past; what the first one
+/// reads it reads as the same tree.
+///
 /// The text is refused with the first [`Flaw`], in the order of its variants, that it has, at the least place; so two readings
-/// of one text answer the same, but for want of memory. The answered tree is true, as a text, for a set of names of basic
+/// of one text in one way answer the same, but for want of memory. The answered tree is true, as a text, for a set of names of basic
 /// events exactly where the text is.
-pub fn read(alloc: Global, text: &[u8]) -> Result<NamedTree, GalileoFault>
+pub fn read(alloc: Global, text: &[u8], wide: bool) -> Result<NamedTree, GalileoFault>
     requires { length text.now ≤ 4194304 }
-    ensures answer { MatchResult result (IsRead text.now) (HasNoTree text.now) }
+    ensures answer { MatchResult result (IsRead wide text.now) (HasNoTree wide text.now) }
     ensures tree { IfOk result IsNamedTree }
-    ensures truth { IfOk result (λ tree. (given : NameSet) → StaticTrue text.now given ↔ Tells (tree_galileo tree) given) }
+    ensures truth { IfOk result (λ tree. (given : NameSet) → StaticTrue wide text.now given ↔ Tells (tree_galileo tree) given) }
 {
-    let lines = lines_of(alloc, text)?;
+    let lines = lines_of(alloc, text, wide)?;
     tree_of_lines(alloc, lines.items())
 }

@@ -1,9 +1,12 @@
 //! The token at the front of a text.
 
 ghost use Rattle.std.specs.Prelude.{◌≡◌, ◌<◌, ◌≤◌, ◌+◌, drop, length, IfSome};
-ghost use Rattle.galileo_reader.specs.Marks.{blanks_len, closed_len, counts_len, figures_len, front_or, is_few, mark_from, name_len, plain_len, rate_at, rate_len, token_at, word_at};
+ghost use Rattle.galileo_reader.specs.Marks.{front_of, gap_len, mark_from};
+ghost use Rattle.galileo_reader.specs.Tokens.{blanks_len, closed_len, counts_len, figures_len, front_or, is_few, name_len, plain_len, rate_at, rate_len, token_at, word_at};
 
+use crate::gaps::wide_gap_len;
 use crate::token::{Front, Mark, Token};
+use crate::wide::wide_token_at;
 use aadl_lexer::{digits_len, is_blank, is_digit, number_len};
 use property_reader::RateKind;
 
@@ -26,7 +29,7 @@ fn plain_len(text: &[u8]) -> usize
 }
 
 /// How many decimal digits begin a text.
-fn figures_len(text: &[u8]) -> usize
+pub(crate) fn figures_len(text: &[u8]) -> usize
     ensures within { result ≤ length text.now }
     ensures value { result ≡ figures_len text.now }
 {
@@ -34,8 +37,8 @@ fn figures_len(text: &[u8]) -> usize
 }
 
 /// How long the name in quotes is that begins a text, or 0.
-#[tactic(auto, unfolding(crate::specs::Marks::name_len))]
-fn name_len(text: &[u8]) -> usize
+#[tactic(auto, unfolding(crate::specs::Tokens::name_len))]
+pub(crate) fn name_len(text: &[u8]) -> usize
     ensures within { result ≤ length text.now }
     ensures value { result ≡ name_len text.now }
 {
@@ -57,14 +60,14 @@ fn name_rest_len(text: &[u8]) -> usize
     }
 }
 
-fn is_few(len: usize) -> bool
+pub(crate) fn is_few(len: usize) -> bool
     ensures { result ≡ is_few len }
 {
     1 <= len && len <= 9
 }
 
 /// How long the digits, `of` and the digits are that begin a text, or 0; a number has one to nine digits.
-#[tactic(auto, unfolding(crate::specs::Marks::counts_len))]
+#[tactic(auto, unfolding(crate::specs::Tokens::counts_len))]
 fn counts_len(text: &[u8]) -> usize
     ensures within { result ≤ length text.now }
     ensures value { result ≡ counts_len text.now }
@@ -78,7 +81,7 @@ fn counts_len(text: &[u8]) -> usize
 }
 
 /// How long the word and the number after it are, where the text begins with the word, or 0.
-#[tactic(auto, unfolding(crate::specs::Marks::rate_len))]
+#[tactic(auto, unfolding(crate::specs::Tokens::rate_len))]
 fn rate_len(text: &[u8], word: &[u8]) -> usize
     ensures within { result ≤ length text.now }
     ensures value { result ≡ rate_len text.now word.now (length word.now) }
@@ -94,7 +97,7 @@ fn rate_len(text: &[u8], word: &[u8]) -> usize
 }
 
 /// The attribute that begins a text.
-#[tactic(auto, unfolding(crate::specs::Marks::rate_at))]
+#[tactic(auto, unfolding(crate::specs::Tokens::rate_at))]
 fn rate_at(text: &[u8]) -> Option<Front>
     ensures within { IfSome result (λ front. (0 < front.len) × (front.len ≤ length text.now)) }
     ensures value { result ≡ rate_at text.now }
@@ -124,7 +127,7 @@ fn rate_at(text: &[u8]) -> Option<Front>
 }
 
 /// The word or the attribute that begins a text.
-#[tactic(auto, unfolding(crate::specs::Marks::word_at))]
+#[tactic(auto, unfolding(crate::specs::Tokens::word_at))]
 fn word_at(text: &[u8]) -> Option<Front>
     ensures within { IfSome result (λ front. (0 < front.len) × (front.len ≤ length text.now)) }
     ensures value { result ≡ word_at text.now }
@@ -151,7 +154,7 @@ fn word_at(text: &[u8]) -> Option<Front>
 }
 
 /// The token that begins a text.
-#[tactic(auto, unfolding(crate::specs::Marks::token_at))]
+#[tactic(auto, unfolding(crate::specs::Tokens::token_at))]
 fn token_at(text: &[u8]) -> Option<Front>
     ensures within { IfSome result (λ front. (0 < front.len) × (front.len ≤ length text.now)) }
     ensures value { result ≡ token_at text.now }
@@ -187,16 +190,41 @@ fn counts_or_word_at(text: &[u8]) -> Option<Front>
     word_at(text)
 }
 
-/// The next token from a place on, behind blanks.
+/// How many bytes stand before the first token of a text: blanks, and in the wide reading comments and parameters too.
+pub(crate) fn gap_len(text: &[u8], wide: bool) -> usize
+    ensures within { result ≤ length text.now }
+    ensures value { result ≡ gap_len wide text.now }
+{
+    if wide {
+        wide_gap_len(text)
+    } else {
+        blanks_len(text)
+    }
+}
+
+/// The token that begins a text, in the first reading or in the wide one.
+fn front_of(text: &[u8], wide: bool) -> Option<Front>
+    ensures within { IfSome result (λ front. (0 < front.len) × (front.len ≤ length text.now)) }
+    ensures value { result ≡ front_of wide text.now }
+{
+    if wide {
+        wide_token_at(text)
+    } else {
+        token_at(text)
+    }
+}
+
+/// The next token from a place on.
 #[tactic(auto, unfolding(crate::specs::Marks::mark_from))]
-pub(crate) fn mark_from(text: &[u8], at: usize) -> Option<Mark>
+pub(crate) fn mark_from(text: &[u8], at: usize, wide: bool) -> Option<Mark>
     requires within { at ≤ length text.now }
     requires few { length text.now ≤ 4194304 }
     ensures within { IfSome result (λ mark. (at ≤ mark.at) × (0 < mark.len) × (mark.at + mark.len ≤ length text.now)) }
-    ensures value { result ≡ mark_from text.now at }
+    ensures inside { IfSome result (λ mark. mark.at + mark.len ≤ length text.now) }
+    ensures value { result ≡ mark_from wide text.now at }
 {
-    let start = at + blanks_len(&text[at..]);
-    let front = token_at(&text[start..])?;
+    let start = at + gap_len(&text[at..], wide);
+    let front = front_of(&text[start..], wide)?;
     Some(Mark {
         token: front.token,
         at: start as u32,

@@ -5,21 +5,28 @@
 
 mod answer;
 mod building;
+mod bytes;
 mod checks;
 mod cycles;
+mod dynamic;
 mod front;
+mod gaps;
 mod laws;
 mod lines;
 mod nodes;
 mod number;
 mod reading;
+mod real;
 mod saying;
 mod statement;
 mod system;
 mod token;
 mod tree;
+mod wide;
 
 pub use answer::read;
-pub use laws::{no_feedback, one_answer, one_line, one_text, round_trip, written_tree};
+pub use laws::{
+    no_feedback, one_answer, one_line, one_text, read_as_before, round_trip, written_tree,
+};
 pub use system::to_system;
 pub use tree::{Flaw, GalileoFault, NamedEvent, NamedGate, NamedTree};

@@ -19,15 +19,20 @@ fn is_end(token: Token) -> bool
 
 /// Adds the tokens of the line that stands from a place on, without its `;`, and answers the place behind the `;`; none where
 /// no line of tokens stands there.
-pub(crate) fn line_marks(text: &[u8], at: usize, marks: &mut Vec<Mark>) -> Mem<Option<usize>>
+pub(crate) fn line_marks(
+    text: &[u8],
+    at: usize,
+    wide: bool,
+    marks: &mut Vec<Mark>,
+) -> Mem<Option<usize>>
     requires within { at ≤ length text.now }
     requires few { length text.now ≤ 4194304 }
     requires none { marks.old.items ≡ [] }
-    ensures found { IfOk result (λ next. IfSome next (λ next. (at < next) × (next ≤ length text.now) × LineMarks text.now at marks.new.items next)) }
-    ensures stuck { IfOk result (λ next. IfNone next ((line : List Mark) (next : ℕ) → LineMarks text.now at line next → ⊥)) }
+    ensures found { IfOk result (λ next. IfSome next (λ next. (at < next) × (next ≤ length text.now) × LineMarks wide text.now at marks.new.items next)) }
+    ensures stuck { IfOk result (λ next. IfNone next ((line : List Mark) (next : ℕ) → LineMarks wide text.now at line next → ⊥)) }
 {
     let mut place = at;
-    while let Some(mark) = mark_from(text, place) {
+    while let Some(mark) = mark_from(text, place, wide) {
         place = mark.at as usize + mark.len as usize;
         if is_end(mark.token) {
             return Ok(Some(place));

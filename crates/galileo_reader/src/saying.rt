@@ -1,46 +1,32 @@
 //! What a line says, by its tokens.
 
-ghost use Rattle.std.specs.Prelude.{◌≡◌, ◌-◌, take, drop, min, IfOk};
-ghost use Rattle.std.specs.List.{list_all};
-ghost use Rattle.galileo_reader.specs.Statements.{count_of, event_with, figures, first_rate, gate_with, is_attribute, is_name, least_of, named_line, names_of, part, placed, rate_of, statement_of, top_line, word_len};
+ghost use Rattle.std.specs.Prelude.{◌≡◌, ◌-◌, min, IfOk};
+ghost use Rattle.std.specs.List.{list_all, list_any};
+ghost use Rattle.std.specs.Option.{option_or};
+ghost use Rattle.galileo_reader.specs.Statements.{count_of, event_with, figures, first_rate, gate_with, is_attribute, is_name, is_other, least_of, name_part, named_line, names_of, other_rate, part, placed, rate_in, rate_of, statement_of, top_line, votes_of, word_len};
 
+use crate::bytes::{behind, front};
 use crate::number::number;
 use crate::statement::{PlacedName, Statement};
 use crate::token::{Mark, Token};
-use plain_values::{List, Mem, Name};
+use plain_values::{List, Mem, Name, copied};
 use property_reader::{Rate, RateKind};
 use round_gates::GateKind;
 use std::alloc::Global;
 
-fn behind(text: &[u8], at: usize) -> &[u8]
-    ensures { result.now ≡ drop at text.now }
-{
-    if at <= text.len() { &text[at..] } else { &[] }
-}
-
-fn front(text: &[u8], len: usize) -> &[u8]
-    ensures { result.now ≡ take len text.now }
-{
-    if len <= text.len() {
-        &text[..len]
-    } else {
-        text
-    }
-}
-
 /// Bytes of a text: so many, from so many behind a place.
-fn part(alloc: Global, text: &[u8], at: u32, from: u32, len: u32) -> Mem<Name>
+fn part(alloc: Global, text: &[u8], at: u32, from: usize, len: usize) -> Mem<Name>
     ensures { IfOk result (λ name. name ≡ part text.now at from len) }
 {
-    let rest = behind(behind(text, at as usize), from as usize);
-    List::of(Vec::from_slice(alloc, front(rest, len as usize))?)
+    let rest = behind(behind(text, at as usize), from);
+    List::of(Vec::from_slice(alloc, front(rest, len))?)
 }
 
-fn is_name(token: Token) -> bool
+pub(crate) fn is_name(token: Token) -> bool
     ensures { result ≡ is_name token }
 {
     match token {
-        Token::Name => true,
+        Token::Name | Token::Bare => true,
         _ => false,
     }
 }
@@ -49,8 +35,24 @@ fn is_attribute(token: Token) -> bool
     ensures { result ≡ is_attribute token }
 {
     match token {
-        Token::Rate(_) | Token::Dorm => true,
+        Token::Rate(_) | Token::Dorm | Token::Value(_, _) | Token::Other => true,
         _ => false,
+    }
+}
+
+/// The name of a token, between its quotes where it has any.
+fn name_part(alloc: Global, text: &[u8], mark: &Mark) -> Mem<Name>
+    ensures { IfOk result (λ name. name ≡ name_part text.now mark.now mark.now.token) }
+{
+    match mark.token {
+        Token::Bare => part(alloc, text, mark.at, 0, mark.len as usize),
+        _ => part(
+            alloc,
+            text,
+            mark.at,
+            1,
+            (mark.len as usize).saturating_sub(2),
+        ),
     }
 }
 
@@ -58,7 +60,7 @@ fn is_attribute(token: Token) -> bool
 fn placed(alloc: Global, text: &[u8], mark: &Mark) -> Mem<PlacedName>
     ensures { IfOk result (λ name. name ≡ placed text.now mark.now) }
 {
-    let name = part(alloc, text, mark.at, 1, mark.len.saturating_sub(2))?;
+    let name = name_part(alloc, text, mark)?;
     Ok(PlacedName { at: mark.at, name })
 }
 
@@ -96,13 +98,22 @@ fn gate_with(
     }
 }
 
+fn is_other(token: Token) -> bool
+    ensures { result ≡ is_other token }
+{
+    match token {
+        Token::Other => true,
+        _ => false,
+    }
+}
+
 fn are_attributes(marks: &[Mark]) -> bool
     ensures { result ≡ list_all (λ mark. is_attribute mark.token) marks.now }
 {
     marks.iter().all(|mark| is_attribute(mark.token))
 }
 
-fn word_len(kind: RateKind) -> u32
+fn word_len(kind: RateKind) -> usize
     ensures { result ≡ word_len kind }
 {
     match kind {
@@ -111,12 +122,29 @@ fn word_len(kind: RateKind) -> u32
     }
 }
 
-fn rate_of(alloc: Global, text: &[u8], mark: &Mark, kind: RateKind) -> Mem<Rate>
-    ensures { IfOk result (λ rate. rate ≡ rate_of text.now mark.now kind) }
+/// The rate of a token, whose number is what stands behind so many bytes of it.
+fn rate_of(alloc: Global, text: &[u8], mark: &Mark, kind: RateKind, from: usize) -> Mem<Rate>
+    ensures { IfOk result (λ rate. rate ≡ rate_of text.now mark.now kind from) }
 {
-    let len = word_len(kind);
-    let number = part(alloc, text, mark.at, len, mark.len.saturating_sub(len))?;
+    let number = part(
+        alloc,
+        text,
+        mark.at,
+        from,
+        (mark.len as usize).saturating_sub(from),
+    )?;
     Ok(Rate { kind, text: number })
+}
+
+/// The rate of a token that has one.
+fn rate_in(alloc: Global, text: &[u8], mark: &Mark) -> Mem<Option<Rate>>
+    ensures { IfOk result (λ rate. rate ≡ rate_in text.now mark.now mark.now.token) }
+{
+    match mark.token {
+        Token::Rate(kind) => Ok(Some(rate_of(alloc, text, mark, kind, word_len(kind))?)),
+        Token::Value(kind, from) => Ok(Some(rate_of(alloc, text, mark, kind, from)?)),
+        _ => Ok(None),
+    }
 }
 
 /// The first rate of some tokens.
@@ -124,11 +152,41 @@ fn first_rate(alloc: Global, text: &[u8], marks: &[Mark]) -> Mem<Option<Rate>>
     ensures { IfOk result (λ rate. rate ≡ first_rate text.now marks.now) }
 {
     for mark in marks {
-        if let Token::Rate(kind) = mark.token {
-            return Ok(Some(rate_of(alloc, text, mark, kind)?));
+        if let Some(rate) = rate_in(alloc, text, mark)? {
+            return Ok(Some(rate));
         }
     }
     Ok(None)
+}
+
+/// Whether one of these tells of a failure without a rate.
+fn has_other(marks: &[Mark]) -> bool
+    ensures { result ≡ list_any (λ mark. is_other mark.token) marks.now }
+{
+    marks.iter().any(|mark| is_other(mark.token))
+}
+
+/// The rate of an event of whose failure the text tells in another way.
+fn other_rate(alloc: Global, marks: &[Mark]) -> Mem<Option<Rate>>
+    ensures { IfOk result (λ rate. rate ≡ other_rate marks.now) }
+{
+    if !has_other(marks) {
+        return Ok(None);
+    }
+    Ok(Some(Rate {
+        kind: RateKind::Prob,
+        text: copied(alloc, b"1")?,
+    }))
+}
+
+/// The rate of an event of these attributes.
+fn some_rate(alloc: Global, text: &[u8], marks: &[Mark]) -> Mem<Option<Rate>>
+    ensures { IfOk result (λ rate. rate ≡ option_or (first_rate text.now marks.now) (other_rate marks.now)) }
+{
+    match first_rate(alloc, text, marks)? {
+        Some(rate) => Ok(Some(rate)),
+        None => other_rate(alloc, marks),
+    }
 }
 
 /// The line of an event.
@@ -143,7 +201,7 @@ fn event_with(
     if !are_attributes(marks) {
         return Ok(None);
     }
-    match first_rate(alloc, text, marks)? {
+    match some_rate(alloc, text, marks)? {
         Some(rate) => Ok(Some(Statement::Event(name, rate))),
         None => Ok(None),
     }
@@ -180,6 +238,14 @@ fn count_of(text: &[u8], mark: &Mark, len: usize) -> u32
     )
 }
 
+/// How many inputs are to be true, in a token that begins with `vot`.
+fn votes_of(text: &[u8], mark: &Mark) -> u32
+    ensures { result ≡ votes_of text.now mark.now }
+{
+    let digits = behind(behind(text, mark.at as usize), 3);
+    figures(digits, (mark.len as usize).saturating_sub(3))
+}
+
 /// What a line says that begins with a name.
 fn named_line(
     alloc: Global,
@@ -199,6 +265,10 @@ fn named_line(
             let kind = GateKind::AtLeast(least_of(text, mark, len));
             let count = count_of(text, mark, len);
             Ok(gate_with(name, kind, Some(count), names_of(alloc, text, rest)?))
+        }
+        Token::Votes => {
+            let kind = GateKind::AtLeast(votes_of(text, mark));
+            Ok(gate_with(name, kind, None, names_of(alloc, text, rest)?))
         }
         _ => event_with(alloc, text, name, marks),
     }
@@ -226,7 +296,7 @@ pub(crate) fn statement_of(alloc: Global, text: &[u8], marks: &[Mark]) -> Mem<Op
     };
     match mark.token {
         Token::Toplevel => top_line(alloc, text, mark.at, rest),
-        Token::Name => named_line(alloc, text, placed(alloc, text, mark)?, rest),
+        Token::Name | Token::Bare => named_line(alloc, text, placed(alloc, text, mark)?, rest),
         _ => Ok(None),
     }
 }

@@ -17,8 +17,18 @@ pub(crate) enum Token {
     Counts(usize),
     /// `lambda=` or `prob=`, and a number.
     Rate(RateKind),
-    /// `dorm=` and a number.
+    /// `dorm=` and a number, or another attribute that is read past.
     Dorm,
+    /// A name without quotes.
+    Bare,
+    /// `vot` and digits.
+    Votes,
+    /// `lambda` or `prob`, `=` and a number, behind so many bytes of the token.
+    Value(RateKind, usize),
+    /// An attribute of another distribution, or one whose value is a parameter.
+    Other,
+    /// The word of a dynamic gate.
+    Dynamic,
     /// `;`
     End,
 }

@@ -31,11 +31,13 @@ pub struct NamedTree {
 }
 
 /// What is wrong with a text; a place is a byte of it, from 0. Of several the first variant comes, and of one variant the
-/// least place.
+/// least place; of the first two, which are of lines, the least place.
 #[derive(Clone, Copy)]
 pub enum Flaw {
     /// What stands in a line is none, or the text ends in it; its first byte that is not a blank.
     BadLine(u32),
+    /// The same, and what stands there is a name and the word of a dynamic gate; the name. The wide reading alone knows these words.
+    DynamicGate(u32),
     /// A line says that its gate has another number of inputs than it names; the line.
     BadCount(u32),
     /// A second line of a name, or a second top; that line.

@@ -1,5 +1,5 @@
 -- Beside specs/Trees.antt: what no clause of `run` reaches.
-use Rattle.std.specs.Prelude.{ℕ, ◌≡◌, List, ◌++◌, length, map}
+use Rattle.std.specs.Prelude.{ℕ, ◌≡◌, Bool, List, ◌++◌, length, map}
 use Rattle.std.specs.List.{AllByRecursion}
 use Rattle.fault_system.specs.Systems.{NamesDiffer}
 use Rattle.round_gates.specs.inner.Targets.{IsWithin}
@@ -42,6 +42,6 @@ HaveNoTree lines (Refused flaw) = AreFlawed lines flaw
 HaveNoTree lines Memory = Unit {0}
 
 -- why a text has no tree; want of memory says nothing
-abbrev pub HasNoTree : List ℕ → GalileoFault → Type 0
-HasNoTree text (Refused flaw) = IsFlawed text flaw
-HasNoTree text Memory = Unit {0}
+abbrev pub HasNoTree : Bool → List ℕ → GalileoFault → Type 0
+HasNoTree wide text (Refused flaw) = IsFlawed wide text flaw
+HasNoTree wide text Memory = Unit {0}

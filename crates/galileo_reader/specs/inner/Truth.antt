@@ -1,5 +1,5 @@
 -- Beside specs/Truth.antt: what no clause of `run` reaches.
-use Rattle.std.specs.Prelude.{ℕ, ◌≡◌, List, [], ◌++◌, map, flat_map, Option, Some, None, option_to_list, slice_get, unwrap_or}
+use Rattle.std.specs.Prelude.{ℕ, ◌≡◌, Bool, List, [], ◌++◌, map, flat_map, Option, Some, None, option_to_list, slice_get, unwrap_or}
 use Rattle.std.specs.Option.{option_map}
 use Rattle.round_gates.specs.declared.tree.Input.{Input}
 use Rattle.round_gates.specs.declared.tree.Input.TheVariants as inputs
@@ -25,11 +25,11 @@ line_in (Event name rate) = Some (EventLine name.name rate)
 abbrev pub galileo_of : List Statement → PlacedName → Galileo
 galileo_of lines top = record { top = top.name; lines = flat_map (λ line. option_to_list (line_in line)) lines }
 
--- Bytes are lines with a top, which are true for a set of names of basic events: the top is in the least set of names that
+-- Bytes are, in the first reading or in the wide one, lines with a top, which are true for a set of names of basic events: the top is in the least set of names that
 -- has each event of the set and each gate whose line is true.
-pub record StaticTrue (text : List ℕ) (given : NameSet) : Type 0 where
+pub record StaticTrue (wide : Bool) (text : List ℕ) (given : NameSet) : Type 0 where
   pub lines : List Statement
-  pub are_lines : AreLines text 0 lines
+  pub are_lines : AreLines wide text 0 lines
   pub top : PlacedName
   pub top_is : top_of lines ≡ Some top
   pub tells : Tells (galileo_of lines top) given
