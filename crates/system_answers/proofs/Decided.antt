@@ -1,16 +1,16 @@
 -- One end at most passes of the texts of answers on a system, and where one does no other.
-use Rattle.std.proofs.Common.{◌≡◌, ℕ, Bool, List, Option, Some, None, refl, sym, ap, subst, ◌∙◌, inl, inr}
+use Rattle.std.proofs.Common.{◌≡◌, ℕ, Bool, false, List, Option, Some, None, refl, sym, ap, subst, ◌∙◌, inl, inr}
 use Rattle.plain_values.specs.declared.refusal.Refusal.{Refusal}
-use Rattle.fault_system.specs.Systems.{IsSystem, System}
+use Rattle.fault_system.specs.Systems.{IsSystem, System, event_name}
 use Rattle.fault_system.specs.Listings.{IsListing}
 use Rattle.cutset_lister.specs.inner.SetText.{HasTokenNames}
 use Rattle.cutset_lister.proofs.Scans.{one-set}
 use Rattle.property_reader.specs.declared.rate.Rate.{Rate}
+use Rattle.round_gates.specs.declared.tree.Tree.{Tree}
 use Rattle.round_gates.specs.Targets.{IsConstantly}
 use Rattle.round_gates.specs.Staged.{IsConstant}
 use Rattle.round_gates.proofs.Growing.{constantly, one-constant}
 use Rattle.round_gates.proofs.OneTree.{one-tree, tree-or-large}
-use Rattle.galileo_writer.specs.TreeText.{tree_text as text_of_tree}
 use Rattle.fta_words.specs.declared.command.Paging.{Paging}
 use Rattle.fault_system.proofs.Elements.{In-contains, contains_In}
 use Rattle.fault_system.proofs.Orders.{one_order}
@@ -18,7 +18,7 @@ use Rattle.backward_slice.specs.Slices.{HasLargeSlice, IsServed}
 use Rattle.backward_slice.proofs.OneSlice.{one_large, one_served, served_or_large}
 use Rattle.phases.specs.inner.Phases.{IsDecided, IsDecidedStep}
 use Rattle.phases.specs.declared.status.Status.{Status}
-use Rattle.phases.specs.declared.status.Status.TheVariants.{Refused, Constant}
+use Rattle.phases.specs.declared.status.Status.TheVariants.{Refused, Constant, Unrated}
 use Rattle.page_tokens.proofs.Once.{page_start_decided}
 use Rattle.path_sets.specs.Duals.{dual_of}
 use Rattle.path_sets.specs.PathSets.{HasLargePaths, IsPathListing}
@@ -30,8 +30,13 @@ use Rattle.galileo_reader.specs.Trees.{IsRead}
 use Rattle.galileo_reader.specs.TreeSystems.{system_of, target_of as top_of_tree}
 use Rattle.galileo_reader.proofs.OneAnswer.{one-read, one-wrong, read-apart}
 use Rattle.system_answers.specs.Galileo.{LacksNamedTree, flaw_refusal}
-use Rattle.system_answers.specs.Texts.{begin_of, cuts_text, galileo_of, galileo_paths_text, galileo_text, named_tree, paths_text, report_text, slice_of, start_of, target_of, tree_paths, tree_sets, tree_text}
-use Rattle.system_answers.specs.Trees.{LacksTree}
+use Rattle.system_answers.specs.Texts.{begin_of, cuts_text, drawn_form, drawn_text, formed_tree, galileo_paths_text, galileo_text, named_tree, paths_text, rated_tree, rates_of, report_text, slice_of, start_of, target_of, tree_for, tree_paths, tree_sets, tree_text}
+use Rattle.galileo_reader.proofs.SystemLaws.{tree-system}
+use Rattle.galileo_reader.proofs.TreeTexts.{tree-named}
+use Rattle.system_answers.specs.Trees.{IsFormed, IsShaped, IsTextIn, LacksTree}
+use Rattle.system_answers.specs.declared.form.TreeForm.{TreeForm}
+use Rattle.system_answers.specs.declared.form.TreeFormat.{TreeFormat}
+use Rattle.system_answers.specs.declared.form.TreeFormat.TheVariants.{Galileo, Mef, Dot}
 use Rattle.system_answers.specs.Voices.{Voice}
 
 pub one_listing : (system : System) (target : ℕ) (most : Option ℕ) (a b : List (List ℕ)) → IsListing system target most a → IsListing system target most b → a ≡ b
@@ -75,6 +80,26 @@ module _ (system : System) (target : ℕ) where
         ]
       ]
 
+-- a tree has one text at most in a format, and in a form that keeps its gates
+one_in_format : (format : TreeFormat) (legend : List (List ℕ)) (system : System) (rates : List Rate) (target : ℕ) (tree : Tree) (a b : List ℕ) → IsTextIn format legend system rates target tree a → IsTextIn format legend system rates target tree b → a ≡ b
+one_in_format Galileo legend system rates target tree a b h k = h.text_is ∙ sym k.text_is
+one_in_format Mef legend system rates target tree a b h k = h.text_is ∙ sym k.text_is
+one_in_format Dot legend system rates target tree a b h k = h ∙ sym k
+
+one_formed : (form : TreeForm) (system : System) (rates : List Rate) (target : ℕ) (tree : Tree) → form.merged ≡ false → (a b : List ℕ) → IsFormed form system rates target tree a → IsFormed form system rates target tree b → a ≡ b
+one_formed form system rates target tree plain a b h k =
+    let first : h.shaped ≡ tree = subst (λ merged. IsShaped merged tree h.shaped) plain h.is_shaped in
+    let second : k.shaped ≡ tree = subst (λ merged. IsShaped merged tree k.shaped) plain k.is_shaped in
+    one_in_format form.format form.legend system rates target tree a b
+    (subst (λ shaped. IsTextIn form.format form.legend system rates target shaped a) first h.is_text)
+    (subst (λ shaped. IsTextIn form.format form.legend system rates target shaped b) second k.is_text)
+
+none_or_some : {n : ℕ} → None ≡ Some n → ⊥
+none_or_some {n} is = cc (is)
+
+one_some : {m n : ℕ} → Some m ≡ Some n → m ≡ n
+one_some {m} {n} is = cc (is)
+
 -- texts are decided up to what is the same of statuses
 module _ (Same : Status → Status → Type 0) (itself : (status : Status) → Same status status) where
   same_refusal : (a b : Refusal) → a ≡ b → Same (Refused a) (Refused b)
@@ -116,15 +141,30 @@ module _ (Same : Status → Status → Type 0) (itself : (status : Status) → S
     ),
   )
 
-  galileo_decided : (system : System) (target : ℕ) (rates : List Rate) → IsSystem system → IsDecided Same (galileo_of target system rates)
-  galileo_decided system target rates is = record {
-    one_value = λ a b h k. h.text_is ∙ ap (λ tree. text_of_tree system tree rates) (one-tree system is target h.tree k.tree h.is_tree k.is_tree) ∙ sym k.text_is;
-    apart = λ text status it lacks. elim lacks [ inl x ↦ varies system target x.0 x.1 it.is_tree.varying | inr x ↦ tree-or-large system is target it.tree x.0 it.is_tree x.1 ];
+  pub tree_for_decided : (system : System) (target : ℕ) → IsSystem system → IsDecided Same (tree_for target system)
+  tree_for_decided system target is = record {
+    one_value = one-tree system is target;
+    apart = λ tree status it lacks. elim lacks [ inl x ↦ varies system target x.0 x.1 it.varying | inr x ↦ tree-or-large system is target tree x.0 it x.1 ];
     one_stop = λ a b h k. subst (Same a) (one_lack system target a b h k) (itself a);
   }
 
-  pub tree_decided : (target : List ℕ) (system : System) (rates : List Rate) → IsSystem system → IsDecided Same (tree_text target system rates)
-  tree_decided target system rates is = (target_decided target system, λ number named. (slice_decided number system, λ slice served. galileo_decided system number rates is))
+  pub rated_decided : (rated : Bool) (system : System) (rates : List Rate) (tree : Tree) → IsDecided Same (rated_tree rated system rates tree)
+  rated_decided rated system rates tree = record {
+    one_value = λ a b h k. refl;
+    apart = λ a status none lacks. none_or_some (sym none ∙ lacks.1);
+    one_stop = λ a b h k.
+        let same : h.0 ≡ k.0 = one_some (sym h.1 ∙ k.1) in
+        subst (Same a) (h.2 ∙ ap (λ n. Unrated (event_name system n)) same ∙ sym k.2) (itself a);
+  }
+
+  formed_decided : (number : ℕ) (form : TreeForm) (system : System) (rates : List Rate) → form.merged ≡ false → IsSystem system → IsDecided Same (formed_tree number form system rates)
+  formed_decided number form system rates plain is = (
+    tree_for_decided system number is,
+    λ tree tree_is. (rated_decided form.rated system rates tree, λ _ rated. decided_accepts Same (IsFormed form system rates number tree) (one_formed form system rates number tree plain)),
+  )
+
+  pub tree_decided : (target : List ℕ) (form : TreeForm) (system : System) (rates : List Rate) → form.merged ≡ false → IsSystem system → IsDecided Same (tree_text target form system rates)
+  tree_decided target form system rates plain is = (target_decided target system, λ number named. (slice_decided number system, λ slice served. formed_decided number form system rates plain is))
 
   pub listing_decided : (number : ℕ) (most : Option ℕ) (system : System) → IsDecidedStep Same (IsListing system number most) (λ status. ⊥)
   listing_decided number most system = decided_accepts Same (IsListing system number most) (one_listing system number most)
@@ -134,18 +174,28 @@ module _ (Same : Status → Status → Type 0) (itself : (status : Status) → S
       (target_decided target system, λ number named. (slice_decided number system, λ slice served. (listing_decided number max_order system, λ sets are. tt)))
 
   -- the tree of a text, and its listing
-  named_tree_decided : (text : List ℕ) → IsDecided Same (named_tree text)
-  named_tree_decided text =
-      decided_rejects Same (IsRead text) (LacksNamedTree text) (one-read text)
-      (λ tree refusal read lacks. read-apart text tree lacks.0 read lacks.1)
-      (λ a b x y. same_refusal a b (x.2 ∙ ap flaw_refusal (one-wrong text x.0 y.0 x.1 y.1) ∙ sym y.2))
+  pub named_tree_decided : (wide : Bool) (text : List ℕ) → IsDecided Same (named_tree wide text)
+  named_tree_decided wide text =
+      decided_rejects Same (IsRead wide text) (LacksNamedTree wide text) (one-read wide text)
+      (λ tree refusal read lacks. read-apart wide text tree lacks.0 read lacks.1)
+      (λ a b x y. same_refusal a b (x.2 ∙ ap flaw_refusal (one-wrong wide text x.0 y.0 x.1 y.1) ∙ sym y.2))
 
   pub tree_sets_decided : (limit max_order : Option ℕ) (tree : NamedTree) → IsDecided Same (tree_sets limit max_order tree)
   tree_sets_decided limit max_order tree =
       (slice_decided (top_of_tree tree tree.top) (system_of tree), λ slice served. (listing_decided (top_of_tree tree tree.top) max_order (system_of tree), λ sets are. tt))
 
-  pub galileo_text_decided : (limit max_order : Option ℕ) (text : List ℕ) → IsDecided Same (galileo_text limit max_order text)
-  galileo_text_decided limit max_order text = (named_tree_decided text, λ tree read. tree_sets_decided limit max_order tree)
+  pub galileo_text_decided : (wide : Bool) (limit max_order : Option ℕ) (text : List ℕ) → IsDecided Same (galileo_text wide limit max_order text)
+  galileo_text_decided wide limit max_order text = (named_tree_decided wide text, λ tree read. tree_sets_decided limit max_order tree)
+
+  -- and its picture
+  pub drawn_decided : (wide : Bool) (legend : List (List ℕ)) (text : List ℕ) → IsDecided Same (drawn_text wide false legend text)
+  drawn_decided wide legend text = (
+    named_tree_decided wide text,
+    λ tree read. (
+      slice_decided (top_of_tree tree tree.top) (system_of tree),
+      λ slice served. formed_decided (top_of_tree tree tree.top) (drawn_form false legend) (system_of tree) (rates_of tree) refl (tree-system tree (tree-named read.0 tree read.2)),
+    ),
+  )
 
   -- and its path listing
   pub tree_paths_decided : (limit max_order : Option ℕ) (tree : NamedTree) → IsDecided Same (tree_paths limit max_order tree)
@@ -157,5 +207,5 @@ module _ (Same : Status → Status → Type 0) (itself : (status : Status) → S
     ),
   )
 
-  pub galileo_paths_text_decided : (limit max_order : Option ℕ) (text : List ℕ) → IsDecided Same (galileo_paths_text limit max_order text)
-  galileo_paths_text_decided limit max_order text = (named_tree_decided text, λ tree read. tree_paths_decided limit max_order tree)
+  pub galileo_paths_text_decided : (wide : Bool) (limit max_order : Option ℕ) (text : List ℕ) → IsDecided Same (galileo_paths_text wide limit max_order text)
+  galileo_paths_text_decided wide limit max_order text = (named_tree_decided wide text, λ tree read. tree_paths_decided limit max_order tree)

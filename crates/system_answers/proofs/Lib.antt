@@ -2,6 +2,8 @@ mod Begins
 pub mod Targets
 pub mod Listed
 pub mod FirstSets
+mod Formed
+mod Shapes
 mod TreeTexts
 pub mod Reported
 pub mod Decided

@@ -1,5 +1,5 @@
 -- What is listed of the text of a target's tree is the target's listing, under the same names.
-use Rattle.std.proofs.Common.{ℕ, zero, suc, ◌+◌, ◌≡◌, ◌≤◌, List, [], ◌∷◌, ◌++◌, decimal, length, map, take, nat_lt, Option, None, Some, inl, inr, ap, ◌∙◌, sym, subst, refl, codes}
+use Rattle.std.proofs.Common.{ℕ, false, zero, suc, ◌+◌, ◌≡◌, ◌≤◌, List, [], ◌∷◌, ◌++◌, decimal, length, map, take, nat_lt, Option, None, Some, inl, inr, ap, ◌∙◌, sym, subst, refl, codes}
 use Rattle.std.specs.List.{AllByRecursion, flat_map}
 use lib.ListN.{length-map}
 use Rattle.std.proofs.lemmas.List.{take-map}
@@ -88,26 +88,26 @@ module _ (system : System) (is_system : IsSystem system) (names : HasTextNames s
       ∙ page-again limit own (sets-placed system is_system names target tree is rates max_order own own_listing)
       ∙ ap (listing_page Quoted system None limit) (one_listing system target max_order (map (events_at tree.events) own) sets (listing-again system is_system names target tree is rates max_order own own_listing) listing)
 
-module _ (system : System) (is_system : IsSystem system) (names : HasTextNames system) (rates : List Rate) (are_rates : AreRates system rates) (target : ℕ) (text : List ℕ) (it : IsTreeText system rates target text) (few : length text ≤ 4194304) where
-  tree-again : IsRead text (named_tree system it.tree rates)
+module _ (system : System) (is_system : IsSystem system) (names : HasTextNames system) (rates : List Rate) (are_rates : AreRates system rates) (target : ℕ) (tree : Tree) (tree_is : IsTreeFor system target tree) (text : List ℕ) (it : IsTreeText system rates target tree text) (few : length text ≤ 4194304) where
+  tree-again : IsRead false text (named_tree system tree rates)
   tree-again =
-      subst (λ t. IsRead t (named_tree system it.tree rates)) (sym it.text_is)
-      (text-read system it.tree rates is_system names are_rates (made-well system target it.tree is_system it.is_tree) (subst (λ t. length t ≤ 4194304) it.text_is few))
+      subst (λ t. IsRead false t (named_tree system tree rates)) (sym it.text_is)
+      (text-read system tree rates is_system names are_rates (made-well system target tree is_system tree_is) (subst (λ t. length t ≤ 4194304) it.text_is few))
 
-  pub written-page : (limit max_order : Option ℕ) (page : List ℕ) (sets : List (List ℕ)) → IsListing system target max_order sets → Passes (galileo_text limit max_order text) page → page ≡ listing_page Quoted system None limit sets
+  pub written-page : (limit max_order : Option ℕ) (page : List ℕ) (sets : List (List ℕ)) → IsListing system target max_order sets → Passes (galileo_text false limit max_order text) page → page ≡ listing_page Quoted system None limit sets
   written-page limit max_order page sets listing passes =
-      let (tree, read, passed) = passes.passed in
-      page-same system is_system names target it.tree it.is_tree rates limit max_order page sets listing
-      (subst (λ t. Passed (tree_sets limit max_order t) page) (one-read text tree (named_tree system it.tree rates) read tree-again) passed)
+      let (other, read, passed) = passes.passed in
+      page-same system is_system names target tree tree_is rates limit max_order page sets listing
+      (subst (λ t. Passed (tree_sets limit max_order t) page) (one-read false text other (named_tree system tree rates) read tree-again) passed)
 
-  pub written-stop : (limit max_order : Option ℕ) (status : Status) → Stops (galileo_text limit max_order text) status → IsRefusal (HasLargeSlice (system_of (named_tree system it.tree rates)) it.tree.top) status
+  pub written-stop : (limit max_order : Option ℕ) (status : Status) → Stops (galileo_text false limit max_order text) status → IsRefusal (HasLargeSlice (system_of (named_tree system tree rates)) tree.top) status
   written-stop limit max_order status stops =
       elim stops.stopped [
-        | inl (refusal, lacks, same) ↦ absurd (read-apart text (named_tree system it.tree rates) lacks.0 tree-again lacks.1)
-        | inr (tree, read, stopped) ↦ in-tree (subst (λ t. Stopped (tree_sets limit max_order t) status) (one-read text tree (named_tree system it.tree rates) read tree-again) stopped)
+        | inl (refusal, lacks, same) ↦ absurd (read-apart false text (named_tree system tree rates) lacks.0 tree-again lacks.1)
+        | inr (other, read, stopped) ↦ in-tree (subst (λ t. Stopped (tree_sets limit max_order t) status) (one-read false text other (named_tree system tree rates) read tree-again) stopped)
       ]
     where
-      in-tree : Stopped (tree_sets limit max_order (named_tree system it.tree rates)) status → IsRefusal (HasLargeSlice (system_of (named_tree system it.tree rates)) it.tree.top) status
+      in-tree : Stopped (tree_sets limit max_order (named_tree system tree rates)) status → IsRefusal (HasLargeSlice (system_of (named_tree system tree rates)) tree.top) status
       in-tree stopped = elim stopped [
         | inl large ↦ large
         | inr (slice, served, later) ↦ elim later [ inl none ↦ absurd none | inr (sets, listing, none) ↦ absurd none ]

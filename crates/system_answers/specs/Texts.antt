@@ -1,11 +1,13 @@
 -- The texts of answers on a system, as phases.
-use Rattle.std.specs.Prelude.{ℕ, Bool, true, false, List, Option, None, Some}
+use Rattle.std.specs.Prelude.{◌≡◌, ℕ, Bool, true, false, List, Option, None, Some, map}
 use Rattle.phases.specs.Phases.{Phase, yields, tells, tests, accepts, answers, rejects, ◌>>=◌}
 use Rattle.fault_system.specs.Systems.{System}
 use Rattle.fault_system.specs.Listings.{IsListing}
 use Rattle.backward_slice.specs.Slices.{HasLargeSlice, IsServed}
 use Rattle.backward_slice.specs.declared.parts.Slice.{Slice}
 use Rattle.property_reader.specs.declared.rate.Rate.{Rate}
+use Rattle.round_gates.specs.Targets.{IsTreeFor}
+use Rattle.round_gates.specs.declared.tree.Tree.{Tree}
 use Rattle.cutset_writer.specs.Text.{listing_page, marked_page}
 use Rattle.cutset_writer.specs.declared.form.SetForm.{SetForm}
 use Rattle.cutset_writer.specs.declared.form.SetForm.TheVariants.{Quoted, Token}
@@ -18,7 +20,9 @@ use Rattle.path_sets.specs.PathSets.{HasLargePaths, IsPathListing}
 use Rattle.system_answers.specs.Galileo.{LacksNamedTree}
 use Rattle.fta_words.specs.declared.command.Paging.{Paging}
 use Rattle.system_answers.specs.Targets.{IsFactNamed, IsStart, LacksStart, LacksTarget}
-use Rattle.system_answers.specs.Trees.{IsTreeText, LacksTree}
+use Rattle.system_answers.specs.Trees.{IsFormed, LacksRate, LacksTree, unrated_in}
+use Rattle.system_answers.specs.declared.form.TreeForm.{TreeForm}
+use Rattle.system_answers.specs.declared.form.TreeFormat.TheVariants.{Dot}
 use Rattle.system_answers.specs.Voices.{Voice, voices_text}
 
 -- the number of the fact that the target names
@@ -63,16 +67,27 @@ cuts_text target paging tokens key system = do
   _ ← slice_of number system
   page_of number start paging (named_key tokens key) system
 
--- the text of a target's tree
-abbrev pub galileo_of : ℕ → System → List Rate → Phase (List ℕ)
-galileo_of number system rates = tells (IsTreeText system rates number) (LacksTree system number)
+-- the tree of a target
+abbrev pub tree_for : ℕ → System → Phase Tree
+tree_for number system = tells (IsTreeFor system number) (LacksTree system number)
+
+-- it passes where no event of a tree lacks a rate that it must have
+abbrev pub rated_tree : Bool → System → List Rate → Tree → Phase (Unit {0})
+rated_tree rated system rates tree = tells (λ _. unrated_in rated rates tree ≡ None) (LacksRate rated system rates tree)
+
+-- the text of a target's tree in a form, where its slice is not too large
+abbrev pub formed_tree : ℕ → TreeForm → System → List Rate → Phase (List ℕ)
+formed_tree number form system rates = do
+  tree ← tree_for number system
+  _ ← rated_tree form.rated system rates tree
+  accepts (IsFormed form system rates number tree)
 
 -- the text of `tree`
-abbrev pub tree_text : List ℕ → System → List Rate → Phase (List ℕ)
-tree_text target system rates = do
+abbrev pub tree_text : List ℕ → TreeForm → System → List Rate → Phase (List ℕ)
+tree_text target form system rates = do
   number ← target_of target system
   _ ← slice_of number system
-  galileo_of number system rates
+  formed_tree number form system rates
 
 -- the text of the chosen reports on a target's listing
 abbrev pub reports_of : ℕ → List ℕ → Option ℕ → List Voice → System → Phase (List ℕ)
@@ -102,9 +117,9 @@ paths_text target paging system = do
   _ ← slice_of number system
   path_page number start paging system
 
--- the tree of a Galileo text, which is that of the file of the number 0
-abbrev pub named_tree : List ℕ → Phase NamedTree
-named_tree text = rejects (IsRead text) (LacksNamedTree text)
+-- the tree of a Galileo text, which is that of the file of the number 0, in the first reading or in the wide one
+abbrev pub named_tree : Bool → List ℕ → Phase NamedTree
+named_tree wide text = rejects (IsRead wide text) (LacksNamedTree wide text)
 
 -- the minimal cut sets of a tree, in quotes: as many as a limit lets, of so many events at most
 abbrev pub tree_sets : Option ℕ → Option ℕ → NamedTree → Phase (List ℕ)
@@ -113,9 +128,9 @@ tree_sets limit max_order tree = do
   page_in Quoted (top_of_tree tree tree.top) None limit max_order (system_of tree)
 
 -- the text of `galileo`
-abbrev pub galileo_text : Option ℕ → Option ℕ → List ℕ → Phase (List ℕ)
-galileo_text limit max_order text = do
-  tree ← named_tree text
+abbrev pub galileo_text : Bool → Option ℕ → Option ℕ → List ℕ → Phase (List ℕ)
+galileo_text wide limit max_order text = do
+  tree ← named_tree wide text
   tree_sets limit max_order tree
 
 -- the page of the minimal path sets of a target, in quotes, in a system in which no fact reaches itself; its slice in the dual is not
@@ -133,7 +148,27 @@ tree_paths limit max_order tree = do
   dual_page (top_of_tree tree tree.top) limit max_order (system_of tree)
 
 -- the text of `galileo` with `--paths`
-abbrev pub galileo_paths_text : Option ℕ → Option ℕ → List ℕ → Phase (List ℕ)
-galileo_paths_text limit max_order text = do
-  tree ← named_tree text
+abbrev pub galileo_paths_text : Bool → Option ℕ → Option ℕ → List ℕ → Phase (List ℕ)
+galileo_paths_text wide limit max_order text = do
+  tree ← named_tree wide text
   tree_paths limit max_order tree
+
+-- the rates of the events of a tree
+abbrev pub rates_of : NamedTree → List Rate
+rates_of tree = map (λ event. event.rate) tree.events
+
+-- the form of a picture of a tree, with these lines in its legend
+abbrev pub drawn_form : Bool → List (List ℕ) → TreeForm
+drawn_form merged legend = record { format = Dot; merged = merged; rated = false; legend = legend }
+
+-- the picture of a tree
+abbrev pub drawn_tree : Bool → List (List ℕ) → NamedTree → Phase (List ℕ)
+drawn_tree merged legend tree = do
+  _ ← slice_of (top_of_tree tree tree.top) (system_of tree)
+  formed_tree (top_of_tree tree tree.top) (drawn_form merged legend) (system_of tree) (rates_of tree)
+
+-- the text of `galileo` with `--format dot`
+abbrev pub drawn_text : Bool → Bool → List (List ℕ) → List ℕ → Phase (List ℕ)
+drawn_text wide merged legend text = do
+  tree ← named_tree wide text
+  drawn_tree merged legend tree

@@ -1,26 +1,27 @@
 //! The texts of answers on a system.
 
 ghost use Rattle.std.specs.Prelude.{vec_len};
-ghost use Rattle.phases.specs.inner.Meets.{Meets, MeetsBut};
+ghost use Rattle.phases.specs.inner.Meets.{IsMemory, Meets, MeetsBut};
 ghost use Rattle.plain_values.specs.Rising.{RisesWithin};
 ghost use Rattle.cutset_lister.specs.inner.SetText.{HasTokenNames};
 ghost use Rattle.galileo_writer.specs.inner.TreeText.{AreRates, HasTextNames};
 ghost use Rattle.cut_reports.specs.Feeding.{IsKept, RoseAt};
 ghost use Rattle.cut_reports.specs.Places.{AtChosen};
 ghost use Rattle.system_answers.specs.inner.Ends.{EndsReports};
+ghost use Rattle.system_answers.specs.inner.Forms.{tree_bytes};
 ghost use Rattle.system_answers.specs.Texts.{cuts_text, paths_text, report_text, tree_text};
 ghost use Rattle.system_answers.specs.Voices.{voices_of};
 
 use crate::cut_sets::{find_begin, find_slice, find_start, named_key, page};
+use crate::form::{TreeForm, TreeText};
 use crate::path_pages::path_page;
 use crate::reports::text_of_reports;
 use crate::target::find_target;
-use crate::trees::galileo;
+use crate::trees::formed;
 use cutset_writer::ListingPage;
 use fault_system::FaultSystem;
 use fta_outside::Report;
 use fta_words::Paging;
-use galileo_writer::TreeLines;
 use phases::Status;
 use plain_values::{List, Name};
 use property_reader::Rate;
@@ -63,20 +64,21 @@ pub fn paths(
     path_page(alloc, system, &part, start, paging)
 }
 
-/// The tree of a target in a system, in which the events have these rates.
+/// The tree of a target in a system, in which the events have these rates, in a form.
 pub fn tree(
     alloc: Global,
     system: FaultSystem,
     rates: List<Rate>,
     target: &Name,
-) -> Result<TreeLines, Status>
+    form: TreeForm,
+) -> Result<TreeText, Status>
     requires names { HasTextNames system }
     requires rates { AreRates system rates }
-    ensures { Meets (tree_text target.now system rates) result }
+    ensures { MeetsBut IsMemory tree_bytes (tree_text target.now form system rates) result }
 {
     let number = find_target(&system, target)?;
     let part = find_slice(alloc, &system, number)?;
-    galileo(alloc, system, rates, &part)
+    formed(alloc, system, rates, &part, form)
 }
 
 /// What the chosen reports say of the listing of a target in a system.

@@ -17,48 +17,50 @@ use phases::Status;
 use plain_values::{Code, Place, Refusal};
 use std::alloc::Global;
 
-/// The page of the minimal cut sets of the tree in a Galileo text of at most 4,194,304 bytes: as many as the limit lets, of so many
-/// events at most. Places of refusals are those of the file of the number 0.
+/// The page of the minimal cut sets of the tree in a Galileo text of at most 4,194,304 bytes, in the first reading or in the wide one:
+/// as many as the limit lets, of so many events at most. Places of refusals are those of the file of the number 0.
 pub fn tree_sets(
     alloc: Global,
     text: &[u8],
+    wide: bool,
     limit: Option<u32>,
     max_order: Option<u32>,
 ) -> Result<ListingPage, Status>
     requires { length text.now ≤ 4194304 }
-    ensures { Meets (galileo_text limit max_order text.now) result }
+    ensures { Meets (galileo_text wide limit max_order text.now) result }
 {
-    let tree = tree_in(alloc, text)?;
+    let tree = tree_in(alloc, text, wide)?;
     sets_of(alloc, &tree, limit, max_order)
 }
 
-/// The page of the minimal path sets of the tree in a Galileo text of at most 4,194,304 bytes: as many as the limit lets, of so many
-/// events at most. Places of refusals are those of the file of the number 0.
+/// The page of the minimal path sets of the tree in a Galileo text of at most 4,194,304 bytes, in the first reading or in the wide
+/// one: as many as the limit lets, of so many events at most. Places of refusals are those of the file of the number 0.
 ///
 /// They are the smallest sets of basic events whose absence keeps the top from being true. A top that is true under no events has
 /// the empty set alone, and one that is true under all has none.
 pub fn tree_paths(
     alloc: Global,
     text: &[u8],
+    wide: bool,
     limit: Option<u32>,
     max_order: Option<u32>,
 ) -> Result<ListingPage, Status>
     requires { length text.now ≤ 4194304 }
-    ensures { Meets (galileo_paths_text limit max_order text.now) result }
+    ensures { Meets (galileo_paths_text wide limit max_order text.now) result }
 {
-    let tree = tree_in(alloc, text)?;
+    let tree = tree_in(alloc, text, wide)?;
     paths_of(alloc, &tree, limit, max_order)
 }
 
 /// The tree of a text, in whose system no fact reaches itself.
-fn tree_in(alloc: Global, text: &[u8]) -> Result<NamedTree, Status>
+pub(crate) fn tree_in(alloc: Global, text: &[u8], wide: bool) -> Result<NamedTree, Status>
     requires { length text.now ≤ 4194304 }
-    ensures tree { Meets (named_tree text.now) result }
+    ensures tree { Meets (named_tree wide text.now) result }
     ensures named { IfOk result IsNamedTree }
     ensures free { IfOk result (λ tree. IsWithoutFeedback (system_of tree)) }
 {
     no_feedback();
-    match read(alloc, text) {
+    match read(alloc, text, wide) {
         Ok(tree) => Ok(tree),
         Err(GalileoFault::Refused(flaw)) => Err(Status::Refused(refusal_of(flaw))),
         Err(GalileoFault::Memory) => Err(Status::Memory),
@@ -71,6 +73,7 @@ fn refusal_of(flaw: Flaw) -> Refusal
 {
     match flaw {
         Flaw::BadLine(at) => Refusal::new(Code::BadLine, Place::At { file: 0, at }),
+        Flaw::DynamicGate(at) => Refusal::new(Code::DynamicGate, Place::At { file: 0, at }),
         Flaw::BadCount(at) => Refusal::new(Code::BadCount, Place::At { file: 0, at }),
         Flaw::DuplicateNode(at) => Refusal::new(Code::DuplicateNode, Place::At { file: 0, at }),
         Flaw::NoTop => Refusal::new(Code::NoTop, Place::Whole(0)),

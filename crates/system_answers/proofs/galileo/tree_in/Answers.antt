@@ -1,4 +1,4 @@
 use Rattle.system_answers.proofs.galileo.tree_in.Goals as goal
 
 pub returns-in-Ok-clause-free : goal.returns-in-Ok-clause-free
-returns-in-Ok-clause-free c = c.no_feedback.ensures c.args.text.now c.in-Ok.tree c.in-Ok.ensures.answer
+returns-in-Ok-clause-free c = c.no_feedback.ensures c.args.wide c.args.text.now c.in-Ok.tree c.in-Ok.ensures.answer

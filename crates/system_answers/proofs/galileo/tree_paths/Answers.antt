@@ -5,4 +5,4 @@ use Rattle.system_answers.proofs.galileo.tree_paths.Goals as goal
 
 pub returns : goal.returns
 returns c =
-    meets_later IsMemory (λ page. page) (named_tree c.args.text.now) (tree_paths c.args.limit c.args.max_order) c.in_ok-tree.tree c.paths_of.result (λ s memory. memory) c.in_ok-tree.ensures.tree c.paths_of.ensures
+    meets_later IsMemory (λ page. page) (named_tree c.args.wide c.args.text.now) (tree_paths c.args.limit c.args.max_order) c.in_ok-tree.tree c.paths_of.result (λ s memory. memory) c.in_ok-tree.ensures.tree c.paths_of.ensures

@@ -5,4 +5,4 @@ use Rattle.system_answers.proofs.galileo.tree_sets.Goals as goal
 
 pub returns : goal.returns
 returns c =
-    meets_later IsMemory (λ page. page) (named_tree c.args.text.now) (tree_sets c.args.limit c.args.max_order) c.in_ok-tree.tree c.sets_of.result (λ s memory. memory) c.in_ok-tree.ensures.tree c.sets_of.ensures
+    meets_later IsMemory (λ page. page) (named_tree c.args.wide c.args.text.now) (tree_sets c.args.limit c.args.max_order) c.in_ok-tree.tree c.sets_of.result (λ s memory. memory) c.in_ok-tree.ensures.tree c.sets_of.ensures

@@ -1,5 +1,9 @@
-use Rattle.phases.proofs.Steps.{exits}
+use Rattle.std.proofs.Common.{ℕ, List, sym, subst}
+use Rattle.system_answers.specs.Trees.{IsTreeText}
+use Rattle.system_answers.proofs.TreeTexts.{galileo_of_target}
 use Rattle.system_answers.proofs.trees.galileo.Goals as goal
 
-pub returns-in_err-tree : goal.returns-in_err-tree
-returns-in_err-tree c = exits _ _ _ _ _ c.from_residual.ensures.1 (c.in_err-tree.ensures.none c.args.rates)
+pub returns : goal.returns
+returns c = λ target for.
+    subst (λ (text : List ℕ). IsTreeText c.args.system c.args.rates target c.args.tree text) (sym c.new.ensures.text)
+    (galileo_of_target c.args.system c.args.tree c.args.rates target for c.new.ensures.sound c.new.ensures.truth)
