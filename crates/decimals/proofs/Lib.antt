@@ -2,3 +2,8 @@ pub mod Cuts
 pub mod Powers
 pub mod Sums
 pub mod Bounds
+pub mod FirstDigits
+pub mod EqualParts
+pub mod ReadBounds
+pub mod Trimming
+pub mod ReadBack

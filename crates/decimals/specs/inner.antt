@@ -1,2 +1,5 @@
 pub mod Decimals
 pub mod Aligned
+pub mod Numerals
+pub mod Figures
+pub mod DecimalTexts

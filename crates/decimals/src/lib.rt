@@ -7,7 +7,16 @@
 mod aligned;
 mod arithmetic;
 mod decimal;
+mod decimal_text;
+mod digits;
+mod figures;
+mod numeral;
+mod parted;
+mod read;
+mod reading;
 mod rounding;
 mod written;
 
 pub use decimal::Decimal;
+pub use decimal_text::text_reads_back;
+pub use numeral::Numeral;

@@ -1,0 +1,88 @@
+//! Parts of decimals, and decimals that are no more than the whole.
+
+ghost use Rattle.std.specs.Prelude.{◌≡◌, ◌≤◌, ◌<◌, ◌*◌, ◌^◌, IsTrue, false, min};
+ghost use Rattle.decimals.specs.inner.Decimals.{parts};
+
+use crate::decimal::Decimal;
+use crate::rounding::power;
+
+impl Decimal {
+    /// Whether it is the whole at most.
+    pub fn is_part(self, whole: u32) -> bool
+        ensures within { IsTrue result → parts self ≤ 10 ^ whole }
+        ensures above { result ≡ false → 10 ^ whole < parts self }
+    {
+        if self.mantissa == 0 {
+            return true;
+        }
+        if self.exponent > whole {
+            return false;
+        }
+        let gap = whole - self.exponent;
+        if gap > 18 {
+            return true;
+        }
+        self.mantissa <= power(gap)
+    }
+
+    /// The same, or the whole where it is more.
+    pub fn within(self, whole: u32) -> Decimal
+        ensures { parts result ≡ min (parts self) (10 ^ whole) }
+    {
+        if self.is_part(whole) {
+            return self;
+        }
+        Decimal {
+            mantissa: 1,
+            exponent: whole,
+        }
+    }
+
+    /// The same with a digit more, where there is room.
+    fn lifted_once(self) -> Decimal
+        ensures { parts result ≡ parts self }
+    {
+        if self.mantissa <= 100_000_000_000_000_000 && self.exponent > 0 {
+            return Decimal {
+                mantissa: self.mantissa * 10,
+                exponent: self.exponent - 1,
+            };
+        }
+        self
+    }
+
+    /// The same with as many digits as there may be.
+    fn lifted(self) -> Decimal
+        ensures { parts result ≡ parts self }
+    {
+        let mut lifted = self;
+        for _step in 0..18 {
+            lifted = lifted.lifted_once();
+        }
+        lifted
+    }
+
+    /// At most one of so many equal parts.
+    pub fn over_down(self, count: u32) -> Decimal
+        requires { 0 < count }
+        ensures { parts result * count ≤ parts self }
+    {
+        let lifted = self.lifted();
+        Decimal {
+            mantissa: lifted.mantissa / count as u64,
+            exponent: lifted.exponent,
+        }
+    }
+
+    /// At least one of so many equal parts.
+    pub fn over_up(self, count: u32) -> Decimal
+        requires { 0 < count }
+        ensures { parts self ≤ parts result * count }
+    {
+        let lifted = self.lifted();
+        Decimal {
+            mantissa: lifted.mantissa.div_ceil(count as u64),
+            exponent: lifted.exponent,
+        }
+    }
+}
