@@ -5,3 +5,4 @@ pub mod Growing
 pub mod Bounding
 pub mod Nearness
 pub mod Deciding
+pub mod Setting

@@ -4,3 +4,4 @@ pub mod Bounded
 pub mod Decided
 pub mod Widths
 pub mod Remembered
+pub mod Certain

@@ -50,7 +50,7 @@ fn note_bounds(
 
 /// The bounds of a family; those of what it covers without its first event and with it come first. None where more families
 /// come up than there may be, or an event has no rate.
-fn bounds_in(
+pub(crate) fn bounds_in(
     store: &mut Store,
     rates: &[Rate],
     whole: u32,

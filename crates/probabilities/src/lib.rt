@@ -3,10 +3,12 @@
 #![tactic(auto)]
 
 mod families;
+mod importance;
 mod laws;
 mod rates;
 mod steps;
 
 pub use families::family_bounds;
+pub use importance::{Importance, event_importance};
 pub use laws::{all_outcomes, by_cases, ends, grows, lower_step, upper_step};
 pub use rates::{Bounds, Rate};

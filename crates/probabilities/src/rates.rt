@@ -3,6 +3,7 @@
 ghost use Rattle.std.specs.Prelude.{ℕ, ◌≤◌, ◌≡◌, ◌^◌, ◌-◌};
 ghost use Rattle.decimals.specs.inner.Decimals.{parts, IsNear, HasPlaces};
 ghost use Rattle.probabilities.specs.inner.Decided.{FitsWhole};
+ghost use Rattle.probabilities.specs.inner.Certain.{IsCertain};
 ghost use Rattle.probabilities.specs.inner.Widths.{IsNarrowRate};
 
 use decimals::Decimal;
@@ -74,6 +75,48 @@ impl Rate {
             high: always,
             low_not: always,
             high_not: never,
+        }
+    }
+
+    /// The rate of an event that never occurs.
+    pub fn never(whole: u32) -> Rate
+        ensures certain { IsCertain whole 0 result }
+        ensures narrow { (places : ℕ) → IsNarrowRate whole places result }
+    {
+        let none = Decimal {
+            mantissa: 0,
+            exponent: 0,
+        };
+        let all = Decimal {
+            mantissa: 1,
+            exponent: whole,
+        };
+        Rate {
+            low: none,
+            high: none,
+            low_not: all,
+            high_not: all,
+        }
+    }
+
+    /// The rate of an event that always occurs.
+    pub fn always(whole: u32) -> Rate
+        ensures certain { IsCertain whole (10 ^ whole) result }
+        ensures narrow { (places : ℕ) → IsNarrowRate whole places result }
+    {
+        let none = Decimal {
+            mantissa: 0,
+            exponent: 0,
+        };
+        let all = Decimal {
+            mantissa: 1,
+            exponent: whole,
+        };
+        Rate {
+            low: all,
+            high: all,
+            low_not: none,
+            high_not: none,
         }
     }
 }

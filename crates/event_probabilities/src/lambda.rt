@@ -1,0 +1,71 @@
+//! The probability of an event that fails so often an hour.
+
+ghost use Rattle.std.specs.Prelude.{ℕ, ◌≡◌, ◌≤◌, ◌+◌, ◌*◌, ◌^◌, IfSome, min};
+ghost use Rattle.decimals.specs.inner.Decimals.{parts};
+ghost use Rattle.decimals.specs.inner.Numerals.{Number};
+ghost use Rattle.decimals.specs.inner.Figures.{IsRead};
+ghost use Rattle.exponentials.specs.inner.Spans.{AreChances, IsWithin};
+ghost use Rattle.event_probabilities.specs.inner.EventRates.{IsLambdaRate, IsSpanOf, over, under};
+ghost use Rattle.probabilities.specs.inner.Decided.{FitsWhole};
+
+use crate::numbers::span_of;
+use decimals::Numeral;
+use exponentials::{Chance, Span, chance_of};
+use probabilities::Rate;
+
+/// The bounds of a product, of which the second factor is in parts of a whole that is 20 zeros wider. None where it is above
+/// 10,000,000,000,000.
+fn product_of(lambda: Span, hours: Span, whole: u32) -> Option<Span>
+    requires { whole ≤ 4000000000 }
+    ensures { (first second : Number) → IsSpanOf whole first lambda → IsSpanOf (whole + 20) second hours
+        → IfSome result (IsWithin whole (over first second) (under first second)) }
+{
+    let high = lambda.high.times_up(hours.high, whole + 20);
+    if !high.is_part(whole + 13) {
+        return None;
+    }
+    Some(Span {
+        low: lambda.low.times_down(hours.low, whole + 20),
+        high,
+    })
+}
+
+/// The bounds of lambda times hours. None where one of them is more than any decimal, or the product is above 10,000,000,000,000.
+fn exposure(lambda: Numeral, hours: Numeral, whole: u32) -> Option<Span>
+    requires { whole ≤ 4000000000 }
+    ensures { (first second : Number) → IsRead first lambda → IsRead second hours
+        → IfSome result (IsWithin whole (over first second) (under first second)) }
+{
+    let Some(first) = span_of(lambda, whole) else {
+        return None;
+    };
+    let Some(second) = span_of(hours, whole + 20) else {
+        return None;
+    };
+    product_of(first, second, whole)
+}
+
+/// The rate that bounds make, within the whole.
+fn held(chance: Chance, whole: u32) -> Rate
+    ensures fits { FitsWhole whole result }
+    ensures low { parts result.low ≡ min (parts chance.span.low) (10 ^ whole) }
+    ensures high { parts result.high ≡ min (parts chance.span.high) (10 ^ whole) }
+{
+    Rate::between(
+        chance.span.low.within(whole),
+        chance.span.high.within(whole),
+        whole,
+    )
+}
+
+/// The rate of an event that fails so often an hour, within so many hours.
+pub fn lambda_rate(lambda: Numeral, hours: Numeral, whole: u32) -> Rate
+    requires { whole ≤ 4000000000 }
+    ensures fits { FitsWhole whole result }
+    ensures rate { (first second : Number) → IsRead first lambda → IsRead second hours → IsLambdaRate whole first second result }
+{
+    match exposure(lambda, hours, whole) {
+        Some(x) => held(chance_of(x, whole), whole),
+        None => Rate::unknown(whole),
+    }
+}

@@ -1,0 +1,23 @@
+//! Bounds of numbers, as a text has them.
+
+ghost use Rattle.std.specs.Prelude.{ℕ, ◌≤◌, ◌*◌, ◌^◌, IfSome};
+ghost use Rattle.decimals.specs.inner.Decimals.{parts};
+ghost use Rattle.decimals.specs.inner.Numerals.{Number};
+ghost use Rattle.decimals.specs.inner.Figures.{IsRead};
+ghost use Rattle.event_probabilities.specs.inner.EventRates.{IsSpanOf};
+
+use decimals::Numeral;
+use exponentials::Span;
+
+/// The bounds of a number, in parts of the whole. None where it is more than any decimal.
+pub fn span_of(number: Numeral, whole: u32) -> Option<Span>
+    ensures { (read : Number) → IsRead read number → IfSome result (IsSpanOf whole read) }
+{
+    let Some(low) = number.down(whole) else {
+        return None;
+    };
+    let Some(high) = number.up(whole) else {
+        return None;
+    };
+    Some(Span { low, high })
+}

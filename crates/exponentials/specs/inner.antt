@@ -1,0 +1,3 @@
+pub mod Exponentials
+pub mod Spans
+pub mod Terms

@@ -1,0 +1,80 @@
+//! 1 - e^(-x) for any x, by halving x and squaring e^(-x/2).
+
+ghost use Rattle.std.specs.Prelude.{ℕ, ◌≡◌, ◌≤◌, ◌<◌, ◌-◌, ◌*◌, ◌^◌};
+ghost use Rattle.decimals.specs.inner.Decimals.{parts};
+ghost use Rattle.exponentials.specs.inner.Exponentials.{IsChance};
+ghost use Rattle.exponentials.specs.inner.Spans.{AreChances, IsWithin};
+
+use crate::series::series;
+use crate::span::Span;
+
+/// The bounds of 1 - e^(-x), in parts of the whole, and how often x was halved for them.
+#[derive(Clone, Copy)]
+pub struct Chance {
+    pub span: Span,
+    pub halvings: u32,
+}
+
+/// Bounds that were halved so often.
+#[derive(Clone, Copy)]
+struct HalvedSpan {
+    x: Span,
+    halvings: u32,
+}
+
+/// The bounds, halved until they are the whole at most, or 40 times.
+fn halved(x: Span, whole: u32) -> HalvedSpan
+    ensures low { parts result.x.low * 2 ^ result.halvings ≤ parts x.low }
+    ensures high { parts x.high ≤ parts result.x.high * 2 ^ result.halvings }
+{
+    let mut half = x;
+    let mut halvings = 0_u32;
+    while halvings < 40 && !half.high.is_part(whole) {
+        half = half.half();
+        halvings += 1;
+    }
+    HalvedSpan { x: half, halvings }
+}
+
+/// The bounds of a number that is squared so often.
+fn squared(number: Span, times: u32, whole: u32) -> Span
+    ensures { (n d : ℕ) → n ≤ d → IsWithin whole n d number → IsWithin whole (n ^ (2 ^ times)) (d ^ (2 ^ times)) result }
+{
+    let mut power = number;
+    for _time in 0..times {
+        power = power.times(power, whole);
+    }
+    power
+}
+
+/// The bounds of 1 - e^(-x) from x that was halved so often, and is 1 at most.
+fn squared_chance(x: Span, halvings: u32, whole: u32) -> Span
+    requires { parts x.high ≤ 10 ^ whole }
+    ensures { (a b d m : ℕ) → 0 < b → IsWithin whole a b x → IsChance a b d m
+        → IsWithin whole (d ^ (2 ^ halvings) - (d - m) ^ (2 ^ halvings)) (d ^ (2 ^ halvings)) result }
+{
+    squared(series(x, whole).rest(whole), halvings, whole).rest(whole)
+}
+
+/// The bounds of 1 - e^(-x), from bounds of x in parts of the whole.
+pub fn chance_of(x: Span, whole: u32) -> Chance
+    ensures { AreChances whole x result }
+{
+    if x.high.is_part(whole) {
+        return Chance {
+            span: series(x, whole),
+            halvings: 0,
+        };
+    }
+    let half = halved(x, whole);
+    if half.x.high.is_part(whole) {
+        return Chance {
+            span: squared_chance(half.x, half.halvings, whole),
+            halvings: half.halvings,
+        };
+    }
+    Chance {
+        span: Span::unknown(whole),
+        halvings: half.halvings,
+    }
+}

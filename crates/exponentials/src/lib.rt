@@ -1,0 +1,11 @@
+//! Bounds of 1 - e^(-x), the probability that an exponential distribution gives, in decimals that are rounded outward.
+//!
+//! No real number and no float comes up: what is said is said of all numbers that lie between the partial sums of the series.
+#![tactic(auto)]
+
+mod halving;
+mod series;
+mod span;
+
+pub use halving::{Chance, chance_of};
+pub use span::Span;

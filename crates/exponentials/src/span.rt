@@ -1,0 +1,110 @@
+//! Bounds of numbers, in parts of the whole.
+
+ghost use Rattle.std.specs.Prelude.{ℕ, ◌≡◌, ◌≤◌, ◌<◌, ◌-◌, ◌*◌, ◌^◌};
+ghost use Rattle.decimals.specs.inner.Decimals.{parts};
+ghost use Rattle.exponentials.specs.inner.Spans.{IsWithin};
+ghost use Rattle.exponentials.specs.inner.Terms.{IsNextTerm, IsProduct, IsSum};
+
+use decimals::Decimal;
+
+/// The bounds of a number, in parts of the whole.
+#[derive(Clone, Copy)]
+pub struct Span {
+    pub low: Decimal,
+    pub high: Decimal,
+}
+
+impl Span {
+    /// Nothing.
+    pub(crate) fn nothing() -> Span
+        ensures low { parts result.low ≡ 0 }
+        ensures high { parts result.high ≡ 0 }
+    {
+        let none = Decimal {
+            mantissa: 0,
+            exponent: 0,
+        };
+        Span {
+            low: none,
+            high: none,
+        }
+    }
+
+    /// The whole.
+    pub(crate) fn all(whole: u32) -> Span
+        ensures low { parts result.low ≡ 10 ^ whole }
+        ensures high { parts result.high ≡ 10 ^ whole }
+    {
+        let all = Decimal {
+            mantissa: 1,
+            exponent: whole,
+        };
+        Span {
+            low: all,
+            high: all,
+        }
+    }
+
+    /// All that may be.
+    pub(crate) fn unknown(whole: u32) -> Span
+        ensures low { parts result.low ≡ 0 }
+        ensures high { parts result.high ≡ 10 ^ whole }
+    {
+        Span {
+            low: Span::nothing().low,
+            high: Span::all(whole).high,
+        }
+    }
+
+    /// One of so many equal parts of the product.
+    pub(crate) fn next_term(self, x: Span, count: u32, whole: u32) -> Span
+        requires { 0 < count }
+        ensures { IsNextTerm whole count self x result }
+    {
+        Span {
+            low: self.low.times_down(x.low, whole).over_down(count),
+            high: self.high.times_up(x.high, whole).over_up(count),
+        }
+    }
+
+    /// The sum, up to the whole.
+    pub(crate) fn plus(self, other: Span, whole: u32) -> Span
+        ensures { IsSum whole self other result }
+    {
+        Span {
+            low: self.low.plus_down(other.low, whole),
+            high: self.high.plus_up(other.high, whole),
+        }
+    }
+
+    /// The product, up to the whole.
+    pub(crate) fn times(self, other: Span, whole: u32) -> Span
+        ensures { IsProduct whole self other result }
+    {
+        Span {
+            low: self.low.times_down(other.low, whole),
+            high: self.high.times_up(other.high, whole),
+        }
+    }
+
+    /// What is left of the whole.
+    pub(crate) fn rest(self, whole: u32) -> Span
+        ensures { (n d : ℕ) → n ≤ d → IsWithin whole n d self → IsWithin whole (d - n) d result }
+    {
+        Span {
+            low: self.high.within(whole).rest_down(whole),
+            high: self.low.within(whole).rest_up(whole),
+        }
+    }
+
+    /// One half.
+    pub(crate) fn half(self) -> Span
+        ensures low { parts result.low * 2 ≤ parts self.low }
+        ensures high { parts self.high ≤ parts result.high * 2 }
+    {
+        Span {
+            low: self.low.over_down(2),
+            high: self.high.over_up(2),
+        }
+    }
+}

@@ -1,0 +1,32 @@
+-- What is known where one event occurs always, or never.
+use Rattle.std.specs.Prelude.{ℕ, ◌-◌, ◌==◌, ◌^◌, ◌*◌, ◌≤◌, ◌≡◌, if◌then◌else◌, List, length}
+use Rattle.decimals.specs.inner.Decimals.{parts}
+use Rattle.zdd_store.specs.inner.Family.{Family, least_number}
+use Rattle.probabilities.specs.declared.rates.Bounds.{Bounds}
+use Rattle.probabilities.specs.declared.rates.Rate.{Rate}
+use Rattle.probabilities.specs.inner.Rates.{Rates}
+use Rattle.probabilities.specs.inner.Decided.{AreBoundsOf, rates_of}
+use Rattle.probabilities.specs.inner.Widths.{AreNarrow, AreNarrowRates}
+
+-- what is known where an event occurs k times out of s, and of the others what is known of them
+abbrev pub certain : ℕ → ℕ → ℕ → Rates → Rates
+certain s k event rates =
+    record {
+      low = λ e. if e == event then k else rates.low e;
+      high = λ e. if e == event then k else rates.high e;
+      low_not = λ e. if e == event then s - k else rates.low_not e;
+      high_not = λ e. if e == event then s - k else rates.high_not e;
+    }
+
+-- the rate of an event that occurs in so many parts of the whole
+pub record IsCertain (whole k : ℕ) (rate : Rate) : Type 0 where
+  pub low : parts rate.low ≡ k
+  pub high : parts rate.high ≡ k
+  pub low_not : parts rate.low_not ≡ 10 ^ whole - k
+  pub high_not : parts rate.high_not ≡ 10 ^ whole - k
+
+-- the two decimals bound the probability of a family where the event occurs in so many parts of the whole, and are near where the
+-- rates are
+pub record AreCertainBounds (whole k : ℕ) (list : List Rate) (event : ℕ) (family : Family) (bounds : Bounds) : Type 0 where
+  pub right : AreBoundsOf whole (certain (10 ^ whole) k event (rates_of whole list)) (length list) family bounds
+  pub narrow : (places : ℕ) → AreNarrowRates whole places list → places * length list ≤ whole → AreNarrow whole places (length list - least_number family) bounds

@@ -1,0 +1,2 @@
+pub mod TextLeft
+pub mod Numbering

@@ -1,0 +1,2 @@
+pub mod ProbabilityText
+pub mod Gathered

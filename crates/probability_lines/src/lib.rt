@@ -1,0 +1,12 @@
+//! The lines that tell of the probability of a target: the hours, the events that have no probability, the bounds, and with the
+//! importance of events those where each of them never occurs and where it always does.
+#![tactic(auto)]
+
+mod gathered;
+mod line;
+mod pushed;
+mod source;
+
+pub use gathered::lines_of;
+pub use line::Line;
+pub use source::ProbabilityLines;
