@@ -29,16 +29,52 @@ _aadl_fta() {
   fi
   # Behind an option with a value stands that, which can be completed only where it is one of some names.
   case $cur in
+    --format=*)
+      _aadl_fta_names "${cur#*=}" 'galileo mef dot'
+      [[ $COMP_WORDBREAKS == *=* ]] || COMPREPLY=("${COMPREPLY[@]/#/${cur%%=*}=}")
+      return
+      ;;
+    --gates=*)
+      _aadl_fta_names "${cur#*=}" 'written merged'
+      [[ $COMP_WORDBREAKS == *=* ]] || COMPREPLY=("${COMPREPLY[@]/#/${cur%%=*}=}")
+      return
+      ;;
+    --unrated=*)
+      _aadl_fta_names "${cur#*=}" '1 refuse'
+      [[ $COMP_WORDBREAKS == *=* ]] || COMPREPLY=("${COMPREPLY[@]/#/${cur%%=*}=}")
+      return
+      ;;
     --reports=*)
       _aadl_fta_names "${cur#*=}" 'orders uses singles'
+      [[ $COMP_WORDBREAKS == *=* ]] || COMPREPLY=("${COMPREPLY[@]/#/${cur%%=*}=}")
+      return
+      ;;
+    --profile=*)
+      _aadl_fta_names "${cur#*=}" '1 2'
       [[ $COMP_WORDBREAKS == *=* ]] || COMPREPLY=("${COMPREPLY[@]/#/${cur%%=*}=}")
       return
       ;;
     --*=*) return ;;
   esac
   case $prev in
+    --format)
+      _aadl_fta_names "$cur" 'galileo mef dot'
+      return
+      ;;
+    --gates)
+      _aadl_fta_names "$cur" 'written merged'
+      return
+      ;;
+    --unrated)
+      _aadl_fta_names "$cur" '1 refuse'
+      return
+      ;;
     --reports)
       _aadl_fta_names "$cur" 'orders uses singles'
+      return
+      ;;
+    --profile)
+      _aadl_fta_names "$cur" '1 2'
       return
       ;;
     --limit | --after | --max-order | --set) return ;;
@@ -47,11 +83,11 @@ _aadl_fta() {
   case ${words[1]} in
     check | events | review | manifest) files_from=3 ;;
     cuts) options='--limit --after --max-order --tokens' files_from=4 ;;
-    tree) files_from=4 ;;
+    tree) options='--format --gates --unrated' files_from=4 ;;
     fmea | targets) options='--all' files_from=3 ;;
     report) options='--reports --max-order' files_from=4 ;;
     make) options='--text' ;;
-    galileo) options='--paths --limit --max-order' files_from=2 ;;
+    galileo) options='--profile --paths --limit --max-order --format --gates' files_from=2 ;;
     paths) options='--limit --after --max-order' files_from=4 ;;
     why | confirm) options='--set' files_from=4 ;;
     place) [ "$cword" -eq 2 ] && files_from=2 ;;

@@ -1,6 +1,7 @@
 pub mod Examples
 mod AllKinds
 mod EachKind
+mod FlagSteps
 mod Found
 mod Identifiers
 mod Names

@@ -7,13 +7,14 @@ use Rattle.std.proofs.lemmas.Bool.{false≢true}
 use Rattle.plain_values.specs.Name.{folded, is_same_text}
 use Rattle.plain_values.specs.Rising.{RisesWithin}
 use Rattle.plain_values.specs.declared.name.Root.{Root}
+use Rattle.fta_words.specs.declared.command.Form.{Form}
 use Rattle.fta_words.specs.declared.command.Options.{Options}
 use Rattle.fta_words.specs.declared.command.Request.{Request as RequestInCode}
 use Rattle.fta_words.specs.declared.kind.Kind.{Kind}
 use Rattle.fta_words.specs.declared.kind.Shape.{Shape}
 use Rattle.fta_words.specs.declared.kind.Shape.TheVariants as shape
-use Rattle.fta_words.specs.Table.{flags_of, is_among, kind_named, name_of, required_of, shape_of, valued_of}
-use Rattle.fta_words.specs.Words.{Alone, Apart, AreChosen, AreOptions, Attached, Given, IsAsked, IsFolded, IsNumberText, IsInFull, IsPlainWord, IsRequest, IsRoot, NamesModel, Request, Say, Says, Spelling, before_options, file_words, files_in, in_full, is_given, is_help_of, is_option, option_words, reports_for, shape_named, spelled, value_of, word_in_full}
+use Rattle.fta_words.specs.Table.{flags_of, formats_of, gate_choices, is_among, kind_named, name_of, profile_choices, required_of, shape_of, unrated_choices, valued_of}
+use Rattle.fta_words.specs.Words.{Alone, Apart, AreChosen, AreOptions, Attached, Given, IsAsked, IsChoice, IsFolded, IsNumberText, IsInFull, IsPlainWord, IsRequest, IsRoot, NamesModel, Request, Say, SayForm, Says, Spelling, before_options, file_words, files_in, in_full, is_fit, is_given, is_help_of, is_option, option_words, reports_for, shape_named, spelled, value_of, word_in_full}
 use Rattle.fta_words.specs.inner.Reading.{AnswersInFull, IsRead, ReadsAs}
 use Rattle.fta_words.specs.inner.Shown.{request_shown}
 use Rattle.fta_words.proofs.AllKinds.{name_is_plain}
@@ -78,6 +79,7 @@ to_read reports words request is k others front =
       behind_are = back_is reports words request is;
       options = subst (λ j. AreOptions (flags_of j) (valued_of j) is.given) kinds is.options;
       required = subst (λ j. AllByRecursion (λ name. is_given name is.given ≡ true) (required_of j)) kinds is.required;
+      fit = subst (λ j. is_fit j is.given ≡ true) kinds is.fit;
       asked =
           subst (λ j. IsAsked (shape_of j) others request.root request.target request.number request.of request.files) kinds
           (subst (λ p. IsAsked (shape_of request.kind) p request.root request.target request.number request.of request.files) plain is.asked);
@@ -98,6 +100,7 @@ from_read reports words k others all front request read =
       plain_words = plain.1;
       options = subst (λ j. AreOptions (flags_of j) (valued_of j) read.given) kinds read.options;
       required = subst (λ j. AllByRecursion (λ name. is_given name read.given ≡ true) (required_of j)) kinds read.required;
+      fit = subst (λ j. is_fit j read.given ≡ true) kinds read.fit;
       asked = subst (λ j. IsAsked (shape_of j) others request.root request.target request.number request.of request.files) kinds read.asked;
       said = subst (λ j. Say j reports read.given request.options) kinds read.said;
     }
@@ -156,6 +159,20 @@ same_file (file ∷ more ∷ files) files₂ word word₂ one other same = absur
 same_model : (w v : List ℕ) (root root₂ : Root) (files files₂ : List (List ℕ)) → w ≡ v → NamesModel w root files → NamesModel v root₂ files₂ → root ≡ root₂
 same_model w v root root₂ files files₂ word x y = one_root (folded v) root root₂ (subst (λ l. IsRoot (folded l) root) word x.root_is) y.root_is
 
+-- an option says one word at most
+one_choice : (words : List (List ℕ)) (said : Option (List ℕ)) (a b : List ℕ) → IsChoice words said a → IsChoice words said b → a ≡ b
+one_choice words None a b x y = x ∙ sym y
+one_choice words (Some word) a b x y = x.1 ∙ sym y.1
+
+-- options say of a tree one thing at most
+pub one_form : (k : Kind) (given : List Given) (a b : Form) → SayForm k given a → SayForm k given b → a ≡ b
+one_form k given a b x y =
+    let format = one_choice (formats_of k) (value_of (codes "format") given) a.format b.format x.format y.format in
+    let gates = one_choice gate_choices (value_of (codes "gates") given) a.gates b.gates x.gates y.gates in
+    let unrated = one_choice unrated_choices (value_of (codes "unrated") given) a.unrated b.unrated x.unrated y.unrated in
+    let profile = one_choice profile_choices (value_of (codes "profile") given) a.profile b.profile x.profile y.profile in
+    λ i. record { format = format i; gates = gates i; unrated = unrated i; profile = profile i }
+
 -- options say one thing at most
 one_say : (k : Kind) (reports : List (List ℕ)) (given : List Given) (a b : Options) → Say k reports given a → Say k reports given b → a ≡ b
 one_say k reports given a b x y =
@@ -166,9 +183,9 @@ one_say k reports given a b x y =
     let max_order = one_said IsNumberText one_number (value_of (codes "max-order") given) p.max_order q.max_order x.max_order y.max_order in
     let chosen = one_chosen (reports_for k reports) (value_of (codes "reports") given) a.chosen b.chosen x.chosen y.chosen in
     let same : ◌≡◌ {A = Options}
-    (record { paging = record { limit = p.limit; after = p.after; max_order = p.max_order }; set = a.set; chosen = a.chosen; flags = a.flags })
-    (record { paging = record { limit = q.limit; after = q.after; max_order = q.max_order }; set = b.set; chosen = b.chosen; flags = b.flags })
-    = cc (limit, after, max_order, chosen, x.set ∙ sym y.set, x.flags ∙ sym y.flags) in
+    (record { paging = record { limit = p.limit; after = p.after; max_order = p.max_order }; set = a.set; form = a.form; chosen = a.chosen; flags = a.flags })
+    (record { paging = record { limit = q.limit; after = q.after; max_order = q.max_order }; set = b.set; form = b.form; chosen = b.chosen; flags = b.flags })
+    = cc (limit, after, max_order, chosen, x.set ∙ sym y.set, one_form k given a.form b.form x.form y.form, x.flags ∙ sym y.flags) in
     same
 
 -- what two requests have in common that plain words make

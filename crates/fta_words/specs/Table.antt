@@ -8,7 +8,7 @@ use Rattle.fta_words.specs.declared.kind.Kind.TheVariants as kind
 use Rattle.fta_words.specs.declared.kind.Shape.{Shape}
 use Rattle.fta_words.specs.declared.kind.Shape.TheVariants as shape
 use Rattle.fta_words.specs.declared.kind.TheConstants.{KINDS}
-use Rattle.fta_words.specs.declared.table.TheConstants.{CODES, FLAGS, ROWS}
+use Rattle.fta_words.specs.declared.table.TheConstants.{CODES, DRAWN_FORMATS, FLAGS, FORMATS, GATES, PROFILES, ROWS, UNRATED}
 
 -- the place of the row of a command
 abbrev pub place_of : Kind → ℕ
@@ -58,6 +58,23 @@ all_flags = map (λ name. name.now) FLAGS
 -- the codes of refusals, in lower case
 abbrev pub all_codes : List (List ℕ)
 all_codes = map (λ name. name.now) CODES
+
+-- the formats in which it writes a tree: one that is read from a file is drawn alone
+abbrev pub formats_of : Kind → List (List ℕ)
+formats_of kind.Galileo = map (λ name. name.now) DRAWN_FORMATS
+formats_of _ = map (λ name. name.now) FORMATS
+
+-- which gates a tree may have
+abbrev pub gate_choices : List (List ℕ)
+gate_choices = map (λ name. name.now) GATES
+
+-- what may be done with an event without a rate
+abbrev pub unrated_choices : List (List ℕ)
+unrated_choices = map (λ name. name.now) UNRATED
+
+-- by which profile a text may be read
+abbrev pub profile_choices : List (List ℕ)
+profile_choices = map (λ name. name.now) PROFILES
 
 -- whether a name is among others
 abbrev pub is_among : List (List ℕ) → List ℕ → Bool

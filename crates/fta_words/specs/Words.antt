@@ -1,15 +1,17 @@
 -- The words of the command line: the name of a command, plain words by its shape, and options.
-use Rattle.std.specs.Prelude.{◌≡◌, ◌≢◌, ◌<◌, ◌≤◌, ◌↔◌, ◌+◌, ◌*◌, ◌-◌, ℕ, Bool, true, false, ◌==◌, if◌then◌else◌, List, [], ◌∷◌, ◌++◌, drop, filter, length, map, fold, codes, Option, Some, None, IfSome, IsUtf8, Contains, option_map, option_to_list, slice_get, take, unwrap_or}
+use Rattle.std.specs.Prelude.{◌≡◌, ◌≢◌, ◌<◌, ◌≤◌, ◌↔◌, ◌+◌, ◌*◌, ◌-◌, ℕ, Bool, true, false, not, ◌||◌, ◌==◌, if◌then◌else◌, List, [], ◌∷◌, ◌++◌, drop, filter, length, map, fold, codes, Option, Some, None, IfSome, IsUtf8, Contains, option_map, option_to_list, slice_get, take, unwrap_or}
 use Rattle.std.specs.List.{AllByRecursion, flat_map, join_with_byte, list_any}
 use Rattle.std.specs.Option.{option_map_or}
 use Rattle.plain_values.specs.Name.{folded, is_same_text}
 use Rattle.plain_values.specs.declared.name.Root.{Root}
 use Rattle.aadl_syntax.specs.Form.{IsWord}
+use Rattle.fta_words.specs.declared.command.Form.{Form}
 use Rattle.fta_words.specs.declared.command.Options.{Options}
 use Rattle.fta_words.specs.declared.kind.Kind.{Kind}
+use Rattle.fta_words.specs.declared.kind.Kind.TheVariants as kind
 use Rattle.fta_words.specs.declared.kind.Shape.{Shape}
 use Rattle.fta_words.specs.declared.kind.Shape.TheVariants as shape
-use Rattle.fta_words.specs.Table.{all_codes, all_flags, flags_of, is_among, kind_named, name_of, required_of, shape_of, valued_of}
+use Rattle.fta_words.specs.Table.{all_codes, all_flags, flags_of, formats_of, gate_choices, is_among, kind_named, name_of, profile_choices, required_of, shape_of, unrated_choices, valued_of}
 
 -- ---- plain words
 
@@ -157,6 +159,18 @@ AreChosen reports (Some text) chosen = AreNames reports text chosen
 abbrev pub reports_for : Kind → List (List ℕ) → List (List ℕ)
 reports_for kind reports = if is_among (valued_of kind) (codes "reports") then reports else []
 
+-- a word that is one of some, or nothing where none is given
+abbrev pub IsChoice : List (List ℕ) → Option (List ℕ) → List ℕ → Type 0
+IsChoice words None chosen = chosen ≡ []
+IsChoice words (Some word) chosen = (is_among words word ≡ true) × (chosen ≡ word)
+
+-- What options say of how a tree is read and written: each says one of its words.
+pub record SayForm (kind : Kind) (given : List Given) (form : Form) : Type 0 where
+  pub format : IsChoice (formats_of kind) (value_of (codes "format") given) form.format
+  pub gates : IsChoice gate_choices (value_of (codes "gates") given) form.gates
+  pub unrated : IsChoice unrated_choices (value_of (codes "unrated") given) form.unrated
+  pub profile : IsChoice profile_choices (value_of (codes "profile") given) form.profile
+
 -- What options say, each by its own line, which is the same for all commands; the flags that are given, by their names, in the order of
 -- those of all commands. An option that is not given says nothing, and what it would say is none or empty; but without `--reports` all
 -- reports are chosen.
@@ -165,8 +179,22 @@ pub record Say (kind : Kind) (reports : List (List ℕ)) (given : List Given) (o
   pub after : Says IsFolded (value_of (codes "after") given) options.paging.after
   pub max_order : Says IsNumberText (value_of (codes "max-order") given) options.paging.max_order
   pub set : options.set ≡ folded (unwrap_or (value_of (codes "set") given) [])
+  pub form : SayForm kind given options.form
   pub chosen : AreChosen (reports_for kind reports) (value_of (codes "reports") given) options.chosen
   pub flags : options.flags ≡ filter (λ name. is_given name given) all_flags
+
+-- whether an option of a listing is given
+abbrev pub is_listed : List Given → Bool
+is_listed given = is_given (codes "paths") given || (is_given (codes "limit") given || is_given (codes "max-order") given)
+
+-- whether no option of a listing is given where a format is, and no gates where none is
+abbrev pub is_drawn_or_listed : List Given → Bool
+is_drawn_or_listed given = if is_given (codes "format") given then not (is_listed given) else not (is_given (codes "gates") given)
+
+-- Whether options that are given have a meaning together: a tree that is read from a file has no sets where it is written in a format.
+abbrev pub is_fit : Kind → List Given → Bool
+is_fit kind.Galileo given = is_drawn_or_listed given
+is_fit _ given = true
 
 -- whether the flag of a name is given
 abbrev pub is_set : Options → List ℕ → Bool
@@ -229,7 +257,7 @@ IsAsked shape.Alone words root target number of files =
     × (root ≡ no_root) × (target ≡ []) × (number ≡ 0) × (of ≡ None) × (files ≡ [])
 
 -- The words, none of them a short form, are a request, where these are the names of the reports: the name of its command, plain words of
--- its shape, and then options which it may have, each at most once, with all that it requires.
+-- its shape, and then options which it may have, each at most once, with all that it requires and none that has no meaning beside another.
 pub record IsInFull (reports words : List (List ℕ)) (request : Request) : Type 0 where
   pub plain : List (List ℕ)
   pub given : List Given
@@ -237,6 +265,7 @@ pub record IsInFull (reports words : List (List ℕ)) (request : Request) : Type
   pub plain_words : AllByRecursion IsPlainWord plain
   pub options : AreOptions (flags_of request.kind) (valued_of request.kind) given
   pub required : AllByRecursion (λ name. is_given name given ≡ true) (required_of request.kind)
+  pub fit : is_fit request.kind given ≡ true
   pub asked : IsAsked (shape_of request.kind) plain request.root request.target request.number request.of request.files
   pub said : Say request.kind reports given request.options
 

@@ -9,7 +9,7 @@ use crate::asked::asked_of;
 use crate::error::WordsFault;
 use crate::files::before_options;
 use crate::kind::Kind;
-use crate::options::{are_complete, are_options};
+use crate::options::{are_complete, are_fit, are_options};
 use crate::parsed::options_said;
 use crate::plain::{are_plain, texts_of};
 use crate::short::short_form;
@@ -43,6 +43,8 @@ pub struct Options {
     pub paging: Paging,
     /// The text of a set of events, folded.
     pub set: Name,
+    /// How a tree is read and written.
+    pub form: Form,
     /// The places of the chosen reports, which rise; none where the command has no reports.
     pub chosen: List<u32>,
     /// The names of the flags that are given, in the order of those of all commands: `tokens`, that a last line `more` has a token;
@@ -63,6 +65,19 @@ impl Options {
     }
 }
 
+/// How a tree is read and written, each by the word that is given; empty where none is.
+#[derive(Drop)]
+pub struct Form {
+    /// The format of its text: `galileo`, `mef` or `dot`.
+    pub format: Name,
+    /// Which gates it has: `written` or `merged`.
+    pub gates: Name,
+    /// What is done with an event without a rate: `1` or `refuse`.
+    pub unrated: Name,
+    /// By which profile it is read: `1` or `2`.
+    pub profile: Name,
+}
+
 /// Which page of a listing is asked for.
 #[derive(Drop)]
 pub struct Paging {
@@ -78,8 +93,8 @@ impl<'a> Request<'a> {
     /// The request that the words give, where the reports have these names.
     ///
     /// The plain words come first: the name of the command, and then those of its shape. The options follow, each at most once: a flag as
-    /// `--x`, an option with a value as `--x=v` or as the two words `--x v`; what the command requires is there. A plain word and a
-    /// value are UTF-8, not empty, and do not begin with `-`. The letters of root, target and set are folded; the places of the
+    /// `--x`, an option with a value as `--x=v` or as the two words `--x v`; what the command requires is there, and none
+    /// that has no meaning beside another. A plain word and a value are UTF-8, not empty, and do not begin with `-`. The letters of root, target and set are folded; the places of the
     /// chosen reports are counted from 0 and rise. `--help` and `-h` alone are `help`, `--version` and `-V` are `version`, and a command's name
     /// with `--help` is `help` with that name.
     ///
@@ -140,7 +155,7 @@ fn request_of<'a>(
 ) -> Mem<Option<Request<'a>>>
     ensures { IfOk result (ReadsAs reports.now kind plain.now behind.now) }
 {
-    if !are_options(kind, behind) || !are_complete(kind, behind) {
+    if !are_options(kind, behind) || !are_complete(kind, behind) || !are_fit(kind, behind) {
         return Ok(None);
     }
     let Some(options) = options_of(alloc, kind, behind, reports)? else {

@@ -9,6 +9,7 @@ mod command;
 mod error;
 mod explained;
 mod files;
+mod form;
 mod kind;
 mod number;
 mod options;
@@ -19,7 +20,7 @@ mod short;
 mod table;
 mod text;
 
-pub use command::{Options, Paging, Request};
+pub use command::{Form, Options, Paging, Request};
 pub use error::WordsFault;
 pub use explained::explained_call;
 pub use files::{file_words, is_option};

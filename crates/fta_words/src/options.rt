@@ -1,7 +1,7 @@
 ghost use Rattle.std.specs.Prelude.{◌≡◌, true, ◌↔◌, ◌≤◌, ◌++◌, ℕ, length, List, IsTrue, MatchOption, ◌∷◌};
 ghost use Rattle.std.specs.List.{AllByRecursion};
 ghost use Rattle.fta_words.specs.Table.{flags_of, required_of, valued_of};
-ghost use Rattle.fta_words.specs.Words.{Given, is_given, option_words};
+ghost use Rattle.fta_words.specs.Words.{Given, is_drawn_or_listed, is_fit, is_given, is_listed, option_words};
 ghost use Rattle.fta_words.specs.inner.Reading.{Allowed, HaveOptions, NoneStandsFirst, StandsFirst};
 
 use crate::kind::Kind;
@@ -28,6 +28,37 @@ pub(crate) fn are_complete(kind: Kind, words: &[Word]) -> bool
     ensures { (given : List Given) → words.now ≡ option_words given → Allowed (flags_of kind) (valued_of kind) given → IsTrue result ↔ AllByRecursion (λ name. is_given name given ≡ true) (required_of kind) }
 {
     are_given(kind, words, required_of(kind))
+}
+
+/// Whether options of the command that are given have a meaning together: a tree that is read from a file has no sets where it is
+/// written in a format, and no gates are chosen where it is not.
+pub(crate) fn are_fit(kind: Kind, words: &[Word]) -> bool
+    ensures { (given : List Given) → words.now ≡ option_words given → Allowed (flags_of kind) (valued_of kind) given → IsTrue result ↔ (is_fit kind given ≡ true) }
+{
+    match kind {
+        Kind::Galileo => is_drawn_or_listed(kind, words),
+        _ => true,
+    }
+}
+
+/// Whether no option of a listing is given where a format is, and no gates where none is.
+fn is_drawn_or_listed(kind: Kind, words: &[Word]) -> bool
+    ensures { (given : List Given) → words.now ≡ option_words given → Allowed (flags_of kind) (valued_of kind) given → result ≡ is_drawn_or_listed given }
+{
+    if is_given(kind, words, b"format") {
+        !is_listed(kind, words)
+    } else {
+        !is_given(kind, words, b"gates")
+    }
+}
+
+/// Whether an option of a listing is given.
+fn is_listed(kind: Kind, words: &[Word]) -> bool
+    ensures { (given : List Given) → words.now ≡ option_words given → Allowed (flags_of kind) (valued_of kind) given → result ≡ is_listed given }
+{
+    is_given(kind, words, b"paths")
+        || is_given(kind, words, b"limit")
+        || is_given(kind, words, b"max-order")
 }
 
 /// Whether all options of these names are given in words that are options.

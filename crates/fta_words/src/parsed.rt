@@ -9,6 +9,7 @@ ghost use Rattle.fta_words.specs.inner.Reading.{HaveOptions, SaysAs};
 
 use crate::chosen::chosen_of;
 use crate::command::{Options, Paging};
+use crate::form::form_in;
 use crate::kind::Kind;
 use crate::number::number_said;
 use crate::table::{FLAGS, VALUED, is_among, valued_of};
@@ -58,6 +59,9 @@ fn options_found(
     let Some(chosen) = chosen_in(alloc, kind, matches, reports)? else {
         return Ok(None);
     };
+    let Some(form) = form_in(alloc, kind, matches)? else {
+        return Ok(None);
+    };
     let after = folded_in(alloc, matches, "after")?;
     let set = text_in(alloc, matches, "set")?;
     let flags = flags_in(alloc, matches, &FLAGS)?;
@@ -68,6 +72,7 @@ fn options_found(
             max_order,
         },
         set,
+        form,
         chosen,
         flags,
     }))
@@ -147,7 +152,7 @@ fn reports_for(kind: Kind, reports: &[Name]) -> &[Name]
 }
 
 /// The text of an option, where it is given.
-fn value_in<'t>(matches: &ArgMatches<'t>, name: &str) -> Option<&'t [u8]>
+pub(crate) fn value_in<'t>(matches: &ArgMatches<'t>, name: &str) -> Option<&'t [u8]>
     requires { is_among all_valued name.now ≡ true }
     ensures { (given : List Given) → StandIn (rows_of (found_of matches.now)) given → option_map (λ t. t.now) result ≡ value_of name.now given }
 {

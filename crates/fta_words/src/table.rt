@@ -6,7 +6,7 @@ ghost use Rattle.fta_words.specs.declared.table.TheConstants.{ROWS};
 ghost use Rattle.std.specs.List.{list_any};
 ghost use Rattle.plain_values.specs.Name.{is_same_text};
 ghost use Rattle.fta_words.specs.declared.kind.Kind.{Kind};
-ghost use Rattle.fta_words.specs.Table.{about_of, flags_of, is_among, kind_among, kind_named, name_of, optional_of, place_of, required_of, shape_of, usage_of, valued_of};
+ghost use Rattle.fta_words.specs.Table.{about_of, flags_of, formats_of, is_among, kind_among, kind_named, name_of, optional_of, place_of, required_of, shape_of, usage_of, valued_of};
 
 use crate::kind::{KINDS, Kind, Shape};
 use plain_values::is_same;
@@ -44,15 +44,40 @@ pub type CommandRow = Row<&'static [u8], Names>;
 pub const FLAGS: [&'static str; 4] = ["tokens", "all", "text", "paths"];
 
 /// The options of all commands that have a value.
-pub const VALUED: [&'static str; 5] = ["limit", "after", "max-order", "reports", "set"];
+pub const VALUED: [&'static str; 9] = [
+    "limit",
+    "after",
+    "max-order",
+    "reports",
+    "set",
+    "format",
+    "gates",
+    "unrated",
+    "profile",
+];
+
+/// The formats in which a tree of a model may be written: Galileo text, the Open-PSA Model Exchange Format, and a picture for Graphviz.
+pub const FORMATS: [&'static [u8]; 3] = [b"galileo", b"mef", b"dot"];
+
+/// The formats in which a tree that is read from a file may be written: a picture alone.
+pub const DRAWN_FORMATS: [&'static [u8]; 1] = [b"dot"];
+
+/// Which gates a tree has: those of the model's formulas, or merged ones.
+pub const GATES: [&'static [u8]; 2] = [b"written", b"merged"];
+
+/// What is done with an event without a rate: its probability is 1, or the tree is refused.
+pub const UNRATED: [&'static [u8]; 2] = [b"1", b"refuse"];
+
+/// The profiles by which a text may be read.
+pub const PROFILES: [&'static [u8]; 2] = [b"1", b"2"];
 
 /// The codes of refusals, in lower case.
-pub const CODES: [&'static [u8]; 57] = [
+pub const CODES: [&'static [u8]; 59] = [
     b"l1", b"l2", b"l3", b"s1", b"n1", b"n2", b"n3", b"n4", b"n5", b"n6", b"n7", b"n8", b"n9",
     b"n10", b"n11", b"n12", b"n13", b"n14", b"n15", b"p1", b"p2", b"p3", b"p4", b"p5", b"p6",
     b"p7", b"p8", b"p9", b"p11", b"p12", b"m1", b"m2", b"m13", b"m3", b"m4", b"m5", b"m6", b"m7",
     b"m8", b"m9", b"m10", b"m11", b"m12", b"m14", b"t1", b"k1", b"k2", b"k3", b"v1", b"v2", b"v3",
-    b"g1", b"g6", b"g4", b"g5", b"g2", b"g3",
+    b"g1", b"g6", b"g4", b"g5", b"g2", b"g3", b"g7", b"r1",
 ];
 
 /// A row for each command, in the order of `KINDS`, which is that of help.
@@ -84,11 +109,11 @@ pub const ROWS: [CommandRow; 18] = [
         name: b"tree",
         shape: Shape::Target,
         flags: &[],
-        valued: &[],
+        valued: &[b"format", b"gates", b"unrated"],
         required: &[],
         usage: b"tree ROOT TARGET FILE..",
-        optional: b"",
-        about: b"the static fault tree of a target as Galileo text",
+        optional: b" [--format galileo|mef|dot] [--gates written|merged] [--unrated 1|refuse]",
+        about: b"the static fault tree of a target as Galileo text, Open-PSA text or a picture",
     },
     Row {
         kind: Kind::Fmea,
@@ -128,11 +153,11 @@ pub const ROWS: [CommandRow; 18] = [
         name: b"galileo",
         shape: Shape::File,
         flags: &[b"paths"],
-        valued: &[b"limit", b"max-order"],
+        valued: &[b"limit", b"max-order", b"profile", b"format", b"gates"],
         required: &[],
         usage: b"galileo FILE",
-        optional: b" [--paths] [--limit N] [--max-order N]",
-        about: b"the minimal cut sets, or path sets, of a tree in Galileo text",
+        optional: b" [--profile 1|2] [--paths] [--limit N] [--max-order N] | [--format dot] [--gates written|merged]",
+        about: b"the minimal cut sets, or path sets, of a tree in Galileo text; or its picture",
     },
     Row {
         kind: Kind::Paths,
@@ -341,6 +366,16 @@ pub(crate) fn required_of(kind: Kind) -> Names
     ensures { map (λ name. name.now) result.now ≡ required_of kind }
 {
     option_names_of(kind).2
+}
+
+/// The formats in which a command writes a tree: one that is read from a file is drawn alone.
+pub fn formats_of(kind: Kind) -> &'static [&'static [u8]]
+    ensures { map (λ name. name.now) result.now ≡ formats_of kind }
+{
+    match kind {
+        Kind::Galileo => &DRAWN_FORMATS,
+        _ => &FORMATS,
+    }
 }
 
 /// Whether a command has a flag of this name.

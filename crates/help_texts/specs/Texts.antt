@@ -6,7 +6,7 @@ use Rattle.fta_words.specs.Table.{about_of, all_codes, optional_of, usage_of}
 use Rattle.fta_words.specs.declared.kind.TheConstants.{KINDS}
 use Rattle.fta_words.specs.declared.kind.Kind.{Kind}
 use Rattle.fta_words.specs.declared.kind.Kind.TheVariants as kind
-use Rattle.help_texts.specs.declared.commands.TheConstants.{CHECK, CUTS, TREE, FMEA, REPORT, MAKE, GALILEO, PATHS, WHY, CONFIRM, TARGETS, EVENTS, REVIEW, PLACE, MANIFEST, EXPLAIN, HELP, VERSION, STATUSES, VERSIONS}
+use Rattle.help_texts.specs.declared.commands.TheConstants.{CHECK, CUTS, TREE, FMEA, REPORT, MAKE, GALILEO, PATHS, WHY, CONFIRM, TARGETS, EVENTS, REVIEW, PLACE, MANIFEST, EXPLAIN, HELP, VERSION, PROGRAM, STATUSES, VERSIONS}
 use Rattle.help_texts.specs.declared.explanations.TheConstants.{EXPLANATIONS}
 
 -- what a command writes, its options, and an example
@@ -38,6 +38,10 @@ line_of kind = usage_of kind ++ codes ": " ++ about_of kind ++ codes "\n"
 abbrev pub help_text : Option Kind → List ℕ
 help_text None = flat_map line_of KINDS ++ STATUSES.now
 help_text (Some kind) = codes "aadl_fta " ++ usage_of kind ++ optional_of kind ++ codes "\n\n" ++ lines_of kind
+
+-- the program and its version
+abbrev pub program_text : List ℕ
+program_text = PROGRAM.now
 
 -- what `version` writes: the version of the program, and that of the profile
 abbrev pub version_text : List ℕ

@@ -28,6 +28,10 @@ pub const TREE: &[u8] =
     b"Writes the static fault tree of a target as Galileo text: its top, its gates, and its basic events with\n\
     their rates. A target that holds without any event, or not even under all, has no tree.\n\
     \n\
+    --format galileo|mef|dot  Galileo text, the Open-PSA Model Exchange Format, or a picture for Graphviz\n\
+    --gates written|merged    gates as the formulas have them, or equal ones and those of one input merged\n\
+    --unrated 1|refuse        an event without a rate has the probability 1, or is refused\n\
+    \n\
     Example, in the folder of the repository:\n\
     ./aadl_fta tree Acs::Control.dual 'root/out:torque{errors::serviceomission}' examples/attitude_control.aadl\n";
 
@@ -67,9 +71,12 @@ pub const GALILEO: &[u8] =
     b"Lists the minimal cut sets of a static tree in Galileo text, whichever tool wrote it, names in quotes.\n\
     The last line is end, or more where a limit cut the listing off.\n\
     \n\
-    --paths        the minimal path sets\n\
-    --limit N      at most N sets\n\
-    --max-order N  only sets of at most N events\n\
+    --profile 1|2           the text as tree writes it, or also as other tools write it\n\
+    --paths                 the minimal path sets\n\
+    --limit N               at most N sets\n\
+    --max-order N           only sets of at most N events\n\
+    --format dot            no sets, but a picture of the tree, as of tree\n\
+    --gates written|merged  with --format: gates as the text has them, or merged, as of tree\n\
     \n\
     Example, in the folder of the repository:\n\
     ./aadl_fta tree Acs::Control.dual 'root/out:torque{errors::serviceomission}' examples/attitude_control.aadl > torque.dft\n\
@@ -185,7 +192,10 @@ pub const VERSION: &[u8] =
 pub const STATUSES: &[u8] =
     b"exit status: 0 written whole, 1 no command, 2 refused, 3 no tree of a constant target, 4 a file not read, 5 the output not written, 6 a report failed, 7 out of memory\n";
 
+/// The program and its version.
+pub const PROGRAM: &[u8] = b"aadl_fta 0.1.0";
+
 /// The version of the program, that of its profile, and those of the formats of what its commands write.
 pub const VERSIONS: &[u8] = b"aadl_fta 0.1.0\n\
     profile 1\n\
-    formats: check 1 cuts 1 tree 1 fmea 1 report 1 make 1 galileo 1 paths 1 why 1 confirm 1 targets 1 events 1 review 1 place 1 manifest 1\n";
+    formats: check 1 cuts 1 tree 1 mef 1 dot 1 fmea 1 report 1 make 1 galileo 1 paths 1 why 1 confirm 1 targets 1 events 1 review 1 place 1 manifest 1\n";

@@ -1,7 +1,7 @@
 //! What a refusal says and what to write instead, as docs/RULES.md has it. It is written by tools/pages.
 
 /// Of each refusal, in the order of docs/RULES.md.
-pub const EXPLANATIONS: [&'static [u8]; 57] = [
+pub const EXPLANATIONS: [&'static [u8]; 59] = [
     b"L1 BadByte\n\
     \n\
     A byte begins no token: a byte order mark, a letter outside of ASCII, a__b, a_.\n\
@@ -314,8 +314,8 @@ pub const EXPLANATIONS: [&'static [u8]; 57] = [
     What stands there is no line, or the text ends in it; the place is its first byte that is not a\n\
     blank.\n\
     \n\
-    Instead: see docs/PROFILE.md. Often: a name without quotes, a comment, a dynamic gate (pand, spare,\n\
-    fdep), an event with dorm alone, a missing ;.\n",
+    Instead: see docs/PROFILE.md. Often: a name without quotes, a comment, a keyword in upper case,\n\
+    which --profile 2 reads; a dynamic gate (pand, spare, fdep); an event with dorm alone; a missing ;.\n",
     b"G6 BadCount\n\
     \n\
     A gate KofN has not N inputs; the place is its line.\n\
@@ -341,4 +341,21 @@ pub const EXPLANATIONS: [&'static [u8]; 57] = [
     A gate reaches itself; the place is the line of the first such gate.\n\
     \n\
     Instead: break the loop; a static tree has none.\n",
+    b"G7 DynamicGate\n\
+    \n\
+    Under --profile 2: the keyword of a gate is that of a dynamic tree, as pand, spare, csp, wsp, hsp,\n\
+    fdep, seq or mutex; the place is the gate's name. What such a gate says depends on the order of\n\
+    events, or on spares, so a static tree cannot say it.\n\
+    \n\
+    Instead: replace it by what holds without regard to order: pand by and, a spare by and of the part\n\
+    and its spares. The sets then hold for more orders of events than the gate does, and none is\n\
+    missing.\n",
+    b"R1 UnratedEvent\n\
+    \n\
+    Of tree with --unrated refuse: an event of the tree has no rate; its name follows. It is the first\n\
+    in the order of the model. The tree would give it the probability 1. An event whose rate is the\n\
+    probability written 1 counts as one without a rate.\n\
+    \n\
+    Instead: give the event a rate by OccurrenceDistribution with applies to, or ask without --unrated\n\
+    refuse: then its probability is 1.\n",
 ];

@@ -8,5 +8,5 @@ mod texts;
 mod usage;
 
 pub use explained::{codes_are_explained, explain_text};
-pub use texts::{help_text, version_text};
+pub use texts::{help_text, program_text, version_text};
 pub use usage::{before_sign, push_usage};

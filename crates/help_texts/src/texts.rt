@@ -2,7 +2,7 @@
 
 ghost use Rattle.std.specs.Prelude.{◌≡◌, ◌++◌, None, Some, IfOk, OnOk};
 ghost use Rattle.std.specs.List.{flat_map};
-ghost use Rattle.help_texts.specs.Texts.{help_text, line_of, lines_of, version_text};
+ghost use Rattle.help_texts.specs.Texts.{help_text, line_of, lines_of, program_text, version_text};
 
 use crate::commands as texts;
 use fta_words::{KINDS, Kind, about_of, optional_of, usage_of};
@@ -17,6 +17,13 @@ pub fn help_text(alloc: Global, of: Option<Kind>) -> Result<Vec<u8>, AllocError>
         None => text_of_all(alloc),
         Some(kind) => text_of_one(alloc, kind),
     }
+}
+
+/// The program and its version, in one line, without what ends it.
+pub fn program_text() -> &'static [u8]
+    ensures { result.now ≡ program_text }
+{
+    texts::PROGRAM
 }
 
 /// What `version` writes: the version of the program, and that of its profile.

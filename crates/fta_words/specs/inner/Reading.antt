@@ -10,7 +10,7 @@ use Rattle.fta_words.specs.declared.kind.Kind.{Kind}
 use Rattle.fta_words.specs.declared.kind.Shape.{Shape}
 use Rattle.fta_words.specs.inner.Shown.{request_shown}
 use Rattle.fta_words.specs.Table.{flags_of, name_of, required_of, shape_of, valued_of}
-use Rattle.fta_words.specs.Words.{AreOptions, Given, IsAllowed, IsAsked, IsInFull, IsPlainWord, Request, Say, Spelling, in_full, is_given, option_words, spelled}
+use Rattle.fta_words.specs.Words.{AreOptions, Given, IsAllowed, IsAsked, IsInFull, IsPlainWord, Request, Say, Spelling, in_full, is_fit, is_given, option_words, spelled}
 
 -- whether letters and digits follow, each perhaps after one `_`: it goes along the bytes, and after a
 -- `_` (waiting) a letter or digit must stand
@@ -56,6 +56,7 @@ pub record IsRead (reports : List (List ℕ)) (kind : Kind) (plain behind : List
   pub behind_are : behind ≡ option_words given
   pub options : AreOptions (flags_of kind) (valued_of kind) given
   pub required : AllByRecursion (λ name. is_given name given ≡ true) (required_of kind)
+  pub fit : is_fit kind given ≡ true
   pub asked : IsAsked (shape_of kind) plain request.root request.target request.number request.of request.files
   pub said : Say kind reports given request.options
 
