@@ -2,6 +2,7 @@ mod AskedEffects
 mod Names
 mod Inputs
 mod Lacking
+mod LikeEnds
 mod Grammars
 mod Models
 mod OneDue

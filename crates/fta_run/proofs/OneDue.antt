@@ -1,11 +1,11 @@
 -- One end at most is due for the words and the contents, where these are told.
-use Rattle.std.proofs.Common.{◌≡◌, ◌≤◌, ℕ, Bool, true, false, List, [], ◌∷◌, length, Option, Some, None, IsSome, IfSome, Result, Ok, refl, sym, ap, ◌∙◌, inl, inr, codes}
+use Rattle.std.proofs.Common.{◌≡◌, ◌≤◌, ℕ, Bool, true, false, List, [], ◌∷◌, length, Option, Some, None, IsSome, IfSome, Result, Ok, refl, sym, subst, ap, ◌∙◌, inl, inr, codes}
 use Rattle.std.specs.List.{AllByRecursion}
 use Rattle.std.proofs.lemmas.Bool.{false≢true}
 use Rattle.plain_values.specs.declared.name.Root.{Root}
 use Rattle.plain_values.specs.declared.refusal.Refusal.{Refusal}
 use Rattle.package_index.specs.Lookup.{packages_of}
-use Rattle.fault_system.specs.Systems.{System}
+use Rattle.fault_system.specs.Systems.{IsSystem, System}
 use Rattle.fta_words.specs.declared.command.Paging.{Paging}
 use Rattle.model_phases.specs.Named.{IsPlainSystem}
 use Rattle.model_phases.proofs.Decided.{model_decided, origins_decided, review_decided}
@@ -28,14 +28,23 @@ use Rattle.model_phases.specs.declared.flat.FlatModel.{FlatModel}
 use Rattle.fta_run.specs.Files.{AreTokens, AreUnits, HasTooLong, HasTooMuch, LacksTokens, LacksUnits, MayContain, NamesTooMany}
 use Rattle.fta_run.specs.Model.{HasDuplicate, root_named}
 use Rattle.system_answers.specs.Derivations.{why_text}
-use Rattle.system_answers.specs.Texts.{cuts_text, paths_text}
+use Rattle.property_reader.specs.declared.rate.Rate.{Rate}
+use Rattle.system_answers.specs.Texts.{cuts_text, drawn_form, drawn_text, formed_tree, paths_text, rates_of, tree_text}
+use Rattle.system_answers.specs.declared.form.TreeForm.{TreeForm}
 use Rattle.system_answers.proofs.Derived.{confirm_decided, why_decided}
-use Rattle.system_answers.proofs.Decided.{cuts_decided, galileo_paths_text_decided, galileo_text_decided, listing_decided, paths_decided, report_decided, slice_decided, target_decided, tree_decided}
+use Rattle.system_answers.proofs.Decided.{cuts_decided, drawn_decided, galileo_paths_text_decided, galileo_text_decided, listing_decided, named_tree_decided, paths_decided, rated_decided, report_decided, slice_decided, target_decided, tree_decided, tree_for_decided}
 use Rattle.page_tokens.specs.Keys.{asked_digits}
-use Rattle.fta_run.specs.Due.{confirmed_in, cuts_in, due, first_text, made_of_texts, made_root, made_target, make_text, model_of_texts, other_texts, request_text, sets_of_tree, sized_text, text_for, texts_of, units_of, within_limits}
+use Rattle.fta_run.specs.Due.{confirmed_in, cuts_in, due, first_text, galileo_in, made_of_texts, made_root, made_target, make_text, model_of_texts, other_texts, request_text, sets_of_tree, sized_text, text_for, texts_of, units_of, within_limits}
 use Rattle.target_orders.specs.Text.{TellsOrders}
 use Rattle.target_orders.proofs.Said.{one-text}
 use Rattle.fta_run.specs.Effects.{asked_targets}
+use Rattle.fta_run.specs.Forms.{drawn_words, is_drawn, is_merging, is_wide, picture_legend, tree_form, tree_words}
+use Rattle.galileo_reader.specs.TreeSystems.{system_of, target_of as top_of_tree}
+use Rattle.galileo_reader.proofs.SystemLaws.{tree-system}
+use Rattle.galileo_reader.proofs.TreeTexts.{tree-named}
+use Rattle.fta_words.specs.declared.command.Options.{Options}
+use Rattle.fta_run.specs.inner.OneEnd.{AskForOneText, IsDecidedButLast, IsLikeEnd, KeepsGates}
+use Rattle.fta_run.proofs.LikeEnds.{alike, opened}
 use Rattle.fta_run.specs.Later.{IsLater, in_later_files, later_refusal, next_file}
 use Rattle.fta_run.specs.Answers.{AllTold, IsOutput, IsSameStatus}
 use Rattle.fta_words.proofs.Requests.{one_request}
@@ -103,9 +112,9 @@ cuts_in_decided root target paging tokens texts = (
 plain_paths_decided : (target : List ℕ) (paging : Paging) (system : System) → IsPlainSystem system → IsDecided IsSameStatus (paths_text target paging system)
 plain_paths_decided target paging system plain = paths_decided IsSameStatus itself target paging system plain.is_system (token_names system plain)
 
-tree_sets_decided : (paths : Bool) (limit max_order : Option ℕ) (text : List ℕ) → IsDecided IsSameStatus (sets_of_tree paths limit max_order text)
-tree_sets_decided true limit max_order text = galileo_paths_text_decided IsSameStatus itself limit max_order text
-tree_sets_decided false limit max_order text = galileo_text_decided IsSameStatus itself limit max_order text
+tree_sets_decided : (paths wide : Bool) (limit max_order : Option ℕ) (text : List ℕ) → IsDecided IsSameStatus (sets_of_tree paths wide limit max_order text)
+tree_sets_decided true wide limit max_order text = galileo_paths_text_decided IsSameStatus itself wide limit max_order text
+tree_sets_decided false wide limit max_order text = galileo_text_decided IsSameStatus itself wide limit max_order text
 
 plain_why_decided : (target set : List ℕ) (system : System) → IsPlainSystem system → IsDecided IsSameStatus (why_text target set system)
 plain_why_decided target set system plain = why_decided IsSameStatus itself target set system plain.is_system (token_names system plain)
@@ -144,39 +153,116 @@ make_decided : (number : ℕ) (text : Bool) → IsDecided IsSameStatus (make_tex
 make_decided number true = tt
 make_decided number false = (limits_decided (made_text number ∷ []), λ texts short. (texts_model_decided made_root texts, λ model at. sized_decided model))
 
-text_decided : (asked_kind : Kind) (voices : List Voice) (asked : Request) (texts : List (List ℕ)) → length (first_text texts) ≤ 4194304 → IsDecided IsSameStatus (text_for asked_kind voices asked texts)
-text_decided kind.Check voices asked texts short = (texts_model_decided asked.root texts, λ model at. tt)
-text_decided kind.Cuts voices asked texts short = cuts_in_decided asked.root asked.target asked.options.paging (is_set asked.options (codes "tokens")) texts
-text_decided kind.Tree voices asked texts short =
-    (texts_model_decided asked.root texts, λ model at. tree_decided IsSameStatus itself asked.target model.system model.rates (plain_model asked.root texts model at).system.is_system)
-text_decided kind.Fmea voices asked texts short = (texts_model_decided asked.root texts, λ model at. tt)
-text_decided kind.Report voices asked texts short =
+-- ---- the text of a tree
+
+-- the form of a tree for which a request asks
+abbrev form_asked : Request → List (List ℕ) → TreeForm
+form_asked asked texts = tree_form asked.options.form (tree_words asked.root asked.target) asked.files texts
+
+-- a tree with merged gates may have more texts than one, and all else is decided
+formed_opened : (number : ℕ) (form : TreeForm) (system : System) (rates : List Rate) → IsSystem system → IsDecidedButLast IsSameStatus (formed_tree number form system rates)
+formed_opened number form system rates is = (
+  tree_for_decided IsSameStatus itself system number is,
+  λ tree tree_is. (rated_decided IsSameStatus itself form.rated system rates tree, λ _ rated. ((λ a status it none. none), λ a b none other. absurd none)),
+)
+
+tree_opened : (target : List ℕ) (form : TreeForm) (system : System) (rates : List Rate) → IsSystem system → IsDecidedButLast IsSameStatus (tree_text target form system rates)
+tree_opened target form system rates is = (
+  target_decided IsSameStatus itself target system,
+  λ number named. (slice_decided IsSameStatus itself number system, λ slice served. formed_opened number form system rates is),
+)
+
+decided_opened : {A : Type 0} (phase : Phase A) → IsDecided IsSameStatus phase → IsDecidedButLast IsSameStatus phase
+decided_opened = opened IsSameStatus
+
+-- what is asked of a tree that is read from a file
+galileo_in_decided : (drawn : Bool) (options : Options) (files texts : List (List ℕ)) → is_merging options.form ≡ false → IsDecided IsSameStatus (galileo_in drawn options files texts)
+galileo_in_decided true options files texts keeps =
+    subst (λ merged. IsDecided IsSameStatus (drawn_text (is_wide options.form) merged (picture_legend (drawn_words merged) files texts) (first_text texts))) (sym keeps)
+    (drawn_decided IsSameStatus itself (is_wide options.form) (picture_legend (drawn_words false) files texts) (first_text texts))
+galileo_in_decided false options files texts keeps = tree_sets_decided (is_set options (codes "paths")) (is_wide options.form) options.paging.limit options.paging.max_order (first_text texts)
+
+galileo_in_opened : (drawn : Bool) (options : Options) (files texts : List (List ℕ)) → IsDecidedButLast IsSameStatus (galileo_in drawn options files texts)
+galileo_in_opened true options files texts = (
+  named_tree_decided IsSameStatus itself (is_wide options.form) (first_text texts),
+  λ tree read. (
+    slice_decided IsSameStatus itself (top_of_tree tree tree.top) (system_of tree),
+    λ slice served. formed_opened (top_of_tree tree tree.top) (drawn_form (is_merging options.form) (picture_legend (drawn_words (is_merging options.form)) files texts)) (system_of tree) (rates_of tree) (tree-system tree (tree-named read.0 tree read.2)),
+  ),
+)
+galileo_in_opened false options files texts =
+    decided_opened (sets_of_tree (is_set options (codes "paths")) (is_wide options.form) options.paging.limit options.paging.max_order (first_text texts))
+    (tree_sets_decided (is_set options (codes "paths")) (is_wide options.form) options.paging.limit options.paging.max_order (first_text texts))
+
+-- ---- what a request asks for
+
+text_decided : (asked_kind : Kind) (voices : List Voice) (asked : Request) (texts : List (List ℕ)) → length (first_text texts) ≤ 4194304 → KeepsGates asked_kind asked → IsDecided IsSameStatus (text_for asked_kind voices asked texts)
+text_decided kind.Check voices asked texts short keeps = (texts_model_decided asked.root texts, λ model at. tt)
+text_decided kind.Cuts voices asked texts short keeps = cuts_in_decided asked.root asked.target asked.options.paging (is_set asked.options (codes "tokens")) texts
+text_decided kind.Tree voices asked texts short keeps =
+    (texts_model_decided asked.root texts, λ model at. tree_decided IsSameStatus itself asked.target (form_asked asked texts) model.system model.rates keeps (plain_model asked.root texts model at).system.is_system)
+text_decided kind.Fmea voices asked texts short keeps = (texts_model_decided asked.root texts, λ model at. tt)
+text_decided kind.Report voices asked texts short keeps =
     (texts_model_decided asked.root texts, λ model at. report_decided IsSameStatus itself asked.target asked.options.chosen asked.options.paging.max_order voices model.system)
-text_decided kind.Make voices asked texts short = make_decided asked.number (is_set asked.options (codes "text"))
-text_decided kind.Galileo voices asked texts short = tree_sets_decided (is_set asked.options (codes "paths")) asked.options.paging.limit asked.options.paging.max_order (first_text texts)
-text_decided kind.Paths voices asked texts short =
+text_decided kind.Make voices asked texts short keeps = make_decided asked.number (is_set asked.options (codes "text"))
+text_decided kind.Galileo voices asked texts short keeps = galileo_in_decided (is_drawn asked.options.form) asked.options asked.files texts keeps
+text_decided kind.Paths voices asked texts short keeps =
     (texts_model_decided asked.root texts, λ model at. plain_paths_decided asked.target asked.options.paging model.system (plain_model asked.root texts model at).system)
-text_decided kind.Why voices asked texts short = (texts_model_decided asked.root texts, λ model at. plain_why_decided asked.target asked.options.set model.system (plain_model asked.root texts model at).system)
-text_decided kind.Confirm voices asked texts short = confirmed_decided asked.root asked.target asked.options.set texts short
-text_decided kind.Targets voices asked texts short =
+text_decided kind.Why voices asked texts short keeps = (texts_model_decided asked.root texts, λ model at. plain_why_decided asked.target asked.options.set model.system (plain_model asked.root texts model at).system)
+text_decided kind.Confirm voices asked texts short keeps = confirmed_decided asked.root asked.target asked.options.set texts short
+text_decided kind.Targets voices asked texts short keeps =
     (texts_model_decided asked.root texts, λ model at. decided_accepts IsSameStatus (TellsOrders model.system (asked_targets (is_set asked.options (codes "all")) model)) (one-text model.system (asked_targets (is_set asked.options (codes "all")) model)))
-text_decided kind.Events voices asked texts short = (made_decided origins_phase (origins_decided IsSameStatus itself) asked.root texts, λ model at. tt)
-text_decided kind.Review voices asked texts short = (made_decided review_phase (review_decided IsSameStatus itself) asked.root texts, λ reviewed at. tt)
-text_decided kind.Place voices asked texts short = tt
-text_decided kind.Manifest voices asked texts short = (texts_model_decided asked.root texts, λ model at. tt)
-text_decided kind.Help voices asked texts short = tt
-text_decided kind.Explain voices asked texts short = tt
-text_decided kind.Version voices asked texts short = tt
+text_decided kind.Events voices asked texts short keeps = (made_decided origins_phase (origins_decided IsSameStatus itself) asked.root texts, λ model at. tt)
+text_decided kind.Review voices asked texts short keeps = (made_decided review_phase (review_decided IsSameStatus itself) asked.root texts, λ reviewed at. tt)
+text_decided kind.Place voices asked texts short keeps = tt
+text_decided kind.Manifest voices asked texts short keeps = (texts_model_decided asked.root texts, λ model at. tt)
+text_decided kind.Help voices asked texts short keeps = tt
+text_decided kind.Explain voices asked texts short keeps = tt
+text_decided kind.Version voices asked texts short keeps = tt
 
-request_decided : (contents : List ℕ → Option (List ℕ)) (voices : List Voice) (asked : Request) → AllByRecursion (λ file. IsSome (contents file)) asked.files → IsDecided IsSameStatus (request_text contents voices asked)
-request_decided contents voices asked told = (texts_decided contents asked.files told, λ texts are. text_decided asked.kind voices asked texts (first_short contents asked.files texts are))
+-- the ends of what a request of a kind asks for are alike, also of a tree with merged gates
+text_opened : (asked_kind : Kind) (voices : List Voice) (asked : Request) (texts : List (List ℕ)) → length (first_text texts) ≤ 4194304 → IsDecidedButLast IsSameStatus (text_for asked_kind voices asked texts)
+text_opened kind.Check voices asked texts short = decided_opened (text_for kind.Check voices asked texts) (text_decided kind.Check voices asked texts short tt)
+text_opened kind.Cuts voices asked texts short = decided_opened (text_for kind.Cuts voices asked texts) (text_decided kind.Cuts voices asked texts short tt)
+text_opened kind.Tree voices asked texts short =
+    (texts_model_decided asked.root texts, λ model at. tree_opened asked.target (form_asked asked texts) model.system model.rates (plain_model asked.root texts model at).system.is_system)
+text_opened kind.Fmea voices asked texts short = decided_opened (text_for kind.Fmea voices asked texts) (text_decided kind.Fmea voices asked texts short tt)
+text_opened kind.Report voices asked texts short = decided_opened (text_for kind.Report voices asked texts) (text_decided kind.Report voices asked texts short tt)
+text_opened kind.Make voices asked texts short = decided_opened (text_for kind.Make voices asked texts) (text_decided kind.Make voices asked texts short tt)
+text_opened kind.Galileo voices asked texts short = galileo_in_opened (is_drawn asked.options.form) asked.options asked.files texts
+text_opened kind.Paths voices asked texts short = decided_opened (text_for kind.Paths voices asked texts) (text_decided kind.Paths voices asked texts short tt)
+text_opened kind.Why voices asked texts short = decided_opened (text_for kind.Why voices asked texts) (text_decided kind.Why voices asked texts short tt)
+text_opened kind.Confirm voices asked texts short = decided_opened (text_for kind.Confirm voices asked texts) (text_decided kind.Confirm voices asked texts short tt)
+text_opened kind.Targets voices asked texts short = decided_opened (text_for kind.Targets voices asked texts) (text_decided kind.Targets voices asked texts short tt)
+text_opened kind.Events voices asked texts short = decided_opened (text_for kind.Events voices asked texts) (text_decided kind.Events voices asked texts short tt)
+text_opened kind.Review voices asked texts short = decided_opened (text_for kind.Review voices asked texts) (text_decided kind.Review voices asked texts short tt)
+text_opened kind.Place voices asked texts short = decided_opened (text_for kind.Place voices asked texts) (text_decided kind.Place voices asked texts short tt)
+text_opened kind.Manifest voices asked texts short = decided_opened (text_for kind.Manifest voices asked texts) (text_decided kind.Manifest voices asked texts short tt)
+text_opened kind.Help voices asked texts short = decided_opened (text_for kind.Help voices asked texts) (text_decided kind.Help voices asked texts short tt)
+text_opened kind.Explain voices asked texts short = decided_opened (text_for kind.Explain voices asked texts) (text_decided kind.Explain voices asked texts short tt)
+text_opened kind.Version voices asked texts short = decided_opened (text_for kind.Version voices asked texts) (text_decided kind.Version voices asked texts short tt)
 
-due_decided : (words : List (List ℕ)) (contents : List ℕ → Option (List ℕ)) (voices : List Voice) → AllTold words contents voices → IsDecided IsSameStatus (due words contents voices)
-due_decided words contents voices told =
-    (decided_finds IsSameStatus itself (IsRequest (labels voices) words) Usage (one_request (labels voices) words), λ asked is. request_decided contents voices asked (told asked is))
+request_decided : (contents : List ℕ → Option (List ℕ)) (voices : List Voice) (asked : Request) → AllByRecursion (λ file. IsSome (contents file)) asked.files → KeepsGates asked.kind asked → IsDecided IsSameStatus (request_text contents voices asked)
+request_decided contents voices asked told keeps = (texts_decided contents asked.files told, λ texts are. text_decided asked.kind voices asked texts (first_short contents asked.files texts are) keeps)
 
-pub one_due : (words : List (List ℕ)) (contents : List ℕ → Option (List ℕ)) (voices : List Voice) → AllTold words contents voices → (a b : Result (List ℕ) Status) → IsDue (due words contents voices) a → IsDue (due words contents voices) b → IsSameEnd IsSameStatus a b
-one_due words contents voices told = decided.one_due IsSameStatus (due words contents voices) (due_decided words contents voices told)
+due_decided : (words : List (List ℕ)) (contents : List ℕ → Option (List ℕ)) (voices : List Voice) → AllTold words contents voices → AskForOneText words voices → IsDecided IsSameStatus (due words contents voices)
+due_decided words contents voices told one =
+    (decided_finds IsSameStatus itself (IsRequest (labels voices) words) Usage (one_request (labels voices) words), λ asked is. request_decided contents voices asked (told asked is) (one asked is))
 
-pub one_output : (words : List (List ℕ)) (contents : List ℕ → Option (List ℕ)) (voices : List Voice) → AllTold words contents voices → (a b : List ℕ) → IsOutput words contents voices a → IsOutput words contents voices b → a ≡ b
-one_output words contents voices told = decided.one_value IsSameStatus (due words contents voices) (due_decided words contents voices told)
+pub one_due : (words : List (List ℕ)) (contents : List ℕ → Option (List ℕ)) (voices : List Voice) → AllTold words contents voices → AskForOneText words voices → (a b : Result (List ℕ) Status) → IsDue (due words contents voices) a → IsDue (due words contents voices) b
+    → IsSameEnd IsSameStatus a b
+one_due words contents voices told one = decided.one_due IsSameStatus (due words contents voices) (due_decided words contents voices told one)
+
+pub one_output : (words : List (List ℕ)) (contents : List ℕ → Option (List ℕ)) (voices : List Voice) → AllTold words contents voices → AskForOneText words voices → (a b : List ℕ) → IsOutput words contents voices a → IsOutput words contents voices b → a ≡ b
+one_output words contents voices told one = decided.one_value IsSameStatus (due words contents voices) (due_decided words contents voices told one)
+
+-- ---- ends are alike
+
+due_opened : (words : List (List ℕ)) (contents : List ℕ → Option (List ℕ)) (voices : List Voice) → AllTold words contents voices → IsDecidedButLast IsSameStatus (due words contents voices)
+due_opened words contents voices told = (
+  decided_finds IsSameStatus itself (IsRequest (labels voices) words) Usage (one_request (labels voices) words),
+  λ asked is. (texts_decided contents asked.files (told asked is), λ texts are. text_opened asked.kind voices asked texts (first_short contents asked.files texts are)),
+)
+
+pub one_end : (words : List (List ℕ)) (contents : List ℕ → Option (List ℕ)) (voices : List Voice) → AllTold words contents voices → (a b : Result (List ℕ) Status) → IsDue (due words contents voices) a → IsDue (due words contents voices) b → IsLikeEnd IsSameStatus a b
+one_end words contents voices told = alike IsSameStatus (due words contents voices) (due_opened words contents voices told)

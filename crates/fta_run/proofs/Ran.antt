@@ -8,11 +8,11 @@ use Rattle.plain_values.specs.declared.refusal.Refusal.{Refusal}
 use Rattle.plain_values.specs.Order.{IsFirst}
 use Rattle.plain_values.specs.declared.name.Root.{Root}
 use Rattle.phases.specs.Phases.{Phase, Passes, Stops, yields, tells, chains, finds, IsDue, IsRefusal}
-use Rattle.phases.specs.inner.Phases.{IsSameEnd}
+use Rattle.fta_run.specs.inner.OneEnd.{IsLikeEnd}
 use Rattle.phases.specs.declared.status.Status.{Status}
-use Rattle.phases.specs.declared.status.Status.TheVariants.{Done, Usage, Refused, Constant, StaleToken, ReadFault, WriteFault, ReportFault, Memory}
+use Rattle.phases.specs.declared.status.Status.TheVariants.{Done, Usage, Refused, Constant, Unrated, StaleToken, ReadFault, WriteFault, ReportFault, Memory}
 use Rattle.phases.proofs.Endings.{StopsOnly, stops_only}
-use Rattle.fault_system.specs.Systems.{System}
+use Rattle.fault_system.specs.Systems.{System, event_name}
 use Rattle.fault_system.specs.Truth.{set_of}
 use Rattle.package_index.specs.Lookup.{packages_of}
 use Rattle.model_phases.proofs.Decided.{IsARefusal, model_stops, origins_stop, review_stop}
@@ -33,15 +33,18 @@ use Rattle.system_answers.specs.Targets.{LacksStart, LacksTarget}
 use Rattle.galileo_reader.specs.TreeSystems.{system_of, target_of as top_of_tree}
 use Rattle.system_answers.specs.Galileo.{LacksNamedTree}
 use Rattle.system_answers.specs.Derivations.{IsNotGood, LacksSteps, LacksWhy, confirm_text, why_text}
-use Rattle.system_answers.specs.Texts.{begin_of, cuts_text, galileo_paths_text, galileo_text, paths_text, report_text, tree_text}
+use Rattle.system_answers.specs.Texts.{begin_of, cuts_text, drawn_form, formed_tree, galileo_paths_text, galileo_text, paths_text, rates_of, report_text, tree_text}
 use Rattle.path_sets.specs.Duals.{dual_of}
 use Rattle.page_tokens.specs.Forms.{IsMalformed}
 use Rattle.page_tokens.specs.Keys.{asked_digits}
 use Rattle.page_tokens.specs.Starts.{IsStale, LacksStart as LacksBegin}
 use Rattle.path_sets.specs.PathSets.{HasLargePaths}
 use Rattle.system_answers.specs.inner.Ends.{EndsReports}
-use Rattle.fta_run.specs.Due.{confirmed_in, cuts_in, due, first_text, made_of_texts, made_root, made_target, make_text, model_of_texts, other_texts, report_in, request_text, sets_of_tree, sized_text, text_for, texts_of, within_limits}
+use Rattle.fta_run.specs.Due.{confirmed_in, cuts_in, due, first_text, galileo_in, made_of_texts, made_root, made_target, make_text, model_of_texts, other_texts, report_in, request_text, sets_of_tree, sized_text, text_for, texts_of, within_limits}
+use Rattle.fta_run.specs.Forms.{drawn_words, is_drawn, is_merging, is_wide, picture_legend, tree_form, tree_words}
+use Rattle.fta_words.specs.declared.command.Options.{Options}
 use Rattle.fta_run.specs.Later.{IsLater}
+use Rattle.system_answers.specs.declared.form.TreeForm.{TreeForm}
 use Rattle.system_answers.specs.Voices.{Voice, labels}
 use Rattle.model_maker.specs.Text.{text_of as made_text}
 use Rattle.cut_reports.specs.Places.{AtChosen}
@@ -60,16 +63,19 @@ use Rattle.fta_run.specs.declared.ready.Held.{Held}
 use Rattle.fta_run.specs.declared.ready.Ready.{Ready}
 use Rattle.fta_run.specs.declared.ready.Ready.TheVariants as made
 use Rattle.fta_run.specs.inner.Ready.{IsByLines, held_text, ready_text}
-use Rattle.fta_run.proofs.OneDue.{one_due}
+use Rattle.fta_run.proofs.OneDue.{one_end}
 
 -- ---- how the phases stop
 
 refusal_is : (Cause : Refusal → Type 0) (s : Status) → IsRefusal Cause s → IsARefusal s
 refusal_is Cause s is = (is.0, is.2)
 
--- The status is a refusal, or that a target is constant, or a token stale.
+-- The status is a refusal, or that a target is constant, or a token stale, or an event without a rate.
 abbrev IsAnEnd : Status → Type 0
-IsAnEnd status = IsARefusal status ⊎ (((always : Bool) × (status ≡ Constant always)) ⊎ ((token : List ℕ) × (input : List ℕ) × (status ≡ StaleToken token input)))
+IsAnEnd status =
+    IsARefusal status
+    ⊎ (((always : Bool) × (status ≡ Constant always))
+    ⊎ (((token : List ℕ) × (input : List ℕ) × (status ≡ StaleToken token input)) ⊎ ((event : List ℕ) × (status ≡ Unrated event))))
 
 -- what stops with refusals alone does so with these
 refusals : {A : Type 0} (phase : Phase A) → StopsOnly IsARefusal phase → StopsOnly IsAnEnd phase
@@ -85,7 +91,7 @@ begin_stop : (key : List ℕ) (after : Option (List ℕ)) (system : System) → 
 begin_stop key None system = tt
 begin_stop key (Some text) system = (
   (λ s is. inl (refusal_is (IsMalformed text) s is)),
-  λ said says. ((λ s stale. inr (inr (stale_is key said.digits s stale))), λ _ fresh. (λ s is. inl (refusal_is (LacksBegin system said) s is))),
+  λ said says. ((λ s stale. inr (inr (inl (stale_is key said.digits s stale)))), λ _ fresh. (λ s is. inl (refusal_is (LacksBegin system said) s is))),
 )
 
 cuts_stop : (target : List ℕ) (paging : Paging) (tokens : Bool) (key : List ℕ) (system : System) → StopsOnly IsAnEnd (cuts_text target paging tokens key system)
@@ -100,15 +106,15 @@ report_stop target chosen max_order voices system = (
   λ number named. (refusal_is (HasLargeSlice system number), λ slice served. ((λ s none. absurd none), λ sets are. tt)),
 )
 
-galileo_stop : (limit max_order : Option ℕ) (text : List ℕ) → StopsOnly IsARefusal (galileo_text limit max_order text)
-galileo_stop limit max_order text = (
-  refusal_is (LacksNamedTree text),
+galileo_stop : (wide : Bool) (limit max_order : Option ℕ) (text : List ℕ) → StopsOnly IsARefusal (galileo_text wide limit max_order text)
+galileo_stop wide limit max_order text = (
+  refusal_is (LacksNamedTree wide text),
   λ tree read. (refusal_is (HasLargeSlice (system_of tree) (top_of_tree tree tree.top)), λ slice served. ((λ s none. absurd none), λ sets are. tt)),
 )
 
-galileo_paths_stop : (limit max_order : Option ℕ) (text : List ℕ) → StopsOnly IsARefusal (galileo_paths_text limit max_order text)
-galileo_paths_stop limit max_order text = (
-  refusal_is (LacksNamedTree text),
+galileo_paths_stop : (wide : Bool) (limit max_order : Option ℕ) (text : List ℕ) → StopsOnly IsARefusal (galileo_paths_text wide limit max_order text)
+galileo_paths_stop wide limit max_order text = (
+  refusal_is (LacksNamedTree wide text),
   λ tree read. (
     refusal_is (HasLargeSlice (system_of tree) (top_of_tree tree tree.top)),
     λ slice served. (refusal_is (HasLargeSlice (dual_of (system_of tree)) (top_of_tree tree tree.top)), λ dual clear. ((λ s none. absurd none), λ sets are. tt)),
@@ -130,15 +136,32 @@ paths_stop target paging system = (
   ),
 )
 
-tree_stop : (target : List ℕ) (system : System) (rates : List Rate) → StopsOnly IsAnEnd (tree_text target system rates)
-tree_stop target system rates = (
-  (λ s is. inl (refusal_is (IsFirst (LacksTarget system target)) s is)),
-  λ number named. ((λ s is. inl (refusal_is (HasLargeSlice system number) s is)), λ slice served. (λ s lacks. elim lacks [ inl constant ↦ inr (inl (constant.0, constant.2)) | inr large ↦ inl (large.0, large.2) ])),
+formed_stop : (number : ℕ) (form : TreeForm) (system : System) (rates : List Rate) → StopsOnly IsAnEnd (formed_tree number form system rates)
+formed_stop number form system rates = (
+  (λ s lacks. elim lacks [ inl constant ↦ inr (inl (constant.0, constant.2)) | inr large ↦ inl (large.0, large.2) ]),
+  λ tree is. ((λ s lacks. inr (inr (inr (event_name system lacks.0, lacks.2)))), λ _ rated. (λ s none. absurd none)),
 )
 
-tree_sets_stop : (paths : Bool) (limit max_order : Option ℕ) (text : List ℕ) → StopsOnly IsARefusal (sets_of_tree paths limit max_order text)
-tree_sets_stop true limit max_order text = galileo_paths_stop limit max_order text
-tree_sets_stop false limit max_order text = galileo_stop limit max_order text
+tree_stop : (target : List ℕ) (form : TreeForm) (system : System) (rates : List Rate) → StopsOnly IsAnEnd (tree_text target form system rates)
+tree_stop target form system rates = (
+  (λ s is. inl (refusal_is (IsFirst (LacksTarget system target)) s is)),
+  λ number named. ((λ s is. inl (refusal_is (HasLargeSlice system number) s is)), λ slice served. formed_stop number form system rates),
+)
+
+tree_sets_stop : (paths wide : Bool) (limit max_order : Option ℕ) (text : List ℕ) → StopsOnly IsARefusal (sets_of_tree paths wide limit max_order text)
+tree_sets_stop true wide limit max_order text = galileo_paths_stop wide limit max_order text
+tree_sets_stop false wide limit max_order text = galileo_stop wide limit max_order text
+
+galileo_in_stop : (drawn : Bool) (options : Options) (files texts : List (List ℕ)) → StopsOnly IsAnEnd (galileo_in drawn options files texts)
+galileo_in_stop true options files texts = (
+  (λ s is. inl (refusal_is (LacksNamedTree (is_wide options.form) (first_text texts)) s is)),
+  λ tree read. (
+    (λ s is. inl (refusal_is (HasLargeSlice (system_of tree) (top_of_tree tree tree.top)) s is)),
+    λ slice served. formed_stop (top_of_tree tree tree.top) (drawn_form (is_merging options.form) (picture_legend (drawn_words (is_merging options.form)) files texts)) (system_of tree) (rates_of tree),
+  ),
+)
+galileo_in_stop false options files texts =
+    refusals (sets_of_tree (is_set options (codes "paths")) (is_wide options.form) options.paging.limit options.paging.max_order (first_text texts)) (tree_sets_stop (is_set options (codes "paths")) (is_wide options.form) options.paging.limit options.paging.max_order (first_text texts))
 
 why_stop : (target set : List ℕ) (system : System) → StopsOnly IsARefusal (why_text target set system)
 why_stop target set system = (
@@ -187,7 +210,7 @@ cuts_in_stop root target paging tokens texts =
 text_stops : (asked_kind : Kind) (voices : List Voice) (asked : Request) (texts : List (List ℕ)) → StopsOnly IsAnEnd (text_for asked_kind voices asked texts)
 text_stops kind.Check voices asked texts = (refusals (model_of_texts asked.root texts) (texts_model_stops asked.root texts), λ model at. tt)
 text_stops kind.Cuts voices asked texts = cuts_in_stop asked.root asked.target asked.options.paging (is_set asked.options (codes "tokens")) texts
-text_stops kind.Tree voices asked texts = (refusals (model_of_texts asked.root texts) (texts_model_stops asked.root texts), λ model at. tree_stop asked.target model.system model.rates)
+text_stops kind.Tree voices asked texts = (refusals (model_of_texts asked.root texts) (texts_model_stops asked.root texts), λ model at. tree_stop asked.target (tree_form asked.options.form (tree_words asked.root asked.target) asked.files texts) model.system model.rates)
 text_stops kind.Fmea voices asked texts = (refusals (model_of_texts asked.root texts) (texts_model_stops asked.root texts), λ model at. tt)
 text_stops kind.Report voices asked texts = (
   refusals (model_of_texts asked.root texts) (texts_model_stops asked.root texts),
@@ -195,8 +218,7 @@ text_stops kind.Report voices asked texts = (
       refusals (report_text asked.target asked.options.chosen asked.options.paging.max_order voices model.system) (report_stop asked.target asked.options.chosen asked.options.paging.max_order voices model.system),
 )
 text_stops kind.Make voices asked texts = refusals (make_text asked.number (is_set asked.options (codes "text"))) (make_stop asked.number (is_set asked.options (codes "text")))
-text_stops kind.Galileo voices asked texts =
-    refusals (sets_of_tree (is_set asked.options (codes "paths")) asked.options.paging.limit asked.options.paging.max_order (first_text texts)) (tree_sets_stop (is_set asked.options (codes "paths")) asked.options.paging.limit asked.options.paging.max_order (first_text texts))
+text_stops kind.Galileo voices asked texts = galileo_in_stop (is_drawn asked.options.form) asked.options asked.files texts
 text_stops kind.Paths voices asked texts =
     (refusals (model_of_texts asked.root texts) (texts_model_stops asked.root texts), λ model at. refusals (paths_text asked.target asked.options.paging model.system) (paths_stop asked.target asked.options.paging model.system))
 text_stops kind.Why voices asked texts =
@@ -214,7 +236,7 @@ text_stops kind.Version voices asked texts = tt
 request_stops : (contents : List ℕ → Option (List ℕ)) (voices : List Voice) (asked : Request) → StopsOnly IsAnEnd (request_text contents voices asked)
 request_stops contents voices asked = (refusals (texts_of contents asked.files) (texts_stop contents asked.files), λ texts read. text_stops asked.kind voices asked texts)
 
--- Usage without a request; or there is one, and a refusal, a constant target or a stale token
+-- Usage without a request; or there is one, and a refusal, a constant target, a stale token or an event without a rate
 abbrev EndsSo : List (List ℕ) → List (List ℕ) → Status → Type 0
 EndsSo names words status = ((status ≡ Usage) × GiveNoRequest names words) ⊎ (GiveRequest names words × IsAnEnd status)
 
@@ -235,7 +257,10 @@ words_of_kind names words s kind =
         | inl refusal ↦ subst (λ x. AnswersWords x names words) (sym refusal.1) some.0
         | inr other ↦ elim other [
           | inl constant ↦ subst (λ x. AnswersWords x names words) (sym constant.1) some.0
-          | inr stale ↦ subst (λ x. AnswersWords x names words) (sym stale.2) some.0
+          | inr last ↦ elim last [
+            | inl stale ↦ subst (λ x. AnswersWords x names words) (sym stale.2) some.0
+            | inr unrated ↦ subst (λ x. AnswersWords x names words) (sym unrated.1) some.0
+          ]
         ]
       ]
     ]
@@ -293,6 +318,7 @@ module _ (words : List (List ℕ)) (contents : List ℕ → Option (List ℕ)) (
   justified (Refused refusal) stops = stops
   justified (Constant always) stops = stops
   justified (StaleToken token input) stops = stops
+  justified (Unrated event) stops = stops
   justified (ReadFault file) stops = tt
   justified WriteFault stops = tt
   justified (ReportFault place) stops = tt
@@ -328,7 +354,10 @@ module _ (words : List (List ℕ)) (contents : List ℕ → Option (List ℕ)) (
           | inl refusal ↦ subst (λ x. Took (IsOutput words contents voices) x t u) (sym refusal.1) same
           | inr other ↦ elim other [
             | inl constant ↦ subst (λ x. Took (IsOutput words contents voices) x t u) (sym constant.1) same
-            | inr stale ↦ subst (λ x. Took (IsOutput words contents voices) x t u) (sym stale.2) same
+            | inr last ↦ elim last [
+              | inl stale ↦ subst (λ x. Took (IsOutput words contents voices) x t u) (sym stale.2) same
+              | inr unrated ↦ subst (λ x. Took (IsOutput words contents voices) x t u) (sym unrated.1) same
+            ]
           ]
         ]
       ]
@@ -370,7 +399,10 @@ module _ (words : List (List ℕ)) (contents : List ℕ → Option (List ℕ)) (
           | inl refusal ↦ subst (λ x. IsCaused x (labels voices) words read_before read_after t u RoseThere) (sym refusal.1) tt
           | inr other ↦ elim other [
             | inl constant ↦ subst (λ x. IsCaused x (labels voices) words read_before read_after t u RoseThere) (sym constant.1) tt
-            | inr stale ↦ subst (λ x. IsCaused x (labels voices) words read_before read_after t u RoseThere) (sym stale.2) tt
+            | inr last ↦ elim last [
+              | inl stale ↦ subst (λ x. IsCaused x (labels voices) words read_before read_after t u RoseThere) (sym stale.2) tt
+              | inr unrated ↦ subst (λ x. IsCaused x (labels voices) words read_before read_after t u RoseThere) (sym unrated.1) tt
+            ]
           ]
         ]
       ]
@@ -406,38 +438,45 @@ module _ (words : List (List ℕ)) (contents : List ℕ → Option (List ℕ)) (
 
 -- ---- what is due
 
-text_is_due : (a : Result (List ℕ) Status) (text : List ℕ) → IsSameEnd IsSameStatus a (Ok text) → IsOk a
+text_is_due : (a : Result (List ℕ) Status) (text : List ℕ) → IsLikeEnd IsSameStatus a (Ok text) → IsOk a
 text_is_due (Ok x) text same = refl
 text_is_due (Err s) text same = absurd same
 
 same_as : (a s : Status) → ((refusal : Refusal) → s ≡ Refused refusal → ⊥) → IsSameStatus a s → a ≡ s
 same_as a s other same = elim same [ inl is ↦ is | inr both ↦ absurd (other _ both.4) ]
 
-usage_is_due : (a : Result (List ℕ) Status) → IsSameEnd IsSameStatus a (Err Usage) → a ≡ Err Usage
+usage_is_due : (a : Result (List ℕ) Status) → IsLikeEnd IsSameStatus a (Err Usage) → a ≡ Err Usage
 usage_is_due (Ok x) same = absurd same
 usage_is_due (Err a) same = ap (λ (s : Status). Err s) (same_as a Usage (λ refusal is. cc (is)) same)
 
-constant_is_due : (a : Result (List ℕ) Status) (always : Bool) → IsSameEnd IsSameStatus a (Err (Constant always)) → a ≡ Err (Constant always)
+constant_is_due : (a : Result (List ℕ) Status) (always : Bool) → IsLikeEnd IsSameStatus a (Err (Constant always)) → a ≡ Err (Constant always)
 constant_is_due (Ok x) always same = absurd same
 constant_is_due (Err a) always same = ap (λ (s : Status). Err s) (same_as a (Constant always) (λ refusal is. cc (is)) same)
 
-stale_is_due : (a : Result (List ℕ) Status) (token input : List ℕ) → IsSameEnd IsSameStatus a (Err (StaleToken token input)) → a ≡ Err (StaleToken token input)
+stale_is_due : (a : Result (List ℕ) Status) (token input : List ℕ) → IsLikeEnd IsSameStatus a (Err (StaleToken token input)) → a ≡ Err (StaleToken token input)
 stale_is_due (Ok x) token input same = absurd same
 stale_is_due (Err a) token input same = ap (λ (s : Status). Err s) (same_as a (StaleToken token input) (λ refusal is. cc (is)) same)
 
-refusal_is_due : (a : Result (List ℕ) Status) (refusal : Refusal) → IsSameEnd IsSameStatus a (Err (Refused refusal)) → IsErrAnd a (λ status. IsSameStatus status (Refused refusal))
+unrated_is_due : (a : Result (List ℕ) Status) (event : List ℕ) → IsLikeEnd IsSameStatus a (Err (Unrated event)) → a ≡ Err (Unrated event)
+unrated_is_due (Ok x) event same = absurd same
+unrated_is_due (Err a) event same = ap (λ (s : Status). Err s) (same_as a (Unrated event) (λ refusal is. cc (is)) same)
+
+refusal_is_due : (a : Result (List ℕ) Status) (refusal : Refusal) → IsLikeEnd IsSameStatus a (Err (Refused refusal)) → IsErrAnd a (λ status. IsSameStatus status (Refused refusal))
 refusal_is_due (Ok x) refusal same = absurd same
 refusal_is_due (Err a) refusal same = same
 
-came_of_kind : (names words : List (List ℕ)) (a : Result (List ℕ) Status) (s : Status) → EndsSo names words s → IsSameEnd IsSameStatus a (Err s) → MayCome a s
+came_of_kind : (names words : List (List ℕ)) (a : Result (List ℕ) Status) (s : Status) → EndsSo names words s → IsLikeEnd IsSameStatus a (Err s) → MayCome a s
 came_of_kind names words a s kind same =
     elim kind [
-      | inl none ↦ subst (MayCome a) (sym none.0) (usage_is_due a (subst (λ x. IsSameEnd IsSameStatus a (Err x)) none.0 same))
+      | inl none ↦ subst (MayCome a) (sym none.0) (usage_is_due a (subst (λ x. IsLikeEnd IsSameStatus a (Err x)) none.0 same))
       | inr some ↦ elim some.1 [
-        | inl refusal ↦ subst (MayCome a) (sym refusal.1) (refusal_is_due a refusal.0 (subst (λ x. IsSameEnd IsSameStatus a (Err x)) refusal.1 same))
+        | inl refusal ↦ subst (MayCome a) (sym refusal.1) (refusal_is_due a refusal.0 (subst (λ x. IsLikeEnd IsSameStatus a (Err x)) refusal.1 same))
         | inr other ↦ elim other [
-          | inl constant ↦ subst (MayCome a) (sym constant.1) (constant_is_due a constant.0 (subst (λ x. IsSameEnd IsSameStatus a (Err x)) constant.1 same))
-          | inr stale ↦ subst (MayCome a) (sym stale.2) (stale_is_due a stale.0 stale.1 (subst (λ x. IsSameEnd IsSameStatus a (Err x)) stale.2 same))
+          | inl constant ↦ subst (MayCome a) (sym constant.1) (constant_is_due a constant.0 (subst (λ x. IsLikeEnd IsSameStatus a (Err x)) constant.1 same))
+          | inr last ↦ elim last [
+            | inl stale ↦ subst (MayCome a) (sym stale.2) (stale_is_due a stale.0 stale.1 (subst (λ x. IsLikeEnd IsSameStatus a (Err x)) stale.2 same))
+            | inr unrated ↦ subst (MayCome a) (sym unrated.1) (unrated_is_due a unrated.0 (subst (λ x. IsLikeEnd IsSameStatus a (Err x)) unrated.1 same))
+          ]
         ]
       ]
     ]
@@ -445,13 +484,13 @@ came_of_kind names words a s kind same =
 came_ended : (words : List (List ℕ)) (contents : List ℕ → Option (List ℕ)) (voices : List Voice) (s : Status) → Ended words contents voices s → AllTold words contents voices → (a : Result (List ℕ) Status) → IsDue (due words contents voices) a → MayCome a s
 came_ended words contents voices s end told a is_due =
     elim end [
-      | inl stops ↦ came_of_kind (labels voices) words a s (kind_of words contents voices s stops) (one_due words contents voices told a (Err s) is_due stops)
+      | inl stops ↦ came_of_kind (labels voices) words a s (kind_of words contents voices s stops) (one_end words contents voices told a (Err s) is_due stops)
       | inr other ↦ elim other [
         | inl memory ↦ subst (MayCome a) (sym memory) tt
         | inr more ↦ elim more [
           | inl read ↦ subst (MayCome a) (sym read.1) tt
           | inr failed ↦
-              let text = text_is_due a failed.1.0 (one_due words contents voices told a (Ok failed.1.0) is_due failed.1.1) in
+              let text = text_is_due a failed.1.0 (one_end words contents voices told a (Ok failed.1.0) is_due failed.1.1) in
               elim failed.0 [ inl write ↦ subst (MayCome a) (sym write) text | inr report ↦ subst (MayCome a) (sym report.1) text ]
         ]
       ]
@@ -459,7 +498,7 @@ came_ended words contents voices s end told a is_due =
 
 pub ran_complete : {T : Type 0} (words : List (List ℕ)) (contents : List ℕ → Option (List ℕ)) (voices : List Voice) (read_before read_after : List ℕ → ℕ) (RoseThere : ℕ → Type 0) (t u : Seen) (result : Result T Status)
     → Runs words contents voices read_before read_after RoseThere result t u → AllTold words contents voices → (a : Result (List ℕ) Status) → IsDue (due words contents voices) a → MayCome a (ended result)
-ran_complete words contents voices read_before read_after RoseThere t u (Ok _) took told a is_due = text_is_due a took.0 (one_due words contents voices told a (Ok took.0) is_due took.1)
+ran_complete words contents voices read_before read_after RoseThere t u (Ok _) took told a is_due = text_is_due a took.0 (one_end words contents voices told a (Ok took.0) is_due took.1)
 ran_complete words contents voices read_before read_after RoseThere t u (Err s) end told a is_due =
     came_ended words contents voices s (how_ended words contents voices read_before read_after RoseThere t u s end) told a is_due
 
@@ -476,6 +515,11 @@ pub ready_set : (Excuse : Status → Type 0) (phase : Bool → Phase (List ℕ))
     → MatchResult its (λ text. result ≡ Ok (made.Held text)) (λ status. result ≡ Err status) → ((s : Status) → IsMemory s → Excuse s) → MeetsBut IsMemory held_text (phase said) its → MeetsBut Excuse ready_text (phase so) result
 ready_set Excuse phase said so its result same ready wanting met =
     ready_held Excuse (phase so) its result ready wanting (subst (λ (flag : Bool). MeetsBut IsMemory held_text (phase flag) its) same met)
+
+-- an answer may be made line by line where this is so
+pub lines_where : (result : Result Ready Status) (so : Bool) → so ≡ true → IfOk result (λ ready. IsByLines ready → so ≡ true)
+lines_where (Ok ready) so is = λ lines. is
+lines_where (Err s) so is = tt
 
 -- the same with the reports
 pub ready_told : (Excuse : Status → Type 0) (phase : Phase (List ℕ)) (its : Result Held Status) (result : Result Ready Status) → MatchResult its (λ text. result ≡ Ok (made.Held text)) (λ status. result ≡ Err status)
@@ -552,9 +596,13 @@ unasked words contents voices read_before read_after RoseThere names s same end 
 
 -- an answer that is made line by line is one on a request for it
 pub lines_asked : (words : List (List ℕ)) (voices : List Voice) (asked : Request) (result : Result Ready Status) → Passes (finds (IsRequest (labels voices) words) Usage) asked
-    → IfOk result (λ ready. IsByLines ready → is_by_lines asked.kind ≡ true) → IfOk result (λ ready. IsByLines ready → AsksLines words voices)
+    → IfOk result (λ ready. IsByLines ready → is_by_lines asked ≡ true) → IfOk result (λ ready. IsByLines ready → AsksLines words voices)
 lines_asked words voices asked (Ok ready) given lines = λ is. (asked, given.passed, lines is)
 lines_asked words voices asked (Err s) given lines = tt
+
+-- an answer is no status
+pub ok_not_err : {A E : Type 0} (a : A) (e : E) → Ok a ≡ Err e → ⊥
+ok_not_err a e is = cc (is)
 
 -- too many files of a request
 pub many_named : (names words : List (List ℕ)) (asked : Request) → Passes (finds (IsRequest names words) Usage) asked → most_files < length (file_words words) → most_files < length asked.files
@@ -567,12 +615,12 @@ many_answer result s is many =
 
 -- ---- memory
 
-by_lines_once : (names words : List (List ℕ)) (asked other : Request) → IsRequest names words asked → IsRequest names words other → is_by_lines other.kind ≡ true → is_by_lines asked.kind ≡ false → ⊥
-by_lines_once names words asked other is also lines none = false≢true (sym none ∙ subst (λ (one : Request). is_by_lines one.kind ≡ true) (one_request names words other asked also is) lines)
+by_lines_once : (names words : List (List ℕ)) (asked other : Request) → IsRequest names words asked → IsRequest names words other → is_by_lines other ≡ true → is_by_lines asked ≡ false → ⊥
+by_lines_once names words asked other is also lines none = false≢true (sym none ∙ subst (λ (one : Request). is_by_lines one ≡ true) (one_request names words other asked also is) lines)
 
 -- memory is wanting only before a text was begun, or for a line of it
 pub ran_begins : {T : Type 0} (words : List (List ℕ)) (contents : List ℕ → Option (List ℕ)) (voices : List Voice) (read_before read_after : List ℕ → ℕ) (RoseThere : ℕ → Type 0) (t u : Seen) (result : Result T Status) (status : Status) → status ≡ ended result
-    → Runs words contents voices read_before read_after RoseThere result t u → (asked : Request) → IsRequest (labels voices) words asked → BeginsWithMemory asked.kind status t u
+    → Runs words contents voices read_before read_after RoseThere result t u → (asked : Request) → IsRequest (labels voices) words asked → BeginsWithMemory asked status t u
 ran_begins words contents voices read_before read_after RoseThere t u (Ok _) status is took asked given none memory = absurd (cc (is, memory))
 ran_begins words contents voices read_before read_after RoseThere t u (Err s) status is end asked given none memory =
     elim end [

@@ -6,12 +6,14 @@ use Rattle.plain_values.specs.declared.refusal.Refusal.{Refusal}
 use Rattle.plain_values.specs.Refusal.{of_words}
 use Rattle.phases.specs.Phases.{Passes, Stops}
 use Rattle.phases.specs.declared.status.Status.{Status}
-use Rattle.phases.specs.declared.status.Status.TheVariants.{Done, Usage, Refused, Constant, StaleToken, ReadFault, WriteFault, ReportFault, Memory}
+use Rattle.phases.specs.declared.status.Status.TheVariants.{Done, Usage, Refused, Constant, Unrated, StaleToken, ReadFault, WriteFault, ReportFault, Memory}
 use Rattle.grammar_rules.specs.Texts.{syntax_error}
 use Rattle.fta_outside.specs.Outside.{Rose, Seen, Took as TookAll, TookPrefix}
 use Rattle.fta_words.specs.declared.kind.Kind.TheVariants as kind
 use Rattle.fta_run.specs.Words.{Kind, Request, GiveRequest, GiveNoRequest, IsRequest, file_words}
+use Rattle.fta_words.specs.declared.command.Form.{Form}
 use Rattle.fta_run.specs.Files.{most_files}
+use Rattle.fta_run.specs.Forms.{is_drawn}
 use Rattle.fta_run.specs.Due.{due}
 use Rattle.system_answers.specs.Voices.{Voice, labels}
 use Rattle.cut_reports.specs.Places.{is_among}
@@ -41,6 +43,7 @@ MayCome its_due Usage = its_due ≡ Err Usage
 MayCome its_due (Refused refusal) = IsErrAnd its_due (λ status. IsSameStatus status (Refused refusal))
 MayCome its_due (Constant always) = its_due ≡ Err (Constant always)
 MayCome its_due (StaleToken token input) = its_due ≡ Err (StaleToken token input)
+MayCome its_due (Unrated event) = its_due ≡ Err (Unrated event)
 MayCome its_due (ReadFault file) = Unit {0}
 MayCome its_due Memory = Unit {0}
 MayCome its_due _ = IsOk its_due
@@ -53,11 +56,12 @@ AnswersWords Usage names words = GiveNoRequest names words
 AnswersWords Memory names words = Unit {0}
 AnswersWords _ names words = GiveRequest names words
 
--- A refusal is the verdict, and so is that a target is constant, or a token stale.
+-- A refusal is the verdict, and so is that a target is constant, a token stale, or an event without a rate.
 abbrev pub IsJustified : List (List ℕ) → (List ℕ → Option (List ℕ)) → List Voice → Status → Type 0
 IsJustified words contents voices (Refused refusal) = IsVerdict words contents voices refusal
 IsJustified words contents voices (Constant always) = Stops (due words contents voices) (Constant always)
 IsJustified words contents voices (StaleToken token input) = Stops (due words contents voices) (StaleToken token input)
+IsJustified words contents voices (Unrated event) = Stops (due words contents voices) (Unrated event)
 IsJustified words contents voices _ = Unit {0}
 
 -- A sink took a text of this sort after what it took before.
@@ -94,11 +98,16 @@ IsManyAnswer Memory = Unit {0}
 IsManyAnswer _ = ⊥
 
 -- whether the text of a command is made line by line while it is written, which takes memory: a tree, and the table of `fmea`
-abbrev pub is_by_lines : Kind → Bool
-is_by_lines kind.Tree = true
-is_by_lines kind.Fmea = true
-is_by_lines _ = false
+abbrev pub is_by_lines_of : Kind → Form → Bool
+is_by_lines_of kind.Tree form = true
+is_by_lines_of kind.Fmea form = true
+is_by_lines_of kind.Galileo form = is_drawn form
+is_by_lines_of _ form = false
+
+-- the same of a request
+abbrev pub is_by_lines : Request → Bool
+is_by_lines asked = is_by_lines_of asked.kind asked.options.form
 
 -- Once any other text was begun, as a page of `cuts`, `paths` or `galileo`, no memory is wanting: where it is, the sink took nothing.
-abbrev pub BeginsWithMemory : Kind → Status → Seen → Seen → Type 0
-BeginsWithMemory kind status before after = is_by_lines kind ≡ false → status ≡ Memory → after.taken ≡ before.taken
+abbrev pub BeginsWithMemory : Request → Status → Seen → Seen → Type 0
+BeginsWithMemory asked status before after = is_by_lines asked ≡ false → status ≡ Memory → after.taken ≡ before.taken

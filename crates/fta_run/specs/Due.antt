@@ -15,6 +15,9 @@ use Rattle.text_places.specs.Places.{place_text}
 use Rattle.help_texts.specs.Texts.{explain_text, help_text, version_text}
 use Rattle.fmea_rows.specs.Rows.{rows_of}
 use Rattle.fmea_rows.specs.Text.{table_text}
+use Rattle.fta_run.specs.Forms.{drawn_words, is_drawn, is_merging, is_wide, picture_legend, tree_form, tree_words}
+use Rattle.fta_words.specs.declared.command.Form.{Form}
+use Rattle.fta_words.specs.declared.command.Options.{Options}
 use Rattle.fta_words.specs.declared.command.Paging.{Paging}
 use Rattle.model_facts.specs.Assembly.{Assembly}
 use Rattle.model_phases.specs.Phases.{assembled, flat_phase, origins_phase, review_phase}
@@ -30,7 +33,7 @@ use Rattle.fta_run.specs.Files.{MayContain, NamesTooMany, HasTooLong, HasTooMuch
 use Rattle.fta_run.specs.Model.{HasDuplicate, root_named}
 use Rattle.fta_run.specs.Text.{numbers_text}
 use Rattle.system_answers.specs.Derivations.{confirm_text, why_text}
-use Rattle.system_answers.specs.Texts.{cuts_text, galileo_paths_text, galileo_text, paths_text, report_text, slice_of, target_of, tree_text}
+use Rattle.system_answers.specs.Texts.{cuts_text, drawn_text, galileo_paths_text, galileo_text, paths_text, report_text, slice_of, target_of, tree_text}
 use Rattle.system_answers.specs.Voices.{Voice, labels}
 
 -- these texts, where none is too long, and they are not too long together
@@ -135,9 +138,14 @@ make_text number true = yields (made_text number)
 make_text number false = made_model_text (made_text number)
 
 -- the text of `galileo`: the minimal path sets of the tree in a text, or its minimal cut sets
-abbrev pub sets_of_tree : Bool → Option ℕ → Option ℕ → List ℕ → Phase (List ℕ)
-sets_of_tree true limit max_order text = galileo_paths_text limit max_order text
-sets_of_tree false limit max_order text = galileo_text limit max_order text
+abbrev pub sets_of_tree : Bool → Bool → Option ℕ → Option ℕ → List ℕ → Phase (List ℕ)
+sets_of_tree true wide limit max_order text = galileo_paths_text wide limit max_order text
+sets_of_tree false wide limit max_order text = galileo_text wide limit max_order text
+
+-- the text of `galileo` of the first of these texts: a picture of the tree, or sets
+abbrev pub galileo_in : Bool → Options → List (List ℕ) → List (List ℕ) → Phase (List ℕ)
+galileo_in true options files texts = drawn_text (is_wide options.form) (is_merging options.form) (picture_legend (drawn_words (is_merging options.form)) files texts) (first_text texts)
+galileo_in false options files texts = sets_of_tree (is_set options (codes "paths")) (is_wide options.form) options.paging.limit options.paging.max_order (first_text texts)
 
 -- the text of `cuts` for the model of the root in files of these texts, with the digits of the key of what it is asked of, where they
 -- are asked for
@@ -163,10 +171,10 @@ check_in root texts = do
   model ← model_of_texts root texts
   check_text model
 
-abbrev pub tree_in : Root → List ℕ → List (List ℕ) → Phase (List ℕ)
-tree_in root target texts = do
+abbrev pub tree_in : Root → List ℕ → Form → List (List ℕ) → List (List ℕ) → Phase (List ℕ)
+tree_in root target form files texts = do
   model ← model_of_texts root texts
-  tree_text target model.system model.rates
+  tree_text target (tree_form form (tree_words root target) files texts) model.system model.rates
 
 abbrev pub fmea_in : Root → Bool → List (List ℕ) → Phase (List ℕ)
 fmea_in root all texts = do
@@ -221,11 +229,11 @@ manifest_in root files texts = do
 abbrev pub text_for : Kind → List Voice → Request → List (List ℕ) → Phase (List ℕ)
 text_for kind.Check voices asked texts = check_in asked.root texts
 text_for kind.Cuts voices asked texts = cuts_in asked.root asked.target asked.options.paging (is_set asked.options (codes "tokens")) texts
-text_for kind.Tree voices asked texts = tree_in asked.root asked.target texts
+text_for kind.Tree voices asked texts = tree_in asked.root asked.target asked.options.form asked.files texts
 text_for kind.Fmea voices asked texts = fmea_in asked.root (is_set asked.options (codes "all")) texts
 text_for kind.Report voices asked texts = report_in asked.root asked.target asked.options.chosen asked.options.paging.max_order voices texts
 text_for kind.Make voices asked texts = make_text asked.number (is_set asked.options (codes "text"))
-text_for kind.Galileo voices asked texts = sets_of_tree (is_set asked.options (codes "paths")) asked.options.paging.limit asked.options.paging.max_order (first_text texts)
+text_for kind.Galileo voices asked texts = galileo_in (is_drawn asked.options.form) asked.options asked.files texts
 text_for kind.Paths voices asked texts = paths_in asked.root asked.target asked.options.paging texts
 text_for kind.Why voices asked texts = why_in asked.root asked.target asked.options.set texts
 text_for kind.Confirm voices asked texts = confirmed_in asked.root asked.target asked.options.set texts

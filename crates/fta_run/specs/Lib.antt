@@ -3,6 +3,7 @@ pub mod Later
 pub mod Due
 pub mod Effects
 pub mod Files
+pub mod Forms
 pub mod Line
 pub mod Model
 pub mod Text

@@ -6,7 +6,7 @@ use Rattle.plain_values.specs.declared.refusal.Refusal.{Refusal}
 use Rattle.plain_values.specs.Refusal.{code_text}
 use Rattle.phases.specs.declared.status.Status.{Status}
 use Rattle.event_lines.specs.Text.{file_word}
-use Rattle.phases.specs.declared.status.Status.TheVariants.{Done, Usage, Refused, Constant, StaleToken, ReadFault, WriteFault, ReportFault, Memory}
+use Rattle.phases.specs.declared.status.Status.TheVariants.{Done, Usage, Refused, Constant, Unrated, StaleToken, ReadFault, WriteFault, ReportFault, Memory}
 
 -- the place of a refusal: nothing for the words, and else the file, with the byte where it stands at one
 abbrev pub place_text : List (List ℕ) → Place → List ℕ
@@ -42,6 +42,7 @@ status_text files reports Usage = codes "usage"
 status_text files reports (Refused refusal) = refusal_text files refusal
 status_text files reports (Constant always) = constant_text always
 status_text files reports (StaleToken token input) = stale_text token input
+status_text files reports (Unrated event) = codes "R1 UnratedEvent " ++ event
 status_text files reports (ReadFault file) = codes "cannot read " ++ file_word files file
 status_text files reports WriteFault = codes "cannot write"
 status_text files reports (ReportFault place) = codes "report " ++ (report_name reports place ++ codes " failed")

@@ -3,3 +3,4 @@ pub mod Steps
 pub mod Read
 pub mod Ready
 pub mod Held
+pub mod OneEnd

@@ -12,11 +12,14 @@ ghost use Rattle.model_phases.specs.Named.{IsPlainModel};
 ghost use Rattle.system_answers.specs.inner.Ends.{EndsReports};
 ghost use Rattle.system_answers.specs.Voices.{voices_of};
 ghost use Rattle.fta_run.specs.Answers.{is_by_lines};
-ghost use Rattle.fta_run.specs.Due.{check_in, cuts_in, events_in, first_name, first_text, fmea_in, made_of_texts, manifest_in, model_of_texts, paths_in, place_in, report_in, review_in, sets_of_tree, targets_in, text_for, tree_in, why_in};
+ghost use Rattle.fta_run.specs.Due.{check_in, cuts_in, events_in, first_name, first_text, fmea_in, galileo_in, made_of_texts, manifest_in, model_of_texts, paths_in, place_in, report_in, review_in, sets_of_tree, targets_in, text_for, tree_in, why_in};
+ghost use Rattle.fta_run.specs.Forms.{drawn_words, is_drawn, picture_legend};
 ghost use Rattle.fta_run.specs.inner.Ready.{IsByLines, held_text, ready_text};
+ghost use Rattle.system_answers.specs.Texts.{drawn_text};
 
 use crate::confirmed::confirmation;
 use crate::fmea::table_of;
+use crate::forms::{drawn_legend, is_drawn, is_merging, is_wide, tree_form};
 use crate::input::Texts;
 use crate::made::make;
 use crate::manifest::manifest_text;
@@ -27,13 +30,14 @@ use crate::text::numbers_of;
 use cutset_writer::ListingPage;
 use event_lines::events_text;
 use fta_outside::Report;
-use fta_words::{Kind, Paging, Request};
+use fta_words::{Form, Kind, Options, Paging, Request};
 use help_texts::{explain_text, help_text, version_text};
 use model_phases::{EventModel, FlatModel, FromAssembly, ReviewedModel};
 use page_tokens::asked_digest;
 use phases::Status;
 use plain_values::{Name, Root, Word};
 use std::alloc::Global;
+use system_answers::draw;
 use text_places::place_text;
 
 /// The answer on a request whose files have these texts.
@@ -45,11 +49,11 @@ pub fn answer_in(
 ) -> Result<Ready, Status>
     requires chosen { RisesWithin 0 (vec_len reports.old) asked.now.options.chosen }
     ensures text { let phase = text_for asked.now.kind (voices_of label text reports.old.items) (request_shown asked.now) texts in MeetsBut (EndsReports asked.now.options.chosen (λ place. RoseAt report_faults place reports.old.items reports.new.items) phase) ready_text phase result }
-    ensures by_lines { IfOk result (λ ready. IsByLines ready → is_by_lines asked.now.kind ≡ true) }
+    ensures by_lines { IfOk result (λ ready. IsByLines ready → is_by_lines (request_shown asked.now) ≡ true) }
     ensures reports { AtChosen asked.now.options.chosen (IsKept text label report_faults) reports.old.items reports.new.items }
 {
     let (root, target, options) = (&asked.root, &asked.target, &asked.options);
-    let (limit, max_order) = (options.paging.limit, options.paging.max_order);
+    let max_order = options.paging.max_order;
     match asked.kind {
         Kind::Check => ready_of(check(alloc, root, texts)),
         Kind::Cuts => ready_of(cuts(
@@ -60,7 +64,7 @@ pub fn answer_in(
             options.is_set(b"tokens"),
             texts,
         )),
-        Kind::Tree => tree(alloc, root, target, texts),
+        Kind::Tree => tree(alloc, root, target, &options.form, asked.files, texts),
         Kind::Fmea => fmea(alloc, root, options.is_set(b"all"), texts),
         Kind::Report => ready_of(report(
             alloc,
@@ -72,13 +76,7 @@ pub fn answer_in(
             reports,
         )),
         Kind::Make => ready_of(make(alloc, asked.number, options.is_set(b"text"))),
-        Kind::Galileo => ready_of(sets_of_tree(
-            alloc,
-            texts,
-            limit,
-            max_order,
-            options.is_set(b"paths"),
-        )),
+        Kind::Galileo => galileo(alloc, options, asked.files, texts),
         Kind::Paths => ready_of(paths(alloc, root, target, &options.paging, texts)),
         Kind::Why => ready_of(why(alloc, root, target, &options.set, texts)),
         Kind::Confirm => ready_of(confirmation(alloc, root, target, &options.set, texts)),
@@ -135,13 +133,21 @@ fn cuts(
     Ok(Held::Page(page))
 }
 
-/// The tree of a target in the model of a root.
-fn tree(alloc: Global, root: &Root, target: &Name, texts: Texts) -> Result<Ready, Status>
-    ensures { MeetsBut IsMemory ready_text (tree_in root.now target.now texts) result }
+/// The tree of a target in the model of a root, in the form for which the words ask, of files of these names.
+fn tree(
+    alloc: Global,
+    root: &Root,
+    target: &Name,
+    form: &Form,
+    names: &[Word],
+    texts: Texts,
+) -> Result<Ready, Status>
+    ensures { MeetsBut IsMemory ready_text (tree_in root.now target.now form.now names.now texts) result }
 {
+    let form = tree_form(alloc, form, root, target, names, &texts)?;
     let model = flat_model(alloc, root, texts)?;
-    let lines = system_answers::tree(alloc, model.system, model.rates, target)?;
-    Ok(Ready::Tree(lines))
+    let text = system_answers::tree(alloc, model.system, model.rates, target, form)?;
+    Ok(Ready::Tree(text))
 }
 
 /// The FMEA table of the model of a root.
@@ -173,17 +179,47 @@ fn report(
     Ok(Held::Text(text))
 }
 
+/// A picture of the tree in the first text, or a page of its sets.
+fn galileo(alloc: Global, options: &Options, names: &[Word], texts: Texts) -> Result<Ready, Status>
+    ensures text { MeetsBut IsMemory ready_text (galileo_in (is_drawn options.now.form) options.now names.now texts) result }
+    ensures by_lines { IfOk result (λ ready. IsByLines ready → is_drawn options.now.form ≡ true) }
+{
+    let wide = is_wide(&options.form);
+    if is_drawn(&options.form) {
+        return picture(alloc, wide, is_merging(&options.form), names, texts);
+    }
+    let paging = &options.paging;
+    let paths = options.is_set(b"paths");
+    ready_of(sets_of_tree(alloc, texts, wide, paging.limit, paging.max_order, paths))
+}
+
+/// A picture of the tree in the first text.
+fn picture(
+    alloc: Global,
+    wide: bool,
+    merged: bool,
+    names: &[Word],
+    texts: Texts,
+) -> Result<Ready, Status>
+    ensures { MeetsBut IsMemory ready_text (drawn_text wide merged (picture_legend (drawn_words merged) names.now texts) (first_text texts)) result }
+{
+    let legend = drawn_legend(alloc, merged, names, &texts)?;
+    let text = draw(alloc, texts.first(), wide, merged, legend)?;
+    Ok(Ready::Tree(text))
+}
+
 /// A page of the minimal path sets of the tree in the first text, or of its minimal cut sets.
 fn sets_of_tree(
     alloc: Global,
     texts: Texts,
+    wide: bool,
     limit: Option<u32>,
     max_order: Option<u32>,
     paths: bool,
 ) -> Result<Held, Status>
-    ensures { MeetsBut IsMemory held_text (sets_of_tree paths limit max_order (first_text texts)) result }
+    ensures { MeetsBut IsMemory held_text (sets_of_tree paths wide limit max_order (first_text texts)) result }
 {
-    let page = tree_page(alloc, texts.first(), limit, max_order, paths)?;
+    let page = tree_page(alloc, texts.first(), wide, limit, max_order, paths)?;
     Ok(Held::Page(page))
 }
 
@@ -191,17 +227,18 @@ fn sets_of_tree(
 fn tree_page(
     alloc: Global,
     text: &[u8],
+    wide: bool,
     limit: Option<u32>,
     max_order: Option<u32>,
     paths: bool,
 ) -> Result<ListingPage, Status>
     requires { length text.now ≤ 4194304 }
-    ensures { Meets (sets_of_tree paths limit max_order text.now) result }
+    ensures { Meets (sets_of_tree paths wide limit max_order text.now) result }
 {
     if paths {
-        return system_answers::tree_paths(alloc, text, limit, max_order);
+        return system_answers::tree_paths(alloc, text, wide, limit, max_order);
     }
-    system_answers::tree_sets(alloc, text, limit, max_order)
+    system_answers::tree_sets(alloc, text, wide, limit, max_order)
 }
 
 /// A page of the minimal path sets of a target in the model of a root.

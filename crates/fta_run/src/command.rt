@@ -56,7 +56,7 @@ pub fn run<F: Files, S: Sink, E: Sink>(
     ensures output { Took (IsOutput words.now (F.contents files.old) (voices_of label text reports.old.items)) result (S.seen out.old) (S.seen out.new) }
 
     // Once a text was begun, no memory is wanting, but for the lines of a tree and of a table.
-    ensures begins { (asked : AnyRequest) → IsRequest (labels (voices_of label text reports.old.items)) words.now asked → BeginsWithMemory asked.kind result (S.seen out.old) (S.seen out.new) }
+    ensures begins { (asked : AnyRequest) → IsRequest (labels (voices_of label text reports.old.items)) words.now asked → BeginsWithMemory asked result (S.seen out.old) (S.seen out.new) }
 
     // A fault comes only where its count rose.
     ensures faults { IsCaused result (labels (voices_of label text reports.old.items)) words.now (F.faults files.old) (F.faults files.new) (S.seen out.old) (S.seen out.new) (λ place. RoseAt report_faults place reports.old.items reports.new.items) }

@@ -88,7 +88,7 @@ pub fn run_read<F: Files, S: Sink, E: Sink>(
     ensures told { RanRead words.now (F.contents files.old) (F.faults files.old) (F.faults files.new) (voices_of label text reports.old.items) result (S.seen out.old) (S.seen out.new) }
 
     // Once a text was begun, no memory is wanting, but for the lines of a tree and of a table.
-    ensures begins { (asked : AnyRequest) → IsRequest (labels (voices_of label text reports.old.items)) words.now asked → BeginsWithMemory asked.kind result (S.seen out.old) (S.seen out.new) }
+    ensures begins { (asked : AnyRequest) → IsRequest (labels (voices_of label text reports.old.items)) words.now asked → BeginsWithMemory asked result (S.seen out.old) (S.seen out.new) }
 
     // The list of reports is kept as by `run`, and a report fails only where the request chooses it and its count rose.
     ensures reports { (asked : AnyRequest) → IsRequest (labels (voices_of label text reports.old.items)) words.now asked → AtChosen asked.options.chosen (IsKept text label report_faults) reports.old.items reports.new.items }
@@ -124,7 +124,7 @@ pub fn run_held<S: Sink, E: Sink>(
 ) -> Status
     ensures words { AnswersWords result (labels (voices_of label text reports.old.items)) words.now }
     ensures told { (contents : List ℕ → Option (List ℕ)) → IsToRead (labels (voices_of label text reports.old.items)) words.now read.now.names.now → AreFronts contents read.now.names.now read.now.texts → RanOn words.now (text_of read.now.names.now read.now.texts) (voices_of label text reports.old.items) result (S.seen out.old) (S.seen out.new) }
-    ensures begins { (asked : AnyRequest) → IsRequest (labels (voices_of label text reports.old.items)) words.now asked → BeginsWithMemory asked.kind result (S.seen out.old) (S.seen out.new) }
+    ensures begins { (asked : AnyRequest) → IsRequest (labels (voices_of label text reports.old.items)) words.now asked → BeginsWithMemory asked result (S.seen out.old) (S.seen out.new) }
     ensures reports { (asked : AnyRequest) → IsRequest (labels (voices_of label text reports.old.items)) words.now asked → AtChosen asked.options.chosen (IsKept text label report_faults) reports.old.items reports.new.items }
     ensures no_reports { GiveNoRequest (labels (voices_of label text reports.old.items)) words.now → reports.new ≡ reports.old }
     ensures report_fault { IsReportCaused (labels (voices_of label text reports.old.items)) words.now (λ place. RoseAt report_faults place reports.old.items reports.new.items) result }

@@ -6,6 +6,7 @@ mod command;
 mod confirmed;
 mod few;
 mod fmea;
+mod forms;
 mod held;
 mod input;
 mod laws;

@@ -26,6 +26,7 @@ pub fn write_line<E: Sink>(
         Status::Refused(refusal) => write_refusal(err, files, refusal),
         Status::Constant(always) => write_constant(err, *always),
         Status::StaleToken { token, input } => write_stale(err, token, input),
+        Status::Unrated(event) => write_unrated(err, event.items()),
         Status::ReadFault(file) => write_unread(err, file_word(files, *file)),
         Status::WriteFault => write_piece(err, b"aadl_fta: cannot write\n"),
         Status::ReportFault(place) => write_failed(err, report_name(reports, *place)),
@@ -54,6 +55,13 @@ fn write_input<E: Sink>(err: &mut E, input: &[u8; 64]) -> Result<(), SinkFailed>
     ensures { Writes (codes " " ++ (input.now ++ codes "\n")) result (E.seen err.old) (E.seen err.new) }
 {
     write_two(err, b" ", input)?;
+    write_piece(err, b"\n")
+}
+
+fn write_unrated<E: Sink>(err: &mut E, event: &[u8]) -> Result<(), SinkFailed>
+    ensures { Writes (codes "aadl_fta: R1 UnratedEvent " ++ (event.now ++ codes "\n")) result (E.seen err.old) (E.seen err.new) }
+{
+    write_two(err, b"aadl_fta: R1 UnratedEvent ", event)?;
     write_piece(err, b"\n")
 }
 

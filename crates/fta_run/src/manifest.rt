@@ -63,7 +63,7 @@ fn push_root_line(text: &mut Vec<u8>, root: &Root) -> Mem<()>
 }
 
 /// Adds a root: its names with `::` between them, and its item behind a dot.
-fn push_root(text: &mut Vec<u8>, root: &Root) -> Mem<()>
+pub(crate) fn push_root(text: &mut Vec<u8>, root: &Root) -> Mem<()>
     ensures { OnOk result (text.new.items ≡ text.old.items ++ root_text root.now) }
 {
     push_names(text, root.names.items())?;

@@ -4,14 +4,15 @@ ghost use Rattle.std.specs.Prelude.{◌≡◌, ◌++◌, Err, IfErr, MatchResult
 ghost use Rattle.fta_outside.specs.inner.Outside.{LacksMemory, Writes, WritesBut};
 ghost use Rattle.fta_run.specs.inner.Ready.{IsByLines, held_text, ready_text};
 ghost use Rattle.fta_run.specs.declared.ready.Ready.TheVariants as made;
+ghost use Rattle.system_answers.specs.inner.Forms.{tree_bytes};
 
 use cutset_writer::ListingPage;
 use fmea_rows::TableLines;
 use fta_outside::{Sink, SinkFailed, WriteError, write_all, write_lines};
-use galileo_writer::TreeLines;
 use phases::Status;
 use plain_values::Name;
 use std::alloc::Global;
+use system_answers::TreeText;
 
 /// An answer with all the memory that it is written from.
 #[derive(Drop)]
@@ -33,8 +34,8 @@ pub enum Held {
 pub enum Ready {
     /// Writing it takes no memory.
     Held(Held),
-    /// The text of a tree, of which each line is made as it is written.
-    Tree(TreeLines),
+    /// The text of a tree, of which each part is made as it is written.
+    Tree(TreeText),
     /// A table, of which each line is made as it is written.
     Table(TableLines),
 }
@@ -59,8 +60,19 @@ pub fn write<S: Sink>(alloc: Global, ready: Ready, out: &mut S) -> Result<(), Wr
             write_held(text, out)?;
             Ok(())
         }
-        Ready::Tree(mut lines) => write_lines(alloc, &mut lines, out),
+        Ready::Tree(text) => write_tree(alloc, text, out),
         Ready::Table(mut lines) => write_lines(alloc, &mut lines, out),
+    }
+}
+
+/// Writes the text of a tree.
+fn write_tree<S: Sink>(alloc: Global, text: TreeText, out: &mut S) -> Result<(), WriteError>
+    ensures { WritesBut LacksMemory (tree_bytes text) result (S.seen out.old) (S.seen out.new) }
+{
+    match text {
+        TreeText::Galileo(mut lines) => write_lines(alloc, &mut lines, out),
+        TreeText::Mef(mut lines) => write_lines(alloc, &mut lines, out),
+        TreeText::Dot(mut lines) => write_lines(alloc, &mut lines, out),
     }
 }
 

@@ -1,5 +1,6 @@
 -- The text of an answer that is ready.
 use Rattle.std.specs.Prelude.{ℕ, List, ◌++◌}
+use Rattle.system_answers.specs.inner.Forms.{tree_bytes}
 use Rattle.fta_run.specs.declared.ready.Held.{Held}
 use Rattle.fta_run.specs.declared.ready.Held.TheVariants.{Fixed, Text, Bytes, Page, Sized}
 use Rattle.fta_run.specs.declared.ready.Ready.{Ready}
@@ -16,11 +17,11 @@ held_text (Sized numbers page) = numbers.items ++ page
 -- the text of an answer
 abbrev pub ready_text : Ready → List ℕ
 ready_text (ready.Held held) = held_text held
-ready_text (ready.Tree lines) = lines
+ready_text (ready.Tree text) = tree_bytes text
 ready_text (ready.Table lines) = lines
 
 -- The text is made line by line while it is written.
 abbrev pub IsByLines : Ready → Type 0
 IsByLines (ready.Held held) = ⊥
-IsByLines (ready.Tree lines) = Unit {0}
+IsByLines (ready.Tree text) = Unit {0}
 IsByLines (ready.Table lines) = Unit {0}

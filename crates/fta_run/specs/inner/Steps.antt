@@ -25,7 +25,7 @@ IsExcused words contents voices before after RoseThere status =
 
 -- The words give a request whose text is made line by line.
 abbrev pub AsksLines : List (List ℕ) → List Voice → Type 0
-AsksLines words voices = (asked : Request) × IsRequest (labels voices) words asked × (is_by_lines asked.kind ≡ true)
+AsksLines words voices = (asked : Request) × IsRequest (labels voices) words asked × (is_by_lines asked ≡ true)
 
 -- A text that is due was begun, and a write failed; or memory was wanting for the next line of it.
 abbrev pub IsCutOff : List (List ℕ) → List Voice → Seen → Seen → Status → Type 0

@@ -37,12 +37,7 @@ pub returns-in-Make-clause-reports : goal.returns-in-Make-clause-reports
 returns-in-Make-clause-reports g c = all_kept (λ b. (goal.Report-dyn g (b.vtable, b.value)).text b.value) (λ b. (goal.Report-dyn g (b.vtable, b.value)).label b.value) (λ b. (goal.Report-dyn g (b.vtable, b.value)).report_faults b.value) _ c.args.reports.now.items
 
 pub returns-in-Galileo-clause-text : goal.returns-in-Galileo-clause-text
-returns-in-Galileo-clause-text g c =
-    let asked = c.args.asked.now in
-    rw c.in-Galileo.is (ready_set _ (λ flag. sets_of_tree flag asked.options.paging.limit asked.options.paging.max_order (first_text c.args.texts)) c.is_set-in-Galileo.result _ c.sets_of_tree.result c.ready_of-in-Galileo.result c.is_set-in-Galileo.ensures c.ready_of-in-Galileo.ensures (λ s memory. inl memory) c.sets_of_tree.ensures)
-
-pub returns-in-Galileo-clause-by_lines : goal.returns-in-Galileo-clause-by_lines
-returns-in-Galileo-clause-by_lines g c = held_is _ c.sets_of_tree.result c.ready_of-in-Galileo.result c.ready_of-in-Galileo.ensures
+returns-in-Galileo-clause-text g c = rw c.in-Galileo.is (meets_wider _ _ _ _ c.galileo.result (λ s memory. inl memory) c.galileo.ensures.text)
 
 pub returns-in-Galileo-clause-reports : goal.returns-in-Galileo-clause-reports
 returns-in-Galileo-clause-reports g c = all_kept (λ b. (goal.Report-dyn g (b.vtable, b.value)).text b.value) (λ b. (goal.Report-dyn g (b.vtable, b.value)).label b.value) (λ b. (goal.Report-dyn g (b.vtable, b.value)).report_faults b.value) _ c.args.reports.now.items

@@ -10,7 +10,7 @@ use Rattle.system_answers.specs.Voices.{labels, voices_of}
 use Rattle.system_answers.proofs.Reported.{labels_are, names_kept}
 use Rattle.cut_reports.specs.Feeding.{IsKept}
 use Rattle.fta_run.proofs.Chosen.{places_rise}
-use Rattle.fta_run.proofs.Ran.{answered, kept_as, lines_asked, many_answer, many_named, unasked, unread}
+use Rattle.fta_run.proofs.Ran.{answered, kept_as, lines_asked, many_answer, many_named, ok_not_err, unasked, unread}
 use Rattle.fta_run.proofs.command.answer.Goals as goal
 
 pub answer_in-requires : goal.answer_in-requires
@@ -101,4 +101,4 @@ returns-in_err-texts-clause-many g c many =
     many_answer c.from_residual-in_err-texts.result c.in_err-texts.field-0.0 c.from_residual-in_err-texts.ensures.1 (cc (its))
 
 pub returns-clause-many : goal.returns-clause-many
-returns-clause-many g c many = absurd (cc (c.in_ok-texts.ensures.many (many_named c.items.result.now c.args.words.now (request_shown c.in_ok-asked.asked) c.in_ok-asked.ensures many)))
+returns-clause-many g c many = absurd (ok_not_err _ _ (c.in_ok-texts.ensures.many (many_named c.items.result.now c.args.words.now (request_shown c.in_ok-asked.asked) c.in_ok-asked.ensures many)))
