@@ -29,7 +29,8 @@ pub(crate) fn more_of(
         Status::Usage => usage_of(alloc, call),
         Status::Refused(refusal) => refused(alloc, names, call, read, refusal),
         Status::Constant(always) => constant_words(alloc, *always),
-        Status::StaleToken { .. } => stale(alloc),
+        Status::StaleToken { .. } => text_on(alloc, b"k2"),
+        Status::Unrated(_) => text_on(alloc, b"r1"),
         _ => Vec::from_slice(alloc, b"not refused\n"),
     }
 }
@@ -59,12 +60,12 @@ fn constant_words(alloc: Global, always: bool) -> Mem<Vec<u8>>
     )
 }
 
-/// What is said of a stale token.
-fn stale(alloc: Global) -> Mem<Vec<u8>>
-    ensures { IfOk result (λ text. text.items ≡ codes "\n" ++ explain_text (codes "k2")) }
+/// What is said of a status with a code: the text on that.
+fn text_on(alloc: Global, code: &[u8]) -> Mem<Vec<u8>>
+    ensures { IfOk result (λ text. text.items ≡ codes "\n" ++ explain_text code.now) }
 {
     let mut text = Vec::from_slice(alloc, b"\n")?;
-    text.extend_from_slice(explain_text(b"k2"))?;
+    text.extend_from_slice(explain_text(code))?;
     Ok(text)
 }
 

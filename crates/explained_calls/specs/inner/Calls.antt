@@ -38,7 +38,7 @@ Explains call contents faults_before faults_after voices status before after =
 pub record IsRun (words : List (List ℕ)) (contents : List ℕ → Option (List ℕ)) (faults_before faults_after : List ℕ → ℕ) (voices : List Voice) (status : Status) (before after : Seen) : Type 0 where
   pub usage : AnswersWords status (labels voices) words
   pub told : RanRead words contents faults_before faults_after voices status before after
-  pub begins : (asked : Request) → IsRequest (labels voices) words asked → BeginsWithMemory asked.kind status before after
+  pub begins : (asked : Request) → IsRequest (labels voices) words asked → BeginsWithMemory asked status before after
   pub many : most_files < length (file_words words) → IsManyAnswer status
 
 -- What comes of words of which these are the call that is to be explained, if any.

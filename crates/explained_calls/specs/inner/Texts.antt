@@ -14,7 +14,7 @@ use Rattle.aadl_syntax.specs.declared.core_model.PackageUnit.{PackageUnit}
 use Rattle.aadl_syntax.specs.declared.core_model.Unit.{Unit as FileUnit}
 use Rattle.phases.specs.Phases.{Passes, Phase, Stops}
 use Rattle.phases.specs.declared.status.Status.{Status}
-use Rattle.phases.specs.declared.status.Status.TheVariants.{Constant, Done, Refused, StaleToken, Usage, WriteFault}
+use Rattle.phases.specs.declared.status.Status.TheVariants.{Constant, Done, Refused, StaleToken, Unrated, Usage, WriteFault}
 use Rattle.package_index.specs.Lookup.{packages_of}
 use Rattle.page_tokens.specs.Keys.{dotted, joined}
 use Rattle.text_places.specs.Places.{place_text}
@@ -124,6 +124,7 @@ TellsMore names call files texts Usage text = text ≡ usage_text call
 TellsMore names call files texts (Refused refusal) text = TellsRefusal names call files texts refusal text
 TellsMore names call files texts (Constant always) text = text ≡ constant_words always
 TellsMore names call files texts (StaleToken token input) text = text ≡ codes "\n" ++ explain_text (codes "k2")
+TellsMore names call files texts (Unrated event) text = text ≡ codes "\n" ++ explain_text (codes "r1")
 TellsMore names call files texts _ text = text ≡ codes "not refused\n"
 
 -- the line of a status with which a call is refused
