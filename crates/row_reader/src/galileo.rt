@@ -27,7 +27,7 @@ pub(crate) fn put_galileo(alloc: Global, wanted: Wanted, text: &[u8], out: &mut 
     if text.len() > 4_194_304 {
         return out.refuse("a text of more than 4194304 bytes is not read");
     }
-    match read(alloc, text) {
+    match read(alloc, text, false) {
         Ok(tree) => put_value(alloc, wanted, &tree, out),
         Err(GalileoFault::Refused(flaw)) => put_flaw(flaw, out),
         Err(GalileoFault::Memory) => out.refuse("memory is wanting"),
@@ -50,6 +50,7 @@ fn put_value(alloc: Global, wanted: Wanted, tree: &NamedTree, out: &mut Text)
 fn put_flaw(flaw: Flaw, out: &mut Text) {
     match flaw {
         Flaw::BadLine(at) => put_code(b"G1 at ", at, out),
+        Flaw::DynamicGate(at) => put_code(b"G7 at ", at, out),
         Flaw::BadCount(at) => put_code(b"G6 at ", at, out),
         Flaw::DuplicateNode(at) => put_code(b"G4 at ", at, out),
         Flaw::NoTop => out.put(b"G5"),
