@@ -150,6 +150,8 @@ def cases(folder):
         Case("output to nowhere", CUTS_WORDS, 0, output=b"", out="/dev/null"),
         Case("output to a full disk", CUTS_WORDS, 5, bad, out="/dev/full"),
         Case("tree to a full disk", ["tree", ROOT, TARGET, *FILES], 5, bad, out="/dev/full"),
+        Case("tree as Open-PSA text to a full disk", ["tree", ROOT, TARGET, *FILES, "--format", "mef"], 5, bad, out="/dev/full"),
+        Case("picture of a tree to a full disk", ["tree", ROOT, TARGET, *FILES, "--format", "dot"], 5, bad, out="/dev/full"),
         Case("table to a full disk", ["fmea", ROOT, *FILES], 5, bad, out="/dev/full"),
         Case("reports to a full disk", ["report", ROOT, TARGET, *FILES], 5, bad, out="/dev/full"),
         Case("path sets to a full disk", ["paths", ROOT, TARGET, *FILES], 5, bad, out="/dev/full"),
@@ -157,6 +159,7 @@ def cases(folder):
         Case("derivation to a full disk", ["why", ROOT, TARGET, *FILES, "--set", "root.v/failure"], 5, bad, out="/dev/full"),
         Case("its check to a full disk", ["confirm", ROOT, TARGET, "d.txt", *FILES, "--set", "root.v/failure"], 5, bad, out="/dev/full"),
         Case("listing of a tree to a full disk", ["galileo", "t.dft"], 5, bad, out="/dev/full"),
+        Case("picture of a read tree to a full disk", ["galileo", "t.dft", "--format", "dot"], 5, bad, out="/dev/full"),
         Case("made model to a full disk", ["make", "3", "--text"], 5, bad, out="/dev/full"),
         Case("a refusal, and a full disk", [*CUTS_WORDS[:2], "root/state:x", *FILES], 2, "T1 UnknownTarget", out="/dev/full"),
         Case("no output", CUTS_WORDS, 5, bad, out="closed"),
@@ -198,6 +201,8 @@ def cases(folder):
         Case("a package with a name of 2 MB", ["check", "p::s", "named"], 2, "N2 UnknownPackage"),
         Case("4 MB of blanks", ["check", "p::s", "blanks"], 2, f"S1 Syntax blanks:{LONGEST}"),
         Case("4 MB of blanks as a tree", ["galileo", "blanks"], 2, "G5 NoTop blanks"),
+        Case("4 MB of `{` as another tool's tree", ["galileo", "brackets", "--profile", "2"], 2, "G1 BadLine brackets:0"),
+        Case("4 MB of blanks as another tool's tree", ["galileo", "blanks", "--profile", "2"], 2, "G5 NoTop blanks"),
         Case("a byte more than 4 MB", ["check", "p::s", "long"], 2, f"M1 FileTooLong long over {LONGEST}"),
         Case("no byte more", ["check", "p::s", "longest"], 0, output=b"components 1\nfacts 2\nevents 2\n"),
         Case("4 MB of a comment", ["check", "p::s", "comments"], 0, output=b"components 1\nfacts 2\nevents 2\n"),
@@ -344,9 +349,12 @@ def refused_memory(tool, folder, options):
     for name, root, target, files, events in models:
         for command in ("cuts", "paths", "tree", "report", "why"):
             calls.append((f"{command}, {name}", [command, root, target, *files, *(["--set", events] if command == "why" else [])]))
+        formats = [["--gates", "merged"], ["--format", "mef"], ["--format", "dot", "--gates", "merged"]]
+        calls += [(f"tree {' '.join(words)}, {name}", ["tree", root, target, *files, *words]) for words in formats]
         calls += [(f"check, {name}", ["check", root, *files]), (f"fmea, {name}", ["fmea", root, *files]),
                   (f"confirm, {name}", ["confirm", root, target, f"why of {name}", *files, "--set", events])]
-    calls += [("make", ["make", "3"]), ("make, text", ["make", "3", "--text"]), ("galileo", ["galileo", "t.dft"]), ("galileo, paths", ["galileo", "t.dft", "--paths"])]
+    calls += [("make", ["make", "3"]), ("make, text", ["make", "3", "--text"]), ("galileo", ["galileo", "t.dft"]), ("galileo, paths", ["galileo", "t.dft", "--paths"]),
+              ("galileo, profile 2", ["galileo", "t.dft", "--profile", "2"]), ("galileo, dot", ["galileo", "t.dft", "--format", "dot", "--gates", "merged"])]
     wrong = 0
     print("\n| call | takings of memory | out of memory | as without | wrong |\n|---|---|---|---|---|", flush=True)
 
@@ -368,7 +376,7 @@ def refused_memory(tool, folder, options):
                 found = run(words, at, on)[:3]
                 if found == (status, output, errors):
                     as_without += 1
-                elif found[0] == 7 and found[2] == b"aadl_fta: out of memory\n" and output.startswith(found[1]) and (words[0] in ("tree", "fmea") or not found[1]):
+                elif found[0] == 7 and found[2] == b"aadl_fta: out of memory\n" and output.startswith(found[1]) and (words[0] in ("tree", "fmea") or "--format" in words or not found[1]):
                     out_of_memory += 1
                 else:
                     bad += 1

@@ -14,6 +14,7 @@ import sys
 
 MODEL = "examples/attitude_control.aadl"
 ROOT, TARGET = "Acs::Control.dual", "root/out:torque{errors::serviceomission}"
+TREE = "usage aadl_fta tree ROOT TARGET FILE.. [--format galileo|mef|dot] [--gates written|merged] [--unrated 1|refuse]"
 
 # the words of a call, its exit status, and lines that must be among those of `explain`
 CALLS = [
@@ -29,7 +30,9 @@ CALLS = [
     (["cuts", ROOT, TARGET, MODEL, "--max-order"], 1, ["usage aadl_fta cuts ROOT TARGET FILE.. [--limit N] [--after TOKEN] [--max-order N] [--tokens]"]),
     (["cuts", ROOT, TARGET, MODEL, "--limit=ten"], 1, ["usage aadl_fta cuts ROOT TARGET FILE.. [--limit N] [--after TOKEN] [--max-order N] [--tokens]"]),
     (["cuts", "--limit", "1", ROOT, TARGET, MODEL], 1, ["usage aadl_fta cuts ROOT TARGET FILE.. [--limit N] [--after TOKEN] [--max-order N] [--tokens]"]),
-    (["tree", ROOT, TARGET, MODEL, "--limit", "1"], 1, ["no option --limit", "usage aadl_fta tree ROOT TARGET FILE.."]),
+    (["tree", ROOT, TARGET, MODEL, "--limit", "1"], 1, ["no option --limit", TREE]),
+    (["tree", ROOT, TARGET, MODEL, "--format", "svg"], 1, [TREE]),
+    (["tree", ROOT, TARGET, MODEL, "--unrated", "refuse"], 2, ["aadl_fta: R1 UnratedEvent root.v/failure"]),
     (["fmea", ROOT, MODEL, "-all"], 1, ["usage aadl_fta fmea ROOT FILE.. [--all]"]),
     (["why", ROOT, TARGET, MODEL], 1, ["usage aadl_fta why ROOT TARGET FILE.. --set TOKEN"]),
     (["report", ROOT, TARGET, MODEL, "--report=orders"], 1, ["no option --report=orders", "near --reports"]),
