@@ -6,8 +6,8 @@
 Of each file (examples/*.aadl, where none is named), each system implementation that the tool accepts as a root, and each target that `targets`
 lists with a number: the Open-PSA text with written and with merged gates passes `scram --validate`, and each of SCRAM's three engines gives
 the sets of `cuts`; the picture of both is read by `dot -Tsvg`. Where that is not so, a line says `WRONG`, and the exit status is 1.
-SCRAM 0.16.2 itself gives other sets than the text has where a counting gate has one event twice, through a gate of one input: of such a text
-they are not held against `cuts`, and the last line says how many there are.
+SCRAM 0.16.2 itself gives other sets than the text has for some counting gates whose inputs have events in common. Where one has an event twice,
+through a gate of one input, the sets are not held against `cuts`, and the last line says how many such texts there are.
 """
 
 import argparse
