@@ -1,6 +1,6 @@
 ghost use Rattle.std.specs.Prelude.{◌≡◌, ◌∷◌, ◌++◌, [], IfOk, OnOk, filter, fold, option_copied};
 ghost use Rattle.std.specs.HashMap.{get};
-ghost use Rattle.plain_values.specs.Order.{least, nearer};
+ghost use Rattle.noted_refusals.specs.Noted.{noting};
 ghost use Rattle.component_extension.specs.Members.{declarations, declare, declared_by, is_declared_earlier, is_declared_farther, member_key, members_of, refined_by, refines_nothing, stands, unknown_members};
 ghost use Rattle.component_extension.specs.inner.Rows.{KnowsRows, same_words};
 
@@ -9,7 +9,8 @@ use crate::declaration::Declaration;
 use crate::member::{Inherited, MemberKind};
 use crate::names::PlainNames;
 use crate::rows::{KeyWords, named, put, row_by};
-use plain_values::{Code, FirstRefusal, Mem, Spot};
+use noted_refusals::Refusals;
+use plain_values::{Code, Mem, Spot};
 use std::alloc::Global;
 use std::collections::HashMap;
 
@@ -85,15 +86,15 @@ fn refines_nothing<'a, M: MemberKind>(
 
 /// Notes each declaration that refines nothing.
 pub(crate) fn note_unknown<'a, M: MemberKind>(
-    first: &mut FirstRefusal,
+    refusals: &mut Refusals,
     names: &PlainNames<'a>,
     all: &[Declaration<'a, M>],
 )
-    ensures { first.new ≡ nearer first.old (least (unknown_members M.kind names.now all.now)) }
+    ensures { refusals.new ≡ noting refusals.old (unknown_members M.kind names.now all.now) }
 {
     for declaration in all {
         let is_unknown = refines_nothing(names, declaration);
-        first.note_if(is_unknown, Code::UnknownMember, declaration.item().spot());
+        refusals.note_if(is_unknown, Code::UnknownMember, declaration.item().spot());
     }
 }
 

@@ -1,7 +1,7 @@
 ghost use Rattle.std.specs.Prelude.{◌≡◌, ◌++◌, ◌||◌, List, ℕ, IfOk, OnOk};
 ghost use denote.Ref.{Bor};
 ghost use Rattle.std.specs.HashMap.{get};
-ghost use Rattle.plain_values.specs.Order.{least, nearer};
+ghost use Rattle.noted_refusals.specs.Noted.{noting};
 ghost use Rattle.plain_values.specs.declared.refusal.Code.TheVariants.{DuplicateName};
 ghost use Rattle.std.specs.List.{list_any};
 ghost use Rattle.component_extension.specs.Members.{duplicates, is_before, is_earlier, mark_of, marks_of};
@@ -10,7 +10,8 @@ ghost use Rattle.package_index.specs.inner.Tables.{same_text};
 
 use crate::declaration::{Declaration, PlainName};
 use crate::member::MemberKind;
-use plain_values::{Code, FirstRefusal, Mem};
+use noted_refusals::Refusals;
+use plain_values::{Code, Mem};
 use std::alloc::Global;
 use std::collections::HashMap;
 use std::marker::Model;
@@ -134,12 +135,12 @@ fn has_before<'a>(first: &FirstOf<'a>, name: &[u8], level: usize, at: u32) -> bo
 }
 
 /// Notes each name that an earlier one is.
-pub(crate) fn note_duplicates<'a>(first: &mut FirstRefusal, names: &PlainNames<'a>)
-    ensures { first.new ≡ nearer first.old (least (duplicates names.now names.now)) }
+pub(crate) fn note_duplicates<'a>(refusals: &mut Refusals, names: &PlainNames<'a>)
+    ensures { refusals.new ≡ noting refusals.old (duplicates names.now names.now) }
 {
     for mark in names.marks() {
         let spot = mark.spot();
         let is_again = names.has_before(mark.name(), mark.level(), spot.at);
-        first.note_if(is_again, Code::DuplicateName, spot);
+        refusals.note_if(is_again, Code::DuplicateName, spot);
     }
 }

@@ -1,5 +1,5 @@
 ghost use Rattle.std.specs.Prelude.{◌≡◌, IfOk, OnOk, Some, is_none, map, option_copied};
-ghost use Rattle.plain_values.specs.Order.{least, nearer};
+ghost use Rattle.noted_refusals.specs.Noted.{noting};
 ghost use Rattle.package_index.specs.Names.{front};
 ghost use Rattle.plain_values.specs.declared.refusal.Code.TheVariants.{UnknownState};
 ghost use Rattle.plain_values.specs.Refusal.{refused_so};
@@ -10,8 +10,9 @@ ghost use Rattle.error_conditions.specs.declared.cause.Cause.TheVariants.{Any};
 use aadl_syntax::{Atom, Identifier};
 use error_conditions::{Atoms, Cause, StateBelow, note_no_errors, point_meaning};
 use error_types::Reading;
+use noted_refusals::Refusals;
 use package_index::Words;
-use plain_values::{Code, FirstRefusal, List, Mem, Spot};
+use plain_values::{Code, List, Mem, Spot};
 use propagation_points::{Held, Setting, Sort, Sorts};
 use std::alloc::Global;
 use std::marker::Model;
@@ -55,14 +56,14 @@ impl<'s, 'a, B: StatesBelow<'a>> Atoms for CompositePlace<'s, 'a, B> {
 
     ghost faults = { λ place. composite_refusals (B.states_at place.below) place.setting };
 
-    #[tactic(auto, using(plain_values::proofs::Noting::noted_more))]
+    #[tactic(auto, using(noted_refusals::proofs::Noting::noted_more))]
     fn meaning<'t>(
         &self,
         alloc: Global,
         reading: &mut Reading<'_, 't>,
         atom: &'t Atom,
     ) -> Mem<Cause> {
-        note_no_errors(&mut reading.first, &atom.set);
+        note_no_errors(&mut reading.refusals, &atom.set);
         if atom.inward {
             return point_meaning(alloc, &self.setting, reading, atom);
         }
@@ -71,7 +72,7 @@ impl<'s, 'a, B: StatesBelow<'a>> Atoms for CompositePlace<'s, 'a, B> {
 }
 
 /// The meaning of a named part that names a state of a component below. Its refusals are noted.
-#[tactic(auto, using(plain_values::proofs::Noting::noted_more))]
+#[tactic(auto, using(noted_refusals::proofs::Noting::noted_more))]
 fn state_named<'a, 't, B: StatesBelow<'a>>(
     alloc: Global,
     reading: &mut Reading<'_, 't>,
@@ -81,10 +82,10 @@ fn state_named<'a, 't, B: StatesBelow<'a>>(
 ) -> Mem<Cause>
     ensures kept { reading.new.types ≡ reading.old.types }
     ensures meaning { IfOk result (λ cause. cause ≡ state_named (B.states_at below.now) reading.old.types setting.now atom.now) }
-    ensures first { OnOk result (reading.new.first ≡ nearer reading.old.first (least (state_named_refusals (B.states_at below.now) reading.old.types setting.now atom.now))) }
+    ensures noted { OnOk result (reading.new.refusals ≡ noting reading.old.refusals (state_named_refusals (B.states_at below.now) reading.old.types setting.now atom.now)) }
 {
     let names = atom.names.items();
-    match known_state(below, names, atom.spot, &mut reading.first) {
+    match known_state(below, names, atom.spot, &mut reading.refusals) {
         Some(state) => {
             let held = setting.held(alloc, reading, state, &atom.set)?;
             held_cause(alloc, path_of(names), held)
@@ -98,15 +99,15 @@ fn known_state<'b, 'a, B: StatesBelow<'a>>(
     below: &'b B,
     names: &[Identifier],
     spot: Spot,
-    first: &mut FirstRefusal,
+    refusals: &mut Refusals,
 ) -> Option<&'b Sort<'a>>
     ensures state { option_copied result ≡ state_at (B.states_at below.now) names.now }
-    ensures first { first.new ≡ nearer first.old (least (unknown_refusals names.now spot (below_at (B.states_at below.now) (front names.now)))) }
+    ensures noted { refusals.new ≡ noting refusals.old (unknown_refusals names.now spot (below_at (B.states_at below.now) (front names.now))) }
 {
     match below_at(below, path_of(names)) {
-        Some(states) => state_in(states, names, spot, first),
+        Some(states) => state_in(states, names, spot, refusals),
         None => {
-            first.note_if(true, Code::UnknownSubcomponent, spot);
+            refusals.note_if(true, Code::UnknownSubcomponent, spot);
             None
         }
     }
@@ -127,13 +128,13 @@ fn state_in<'b, 'a>(
     states: &'b Sorts<'a>,
     names: &[Identifier],
     spot: Spot,
-    first: &mut FirstRefusal,
+    refusals: &mut Refusals,
 ) -> Option<&'b Sort<'a>>
     ensures state { option_copied result ≡ state_in names.now (Some states.now) }
-    ensures first { first.new ≡ nearer first.old (least (refused_so (is_none (state_in names.now (Some states.now))) UnknownState spot)) }
+    ensures noted { refusals.new ≡ noting refusals.old (refused_so (is_none (state_in names.now (Some states.now))) UnknownState spot) }
 {
     let state = last_of(states, names);
-    first.note_if(state.is_none(), Code::UnknownState, spot);
+    refusals.note_if(state.is_none(), Code::UnknownState, spot);
     state
 }
 

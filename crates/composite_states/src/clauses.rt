@@ -1,5 +1,5 @@
 ghost use Rattle.std.specs.Prelude.{◌≡◌, ◌&&◌, ◌++◌, IfOk, OnOk, is_none, option_map, option_to_list};
-ghost use Rattle.plain_values.specs.Order.{least, nearer};
+ghost use Rattle.noted_refusals.specs.Noted.{noting};
 ghost use Rattle.plain_values.specs.declared.refusal.Code.TheVariants.{Others};
 ghost use Rattle.plain_values.specs.Refusal.{refused_so};
 ghost use Rattle.propagation_points.specs.States.{held_numbers};
@@ -13,7 +13,8 @@ use error_conditions::{Cause, cause_of};
 use error_libraries::Scope;
 use error_machines::States;
 use error_types::Reading;
-use plain_values::{Code, FirstRefusal, List, Mem};
+use noted_refusals::Refusals;
+use plain_values::{Code, List, Mem};
 use propagation_points::{Held, Points, Setting, scopes_of};
 use std::alloc::Global;
 
@@ -41,7 +42,7 @@ pub fn clauses_of<'a, B: StatesBelow<'a>>(
 ) -> Mem<List<ClauseMeaning>>
     ensures kept { reading.new.types ≡ reading.old.types }
     ensures clauses { IfOk result (λ clauses. clauses ≡ clauses_of (B.states_at below.now) reading.old.types points.now states.now effective.now) }
-    ensures first { OnOk result (reading.new.first ≡ nearer reading.old.first (least (composite_clause_refusals (B.states_at below.now) reading.old.types points.now states.now effective.now))) }
+    ensures noted { OnOk result (reading.new.refusals ≡ noting reading.old.refusals (composite_clause_refusals (B.states_at below.now) reading.old.types points.now states.now effective.now)) }
 {
     let scopes = scopes_of(alloc, &reading.types, effective.clauses.items())?;
     let composites = effective.behavior.composites.items();
@@ -63,7 +64,7 @@ fn clauses_in<'s, 'a, B: StatesBelow<'a>>(
 ) -> Mem<List<ClauseMeaning>>
     ensures kept { reading.new.types ≡ reading.old.types }
     ensures clauses { IfOk result (λ clauses. clauses ≡ clauses_in (B.states_at around.now.below.now) reading.old.types around.now.points.now around.now.states.now.sorts around.now.scopes.now composites.now) }
-    ensures first { OnOk result (reading.new.first ≡ nearer reading.old.first (least (refusals_in (B.states_at around.now.below.now) reading.old.types around.now.points.now around.now.states.now around.now.scopes.now composites.now))) }
+    ensures noted { OnOk result (reading.new.refusals ≡ noting reading.old.refusals (refusals_in (B.states_at around.now.below.now) reading.old.types around.now.points.now around.now.states.now around.now.scopes.now composites.now)) }
 {
     let mut clauses = List::new(alloc);
     for composite in composites {
@@ -101,26 +102,26 @@ fn add_clause<'a, B: StatesBelow<'a>>(
 ) -> Mem<()>
     ensures kept { reading.new.types ≡ reading.old.types }
     ensures clauses { OnOk result (clauses.new ≡ clauses.old ++ clause_of (B.states_at place.now.below) place.now.setting reading.old.types composite.now) }
-    ensures first { OnOk result (reading.new.first ≡ nearer reading.old.first (least (clause_refusals (B.states_at place.now.below) place.now.setting reading.old.types initial.now composite.now))) }
+    ensures noted { OnOk result (reading.new.refusals ≡ noting reading.old.refusals (clause_refusals (B.states_at place.now.below) place.now.setting reading.old.types initial.now composite.now)) }
 {
     let condition = condition_of(alloc, reading, place, &composite.condition)?;
     let held = place.setting.refer(alloc, reading, &composite.target)?;
     let target = place.setting.place(&composite.target);
-    note_others(&mut reading.first, initial, target, composite);
+    note_others(&mut reading.refusals, initial, target, composite);
     add_meaning(alloc, clauses, held, condition)
 }
 
 /// Notes P7 at a clause of `others` to this state, where it is not initial.
 fn note_others(
-    first: &mut FirstRefusal,
+    refusals: &mut Refusals,
     initial: &[bool],
     target: Option<u32>,
     composite: &Composite,
 )
-    ensures { first.new ≡ nearer first.old (least (refused_so (is_none composite.now.condition && is_not_initial initial.now target) Others composite.now.spot)) }
+    ensures { refusals.new ≡ noting refusals.old (refused_so (is_none composite.now.condition && is_not_initial initial.now target) Others composite.now.spot) }
 {
     let is_wrong = composite.condition.is_none() && is_not_initial(initial, target);
-    first.note_if(is_wrong, Code::Others, composite.spot);
+    refusals.note_if(is_wrong, Code::Others, composite.spot);
 }
 
 fn add_meaning(
@@ -159,7 +160,7 @@ fn condition_of<'a, B: StatesBelow<'a>>(
 ) -> Mem<Option<Cause>>
     ensures kept { reading.new.types ≡ reading.old.types }
     ensures condition { IfOk result (λ found. found ≡ condition_of (B.states_at place.now.below) place.now.setting reading.old.types condition.now) }
-    ensures first { OnOk result (reading.new.first ≡ nearer reading.old.first (least (perhaps_refusals (B.states_at place.now.below) place.now.setting reading.old.types condition.now))) }
+    ensures noted { OnOk result (reading.new.refusals ≡ noting reading.old.refusals (perhaps_refusals (B.states_at place.now.below) place.now.setting reading.old.types condition.now)) }
 {
     match condition {
         Some(condition) => Ok(Some(cause_of(alloc, place, reading, condition)?)),

@@ -1,5 +1,5 @@
 ghost use Rattle.std.specs.Prelude.{◌≡◌, ◌++◌, IfOk, OnOk, flat_map, option_copied, option_map, slice_get};
-ghost use Rattle.plain_values.specs.Order.{least, nearer};
+ghost use Rattle.noted_refusals.specs.Noted.{noting};
 ghost use Rattle.error_types.specs.Types.{text_scope};
 ghost use Rattle.error_behavior.specs.Behavior.{behavior_refusals, behavior_of, behavior_with, clause_emissions, clause_outgoing_refusals, clause_steps, clause_transition_refusals, decl_refusals, refusals_with, machine_refusals, machine_steps, step_refusals, texts_of};
 ghost use Rattle.error_machines.specs.States.{states_of};
@@ -14,7 +14,8 @@ use component_extension::{Effective, InClause};
 use error_libraries::Scope;
 use error_machines::UsedMachine;
 use error_types::{Reading, TypeTable};
-use plain_values::{Code, FirstRefusal, List, Mem};
+use noted_refusals::Refusals;
+use plain_values::{Code, List, Mem};
 use propagation_points::{Points, Sorts, scopes_of};
 use std::alloc::Global;
 
@@ -51,7 +52,7 @@ pub fn behavior_of<'a>(
     requires { states.now ≡ (states_of reading.old.types machine.now).sorts }
     ensures kept { reading.new.types ≡ reading.old.types }
     ensures behavior { IfOk result (λ behavior. behavior ≡ behavior_of reading.old.types points.now machine.now effective.now) }
-    ensures first { OnOk result (reading.new.first ≡ nearer reading.old.first (least (behavior_refusals reading.old.types points.now machine.now effective.now))) }
+    ensures noted { OnOk result (reading.new.refusals ≡ noting reading.old.refusals (behavior_refusals reading.old.types points.now machine.now effective.now)) }
 {
     let texts = texts_of(alloc, &reading.types, machine, effective)?;
     let events = events_of(alloc, &mut reading.types, machine, effective, &texts)?;
@@ -96,7 +97,7 @@ fn machine_text(
 }
 
 /// The steps and the emissions of a component with these words and texts. All refusals are noted.
-#[tactic(auto, using(plain_values::proofs::Noting::noted_more))]
+#[tactic(auto, using(noted_refusals::proofs::Noting::noted_more))]
 fn meanings<'s, 'a>(
     alloc: Global,
     reading: &mut Reading<'_, 'a>,
@@ -108,7 +109,7 @@ fn meanings<'s, 'a>(
     ensures kept { reading.new.types ≡ reading.old.types }
     ensures steps { IfOk result (λ made. made.0 ≡ (behavior_with reading.old.types words.now texts.now machine.now effective.now).steps) }
     ensures emissions { IfOk result (λ made. made.1 ≡ (behavior_with reading.old.types words.now texts.now machine.now effective.now).emissions) }
-    ensures first { OnOk result (reading.new.first ≡ nearer reading.old.first (least (refusals_with reading.old.types words.now texts.now machine.now effective.now))) }
+    ensures noted { OnOk result (reading.new.refusals ≡ noting reading.old.refusals (refusals_with reading.old.types words.now texts.now machine.now effective.now)) }
 {
     let steps = steps_of(alloc, reading, words, texts, machine, effective)?;
     let outgoing = effective.behavior.outgoing.items();
@@ -117,7 +118,7 @@ fn meanings<'s, 'a>(
 }
 
 /// The steps of a machine, and then those of clauses. All refusals but those of outgoing conditions are noted.
-#[tactic(auto, using(plain_values::proofs::Noting::noted_more))]
+#[tactic(auto, using(noted_refusals::proofs::Noting::noted_more))]
 fn steps_of<'s, 'a>(
     alloc: Global,
     reading: &mut Reading<'_, 'a>,
@@ -128,17 +129,17 @@ fn steps_of<'s, 'a>(
 ) -> Mem<List<Step>>
     ensures kept { reading.new.types ≡ reading.old.types }
     ensures steps { IfOk result (λ steps. steps ≡ machine_steps reading.old.types words.now texts.now machine.now ++ clause_steps reading.old.types words.now texts.now effective.now.behavior.transitions) }
-    ensures first { OnOk result (reading.new.first ≡ nearer reading.old.first (least (step_refusals reading.old.types words.now texts.now machine.now effective.now))) }
+    ensures noted { OnOk result (reading.new.refusals ≡ noting reading.old.refusals (step_refusals reading.old.types words.now texts.now machine.now effective.now)) }
 {
     let mut steps = machine_steps(alloc, reading, words, texts, machine)?;
-    note_clause_events(&mut reading.first, effective.behavior.events.items());
+    note_clause_events(&mut reading.refusals, effective.behavior.events.items());
     let transitions = effective.behavior.transitions.items();
     add_clause_steps(alloc, &mut steps, reading, words, texts, transitions)?;
     Ok(steps)
 }
 
 /// The steps of a machine, if there is one. Its refusals are noted.
-#[tactic(auto, using(plain_values::proofs::Noting::noted_more))]
+#[tactic(auto, using(noted_refusals::proofs::Noting::noted_more))]
 fn machine_steps<'s, 'a>(
     alloc: Global,
     reading: &mut Reading<'_, 'a>,
@@ -148,11 +149,11 @@ fn machine_steps<'s, 'a>(
 ) -> Mem<List<Step>>
     ensures kept { reading.new.types ≡ reading.old.types }
     ensures steps { IfOk result (λ steps. steps ≡ machine_steps reading.old.types words.now texts.now machine.now) }
-    ensures first { OnOk result (reading.new.first ≡ nearer reading.old.first (least (machine_refusals reading.old.types words.now texts.now machine.now))) }
+    ensures noted { OnOk result (reading.new.refusals ≡ noting reading.old.refusals (machine_refusals reading.old.types words.now texts.now machine.now)) }
 {
     match machine {
         Some(machine) => {
-            note_machine(&mut reading.first, machine.decl());
+            note_machine(&mut reading.refusals, machine.decl());
             let place = words.place(machine_scope(texts));
             steps_at(alloc, reading, &place, machine.decl().transitions.items())
         }
@@ -176,13 +177,13 @@ pub(crate) fn clause_scope(texts: &Texts, number: usize) -> Option<&Scope>
 }
 
 /// Notes the refusals of a declared machine, but for its transitions.
-#[tactic(auto, using(plain_values::proofs::Noting::noted_more))]
-fn note_machine(first: &mut FirstRefusal, decl: &MachineDecl)
-    ensures { first.new ≡ nearer first.old (least (decl_refusals decl.now)) }
+#[tactic(auto, using(noted_refusals::proofs::Noting::noted_more))]
+fn note_machine(refusals: &mut Refusals, decl: &MachineDecl)
+    ensures { refusals.new ≡ noting refusals.old (decl_refusals decl.now) }
 {
-    first.note_at(Code::MachineExtends, decl.extends);
-    first.note_at(Code::Mapping, decl.transforms);
-    note_events(first, decl.events.items());
+    refusals.note_at(Code::MachineExtends, decl.extends);
+    refusals.note_at(Code::Mapping, decl.transforms);
+    note_events(refusals, decl.events.items());
 }
 
 /// The steps of transitions that stand in one place. Their refusals are noted.
@@ -194,7 +195,7 @@ fn steps_at<'a>(
 ) -> Mem<List<Step>>
     ensures kept { reading.new.types ≡ reading.old.types }
     ensures steps { IfOk result (λ steps. steps ≡ flat_map (step_of place.now reading.old.types) transitions.now) }
-    ensures first { OnOk result (reading.new.first ≡ nearer reading.old.first (least (flat_map (transition_refusals place.now reading.old.types) transitions.now))) }
+    ensures noted { OnOk result (reading.new.refusals ≡ noting reading.old.refusals (flat_map (transition_refusals place.now reading.old.types) transitions.now)) }
 {
     let mut steps = List::new(alloc);
     for transition in transitions {
@@ -214,7 +215,7 @@ fn add_clause_steps<'s, 'a>(
 ) -> Mem<()>
     ensures kept { reading.new.types ≡ reading.old.types }
     ensures steps { OnOk result (steps.new ≡ steps.old ++ clause_steps reading.old.types words.now texts.now transitions.now) }
-    ensures first { OnOk result (reading.new.first ≡ nearer reading.old.first (least (clause_transition_refusals reading.old.types words.now texts.now transitions.now))) }
+    ensures noted { OnOk result (reading.new.refusals ≡ noting reading.old.refusals (clause_transition_refusals reading.old.types words.now texts.now transitions.now)) }
 {
     for transition in transitions {
         let place = words.place(clause_scope(texts, transition.scope()));
@@ -233,7 +234,7 @@ fn emissions_of<'s, 'a>(
 ) -> Mem<List<Emission>>
     ensures kept { reading.new.types ≡ reading.old.types }
     ensures emissions { IfOk result (λ emissions. emissions ≡ clause_emissions reading.old.types words.now texts.now outgoing.now) }
-    ensures first { OnOk result (reading.new.first ≡ nearer reading.old.first (least (clause_outgoing_refusals reading.old.types words.now texts.now outgoing.now))) }
+    ensures noted { OnOk result (reading.new.refusals ≡ noting reading.old.refusals (clause_outgoing_refusals reading.old.types words.now texts.now outgoing.now)) }
 {
     let mut emissions = List::new(alloc);
     for condition in outgoing {

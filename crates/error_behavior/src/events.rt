@@ -1,5 +1,5 @@
 ghost use Rattle.std.specs.Prelude.{◌≡◌, [], IfOk, flat_map, fold, map, option_copied, option_map};
-ghost use Rattle.plain_values.specs.Order.{least, nearer};
+ghost use Rattle.noted_refusals.specs.Noted.{noting};
 ghost use Rattle.error_behavior.specs.Behavior.{clause_event_refusals, texts_of};
 ghost use Rattle.error_machines.specs.States.{clause_event, event_at, event_refusals, events_of, is_recovery, keep_event, machine_events, machine_scope};
 
@@ -9,7 +9,8 @@ use component_extension::{Effective, InClause};
 use error_libraries::Scope;
 use error_machines::UsedMachine;
 use error_types::TypeTable;
-use plain_values::{Code, FirstRefusal, Mem};
+use noted_refusals::Refusals;
+use plain_values::{Code, Mem};
 use propagation_points::{Sorts, declared_by};
 use std::alloc::Global;
 
@@ -100,28 +101,28 @@ fn with_event<'a>(
 }
 
 /// Notes the refusals of events that a machine declares: P8.
-pub(crate) fn note_events(first: &mut FirstRefusal, decls: &[EventDecl])
-    ensures { first.new ≡ nearer first.old (least (flat_map event_refusals decls.now)) }
+pub(crate) fn note_events(refusals: &mut Refusals, decls: &[EventDecl])
+    ensures { refusals.new ≡ noting refusals.old (flat_map event_refusals decls.now) }
 {
     for decl in decls {
-        note_event(first, decl);
+        note_event(refusals, decl);
     }
 }
 
 /// Notes the refusals of events that clauses declare.
-pub(crate) fn note_clause_events(first: &mut FirstRefusal, events: &[InClause<'_, EventDecl>])
-    ensures { first.new ≡ nearer first.old (least (clause_event_refusals events.now)) }
+pub(crate) fn note_clause_events(refusals: &mut Refusals, events: &[InClause<'_, EventDecl>])
+    ensures { refusals.new ≡ noting refusals.old (clause_event_refusals events.now) }
 {
     for event in events {
-        note_event(first, event.item());
+        note_event(refusals, event.item());
     }
 }
 
-#[tactic(auto, using(plain_values::proofs::Noting::noted_more))]
-fn note_event(first: &mut FirstRefusal, decl: &EventDecl)
-    ensures { first.new ≡ nearer first.old (least (event_refusals decl.now)) }
+#[tactic(auto, using(noted_refusals::proofs::Noting::noted_more))]
+fn note_event(refusals: &mut Refusals, decl: &EventDecl)
+    ensures { refusals.new ≡ noting refusals.old (event_refusals decl.now) }
 {
-    first.note_if(is_recovery(decl.kind), Code::Recovery, decl.spot);
+    refusals.note_if(is_recovery(decl.kind), Code::Recovery, decl.spot);
 }
 
 fn is_recovery(kind: EventKind) -> bool

@@ -1,5 +1,5 @@
 ghost use Rattle.std.specs.Prelude.{◌≡◌, ◌++◌, [], IfOk, OnOk, flat_map, option_and_then, option_map, option_to_list};
-ghost use Rattle.plain_values.specs.Order.{least, nearer};
+ghost use Rattle.noted_refusals.specs.Noted.{noting};
 ghost use Rattle.std.specs.Option.{option_map_or};
 ghost use Rattle.propagation_points.specs.Settings.{state_refusals_in};
 ghost use Rattle.propagation_points.specs.States.{held_numbers};
@@ -24,7 +24,7 @@ fn origin_of<'a>(
 ) -> Mem<Option<Origin>>
     ensures kept { reading.new.types ≡ reading.old.types }
     ensures origin { IfOk result (λ origin. origin ≡ origin_of reading.old.types setting.now state.now) }
-    ensures first { OnOk result (reading.new.first ≡ nearer reading.old.first (least (origin_refusals reading.old.types setting.now state.now))) }
+    ensures noted { OnOk result (reading.new.refusals ≡ noting reading.old.refusals (origin_refusals reading.old.types setting.now state.now)) }
 {
     match state {
         Some(state) => {
@@ -44,7 +44,7 @@ fn targets_of<'a>(
 ) -> Mem<List<u32>>
     ensures kept { reading.new.types ≡ reading.old.types }
     ensures targets { IfOk result (λ numbers. numbers ≡ targets_of reading.old.types setting.now targets.now) }
-    ensures first { OnOk result (reading.new.first ≡ nearer reading.old.first (least (flat_map (state_refusals_in reading.old.types setting.now) targets.now))) }
+    ensures noted { OnOk result (reading.new.refusals ≡ noting reading.old.refusals (flat_map (state_refusals_in reading.old.types setting.now) targets.now)) }
 {
     let mut numbers = List::new(alloc);
     for target in targets {
@@ -83,7 +83,7 @@ pub(crate) fn add_step<'a>(
 ) -> Mem<()>
     ensures kept { reading.new.types ≡ reading.old.types }
     ensures steps { OnOk result (steps.new ≡ steps.old ++ step_of place.now reading.old.types transition.now) }
-    ensures first { OnOk result (reading.new.first ≡ nearer reading.old.first (least (transition_refusals place.now reading.old.types transition.now))) }
+    ensures noted { OnOk result (reading.new.refusals ≡ noting reading.old.refusals (transition_refusals place.now reading.old.types transition.now)) }
 {
     if let Some(step) = step_of(alloc, reading, place, transition)? {
         steps.push(step)?;
@@ -92,7 +92,7 @@ pub(crate) fn add_step<'a>(
 }
 
 /// The step of a transition, if it has one. Its refusals are noted.
-#[tactic(auto, using(plain_values::proofs::Noting::noted_more))]
+#[tactic(auto, using(noted_refusals::proofs::Noting::noted_more))]
 fn step_of<'a>(
     alloc: Global,
     reading: &mut Reading<'_, 'a>,
@@ -101,7 +101,7 @@ fn step_of<'a>(
 ) -> Mem<Option<Step>>
     ensures kept { reading.new.types ≡ reading.old.types }
     ensures step { IfOk result (λ step. option_to_list step ≡ step_of place.now reading.old.types transition.now) }
-    ensures first { OnOk result (reading.new.first ≡ nearer reading.old.first (least (transition_refusals place.now reading.old.types transition.now))) }
+    ensures noted { OnOk result (reading.new.refusals ≡ noting reading.old.refusals (transition_refusals place.now reading.old.types transition.now)) }
 {
     let origin = origin_of(alloc, reading, &place.setting, &transition.source.state)?;
     let trigger = cause_of(alloc, place, reading, &transition.condition)?;
@@ -131,7 +131,7 @@ fn trigger_of<'a>(
 ) -> Mem<Option<Cause>>
     ensures kept { reading.new.types ≡ reading.old.types }
     ensures trigger { IfOk result (λ trigger. trigger ≡ trigger_of place.now reading.old.types condition.now) }
-    ensures first { OnOk result (reading.new.first ≡ nearer reading.old.first (least (perhaps_refusals place.now reading.old.types condition.now))) }
+    ensures noted { OnOk result (reading.new.refusals ≡ noting reading.old.refusals (perhaps_refusals place.now reading.old.types condition.now)) }
 {
     match condition {
         Some(condition) => Ok(Some(cause_of(alloc, place, reading, condition)?)),
@@ -149,7 +149,7 @@ pub(crate) fn add_emission<'a>(
 ) -> Mem<()>
     ensures kept { reading.new.types ≡ reading.old.types }
     ensures emissions { OnOk result (emissions.new ≡ emissions.old ++ emission_of place.now reading.old.types outgoing.now) }
-    ensures first { OnOk result (reading.new.first ≡ nearer reading.old.first (least (outgoing_refusals place.now reading.old.types outgoing.now))) }
+    ensures noted { OnOk result (reading.new.refusals ≡ noting reading.old.refusals (outgoing_refusals place.now reading.old.types outgoing.now)) }
 {
     if let Some(emission) = emission_of(alloc, reading, place, outgoing)? {
         emissions.push(emission)?;
@@ -158,7 +158,7 @@ pub(crate) fn add_emission<'a>(
 }
 
 /// The emission of an outgoing condition, if it has one. Its refusals are noted.
-#[tactic(auto, using(plain_values::proofs::Noting::noted_more))]
+#[tactic(auto, using(noted_refusals::proofs::Noting::noted_more))]
 fn emission_of<'a>(
     alloc: Global,
     reading: &mut Reading<'_, 'a>,
@@ -167,7 +167,7 @@ fn emission_of<'a>(
 ) -> Mem<Option<Emission>>
     ensures kept { reading.new.types ≡ reading.old.types }
     ensures emission { IfOk result (λ emission. option_to_list emission ≡ emission_of place.now reading.old.types outgoing.now) }
-    ensures first { OnOk result (reading.new.first ≡ nearer reading.old.first (least (outgoing_refusals place.now reading.old.types outgoing.now))) }
+    ensures noted { OnOk result (reading.new.refusals ≡ noting reading.old.refusals (outgoing_refusals place.now reading.old.types outgoing.now)) }
 {
     let origin = origin_of(alloc, reading, &place.setting, &outgoing.source.state)?;
     let trigger = trigger_of(alloc, reading, place, &outgoing.condition)?;

@@ -1,5 +1,5 @@
 ghost use Rattle.std.specs.Prelude.{◌≡◌, IfOk, OnOk, option_copied};
-ghost use Rattle.plain_values.specs.Order.{least, nearer};
+ghost use Rattle.noted_refusals.specs.Noted.{noting};
 ghost use Rattle.error_behavior.specs.Triggers.{event_named, event_or_point, event_or_point_refusals, trigger_refusals, trigger_meaning};
 
 use aadl_syntax::Atom;
@@ -97,14 +97,14 @@ impl<'s, 'a> Atoms for TriggerPlace<'s, 'a> {
 
     ghost faults = { trigger_refusals };
 
-    #[tactic(auto, using(plain_values::proofs::Noting::noted_more))]
+    #[tactic(auto, using(noted_refusals::proofs::Noting::noted_more))]
     fn meaning<'t>(
         &self,
         alloc: Global,
         reading: &mut Reading<'_, 't>,
         atom: &'t Atom,
     ) -> Mem<Cause> {
-        note_no_errors(&mut reading.first, &atom.set);
+        note_no_errors(&mut reading.refusals, &atom.set);
         event_or_point(alloc, &self.setting, reading, atom, self.event(atom))
     }
 }
@@ -119,7 +119,7 @@ fn event_or_point<'a>(
 ) -> Mem<Cause>
     ensures kept { reading.new.types ≡ reading.old.types }
     ensures meaning { IfOk result (λ cause. cause ≡ event_or_point reading.old.types setting.now atom.now (option_copied event.entry)) }
-    ensures first { OnOk result (reading.new.first ≡ nearer reading.old.first (least (event_or_point_refusals reading.old.types setting.now atom.now (option_copied event.entry)))) }
+    ensures noted { OnOk result (reading.new.refusals ≡ noting reading.old.refusals (event_or_point_refusals reading.old.types setting.now atom.now (option_copied event.entry))) }
 {
     match event {
         Some(event) => {

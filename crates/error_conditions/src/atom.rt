@@ -1,5 +1,5 @@
 ghost use Rattle.std.specs.Prelude.{◌≡◌, IfOk, OnOk, flat_map, map};
-ghost use Rattle.plain_values.specs.Order.{least, nearer};
+ghost use Rattle.noted_refusals.specs.Noted.{noting};
 ghost use Rattle.propagation_points.specs.Settings.{refusals_in};
 ghost use Rattle.propagation_points.specs.Uses.{atom_use};
 ghost use Rattle.error_conditions.specs.Conditions.{held_cause, no_error_at, no_error_refusals, point_cause, point_meaning};
@@ -8,7 +8,8 @@ ghost use Rattle.error_conditions.specs.declared.cause.Cause.TheVariants.{Any, E
 use crate::cause::Cause;
 use aadl_syntax::{Atom, Term, TypeSet};
 use error_types::Reading;
-use plain_values::{Code, FirstRefusal, List, Mem};
+use noted_refusals::Refusals;
+use plain_values::{Code, List, Mem};
 use propagation_points::{Held, PointUse, ReachedPoint, Setting};
 use std::alloc::Global;
 
@@ -21,7 +22,7 @@ pub fn point_meaning<'a>(
 ) -> Mem<Cause>
     ensures kept { reading.new.types ≡ reading.old.types }
     ensures meaning { IfOk result (λ cause. cause ≡ point_meaning reading.old.types setting.now atom.now) }
-    ensures first { OnOk result (reading.new.first ≡ nearer reading.old.first (least (refusals_in reading.old.types setting.now (atom_use atom.now)))) }
+    ensures noted { OnOk result (reading.new.refusals ≡ noting reading.old.refusals (refusals_in reading.old.types setting.now (atom_use atom.now))) }
 {
     let used = PointUse::of_atom(atom);
     let reached = setting.reached(alloc, reading, &used)?;
@@ -38,27 +39,27 @@ fn point_cause(alloc: Global, reached: Option<ReachedPoint>) -> Cause
 }
 
 /// Notes P6 at each `noerror` of the set of a named part.
-pub fn note_no_errors(first: &mut FirstRefusal, set: &Option<TypeSet>)
-    ensures { first.new ≡ nearer first.old (least (no_error_refusals set.now)) }
+pub fn note_no_errors(refusals: &mut Refusals, set: &Option<TypeSet>)
+    ensures { refusals.new ≡ noting refusals.old (no_error_refusals set.now) }
 {
     if let Some(set) = set {
-        note_terms(first, set.terms.items());
+        note_terms(refusals, set.terms.items());
     }
 }
 
-fn note_terms(first: &mut FirstRefusal, terms: &[Term])
-    ensures { first.new ≡ nearer first.old (least (flat_map no_error_at terms.now)) }
+fn note_terms(refusals: &mut Refusals, terms: &[Term])
+    ensures { refusals.new ≡ noting refusals.old (flat_map no_error_at terms.now) }
 {
     for term in terms {
-        note_term(first, term);
+        note_term(refusals, term);
     }
 }
 
-fn note_term(first: &mut FirstRefusal, term: &Term)
-    ensures { first.new ≡ nearer first.old (least (no_error_at term.now)) }
+fn note_term(refusals: &mut Refusals, term: &Term)
+    ensures { refusals.new ≡ noting refusals.old (no_error_at term.now) }
 {
     if let Term::NoError(spot) = term {
-        first.note_if(true, Code::NoErrorCondition, *spot);
+        refusals.note_if(true, Code::NoErrorCondition, *spot);
     }
 }
 

@@ -1,5 +1,5 @@
 ghost use Rattle.std.specs.Prelude.{◌≡◌, IfOk, OnOk, flat_map, map};
-ghost use Rattle.plain_values.specs.Order.{least, nearer};
+ghost use Rattle.noted_refusals.specs.Noted.{noting};
 ghost use Rattle.error_conditions.specs.Conditions.{cause_of, condition_refusals};
 
 use crate::cause::Cause;
@@ -11,7 +11,7 @@ use std::alloc::Global;
 /// What the named parts of a condition mean where it stands.
 pub trait Atoms {
     ghost use Rattle.std.specs.Prelude.{◌≡◌, List, IfOk, OnOk};
-    ghost use Rattle.plain_values.specs.Order.{least, nearer};
+    ghost use Rattle.noted_refusals.specs.Noted.{noting};
     ghost use Rattle.aadl_syntax.specs.declared.error_model.Atom.{Atom as Named};
     ghost use Rattle.plain_values.specs.declared.refusal.Refusal.{Refusal};
     ghost use Rattle.error_libraries.specs.Libraries.{Table};
@@ -30,7 +30,7 @@ pub trait Atoms {
     ) -> Mem<Cause>
         ensures kept { reading.new.types ≡ reading.old.types }
         ensures meaning { IfOk result (λ cause. cause ≡ meaning self.now reading.old.types atom.now) }
-        ensures first { OnOk result (reading.new.first ≡ nearer reading.old.first (least (faults self.now reading.old.types atom.now))) };
+        ensures noted { OnOk result (reading.new.refusals ≡ noting reading.old.refusals (faults self.now reading.old.types atom.now)) };
 }
 
 /// The meaning of a condition, from those of its named parts. Their refusals are noted, and P5 at each `orless`.
@@ -43,7 +43,7 @@ pub fn cause_of<'a, A: Atoms>(
 ) -> Mem<Cause>
     ensures kept { reading.new.types ≡ reading.old.types }
     ensures cause { IfOk result (λ cause. cause ≡ cause_of (A.meaning atoms.now reading.old.types) condition.now) }
-    ensures first { OnOk result (reading.new.first ≡ nearer reading.old.first (least (condition_refusals (A.faults atoms.now reading.old.types) condition.now))) }
+    ensures noted { OnOk result (reading.new.refusals ≡ noting reading.old.refusals (condition_refusals (A.faults atoms.now reading.old.types) condition.now)) }
 {
     match condition {
         Condition::Atom(atom) => atoms.meaning(alloc, reading, atom),
@@ -54,7 +54,7 @@ pub fn cause_of<'a, A: Atoms>(
             causes_of(alloc, atoms, reading, parts.items())?,
         )),
         Condition::AtMost(_, parts, spot) => {
-            reading.first.note_if(true, Code::OrLess, *spot);
+            reading.refusals.note_if(true, Code::OrLess, *spot);
             causes_of(alloc, atoms, reading, parts.items())?;
             Ok(Cause::Any(List::new(alloc)))
         }
@@ -71,7 +71,7 @@ fn causes_of<'a, A: Atoms>(
 ) -> Mem<List<Cause>>
     ensures kept { reading.new.types ≡ reading.old.types }
     ensures causes { IfOk result (λ causes. causes ≡ map (cause_of (A.meaning atoms.now reading.old.types)) parts.now) }
-    ensures first { OnOk result (reading.new.first ≡ nearer reading.old.first (least (flat_map (condition_refusals (A.faults atoms.now reading.old.types)) parts.now))) }
+    ensures noted { OnOk result (reading.new.refusals ≡ noting reading.old.refusals (flat_map (condition_refusals (A.faults atoms.now reading.old.types)) parts.now)) }
 {
     let mut causes = List::new(alloc);
     for part in parts {

@@ -1,5 +1,5 @@
 ghost use Rattle.std.specs.Prelude.{◌≡◌, ◌++◌, IfOk, OnOk, true, flat_map, option_map, option_and_then, option_to_list};
-ghost use Rattle.plain_values.specs.Order.{least, nearer};
+ghost use Rattle.noted_refusals.specs.Noted.{noting};
 ghost use Rattle.plain_values.specs.declared.refusal.Code.TheVariants.{Mapping};
 ghost use Rattle.plain_values.specs.Refusal.{refused_so, refused_there};
 ghost use Rattle.propagation_points.specs.Settings.{refusals_in, held_in, reached_in, state_refusals_in};
@@ -11,7 +11,8 @@ use aadl_syntax::{Flow, FlowKind, Identifier, StateRef};
 use component_extension::{Effective, InClause};
 use error_libraries::Scope;
 use error_types::Reading;
-use plain_values::{Code, FirstRefusal, List, Mem, Spot};
+use noted_refusals::Refusals;
+use plain_values::{Code, List, Mem, Spot};
 use propagation_points::{Held, PointUse, Points, Reach, ReachedPoint, Setting, Sorts, scopes_of};
 use std::alloc::Global;
 
@@ -29,21 +30,21 @@ pub fn flows_of<'a>(
 ) -> Mem<List<FlowMeaning>>
     ensures kept { reading.new.types ≡ reading.old.types }
     ensures flows { IfOk result (λ flows. flows ≡ flows_of reading.old.types points.now states.now effective.now) }
-    ensures first { OnOk result (reading.new.first ≡ nearer reading.old.first (least (all_flow_refusals reading.old.types points.now states.now effective.now))) }
+    ensures noted { OnOk result (reading.new.refusals ≡ noting reading.old.refusals (all_flow_refusals reading.old.types points.now states.now effective.now)) }
 {
     let scopes = scopes_of(alloc, &reading.types, effective.clauses.items())?;
     let flows = effective.propagations.flows.items();
     let found = meanings(alloc, reading, points, states, scopes.items(), flows)?;
-    note_mappings(&mut reading.first, effective.others.mappings.items());
+    note_mappings(&mut reading.refusals, effective.others.mappings.items());
     Ok(found)
 }
 
 /// Notes each use of mappings by a clause.
-fn note_mappings(first: &mut FirstRefusal, mappings: &[Spot])
-    ensures { first.new ≡ nearer first.old (least (flat_map (refused_so true Mapping) mappings.now)) }
+fn note_mappings(refusals: &mut Refusals, mappings: &[Spot])
+    ensures { refusals.new ≡ noting refusals.old (flat_map (refused_so true Mapping) mappings.now) }
 {
     for spot in mappings {
-        first.note_if(true, Code::Mapping, *spot);
+        refusals.note_if(true, Code::Mapping, *spot);
     }
 }
 
@@ -58,7 +59,7 @@ fn meanings<'s, 'a>(
 ) -> Mem<List<FlowMeaning>>
     ensures kept { reading.new.types ≡ reading.old.types }
     ensures flows { IfOk result (λ found. found ≡ meanings reading.old.types points.now states.now scopes.now flows.now) }
-    ensures first { OnOk result (reading.new.first ≡ nearer reading.old.first (least (refusals_of_flows reading.old.types points.now states.now scopes.now flows.now))) }
+    ensures noted { OnOk result (reading.new.refusals ≡ noting reading.old.refusals (refusals_of_flows reading.old.types points.now states.now scopes.now flows.now)) }
 {
     let mut found = List::new(alloc);
     for flow in flows {
@@ -78,7 +79,7 @@ fn add_meaning<'a>(
 ) -> Mem<()>
     ensures kept { reading.new.types ≡ reading.old.types }
     ensures found { OnOk result (found.new ≡ found.old ++ option_to_list (flow_meaning reading.old.types setting.now flow.now.name flow.now.kind)) }
-    ensures first { OnOk result (reading.new.first ≡ nearer reading.old.first (least (flow_refusals reading.old.types setting.now flow.now.kind))) }
+    ensures noted { OnOk result (reading.new.refusals ≡ noting reading.old.refusals (flow_refusals reading.old.types setting.now flow.now.kind)) }
 {
     if let Some(meaning) = meaning_of(alloc, reading, setting, flow)? {
         found.push(meaning)?;
@@ -95,7 +96,7 @@ fn meaning_of<'a>(
 ) -> Mem<Option<FlowMeaning>>
     ensures kept { reading.new.types ≡ reading.old.types }
     ensures meaning { IfOk result (λ meaning. meaning ≡ flow_meaning reading.old.types setting.now flow.now.name flow.now.kind) }
-    ensures first { OnOk result (reading.new.first ≡ nearer reading.old.first (least (flow_refusals reading.old.types setting.now flow.now.kind))) }
+    ensures noted { OnOk result (reading.new.refusals ≡ noting reading.old.refusals (flow_refusals reading.old.types setting.now flow.now.kind)) }
 {
     match &flow.kind {
         FlowKind::Source(point, set, state) => {
@@ -116,7 +117,7 @@ fn meaning_of<'a>(
 }
 
 /// The meaning of a source at a point, in a state where it names one.
-#[tactic(auto, using(plain_values::proofs::Noting::noted_more))]
+#[tactic(auto, using(noted_refusals::proofs::Noting::noted_more))]
 fn source<'a>(
     alloc: Global,
     reading: &mut Reading<'_, 'a>,
@@ -127,7 +128,7 @@ fn source<'a>(
 ) -> Mem<Option<FlowMeaning>>
     ensures kept { reading.new.types ≡ reading.old.types }
     ensures meaning { IfOk result (λ meaning. meaning ≡ option_and_then (source_meaning reading.old.types setting.now name.now state.now) (reached_in reading.old.types setting.now used.now)) }
-    ensures first { OnOk result (reading.new.first ≡ nearer reading.old.first (least (refusals_in reading.old.types setting.now used.now ++ when_refusals reading.old.types setting.now state.now))) }
+    ensures noted { OnOk result (reading.new.refusals ≡ noting reading.old.refusals (refusals_in reading.old.types setting.now used.now ++ when_refusals reading.old.types setting.now state.now)) }
 {
     let reached = setting.reached(alloc, reading, used)?;
     match state {
@@ -159,7 +160,7 @@ fn state_source<'a>(
 ) -> Mem<Option<FlowMeaning>>
     ensures kept { reading.new.types ≡ reading.old.types }
     ensures meaning { IfOk result (λ meaning. meaning ≡ option_and_then (λ reached. option_map (λ held. State held reached) (held_in reading.old.types setting.now state.now)) reached) }
-    ensures first { OnOk result (reading.new.first ≡ nearer reading.old.first (least (state_refusals_in reading.old.types setting.now state.now))) }
+    ensures noted { OnOk result (reading.new.refusals ≡ noting reading.old.refusals (state_refusals_in reading.old.types setting.now state.now)) }
 {
     let held = setting.refer(alloc, reading, state)?;
     Ok(state_meaning(held, reached))
@@ -172,7 +173,7 @@ fn state_meaning(held: Option<Held>, reached: Option<ReachedPoint>) -> Option<Fl
 }
 
 /// The meaning of a path from a start to an end.
-#[tactic(auto, using(plain_values::proofs::Noting::noted_more))]
+#[tactic(auto, using(noted_refusals::proofs::Noting::noted_more))]
 fn path<'a>(
     alloc: Global,
     reading: &mut Reading<'_, 'a>,
@@ -183,11 +184,11 @@ fn path<'a>(
 ) -> Mem<Option<FlowMeaning>>
     ensures kept { reading.new.types ≡ reading.old.types }
     ensures meaning { IfOk result (λ meaning. meaning ≡ option_and_then (λ start. option_map (λ end. path_meaning start end.point end.types) (reached_in reading.old.types setting.now end.now)) (reached_in reading.old.types setting.now start.now)) }
-    ensures first { OnOk result (reading.new.first ≡ nearer reading.old.first (least (refusals_in reading.old.types setting.now start.now ++ (refusals_in reading.old.types setting.now end.now ++ refused_there Mapping mapping)))) }
+    ensures noted { OnOk result (reading.new.refusals ≡ noting reading.old.refusals (refusals_in reading.old.types setting.now start.now ++ (refusals_in reading.old.types setting.now end.now ++ refused_there Mapping mapping))) }
 {
     let from = setting.reached(alloc, reading, start)?;
     let to = setting.reached(alloc, reading, end)?;
-    reading.first.note_at(Code::Mapping, mapping);
+    reading.refusals.note_at(Code::Mapping, mapping);
     Ok(path_meaning(from, to))
 }
 

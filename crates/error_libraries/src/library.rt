@@ -1,14 +1,16 @@
 ghost use Rattle.std.specs.Prelude.{◌≡◌, ◌<◌, ◌^◌, ◌∷◌, ◌++◌, length, option_copied, position, slice_get, IfOk, OnOk};
 ghost use Rattle.std.specs.HashMap.{get};
-ghost use Rattle.plain_values.specs.Order.{least, nearer};
+ghost use Rattle.plain_values.specs.Order.{least};
+ghost use Rattle.noted_refusals.specs.Noted.{noting};
 ghost use Rattle.package_index.specs.inner.Tables.{Knows, same_text};
 ghost use Rattle.error_libraries.specs.Libraries.{extended_by, has_item_name, items_of, libraries_named, library_named, library_of, libraries_of, unknown_libraries, unknown_to, used_by};
 ghost use Rattle.error_libraries.specs.inner.Tables.{has_item_text};
 
 use crate::scope::Scope;
 use aadl_syntax::{PackageUnit, Ref, TypeItem, TypesBlock};
+use noted_refusals::Refusals;
 use package_index::{Index, Words, add};
-use plain_values::{Code, FirstRefusal, List, Mem, Refusal};
+use plain_values::{Code, List, Mem, Refusal};
 use std::alloc::Global;
 use std::collections::HashMap;
 use std::marker::Model;
@@ -44,7 +46,7 @@ pub struct Library<'a> {
     places: HashMap<&'a [u8], u32>,
     extends: List<u32>,
     scope: Scope,
-    unknown: FirstRefusal,
+    unknown: Option<Refusal>,
 }
 
 impl<'a> Model for Library<'a> {
@@ -75,7 +77,7 @@ impl<'a> Library<'a> {
         let places = places_of(alloc, items.items())?;
         let extends = extended_by(alloc, index, number, blocks)?;
         let libraries = searched_by(alloc, index, number, blocks)?;
-        let unknown = unknown_to(index, number, blocks);
+        let unknown = unknown_to(alloc, index, number, blocks);
         Ok(Library {
             items,
             places,
@@ -128,7 +130,7 @@ impl<'a> Library<'a> {
     pub(crate) fn unknown(&self) -> Option<Refusal>
         ensures { result ≡ self.now.unknown }
     {
-        self.unknown.noted()
+        self.unknown
     }
 }
 
@@ -197,23 +199,24 @@ fn searched_by(alloc: Global, index: &Index, home: u32, blocks: &[TypesBlock]) -
     Ok(libraries)
 }
 
-fn unknown_to(index: &Index, home: u32, blocks: &[TypesBlock]) -> FirstRefusal
+/// The first refusal of the names of libraries of a library.
+fn unknown_to(alloc: Global, index: &Index, home: u32, blocks: &[TypesBlock]) -> Option<Refusal>
     ensures { result ≡ least (unknown_to index.now home blocks.now) }
 {
-    let mut first = FirstRefusal::new();
+    let mut refusals = Refusals::new(alloc);
     for block in blocks {
-        note_block(index, home, block, &mut first);
+        note_block(index, home, block, &mut refusals);
     }
-    first
+    refusals.first()
 }
 
 /// Notes N2 at each name of a library that a block uses or extends, and that means none.
-#[tactic(auto, using(plain_values::proofs::Noting::noted_more))]
-fn note_block(index: &Index, home: u32, block: &TypesBlock, first: &mut FirstRefusal)
-    ensures { first.new ≡ nearer first.old (least (unknown_libraries index.now home block.now.uses ++ unknown_libraries index.now home block.now.extends)) }
+#[tactic(auto, using(noted_refusals::proofs::Noting::noted_more))]
+fn note_block(index: &Index, home: u32, block: &TypesBlock, refusals: &mut Refusals)
+    ensures { refusals.new ≡ noting refusals.old (unknown_libraries index.now home block.now.uses ++ unknown_libraries index.now home block.now.extends) }
 {
-    note_unknown(index, home, block.uses.items(), first);
-    note_unknown(index, home, block.extends.items(), first);
+    note_unknown(index, home, block.uses.items(), refusals);
+    note_unknown(index, home, block.extends.items(), refusals);
 }
 
 /// The library that a name means in a text of a package.
@@ -234,11 +237,11 @@ pub fn add_named(index: &Index, home: u32, references: &[Ref], libraries: &mut L
 }
 
 /// Notes N2 at each name that means no library in a text of a package.
-pub fn note_unknown(index: &Index, home: u32, references: &[Ref], first: &mut FirstRefusal)
-    ensures { first.new ≡ nearer first.old (least (unknown_libraries index.now home references.now)) }
+pub fn note_unknown(index: &Index, home: u32, references: &[Ref], refusals: &mut Refusals)
+    ensures { refusals.new ≡ noting refusals.old (unknown_libraries index.now home references.now) }
 {
     for reference in references {
         let is_unknown = library_named(index, home, reference).is_none();
-        first.note_if(is_unknown, Code::UnknownPackage, reference.spot);
+        refusals.note_if(is_unknown, Code::UnknownPackage, reference.spot);
     }
 }

@@ -21,7 +21,8 @@ use error_flows::{FlowMeaning, flows_of};
 use error_machines::{States, UsedMachine, states_of};
 use error_types::Reading;
 use instantiator::Instance;
-use plain_values::{Answer, FirstRefusal, List};
+use noted_refusals::Refusals;
+use plain_values::{Answer, List};
 use propagation_points::{Points, Sorts, points_of};
 use std::alloc::Global;
 
@@ -101,9 +102,9 @@ fn points<'a>(
     ensures accepted { OnOk result (least (point_refusals reading.old.types effective.now) ≡ None) }
     ensures refused { IfErr result (StopsAt (least (point_refusals reading.old.types effective.now))) }
 {
-    reading.first = FirstRefusal::new();
+    reading.refusals = Refusals::new(alloc);
     let points = points_of(alloc, effective, reading)?;
-    reading.first.settle()?;
+    reading.refusals.settle()?;
     Ok(points)
 }
 
@@ -122,9 +123,9 @@ fn behavior<'a>(
     ensures accepted { OnOk result (least (behavior_refusals reading.old.types points.now machine.now effective.now) ≡ None) }
     ensures refused { IfErr result (StopsAt (least (behavior_refusals reading.old.types points.now machine.now effective.now))) }
 {
-    reading.first = FirstRefusal::new();
+    reading.refusals = Refusals::new(alloc);
     let behavior = behavior_of(alloc, effective, machine, states, reading, points)?;
-    reading.first.settle()?;
+    reading.refusals.settle()?;
     Ok(behavior)
 }
 
@@ -141,9 +142,9 @@ fn flows<'a>(
     ensures accepted { OnOk result (least (all_flow_refusals reading.old.types points.now states.now effective.now) ≡ None) }
     ensures refused { IfErr result (StopsAt (least (all_flow_refusals reading.old.types points.now states.now effective.now))) }
 {
-    reading.first = FirstRefusal::new();
+    reading.refusals = Refusals::new(alloc);
     let flows = flows_of(alloc, effective, reading, points, states)?;
-    reading.first.settle()?;
+    reading.refusals.settle()?;
     Ok(flows)
 }
 
@@ -161,8 +162,8 @@ fn composites<'a>(
     ensures accepted { OnOk result (least (composite_clause_refusals (states_below below.now.tree.packages below.now.tree.kinds (Some below.now.classifier)) reading.old.types points.now states.now effective.now) ≡ None) }
     ensures refused { IfErr result (StopsAt (least (composite_clause_refusals (states_below below.now.tree.packages below.now.tree.kinds (Some below.now.classifier)) reading.old.types points.now states.now effective.now))) }
 {
-    reading.first = FirstRefusal::new();
+    reading.refusals = Refusals::new(alloc);
     let clauses = clauses_of(alloc, effective, reading, points, states, below)?;
-    reading.first.settle()?;
+    reading.refusals.settle()?;
     Ok(clauses)
 }

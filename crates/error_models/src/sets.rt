@@ -1,5 +1,5 @@
 ghost use Rattle.std.specs.Prelude.{◌≡◌, [], Contains, IfErr, OnOk, map};
-ghost use Rattle.plain_values.specs.Order.{least, nearer};
+ghost use Rattle.noted_refusals.specs.Noted.{noting};
 ghost use Rattle.plain_values.specs.inner.Stops.{StopsAtFirst};
 ghost use Rattle.error_models.specs.Below.{kind_machine};
 ghost use Rattle.error_models.specs.Refused.{all_set_refusals};
@@ -7,7 +7,8 @@ ghost use Rattle.error_models.specs.Refused.{all_set_refusals};
 use error_machines::UsedMachine;
 use error_types::Reading;
 use instantiator::Instance;
-use plain_values::{Answer, FirstRefusal, Mem};
+use noted_refusals::Refusals;
+use plain_values::{Answer, Mem};
 use std::alloc::Global;
 use used_sets::note_used_sets;
 
@@ -27,9 +28,9 @@ pub fn test_sets<'a>(
     ensures accepted { OnOk result (all_set_refusals reading.old.types instance.now.kinds ≡ []) }
     ensures refused { IfErr result (StopsAtFirst (Contains (all_set_refusals reading.old.types instance.now.kinds))) }
 {
-    reading.first = FirstRefusal::new();
+    reading.refusals = Refusals::new(alloc);
     note_sets(alloc, instance, machines, reading)?;
-    reading.first.settle()?;
+    reading.refusals.settle()?;
     Ok(())
 }
 
@@ -43,7 +44,7 @@ fn note_sets<'a>(
     requires machines { machines.now ≡ map (kind_machine instance.now.packages) instance.now.kinds }
     requires packages { reading.old.types.packages ≡ instance.now.packages }
     ensures kept { reading.new.types ≡ reading.old.types }
-    ensures first { OnOk result (reading.new.first ≡ nearer reading.old.first (least (all_set_refusals reading.old.types instance.now.kinds))) }
+    ensures noted { OnOk result (reading.new.refusals ≡ noting reading.old.refusals (all_set_refusals reading.old.types instance.now.kinds)) }
 {
     for (number, kind) in instance.kinds().iter().enumerate() {
         note_used_sets(alloc, &kind.effective, &machines[number], reading)?;

@@ -1,5 +1,6 @@
 ghost use Rattle.std.specs.Prelude.{◌≡◌, ◌↔◌, ◌≤◌, ◌<◌, ◌^◌, IfOk, IfErr, IsSome, OnOk, length};
-ghost use Rattle.plain_values.specs.Order.{least, nearer};
+ghost use Rattle.plain_values.specs.Order.{nearer};
+ghost use Rattle.noted_refusals.specs.Noted.{noting};
 ghost use Rattle.plain_values.specs.inner.Stops.{StopsAtFirst};
 ghost use Rattle.error_libraries.specs.Libraries.{HasTooManyTypes, declared_types, greatest_types, libraries_of, table_of, unknown_libraries};
 ghost use Rattle.error_libraries.specs.inner.Libraries.{IsOver};
@@ -12,6 +13,7 @@ use crate::hierarchy::bases_of;
 use crate::memory::Memory;
 use aadl_syntax::{Ref, TypeSet};
 use error_libraries::{Declarations, Library, Scope, TypeName, add_named, note_unknown, types_by};
+use noted_refusals::Refusals;
 use package_index::Index;
 use plain_values::{Answer, Code, FirstRefusal, List, Mem, Refusal, Stop};
 use std::alloc::Global;
@@ -72,10 +74,10 @@ impl<'i, 'a> TypeTable<'i, 'a> {
     }
 
     /// Notes N2 at each name of a library that a clause or a machine of a package uses, and that means none.
-    pub fn note_unknown(&self, home: u32, uses: &[Ref], first: &mut FirstRefusal)
-        ensures { first.new ≡ nearer first.old (least (unknown_libraries self.now.packages home uses.now)) }
+    pub fn note_unknown(&self, home: u32, uses: &[Ref], refusals: &mut Refusals)
+        ensures { refusals.new ≡ noting refusals.old (unknown_libraries self.now.packages home uses.now) }
     {
-        note_unknown(self.declarations.index(), home, uses, first);
+        note_unknown(self.declarations.index(), home, uses, refusals);
     }
 
     /// The types that a written set denotes in a text, rising. Its first refusal is noted: N2, N7, N8 and P4 of its terms.

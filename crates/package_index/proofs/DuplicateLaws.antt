@@ -96,14 +96,14 @@ module _ (packages : List PackageUnit) where
   abbrev classifiers : PackageUnit → List Refusal
   classifiers unit = classifiers_again unit.decls
 
-  is_duplicate : (n1 : Refusal) → Contains (duplicates packages) n1 → IsDuplicate packages n1
+  pub is_duplicate : (n1 : Refusal) → Contains (duplicates packages) n1 → IsDuplicate packages n1
   is_duplicate n1 there =
       elim (Contains-append_cases (flat_map classifiers packages) (packages_again packages) n1 there) [
         | inl inside ↦ (let (unit, within, its) = flat-to classifiers n1 packages inside in inl (unit, within, is_again (λ later earlier. is_named later.name later.item earlier) (λ decl. decl.spot) unit.decls n1 its))
         | inr again ↦ inr (is_again (λ later earlier. has_name later.name earlier) (λ unit. unit.spot) packages n1 again)
       ]
 
-  is_listed : (n1 : Refusal) → IsDuplicate packages n1 → Contains (duplicates packages) n1
+  pub is_listed : (n1 : Refusal) → IsDuplicate packages n1 → Contains (duplicates packages) n1
   is_listed n1 (inl (unit, within, its)) =
       Contains-append_left (flat_map classifiers packages) (packages_again packages) n1 (flat-from classifiers n1 packages unit within (listed (λ later earlier. is_named later.name later.item earlier) (λ decl. decl.spot) unit.decls n1 its))
   is_listed n1 (inr again) = Contains-append_right (flat_map classifiers packages) (packages_again packages) n1 (listed (λ later earlier. has_name later.name earlier) (λ unit. unit.spot) packages n1 again)

@@ -9,8 +9,8 @@ use Rattle.std.proofs.lemmas.Iterator.Adapters.{position_from-zero}
 use Rattle.std.proofs.lemmas.List.{take_more, drop_all, take_all, length-take-le}
 use Rattle.plain_values.specs.declared.spot.Spot.{Spot}
 use Rattle.plain_values.specs.declared.refusal.Refusal.{Refusal}
-use Rattle.plain_values.specs.Order.{least, nearer}
-use Rattle.plain_values.proofs.OrderLaws.{nearer-none, noted-more}
+use Rattle.noted_refusals.specs.Noted.{Noted, noting}
+use Rattle.noted_refusals.proofs.Laws.{noted-more}
 use Rattle.package_index.specs.inner.Duplicates.{again_at, again_after}
 use Rattle.package_index.specs.inner.Tables.{Added, Knows}
 
@@ -126,14 +126,14 @@ module _ {Item : Type 0} (same : Item → Item → Bool) (spot_of : Item → Spo
   abbrev pub again_left : ℕ → List Refusal
   again_left i = again_after same spot_of (take i items) (drop i items)
 
-  pub again-more : (i : ℕ) (item : Item) (first next goal : Option Refusal) → i < length items → item ≡ get_or items i item → next ≡ nearer first (least (again_at (list_any (same item) (take i items)) (spot_of item))) → nearer first (least (again_left i)) ≡ goal → nearer next (least (again_left (i + 1))) ≡ goal
+  pub again-more : (i : ℕ) (item : Item) (first next goal : Noted) → i < length items → item ≡ get_or items i item → next ≡ noting first (again_at (list_any (same item) (take i items)) (spot_of item)) → noting first (again_left i) ≡ goal → noting next (again_left (i + 1)) ≡ goal
   again-more i item first next goal within is noted before =
       let split : drop i items ≡ item ∷ drop (i + 1) items = drop-cons items i item within ∙ ap (λ t. t ∷ drop (suc i) items) (sym is) ∙ ap (λ n. item ∷ drop n items) (sym (add-one i)) in
       let front : take (i + 1) items ≡ take i items ++ item ∷ [] = take_more items i item within ∙ ap (λ x. take i items ++ x ∷ []) (sym is) in
-      ap (λ taken. nearer next (least (again_after same spot_of taken (drop (i + 1) items)))) front
+      ap (λ taken. noting next (again_after same spot_of taken (drop (i + 1) items))) front
       ∙ noted-more first next (again_at (list_any (same item) (take i items)) (spot_of item)) (again_after same spot_of (take i items ++ item ∷ []) (drop (i + 1) items)) noted
-      ∙ ap (λ left. nearer first (least (again_after same spot_of (take i items) left))) (sym split) ∙ before
+      ∙ ap (λ left. noting first (again_after same spot_of (take i items) left)) (sym split) ∙ before
 
-  pub again-end : (i : ℕ) (first goal : Option Refusal) → length items ≤ i → nearer first (least (again_left i)) ≡ goal → first ≡ goal
+  pub again-end : (i : ℕ) (first goal : Noted) → length items ≤ i → noting first (again_left i) ≡ goal → first ≡ goal
   again-end i first goal all noted =
-      sym (nearer-none first) ∙ ap (λ left. nearer first (least (again_after same spot_of (take i items) left))) (sym (drop_all i items all)) ∙ noted
+      ap (λ left. noting first (again_after same spot_of (take i items) left)) (sym (drop_all i items all)) ∙ noted

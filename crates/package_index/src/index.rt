@@ -1,6 +1,7 @@
 ghost use Rattle.std.specs.Prelude.{◌≡◌, ◌<◌, ◌^◌, [], length, None, Some, option_copied, slice_get, IfOk, IfErr, IsSome, OnOk, flat_map};
 ghost use Rattle.std.specs.HashMap.{get};
-ghost use Rattle.plain_values.specs.Order.{IsClear, least, nearer};
+ghost use Rattle.plain_values.specs.Order.{IsClear};
+ghost use Rattle.noted_refusals.specs.Noted.{Tells, noting};
 ghost use Rattle.plain_values.specs.declared.refusal.Place.TheVariants.{Words as InWords};
 ghost use Rattle.package_index.specs.Duplicates.{IsDuplicate};
 ghost use Rattle.package_index.specs.inner.Duplicates.{packages_again};
@@ -15,7 +16,8 @@ use crate::package::Package;
 use crate::table::add;
 use crate::words::{Words, text_of};
 use aadl_syntax::{Decl, Identifier, PackageUnit, Ref, Unit};
-use plain_values::{Answer, Code, FirstRefusal, List, Mem, Name, Place, Refusal, Root};
+use noted_refusals::Refusals;
+use plain_values::{Answer, Code, List, Mem, Name, Place, Refusal, Root};
 use std::alloc::Global;
 use std::collections::HashMap;
 use std::marker::Model;
@@ -50,16 +52,17 @@ impl<'a> Index<'a> {
     /// The index of the units of each file.
     ///
     /// N1 where a second package has a name, or a second classifier of a package has a name and an item: the first by
-    /// place, at the later name.
-    pub fn new(alloc: Global, files: &'a [List<Unit>]) -> Answer<Index<'a>>
+    /// place, at the later name. They are noted, in place of what was noted before.
+    pub fn new(alloc: Global, files: &'a [List<Unit>], refusals: &mut Refusals) -> Answer<Index<'a>>
         ensures packages { IfOk result (λ index. index ≡ packages_of files.now) }
         ensures accepted { OnOk result (IsClear (IsDuplicate (packages_of files.now))) }
         ensures refused { IfErr result (StopsAtFirst (IsDuplicate (packages_of files.now))) }
+        ensures told { IfErr result (Tells (IsDuplicate (packages_of files.now)) refusals.new) }
     {
-        let mut first = FirstRefusal::new();
-        let packages = tables_of(alloc, files, &mut first)?;
-        let numbers = numbers_of(alloc, packages.items(), &mut first)?;
-        first.settle()?;
+        refusals.clear();
+        let packages = tables_of(alloc, files, refusals)?;
+        let numbers = numbers_of(alloc, packages.items(), refusals)?;
+        refusals.settle()?;
         Ok(Index { packages, numbers })
     }
 
@@ -242,13 +245,13 @@ fn bytes_of(item: &Option<Name>) -> Option<&[u8]>
 fn tables_of<'a>(
     alloc: Global,
     files: &'a [List<Unit>],
-    first: &mut FirstRefusal,
+    refusals: &mut Refusals,
 ) -> Mem<List<Package<'a>>>
-    ensures { IfOk result (λ packages. Gathered [] packages first.old first.new (packages_of files.now)) }
+    ensures { IfOk result (λ packages. Gathered [] packages refusals.old refusals.new (packages_of files.now)) }
 {
     let mut packages = List::new(alloc);
     for file in files {
-        add_file(alloc, &mut packages, file.items(), first)?;
+        add_file(alloc, &mut packages, file.items(), refusals)?;
     }
     Ok(packages)
 }
@@ -257,12 +260,12 @@ fn add_file<'a>(
     alloc: Global,
     packages: &mut List<Package<'a>>,
     units: &'a [Unit],
-    first: &mut FirstRefusal,
+    refusals: &mut Refusals,
 ) -> Mem<()>
-    ensures { OnOk result (Gathered packages.old packages.new first.old first.new (flat_map package_of units.now)) }
+    ensures { OnOk result (Gathered packages.old packages.new refusals.old refusals.new (flat_map package_of units.now)) }
 {
     for unit in units {
-        add_unit(alloc, packages, unit, first)?;
+        add_unit(alloc, packages, unit, refusals)?;
     }
     Ok(())
 }
@@ -271,12 +274,12 @@ fn add_unit<'a>(
     alloc: Global,
     packages: &mut List<Package<'a>>,
     unit: &'a Unit,
-    first: &mut FirstRefusal,
+    refusals: &mut Refusals,
 ) -> Mem<()>
-    ensures { OnOk result (Gathered packages.old packages.new first.old first.new (package_of unit.now)) }
+    ensures { OnOk result (Gathered packages.old packages.new refusals.old refusals.new (package_of unit.now)) }
 {
     if let Unit::Package(unit) = unit {
-        let tables = Package::of(alloc, unit, first)?;
+        let tables = Package::of(alloc, unit, refusals)?;
         packages.push(tables)?;
     }
     Ok(())
@@ -286,11 +289,11 @@ fn add_unit<'a>(
 fn numbers_of<'a>(
     alloc: Global,
     packages: &[Package<'a>],
-    first: &mut FirstRefusal,
+    refusals: &mut Refusals,
 ) -> Mem<HashMap<Words<'a>, u32>>
     requires { length packages.now < 2 ^ 32 }
     ensures table { IfOk result (λ table. Knows has_words packages.now (get same_words table)) }
-    ensures first { OnOk result (first.new ≡ nearer first.old (least (packages_again packages.now))) }
+    ensures noted { OnOk result (refusals.new ≡ noting refusals.old (packages_again packages.now)) }
 {
     let mut table = HashMap::new(alloc);
     for (number, package) in packages.iter().enumerate() {
@@ -300,7 +303,7 @@ fn numbers_of<'a>(
             Words::Identifiers(unit.name.items()),
             number as u32,
         )?;
-        first.note_if(!is_new, Code::DuplicateUnit, unit.spot);
+        refusals.note_if(!is_new, Code::DuplicateUnit, unit.spot);
     }
     Ok(table)
 }

@@ -1,6 +1,6 @@
 ghost use Rattle.std.specs.Prelude.{◌≡◌, ◌<◌, ◌^◌, length, IfOk, OnOk, option_copied, option_map, position, slice_get};
 ghost use Rattle.std.specs.HashMap.{get};
-ghost use Rattle.plain_values.specs.Order.{least, nearer};
+ghost use Rattle.noted_refusals.specs.Noted.{noting};
 ghost use Rattle.package_index.specs.inner.Duplicates.{classifiers_again};
 ghost use Rattle.package_index.specs.Lookup.{alias_in, declared, is_alias};
 ghost use Rattle.package_index.specs.inner.Tables.{Knows, has_alias, has_key, same_alias_key, same_key};
@@ -8,7 +8,8 @@ ghost use Rattle.package_index.specs.inner.Tables.{Knows, has_alias, has_key, sa
 use crate::table::add;
 use crate::words::text_of;
 use aadl_syntax::{Alias, Decl, Identifier, PackageUnit};
-use plain_values::{Code, FirstRefusal, Mem};
+use noted_refusals::Refusals;
+use plain_values::{Code, Mem};
 use std::alloc::Global;
 use std::collections::HashMap;
 use std::marker::Model;
@@ -44,12 +45,12 @@ impl<'a> Package<'a> {
     pub(crate) fn of(
         alloc: Global,
         unit: &'a PackageUnit,
-        first: &mut FirstRefusal,
+        refusals: &mut Refusals,
     ) -> Mem<Package<'a>>
         ensures unit { IfOk result (λ made. made ≡ unit.now) }
-        ensures first { OnOk result (first.new ≡ nearer first.old (least (classifiers_again unit.now.decls))) }
+        ensures noted { OnOk result (refusals.new ≡ noting refusals.old (classifiers_again unit.now.decls)) }
     {
-        let classifiers = classifiers_of(alloc, unit.decls.items(), first)?;
+        let classifiers = classifiers_of(alloc, unit.decls.items(), refusals)?;
         let aliases = aliases_of(alloc, unit.aliases.items())?;
         Ok(Package {
             unit,
@@ -102,11 +103,11 @@ impl<'a> Package<'a> {
 fn classifiers_of<'a>(
     alloc: Global,
     decls: &'a [Decl],
-    first: &mut FirstRefusal,
+    refusals: &mut Refusals,
 ) -> Mem<HashMap<(&'a [u8], Option<&'a [u8]>), u32>>
     requires { length decls.now < 2 ^ 32 }
     ensures table { IfOk result (λ table. Knows has_key decls.now (get same_key table)) }
-    ensures first { OnOk result (first.new ≡ nearer first.old (least (classifiers_again decls.now))) }
+    ensures noted { OnOk result (refusals.new ≡ noting refusals.old (classifiers_again decls.now)) }
 {
     let mut table = HashMap::new(alloc);
     for (number, decl) in decls.iter().enumerate() {
@@ -115,7 +116,7 @@ fn classifiers_of<'a>(
             (decl.name.text(), text_of(&decl.item)),
             number as u32,
         )?;
-        first.note_if(!is_new, Code::DuplicateUnit, decl.spot);
+        refusals.note_if(!is_new, Code::DuplicateUnit, decl.spot);
     }
     Ok(table)
 }

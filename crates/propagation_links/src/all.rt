@@ -16,7 +16,8 @@ use crate::pointed::Pointed;
 use crate::refused::note_faults;
 use component_extension::Effective;
 use instantiator::Instance;
-use plain_values::{Answer, Code, FirstRefusal, List, Place, Refusal};
+use noted_refusals::Refusals;
+use plain_values::{Answer, Code, List, Place, Refusal};
 use propagation_points::Points;
 use std::alloc::Global;
 
@@ -81,9 +82,9 @@ fn add_effective<'a>(
 ) -> Answer<()>
     ensures { MatchResult result (λ _. Linked pointed.now number effective.now links.old links.new) (StopsAt (least (refusals_in pointed.now number effective.now))) }
 {
-    let mut first = FirstRefusal::new();
-    note_faults(&mut first, pointed, number, effective);
-    first.settle()?;
+    let mut refusals = Refusals::new(alloc);
+    note_faults(&mut refusals, pointed, number, effective);
+    refusals.settle()?;
     add_links(links, pointed, number, effective)?;
     Ok(())
 }

@@ -1,5 +1,5 @@
 ghost use Rattle.std.specs.Prelude.{◌≡◌, ◌++◌, true, flat_map};
-ghost use Rattle.plain_values.specs.Order.{least, nearer};
+ghost use Rattle.noted_refusals.specs.Noted.{noting};
 ghost use Rattle.plain_values.specs.declared.refusal.Code.TheVariants.{ConnectionError};
 ghost use Rattle.plain_values.specs.Refusal.{refused_so};
 ghost use Rattle.propagation_links.specs.Links.{is_apart};
@@ -10,127 +10,128 @@ use crate::links::{ends_of, is_access, is_apart};
 use crate::pointed::Pointed;
 use aadl_syntax::{Connection, End, Ends, Identifier, UserPath};
 use component_extension::{Effective, InClause, Inherited};
-use plain_values::{Code, FirstRefusal, Spot};
+use noted_refusals::Refusals;
+use plain_values::{Code, Spot};
 
 /// Notes what is refused of the component of a number.
-#[tactic(auto, using(plain_values::proofs::Noting::noted_more))]
+#[tactic(auto, using(noted_refusals::proofs::Noting::noted_more))]
 pub(crate) fn note_faults<'a>(
-    first: &mut FirstRefusal,
+    refusals: &mut Refusals,
     pointed: &Pointed<'_, '_, 'a>,
     number: u32,
     effective: &Effective<'a>,
 )
-    ensures { first.new ≡ nearer first.old (least (refusals_in pointed.now number effective.now)) }
+    ensures { refusals.new ≡ noting refusals.old (refusals_in pointed.now number effective.now) }
 {
     note_connections(
-        first,
+        refusals,
         pointed,
         number,
         effective.members.connections.items(),
     );
     note_paths(
-        first,
+        refusals,
         pointed,
         number,
         effective.propagations.user_paths.items(),
     );
-    note_connection_errors(first, effective.others.connection_errors.items());
+    note_connection_errors(refusals, effective.others.connection_errors.items());
 }
 
 fn note_connections<'a>(
-    first: &mut FirstRefusal,
+    refusals: &mut Refusals,
     pointed: &Pointed<'_, '_, 'a>,
     number: u32,
     connections: &[Inherited<'a, Connection>],
 )
-    ensures { first.new ≡ nearer first.old (least (flat_map (connection_refusals pointed.now number) connections.now)) }
+    ensures { refusals.new ≡ noting refusals.old (flat_map (connection_refusals pointed.now number) connections.now) }
 {
     for connection in connections {
-        note_connection(first, pointed, number, connection);
+        note_connection(refusals, pointed, number, connection);
     }
 }
 
 fn note_connection<'a>(
-    first: &mut FirstRefusal,
+    refusals: &mut Refusals,
     pointed: &Pointed<'_, '_, 'a>,
     number: u32,
     connection: &Inherited<'a, Connection>,
 )
-    ensures { first.new ≡ nearer first.old (least (connection_refusals pointed.now number connection.now)) }
+    ensures { refusals.new ≡ noting refusals.old (connection_refusals pointed.now number connection.now) }
 {
     let access = is_access(connection.nearest().item().kind);
     if let Some(ends) = ends_of(connection) {
-        note_ends(first, pointed, number, access, ends);
+        note_ends(refusals, pointed, number, access, ends);
     }
 }
 
-#[tactic(auto, using(plain_values::proofs::Noting::noted_more))]
-fn note_ends(first: &mut FirstRefusal, pointed: &Pointed, number: u32, access: bool, ends: &Ends)
-    ensures { first.new ≡ nearer first.old (least (connection_end_refusals pointed.now number access (is_apart ends.now) ends.now.from ++ connection_end_refusals pointed.now number access (is_apart ends.now) ends.now.to)) }
+#[tactic(auto, using(noted_refusals::proofs::Noting::noted_more))]
+fn note_ends(refusals: &mut Refusals, pointed: &Pointed, number: u32, access: bool, ends: &Ends)
+    ensures { refusals.new ≡ noting refusals.old (connection_end_refusals pointed.now number access (is_apart ends.now) ends.now.from ++ connection_end_refusals pointed.now number access (is_apart ends.now) ends.now.to) }
 {
     let apart = is_apart(ends);
-    note_connection_end(first, pointed, number, access, apart, &ends.from);
-    note_connection_end(first, pointed, number, access, apart, &ends.to);
+    note_connection_end(refusals, pointed, number, access, apart, &ends.from);
+    note_connection_end(refusals, pointed, number, access, apart, &ends.to);
 }
 
 fn note_connection_end(
-    first: &mut FirstRefusal,
+    refusals: &mut Refusals,
     pointed: &Pointed,
     number: u32,
     access: bool,
     apart: bool,
     end: &End,
 )
-    ensures { first.new ≡ nearer first.old (least (connection_end_refusals pointed.now number access apart end.now)) }
+    ensures { refusals.new ≡ noting refusals.old (connection_end_refusals pointed.now number access apart end.now) }
 {
     if end.names.items().len() >= 3 {
-        first.note_if(true, Code::FeatureGroup, end.spot);
+        refusals.note_if(true, Code::FeatureGroup, end.spot);
     } else if !apart {
-        note_unknown(first, pointed, number, access, end);
+        note_unknown(refusals, pointed, number, access, end);
     }
 }
 
-fn note_unknown(first: &mut FirstRefusal, pointed: &Pointed, number: u32, access: bool, end: &End)
-    ensures { first.new ≡ nearer first.old (least (unknown_end pointed.now number access end.now)) }
+fn note_unknown(refusals: &mut Refusals, pointed: &Pointed, number: u32, access: bool, end: &End)
+    ensures { refusals.new ≡ noting refusals.old (unknown_end pointed.now number access end.now) }
 {
     let is_known = pointed.means_end(number, access, end.names.items());
-    first.note_if(!is_known, Code::UnknownEnd, end.spot);
+    refusals.note_if(!is_known, Code::UnknownEnd, end.spot);
 }
 
 fn note_paths<'a>(
-    first: &mut FirstRefusal,
+    refusals: &mut Refusals,
     pointed: &Pointed<'_, '_, 'a>,
     number: u32,
     paths: &[InClause<'a, UserPath>],
 )
-    ensures { first.new ≡ nearer first.old (least (flat_map (path_refusals pointed.now number) paths.now)) }
+    ensures { refusals.new ≡ noting refusals.old (flat_map (path_refusals pointed.now number) paths.now) }
 {
     for path in paths {
-        note_path(first, pointed, number, path.item());
+        note_path(refusals, pointed, number, path.item());
     }
 }
 
-#[tactic(auto, using(plain_values::proofs::Noting::noted_more))]
-fn note_path(first: &mut FirstRefusal, pointed: &Pointed, number: u32, path: &UserPath)
-    ensures { first.new ≡ nearer first.old (least (path_end_refusals pointed.now number path.now.from ++ path_end_refusals pointed.now number path.now.to)) }
+#[tactic(auto, using(noted_refusals::proofs::Noting::noted_more))]
+fn note_path(refusals: &mut Refusals, pointed: &Pointed, number: u32, path: &UserPath)
+    ensures { refusals.new ≡ noting refusals.old (path_end_refusals pointed.now number path.now.from ++ path_end_refusals pointed.now number path.now.to) }
 {
-    note_path_end(first, pointed, number, &path.from);
-    note_path_end(first, pointed, number, &path.to);
+    note_path_end(refusals, pointed, number, &path.from);
+    note_path_end(refusals, pointed, number, &path.to);
 }
 
-fn note_path_end(first: &mut FirstRefusal, pointed: &Pointed, number: u32, end: &End)
-    ensures { first.new ≡ nearer first.old (least (path_end_refusals pointed.now number end.now)) }
+fn note_path_end(refusals: &mut Refusals, pointed: &Pointed, number: u32, end: &End)
+    ensures { refusals.new ≡ noting refusals.old (path_end_refusals pointed.now number end.now) }
 {
     let is_known = pointed.means_point(number, end.names.items());
-    first.note_if(!is_known, Code::UnknownEnd, end.spot);
+    refusals.note_if(!is_known, Code::UnknownEnd, end.spot);
 }
 
 /// Notes each block of connection errors.
-fn note_connection_errors(first: &mut FirstRefusal, blocks: &[Spot])
-    ensures { first.new ≡ nearer first.old (least (flat_map (refused_so true ConnectionError) blocks.now)) }
+fn note_connection_errors(refusals: &mut Refusals, blocks: &[Spot])
+    ensures { refusals.new ≡ noting refusals.old (flat_map (refused_so true ConnectionError) blocks.now) }
 {
     for spot in blocks {
-        first.note_if(true, Code::ConnectionError, *spot);
+        refusals.note_if(true, Code::ConnectionError, *spot);
     }
 }
 

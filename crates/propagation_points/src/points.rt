@@ -1,5 +1,5 @@
 ghost use Rattle.std.specs.Prelude.{◌≡◌, [], IfOk, OnOk, flat_map, map, fold, option_copied, option_map};
-ghost use Rattle.plain_values.specs.Order.{least, nearer};
+ghost use Rattle.noted_refusals.specs.Noted.{noting};
 ghost use Rattle.package_index.specs.Names.{only};
 ghost use Rattle.propagation_points.specs.Points.{fault_at, keep_first, place_named, point_refusals, point_named, points_of, propagation_refusals, side_of, side_with, with_sides};
 ghost use Rattle.propagation_points.specs.inner.Points.{NamesDiffer};
@@ -11,7 +11,8 @@ use crate::side::Side;
 use aadl_syntax::PointItem;
 use component_extension::{Effective, InClause};
 use error_types::{Reading, TypeTable};
-use plain_values::{Code, FirstRefusal, List, Mem};
+use noted_refusals::Refusals;
+use plain_values::{Code, List, Mem};
 use std::alloc::Global;
 use std::collections::HashMap;
 use std::marker::Model;
@@ -112,11 +113,11 @@ pub fn points_of<'a>(
 ) -> Mem<Points<'a>>
     ensures kept { reading.new.types ≡ reading.old.types }
     ensures points { IfOk result (λ points. points ≡ points_of reading.old.types effective.now) }
-    ensures first { OnOk result (reading.new.first ≡ nearer reading.old.first (least (point_refusals reading.old.types effective.now))) }
+    ensures noted { OnOk result (reading.new.refusals ≡ noting reading.old.refusals (point_refusals reading.old.types effective.now)) }
 {
     let points = made_points(alloc, effective, &mut reading.types)?;
     note_propagations(
-        &mut reading.first,
+        &mut reading.refusals,
         &points,
         effective.propagations.points.items(),
     );
@@ -184,26 +185,26 @@ fn side_with(is_open: bool, types: Option<List<u32>>) -> Side
 
 /// Notes the refusals of propagations at these points.
 fn note_propagations<'a>(
-    first: &mut FirstRefusal,
+    refusals: &mut Refusals,
     points: &Points<'a>,
     propagations: &[InClause<'a, PointItem>],
 )
-    ensures { first.new ≡ nearer first.old (least (flat_map (propagation_refusals points.now) propagations.now)) }
+    ensures { refusals.new ≡ noting refusals.old (flat_map (propagation_refusals points.now) propagations.now) }
 {
     for propagation in propagations {
-        note_propagation(first, points, propagation.item());
+        note_propagation(refusals, points, propagation.item());
     }
 }
 
-fn note_propagation(first: &mut FirstRefusal, points: &Points, propagation: &PointItem)
-    ensures { first.new ≡ nearer first.old (least (fault_at points.now propagation.now.point (only propagation.now.point.names))) }
+fn note_propagation(refusals: &mut Refusals, points: &Points, propagation: &PointItem)
+    ensures { refusals.new ≡ noting refusals.old (fault_at points.now propagation.now.point (only propagation.now.point.names)) }
 {
     let spot = propagation.point.spot;
     match only_name(propagation.point.names.items()) {
         Some(name) => {
             let is_unknown = points.place(name.text()).is_none();
-            first.note_if(is_unknown, Code::UnknownPoint, spot);
+            refusals.note_if(is_unknown, Code::UnknownPoint, spot);
         }
-        None => first.note_if(true, Code::FeatureGroup, spot),
+        None => refusals.note_if(true, Code::FeatureGroup, spot),
     }
 }

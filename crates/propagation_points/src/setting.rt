@@ -1,5 +1,5 @@
 ghost use Rattle.std.specs.Prelude.{◌≡◌, [], IfOk, OnOk, Some, option_copied, slice_get, unwrap_or};
-ghost use Rattle.plain_values.specs.Order.{least, nearer};
+ghost use Rattle.noted_refusals.specs.Noted.{noting};
 ghost use Rattle.propagation_points.specs.States.{held_by, place_of_sort, sort_refusals};
 
 use crate::held::{Held, selected};
@@ -78,7 +78,7 @@ impl<'s, 'a> Setting<'s, 'a> {
     ) -> Mem<Option<ReachedPoint>>
         ensures kept { reading.new.types ≡ reading.old.types }
         ensures reached { IfOk result (λ found. found ≡ reached_in reading.old.types self.now used.now) }
-        ensures first { OnOk result (reading.new.first ≡ nearer reading.old.first (least (refusals_in reading.old.types self.now used.now))) }
+        ensures noted { OnOk result (reading.new.refusals ≡ noting reading.old.refusals (refusals_in reading.old.types self.now used.now)) }
     {
         reached(alloc, self.points, reading, self.scope, used)
     }
@@ -93,7 +93,7 @@ impl<'s, 'a> Setting<'s, 'a> {
     ) -> Mem<Held>
         ensures kept { reading.new.types ≡ reading.old.types }
         ensures held { IfOk result (λ held. held ≡ held_by reading.old.types self.now.scope sort.now set.now) }
-        ensures first { OnOk result (reading.new.first ≡ nearer reading.old.first (least (sort_refusals reading.old.types self.now.scope (Some sort.now) set.now))) }
+        ensures noted { OnOk result (reading.new.refusals ≡ noting reading.old.refusals (sort_refusals reading.old.types self.now.scope (Some sort.now) set.now)) }
     {
         let reach = reach_within(alloc, reading, self.scope, Some(types_of(sort)), set)?;
         selected(alloc, sort.first(), sort.types(), &reach)
@@ -107,7 +107,7 @@ impl<'s, 'a> Setting<'s, 'a> {
     }
 
     /// What a reference to a state selects. N11 and N10 are noted.
-    #[tactic(auto, using(plain_values::proofs::Noting::noted_more))]
+    #[tactic(auto, using(noted_refusals::proofs::Noting::noted_more))]
     pub fn refer<'t>(
         &self,
         alloc: Global,
@@ -116,12 +116,14 @@ impl<'s, 'a> Setting<'s, 'a> {
     ) -> Mem<Option<Held>>
         ensures kept { reading.new.types ≡ reading.old.types }
         ensures held { IfOk result (λ held. held ≡ held_in reading.old.types self.now state.now) }
-        ensures first { OnOk result (reading.new.first ≡ nearer reading.old.first (least (state_refusals_in reading.old.types self.now state.now))) }
+        ensures noted { OnOk result (reading.new.refusals ≡ noting reading.old.refusals (state_refusals_in reading.old.types self.now state.now)) }
     {
         match self.states.find(state.name.text()) {
             Some(sort) => Ok(Some(self.held(alloc, reading, sort, &state.set)?)),
             None => {
-                reading.first.note_if(true, Code::UnknownState, state.spot);
+                reading
+                    .refusals
+                    .note_if(true, Code::UnknownState, state.spot);
                 Ok(None)
             }
         }

@@ -1,5 +1,5 @@
 ghost use Rattle.std.specs.Prelude.{◌≡◌, IfOk, None, OnOk, cond, option_copied, option_map};
-ghost use Rattle.plain_values.specs.Order.{least, nearer};
+ghost use Rattle.noted_refusals.specs.Noted.{noting};
 ghost use Rattle.propagation_points.specs.Uses.{declared_for, is_absent, is_outside, reach_of, reached, set_outside, use_refusals, used_place, used_side};
 
 use crate::declared::types_in;
@@ -104,11 +104,11 @@ pub fn reached<'a>(
 ) -> Mem<Option<ReachedPoint>>
     ensures kept { reading.new.types ≡ reading.old.types }
     ensures reached { IfOk result (λ found. found ≡ reached reading.old.types points.now (option_copied scope.entry) used.now) }
-    ensures first { OnOk result (reading.new.first ≡ nearer reading.old.first (least (use_refusals reading.old.types points.now (option_copied scope.entry) used.now))) }
+    ensures noted { OnOk result (reading.new.refusals ≡ noting reading.old.refusals (use_refusals reading.old.types points.now (option_copied scope.entry) used.now)) }
 {
     let side = used.side(points);
     let is_absent = is_absent(side);
-    reading.first.note_if(is_absent, used.unknown, used.spot);
+    reading.refusals.note_if(is_absent, used.unknown, used.spot);
     let reach = reach_within(alloc, reading, scope, declared_for(side), used.set)?;
     Ok(reached_at(used.place(points), is_absent, reach))
 }
@@ -135,7 +135,7 @@ pub(crate) fn reach_within<'a>(
 ) -> Mem<Reach>
     ensures kept { reading.new.types ≡ reading.old.types }
     ensures reach { IfOk result (λ reach. reach ≡ reach_of reading.old.types (option_copied scope.entry) set.now) }
-    ensures first { OnOk result (reading.new.first ≡ nearer reading.old.first (least (set_outside reading.old.types (option_copied scope.entry) (option_map (λ types. types.now) declared.entry) set.now))) }
+    ensures noted { OnOk result (reading.new.refusals ≡ noting reading.old.refusals (set_outside reading.old.types (option_copied scope.entry) (option_map (λ types. types.now) declared.entry) set.now)) }
 {
     let Some(set) = set else {
         return Ok(Reach::Whole);
@@ -143,7 +143,7 @@ pub(crate) fn reach_within<'a>(
     let reached = types_in(alloc, &mut reading.types, scope, set)?;
     let is_outside = is_outside(reached.items(), declared);
     reading
-        .first
+        .refusals
         .note_if(is_outside, Code::NotContained, set.spot);
     Ok(Reach::Only(reached))
 }

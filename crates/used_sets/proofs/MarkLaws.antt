@@ -1,8 +1,8 @@
 -- Rows of marks, set one after the other.
 use Rattle.std.proofs.Common.{ℕ, ◌+◌, ◌≡◌, ◌<◌, Bool, true, false, ◌||◌, List, [], ◌∷◌, ◌++◌, length, drop, get_or, slice_index_or, refl, sym, ap, ◌∙◌, subst, suc, add-one, drop-cons, arith, Option}
 use Rattle.plain_values.specs.declared.refusal.Refusal.{Refusal}
-use Rattle.plain_values.specs.Order.{least, nearer}
-use Rattle.plain_values.proofs.OrderLaws.{noted-more}
+use Rattle.noted_refusals.specs.Noted.{Noted, noting}
+use Rattle.noted_refusals.proofs.Laws.{noted-more}
 use Rattle.plain_values.specs.Numbered.{numbered_from}
 use Rattle.used_sets.specs.inner.Marks.{Marked}
 
@@ -38,8 +38,8 @@ numbered-same f g number (part ∷ parts) same =
     ∙ ap (λ rest. g number part ++ rest) (numbered-same f g (number + 1) parts (λ n each within. same n each (let more : n < number + suc (length parts) = omega (arith, within) in more)))
 
 -- the refusals of the numbered parts that are left, with one part less
-pub numbered-noting : {Part : Type 0} (f : ℕ → Part → List Refusal) (parts : List Part) (i : ℕ) (part : Part) (first next goal : Option Refusal) → i < length parts → part ≡ get_or parts i part
-    → next ≡ nearer first (least (f i part)) → nearer first (least (numbered_from f i (drop i parts))) ≡ goal → nearer next (least (numbered_from f (i + 1) (drop (i + 1) parts))) ≡ goal
+pub numbered-noting : {Part : Type 0} (f : ℕ → Part → List Refusal) (parts : List Part) (i : ℕ) (part : Part) (first next goal : Noted) → i < length parts → part ≡ get_or parts i part
+    → next ≡ noting first (f i part) → noting first (numbered_from f i (drop i parts)) ≡ goal → noting next (numbered_from f (i + 1) (drop (i + 1) parts)) ≡ goal
 numbered-noting f parts i part first next goal within is noted before =
     let left : drop i parts ≡ part ∷ drop (i + 1) parts = drop-cons parts i part within ∙ ap (λ t. t ∷ drop (suc i) parts) (sym is) ∙ ap (λ n. part ∷ drop n parts) (sym (add-one i)) in
-    noted-more first next (f i part) (numbered_from f (i + 1) (drop (i + 1) parts)) noted ∙ ap (λ all. nearer first (least (numbered_from f i all))) (sym left) ∙ before
+    noted-more first next (f i part) (numbered_from f (i + 1) (drop (i + 1) parts)) noted ∙ ap (λ all. noting first (numbered_from f i all)) (sym left) ∙ before

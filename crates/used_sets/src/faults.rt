@@ -1,5 +1,5 @@
 ghost use Rattle.std.specs.Prelude.{◌≡◌, ◌++◌, ◌&&◌, [], cond, false, nat_eq, ℕ, IfOk, OnOk, flat_map, length, option_copied, slice_get, slice_index_or};
-ghost use Rattle.plain_values.specs.Order.{least, nearer};
+ghost use Rattle.noted_refusals.specs.Noted.{noting};
 ghost use Rattle.error_libraries.specs.Libraries.{unknown_libraries};
 ghost use Rattle.plain_values.specs.Numbered.{numbered_from};
 ghost use Rattle.used_sets.specs.inner.Marks.{Marked};
@@ -12,13 +12,14 @@ use component_extension::{Behavior, ClauseText, Effective, InClause, Propagation
 use error_libraries::Scope;
 use error_machines::UsedMachine;
 use error_types::{Reading, TypeTable};
-use plain_values::{FirstRefusal, Mem};
+use noted_refusals::Refusals;
+use plain_values::Mem;
 use propagation_points::scopes_of;
 use std::alloc::Global;
 
 /// Notes the refusals of the written sets that a component uses: N2, N7, N8 and P4 of the names in the sets of its effective
 /// items and of its machine, and N2 of the libraries that their texts use.
-#[tactic(auto, using(plain_values::proofs::Noting::noted_more))]
+#[tactic(auto, using(noted_refusals::proofs::Noting::noted_more))]
 pub fn note_used_sets<'a>(
     alloc: Global,
     effective: &Effective<'a>,
@@ -26,7 +27,7 @@ pub fn note_used_sets<'a>(
     reading: &mut Reading<'_, 'a>,
 ) -> Mem<()>
     ensures kept { reading.new.types ≡ reading.old.types }
-    ensures first { OnOk result (reading.new.first ≡ nearer reading.old.first (least (used_set_refusals reading.old.types machine.now effective.now))) }
+    ensures noted { OnOk result (reading.new.refusals ≡ noting reading.old.refusals (used_set_refusals reading.old.types machine.now effective.now)) }
 {
     note_clauses(alloc, effective, reading)?;
     note_machine(alloc, machine, reading)
@@ -39,7 +40,7 @@ fn note_clauses<'a>(
     reading: &mut Reading<'_, 'a>,
 ) -> Mem<()>
     ensures kept { reading.new.types ≡ reading.old.types }
-    ensures first { OnOk result (reading.new.first ≡ nearer reading.old.first (least (clause_set_refusals reading.old.types effective.now))) }
+    ensures noted { OnOk result (reading.new.refusals ≡ noting reading.old.refusals (clause_set_refusals reading.old.types effective.now)) }
 {
     let clauses = effective.clauses.items();
     let scopes = scopes_of(alloc, &reading.types, clauses)?;
@@ -73,20 +74,20 @@ fn note_with<'a>(
     requires none { (number : ℕ) → slice_index_or marks.old number false ≡ false }
     requires long { length marks.old ≡ length effective.now.clauses }
     ensures kept { reading.new.types ≡ reading.old.types }
-    ensures first { OnOk result (reading.new.first ≡ nearer reading.old.first (least (refusals_with reading.old.types scopes.now effective.now))) }
+    ensures noted { OnOk result (reading.new.refusals ≡ noting reading.old.refusals (refusals_with reading.old.types scopes.now effective.now)) }
 {
     note_effective(alloc, effective, reading, scopes, marks)?;
     note_uses(
         &reading.types,
         effective.clauses.items(),
         marks,
-        &mut reading.first,
+        &mut reading.refusals,
     );
     Ok(())
 }
 
 /// Notes the refusals of the sets of the effective items of a component, and marks the clauses in which they stand.
-#[tactic(auto, using(plain_values::proofs::Noting::noted_more))]
+#[tactic(auto, using(noted_refusals::proofs::Noting::noted_more))]
 fn note_effective<'a>(
     alloc: Global,
     effective: &Effective<'a>,
@@ -95,7 +96,7 @@ fn note_effective<'a>(
     marks: &mut [bool],
 ) -> Mem<()>
     ensures kept { reading.new.types ≡ reading.old.types }
-    ensures first { OnOk result (reading.new.first ≡ nearer reading.old.first (least (effective_refusals reading.old.types scopes.now effective.now))) }
+    ensures noted { OnOk result (reading.new.refusals ≡ noting reading.old.refusals (effective_refusals reading.old.types scopes.now effective.now)) }
     ensures marks { OnOk result (Marked marks.old marks.new (is_used effective.now)) }
 {
     note_propagations(alloc, &effective.propagations, reading, scopes, marks)?;
@@ -103,7 +104,7 @@ fn note_effective<'a>(
 }
 
 /// Notes the refusals of the sets of points and flows, and marks the clauses in which they stand.
-#[tactic(auto, using(plain_values::proofs::Noting::noted_more))]
+#[tactic(auto, using(noted_refusals::proofs::Noting::noted_more))]
 fn note_propagations<'a>(
     alloc: Global,
     propagations: &Propagations<'a>,
@@ -112,7 +113,7 @@ fn note_propagations<'a>(
     marks: &mut [bool],
 ) -> Mem<()>
     ensures kept { reading.new.types ≡ reading.old.types }
-    ensures first { OnOk result (reading.new.first ≡ nearer reading.old.first (least (propagation_refusals reading.old.types scopes.now propagations.now))) }
+    ensures noted { OnOk result (reading.new.refusals ≡ noting reading.old.refusals (propagation_refusals reading.old.types scopes.now propagations.now)) }
     ensures marks { OnOk result (Marked marks.old marks.new (propagation_uses propagations.now)) }
 {
     let points = propagations.points.items();
@@ -131,7 +132,7 @@ fn note_behavior<'a>(
     marks: &mut [bool],
 ) -> Mem<()>
     ensures kept { reading.new.types ≡ reading.old.types }
-    ensures first { OnOk result (reading.new.first ≡ nearer reading.old.first (least (behavior_refusals reading.old.types scopes.now behavior.now))) }
+    ensures noted { OnOk result (reading.new.refusals ≡ noting reading.old.refusals (behavior_refusals reading.old.types scopes.now behavior.now)) }
     ensures marks { OnOk result (Marked marks.old marks.new (behavior_uses behavior.now)) }
 {
     let events = behavior.events.items();
@@ -154,7 +155,7 @@ fn note_items<'a, T: HasSets>(
     marks: &mut [bool],
 ) -> Mem<()>
     ensures kept { reading.new.types ≡ reading.old.types }
-    ensures first { OnOk result (reading.new.first ≡ nearer reading.old.first (least (items_refusals T.sets reading.old.types scopes.now items.now))) }
+    ensures noted { OnOk result (reading.new.refusals ≡ noting reading.old.refusals (items_refusals T.sets reading.old.types scopes.now items.now)) }
     ensures marks { OnOk result (Marked marks.old marks.new (use_clause T.sets items.now)) }
 {
     for item in items {
@@ -172,7 +173,7 @@ fn note_item<'a, T: HasSets>(
     marks: &mut [bool],
 ) -> Mem<()>
     ensures kept { reading.new.types ≡ reading.old.types }
-    ensures first { OnOk result (reading.new.first ≡ nearer reading.old.first (least (item_refusals T.sets reading.old.types scopes.now item.now))) }
+    ensures noted { OnOk result (reading.new.refusals ≡ noting reading.old.refusals (item_refusals T.sets reading.old.types scopes.now item.now)) }
     ensures marks { OnOk result (Marked marks.old marks.new (λ number. uses_clause T.sets number item.now)) }
 {
     let mut sets = WrittenSets::new(alloc);
@@ -211,7 +212,7 @@ fn note_sets<'a>(
     sets: &WrittenSets<'a>,
 ) -> Mem<()>
     ensures kept { reading.new.types ≡ reading.old.types }
-    ensures first { OnOk result (reading.new.first ≡ nearer reading.old.first (least (flat_map (set_fault reading.old.types (option_copied scope.entry)) sets.now))) }
+    ensures noted { OnOk result (reading.new.refusals ≡ noting reading.old.refusals (flat_map (set_fault reading.old.types (option_copied scope.entry)) sets.now)) }
 {
     for set in sets.sets() {
         note_set(alloc, reading, scope, set)?;
@@ -227,7 +228,7 @@ fn note_set<'a>(
     set: &'a TypeSet,
 ) -> Mem<()>
     ensures kept { reading.new.types ≡ reading.old.types }
-    ensures first { OnOk result (reading.new.first ≡ nearer reading.old.first (least (set_fault reading.old.types (option_copied scope.entry) set.now))) }
+    ensures noted { OnOk result (reading.new.refusals ≡ noting reading.old.refusals (set_fault reading.old.types (option_copied scope.entry) set.now)) }
 {
     if let Some(scope) = scope {
         reading.denote(alloc, scope, set)?;
@@ -240,9 +241,9 @@ fn note_uses(
     types: &TypeTable<'_, '_>,
     clauses: &[ClauseText<'_>],
     marks: &[bool],
-    first: &mut FirstRefusal,
+    refusals: &mut Refusals,
 )
-    ensures { first.new ≡ nearer first.old (least (numbered_from (uses_fault types.now (λ number. slice_index_or marks.now number false)) 0 clauses.now)) }
+    ensures { refusals.new ≡ noting refusals.old (numbered_from (uses_fault types.now (λ number. slice_index_or marks.now number false)) 0 clauses.now) }
 {
     for (number, clause) in clauses.iter().enumerate() {
         let uses = clause.item().uses.items();
@@ -251,7 +252,7 @@ fn note_uses(
             is_marked(marks, number),
             clause.package(),
             uses,
-            first,
+            refusals,
         );
     }
 }
@@ -269,7 +270,7 @@ fn note_machine<'a>(
     reading: &mut Reading<'_, 'a>,
 ) -> Mem<()>
     ensures kept { reading.new.types ≡ reading.old.types }
-    ensures first { OnOk result (reading.new.first ≡ nearer reading.old.first (least (machine_set_refusals reading.old.types machine.now))) }
+    ensures noted { OnOk result (reading.new.refusals ≡ noting reading.old.refusals (machine_set_refusals reading.old.types machine.now)) }
 {
     if let Some(machine) = machine {
         let sets = machine_sets(alloc, machine.decl())?;
@@ -279,7 +280,7 @@ fn note_machine<'a>(
 }
 
 /// Notes the refusals of the sets of a machine, and of the libraries that it uses, if it has a set.
-#[tactic(auto, using(plain_values::proofs::Noting::noted_more))]
+#[tactic(auto, using(noted_refusals::proofs::Noting::noted_more))]
 fn note_machine_sets<'a>(
     alloc: Global,
     reading: &mut Reading<'_, 'a>,
@@ -287,7 +288,7 @@ fn note_machine_sets<'a>(
     sets: &WrittenSets<'a>,
 ) -> Mem<()>
     ensures kept { reading.new.types ≡ reading.old.types }
-    ensures first { OnOk result (reading.new.first ≡ nearer reading.old.first (least (sets_refusals reading.old.types machine.now sets.now))) }
+    ensures noted { OnOk result (reading.new.refusals ≡ noting reading.old.refusals (sets_refusals reading.old.types machine.now sets.now)) }
 {
     let uses = machine.decl().uses.items();
     note_unknown_if(
@@ -295,7 +296,7 @@ fn note_machine_sets<'a>(
         is_some_set(sets),
         machine.package(),
         uses,
-        &mut reading.first,
+        &mut reading.refusals,
     );
     let scope = reading.types.text_scope(alloc, machine.package(), uses)?;
     note_sets(alloc, reading, Some(&scope), sets)?;
@@ -307,12 +308,12 @@ fn note_unknown_if(
     is_so: bool,
     home: u32,
     uses: &[Ref],
-    first: &mut FirstRefusal,
+    refusals: &mut Refusals,
 )
-    ensures { first.new ≡ nearer first.old (least (cond is_so (unknown_libraries types.now.packages home uses.now) [])) }
+    ensures { refusals.new ≡ noting refusals.old (cond is_so (unknown_libraries types.now.packages home uses.now) []) }
 {
     if is_so {
-        types.note_unknown(home, uses, first);
+        types.note_unknown(home, uses, refusals);
     }
 }
 

@@ -9,7 +9,7 @@ use Rattle.aadl_syntax.specs.declared.core_model.Decl.{Decl}
 use Rattle.aadl_syntax.specs.declared.core_model.PackageUnit.{PackageUnit}
 use Rattle.package_index.specs.declared.words.Words.{Words}
 use Rattle.plain_values.specs.declared.refusal.Refusal.{Refusal}
-use Rattle.plain_values.specs.Order.{least, nearer}
+use Rattle.noted_refusals.specs.Noted.{Noted, noting}
 use Rattle.package_index.specs.inner.Duplicates.{classifiers_again}
 use Rattle.package_index.specs.Names.{is_same_name}
 use Rattle.package_index.specs.inner.Names.{names_of}
@@ -65,8 +65,8 @@ same_alias_key a b = beq a.0 b.0 && pointwise nat_eq a.1.now b.1.now
 abbrev pub has_alias : AliasKey → Alias → Bool
 has_alias key alias = is_alias key.0 key.1.now alias
 
--- The packages are those before and then these, and what is noted is the first of what was noted before and of the
+-- The packages are those before and then these, and what is noted is what was noted before and then the
 -- classifiers of these that were declared before.
-pub record Gathered (before after : List PackageUnit) (noted_before noted_after : Option Refusal) (units : List PackageUnit) : Type 0 where
+pub record Gathered (before after : List PackageUnit) (noted_before noted_after : Noted) (units : List PackageUnit) : Type 0 where
   pub packages : after ≡ before ++ units
-  pub first : noted_after ≡ nearer noted_before (least (flat_map (λ unit. classifiers_again unit.decls) units))
+  pub first : noted_after ≡ noting noted_before (flat_map (λ unit. classifiers_again unit.decls) units)

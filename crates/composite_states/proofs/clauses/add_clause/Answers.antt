@@ -1,9 +1,9 @@
 use Rattle.std.proofs.Common.{◌≡◌, ◌&&◌, is_none, ap, ◌∙◌}
 use Rattle.std.proofs.lemmas.Result.{on_ok_weaker}
-use Rattle.plain_values.specs.Order.{least, nearer}
+use Rattle.noted_refusals.specs.Noted.{noting}
 use Rattle.plain_values.specs.declared.refusal.Code.TheVariants.{Others}
 use Rattle.plain_values.specs.Refusal.{refused_so}
-use Rattle.plain_values.proofs.Noted.{noted-three}
+use Rattle.noted_refusals.proofs.Laws.{noted-three}
 use Rattle.propagation_points.specs.Settings.{state_refusals_in}
 use Rattle.propagation_points.specs.States.{place_of_sort}
 use Rattle.composite_states.specs.Composites.{is_not_initial, others_refusals, perhaps_refusals}
@@ -18,9 +18,9 @@ returns-clause-first g c =
     let initial = c.args.initial.now in
     let setting : c.place.inside.setting ≡ place.setting = ap (λ p. p.setting) c.place.view_is in
     let same : c.condition_of.new.reading.types ≡ table = c.in_ok-condition.ensures.kept in
-    let noted = noted-three c.args.reading.now.first c.condition_of.new.reading.first c.refer.new.reading.first (perhaps_refusals below place.setting table composite.condition) (state_refusals_in table place.setting composite.target)
-    c.in_ok-condition.ensures.first
-    (c.in_ok-held.ensures.first ∙ (λ i. nearer c.condition_of.new.reading.first (least (state_refusals_in (same i) (setting i) composite.target))))
-    c.note_others.new.first (others_refusals place.setting.states initial composite)
-    (c.note_others.ensures ∙ ap (λ target. nearer c.refer.new.reading.first (least (refused_so (is_none composite.condition && is_not_initial initial target) Others composite.spot))) (c.place-target.ensures ∙ ap (λ each. place_of_sort each.states composite.target.name) setting)) in
+    let noted = noted-three c.args.reading.now.refusals c.condition_of.new.reading.refusals c.refer.new.reading.refusals (perhaps_refusals below place.setting table composite.condition) (state_refusals_in table place.setting composite.target)
+    c.in_ok-condition.ensures.noted
+    (c.in_ok-held.ensures.noted ∙ (λ i. noting c.condition_of.new.reading.refusals (state_refusals_in (same i) (setting i) composite.target)))
+    c.note_others.new.refusals (others_refusals place.setting.states initial composite)
+    (c.note_others.ensures ∙ ap (λ target. noting c.refer.new.reading.refusals (refused_so (is_none composite.condition && is_not_initial initial target) Others composite.spot)) (c.place-target.ensures ∙ ap (λ each. place_of_sort each.states composite.target.name) setting)) in
     on_ok_weaker _ (λ _. noted) c.add_meaning.ensures

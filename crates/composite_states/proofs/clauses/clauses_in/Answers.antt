@@ -1,6 +1,7 @@
 use Rattle.std.proofs.Common.{◌≡◌, [], ◌++◌, ap, ◌∙◌}
-use Rattle.plain_values.specs.Order.{least, nearer}
-use Rattle.package_index.proofs.Loops.{gathered-more, noting-more}
+use Rattle.noted_refusals.specs.Noted.{noting}
+use Rattle.package_index.proofs.Loops.{gathered-more}
+use Rattle.noted_refusals.proofs.Loops.{noting-more}
 use Rattle.propagation_points.specs.Settings.{clause_setting}
 use Rattle.composite_states.specs.Composites.{clause_refusals, clause_of}
 use Rattle.composite_states.proofs.clauses.clauses_in.Goals as goal
@@ -18,6 +19,6 @@ loop-composite-preserved g c =
       kept = c.in_ok-add_clause.ensures.kept ∙ kept;
       clauses = gathered-more c.args.composites.now c.loop-composite.composite-index one c.loop-composite-test.true c.composite-item.is (λ each. clause_of below (setting each.scope) table each.item) [] c.loop-composite.clauses _ c.loop-composite.invariant.clauses
           (c.in_ok-add_clause.ensures.clauses ∙ (λ i. c.loop-composite.clauses ++ clause_of below (here i) (kept i) (c.item.ensures i)));
-      first = noting-more c.args.composites.now c.loop-composite.composite-index one c.loop-composite-test.true c.composite-item.is (λ each. clause_refusals below (setting each.scope) table states.initial each.item) c.loop-composite.reading.first _ _
-          (c.in_ok-add_clause.ensures.first ∙ (λ i. nearer c.loop-composite.reading.first (least (clause_refusals below (here i) (kept i) (c.items-initial.ensures.items i) (c.item.ensures i))))) c.loop-composite.invariant.first;
+      first = noting-more c.args.composites.now c.loop-composite.composite-index one c.loop-composite-test.true c.composite-item.is (λ each. clause_refusals below (setting each.scope) table states.initial each.item) c.loop-composite.reading.refusals _ _
+          (c.in_ok-add_clause.ensures.noted ∙ (λ i. noting c.loop-composite.reading.refusals (clause_refusals below (here i) (kept i) (c.items-initial.ensures.items i) (c.item.ensures i)))) c.loop-composite.invariant.first;
     }

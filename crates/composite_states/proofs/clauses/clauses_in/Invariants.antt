@@ -1,5 +1,5 @@
 use Rattle.std.proofs.Common.{◌≡◌, drop, take}
-use Rattle.plain_values.specs.Order.{least, nearer}
+use Rattle.noted_refusals.specs.Noted.{noting}
 use Rattle.composite_states.specs.Composites.{clauses_in, refusals_in}
 use Rattle.composite_states.proofs.clauses.clauses_in.Given as goal
 
@@ -7,5 +7,5 @@ abbrev pub invariant-loop-composite : goal.invariant-loop-composite
 invariant-loop-composite g l = record {
   kept : l.reading.types ≡ l.fn.reading.types;
   clauses : l.clauses ≡ clauses_in (g.B.StatesBelow.states_at l.around.below.now) l.fn.reading.types l.around.points.now l.around.states.now.sorts l.around.scopes.now (take l.composite-index l.composites);
-  first : nearer l.reading.first (least (refusals_in (g.B.StatesBelow.states_at l.around.below.now) l.fn.reading.types l.around.points.now l.around.states.now l.around.scopes.now (drop l.composite-index l.composites))) ≡ nearer l.fn.reading.first (least (refusals_in (g.B.StatesBelow.states_at l.around.below.now) l.fn.reading.types l.around.points.now l.around.states.now l.around.scopes.now l.composites));
+  first : noting l.reading.refusals (refusals_in (g.B.StatesBelow.states_at l.around.below.now) l.fn.reading.types l.around.points.now l.around.states.now l.around.scopes.now (drop l.composite-index l.composites)) ≡ noting l.fn.reading.refusals (refusals_in (g.B.StatesBelow.states_at l.around.below.now) l.fn.reading.types l.around.points.now l.around.states.now l.around.scopes.now l.composites);
 }

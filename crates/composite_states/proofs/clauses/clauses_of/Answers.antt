@@ -1,5 +1,5 @@
 use Rattle.std.proofs.Common.{◌≡◌, OnOk, subst, ap, ◌∙◌}
-use Rattle.plain_values.specs.Order.{least, nearer}
+use Rattle.noted_refusals.specs.Noted.{noting}
 use Rattle.propagation_points.specs.Points.{scopes_of}
 use Rattle.composite_states.specs.Composites.{refusals_in}
 use Rattle.composite_states.proofs.clauses.clauses_of.Goals as goal
@@ -13,4 +13,4 @@ returns-clause-first g c =
     let all =
     ap (λ texts. refusals_in below table c.args.points.now c.args.states.now texts c.items-composites.result.now) scopes
     ∙ ap (refusals_in below table c.args.points.now c.args.states.now (scopes_of table.packages effective.clauses)) c.items-composites.ensures.items in
-    subst (λ faults. OnOk c.clauses_in.result (c.clauses_in.new.reading.first ≡ nearer c.args.reading.now.first (least faults))) all c.clauses_in.ensures.first
+    subst (λ faults. OnOk c.clauses_in.result (c.clauses_in.new.reading.refusals ≡ noting c.args.reading.now.refusals faults)) all c.clauses_in.ensures.noted

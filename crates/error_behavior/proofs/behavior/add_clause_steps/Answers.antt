@@ -1,6 +1,7 @@
 use Rattle.std.proofs.Common.{◌≡◌, ◌++◌, ap, ◌∙◌}
-use Rattle.plain_values.specs.Order.{least, nearer}
-use Rattle.package_index.proofs.Loops.{gathered-more, noting-more}
+use Rattle.noted_refusals.specs.Noted.{noting}
+use Rattle.package_index.proofs.Loops.{gathered-more}
+use Rattle.noted_refusals.proofs.Loops.{noting-more}
 use Rattle.error_behavior.specs.Behavior.{clause_place}
 use Rattle.error_behavior.specs.Steps.{transition_refusals, step_of}
 use Rattle.error_behavior.specs.Triggers.{place_in}
@@ -18,6 +19,6 @@ loop-transition-preserved c =
       kept = c.in_ok-add_step.ensures.kept ∙ kept;
       steps = gathered-more c.args.transitions.now c.loop-transition.transition-index one c.loop-transition-test.true c.transition-item.is (λ each. step_of (clause_place words texts each.scope) table each.item) c.args.steps.now c.loop-transition.steps _ c.loop-transition.invariant.steps
           (c.in_ok-add_step.ensures.steps ∙ (λ i. c.loop-transition.steps ++ step_of (here i) (kept i) (c.item.ensures i)));
-      first = noting-more c.args.transitions.now c.loop-transition.transition-index one c.loop-transition-test.true c.transition-item.is (λ each. transition_refusals (clause_place words texts each.scope) table each.item) c.loop-transition.reading.first _ _
-          (c.in_ok-add_step.ensures.first ∙ (λ i. nearer c.loop-transition.reading.first (least (transition_refusals (here i) (kept i) (c.item.ensures i))))) c.loop-transition.invariant.first;
+      first = noting-more c.args.transitions.now c.loop-transition.transition-index one c.loop-transition-test.true c.transition-item.is (λ each. transition_refusals (clause_place words texts each.scope) table each.item) c.loop-transition.reading.refusals _ _
+          (c.in_ok-add_step.ensures.noted ∙ (λ i. noting c.loop-transition.reading.refusals (transition_refusals (here i) (kept i) (c.item.ensures i)))) c.loop-transition.invariant.first;
     }

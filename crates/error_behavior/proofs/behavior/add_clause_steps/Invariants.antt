@@ -1,5 +1,5 @@
 use Rattle.std.proofs.Common.{◌≡◌, ◌++◌, drop, take}
-use Rattle.plain_values.specs.Order.{least, nearer}
+use Rattle.noted_refusals.specs.Noted.{noting}
 use Rattle.error_behavior.specs.Behavior.{clause_steps, clause_transition_refusals}
 use Rattle.error_behavior.proofs.behavior.add_clause_steps.Given as goal
 
@@ -7,5 +7,5 @@ abbrev pub invariant-loop-transition : goal.invariant-loop-transition
 invariant-loop-transition l = record {
   kept : l.reading.types ≡ l.fn.reading.types;
   steps : l.steps ≡ l.fn.steps ++ clause_steps l.fn.reading.types l.words l.texts (take l.transition-index l.transitions);
-  first : nearer l.reading.first (least (clause_transition_refusals l.fn.reading.types l.words l.texts (drop l.transition-index l.transitions))) ≡ nearer l.fn.reading.first (least (clause_transition_refusals l.fn.reading.types l.words l.texts l.transitions));
+  first : noting l.reading.refusals (clause_transition_refusals l.fn.reading.types l.words l.texts (drop l.transition-index l.transitions)) ≡ noting l.fn.reading.refusals (clause_transition_refusals l.fn.reading.types l.words l.texts l.transitions);
 }

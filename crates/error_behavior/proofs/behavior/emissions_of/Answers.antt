@@ -1,6 +1,7 @@
 use Rattle.std.proofs.Common.{◌≡◌, [], ◌++◌, ap, ◌∙◌}
-use Rattle.plain_values.specs.Order.{least, nearer}
-use Rattle.package_index.proofs.Loops.{gathered-more, noting-more}
+use Rattle.noted_refusals.specs.Noted.{noting}
+use Rattle.package_index.proofs.Loops.{gathered-more}
+use Rattle.noted_refusals.proofs.Loops.{noting-more}
 use Rattle.error_behavior.specs.Behavior.{clause_place}
 use Rattle.error_behavior.specs.Steps.{outgoing_refusals, emission_of}
 use Rattle.error_behavior.specs.Triggers.{place_in}
@@ -18,6 +19,6 @@ loop-condition-preserved c =
       kept = c.in_ok-add_emission.ensures.kept ∙ kept;
       emissions = gathered-more c.args.outgoing.now c.loop-condition.condition-index one c.loop-condition-test.true c.condition-item.is (λ each. emission_of (clause_place words texts each.scope) table each.item) [] c.loop-condition.emissions _ c.loop-condition.invariant.emissions
           (c.in_ok-add_emission.ensures.emissions ∙ (λ i. c.loop-condition.emissions ++ emission_of (here i) (kept i) (c.item.ensures i)));
-      first = noting-more c.args.outgoing.now c.loop-condition.condition-index one c.loop-condition-test.true c.condition-item.is (λ each. outgoing_refusals (clause_place words texts each.scope) table each.item) c.loop-condition.reading.first _ _
-          (c.in_ok-add_emission.ensures.first ∙ (λ i. nearer c.loop-condition.reading.first (least (outgoing_refusals (here i) (kept i) (c.item.ensures i))))) c.loop-condition.invariant.first;
+      first = noting-more c.args.outgoing.now c.loop-condition.condition-index one c.loop-condition-test.true c.condition-item.is (λ each. outgoing_refusals (clause_place words texts each.scope) table each.item) c.loop-condition.reading.refusals _ _
+          (c.in_ok-add_emission.ensures.noted ∙ (λ i. noting c.loop-condition.reading.refusals (outgoing_refusals (here i) (kept i) (c.item.ensures i)))) c.loop-condition.invariant.first;
     }

@@ -1,6 +1,7 @@
 use Rattle.std.proofs.Common.{◌≡◌, [], ◌++◌, ap, ◌∙◌}
-use Rattle.plain_values.specs.Order.{least, nearer}
-use Rattle.package_index.proofs.Loops.{gathered-more, noting-more}
+use Rattle.noted_refusals.specs.Noted.{noting}
+use Rattle.package_index.proofs.Loops.{gathered-more}
+use Rattle.noted_refusals.proofs.Loops.{noting-more}
 use Rattle.error_behavior.specs.Steps.{step_of, transition_refusals}
 use Rattle.error_behavior.proofs.behavior.steps_at.Goals as goal
 
@@ -14,6 +15,6 @@ loop-transition-preserved c =
       kept = c.in_ok-add_step.ensures.kept ∙ kept;
       steps = gathered-more c.args.transitions.now c.loop-transition.transition-index one c.loop-transition-test.true c.transition-item.is (step_of place table) [] c.loop-transition.steps _ c.loop-transition.invariant.steps
           (c.in_ok-add_step.ensures.steps ∙ ap (λ types. c.loop-transition.steps ++ step_of place types one) kept);
-      first = noting-more c.args.transitions.now c.loop-transition.transition-index one c.loop-transition-test.true c.transition-item.is (transition_refusals place table) c.loop-transition.reading.first _ _
-          (c.in_ok-add_step.ensures.first ∙ ap (λ types. nearer c.loop-transition.reading.first (least (transition_refusals place types one))) kept) c.loop-transition.invariant.first;
+      first = noting-more c.args.transitions.now c.loop-transition.transition-index one c.loop-transition-test.true c.transition-item.is (transition_refusals place table) c.loop-transition.reading.refusals _ _
+          (c.in_ok-add_step.ensures.noted ∙ ap (λ types. noting c.loop-transition.reading.refusals (transition_refusals place types one)) kept) c.loop-transition.invariant.first;
     }

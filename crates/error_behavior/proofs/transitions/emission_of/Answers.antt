@@ -1,8 +1,8 @@
 use Rattle.std.proofs.Common.{◌≡◌, true, Option, option_and_then, option_map, option_to_list, ap, ◌∙◌}
-use Rattle.plain_values.specs.Order.{least, nearer}
+use Rattle.noted_refusals.specs.Noted.{noting}
 use Rattle.propagation_points.specs.Settings.{reached_in, refusals_in}
 use Rattle.propagation_points.specs.Uses.{point_use}
-use Rattle.plain_values.proofs.Noted.{noted-three}
+use Rattle.noted_refusals.proofs.Laws.{noted-three}
 use Rattle.propagation_points.specs.declared.uses.ReachedPoint.{ReachedPoint}
 use Rattle.error_conditions.specs.declared.cause.Cause.{Cause}
 use Rattle.error_behavior.specs.declared.steps.Emission.{Emission}
@@ -38,8 +38,8 @@ returns-clause-first c =
     let setting : c.place.inside.setting ≡ place.setting = ap (λ p. p.setting) c.place.view_is in
     let same : c.origin_of.new.reading.types ≡ table = c.in_ok-origin.ensures.kept in
     let still : c.trigger_of.new.reading.types ≡ table = c.in_ok-trigger.ensures.kept ∙ same in
-    noted-three c.args.reading.now.first c.origin_of.new.reading.first c.trigger_of.new.reading.first (origin_refusals table place.setting outgoing.source.state) (perhaps_refusals place table outgoing.condition)
-    (c.in_ok-origin.ensures.first ∙ ap (λ each. nearer c.args.reading.now.first (least (origin_refusals table each outgoing.source.state))) setting)
-    (c.in_ok-trigger.ensures.first ∙ ap (λ types. nearer c.origin_of.new.reading.first (least (perhaps_refusals place types outgoing.condition))) same)
-    c.reached.new.reading.first (refusals_in table place.setting (point_use outgoing.point true outgoing.set))
-    (c.in_ok-reached.ensures.first ∙ (λ i. nearer c.trigger_of.new.reading.first (least (refusals_in (still i) (setting i) (c.new-used.ensures i)))))
+    noted-three c.args.reading.now.refusals c.origin_of.new.reading.refusals c.trigger_of.new.reading.refusals (origin_refusals table place.setting outgoing.source.state) (perhaps_refusals place table outgoing.condition)
+    (c.in_ok-origin.ensures.noted ∙ ap (λ each. noting c.args.reading.now.refusals (origin_refusals table each outgoing.source.state)) setting)
+    (c.in_ok-trigger.ensures.noted ∙ ap (λ types. noting c.origin_of.new.reading.refusals (perhaps_refusals place types outgoing.condition)) same)
+    c.reached.new.reading.refusals (refusals_in table place.setting (point_use outgoing.point true outgoing.set))
+    (c.in_ok-reached.ensures.noted ∙ (λ i. noting c.trigger_of.new.reading.refusals (refusals_in (still i) (setting i) (c.new-used.ensures i))))

@@ -1,9 +1,9 @@
 use Rattle.std.proofs.Common.{ℕ, ◌≡◌, List, flat_map, option_map, option_to_list, ap, ◌∙◌}
-use Rattle.plain_values.specs.Order.{least, nearer}
+use Rattle.noted_refusals.specs.Noted.{noting}
 use Rattle.propagation_points.specs.Settings.{state_refusals_in}
 use Rattle.error_conditions.specs.declared.cause.Cause.{Cause}
 use Rattle.error_conditions.specs.Conditions.{cause_of, condition_refusals}
-use Rattle.plain_values.proofs.Noted.{noted-three}
+use Rattle.noted_refusals.proofs.Laws.{noted-three}
 use Rattle.error_behavior.specs.declared.steps.Origin.{Origin}
 use Rattle.error_behavior.specs.declared.steps.Step.{Step}
 use Rattle.error_behavior.specs.Steps.{origin_of, origin_refusals, step_from, targets_of}
@@ -37,8 +37,8 @@ returns-clause-first c =
     let setting : c.place.inside.setting ≡ place.setting = ap (λ p. p.setting) c.place.view_is in
     let same : c.origin_of.new.reading.types ≡ table = c.in_ok-origin.ensures.kept in
     let still : c.cause_of.new.reading.types ≡ table = c.in_ok-trigger.ensures.kept ∙ same in
-    noted-three c.args.reading.now.first c.origin_of.new.reading.first c.cause_of.new.reading.first (origin_refusals table place.setting transition.source.state) (condition_refusals (trigger_refusals place table) transition.condition)
-    (c.in_ok-origin.ensures.first ∙ ap (λ each. nearer c.args.reading.now.first (least (origin_refusals table each transition.source.state))) setting)
-    (c.in_ok-trigger.ensures.first ∙ ap (λ types. nearer c.origin_of.new.reading.first (least (condition_refusals (trigger_refusals place types) transition.condition))) same)
-    c.targets_of.new.reading.first (flat_map (state_refusals_in table place.setting) transition.targets)
-    (c.in_ok-targets.ensures.first ∙ (λ i. nearer c.cause_of.new.reading.first (least (flat_map (state_refusals_in (still i) (setting i)) (c.items.ensures.items i)))))
+    noted-three c.args.reading.now.refusals c.origin_of.new.reading.refusals c.cause_of.new.reading.refusals (origin_refusals table place.setting transition.source.state) (condition_refusals (trigger_refusals place table) transition.condition)
+    (c.in_ok-origin.ensures.noted ∙ ap (λ each. noting c.args.reading.now.refusals (origin_refusals table each transition.source.state)) setting)
+    (c.in_ok-trigger.ensures.noted ∙ ap (λ types. noting c.origin_of.new.reading.refusals (condition_refusals (trigger_refusals place types) transition.condition)) same)
+    c.targets_of.new.reading.refusals (flat_map (state_refusals_in table place.setting) transition.targets)
+    (c.in_ok-targets.ensures.noted ∙ (λ i. noting c.cause_of.new.reading.refusals (flat_map (state_refusals_in (still i) (setting i)) (c.items.ensures.items i))))

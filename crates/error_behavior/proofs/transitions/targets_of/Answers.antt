@@ -1,7 +1,8 @@
 use Rattle.std.proofs.Common.{◌≡◌, [], ◌++◌, ◌∙◌}
 use Rattle.std.specs.Option.{option_map_or}
-use Rattle.plain_values.specs.Order.{least, nearer}
-use Rattle.package_index.proofs.Loops.{gathered-more, noting-more}
+use Rattle.noted_refusals.specs.Noted.{noting}
+use Rattle.package_index.proofs.Loops.{gathered-more}
+use Rattle.noted_refusals.proofs.Loops.{noting-more}
 use Rattle.propagation_points.specs.Settings.{state_refusals_in}
 use Rattle.propagation_points.specs.States.{held_numbers}
 use Rattle.error_behavior.specs.Steps.{target_numbers}
@@ -17,6 +18,6 @@ loop-target-preserved c =
       kept = c.in_ok-held.ensures.kept ∙ kept;
       numbers = gathered-more c.args.targets.now c.loop-target.target-index one c.loop-target-test.true c.target-item.is (target_numbers table setting) [] c.loop-target.numbers _ c.loop-target.invariant.numbers
           (c.in_ok-add_held.ensures ∙ (λ i. c.loop-target.numbers ++ option_map_or held_numbers (c.in_ok-held.ensures.held i) []) ∙ (λ i. c.loop-target.numbers ++ target_numbers (kept i) setting one));
-      first = noting-more c.args.targets.now c.loop-target.target-index one c.loop-target-test.true c.target-item.is (state_refusals_in table setting) c.loop-target.reading.first _ _
-          (c.in_ok-held.ensures.first ∙ (λ i. nearer c.loop-target.reading.first (least (state_refusals_in (kept i) setting one)))) c.loop-target.invariant.first;
+      first = noting-more c.args.targets.now c.loop-target.target-index one c.loop-target-test.true c.target-item.is (state_refusals_in table setting) c.loop-target.reading.refusals _ _
+          (c.in_ok-held.ensures.noted ∙ (λ i. noting c.loop-target.reading.refusals (state_refusals_in (kept i) setting one))) c.loop-target.invariant.first;
     }

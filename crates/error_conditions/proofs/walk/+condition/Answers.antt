@@ -1,9 +1,9 @@
 use Rattle.std.proofs.Common.{◌≡◌, true, flat_map, sym, ap, ◌∙◌}
-use Rattle.plain_values.proofs.OrderLaws.{noted-more}
-use Rattle.plain_values.specs.Order.{least, nearer}
+use Rattle.noted_refusals.proofs.Laws.{noted-more}
+use Rattle.noted_refusals.specs.Noted.{noting}
 use Rattle.plain_values.specs.declared.refusal.Code.TheVariants.{OrLess}
 use Rattle.plain_values.specs.Refusal.{refused_so}
-use Rattle.package_index.proofs.Loops.{noting-more}
+use Rattle.noted_refusals.proofs.Loops.{noting-more}
 use Rattle.error_conditions.specs.Conditions.{cause_of, condition_refusals}
 use Rattle.error_conditions.proofs.ConditionLaws.{faults-All, faults-Any, faults-AtLeast, faults-AtMost, map-more}
 use Rattle.error_conditions.proofs.walk.+condition.Goals as goal
@@ -12,31 +12,31 @@ pub cause_of-returns-in_ok-causes_of-in-All-clause-first :
     goal.cause_of-returns-in_ok-causes_of-in-All-clause-first
 cause_of-returns-in_ok-causes_of-in-All-clause-first g t c =
     let faults = g.A.Atoms.faults c.args.atoms.now c.args.reading.now.types in
-    c.in_ok-causes_of-in-All.ensures.first
-    ∙ ap (λ all. nearer c.args.reading.now.first (least all)) (ap (flat_map (condition_refusals faults)) c.items.ensures.items ∙ sym (faults-All faults c.in-All.parts) ∙ ap (condition_refusals faults) (sym c.in-All.is))
+    c.in_ok-causes_of-in-All.ensures.noted
+    ∙ ap (λ all. noting c.args.reading.now.refusals all) (ap (flat_map (condition_refusals faults)) c.items.ensures.items ∙ sym (faults-All faults c.in-All.parts) ∙ ap (condition_refusals faults) (sym c.in-All.is))
 
 pub cause_of-returns-in_ok-causes_of-in-Any-clause-first :
     goal.cause_of-returns-in_ok-causes_of-in-Any-clause-first
 cause_of-returns-in_ok-causes_of-in-Any-clause-first g t c =
     let faults = g.A.Atoms.faults c.args.atoms.now c.args.reading.now.types in
-    c.in_ok-causes_of-in-Any.ensures.first
-    ∙ ap (λ all. nearer c.args.reading.now.first (least all)) (ap (flat_map (condition_refusals faults)) c.items-in-Any.ensures.items ∙ sym (faults-Any faults c.in-Any.parts) ∙ ap (condition_refusals faults) (sym c.in-Any.is))
+    c.in_ok-causes_of-in-Any.ensures.noted
+    ∙ ap (λ all. noting c.args.reading.now.refusals all) (ap (flat_map (condition_refusals faults)) c.items-in-Any.ensures.items ∙ sym (faults-Any faults c.in-Any.parts) ∙ ap (condition_refusals faults) (sym c.in-Any.is))
 
 pub cause_of-returns-in_ok-causes_of-in-AtLeast-clause-first :
     goal.cause_of-returns-in_ok-causes_of-in-AtLeast-clause-first
 cause_of-returns-in_ok-causes_of-in-AtLeast-clause-first g t c =
     let faults = g.A.Atoms.faults c.args.atoms.now c.args.reading.now.types in
-    c.in_ok-causes_of-in-AtLeast.ensures.first
-    ∙ ap (λ all. nearer c.args.reading.now.first (least all)) (ap (flat_map (condition_refusals faults)) c.items-in-AtLeast.ensures.items ∙ sym (faults-AtLeast faults c.in-AtLeast.least c.in-AtLeast.parts) ∙ ap (condition_refusals faults) (sym c.in-AtLeast.is))
+    c.in_ok-causes_of-in-AtLeast.ensures.noted
+    ∙ ap (λ all. noting c.args.reading.now.refusals all) (ap (flat_map (condition_refusals faults)) c.items-in-AtLeast.ensures.items ∙ sym (faults-AtLeast faults c.in-AtLeast.least c.in-AtLeast.parts) ∙ ap (condition_refusals faults) (sym c.in-AtLeast.is))
 
 pub cause_of-returns-in_ok-causes_of-in-AtMost-clause-first :
     goal.cause_of-returns-in_ok-causes_of-in-AtMost-clause-first
 cause_of-returns-in_ok-causes_of-in-AtMost-clause-first g t c =
     let faults = g.A.Atoms.faults c.args.atoms.now c.args.reading.now.types in
-    c.in_ok-causes_of-in-AtMost.ensures.first
-    ∙ ap (λ all. nearer c.note_if.new.self (least all)) (ap (flat_map (condition_refusals faults)) c.items-in-AtMost.ensures.items)
-    ∙ noted-more c.args.reading.now.first c.note_if.new.self (refused_so true OrLess c.in-AtMost.spot) (flat_map (condition_refusals faults) c.in-AtMost.parts) c.note_if.ensures
-    ∙ ap (λ all. nearer c.args.reading.now.first (least all)) (sym (faults-AtMost faults c.in-AtMost.field-0 c.in-AtMost.parts c.in-AtMost.spot) ∙ ap (condition_refusals faults) (sym c.in-AtMost.is))
+    c.in_ok-causes_of-in-AtMost.ensures.noted
+    ∙ ap (λ all. noting c.note_if.new.self all) (ap (flat_map (condition_refusals faults)) c.items-in-AtMost.ensures.items)
+    ∙ noted-more c.args.reading.now.refusals c.note_if.new.self (refused_so true OrLess c.in-AtMost.spot) (flat_map (condition_refusals faults) c.in-AtMost.parts) c.note_if.ensures
+    ∙ ap (λ all. noting c.args.reading.now.refusals all) (sym (faults-AtMost faults c.in-AtMost.field-0 c.in-AtMost.parts c.in-AtMost.spot) ∙ ap (condition_refusals faults) (sym c.in-AtMost.is))
 
 pub causes_of-loop-part-preserved : goal.causes_of-loop-part-preserved
 causes_of-loop-part-preserved g t c =
@@ -47,6 +47,6 @@ causes_of-loop-part-preserved g t c =
       kept = c.in_ok-cause_of.ensures.kept ∙ kept;
       causes = map-more (cause_of (g.A.Atoms.meaning atoms table)) c.args.parts.now c.loop-part.part-index c.part-item.result c.in_ok-cause_of.field-0 c.loop-part.causes c.push.new.self c.loop-part-test.true c.part-item.is
           c.loop-part.invariant.causes c.in_ok-push.ensures.ok (c.in_ok-cause_of.ensures.cause ∙ (λ i. cause_of (g.A.Atoms.meaning atoms (kept i)) c.part-item.result));
-      first = noting-more c.args.parts.now c.loop-part.part-index c.part-item.result c.loop-part-test.true c.part-item.is (condition_refusals (g.A.Atoms.faults atoms table)) c.loop-part.reading.first _ _
-          (c.in_ok-cause_of.ensures.first ∙ (λ i. nearer c.loop-part.reading.first (least (condition_refusals (g.A.Atoms.faults atoms (kept i)) c.part-item.result)))) c.loop-part.invariant.first;
+      first = noting-more c.args.parts.now c.loop-part.part-index c.part-item.result c.loop-part-test.true c.part-item.is (condition_refusals (g.A.Atoms.faults atoms table)) c.loop-part.reading.refusals _ _
+          (c.in_ok-cause_of.ensures.noted ∙ (λ i. noting c.loop-part.reading.refusals (condition_refusals (g.A.Atoms.faults atoms (kept i)) c.part-item.result))) c.loop-part.invariant.first;
     }

@@ -1,7 +1,7 @@
 use Rattle.std.proofs.Common.{◌≡◌, true, flat_map, ap, ◌∙◌}
 use Rattle.plain_values.specs.declared.refusal.Code.TheVariants.{Mapping}
-use Rattle.plain_values.specs.Order.{least, nearer}
-use Rattle.plain_values.proofs.OrderLaws.{noted-more}
+use Rattle.noted_refusals.specs.Noted.{noting}
+use Rattle.noted_refusals.proofs.Laws.{noted-more}
 use Rattle.plain_values.specs.Refusal.{refused_so}
 use Rattle.propagation_points.specs.Points.{scopes_of}
 use Rattle.error_flows.specs.Flows.{refusals_of_flows}
@@ -14,6 +14,6 @@ returns-clause-first c =
     let points = c.args.points.now in
     let states = c.args.states.now in
     let scopes : c.items-2.result.now ≡ scopes_of table.packages effective.clauses = c.items-2.ensures.items ∙ c.in_ok-scopes.ensures ∙ ap (scopes_of table.packages) c.items.ensures.items in
-    c.note_mappings.ensures ∙ ap (λ mappings. nearer c.meanings.new.reading.first (least (flat_map (refused_so true Mapping) mappings))) c.items-3.ensures.items
-    ∙ noted-more c.args.reading.now.first c.meanings.new.reading.first (refusals_of_flows table points states (scopes_of table.packages effective.clauses) effective.propagations.flows) (flat_map (refused_so true Mapping) effective.others.mappings)
-    (c.in_ok-found.ensures.first ∙ (λ i. nearer c.args.reading.now.first (least (refusals_of_flows table points states (scopes i) (c.items-flows.ensures.items i)))))
+    c.note_mappings.ensures ∙ ap (λ mappings. noting c.meanings.new.reading.refusals (flat_map (refused_so true Mapping) mappings)) c.items-3.ensures.items
+    ∙ noted-more c.args.reading.now.refusals c.meanings.new.reading.refusals (refusals_of_flows table points states (scopes_of table.packages effective.clauses) effective.propagations.flows) (flat_map (refused_so true Mapping) effective.others.mappings)
+    (c.in_ok-found.ensures.noted ∙ (λ i. noting c.args.reading.now.refusals (refusals_of_flows table points states (scopes i) (c.items-flows.ensures.items i))))

@@ -1,6 +1,6 @@
 use Rattle.std.proofs.Common.{◌≡◌, ◌++◌, true, OnOk, subst, sym}
 use Rattle.plain_values.specs.declared.refusal.Code.TheVariants.{Mapping}
-use Rattle.plain_values.specs.Order.{least, nearer}
+use Rattle.noted_refusals.specs.Noted.{noting}
 use Rattle.plain_values.specs.Refusal.{refused_there}
 use Rattle.propagation_points.specs.Uses.{point_use}
 use Rattle.propagation_points.specs.Settings.{refusals_in}
@@ -12,6 +12,6 @@ returns-in-Path-clause-first c =
     let table = c.args.reading.now.types in
     let setting = c.args.setting.now in
     let mapping = refused_there Mapping c.in-Path.mapping in
-    subst (λ kind. OnOk c.path.result (c.path.new.reading.first ≡ nearer c.args.reading.now.first (least (flow_refusals table setting kind)))) (sym c.in-Path.is)
-    (subst (λ start. OnOk c.path.result (c.path.new.reading.first ≡ nearer c.args.reading.now.first (least (refusals_in table setting start ++ (refusals_in table setting (point_use c.in-Path.to true c.in-Path.to_set) ++ mapping))))) c.new-start.ensures
-    (subst (λ end. OnOk c.path.result (c.path.new.reading.first ≡ nearer c.args.reading.now.first (least (refusals_in table setting c.new-start.result ++ (refusals_in table setting end ++ mapping))))) c.new-end.ensures c.path.ensures.first))
+    subst (λ kind. OnOk c.path.result (c.path.new.reading.refusals ≡ noting c.args.reading.now.refusals (flow_refusals table setting kind))) (sym c.in-Path.is)
+    (subst (λ start. OnOk c.path.result (c.path.new.reading.refusals ≡ noting c.args.reading.now.refusals (refusals_in table setting start ++ (refusals_in table setting (point_use c.in-Path.to true c.in-Path.to_set) ++ mapping)))) c.new-start.ensures
+    (subst (λ end. OnOk c.path.result (c.path.new.reading.refusals ≡ noting c.args.reading.now.refusals (refusals_in table setting c.new-start.result ++ (refusals_in table setting end ++ mapping)))) c.new-end.ensures c.path.ensures.noted))

@@ -1,6 +1,7 @@
 use Rattle.std.proofs.Common.{◌≡◌, ◌++◌, [], option_to_list, ap, ◌∙◌}
-use Rattle.plain_values.specs.Order.{least, nearer}
-use Rattle.package_index.proofs.Loops.{gathered-more, noting-more}
+use Rattle.noted_refusals.specs.Noted.{noting}
+use Rattle.package_index.proofs.Loops.{gathered-more}
+use Rattle.noted_refusals.proofs.Loops.{noting-more}
 use Rattle.propagation_points.specs.Settings.{clause_setting}
 use Rattle.error_flows.specs.Flows.{flow_refusals, flow_meaning}
 use Rattle.error_flows.proofs.flows.meanings.Goals as goal
@@ -15,6 +16,6 @@ loop-flow-preserved c =
       kept = c.in_ok-add_meaning.ensures.kept ∙ kept;
       found = gathered-more c.args.flows.now c.loop-flow.flow-index flow c.loop-flow-test.true c.flow-item.is (λ each. option_to_list (flow_meaning c.args.reading.now.types (setting each.scope) each.item.name each.item.kind)) [] c.loop-flow.found _ c.loop-flow.invariant.found
           (c.in_ok-add_meaning.ensures.found ∙ (λ i. c.loop-flow.found ++ option_to_list (flow_meaning (kept i) (here i) (c.item.ensures i).name (c.item.ensures i).kind)));
-      first = noting-more c.args.flows.now c.loop-flow.flow-index flow c.loop-flow-test.true c.flow-item.is (λ each. flow_refusals c.args.reading.now.types (setting each.scope) each.item.kind) c.loop-flow.reading.first _ _
-          (c.in_ok-add_meaning.ensures.first ∙ (λ i. nearer c.loop-flow.reading.first (least (flow_refusals (kept i) (here i) (c.item.ensures i).kind)))) c.loop-flow.invariant.first;
+      first = noting-more c.args.flows.now c.loop-flow.flow-index flow c.loop-flow-test.true c.flow-item.is (λ each. flow_refusals c.args.reading.now.types (setting each.scope) each.item.kind) c.loop-flow.reading.refusals _ _
+          (c.in_ok-add_meaning.ensures.noted ∙ (λ i. noting c.loop-flow.reading.refusals (flow_refusals (kept i) (here i) (c.item.ensures i).kind))) c.loop-flow.invariant.first;
     }

@@ -1,5 +1,5 @@
 use Rattle.std.proofs.Common.{◌≡◌, drop, take}
-use Rattle.plain_values.specs.Order.{least, nearer}
+use Rattle.noted_refusals.specs.Noted.{noting}
 use Rattle.error_flows.specs.Flows.{refusals_of_flows, meanings}
 use Rattle.error_flows.proofs.flows.meanings.Given as goal
 
@@ -7,5 +7,5 @@ abbrev pub invariant-loop-flow : goal.invariant-loop-flow
 invariant-loop-flow l = record {
   kept : l.reading.types ≡ l.fn.reading.types;
   found : l.found ≡ meanings l.fn.reading.types l.points l.states l.scopes (take l.flow-index l.flows);
-  first : nearer l.reading.first (least (refusals_of_flows l.fn.reading.types l.points l.states l.scopes (drop l.flow-index l.flows))) ≡ nearer l.fn.reading.first (least (refusals_of_flows l.fn.reading.types l.points l.states l.scopes l.flows));
+  first : noting l.reading.refusals (refusals_of_flows l.fn.reading.types l.points l.states l.scopes (drop l.flow-index l.flows)) ≡ noting l.fn.reading.refusals (refusals_of_flows l.fn.reading.types l.points l.states l.scopes l.flows);
 }

@@ -1,9 +1,9 @@
 use Rattle.std.proofs.Common.{ℕ, ◌≡◌, Bool, true, false, not, Option, Some, None, is_none, is_some, refl, sym, ap, ◌∙◌}
 use Rattle.std.proofs.lemmas.Bool.{false≢true}
-use Rattle.plain_values.specs.Order.{least, nearer}
+use Rattle.noted_refusals.specs.Noted.{noting}
 use Rattle.plain_values.specs.declared.refusal.Code.TheVariants.{UnknownPackage}
 use Rattle.plain_values.specs.Refusal.{refused_so}
-use Rattle.package_index.proofs.Loops.{noting-more}
+use Rattle.noted_refusals.proofs.Loops.{noting-more}
 use Rattle.error_libraries.specs.Libraries.{library_named}
 use Rattle.error_libraries.proofs.library.note_unknown.Goals as goal
 
@@ -15,5 +15,5 @@ none-is (Some number) false is = refl
 
 pub loop-reference-preserved : goal.loop-reference-preserved
 loop-reference-preserved c =
-    noting-more c.args.references.now c.loop-reference.reference-index c.reference-item.result c.loop-reference-test.true c.reference-item.is (λ reference. refused_so (is_none (library_named c.args.index.now c.args.home reference)) UnknownPackage reference.spot) c.loop-reference.first _ _
-    (c.note_if.ensures ∙ ap (λ b. nearer c.loop-reference.first (least (refused_so b UnknownPackage c.reference-item.result.spot))) (none-is c.library_named.result c.is_none-is_unknown.result c.is_none-is_unknown.ensures ∙ ap is_none c.library_named.ensures)) c.loop-reference.invariant
+    noting-more c.args.references.now c.loop-reference.reference-index c.reference-item.result c.loop-reference-test.true c.reference-item.is (λ reference. refused_so (is_none (library_named c.args.index.now c.args.home reference)) UnknownPackage reference.spot) c.loop-reference.refusals _ _
+    (c.note_if.ensures ∙ ap (λ b. noting c.loop-reference.refusals (refused_so b UnknownPackage c.reference-item.result.spot)) (none-is c.library_named.result c.is_none-is_unknown.result c.is_none-is_unknown.ensures ∙ ap is_none c.library_named.ensures)) c.loop-reference.invariant

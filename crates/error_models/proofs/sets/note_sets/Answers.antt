@@ -1,8 +1,8 @@
 use Rattle.std.proofs.Common.{◌≡◌, ◌<◌, get_or, length, refl, ap, ◌∙◌, subst, sym}
 use lib.ListN.{length-map}
 use Rattle.std.proofs.lemmas.List.{get_or_default}
-use Rattle.plain_values.specs.Order.{least, nearer}
-use Rattle.package_index.proofs.Loops.{noting-more}
+use Rattle.noted_refusals.specs.Noted.{noting}
+use Rattle.noted_refusals.proofs.Loops.{noting-more}
 use Rattle.package_index.specs.declared.id.ClassifierId.{ClassifierId}
 use Rattle.error_libraries.specs.Libraries.{Table}
 use Rattle.instantiator.specs.Effectives.{effective_of}
@@ -36,6 +36,6 @@ loop-number-preserved c =
     (λ k. used_set_refusals (kept k) (machine k) (kind k).effective) ∙ (λ k. used_set_refusals table (kind_machine (sym same k) id) (effective_of (sym same k) id)) ∙ faults-of table id in
     record {
       kept = c.in_ok-note_used_sets.ensures.kept ∙ kept;
-      first = noting-more ids i id within (get_or_default ids i one.classifier id within) (set_refusals table) c.loop-number.reading.first _ _
-          (c.in_ok-note_used_sets.ensures.first ∙ ap (λ faults. nearer c.loop-number.reading.first (least faults)) made) c.loop-number.invariant.first;
+      first = noting-more ids i id within (get_or_default ids i one.classifier id within) (set_refusals table) c.loop-number.reading.refusals _ _
+          (c.in_ok-note_used_sets.ensures.noted ∙ ap (λ faults. noting c.loop-number.reading.refusals faults) made) c.loop-number.invariant.first;
     }

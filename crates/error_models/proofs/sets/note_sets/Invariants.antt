@@ -1,10 +1,10 @@
 use Rattle.std.proofs.Common.{◌≡◌, drop, flat_map}
-use Rattle.plain_values.specs.Order.{least, nearer}
+use Rattle.noted_refusals.specs.Noted.{noting}
 use Rattle.error_models.specs.Refused.{set_refusals}
 use Rattle.error_models.proofs.sets.note_sets.Given as goal
 
 abbrev pub invariant-loop-number : goal.invariant-loop-number
 invariant-loop-number l = record {
   kept : l.reading.types ≡ l.fn.reading.types;
-  first : nearer l.reading.first (least (flat_map (set_refusals l.fn.reading.types) (drop l.number l.instance.kinds))) ≡ nearer l.fn.reading.first (least (flat_map (set_refusals l.fn.reading.types) l.instance.kinds));
+  first : noting l.reading.refusals (flat_map (set_refusals l.fn.reading.types) (drop l.number l.instance.kinds)) ≡ noting l.fn.reading.refusals (flat_map (set_refusals l.fn.reading.types) l.instance.kinds);
 }

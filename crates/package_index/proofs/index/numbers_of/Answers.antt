@@ -1,6 +1,6 @@
 use Rattle.std.proofs.Common.{◌≡◌, ap, ◌∙◌, not, take}
 use Rattle.std.specs.HashMap.{get}
-use Rattle.plain_values.specs.Order.{least, nearer}
+use Rattle.noted_refusals.specs.Noted.{noting}
 use Rattle.package_index.specs.declared.words.Words.{Words}
 use Rattle.package_index.specs.declared.words.Words.TheVariants.{Identifiers}
 use Rattle.package_index.specs.inner.Duplicates.{again_at}
@@ -18,17 +18,17 @@ loop-number-preserved c =
     let number = c.loop-number.number in
     let key : Words = Identifiers c.items.result in
     let name : names_of key ≡ unit.name = c.items.ensures.items ∙ ap (λ u. u.name) c.unit-unit.ensures in
-    let noted = c.note_if.ensures ∙ ap (λ spot. nearer c.loop-number.first (least (again_at (not c.in_ok-is_new.is_new) spot))) (ap (λ u. u.spot) c.unit-unit.ensures) in
+    let noted = c.note_if.ensures ∙ ap (λ spot. noting c.loop-number.refusals (again_at (not c.in_ok-is_new.is_new) spot)) (ap (λ u. u.spot) c.unit-unit.ensures) in
     let again = again-is has_words same_words (take number units) unit key (get same_words c.loop-number.table) (get same_words c.add.new.table) c.loop-number.invariant.table number _ c.in_ok-is_new.ensures in
     record {
       table = knows-more has_words same_words units number unit key (get same_words c.loop-number.table) (get same_words c.add.new.table) _ c.loop-number-test.true c.index-packages-number.is
           (λ other. words_agrees unit key other name) (words_alike key) c.loop-number.invariant.table c.in_ok-is_new.ensures;
-      first = again-more (λ later earlier. has_name later.name earlier) (λ u. u.spot) units number unit c.loop-number.first c.note_if.new.self _ c.loop-number-test.true c.index-packages-number.is
-          (noted ∙ ap (λ is. nearer c.loop-number.first (least (again_at is unit.spot))) (again ∙ same_packages unit key (take number units) name)) c.loop-number.invariant.first;
+      first = again-more (λ later earlier. has_name later.name earlier) (λ u. u.spot) units number unit c.loop-number.refusals c.note_if.new.self _ c.loop-number-test.true c.index-packages-number.is
+          (noted ∙ ap (λ is. noting c.loop-number.refusals (again_at is unit.spot)) (again ∙ same_packages unit key (take number units) name)) c.loop-number.invariant.first;
     }
 
 pub returns-clause-table : goal.returns-clause-table
 returns-clause-table c = knows-all has_words c.args.packages.now c.loop-number.number (get same_words c.loop-number.table) c.loop-number-test.false c.loop-number.invariant.table
 
 pub returns-clause-first : goal.returns-clause-first
-returns-clause-first c = again-end (λ later earlier. has_name later.name earlier) (λ u. u.spot) c.args.packages.now c.loop-number.number c.loop-number.first _ c.loop-number-test.false c.loop-number.invariant.first
+returns-clause-first c = again-end (λ later earlier. has_name later.name earlier) (λ u. u.spot) c.args.packages.now c.loop-number.number c.loop-number.refusals _ c.loop-number-test.false c.loop-number.invariant.first

@@ -1,6 +1,6 @@
 use Rattle.std.proofs.Common.{◌≡◌, take, drop}
 use Rattle.std.specs.HashMap.{get}
-use Rattle.plain_values.specs.Order.{least, nearer}
+use Rattle.noted_refusals.specs.Noted.{noting}
 use Rattle.package_index.specs.inner.Duplicates.{again_after, packages_again}
 use Rattle.package_index.specs.Lookup.{has_name}
 use Rattle.package_index.specs.inner.Tables.{Knows, has_words, same_words}
@@ -9,5 +9,5 @@ use Rattle.package_index.proofs.index.numbers_of.Given as goal
 abbrev pub invariant-loop-number : goal.invariant-loop-number
 invariant-loop-number l = record {
   table : Knows has_words (take l.number l.packages) (get same_words l.table);
-  first : nearer l.first (least (again_after (λ later earlier. has_name later.name earlier) (λ unit. unit.spot) (take l.number l.packages) (drop l.number l.packages))) ≡ nearer l.fn.first (least (packages_again l.packages));
+  first : noting l.refusals (again_after (λ later earlier. has_name later.name earlier) (λ unit. unit.spot) (take l.number l.packages) (drop l.number l.packages)) ≡ noting l.fn.refusals (packages_again l.packages);
 }

@@ -4,4 +4,4 @@ use Rattle.package_index.specs.inner.Tables.{Gathered}
 use Rattle.package_index.proofs.index.tables_of.Given as goal
 
 abbrev pub invariant-loop-file : goal.invariant-loop-file
-invariant-loop-file l = Gathered [] l.packages l.fn.first l.first (flat_map (flat_map package_of) (take l.file-index l.files))
+invariant-loop-file l = Gathered [] l.packages l.fn.refusals l.refusals (flat_map (flat_map package_of) (take l.file-index l.files))

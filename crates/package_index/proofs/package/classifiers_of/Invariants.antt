@@ -1,6 +1,6 @@
 use Rattle.std.proofs.Common.{◌≡◌, take, drop}
 use Rattle.std.specs.HashMap.{get}
-use Rattle.plain_values.specs.Order.{least, nearer}
+use Rattle.noted_refusals.specs.Noted.{noting}
 use Rattle.package_index.specs.inner.Duplicates.{again_after, classifiers_again}
 use Rattle.package_index.specs.Lookup.{is_named}
 use Rattle.package_index.specs.inner.Tables.{Knows, has_key, same_key}
@@ -9,5 +9,5 @@ use Rattle.package_index.proofs.package.classifiers_of.Given as goal
 abbrev pub invariant-loop-number : goal.invariant-loop-number
 invariant-loop-number l = record {
   table : Knows has_key (take l.number l.decls) (get same_key l.table);
-  first : nearer l.first (least (again_after (λ later earlier. is_named later.name later.item earlier) (λ decl. decl.spot) (take l.number l.decls) (drop l.number l.decls))) ≡ nearer l.fn.first (least (classifiers_again l.decls));
+  first : noting l.refusals (again_after (λ later earlier. is_named later.name later.item earlier) (λ decl. decl.spot) (take l.number l.decls) (drop l.number l.decls)) ≡ noting l.fn.refusals (classifiers_again l.decls);
 }

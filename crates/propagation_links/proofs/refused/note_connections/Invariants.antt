@@ -1,8 +1,8 @@
 use Rattle.std.proofs.Common.{◌≡◌, drop, flat_map}
-use Rattle.plain_values.specs.Order.{least, nearer}
+use Rattle.noted_refusals.specs.Noted.{noting}
 use Rattle.propagation_links.specs.Refused.{connection_refusals}
 use Rattle.propagation_links.proofs.refused.note_connections.Given as goal
 
 abbrev pub invariant-loop-connection : goal.invariant-loop-connection
 invariant-loop-connection l =
-    nearer l.first (least (flat_map (connection_refusals l.pointed l.number) (drop l.connection-index l.connections))) ≡ nearer l.fn.first (least (flat_map (connection_refusals l.pointed l.number) l.connections))
+    noting l.refusals (flat_map (connection_refusals l.pointed l.number) (drop l.connection-index l.connections)) ≡ noting l.fn.refusals (flat_map (connection_refusals l.pointed l.number) l.connections)

@@ -1,7 +1,7 @@
 use Rattle.std.proofs.Common.{◌++◌, ap, ◌∙◌}
-use Rattle.plain_values.specs.Order.{least, nearer}
+use Rattle.noted_refusals.specs.Noted.{noting}
 use Rattle.aadl_syntax.specs.declared.error_model.UserPath.{UserPath}
-use Rattle.package_index.proofs.Loops.{noting-more}
+use Rattle.noted_refusals.proofs.Loops.{noting-more}
 use Rattle.propagation_links.specs.Refused.{path_end_refusals, path_refusals}
 use Rattle.propagation_links.proofs.refused.note_paths.Goals as goal
 
@@ -9,5 +9,5 @@ pub loop-path-preserved : goal.loop-path-preserved
 loop-path-preserved c =
     let pointed = c.args.pointed.now in
     let number = c.args.number in
-    noting-more c.args.paths.now c.loop-path.path-index c.path-item.result c.loop-path-test.true c.path-item.is (path_refusals pointed number) c.loop-path.first c.note_path.new.first _
-    (c.note_path.ensures ∙ ap (λ (path : UserPath). nearer c.loop-path.first (least (path_end_refusals pointed number path.from ++ path_end_refusals pointed number path.to))) c.item.ensures) c.loop-path.invariant
+    noting-more c.args.paths.now c.loop-path.path-index c.path-item.result c.loop-path-test.true c.path-item.is (path_refusals pointed number) c.loop-path.refusals c.note_path.new.refusals _
+    (c.note_path.ensures ∙ ap (λ (path : UserPath). noting c.loop-path.refusals (path_end_refusals pointed number path.from ++ path_end_refusals pointed number path.to)) c.item.ensures) c.loop-path.invariant

@@ -1,6 +1,7 @@
 use Rattle.std.proofs.Common.{◌≡◌, ◌+◌, ◌||◌, take, sym, ap, ◌∙◌}
-use Rattle.plain_values.specs.Order.{least, nearer}
-use Rattle.package_index.proofs.Loops.{any-more, noting-more}
+use Rattle.noted_refusals.specs.Noted.{noting}
+use Rattle.package_index.proofs.Loops.{any-more}
+use Rattle.noted_refusals.proofs.Loops.{noting-more}
 use Rattle.used_sets.specs.Used.{item_refusals, use_clause, uses_clause}
 use Rattle.used_sets.proofs.MarkLaws.{marked-same, marked-then}
 use Rattle.used_sets.proofs.faults.note_items.Goals as goal
@@ -18,6 +19,6 @@ loop-item-preserved g c =
       marks = marked-same c.args.marks.now c.note_item.new.marks (λ number. use_clause sets (take i items) number || uses_clause sets number one) (use_clause sets (take (i + 1) items))
           (marked-then c.args.marks.now c.loop-item.marks c.note_item.new.marks (use_clause sets (take i items)) (λ number. uses_clause sets number one) c.loop-item.invariant.marks c.in_ok-note_item.ensures.marks)
           (λ number. sym (any-more items i one c.loop-item-test.true c.item-item.is (uses_clause sets number)));
-      first = noting-more items i one c.loop-item-test.true c.item-item.is (item_refusals sets table c.args.scopes.now) c.loop-item.reading.first _ _
-          (c.in_ok-note_item.ensures.first ∙ ap (λ types. nearer c.loop-item.reading.first (least (item_refusals sets types c.args.scopes.now one))) kept) c.loop-item.invariant.first;
+      first = noting-more items i one c.loop-item-test.true c.item-item.is (item_refusals sets table c.args.scopes.now) c.loop-item.reading.refusals _ _
+          (c.in_ok-note_item.ensures.noted ∙ ap (λ types. noting c.loop-item.reading.refusals (item_refusals sets types c.args.scopes.now one)) kept) c.loop-item.invariant.first;
     }

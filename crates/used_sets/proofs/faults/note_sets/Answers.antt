@@ -1,7 +1,7 @@
 use Rattle.std.proofs.Common.{◌≡◌, flat_map, option_copied, sym, ap, ◌∙◌}
 use Rattle.std.proofs.lemmas.List.Folds.{flat_map-map}
-use Rattle.plain_values.specs.Order.{least, nearer}
-use Rattle.package_index.proofs.Loops.{noting-end, noting-more}
+use Rattle.noted_refusals.specs.Noted.{noting}
+use Rattle.noted_refusals.proofs.Loops.{noting-end, noting-more}
 use Rattle.used_sets.specs.Used.{set_fault}
 use Rattle.used_sets.proofs.faults.note_sets.Goals as goal
 
@@ -12,8 +12,8 @@ loop-set-preserved c =
     let kept : c.loop-set.reading.types ≡ table = c.loop-set.invariant.kept in
     record {
       kept = c.in_ok-note_set.ensures.kept ∙ kept;
-      first = noting-more c.sets-set-items.result.now c.loop-set.set-index c.set-item.result c.loop-set-test.true c.set-item.is (λ set. set_fault table scope set.now) c.loop-set.reading.first _ _
-          (c.in_ok-note_set.ensures.first ∙ ap (λ types. nearer c.loop-set.reading.first (least (set_fault types scope c.set-item.result.now))) kept) c.loop-set.invariant.first;
+      first = noting-more c.sets-set-items.result.now c.loop-set.set-index c.set-item.result c.loop-set-test.true c.set-item.is (λ set. set_fault table scope set.now) c.loop-set.reading.refusals _ _
+          (c.in_ok-note_set.ensures.noted ∙ ap (λ types. noting c.loop-set.reading.refusals (set_fault types scope c.set-item.result.now)) kept) c.loop-set.invariant.first;
     }
 
 pub returns-clause-first : goal.returns-clause-first
@@ -21,5 +21,5 @@ returns-clause-first c =
     let scope = option_copied c.args.scope in
     let table = c.args.reading.now.types in
     let sets = c.sets-set-items.result.now in
-    noting-end sets c.loop-set.set-index (λ set. set_fault table scope set.now) c.loop-set.reading.first _ c.loop-set-test.false c.loop-set.invariant.first
-    ∙ ap (λ all. nearer c.args.reading.now.first (least all)) (sym (flat_map-map (set_fault table scope) (λ set. set.now) sets) ∙ ap (flat_map (set_fault table scope)) c.sets-set-items.ensures)
+    noting-end sets c.loop-set.set-index (λ set. set_fault table scope set.now) c.loop-set.reading.refusals _ c.loop-set-test.false c.loop-set.invariant.first
+    ∙ ap (λ all. noting c.args.reading.now.refusals all) (sym (flat_map-map (set_fault table scope) (λ set. set.now) sets) ∙ ap (flat_map (set_fault table scope)) c.sets-set-items.ensures)

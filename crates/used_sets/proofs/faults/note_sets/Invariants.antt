@@ -1,10 +1,10 @@
 use Rattle.std.proofs.Common.{◌≡◌, drop, flat_map, option_copied}
-use Rattle.plain_values.specs.Order.{least, nearer}
+use Rattle.noted_refusals.specs.Noted.{noting}
 use Rattle.used_sets.specs.Used.{set_fault}
 use Rattle.used_sets.proofs.faults.note_sets.Given as goal
 
 abbrev pub invariant-loop-set : goal.invariant-loop-set
 invariant-loop-set l = record {
   kept : l.reading.types ≡ l.fn.reading.types;
-  first : nearer l.reading.first (least (flat_map (λ set. set_fault l.fn.reading.types (option_copied l.scope) set.now) (drop l.set-index l.set-items))) ≡ nearer l.fn.reading.first (least (flat_map (λ set. set_fault l.fn.reading.types (option_copied l.scope) set.now) l.set-items));
+  first : noting l.reading.refusals (flat_map (λ set. set_fault l.fn.reading.types (option_copied l.scope) set.now) (drop l.set-index l.set-items)) ≡ noting l.fn.reading.refusals (flat_map (λ set. set_fault l.fn.reading.types (option_copied l.scope) set.now) l.set-items);
 }

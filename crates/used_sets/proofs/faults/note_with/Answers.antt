@@ -1,9 +1,9 @@
 use Rattle.std.proofs.Common.{ℕ, ◌+◌, ◌≡◌, ◌<◌, ◌||◌, [], cond, false, length, slice_index_or, sym, ap, ◌∙◌, subst, arith}
-use Rattle.plain_values.specs.Order.{least, nearer}
+use Rattle.noted_refusals.specs.Noted.{noting}
 use Rattle.component_extension.specs.Items.{Clause}
 use Rattle.error_libraries.specs.Libraries.{unknown_libraries}
 use Rattle.plain_values.specs.Numbered.{numbered_from}
-use Rattle.plain_values.proofs.Noted.{noted-two}
+use Rattle.noted_refusals.proofs.Laws.{noted-two}
 use Rattle.used_sets.specs.Used.{effective_refusals, is_used, uses_fault}
 use Rattle.used_sets.proofs.MarkLaws.{numbered-same}
 use Rattle.used_sets.proofs.faults.note_with.Goals as goal
@@ -19,6 +19,6 @@ returns-clause-first c =
     λ number clause within.
     let here : number < length c.args.marks.now = subst (λ n. number < n) (sym c.requires.long) (omega (arith, within)) in
     ap (λ b. cond b (unknown_libraries table.packages clause.«package» clause.item.uses) []) (marked.marked number here ∙ ap (λ b. b || is_used effective number) (c.requires.none number)) in
-    noted-two c.args.reading.now.first c.note_effective.new.reading.first c.note_uses.new.first (effective_refusals table c.args.scopes.now effective) (numbered_from (uses_fault table (is_used effective)) 0 effective.clauses)
-    c.in_ok-note_effective.ensures.first
-    (c.note_uses.ensures ∙ (λ i. nearer c.note_effective.new.reading.first (least (numbered_from (uses_fault (kept i) told) 0 (c.items.ensures.items i)))) ∙ ap (λ all. nearer c.note_effective.new.reading.first (least all)) (numbered-same (uses_fault table told) (uses_fault table (is_used effective)) 0 effective.clauses same))
+    noted-two c.args.reading.now.refusals c.note_effective.new.reading.refusals c.note_uses.new.refusals (effective_refusals table c.args.scopes.now effective) (numbered_from (uses_fault table (is_used effective)) 0 effective.clauses)
+    c.in_ok-note_effective.ensures.noted
+    (c.note_uses.ensures ∙ (λ i. noting c.note_effective.new.reading.refusals (numbered_from (uses_fault (kept i) told) 0 (c.items.ensures.items i))) ∙ ap (λ all. noting c.note_effective.new.reading.refusals all) (numbered-same (uses_fault table told) (uses_fault table (is_used effective)) 0 effective.clauses same))

@@ -1,0 +1,92 @@
+-- Groups of refusals that are noted part after part, and what is known at the end.
+use Rattle.std.proofs.Common.{ℕ, zero, suc, ◌+◌, ◌≡◌, ◌<◌, ◌≤◌, List, [], ◌∷◌, ◌++◌, length, take, Option, None, Some, MatchOption, Contains, refl, sym, ap, subst, min, arith, ◌∙◌}
+use Rattle.std.proofs.lemmas.List.{append_assoc, append-nil, get_or-take, length-take, take-take, take_all}
+use Rattle.plain_values.specs.declared.refusal.Refusal.{Refusal}
+use Rattle.plain_values.specs.Order.{IsFirst, least, nearer}
+use Rattle.plain_values.proofs.OrderLaws.{least-first, nearer-assoc, nearer-none}
+use Rattle.noted_refusals.specs.Noted.{Lists, Noted, Tells, note, nothing_noted, noting}
+
+-- one list behind another
+pub noting-append : (noted : Noted) (p q : List Refusal) → noting noted (p ++ q) ≡ noting (noting noted p) q
+noting-append noted [] q = refl
+noting-append noted (refusal ∷ p) q = noting-append (note noted refusal) p q
+
+-- after one part of a group is noted, the rest of it is left
+pub noted-more : (before after : Noted) (part rest : List Refusal) → after ≡ noting before part → noting after rest ≡ noting before (part ++ rest)
+noted-more before after part rest noted = ap (λ so_far. noting so_far rest) noted ∙ sym (noting-append before part rest)
+
+module _ (none one two : Noted) (p q : List Refusal) (first : one ≡ noting none p) (second : two ≡ noting one q) where
+  -- two parts
+  pub noted-two : two ≡ noting none (p ++ q)
+  noted-two = second ∙ noted-more none one p q first
+
+  -- three parts
+  pub noted-three : (three : Noted) (r : List Refusal) → three ≡ noting two r → three ≡ noting none (p ++ (q ++ r))
+  noted-three three r third = third ∙ noted-more one two q r second ∙ noted-more none one p (q ++ r) first
+
+  -- four parts
+  pub noted-four : (three four : Noted) (r s : List Refusal) → three ≡ noting two r → four ≡ noting three s → four ≡ noting none (p ++ (q ++ (r ++ s)))
+  noted-four three four r s third fourth =
+      fourth ∙ noted-more two three r s third ∙ noted-more one two q (r ++ s) second ∙ noted-more none one p (q ++ (r ++ s)) first
+
+-- the first that was noted
+pub noting-first : (noted : Noted) (group : List Refusal) → (noting noted group).first ≡ nearer noted.first (least group)
+noting-first noted [] = sym (nearer-none noted.first)
+noting-first noted (refusal ∷ group) = noting-first (note noted refusal) group ∙ nearer-assoc noted.first (Some refusal) (least group)
+
+-- the room stays
+pub noting-room : (noted : Noted) (group : List Refusal) → (noting noted group).room ≡ noted.room
+noting-room noted [] = refl
+noting-room noted (refusal ∷ group) = noting-room (note noted refusal) group
+
+-- what is noted first of a whole group, begun with nothing
+pub noted-all : (room : ℕ) (after : Noted) (group : List Refusal) → after ≡ noting (nothing_noted room) group → MatchOption after.first (group ≡ []) (λ first. IsFirst (Contains group) first)
+noted-all room after group noted =
+    subst (λ o. MatchOption o (group ≡ []) (λ first. IsFirst (Contains group) first)) (sym (ap (λ n. n.first) noted ∙ noting-first (nothing_noted room) group)) (least-first group)
+
+-- ---- what is kept
+
+take-front : {A : Type 0} (n : ℕ) (xs ys : List A) → take n (take n xs ++ ys) ≡ take n (xs ++ ys)
+take-front zero xs ys = refl
+take-front (suc n) [] ys = refl
+take-front (suc n) (x ∷ xs) ys = ap (λ t. x ∷ t) (take-front n xs ys)
+
+kept-from : (noted : Noted) (group : List Refusal) → noted.kept ≡ take noted.room noted.kept → (noting noted group).kept ≡ take noted.room (noted.kept ++ group)
+kept-from noted [] fits = fits ∙ ap (take noted.room) (sym (append-nil noted.kept))
+kept-from noted (refusal ∷ group) fits =
+    let more = noted.kept ++ refusal ∷ [] in
+    let within : noted.room ≤ noted.room = omega arith in
+    kept-from (note noted refusal) group (sym (take-take noted.room noted.room more within))
+    ∙ take-front noted.room more group ∙ ap (take noted.room) (append_assoc noted.kept (refusal ∷ []) group)
+
+-- of a whole group, begun with nothing, as many are kept as there is room for
+pub noting-kept : (room : ℕ) (group : List Refusal) → (noting (nothing_noted room) group).kept ≡ take room group
+noting-kept room group = kept-from (nothing_noted room) group (sym (take_all room [] (omega arith)))
+
+front-in : (n : ℕ) (group : List Refusal) (refusal : Refusal) → Contains (take n group) refusal → Contains group refusal
+front-in n group refusal (i, within, is) =
+    let both : i < min n (length group) = subst (λ long. i < long) (length-take n group) within in
+    let here : i < length group = omega (arith, both) in
+    let front : i < n = omega (arith, both) in
+    (i, here, sym (get_or-take n group i refusal front) ∙ is)
+
+-- what is noted of a whole group lists it
+pub noted-lists : (room : ℕ) (after : Noted) (group : List Refusal) → after ≡ noting (nothing_noted room) group → Lists (Contains group) after
+noted-lists room after group noted =
+    let kept : after.kept ≡ take room group = ap (λ n. n.kept) noted ∙ noting-kept room group in
+    let same_room : after.room ≡ room = ap (λ n. n.room) noted ∙ noting-room (nothing_noted room) group in
+    record {
+      stand = λ refusal there. front-in room group refusal (subst (λ list. Contains list refusal) kept there);
+      all =
+          λ room_left refusal there.
+          let long : length after.kept ≡ min room (length group) = ap length kept ∙ length-take room group in
+          let whole : length group ≤ room = omega (arith, long, room_left, same_room) in
+          subst (λ list. Contains list refusal) (sym (kept ∙ take_all room group whole)) there;
+    }
+
+-- a listing of a group is one of a group that has the same refusals
+pub lists-same : (Stands Others : Refusal → Type 0) (noted : Noted) → ((refusal : Refusal) → Stands refusal → Others refusal) → ((refusal : Refusal) → Others refusal → Stands refusal) → Lists Stands noted → Lists Others noted
+lists-same Stands Others noted to from lists = record {
+  stand = λ refusal there. to refusal (lists.stand refusal there);
+  all = λ room_left refusal stands. lists.all room_left refusal (from refusal stands);
+}

@@ -1,0 +1,44 @@
+-- What is noted of a group of refusals.
+use Rattle.std.specs.Prelude.{ℕ, ◌<◌, List, [], ◌∷◌, ◌++◌, length, take, Contains, Option, Some, None, ⊤}
+use Rattle.plain_values.specs.declared.refusal.Refusal.{Refusal}
+use Rattle.plain_values.specs.declared.refusal.Stop.{Stop}
+use Rattle.plain_values.specs.declared.refusal.Stop.TheVariants.{Memory, Refused}
+use Rattle.plain_values.specs.Order.{nearer}
+
+-- what is noted of a group: its first refusal, and as many of them as there is room for, in the order in which they were noted
+pub record Noted : Type 0 where
+  pub first : Option Refusal
+  pub room : ℕ
+  pub kept : List Refusal
+
+-- nothing is noted yet, and there is this room
+abbrev pub nothing_noted : ℕ → Noted
+nothing_noted room = record { first = None; room = room; kept = [] }
+
+-- one refusal more
+abbrev pub note : Noted → Refusal → Noted
+note noted refusal = record {
+  first = nearer noted.first (Some refusal);
+  room = noted.room;
+  kept = take noted.room (noted.kept ++ refusal ∷ []);
+}
+
+-- these refusals more, one after the other
+abbrev pub noting : Noted → List Refusal → Noted
+noting noted [] = noted
+noting noted (refusal ∷ refusals) = noting (note noted refusal) refusals
+
+-- the refusal with which a call stops, if it stops with one
+abbrev pub alone : Stop → List Refusal
+alone Memory = []
+alone (Refused refusal) = refusal ∷ []
+
+-- These are refusals of the group, and all of them where there is room left.
+pub record Lists (Stands : Refusal → Type 0) (noted : Noted) : Type 0 where
+  pub stand : (refusal : Refusal) → Contains noted.kept refusal → Stands refusal
+  pub all : length noted.kept < noted.room → (refusal : Refusal) → Stands refusal → Contains noted.kept refusal
+
+-- Where a call stops with a refusal, these are noted of the group of which it is the first.
+abbrev pub Tells : (Refusal → Type 0) → Noted → Stop → Type 0
+Tells Stands noted Memory = ⊤
+Tells Stands noted (Refused refusal) = Lists Stands noted
