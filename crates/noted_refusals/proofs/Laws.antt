@@ -1,10 +1,13 @@
 -- Groups of refusals that are noted part after part, and what is known at the end.
-use Rattle.std.proofs.Common.{ℕ, zero, suc, ◌+◌, ◌≡◌, ◌<◌, ◌≤◌, List, [], ◌∷◌, ◌++◌, length, take, Option, None, Some, MatchOption, Contains, refl, sym, ap, subst, min, arith, ◌∙◌}
+use Rattle.std.proofs.Common.{ℕ, zero, suc, ◌≡◌, ◌<◌, ◌≤◌, List, [], ◌∷◌, ◌++◌, length, take, Some, MatchOption, Contains, refl, sym, ap, subst, min, arith, ◌∙◌}
 use Rattle.std.proofs.lemmas.List.{append_assoc, append-nil, get_or-take, length-take, take-take, take_all}
 use Rattle.plain_values.specs.declared.refusal.Refusal.{Refusal}
+use Rattle.plain_values.specs.declared.refusal.Stop.{Stop}
+use Rattle.plain_values.specs.declared.refusal.Stop.TheVariants.{Memory, Refused}
+use Rattle.plain_values.specs.inner.Stops.{StopsAtFirst}
 use Rattle.plain_values.specs.Order.{IsFirst, least, nearer}
 use Rattle.plain_values.proofs.OrderLaws.{least-first, nearer-assoc, nearer-none}
-use Rattle.noted_refusals.specs.Noted.{Lists, Noted, Tells, note, nothing_noted, noting}
+use Rattle.noted_refusals.specs.Noted.{IsAlone, Lists, Noted, Tells, TellsOf, alone, note, nothing_noted, noting}
 
 -- one list behind another
 pub noting-append : (noted : Noted) (p q : List Refusal) → noting noted (p ++ q) ≡ noting (noting noted p) q
@@ -90,3 +93,20 @@ lists-same Stands Others noted to from lists = record {
   stand = λ refusal there. to refusal (lists.stand refusal there);
   all = λ room_left refusal stands. lists.all room_left refusal (from refusal stands);
 }
+
+-- ---- what is told of a stop
+
+-- the refusal of a stop, noted alone
+pub alone-told : (room : ℕ) (after : Noted) (stop : Stop) → after ≡ noting (nothing_noted room) (alone stop) → TellsOf IsAlone after stop
+alone-told room after Memory only = tt
+alone-told room after (Refused refusal) only = (refusal ∷ [], (refusal, refl), least-first (refusal ∷ []), noted-lists room after (refusal ∷ []) only)
+
+-- what is told of such groups is told of all that are such groups too
+pub told-as : (IsGroup IsOther : List Refusal → Type 0) (noted : Noted) (stop : Stop) → ((group : List Refusal) → IsGroup group → IsOther group) → TellsOf IsGroup noted stop → TellsOf IsOther noted stop
+told-as IsGroup IsOther noted Memory so told = tt
+told-as IsGroup IsOther noted (Refused refusal) so (group, is, first, lists) = (group, so group is, first, lists)
+
+-- what is told of this group is told of such groups
+pub told-of : (IsGroup : List Refusal → Type 0) (group : List Refusal) (noted : Noted) (stop : Stop) → IsGroup group → StopsAtFirst (Contains group) stop → Tells (Contains group) noted stop → TellsOf IsGroup noted stop
+told-of IsGroup group noted Memory is first lists = tt
+told-of IsGroup group noted (Refused refusal) is first lists = (group, is, first, lists)

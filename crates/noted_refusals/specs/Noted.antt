@@ -1,9 +1,9 @@
 -- What is noted of a group of refusals.
-use Rattle.std.specs.Prelude.{ℕ, ◌<◌, List, [], ◌∷◌, ◌++◌, length, take, Contains, Option, Some, None, ⊤}
+use Rattle.std.specs.Prelude.{ℕ, ◌≡◌, ◌<◌, List, [], ◌∷◌, ◌++◌, length, take, Contains, Option, Some, None, ⊤}
 use Rattle.plain_values.specs.declared.refusal.Refusal.{Refusal}
 use Rattle.plain_values.specs.declared.refusal.Stop.{Stop}
 use Rattle.plain_values.specs.declared.refusal.Stop.TheVariants.{Memory, Refused}
-use Rattle.plain_values.specs.Order.{nearer}
+use Rattle.plain_values.specs.Order.{IsFirst, nearer}
 
 -- what is noted of a group: its first refusal, and as many of them as there is room for, in the order in which they were noted
 pub record Noted : Type 0 where
@@ -42,3 +42,12 @@ pub record Lists (Stands : Refusal → Type 0) (noted : Noted) : Type 0 where
 abbrev pub Tells : (Refusal → Type 0) → Noted → Stop → Type 0
 Tells Stands noted Memory = ⊤
 Tells Stands noted (Refused refusal) = Lists Stands noted
+
+-- The group has one refusal alone.
+abbrev pub IsAlone : List Refusal → Type 0
+IsAlone group = (refusal : Refusal) × (group ≡ refusal ∷ [])
+
+-- Where a call stops with a refusal, these are noted of such a group of which it is the first.
+abbrev pub TellsOf : (List Refusal → Type 0) → Noted → Stop → Type 0
+TellsOf IsGroup noted Memory = ⊤
+TellsOf IsGroup noted (Refused refusal) = (group : List Refusal) × IsGroup group × IsFirst (Contains group) refusal × Lists (Contains group) noted
