@@ -1,7 +1,7 @@
 -- What is refused of the error models of an instance, by the phases of their tests. An instance is tested by its kinds, which are
 -- its classifiers, each once, in the order in which they first come: what is refused of a component is refused of each component
 -- of its classifier, and a component without a classifier has nothing that could be refused.
-use Rattle.std.specs.Prelude.{List, [], ◌∷◌, flat_map, map, Option, Some, None, Result, Ok, Err}
+use Rattle.std.specs.Prelude.{◌≡◌, ◌⊎◌, List, [], ◌∷◌, flat_map, map, Option, Some, None, Result, Ok, Err}
 use Rattle.std.specs.Option.{option_or}
 use Rattle.aadl_syntax.specs.declared.core_model.PackageUnit.{PackageUnit}
 use Rattle.plain_values.specs.declared.refusal.Refusal.{Refusal}
@@ -70,3 +70,17 @@ model_refusal table kinds id =
 -- The refusal of the error models: that of the first component that has one.
 abbrev pub models_refusal : Table → List ClassifierId → Option Refusal
 models_refusal table kinds = first_of (map (model_refusal table kinds) kinds)
+
+-- The group is one of those of the error model of a component: what is refused of its points, of its machine, of its flows, or of its
+-- composite states.
+abbrev pub IsGroupWith : Table → Effective → Option Machine → StatesAt → List Refusal → Type 0
+IsGroupWith table effective machine below group =
+    (group ≡ point_refusals table effective)
+    ⊎ ((group ≡ behavior_refusals table (points_of table effective) machine effective)
+    ⊎ ((group ≡ all_flow_refusals table (points_of table effective) (states_of table machine).sorts effective)
+    ⊎ (group ≡ composite_clause_refusals below table (points_of table effective) (states_of table machine) effective)))
+
+-- The group is one of those of the error model of a component of such a classifier.
+abbrev pub IsModelGroup : Table → List ClassifierId → List Refusal → Type 0
+IsModelGroup table kinds group =
+    (id : ClassifierId) × IsGroupWith table (effective_of table.packages id) (kind_machine table.packages id) (states_below table.packages kinds (Some id)) group

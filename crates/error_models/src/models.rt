@@ -1,4 +1,4 @@
-ghost use Rattle.std.specs.Prelude.{◌≡◌, None, Some, IfErr, IfOk, OnOk, map};
+ghost use Rattle.std.specs.Prelude.{◌≡◌, Contains, None, Some, IfErr, IfOk, OnOk, map};
 ghost use Rattle.plain_values.specs.Order.{least};
 ghost use Rattle.error_libraries.specs.Libraries.{table_of};
 ghost use Rattle.propagation_points.specs.Points.{point_refusals, points_of};
@@ -9,7 +9,8 @@ ghost use Rattle.composite_states.specs.Composites.{clauses_of, composite_clause
 ghost use Rattle.plain_values.specs.inner.Stops.{StopsAt};
 ghost use Rattle.error_models.specs.Below.{kind_machine, states_below};
 ghost use Rattle.error_models.specs.Models.{is_composite, model_of, model_with};
-ghost use Rattle.error_models.specs.Refused.{models_refusal, refusal_with};
+ghost use Rattle.error_models.specs.Refused.{IsGroupWith, IsModelGroup, models_refusal, refusal_with};
+ghost use Rattle.noted_refusals.specs.Noted.{Tells, TellsOf};
 
 use crate::model::ErrorModel;
 use crate::tree::{BelowKind, Tree};
@@ -21,7 +22,6 @@ use error_flows::{FlowMeaning, flows_of};
 use error_machines::{States, UsedMachine, states_of};
 use error_types::Reading;
 use instantiator::Instance;
-use noted_refusals::Refusals;
 use plain_values::{Answer, List};
 use propagation_points::{Points, Sorts, points_of};
 use std::alloc::Global;
@@ -30,7 +30,7 @@ use std::alloc::Global;
 ///
 /// The first refusal by component, of which the points are tested first, then the machine, the flows and the composite states,
 /// each a group of which the first by place is answered: N9 and P3 of its points; those of `behavior_of`, of `flows_of` and of
-/// `clauses_of`.
+/// `clauses_of`. The refusals of the group are noted, in place of what was noted before.
 pub fn models_of<'a>(
     alloc: Global,
     instance: &Instance<'_, 'a>,
@@ -43,6 +43,7 @@ pub fn models_of<'a>(
     ensures models { IfOk result (λ models. models ≡ map (model_of reading.old.types instance.now.kinds) instance.now.kinds) }
     ensures accepted { OnOk result (models_refusal reading.old.types instance.now.kinds ≡ None) }
     ensures refused { IfErr result (StopsAt (models_refusal reading.old.types instance.now.kinds)) }
+    ensures told { IfErr result (TellsOf (IsModelGroup reading.old.types instance.now.kinds) reading.new.refusals) }
 {
     let tree = Tree::of(alloc, instance, machines, &mut reading.types)?;
     let mut models = List::new(alloc);
@@ -69,6 +70,7 @@ fn model_of<'a>(
     ensures model { IfOk result (λ model. model ≡ model_with reading.old.types effective.now machine.now (states_below below.now.tree.packages below.now.tree.kinds (Some below.now.classifier))) }
     ensures accepted { OnOk result (refusal_with reading.old.types effective.now machine.now (states_below below.now.tree.packages below.now.tree.kinds (Some below.now.classifier)) ≡ None) }
     ensures refused { IfErr result (StopsAt (refusal_with reading.old.types effective.now machine.now (states_below below.now.tree.packages below.now.tree.kinds (Some below.now.classifier)))) }
+    ensures told { IfErr result (TellsOf (IsGroupWith reading.old.types effective.now machine.now (states_below below.now.tree.packages below.now.tree.kinds (Some below.now.classifier))) reading.new.refusals) }
 {
     let points = points(alloc, effective, reading)?;
     let states = states_of(alloc, &mut reading.types, machine)?;
@@ -101,8 +103,9 @@ fn points<'a>(
     ensures points { IfOk result (λ points. points ≡ points_of reading.old.types effective.now) }
     ensures accepted { OnOk result (least (point_refusals reading.old.types effective.now) ≡ None) }
     ensures refused { IfErr result (StopsAt (least (point_refusals reading.old.types effective.now))) }
+    ensures told { IfErr result (Tells (Contains (point_refusals reading.old.types effective.now)) reading.new.refusals) }
 {
-    reading.refusals = Refusals::new(alloc);
+    reading.refusals.clear();
     let points = points_of(alloc, effective, reading)?;
     reading.refusals.settle()?;
     Ok(points)
@@ -122,8 +125,9 @@ fn behavior<'a>(
     ensures behavior { IfOk result (λ behavior. behavior ≡ behavior_of reading.old.types points.now machine.now effective.now) }
     ensures accepted { OnOk result (least (behavior_refusals reading.old.types points.now machine.now effective.now) ≡ None) }
     ensures refused { IfErr result (StopsAt (least (behavior_refusals reading.old.types points.now machine.now effective.now))) }
+    ensures told { IfErr result (Tells (Contains (behavior_refusals reading.old.types points.now machine.now effective.now)) reading.new.refusals) }
 {
-    reading.refusals = Refusals::new(alloc);
+    reading.refusals.clear();
     let behavior = behavior_of(alloc, effective, machine, states, reading, points)?;
     reading.refusals.settle()?;
     Ok(behavior)
@@ -141,8 +145,9 @@ fn flows<'a>(
     ensures flows { IfOk result (λ flows. flows ≡ flows_of reading.old.types points.now states.now effective.now) }
     ensures accepted { OnOk result (least (all_flow_refusals reading.old.types points.now states.now effective.now) ≡ None) }
     ensures refused { IfErr result (StopsAt (least (all_flow_refusals reading.old.types points.now states.now effective.now))) }
+    ensures told { IfErr result (Tells (Contains (all_flow_refusals reading.old.types points.now states.now effective.now)) reading.new.refusals) }
 {
-    reading.refusals = Refusals::new(alloc);
+    reading.refusals.clear();
     let flows = flows_of(alloc, effective, reading, points, states)?;
     reading.refusals.settle()?;
     Ok(flows)
@@ -161,8 +166,9 @@ fn composites<'a>(
     ensures clauses { IfOk result (λ clauses. clauses ≡ clauses_of (states_below below.now.tree.packages below.now.tree.kinds (Some below.now.classifier)) reading.old.types points.now states.now effective.now) }
     ensures accepted { OnOk result (least (composite_clause_refusals (states_below below.now.tree.packages below.now.tree.kinds (Some below.now.classifier)) reading.old.types points.now states.now effective.now) ≡ None) }
     ensures refused { IfErr result (StopsAt (least (composite_clause_refusals (states_below below.now.tree.packages below.now.tree.kinds (Some below.now.classifier)) reading.old.types points.now states.now effective.now))) }
+    ensures told { IfErr result (Tells (Contains (composite_clause_refusals (states_below below.now.tree.packages below.now.tree.kinds (Some below.now.classifier)) reading.old.types points.now states.now effective.now)) reading.new.refusals) }
 {
-    reading.refusals = Refusals::new(alloc);
+    reading.refusals.clear();
     let clauses = clauses_of(alloc, effective, reading, points, states, below)?;
     reading.refusals.settle()?;
     Ok(clauses)

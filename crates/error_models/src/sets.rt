@@ -1,5 +1,5 @@
 ghost use Rattle.std.specs.Prelude.{◌≡◌, [], Contains, IfErr, OnOk, map};
-ghost use Rattle.noted_refusals.specs.Noted.{noting};
+ghost use Rattle.noted_refusals.specs.Noted.{Tells, noting};
 ghost use Rattle.plain_values.specs.inner.Stops.{StopsAtFirst};
 ghost use Rattle.error_models.specs.Below.{kind_machine};
 ghost use Rattle.error_models.specs.Refused.{all_set_refusals};
@@ -7,7 +7,6 @@ ghost use Rattle.error_models.specs.Refused.{all_set_refusals};
 use error_machines::UsedMachine;
 use error_types::Reading;
 use instantiator::Instance;
-use noted_refusals::Refusals;
 use plain_values::{Answer, Mem};
 use std::alloc::Global;
 use used_sets::note_used_sets;
@@ -27,8 +26,9 @@ pub fn test_sets<'a>(
     ensures kept { reading.new.types ≡ reading.old.types }
     ensures accepted { OnOk result (all_set_refusals reading.old.types instance.now.kinds ≡ []) }
     ensures refused { IfErr result (StopsAtFirst (Contains (all_set_refusals reading.old.types instance.now.kinds))) }
+    ensures told { IfErr result (Tells (Contains (all_set_refusals reading.old.types instance.now.kinds)) reading.new.refusals) }
 {
-    reading.refusals = Refusals::new(alloc);
+    reading.refusals.clear();
     note_sets(alloc, instance, machines, reading)?;
     reading.refusals.settle()?;
     Ok(())

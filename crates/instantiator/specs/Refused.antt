@@ -1,11 +1,12 @@
 -- What is refused of an instance: the first component in preorder of which anything is.
-use Rattle.std.specs.Prelude.{ℕ, ◌+◌, nat_le, List, [], ◌∷◌, length, Option, Some, None, Result, Ok, Err}
+use Rattle.std.specs.Prelude.{ℕ, ◌+◌, ◌≡◌, ◌⊎◌, nat_le, List, [], ◌∷◌, length, Option, Some, None, Result, Ok, Err}
 use Rattle.std.specs.Option.{option_or}
 use Rattle.aadl_syntax.specs.declared.core_model.PackageUnit.{PackageUnit}
 use Rattle.plain_values.specs.declared.refusal.Code.TheVariants.{TooManyComponents, TooDeep}
 use Rattle.plain_values.specs.declared.refusal.Refusal.{Refusal}
 use Rattle.plain_values.specs.Order.{least}
 use Rattle.plain_values.specs.Refusal.{over_limit}
+use Rattle.noted_refusals.specs.Noted.{IsAlone}
 use Rattle.package_index.specs.declared.id.ClassifierId.{ClassifierId}
 use Rattle.component_extension.specs.Items.{classifier_refusals}
 use Rattle.instantiator.specs.declared.occurrence.Occurrence.{Occurrence}
@@ -35,3 +36,7 @@ first_refusal packages number (one ∷ more) = option_or (component_refusal pack
 -- The refusal of an instance: that of its first component in preorder that has one.
 abbrev pub instance_refusal : List PackageUnit → ClassifierId → Option Refusal
 instance_refusal packages root = first_refusal packages 0 (occurrences_of packages root)
+
+-- The group is that of a classifier, the refusals of its chain or of its members, or one refusal alone.
+abbrev pub IsClassifierGroup : List PackageUnit → List Refusal → Type 0
+IsClassifierGroup packages group = IsAlone group ⊎ ((id : ClassifierId) × (group ≡ classifier_refusals packages id))

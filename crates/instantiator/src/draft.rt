@@ -1,14 +1,16 @@
-ghost use Rattle.std.specs.Prelude.{◌≡◌, ◌≤◌, [], length, None, Some, IfOk, MatchResult};
+ghost use Rattle.std.specs.Prelude.{◌≡◌, ◌≤◌, [], length, None, Some, IfOk, IfErr, MatchResult};
 ghost use Rattle.instantiator.specs.Components.{found};
 ghost use Rattle.plain_values.specs.inner.Stops.{StopsAt};
-ghost use Rattle.instantiator.specs.Refused.{component_refusal, limit_refusal};
+ghost use Rattle.instantiator.specs.Refused.{IsClassifierGroup, component_refusal, limit_refusal};
+ghost use Rattle.noted_refusals.specs.Noted.{TellsOf};
 ghost use Rattle.instantiator.specs.inner.Tables.{Added};
 
 use crate::kinds::Kinds;
 use crate::occurrence::{Meant, Occurrence};
 use crate::path::Component;
+use noted_refusals::Refusals;
 use package_index::{ClassifierId, Index};
-use plain_values::{Answer, Code, List, Refusal};
+use plain_values::{Answer, Code, List, Refusal, Stop};
 use std::alloc::Global;
 
 /// The components of an instance so far, and their kinds.
@@ -30,11 +32,19 @@ impl<'i, 'a> Draft<'i, 'a> {
     }
 
     /// Adds a component, and gives the number of its kind if it has a classifier.
-    pub(crate) fn add(&mut self, alloc: Global, one: &Occurrence<'a>) -> Answer<Option<usize>>
-        ensures { MatchResult result (Added self.old self.new one.now) (StopsAt (component_refusal self.old.kinds.packages (length self.old.components) one.now)) }
+    pub(crate) fn add(
+        &mut self,
+        alloc: Global,
+        one: &Occurrence<'a>,
+        refusals: &mut Refusals,
+    ) -> Answer<Option<usize>>
+        ensures added { MatchResult result (Added self.old self.new one.now) (StopsAt (component_refusal self.old.kinds.packages (length self.old.components) one.now)) }
+        ensures told { IfErr result (TellsOf (IsClassifierGroup self.old.kinds.packages) refusals.new) }
     {
-        within_limits(self.components.items().len(), one)?;
-        let kind = self.kinds.enter(alloc, one.classifier)?;
+        if let Err(refusal) = within_limits(self.components.items().len(), one) {
+            return Err(refusals.only(Stop::Refused(refusal)));
+        }
+        let kind = self.kinds.enter(alloc, one.classifier, refusals)?;
         self.components.push(Component {
             path: one.path.again(alloc)?,
             classifier: found(&one.classifier),

@@ -2,7 +2,8 @@ ghost use Rattle.std.specs.Prelude.{◌≡◌, ◌≤◌, None, IfOk, IfErr, OnO
 ghost use Rattle.instantiator.specs.Components.{component_below};
 ghost use Rattle.instantiator.specs.Effectives.{effective_of};
 ghost use Rattle.plain_values.specs.inner.Stops.{StopsAt};
-ghost use Rattle.instantiator.specs.Refused.{instance_refusal};
+ghost use Rattle.instantiator.specs.Refused.{IsClassifierGroup, instance_refusal};
+ghost use Rattle.noted_refusals.specs.Noted.{TellsOf};
 ghost use Rattle.instantiator.specs.inner.Tables.{kind_of};
 ghost use Rattle.instantiator.specs.Whole.{classifier_at, instance_of, kind_number, kinds_of};
 ghost use Rattle.instantiator.specs.inner.Whole.{ParentsComeFirst, PathsDiffer};
@@ -15,6 +16,7 @@ use crate::preorder::add_all;
 use crate::steps::{StepTable, Steps, numbers_of};
 use aadl_syntax::Identifier;
 use component_extension::Effective;
+use noted_refusals::Refusals;
 use package_index::{ClassifierId, Index};
 use plain_values::{Answer, List};
 use std::alloc::Global;
@@ -53,15 +55,21 @@ impl<'i, 'a> Instance<'i, 'a> {
     /// The components are tested in preorder, and the first that is refused decides: M4 where it is the 4,097th, M5 where
     /// its path has more than 32 names after `root`, both at its name in its nearest declaration; then N2 or N3 where the
     /// name of its classifier means none; then what is refused of its classifier's chain and members, as `Effective::of`
-    /// has it.
-    pub fn of(alloc: Global, index: &'i Index<'a>, root: ClassifierId) -> Answer<Instance<'i, 'a>>
+    /// has it. The refusals of its group are noted, in place of what was noted before.
+    pub fn of(
+        alloc: Global,
+        index: &'i Index<'a>,
+        root: ClassifierId,
+        refusals: &mut Refusals,
+    ) -> Answer<Instance<'i, 'a>>
         ensures instance { IfOk result (λ instance. instance ≡ instance_of index.now root) }
         ensures accepted { OnOk result (instance_refusal index.now root ≡ None) }
         ensures refused { IfErr result (StopsAt (instance_refusal index.now root)) }
+        ensures told { IfErr result (TellsOf (IsClassifierGroup index.now) refusals.new) }
     {
         let mut draft = Draft::new(alloc, index);
         let one = Occurrence::root(alloc, root);
-        add_all(alloc, &mut draft, &one)?;
+        add_all(alloc, &mut draft, &one, refusals)?;
         let Draft { kinds, components } = draft;
         let numbers = numbers_of(alloc, components.items())?;
         Ok(Instance {

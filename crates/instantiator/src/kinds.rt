@@ -1,14 +1,16 @@
-ghost use Rattle.std.specs.Prelude.{◌≡◌, ◌∷◌, ◌++◌, [], length, Some, None, IfOk, OnOk, MatchResult, map, option_copied, option_map, option_and_then, slice_get};
+ghost use Rattle.std.specs.Prelude.{◌≡◌, ◌∷◌, ◌++◌, [], length, Some, None, IfOk, IfErr, OnOk, MatchResult, map, option_copied, option_map, option_and_then, slice_get};
 ghost use Rattle.component_extension.specs.Items.{classifier_refusals};
 ghost use Rattle.instantiator.specs.Components.{parts_of};
 ghost use Rattle.instantiator.specs.Effectives.{effective_at, effective_of};
 ghost use Rattle.plain_values.specs.inner.Stops.{StopsAt};
-ghost use Rattle.instantiator.specs.Refused.{classifier_refusal};
+ghost use Rattle.instantiator.specs.Refused.{IsClassifierGroup, classifier_refusal};
+ghost use Rattle.noted_refusals.specs.Noted.{TellsOf};
 ghost use Rattle.instantiator.specs.inner.Tables.{Entered, kind_of};
 ghost use Rattle.instantiator.specs.Whole.{kind_place};
 
 use crate::occurrence::{Meant, Part, parts_of};
 use component_extension::Effective;
+use noted_refusals::Refusals;
 use package_index::{ClassifierId, Index};
 use plain_values::{Answer, List, Mem, Stop};
 use std::alloc::Global;
@@ -63,24 +65,36 @@ impl<'i, 'a> Kinds<'i, 'a> {
     }
 
     /// The number of the kind of what the name of a classifier means, if it means one.
-    pub(crate) fn enter(&mut self, alloc: Global, classifier: Meant) -> Answer<Option<usize>>
-        ensures { MatchResult result (Entered self.old self.new classifier) (StopsAt (classifier_refusal self.old.packages classifier)) }
+    pub(crate) fn enter(
+        &mut self,
+        alloc: Global,
+        classifier: Meant,
+        refusals: &mut Refusals,
+    ) -> Answer<Option<usize>>
+        ensures entered { MatchResult result (Entered self.old self.new classifier) (StopsAt (classifier_refusal self.old.packages classifier)) }
+        ensures told { IfErr result (TellsOf (IsClassifierGroup self.old.packages) refusals.new) }
     {
         match classifier {
-            Ok(Some(id)) => Ok(Some(self.enter_id(alloc, id)?)),
+            Ok(Some(id)) => Ok(Some(self.enter_id(alloc, id, refusals)?)),
             Ok(None) => Ok(None),
-            Err(refusal) => Err(Stop::Refused(refusal)),
+            Err(refusal) => Err(refusals.only(Stop::Refused(refusal))),
         }
     }
 
     /// The number of the kind of a classifier, which is made unless it is among them.
-    fn enter_id(&mut self, alloc: Global, id: ClassifierId) -> Answer<usize>
-        ensures { MatchResult result (λ number. Entered self.old self.new (Ok (Some id)) (Some number)) (StopsAt (classifier_refusal self.old.packages (Ok (Some id)))) }
+    fn enter_id(
+        &mut self,
+        alloc: Global,
+        id: ClassifierId,
+        refusals: &mut Refusals,
+    ) -> Answer<usize>
+        ensures entered { MatchResult result (λ number. Entered self.old self.new (Ok (Some id)) (Some number)) (StopsAt (classifier_refusal self.old.packages (Ok (Some id)))) }
+        ensures told { IfErr result (TellsOf (IsClassifierGroup self.old.packages) refusals.new) }
     {
         if let Some(number) = self.number(id) {
             return Ok(number);
         }
-        let effective = Effective::of(alloc, self.index, id)?;
+        let effective = Effective::of(alloc, self.index, id, refusals)?;
         let kind = Kind {
             classifier: id,
             effective,

@@ -99,8 +99,9 @@ accepted-all pointed i past none = ap (λ refusals. slice_get refusals 0) (ap (n
 
 module _ (pointed made : Pointed) (same : made ≡ pointed) where
   -- where there are too many, that is the refusal
-  pub limit-stops : (refusal : Refusal) → limit_refusal made ≡ Some refusal → option_or (limit_refusal pointed) (first_fault pointed) ≡ Some refusal
-  limit-stops refusal over = ap (λ o. option_or o (first_fault pointed)) (ap limit_refusal (sym same) ∙ over)
+  pub limit-stops : (stop : Stop) → StopsAt (limit_refusal made) stop → StopsAt (option_or (limit_refusal pointed) (first_fault pointed)) stop
+  limit-stops Memory over = tt
+  limit-stops (Refused refusal) over = ap (λ o. option_or o (first_fault pointed)) (ap limit_refusal (sym same) ∙ over)
 
   within-limit : limit_refusal made ≡ None → first_fault made ≡ option_or (limit_refusal pointed) (first_fault pointed)
   within-limit none = ap first_fault same ∙ ap (λ o. option_or o (first_fault pointed)) (sym (ap limit_refusal (sym same) ∙ none))

@@ -1,11 +1,12 @@
-ghost use Rattle.std.specs.Prelude.{◌≡◌, ◌<◌, ◌≤◌, ◌^◌, length, None, Some, IfOk, IfErr, OnOk, MatchResult, map};
+ghost use Rattle.std.specs.Prelude.{◌≡◌, ◌<◌, ◌≤◌, ◌^◌, Contains, length, None, Some, IfOk, IfErr, OnOk, MatchResult, map};
 ghost use Rattle.plain_values.specs.inner.Stops.{StopsAt};
 ghost use Rattle.propagation_links.specs.Bound.{all_bounds};
 ghost use Rattle.propagation_links.specs.Links.{links_of};
-ghost use Rattle.propagation_links.specs.Refused.{count_in, count_links, refusals_in, first_fault, limit_refusal, links_refusal};
+ghost use Rattle.propagation_links.specs.Refused.{IsLinkGroup, IsLinksGroup, count_in, count_links, refusals_in, first_fault, limit_refusal, links_refusal};
 ghost use Rattle.propagation_links.specs.inner.Steps.{Linked, AllLinked};
 ghost use Rattle.instantiator.specs.Whole.{effective_in};
 ghost use Rattle.plain_values.specs.Order.{least};
+ghost use Rattle.noted_refusals.specs.Noted.{IsAlone, Tells, TellsOf};
 
 use crate::bound::{BoundTo, bounds_of};
 use crate::bound_links::{add_all_bound, count_references};
@@ -17,7 +18,7 @@ use crate::refused::note_faults;
 use component_extension::Effective;
 use instantiator::Instance;
 use noted_refusals::Refusals;
-use plain_values::{Answer, Code, List, Place, Refusal};
+use plain_values::{Answer, Code, List, Place, Refusal, Stop};
 use propagation_points::Points;
 use std::alloc::Global;
 
@@ -40,36 +41,45 @@ pub fn links_of<'a>(
     alloc: Global,
     instance: &Instance<'_, 'a>,
     points: &[&Points<'a>],
+    refusals: &mut Refusals,
 ) -> Answer<List<Link>>
     ensures links { IfOk result (λ links. links ≡ links_of instance.now (map (λ points. points.now) points.now)) }
     ensures accepted { OnOk result (links_refusal instance.now (map (λ points. points.now) points.now) ≡ None) }
     ensures refused { IfErr result (StopsAt (links_refusal instance.now (map (λ points. points.now) points.now))) }
+    ensures told { IfErr result (TellsOf (IsLinksGroup instance.now (map (λ points. points.now) points.now)) refusals.new) }
 {
     let pointed = Pointed::new(instance, points);
     let bounds = bounds_of(alloc, instance)?;
-    within_limit(&pointed, bounds.items())?;
-    let mut links = connected(alloc, &pointed)?;
+    test_limit(&pointed, bounds.items(), refusals)?;
+    let mut links = connected(alloc, &pointed, refusals)?;
     add_all_bound(&mut links, &pointed, bounds.items())?;
     Ok(links)
 }
 
 /// The links of the connections and paths of all components.
-fn connected(alloc: Global, pointed: &Pointed) -> Answer<List<Link>>
-    ensures { MatchResult result (AllLinked pointed.now) (StopsAt (first_fault pointed.now)) }
+fn connected(alloc: Global, pointed: &Pointed, refusals: &mut Refusals) -> Answer<List<Link>>
+    ensures linked { MatchResult result (AllLinked pointed.now) (StopsAt (first_fault pointed.now)) }
+    ensures told { IfErr result (TellsOf (IsLinkGroup pointed.now) refusals.new) }
 {
     let mut links = List::new(alloc);
     for number in 0..pointed.instance().components().len() {
-        add_component(&mut links, pointed, number as u32)?;
+        add_component(&mut links, pointed, number as u32, refusals)?;
     }
     Ok(links)
 }
 
 /// Adds the links of the component of a number, unless anything is refused of it.
-fn add_component(links: &mut List<Link>, pointed: &Pointed, number: u32) -> Answer<()>
-    ensures { MatchResult result (λ _. Linked pointed.now number (effective_in pointed.now.instance number) links.old links.new) (StopsAt (least (refusals_in pointed.now number (effective_in pointed.now.instance number)))) }
+fn add_component(
+    links: &mut List<Link>,
+    pointed: &Pointed,
+    number: u32,
+    refusals: &mut Refusals,
+) -> Answer<()>
+    ensures linked { MatchResult result (λ _. Linked pointed.now number (effective_in pointed.now.instance number) links.old links.new) (StopsAt (least (refusals_in pointed.now number (effective_in pointed.now.instance number)))) }
+    ensures told { IfErr result (TellsOf (IsLinkGroup pointed.now) refusals.new) }
 {
     match pointed.instance().effective(number) {
-        Some(effective) => add_effective(links, pointed, number, effective),
+        Some(effective) => add_effective(links, pointed, number, effective, refusals),
         None => Ok(()),
     }
 }
@@ -79,14 +89,29 @@ fn add_effective<'a>(
     pointed: &Pointed<'_, '_, 'a>,
     number: u32,
     effective: &Effective<'a>,
+    refusals: &mut Refusals,
 ) -> Answer<()>
-    ensures { MatchResult result (λ _. Linked pointed.now number effective.now links.old links.new) (StopsAt (least (refusals_in pointed.now number effective.now))) }
+    ensures linked { MatchResult result (λ _. Linked pointed.now number effective.now links.old links.new) (StopsAt (least (refusals_in pointed.now number effective.now))) }
+    ensures told { IfErr result (Tells (Contains (refusals_in pointed.now number effective.now)) refusals.new) }
 {
-    let mut refusals = Refusals::new(alloc);
-    note_faults(&mut refusals, pointed, number, effective);
+    refusals.clear();
+    note_faults(refusals, pointed, number, effective);
     refusals.settle()?;
     add_links(links, pointed, number, effective)?;
     Ok(())
+}
+
+/// Refuses where all components have too many connections, user paths and references of these bindings, and notes that.
+fn test_limit(pointed: &Pointed, bounds: &[BoundTo], refusals: &mut Refusals) -> Answer<()>
+    requires bounds { bounds.now ≡ all_bounds pointed.now.instance }
+    requires few { length bounds.now ≤ 4096 }
+    ensures limit { MatchResult result (λ _. limit_refusal pointed.now ≡ None) (StopsAt (limit_refusal pointed.now)) }
+    ensures told { IfErr result (TellsOf IsAlone refusals.new) }
+{
+    match within_limit(pointed, bounds) {
+        Ok(()) => Ok(()),
+        Err(refusal) => Err(refusals.only(Stop::Refused(refusal))),
+    }
 }
 
 /// Refuses where all components have too many connections, user paths and references of these bindings.

@@ -37,7 +37,7 @@ returns-in_err-machine-clause-refused c =
     let kinds = c.kinds-kind-items.result.now in
     let one = c.kind-item.result in
     let stop = c.in_err-machine.field-0.0 in
-    let here : StopsAt (fault packages one) stop = subst (λ all. StopsAt (fault all one) stop) c.index.ensures c.in_err-machine.ensures in
+    let here : StopsAt (fault packages one) stop = subst (λ all. StopsAt (fault all one) stop) c.index.ensures c.in_err-machine.ensures.machine in
     let p = err_from_is_err_and c.from_residual.result c.from_residual.ensures.1 in
     rw (p.1, p.2) (subst (λ refusal. StopsAt refusal stop) (whole packages kinds c.args.instance.now.kinds c.kinds-kind-items.ensures.kinds)
     (first-stop (fault packages) kinds c.loop-kind.kind-index one (first_of (map (fault packages) kinds)) c.loop-kind-test.true c.kind-item.is c.loop-kind.invariant.left stop here))
@@ -49,9 +49,9 @@ loop-kind-preserved c =
     let one = c.kind-item.result in
     record {
       machines = map-more (made packages) kinds c.loop-kind.kind-index one c.in_ok-machine.machine c.loop-kind.machines c.push.new.self c.loop-kind-test.true c.kind-item.is c.loop-kind.invariant.machines c.in_ok-push.ensures.ok
-          (c.in_ok-machine.ensures.0 ∙ ap (λ all. made all one) c.index.ensures);
+          (c.in_ok-machine.ensures.machine.0 ∙ ap (λ all. made all one) c.index.ensures);
       left = first-step (fault packages) kinds c.loop-kind.kind-index one (first_of (map (fault packages) kinds)) c.loop-kind-test.true c.kind-item.is c.loop-kind.invariant.left
-          (sym (ap (λ all. fault all one) c.index.ensures) ∙ c.in_ok-machine.ensures.1);
+          (sym (ap (λ all. fault all one) c.index.ensures) ∙ c.in_ok-machine.ensures.machine.1);
     }
 
 pub returns-clause-machines : goal.returns-clause-machines

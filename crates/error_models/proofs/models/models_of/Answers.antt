@@ -9,11 +9,13 @@ use Rattle.error_machines.specs.Machines.{Machine}
 use Rattle.error_conditions.proofs.ConditionLaws.{map-more}
 use Rattle.instantiator.specs.declared.kinds.Kind.{Kind}
 use Rattle.instantiator.specs.Effectives.{effective_of}
+use Rattle.plain_values.specs.declared.refusal.Refusal.{Refusal}
 use Rattle.plain_values.specs.inner.Stops.{StopsAt}
+use Rattle.noted_refusals.proofs.Laws.{told-as}
 use Rattle.instantiator.specs.inner.Tables.{kind_of}
 use Rattle.error_models.specs.Below.{kind_machine, states_below}
 use Rattle.error_models.specs.Models.{model_of, model_with}
-use Rattle.error_models.specs.Refused.{first_of, model_refusal, refusal_with}
+use Rattle.error_models.specs.Refused.{IsGroupWith, IsModelGroup, first_of, model_refusal, refusal_with}
 use Rattle.error_models.specs.inner.Trees.{Tree}
 use Rattle.error_models.proofs.KindLaws.{first-end, first-step, first-stop, made-at}
 use Rattle.error_models.proofs.models.models_of.Goals as goal
@@ -54,6 +56,27 @@ module _ (table types : Table) (packages : List PackageUnit) (ids : List Classif
   refusal =
       (λ k. refusal_with (kept k) (kind k).effective (own k) (states_below (is_tree k).packages (is_tree k).kinds (Some (kind k).classifier)))
       ∙ (λ k. refusal_with table (effective_of (sym same k) id) (kind_machine (sym same k) id) (states_below (sym same k) ids (Some id))) ∙ refusal-is table ids id
+
+  told-here : (group : List Refusal) → IsGroupWith types one.effective machine (states_below tree.packages tree.kinds (Some one.classifier)) group → IsModelGroup table ids group
+  told-here group is =
+      let a = subst (λ t. IsGroupWith t one.effective machine (states_below tree.packages tree.kinds (Some one.classifier)) group) kept is in
+      let b = subst (λ (k : Kind). IsGroupWith table k.effective machine (states_below tree.packages tree.kinds (Some k.classifier)) group) kind a in
+      let d = subst (λ m. IsGroupWith table (effective_of packages id) m (states_below tree.packages tree.kinds (Some id)) group) own b in
+      let e = subst (λ (t : Tree). IsGroupWith table (effective_of packages id) (kind_machine packages id) (states_below t.packages t.kinds (Some id)) group) is_tree d in
+      (id, subst (λ all. IsGroupWith table (effective_of all id) (kind_machine all id) (states_below all ids (Some id)) group) (sym same) e)
+
+pub returns-in_err-model-clause-told : goal.returns-in_err-model-clause-told
+returns-in_err-model-clause-told c =
+    let table = c.args.reading.now.types in
+    let ids = c.args.instance.now.kinds in
+    let one = c.kind-item.result in
+    let below = states_below c.in_ok-tree.tree.packages c.in_ok-tree.tree.kinds (Some one.classifier) in
+    let tells = told-as (IsGroupWith c.loop-number.reading.types one.effective c.index-machines-number.result below) (IsModelGroup table ids) c.model_of.new.reading.refusals c.in_err-model.field-0.0
+    (told-here table c.loop-number.reading.types c.args.instance.now.packages ids c.kinds-kind-items.result.now c.args.machines.now c.in_ok-tree.tree c.loop-number.number one c.index-machines-number.result c.loop-number-test.true c.kinds-kind-items.ensures.kinds c.requires.machines
+    (ap (λ (types : Table). types.packages) c.requires.table) c.loop-number.invariant.kept c.in_ok-tree.ensures.tree c.kind-item.is c.index-machines-number.is)
+    c.in_err-model.ensures.told in
+    let p = err_from_is_err_and c.from_residual-in_err-model.result c.from_residual-in_err-model.ensures.1 in
+    rw (p.1, p.2) tells
 
 pub returns-in_err-model-clause-refused : goal.returns-in_err-model-clause-refused
 returns-in_err-model-clause-refused c =

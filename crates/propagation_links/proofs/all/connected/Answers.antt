@@ -7,13 +7,13 @@ use Rattle.propagation_links.specs.Links.{component_links}
 use Rattle.propagation_links.proofs.LinkLaws.{accepted-all, accepted-more, links-more, stops-at}
 use Rattle.propagation_links.proofs.all.connected.Goals as goal
 
-pub returns-in_err-add_component : goal.returns-in_err-add_component
-returns-in_err-add_component c =
+pub returns-in_err-add_component-clause-linked : goal.returns-in_err-add_component-clause-linked
+returns-in_err-add_component-clause-linked c =
     let pointed = c.args.pointed.now in
     let long = ap length (c.components-number-end.ensures.components ∙ ap (λ (instance : Instance). instance.components) c.instance.ensures) in
     let within : c.loop-number.number < length pointed.instance.components = omega (arith, long, c.loop-number-test.true) in
     let p = err_from_is_err_and c.from_residual.result c.from_residual.ensures.1 in
-    rw (p.1, p.2) (stops-at pointed c.loop-number.number within c.loop-number.invariant.accepted c.in_err-add_component.field-0.0 c.in_err-add_component.ensures)
+    rw (p.1, p.2) (stops-at pointed c.loop-number.number within c.loop-number.invariant.accepted c.in_err-add_component.field-0.0 c.in_err-add_component.ensures.linked)
 
 pub loop-number-preserved : goal.loop-number-preserved
 loop-number-preserved c =
@@ -21,12 +21,12 @@ loop-number-preserved c =
     let long = ap length (c.components-number-end.ensures.components ∙ ap (λ (instance : Instance). instance.components) c.instance.ensures) in
     let within : c.loop-number.number < length pointed.instance.components = omega (arith, long, c.loop-number-test.true) in
     record {
-      links = links-more pointed c.loop-number.number within c.loop-number.links c.add_component.new.links c.loop-number.invariant.links c.in_ok-add_component.ensures;
-      accepted = accepted-more pointed c.loop-number.number within c.loop-number.invariant.accepted c.in_ok-add_component.ensures.accepted;
+      links = links-more pointed c.loop-number.number within c.loop-number.links c.add_component.new.links c.loop-number.invariant.links c.in_ok-add_component.ensures.linked;
+      accepted = accepted-more pointed c.loop-number.number within c.loop-number.invariant.accepted c.in_ok-add_component.ensures.linked.accepted;
     }
 
-pub returns : goal.returns
-returns c =
+pub returns-clause-linked : goal.returns-clause-linked
+returns-clause-linked c =
     let pointed = c.args.pointed.now in
     let long = ap length (c.components-number-end.ensures.components ∙ ap (λ (instance : Instance). instance.components) c.instance.ensures) in
     let past : length pointed.instance.components ≤ c.loop-number.number = omega (arith, long, c.loop-number-test.false) in

@@ -3,19 +3,19 @@ use Rattle.std.proofs.lemmas.Result.{err_from_is_err_and}
 use Rattle.propagation_links.proofs.LinkLaws.{all-accepted, all-linked, component-stops, limit-stops}
 use Rattle.propagation_links.proofs.all.links_of.Goals as goal
 
-pub returns-in_err-within_limit-clause-refused : goal.returns-in_err-within_limit-clause-refused
-returns-in_err-within_limit-clause-refused c =
-    let p = err_from_is_err_and c.from_residual-in_err-within_limit.result c.from_residual-in_err-within_limit.ensures.1 in
-    rw (p.1, p.2) (limit-stops _ c.new-pointed.result c.new-pointed.ensures c.in_err-within_limit.field-0.0 c.in_err-within_limit.ensures)
+pub returns-in_err-test_limit-clause-refused : goal.returns-in_err-test_limit-clause-refused
+returns-in_err-test_limit-clause-refused c =
+    let p = err_from_is_err_and c.from_residual-in_err-test_limit.result c.from_residual-in_err-test_limit.ensures.1 in
+    rw (p.1, p.2) (limit-stops _ c.new-pointed.result c.new-pointed.ensures c.in_err-test_limit.field-0.0 c.in_err-test_limit.ensures.limit)
 
 pub returns-in_err-links-clause-refused : goal.returns-in_err-links-clause-refused
 returns-in_err-links-clause-refused c =
     let p = err_from_is_err_and c.from_residual-in_err-links.result c.from_residual-in_err-links.ensures.1 in
-    rw (p.1, p.2) (component-stops _ c.new-pointed.result c.new-pointed.ensures c.in_err-links.field-0.0 c.in_ok-within_limit.ensures c.in_err-links.ensures)
+    rw (p.1, p.2) (component-stops _ c.new-pointed.result c.new-pointed.ensures c.in_err-links.field-0.0 c.in_ok-test_limit.ensures.limit c.in_err-links.ensures.linked)
 
 pub returns-clause-links : goal.returns-clause-links
 returns-clause-links c =
-    all-linked _ c.new-pointed.result c.new-pointed.ensures c.in_ok-links.links c.add_all_bound.new.links _ c.in_ok-links.ensures.are (c.items-2.ensures.items ∙ c.in_ok-bounds.ensures.bounds) c.in_ok-add_all_bound.ensures
+    all-linked _ c.new-pointed.result c.new-pointed.ensures c.in_ok-links.links c.add_all_bound.new.links _ c.in_ok-links.ensures.linked.are (c.items-2.ensures.items ∙ c.in_ok-bounds.ensures.bounds) c.in_ok-add_all_bound.ensures
 
 pub returns-clause-accepted : goal.returns-clause-accepted
-returns-clause-accepted c = all-accepted _ c.new-pointed.result c.new-pointed.ensures c.in_ok-within_limit.ensures c.in_ok-links.ensures.accepted
+returns-clause-accepted c = all-accepted _ c.new-pointed.result c.new-pointed.ensures c.in_ok-test_limit.ensures.limit c.in_ok-links.ensures.linked.accepted

@@ -9,11 +9,11 @@ use Rattle.instantiator.proofs.EffectiveIs.{effective-is}
 use Rattle.instantiator.proofs.KindLaws.{entered-again, entered-new, refused-stops}
 use Rattle.instantiator.proofs.kinds.Kinds.enter_id.Goals as goal
 
-pub returns-in-Some : goal.returns-in-Some
-returns-in-Some c = entered-again _ _ _ c.self.invariant _ c.self.view_is c.args.id c.in-Some.number (sym c.number.ensures ∙ c.in-Some.is)
+pub returns-in-Some-clause-entered : goal.returns-in-Some-clause-entered
+returns-in-Some-clause-entered c = entered-again _ _ _ c.self.invariant _ c.self.view_is c.args.id c.in-Some.number (sym c.number.ensures ∙ c.in-Some.is)
 
-pub returns-in_err-effective : goal.returns-in_err-effective
-returns-in_err-effective c =
+pub returns-in_err-effective-clause-entered : goal.returns-in_err-effective-clause-entered
+returns-in_err-effective-clause-entered c =
     let view : c.self.inside.index.now ≡ c.args.self.now.packages = ap (λ (kinds : Kinds). kinds.packages) c.self.view_is in
     let p = err_from_is_err_and c.from_residual.result c.from_residual.ensures.1 in
     rw (p.1, p.2) (subst (λ packages. StopsAt (least (classifier_refusals packages c.args.id)) c.in_err-effective.field-0.0) view (refused-stops _ _ c.in_err-effective.ensures.refused))
@@ -25,7 +25,7 @@ add-requires-clause-effective c =
     let effective = effective-is c.args.self.now.packages c.args.id made (subst (λ packages. IsEffective packages c.args.id made) view c.in_ok-effective.ensures.effective) in
     λ i. record { classifier = c.args.id; effective = effective i }
 
-pub returns : goal.returns
-returns c =
+pub returns-clause-entered : goal.returns-clause-entered
+returns-clause-entered c =
     let view : c.self.inside.index.now ≡ c.args.self.now.packages = ap (λ (kinds : Kinds). kinds.packages) c.self.view_is in
     entered-new c.args.self.now c.add.new.self c.args.id _ (sym c.number.ensures ∙ c.in_default.is) (ap (λ packages. classifier_refusals packages c.args.id) (sym view) ∙ c.in_ok-effective.ensures.accepted) c.in_ok-add.ensures.kinds c.in_ok-add.ensures.number
