@@ -1,3 +1,4 @@
 pub mod Tested
 mod Made
 pub mod Decided
+pub mod ToldLaws

@@ -1,13 +1,15 @@
-ghost use Rattle.std.specs.Prelude.{◌≡◌, IfOk};
+ghost use Rattle.std.specs.Prelude.{◌≡◌, IfErr, IfOk};
 ghost use Rattle.phases.specs.inner.Meets.{Meets};
 ghost use Rattle.phases.specs.Phases.{tests};
-ghost use Rattle.instantiator.specs.Refused.{instance_refusal};
+ghost use Rattle.instantiator.specs.Refused.{IsClassifierGroup, instance_refusal};
+ghost use Rattle.noted_refusals.specs.Noted.{IsAlone};
 ghost use Rattle.instantiator.specs.Whole.{instance_of};
 ghost use Rattle.propagation_links.specs.Links.{links_of};
-ghost use Rattle.propagation_links.specs.Refused.{links_refusal};
+ghost use Rattle.propagation_links.specs.Refused.{IsLinksGroup, links_refusal};
 ghost use Rattle.model_facts.specs.Assembly.{points_in};
 ghost use Rattle.model_phases.specs.Phases.{assembled, sized};
 ghost use Rattle.model_phases.specs.Tests.{IsIt};
+ghost use Rattle.model_phases.specs.Told.{IsGroupOf, ToldOf};
 ghost use Rattle.model_phases.specs.inner.Tests.{MeetsTests};
 
 use crate::kinds::{Kinds, kinds_of};
@@ -17,9 +19,10 @@ use fact_formulas::NumberedModel;
 use fault_system::FaultSystem;
 use instantiator::Instance;
 use model_facts::{Assembly, points_of_models};
+use noted_refusals::Refusals;
 use package_index::{ClassifierId, Index};
 use phases::Status;
-use plain_values::List;
+use plain_values::{List, Stop};
 use propagation_links::{Link, links_of};
 use property_reader::Rate;
 use std::alloc::Global;
@@ -75,18 +78,20 @@ impl FromAssembly for FlatModel {
 /// It is tested phase by phase, and the first that refuses decides: its components (M4, M5, N2 to N6, P1 to P3), their machines
 /// (N2, N15), the error types (M8), the written sets that are used (N2, N7, N8, P4), the error models (N9 to N13, P3, P5
 /// to P8, P11, P12), the links (M14, N14, P3, P9), and then the size (M6, M7, M9). Rates are not tested: a value that
-/// is none gives the conservative rate.
+/// is none gives the conservative rate. The refusals of the group that refuses are noted, in place of what was noted before.
 pub fn assembled<M: FromAssembly>(
     alloc: Global,
     index: &Index,
     root: ClassifierId,
+    refusals: &mut Refusals,
 ) -> Result<M, Status>
-    ensures { Meets (assembled M.phase index.now root) result }
+    ensures made { Meets (assembled M.phase index.now root) result }
+    ensures told { IfErr result (ToldOf (IsGroupOf index.now root) refusals.new) }
 {
-    let instance = instance_at(alloc, index, root)?;
-    let kinds = kinds_of(alloc, &instance)?;
-    let links = links_between(alloc, &instance, &kinds)?;
-    made_of(alloc, &instance, &kinds, &links)
+    let instance = instance_at(alloc, index, root, refusals)?;
+    let kinds = kinds_of(alloc, &instance, refusals)?;
+    let links = links_between(alloc, &instance, &kinds, refusals)?;
+    noted_made(alloc, &instance, &kinds, &links, refusals)
 }
 
 /// The instance of a root.
@@ -94,11 +99,13 @@ fn instance_at<'i, 'a>(
     alloc: Global,
     index: &'i Index<'a>,
     root: ClassifierId,
+    refusals: &mut Refusals,
 ) -> Result<Instance<'i, 'a>, Status>
     ensures tested { MeetsTests (tests (IsIt (instance_refusal index.now root))) result }
+    ensures told { IfErr result (ToldOf (IsClassifierGroup index.now) refusals.new) }
     ensures instance { IfOk result (λ instance. instance ≡ instance_of index.now root) }
 {
-    Ok(Instance::of(alloc, index, root)?)
+    Ok(Instance::of(alloc, index, root, refusals)?)
 }
 
 /// The links of an instance whose kinds have these error models.
@@ -106,12 +113,43 @@ fn links_between<'a>(
     alloc: Global,
     instance: &Instance<'_, 'a>,
     kinds: &Kinds<'_, 'a>,
+    refusals: &mut Refusals,
 ) -> Result<List<Link>, Status>
     ensures tested { MeetsTests (tests (IsIt (links_refusal instance.now (points_in kinds.now.models)))) result }
+    ensures told { IfErr result (ToldOf (IsLinksGroup instance.now (points_in kinds.now.models)) refusals.new) }
     ensures links { IfOk result (λ links. links ≡ links_of instance.now (points_in kinds.now.models)) }
 {
     let points = points_of_models(alloc, kinds.models.items())?;
-    Ok(links_of(alloc, instance, points.items())?)
+    Ok(links_of(alloc, instance, points.items(), refusals)?)
+}
+
+/// What is made of an instance whose kinds have these error models, and which has these links. A refusal is noted, in place of what was
+/// noted before.
+fn noted_made<'m, 'i, 'a, M: FromAssembly>(
+    alloc: Global,
+    instance: &'m Instance<'i, 'a>,
+    kinds: &'m Kinds<'i, 'a>,
+    links: &'m List<Link>,
+    refusals: &mut Refusals,
+) -> Result<M, Status>
+    ensures made { Meets (sized M.phase (record { instance = instance.now; types = kinds.now.types; models = kinds.now.models; links = links.now })) result }
+    ensures told { IfErr result (ToldOf IsAlone refusals.new) }
+{
+    match made_of(alloc, instance, kinds, links) {
+        Ok(made) => Ok(made),
+        Err(status) => Err(noted_alone(status, refusals)),
+    }
+}
+
+/// Notes the refusal with which a call ends, if it ends with one, in place of what was noted before. Hands back how it ends.
+pub fn noted_alone(status: Status, refusals: &mut Refusals) -> Status
+    ensures status { result ≡ status }
+    ensures told { ToldOf IsAlone refusals.new status }
+{
+    if let Status::Refused(refusal) = &status {
+        refusals.only(Stop::Refused(*refusal));
+    }
+    status
 }
 
 /// What is made of an instance whose kinds have these error models, and which has these links.

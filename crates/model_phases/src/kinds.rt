@@ -1,9 +1,11 @@
-ghost use Rattle.std.specs.Prelude.{◌≡◌, IfOk, map};
+ghost use Rattle.std.specs.Prelude.{◌≡◌, ◌⊎◌, IfErr, IfOk, map};
 ghost use Rattle.phases.specs.Phases.{tests};
 ghost use Rattle.error_libraries.specs.Libraries.{HasTooManyTypes, table_of};
 ghost use Rattle.error_models.specs.Below.{kind_machine};
 ghost use Rattle.error_models.specs.Models.{model_of};
-ghost use Rattle.error_models.specs.Refused.{machines_refusal};
+ghost use Rattle.error_models.specs.Refused.{IsModelGroup, all_set_refusals, machines_refusal};
+ghost use Rattle.noted_refusals.specs.Noted.{IsAlone};
+ghost use Rattle.model_phases.specs.Told.{IsKindsGroup, ToldOf};
 ghost use Rattle.model_phases.specs.Phases.{content_tests, kind_tests};
 ghost use Rattle.model_phases.specs.Tests.{IsIt};
 ghost use Rattle.model_phases.specs.inner.Tests.{MeetsTests};
@@ -12,6 +14,7 @@ use error_machines::UsedMachine;
 use error_models::{ErrorModel, machines_of, models_of, test_sets};
 use error_types::{Reading, TypeTable};
 use instantiator::Instance;
+use noted_refusals::Refusals;
 use phases::Status;
 use plain_values::List;
 use std::alloc::Global;
@@ -27,37 +30,67 @@ pub(crate) struct Kinds<'i, 'a> {
 pub(crate) fn kinds_of<'i, 'a>(
     alloc: Global,
     instance: &Instance<'i, 'a>,
+    refusals: &mut Refusals,
 ) -> Result<Kinds<'i, 'a>, Status>
     ensures tested { MeetsTests (kind_tests instance.now) result }
+    ensures told { IfErr result (ToldOf (IsKindsGroup instance.now) refusals.new) }
     ensures types { IfOk result (λ kinds. kinds.types ≡ table_of instance.now.packages) }
     ensures models { IfOk result (λ kinds. kinds.models ≡ map (model_of (table_of instance.now.packages) instance.now.kinds) instance.now.kinds) }
 {
-    let machines = machines_in(alloc, instance)?;
-    let mut reading = reading_of(alloc, instance)?;
-    let models = models_with(alloc, instance, &machines, &mut reading)?;
-    Ok(Kinds {
-        types: reading.types,
-        models,
-    })
+    let machines = machines_in(alloc, instance, refusals)?;
+    let mut reading = reading_of(alloc, instance, refusals)?;
+    let read = models_with(alloc, instance, &machines, &mut reading);
+    let Reading {
+        types,
+        refusals: noted,
+    } = reading;
+    *refusals = noted;
+    let models = read?;
+    Ok(Kinds { types, models })
 }
 
 /// The machines of the kinds of an instance, in order; a kind may use none.
 fn machines_in<'a>(
     alloc: Global,
     instance: &Instance<'_, 'a>,
+    refusals: &mut Refusals,
 ) -> Result<List<Option<UsedMachine<'a>>>, Status>
     ensures tested { MeetsTests (tests (IsIt (machines_refusal instance.now.packages instance.now.kinds))) result }
+    ensures told { IfErr result (ToldOf IsAlone refusals.new) }
     ensures machines { IfOk result (λ machines. machines ≡ map (kind_machine instance.now.packages) instance.now.kinds) }
 {
-    Ok(machines_of(alloc, instance)?)
+    Ok(machines_of(alloc, instance, refusals)?)
 }
 
-/// A reading with the error types of the packages of an instance.
-fn reading_of<'i, 'a>(alloc: Global, instance: &Instance<'i, 'a>) -> Result<Reading<'i, 'a>, Status>
+/// A reading with the error types of the packages of an instance, which takes over what is noted.
+fn reading_of<'i, 'a>(
+    alloc: Global,
+    instance: &Instance<'i, 'a>,
+    refusals: &mut Refusals,
+) -> Result<Reading<'i, 'a>, Status>
     ensures tested { MeetsTests (tests (HasTooManyTypes instance.now.packages)) result }
+    ensures told { IfErr result (ToldOf IsAlone refusals.new) }
     ensures types { IfOk result (λ reading. reading.types ≡ table_of instance.now.packages) }
 {
-    Ok(Reading::new(TypeTable::new(alloc, instance.index())?))
+    let types = types_of(alloc, instance, refusals)?;
+    let noted = std::mem::replace(refusals, Refusals::new(alloc));
+    Ok(Reading::new(types, noted))
+}
+
+/// The error types of the packages of an instance. Their refusal is noted.
+fn types_of<'i, 'a>(
+    alloc: Global,
+    instance: &Instance<'i, 'a>,
+    refusals: &mut Refusals,
+) -> Result<TypeTable<'i, 'a>, Status>
+    ensures tested { MeetsTests (tests (HasTooManyTypes instance.now.packages)) result }
+    ensures told { IfErr result (ToldOf IsAlone refusals.new) }
+    ensures types { IfOk result (λ types. types ≡ table_of instance.now.packages) }
+{
+    match TypeTable::new(alloc, instance.index()) {
+        Ok(types) => Ok(types),
+        Err(stop) => Err(Status::from(refusals.only(stop))),
+    }
 }
 
 /// The error models of the kinds of an instance, which have these machines, once the written sets that they use are tested.
@@ -70,6 +103,7 @@ fn models_with<'a>(
     requires machines { machines.now ≡ map (kind_machine instance.now.packages) instance.now.kinds }
     requires table { reading.old.types ≡ table_of instance.now.packages }
     ensures tested { MeetsTests (content_tests reading.old.types instance.now.kinds) result }
+    ensures told { IfErr result (ToldOf (λ group. (group ≡ all_set_refusals reading.old.types instance.now.kinds) ⊎ IsModelGroup reading.old.types instance.now.kinds group) reading.new.refusals) }
     ensures kept { reading.new.types ≡ reading.old.types }
     ensures models { IfOk result (λ models. models ≡ map (model_of reading.old.types instance.now.kinds) instance.now.kinds) }
 {

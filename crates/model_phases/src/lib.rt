@@ -8,5 +8,5 @@ mod review;
 mod system;
 
 pub use events::EventModel;
-pub use flat::{FlatModel, FromAssembly, assembled};
+pub use flat::{FlatModel, FromAssembly, assembled, noted_alone};
 pub use review::ReviewedModel;

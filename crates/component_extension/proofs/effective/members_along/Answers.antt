@@ -12,8 +12,8 @@ returns-clause-members g c =
     let made : c.in_ok-members.members.items ≡ members_of kind c.in_ok-names.names all = c.in_ok-members.ensures ∙ ap (members_of kind c.in_ok-names.names) c.as_slice-3.ensures.value in
     c.in_ok-of.ensures.ok ∙ members-are kind c.args.classifiers.now all c.in_ok-names.names c.in_ok-members.members.items c.in_ok-all.ensures names made
 
-pub returns-clause-first : goal.returns-clause-first
-returns-clause-first g c =
+pub returns-clause-noted : goal.returns-clause-noted
+returns-clause-noted g c =
     let kind = g.M.MemberKind.kind in
     let limits = g.M.Limited.limits in
     let all = c.in_ok-all.all.items in

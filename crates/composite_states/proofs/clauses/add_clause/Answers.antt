@@ -9,8 +9,8 @@ use Rattle.propagation_points.specs.States.{place_of_sort}
 use Rattle.composite_states.specs.Composites.{is_not_initial, others_refusals, perhaps_refusals}
 use Rattle.composite_states.proofs.clauses.add_clause.Goals as goal
 
-pub returns-clause-first : goal.returns-clause-first
-returns-clause-first g c =
+pub returns-clause-noted : goal.returns-clause-noted
+returns-clause-noted g c =
     let place = c.args.place.now in
     let below = g.B.StatesBelow.states_at place.below in
     let table = c.args.reading.now.types in

@@ -4,8 +4,8 @@ use Rattle.propagation_points.specs.Points.{scopes_of}
 use Rattle.composite_states.specs.Composites.{refusals_in}
 use Rattle.composite_states.proofs.clauses.clauses_of.Goals as goal
 
-pub returns-clause-first : goal.returns-clause-first
-returns-clause-first g c =
+pub returns-clause-noted : goal.returns-clause-noted
+returns-clause-noted g c =
     let below = g.B.StatesBelow.states_at c.args.below.now in
     let table = c.args.reading.now.types in
     let effective = c.args.effective.now in

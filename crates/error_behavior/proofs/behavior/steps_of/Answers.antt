@@ -4,8 +4,8 @@ use Rattle.noted_refusals.proofs.Laws.{noted-three}
 use Rattle.error_behavior.specs.Behavior.{clause_event_refusals, clause_transition_refusals, machine_refusals}
 use Rattle.error_behavior.proofs.behavior.steps_of.Goals as goal
 
-pub returns-clause-first : goal.returns-clause-first
-returns-clause-first c =
+pub returns-clause-noted : goal.returns-clause-noted
+returns-clause-noted c =
     let table = c.args.reading.now.types in
     let words = c.args.words.now in
     let texts = c.args.texts.now in

@@ -30,8 +30,8 @@ returns-clause-emission c =
     ∙ ap (option_and_then (emission meant (reached_in table place.setting used)))
     (c.in_ok-origin.ensures.origin ∙ ap (λ each. origin_of table each outgoing.source.state) setting))
 
-pub returns-clause-first : goal.returns-clause-first
-returns-clause-first c =
+pub returns-clause-noted : goal.returns-clause-noted
+returns-clause-noted c =
     let place = c.args.place.now in
     let table = c.args.reading.now.types in
     let outgoing = c.args.outgoing.now in

@@ -29,8 +29,8 @@ returns-clause-step c =
     ∙ ap (option_map (step_from place table transition))
     (c.in_ok-origin.ensures.origin ∙ ap (λ each. origin_of table each transition.source.state) setting))
 
-pub returns-clause-first : goal.returns-clause-first
-returns-clause-first c =
+pub returns-clause-noted : goal.returns-clause-noted
+returns-clause-noted c =
     let place = c.args.place.now in
     let table = c.args.reading.now.types in
     let transition = c.args.transition.now in

@@ -8,30 +8,30 @@ use Rattle.error_conditions.specs.Conditions.{cause_of, condition_refusals}
 use Rattle.error_conditions.proofs.ConditionLaws.{faults-All, faults-Any, faults-AtLeast, faults-AtMost, map-more}
 use Rattle.error_conditions.proofs.walk.+condition.Goals as goal
 
-pub cause_of-returns-in_ok-causes_of-in-All-clause-first :
-    goal.cause_of-returns-in_ok-causes_of-in-All-clause-first
-cause_of-returns-in_ok-causes_of-in-All-clause-first g t c =
+pub cause_of-returns-in_ok-causes_of-in-All-clause-noted :
+    goal.cause_of-returns-in_ok-causes_of-in-All-clause-noted
+cause_of-returns-in_ok-causes_of-in-All-clause-noted g t c =
     let faults = g.A.Atoms.faults c.args.atoms.now c.args.reading.now.types in
     c.in_ok-causes_of-in-All.ensures.noted
     ∙ ap (λ all. noting c.args.reading.now.refusals all) (ap (flat_map (condition_refusals faults)) c.items.ensures.items ∙ sym (faults-All faults c.in-All.parts) ∙ ap (condition_refusals faults) (sym c.in-All.is))
 
-pub cause_of-returns-in_ok-causes_of-in-Any-clause-first :
-    goal.cause_of-returns-in_ok-causes_of-in-Any-clause-first
-cause_of-returns-in_ok-causes_of-in-Any-clause-first g t c =
+pub cause_of-returns-in_ok-causes_of-in-Any-clause-noted :
+    goal.cause_of-returns-in_ok-causes_of-in-Any-clause-noted
+cause_of-returns-in_ok-causes_of-in-Any-clause-noted g t c =
     let faults = g.A.Atoms.faults c.args.atoms.now c.args.reading.now.types in
     c.in_ok-causes_of-in-Any.ensures.noted
     ∙ ap (λ all. noting c.args.reading.now.refusals all) (ap (flat_map (condition_refusals faults)) c.items-in-Any.ensures.items ∙ sym (faults-Any faults c.in-Any.parts) ∙ ap (condition_refusals faults) (sym c.in-Any.is))
 
-pub cause_of-returns-in_ok-causes_of-in-AtLeast-clause-first :
-    goal.cause_of-returns-in_ok-causes_of-in-AtLeast-clause-first
-cause_of-returns-in_ok-causes_of-in-AtLeast-clause-first g t c =
+pub cause_of-returns-in_ok-causes_of-in-AtLeast-clause-noted :
+    goal.cause_of-returns-in_ok-causes_of-in-AtLeast-clause-noted
+cause_of-returns-in_ok-causes_of-in-AtLeast-clause-noted g t c =
     let faults = g.A.Atoms.faults c.args.atoms.now c.args.reading.now.types in
     c.in_ok-causes_of-in-AtLeast.ensures.noted
     ∙ ap (λ all. noting c.args.reading.now.refusals all) (ap (flat_map (condition_refusals faults)) c.items-in-AtLeast.ensures.items ∙ sym (faults-AtLeast faults c.in-AtLeast.least c.in-AtLeast.parts) ∙ ap (condition_refusals faults) (sym c.in-AtLeast.is))
 
-pub cause_of-returns-in_ok-causes_of-in-AtMost-clause-first :
-    goal.cause_of-returns-in_ok-causes_of-in-AtMost-clause-first
-cause_of-returns-in_ok-causes_of-in-AtMost-clause-first g t c =
+pub cause_of-returns-in_ok-causes_of-in-AtMost-clause-noted :
+    goal.cause_of-returns-in_ok-causes_of-in-AtMost-clause-noted
+cause_of-returns-in_ok-causes_of-in-AtMost-clause-noted g t c =
     let faults = g.A.Atoms.faults c.args.atoms.now c.args.reading.now.types in
     c.in_ok-causes_of-in-AtMost.ensures.noted
     ∙ ap (λ all. noting c.note_if.new.self all) (ap (flat_map (condition_refusals faults)) c.items-in-AtMost.ensures.items)

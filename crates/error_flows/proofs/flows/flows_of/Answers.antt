@@ -7,8 +7,8 @@ use Rattle.propagation_points.specs.Points.{scopes_of}
 use Rattle.error_flows.specs.Flows.{refusals_of_flows}
 use Rattle.error_flows.proofs.flows.flows_of.Goals as goal
 
-pub returns-clause-first : goal.returns-clause-first
-returns-clause-first c =
+pub returns-clause-noted : goal.returns-clause-noted
+returns-clause-noted c =
     let table = c.args.reading.now.types in
     let effective = c.args.effective.now in
     let points = c.args.points.now in

@@ -7,8 +7,8 @@ use Rattle.propagation_points.specs.Settings.{refusals_in}
 use Rattle.error_flows.specs.Flows.{flow_refusals}
 use Rattle.error_flows.proofs.flows.meaning_of.Goals as goal
 
-pub returns-in-Path-clause-first : goal.returns-in-Path-clause-first
-returns-in-Path-clause-first c =
+pub returns-in-Path-clause-noted : goal.returns-in-Path-clause-noted
+returns-in-Path-clause-noted c =
     let table = c.args.reading.now.types in
     let setting = c.args.setting.now in
     let mapping = refused_there Mapping c.in-Path.mapping in

@@ -6,8 +6,8 @@ use Rattle.plain_values.specs.Refusal.{refused_there}
 use Rattle.propagation_points.specs.Settings.{refusals_in}
 use Rattle.error_flows.proofs.flows.path.Goals as goal
 
-pub returns-clause-first : goal.returns-clause-first
-returns-clause-first c =
+pub returns-clause-noted : goal.returns-clause-noted
+returns-clause-noted c =
     let table = c.args.reading.now.types in
     let setting = c.args.setting.now in
     let start = refusals_in table setting c.args.start.now in

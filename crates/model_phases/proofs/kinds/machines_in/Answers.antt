@@ -1,3 +1,5 @@
+use Rattle.noted_refusals.specs.Noted.{IsAlone}
+use Rattle.model_phases.proofs.ToldLaws.{stop-told}
 use Rattle.phases.specs.Phases.{tests}
 use Rattle.phases.specs.inner.Stopped.{status_of}
 use Rattle.error_models.specs.Refused.{machines_refusal}
@@ -9,3 +11,7 @@ pub returns-in_err-machines_of-clause-tested : goal.returns-in_err-machines_of-c
 returns-in_err-machines_of-clause-tested c =
     let one = machines_refusal c.args.instance.now.packages c.args.instance.now.kinds in
     tests_stop (tests (IsIt one)) (status_of c.in_err-machines_of.field-0.0) c.from_residual.result c.from_residual.ensures.1 (one_stops one c.in_err-machines_of.field-0.0 c.in_err-machines_of.ensures.refused)
+
+pub returns-in_err-machines_of-clause-told : goal.returns-in_err-machines_of-clause-told
+returns-in_err-machines_of-clause-told c =
+    stop-told IsAlone IsAlone c.machines_of.new.refusals c.in_err-machines_of.field-0.0 c.from_residual.result (λ group is. is) c.from_residual.ensures.1 c.in_err-machines_of.ensures.told

@@ -30,5 +30,5 @@ loop-number-preserved c =
 pub returns-clause-table : goal.returns-clause-table
 returns-clause-table c = knows-all has_words c.args.packages.now c.loop-number.number (get same_words c.loop-number.table) c.loop-number-test.false c.loop-number.invariant.table
 
-pub returns-clause-first : goal.returns-clause-first
-returns-clause-first c = again-end (λ later earlier. has_name later.name earlier) (λ u. u.spot) c.args.packages.now c.loop-number.number c.loop-number.refusals _ c.loop-number-test.false c.loop-number.invariant.first
+pub returns-clause-noted : goal.returns-clause-noted
+returns-clause-noted c = again-end (λ later earlier. has_name later.name earlier) (λ u. u.spot) c.args.packages.now c.loop-number.number c.loop-number.refusals _ c.loop-number-test.false c.loop-number.invariant.first

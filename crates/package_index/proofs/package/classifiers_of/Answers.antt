@@ -24,5 +24,5 @@ loop-number-preserved c =
 pub returns-clause-table : goal.returns-clause-table
 returns-clause-table c = knows-all has_key c.args.decls.now c.loop-number.number (get same_key c.loop-number.table) c.loop-number-test.false c.loop-number.invariant.table
 
-pub returns-clause-first : goal.returns-clause-first
-returns-clause-first c = again-end (λ later earlier. is_named later.name later.item earlier) (λ d. d.spot) c.args.decls.now c.loop-number.number c.loop-number.refusals _ c.loop-number-test.false c.loop-number.invariant.first
+pub returns-clause-noted : goal.returns-clause-noted
+returns-clause-noted c = again-end (λ later earlier. is_named later.name later.item earlier) (λ d. d.spot) c.args.decls.now c.loop-number.number c.loop-number.refusals _ c.loop-number-test.false c.loop-number.invariant.first

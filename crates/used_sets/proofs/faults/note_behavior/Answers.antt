@@ -5,8 +5,8 @@ use Rattle.used_sets.specs.Sets.{composite_sets, event_sets, outgoing_sets, tran
 use Rattle.used_sets.specs.Used.{items_refusals}
 use Rattle.used_sets.proofs.faults.note_behavior.Goals as goal
 
-pub returns-clause-first : goal.returns-clause-first
-returns-clause-first c =
+pub returns-clause-noted : goal.returns-clause-noted
+returns-clause-noted c =
     let table = c.args.reading.now.types in
     let scopes = c.args.scopes.now in
     let behavior = c.args.behavior.now in

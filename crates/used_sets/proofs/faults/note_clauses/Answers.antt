@@ -4,8 +4,8 @@ use Rattle.propagation_points.specs.Points.{scopes_of}
 use Rattle.used_sets.specs.Used.{refusals_with}
 use Rattle.used_sets.proofs.faults.note_clauses.Goals as goal
 
-pub returns-clause-first : goal.returns-clause-first
-returns-clause-first c =
+pub returns-clause-noted : goal.returns-clause-noted
+returns-clause-noted c =
     let table = c.args.reading.now.types in
     let effective = c.args.effective.now in
     let scopes : c.items.result.now ≡ scopes_of table.packages effective.clauses = c.items.ensures.items ∙ c.in_ok-scopes.ensures ∙ ap (scopes_of table.packages) c.items-clauses.ensures.items in

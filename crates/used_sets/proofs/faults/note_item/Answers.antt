@@ -3,8 +3,8 @@ use Rattle.noted_refusals.specs.Noted.{noting}
 use Rattle.used_sets.specs.Used.{set_fault}
 use Rattle.used_sets.proofs.faults.note_item.Goals as goal
 
-pub returns-clause-first : goal.returns-clause-first
-returns-clause-first g c =
+pub returns-clause-noted : goal.returns-clause-noted
+returns-clause-noted g c =
     let item = c.args.item.now in
     let scopes = c.args.scopes.now in
     let written : c.add_sets.new.written ≡ g.T.HasSets.sets item.item = c.in_ok-add_sets.ensures ∙ (λ i. c.new-sets.ensures i ++ g.T.HasSets.sets (c.item.ensures i)) in

@@ -6,8 +6,8 @@ use Rattle.noted_refusals.proofs.Laws.{noted-two}
 use Rattle.used_sets.specs.Used.{is_some_set, set_fault}
 use Rattle.used_sets.proofs.faults.note_machine_sets.Goals as goal
 
-pub returns-clause-first : goal.returns-clause-first
-returns-clause-first c =
+pub returns-clause-noted : goal.returns-clause-noted
+returns-clause-noted c =
     let table = c.args.reading.now.types in
     let machine = c.args.machine.now in
     let sets = c.args.sets.now in

@@ -16,8 +16,8 @@ loop-set-preserved c =
           (c.in_ok-note_set.ensures.noted ∙ ap (λ types. noting c.loop-set.reading.refusals (set_fault types scope c.set-item.result.now)) kept) c.loop-set.invariant.first;
     }
 
-pub returns-clause-first : goal.returns-clause-first
-returns-clause-first c =
+pub returns-clause-noted : goal.returns-clause-noted
+returns-clause-noted c =
     let scope = option_copied c.args.scope in
     let table = c.args.reading.now.types in
     let sets = c.sets-set-items.result.now in

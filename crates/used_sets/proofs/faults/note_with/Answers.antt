@@ -8,8 +8,8 @@ use Rattle.used_sets.specs.Used.{effective_refusals, is_used, uses_fault}
 use Rattle.used_sets.proofs.MarkLaws.{numbered-same}
 use Rattle.used_sets.proofs.faults.note_with.Goals as goal
 
-pub returns-clause-first : goal.returns-clause-first
-returns-clause-first c =
+pub returns-clause-noted : goal.returns-clause-noted
+returns-clause-noted c =
     let table = c.args.reading.now.types in
     let effective = c.args.effective.now in
     let kept : c.note_effective.new.reading.types ≡ table = c.in_ok-note_effective.ensures.kept in
