@@ -19,7 +19,7 @@ chain-refused packages id (Refused refusal) stops =
     subst (λ group. IsFirst (Contains group) refusal) (sym (ap (refusals_along packages) stops)) (least-first (refusal ∷ []))
 
 -- the refusal of a chain is noted alone
-pub chain-told : (packages : List PackageUnit) (id : ClassifierId) (stop : Stop) (room : ℕ) (noted : Noted) → Answers (chain_of packages id) (Err stop) → noted ≡ noting (nothing_noted room) (alone stop) → Tells (Contains (classifier_refusals packages id)) noted stop
+pub chain-told : (packages : List PackageUnit) (id : ClassifierId) (stop : Stop) (room : ℕ) (noted : Noted) → Answers (chain_of packages id) (Err stop) → noted ≡ noting (nothing_noted room) (alone stop) → Tells (classifier_refusals packages id) noted stop
 chain-told packages id Memory room noted stops only = tt
 chain-told packages id (Refused refusal) room noted stops only =
-    subst (λ group. Lists (Contains group) noted) (sym (ap (refusals_along packages) stops)) (noted-lists room noted (refusal ∷ []) only)
+    subst (λ group. Lists group noted) (sym (ap (refusals_along packages) stops)) (noted-lists room noted (refusal ∷ []) only)

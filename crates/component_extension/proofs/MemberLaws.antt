@@ -40,5 +40,5 @@ module _ (classes : List Class) (room : ℕ) (none f g h last : Noted) (start m 
   all-noted = noted-all room last (member_refusals classes) all-refusals
 
   -- and all of them
-  pub all-listed : Lists (Contains (member_refusals classes)) last
+  pub all-listed : Lists (member_refusals classes) last
   all-listed = noted-lists room last (member_refusals classes) all-refusals

@@ -65,7 +65,7 @@ impl<'a> Effective<'a> {
         ensures effective { IfOk result (IsEffective index.now id) }
         ensures accepted { OnOk result (classifier_refusals index.now id ≡ []) }
         ensures refused { IfErr result (StopsAtFirst (Contains (classifier_refusals index.now id))) }
-        ensures told { IfErr result (Tells (Contains (classifier_refusals index.now id)) refusals.new) }
+        ensures told { IfErr result (Tells (classifier_refusals index.now id) refusals.new) }
     {
         let chain = noted_chain(alloc, index, id, refusals)?;
         let classifiers = classifiers_of(alloc, index, chain.items())?;
@@ -97,7 +97,7 @@ fn noted_chain(
     refusals: &mut Refusals,
 ) -> Answer<List<ClassifierId>>
     ensures chain { Answers (chain_of index.now id) result }
-    ensures told { IfErr result (Tells (Contains (classifier_refusals index.now id)) refusals.new) }
+    ensures told { IfErr result (Tells (classifier_refusals index.now id) refusals.new) }
 {
     match chain_of(alloc, index, id) {
         Ok(chain) => Ok(chain),
@@ -119,7 +119,7 @@ pub fn effective_members<'a>(
     ensures members { IfOk result (AreMembers classifiers.now) }
     ensures accepted { OnOk result (member_refusals classifiers.now ≡ []) }
     ensures refused { IfErr result (StopsAtFirst (Contains (member_refusals classifiers.now))) }
-    ensures told { IfErr result (Tells (Contains (member_refusals classifiers.now)) refusals.new) }
+    ensures told { IfErr result (Tells (member_refusals classifiers.now) refusals.new) }
 {
     refusals.clear();
     let mut marks = Vec::new(alloc);

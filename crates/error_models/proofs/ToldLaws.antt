@@ -14,8 +14,8 @@ pub settled : (room : ℕ) (after : Noted) (group : List Refusal) (first : Optio
 settled room after group first noted is = sym (ap (λ n. n.first) noted ∙ noting-first (nothing_noted room) group) ∙ is
 
 -- what is told of the least refusal of a group, which is this one too
-pub told-least : (IsGroup : List Refusal → Type 0) (group actual : List Refusal) (noted : Noted) (stop : Stop) → IsGroup group → actual ≡ group → StopsAt (least actual) stop → Tells (Contains actual) noted stop → TellsOf IsGroup noted stop
+pub told-least : (IsGroup : List Refusal → Type 0) (group actual : List Refusal) (noted : Noted) (stop : Stop) → IsGroup group → actual ≡ group → StopsAt (least actual) stop → Tells actual noted stop → TellsOf IsGroup noted stop
 told-least IsGroup group actual noted Memory is same stops lists = tt
 told-least IsGroup group actual noted (Refused refusal) is same stops lists =
     let first : MatchOption (Some refusal) (actual ≡ []) (λ y. IsFirst (Contains actual) y) = subst (λ o. MatchOption o (actual ≡ []) (λ y. IsFirst (Contains actual) y)) stops (least-first actual) in
-    (group, is, subst (λ all. IsFirst (Contains all) refusal) same first, subst (λ all. Lists (Contains all) noted) same lists)
+    (group, is, subst (λ all. IsFirst (Contains all) refusal) same first, subst (λ all. Lists all noted) same lists)

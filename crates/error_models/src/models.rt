@@ -1,4 +1,4 @@
-ghost use Rattle.std.specs.Prelude.{◌≡◌, Contains, None, Some, IfErr, IfOk, OnOk, map};
+ghost use Rattle.std.specs.Prelude.{◌≡◌, None, Some, IfErr, IfOk, OnOk, map};
 ghost use Rattle.plain_values.specs.Order.{least};
 ghost use Rattle.error_libraries.specs.Libraries.{table_of};
 ghost use Rattle.propagation_points.specs.Points.{point_refusals, points_of};
@@ -103,7 +103,7 @@ fn points<'a>(
     ensures points { IfOk result (λ points. points ≡ points_of reading.old.types effective.now) }
     ensures accepted { OnOk result (least (point_refusals reading.old.types effective.now) ≡ None) }
     ensures refused { IfErr result (StopsAt (least (point_refusals reading.old.types effective.now))) }
-    ensures told { IfErr result (Tells (Contains (point_refusals reading.old.types effective.now)) reading.new.refusals) }
+    ensures told { IfErr result (Tells (point_refusals reading.old.types effective.now) reading.new.refusals) }
 {
     reading.refusals.clear();
     let points = points_of(alloc, effective, reading)?;
@@ -125,7 +125,7 @@ fn behavior<'a>(
     ensures behavior { IfOk result (λ behavior. behavior ≡ behavior_of reading.old.types points.now machine.now effective.now) }
     ensures accepted { OnOk result (least (behavior_refusals reading.old.types points.now machine.now effective.now) ≡ None) }
     ensures refused { IfErr result (StopsAt (least (behavior_refusals reading.old.types points.now machine.now effective.now))) }
-    ensures told { IfErr result (Tells (Contains (behavior_refusals reading.old.types points.now machine.now effective.now)) reading.new.refusals) }
+    ensures told { IfErr result (Tells (behavior_refusals reading.old.types points.now machine.now effective.now) reading.new.refusals) }
 {
     reading.refusals.clear();
     let behavior = behavior_of(alloc, effective, machine, states, reading, points)?;
@@ -145,7 +145,7 @@ fn flows<'a>(
     ensures flows { IfOk result (λ flows. flows ≡ flows_of reading.old.types points.now states.now effective.now) }
     ensures accepted { OnOk result (least (all_flow_refusals reading.old.types points.now states.now effective.now) ≡ None) }
     ensures refused { IfErr result (StopsAt (least (all_flow_refusals reading.old.types points.now states.now effective.now))) }
-    ensures told { IfErr result (Tells (Contains (all_flow_refusals reading.old.types points.now states.now effective.now)) reading.new.refusals) }
+    ensures told { IfErr result (Tells (all_flow_refusals reading.old.types points.now states.now effective.now) reading.new.refusals) }
 {
     reading.refusals.clear();
     let flows = flows_of(alloc, effective, reading, points, states)?;
@@ -166,7 +166,7 @@ fn composites<'a>(
     ensures clauses { IfOk result (λ clauses. clauses ≡ clauses_of (states_below below.now.tree.packages below.now.tree.kinds (Some below.now.classifier)) reading.old.types points.now states.now effective.now) }
     ensures accepted { OnOk result (least (composite_clause_refusals (states_below below.now.tree.packages below.now.tree.kinds (Some below.now.classifier)) reading.old.types points.now states.now effective.now) ≡ None) }
     ensures refused { IfErr result (StopsAt (least (composite_clause_refusals (states_below below.now.tree.packages below.now.tree.kinds (Some below.now.classifier)) reading.old.types points.now states.now effective.now))) }
-    ensures told { IfErr result (Tells (Contains (composite_clause_refusals (states_below below.now.tree.packages below.now.tree.kinds (Some below.now.classifier)) reading.old.types points.now states.now effective.now)) reading.new.refusals) }
+    ensures told { IfErr result (Tells (composite_clause_refusals (states_below below.now.tree.packages below.now.tree.kinds (Some below.now.classifier)) reading.old.types points.now states.now effective.now) reading.new.refusals) }
 {
     reading.refusals.clear();
     let clauses = clauses_of(alloc, effective, reading, points, states, below)?;

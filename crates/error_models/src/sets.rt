@@ -26,7 +26,7 @@ pub fn test_sets<'a>(
     ensures kept { reading.new.types ≡ reading.old.types }
     ensures accepted { OnOk result (all_set_refusals reading.old.types instance.now.kinds ≡ []) }
     ensures refused { IfErr result (StopsAtFirst (Contains (all_set_refusals reading.old.types instance.now.kinds))) }
-    ensures told { IfErr result (Tells (Contains (all_set_refusals reading.old.types instance.now.kinds)) reading.new.refusals) }
+    ensures told { IfErr result (Tells (all_set_refusals reading.old.types instance.now.kinds) reading.new.refusals) }
 {
     reading.refusals.clear();
     note_sets(alloc, instance, machines, reading)?;

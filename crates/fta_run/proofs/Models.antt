@@ -1,5 +1,5 @@
 -- The root in the files, and the target.
-use Rattle.std.proofs.Common.{◌≡◌, ◌⊎◌, inl, inr, List, None, Result, Ok, refl, sym, ap, subst, ◌∙◌}
+use Rattle.std.proofs.Common.{◌≡◌, ◌⊎◌, inl, inr, Contains, Err, List, None, Result, Ok, refl, sym, ap, subst, ◌∙◌}
 use Rattle.aadl_syntax.specs.declared.core_model.PackageUnit.{PackageUnit}
 use Rattle.aadl_syntax.specs.declared.core_model.Unit.{Unit as FileUnit}
 use Rattle.plain_values.specs.declared.name.Root.{Root}
@@ -9,6 +9,9 @@ use Rattle.plain_values.specs.declared.refusal.Stop.{Stop}
 use Rattle.plain_values.specs.declared.refusal.Stop.TheVariants as stop
 use Rattle.plain_values.specs.Order.{IsClear, IsFirst}
 use Rattle.package_index.specs.Duplicates.{IsDuplicate}
+use Rattle.package_index.specs.inner.Duplicates.{duplicates}
+use Rattle.package_index.proofs.DuplicateLaws.{is_duplicate, is_listed}
+use Rattle.noted_refusals.specs.Noted.{Noted, Tells, TellsOf}
 use Rattle.plain_values.specs.inner.Stops.{StopsAtFirst}
 use Rattle.package_index.specs.Lookup.{look_classifier, packages_of, refused_at}
 use Rattle.package_index.specs.declared.id.ClassifierId.{ClassifierId}
@@ -16,7 +19,9 @@ use Rattle.phases.specs.inner.Meets.{IsMemory, Meets}
 use Rattle.phases.specs.Phases.{Passes, Phase, Stops, chains, computes, tests}
 use Rattle.phases.specs.inner.Stopped.{status_of}
 use Rattle.phases.specs.declared.status.Status.{Status}
-use Rattle.phases.proofs.Steps.{computed, meets_later}
+use Rattle.phases.specs.declared.status.Status.TheVariants as status
+use Rattle.phases.specs.inner.Meets.{StopsBut}
+use Rattle.phases.proofs.Steps.{computed, ends, meets_later, not_computed}
 use Rattle.model_facts.specs.Assembly.{Assembly}
 use Rattle.model_phases.specs.Phases.{assembled}
 use Rattle.fta_run.specs.Due.{made_of_units}
@@ -40,6 +45,21 @@ pub root_is : (files its : List (List FileUnit)) (packages : List PackageUnit) (
     → root_named files root ≡ result
 root_is files its packages root result are same found =
     sym (found ∙ ap (λ (ps : List PackageUnit). refused_at Words (look_classifier ps None root.names root.item)) (are ∙ ap packages_of same))
+
+-- what is declared again is told
+pub duplicates_told : (packages : List PackageUnit) (noted : Noted) (why : Stop) → StopsAtFirst (IsDuplicate packages) why → Tells (duplicates packages) noted why → TellsOf (λ group. group ≡ duplicates packages) noted why
+duplicates_told packages noted (stop.Refused refusal) first lists =
+    (duplicates packages,
+    refl,
+    record { stands = is_listed packages refusal first.stands; none_before = λ other there. first.none_before other (is_duplicate packages other there) },
+    lists)
+duplicates_told packages noted stop.Memory first lists = tt
+
+-- the root names nothing
+pub root_stop : {A : Type 0} (next : Assembly → Phase A) (files its : List (List FileUnit)) (packages : List PackageUnit) (root : Root) (end : Status) → packages ≡ packages_of its → its ≡ files
+    → ((refusal : Refusal) × (refused_at Words (look_classifier packages None root.names root.item) ≡ Err refusal) × (end ≡ status.Refused refusal)) → StopsBut IsMemory (chains (computes (root_named files root)) (assembled next (packages_of files))) end
+root_stop next files its packages root end are same (refusal, found, is) =
+    subst (StopsBut IsMemory (chains (computes (root_named files root)) (assembled next (packages_of files)))) (sym is) (ends (not_computed (root_is files its packages root _ are same refl ∙ found)))
 
 -- what is made of the model of the root in the index of the files
 pub model_in : {A : Type 0} (next : Assembly → Phase A) (files its : List (List FileUnit)) (packages : List PackageUnit) (root : Root) (id : ClassifierId) (result : Result A Status) → packages ≡ packages_of its → its ≡ files

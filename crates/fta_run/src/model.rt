@@ -1,14 +1,22 @@
 //! The model of the root.
 
-ghost use Rattle.std.specs.Prelude.{◌≤◌, All, length};
+ghost use Rattle.std.specs.Prelude.{◌≡◌, ◌×◌, ◌≤◌, All, Err, IfErr, MatchResult, None, Ok, length};
+ghost use Rattle.plain_values.specs.declared.refusal.Place.TheVariants.{Words as InWords};
+ghost use Rattle.plain_values.specs.declared.refusal.Refusal.{Refusal};
+ghost use Rattle.noted_refusals.specs.Noted.{IsAlone};
+ghost use Rattle.phases.specs.declared.status.Status.TheVariants.{Refused};
 ghost use Rattle.phases.specs.inner.Meets.{Meets};
-ghost use Rattle.fta_run.specs.Due.{made_of_texts, made_of_units};
+ghost use Rattle.package_index.specs.Lookup.{look_classifier, refused_at};
+ghost use Rattle.model_phases.specs.Told.{ToldOf};
+ghost use Rattle.fta_run.specs.Due.{made_of_texts, made_of_units, units_of};
 ghost use Rattle.fta_run.specs.Files.{most_bytes, most_files};
+ghost use Rattle.fta_run.specs.inner.Groups.{IsTextsGroup, IsUnitsGroup};
 
 use crate::input::units_of_texts;
 use aadl_syntax::Unit;
-use model_phases::{FromAssembly, assembled};
-use package_index::Index;
+use model_phases::{FromAssembly, assembled, noted_alone};
+use noted_refusals::Refusals;
+use package_index::{ClassifierId, Index};
 use phases::Status;
 use plain_values::{List, Name, Root};
 use std::alloc::Global;
@@ -23,8 +31,41 @@ pub fn model_of_texts<M: FromAssembly>(
     requires short { All (λ text. length text ≤ most_bytes) texts.now }
     ensures { Meets (made_of_texts M.phase root.now texts.now) result }
 {
-    let files = units_of_texts(alloc, texts)?;
-    model_of_units(alloc, root, &files)
+    let mut refusals = Refusals::new(alloc);
+    told_model(alloc, root, texts, &mut refusals)
+}
+
+/// The same; the refusals of the group that refuses are noted, in place of what was noted before.
+pub(crate) fn told_model<M: FromAssembly>(
+    alloc: Global,
+    root: &Root,
+    texts: &[Name],
+    refusals: &mut Refusals,
+) -> Result<M, Status>
+    requires few { length texts.now ≤ most_files }
+    requires short { All (λ text. length text ≤ most_bytes) texts.now }
+    ensures made { Meets (made_of_texts M.phase root.now texts.now) result }
+    ensures told { IfErr result (ToldOf (IsTextsGroup root.now texts.now) refusals.new) }
+{
+    let files = told_units(alloc, texts, refusals)?;
+    model_of_units(alloc, root, &files, refusals)
+}
+
+/// The units of each text. A refusal is noted, in place of what was noted before.
+fn told_units(
+    alloc: Global,
+    texts: &[Name],
+    refusals: &mut Refusals,
+) -> Result<List<List<Unit>>, Status>
+    requires few { length texts.now ≤ most_files }
+    requires short { All (λ text. length text ≤ most_bytes) texts.now }
+    ensures units { Meets (units_of texts.now) result }
+    ensures told { IfErr result (ToldOf IsAlone refusals.new) }
+{
+    match units_of_texts(alloc, texts) {
+        Ok(files) => Ok(files),
+        Err(status) => Err(noted_alone(status, refusals)),
+    }
 }
 
 /// What is made of the model of the root in these files, in which nothing is declared again.
@@ -32,10 +73,23 @@ fn model_of_units<M: FromAssembly>(
     alloc: Global,
     root: &Root,
     files: &List<List<Unit>>,
+    refusals: &mut Refusals,
 ) -> Result<M, Status>
-    ensures { Meets (made_of_units M.phase root.now files.now) result }
+    ensures made { Meets (made_of_units M.phase root.now files.now) result }
+    ensures told { IfErr result (ToldOf (IsUnitsGroup root.now files.now) refusals.new) }
 {
-    let index = Index::new(alloc, files.items())?;
-    let id = index.root(root)?;
-    assembled(alloc, &index, id)
+    let index = Index::new(alloc, files.items(), refusals)?;
+    let id = told_root(&index, root, refusals)?;
+    assembled(alloc, &index, id, refusals)
+}
+
+/// The classifier that a root names. Its refusal is noted, in place of what was noted before.
+fn told_root(index: &Index, root: &Root, refusals: &mut Refusals) -> Result<ClassifierId, Status>
+    ensures found { MatchResult result (λ id. refused_at InWords (look_classifier index.now None root.now.names root.now.item) ≡ Ok id) (λ status. (refusal : Refusal) × (refused_at InWords (look_classifier index.now None root.now.names root.now.item) ≡ Err refusal) × (status ≡ Refused refusal)) }
+    ensures told { IfErr result (ToldOf IsAlone refusals.new) }
+{
+    match index.root(root) {
+        Ok(id) => Ok(id),
+        Err(refusal) => Err(noted_alone(Status::Refused(refusal), refusals)),
+    }
 }

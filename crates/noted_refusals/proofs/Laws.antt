@@ -1,6 +1,6 @@
 -- Groups of refusals that are noted part after part, and what is known at the end.
-use Rattle.std.proofs.Common.{ℕ, zero, suc, ◌≡◌, ◌<◌, ◌≤◌, List, [], ◌∷◌, ◌++◌, length, take, Some, MatchOption, Contains, refl, sym, ap, subst, min, arith, ◌∙◌}
-use Rattle.std.proofs.lemmas.List.{append_assoc, append-nil, get_or-take, length-take, take-take, take_all}
+use Rattle.std.proofs.Common.{ℕ, zero, suc, ◌≡◌, ◌≤◌, List, [], ◌∷◌, ◌++◌, take, Some, MatchOption, Contains, refl, sym, ap, subst, arith, ◌∙◌}
+use Rattle.std.proofs.lemmas.List.{append_assoc, append-nil, take-take, take_all}
 use Rattle.plain_values.specs.declared.refusal.Refusal.{Refusal}
 use Rattle.plain_values.specs.declared.refusal.Stop.{Stop}
 use Rattle.plain_values.specs.declared.refusal.Stop.TheVariants.{Memory, Refused}
@@ -66,33 +66,11 @@ kept-from noted (refusal ∷ group) fits =
 pub noting-kept : (room : ℕ) (group : List Refusal) → (noting (nothing_noted room) group).kept ≡ take room group
 noting-kept room group = kept-from (nothing_noted room) group (sym (take_all room [] (omega arith)))
 
-front-in : (n : ℕ) (group : List Refusal) (refusal : Refusal) → Contains (take n group) refusal → Contains group refusal
-front-in n group refusal (i, within, is) =
-    let both : i < min n (length group) = subst (λ long. i < long) (length-take n group) within in
-    let here : i < length group = omega (arith, both) in
-    let front : i < n = omega (arith, both) in
-    (i, here, sym (get_or-take n group i refusal front) ∙ is)
-
 -- what is noted of a whole group lists it
-pub noted-lists : (room : ℕ) (after : Noted) (group : List Refusal) → after ≡ noting (nothing_noted room) group → Lists (Contains group) after
+pub noted-lists : (room : ℕ) (after : Noted) (group : List Refusal) → after ≡ noting (nothing_noted room) group → Lists group after
 noted-lists room after group noted =
-    let kept : after.kept ≡ take room group = ap (λ n. n.kept) noted ∙ noting-kept room group in
-    let same_room : after.room ≡ room = ap (λ n. n.room) noted ∙ noting-room (nothing_noted room) group in
-    record {
-      stand = λ refusal there. front-in room group refusal (subst (λ list. Contains list refusal) kept there);
-      all =
-          λ room_left refusal there.
-          let long : length after.kept ≡ min room (length group) = ap length kept ∙ length-take room group in
-          let whole : length group ≤ room = omega (arith, long, room_left, same_room) in
-          subst (λ list. Contains list refusal) (sym (kept ∙ take_all room group whole)) there;
-    }
-
--- a listing of a group is one of a group that has the same refusals
-pub lists-same : (Stands Others : Refusal → Type 0) (noted : Noted) → ((refusal : Refusal) → Stands refusal → Others refusal) → ((refusal : Refusal) → Others refusal → Stands refusal) → Lists Stands noted → Lists Others noted
-lists-same Stands Others noted to from lists = record {
-  stand = λ refusal there. to refusal (lists.stand refusal there);
-  all = λ room_left refusal stands. lists.all room_left refusal (from refusal stands);
-}
+    let same : after.room ≡ room = ap (λ n. n.room) noted ∙ noting-room (nothing_noted room) group in
+    ap (λ n. n.kept) noted ∙ noting-kept room group ∙ ap (λ n. take n group) (sym same)
 
 -- ---- what is told of a stop
 
@@ -107,6 +85,6 @@ told-as IsGroup IsOther noted Memory so told = tt
 told-as IsGroup IsOther noted (Refused refusal) so (group, is, first, lists) = (group, so group is, first, lists)
 
 -- what is told of this group is told of such groups
-pub told-of : (IsGroup : List Refusal → Type 0) (group : List Refusal) (noted : Noted) (stop : Stop) → IsGroup group → StopsAtFirst (Contains group) stop → Tells (Contains group) noted stop → TellsOf IsGroup noted stop
+pub told-of : (IsGroup : List Refusal → Type 0) (group : List Refusal) (noted : Noted) (stop : Stop) → IsGroup group → StopsAtFirst (Contains group) stop → Tells group noted stop → TellsOf IsGroup noted stop
 told-of IsGroup group noted Memory is first lists = tt
 told-of IsGroup group noted (Refused refusal) is first lists = (group, is, first, lists)

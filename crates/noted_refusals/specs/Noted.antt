@@ -1,5 +1,5 @@
 -- What is noted of a group of refusals.
-use Rattle.std.specs.Prelude.{ℕ, ◌≡◌, ◌<◌, List, [], ◌∷◌, ◌++◌, length, take, Contains, Option, Some, None, ⊤}
+use Rattle.std.specs.Prelude.{ℕ, ◌≡◌, List, [], ◌∷◌, ◌++◌, take, Contains, Option, Some, None, ⊤}
 use Rattle.plain_values.specs.declared.refusal.Refusal.{Refusal}
 use Rattle.plain_values.specs.declared.refusal.Stop.{Stop}
 use Rattle.plain_values.specs.declared.refusal.Stop.TheVariants.{Memory, Refused}
@@ -33,21 +33,20 @@ abbrev pub alone : Stop → List Refusal
 alone Memory = []
 alone (Refused refusal) = refusal ∷ []
 
--- These are refusals of the group, and all of them where there is room left.
-pub record Lists (Stands : Refusal → Type 0) (noted : Noted) : Type 0 where
-  pub stand : (refusal : Refusal) → Contains noted.kept refusal → Stands refusal
-  pub all : length noted.kept < noted.room → (refusal : Refusal) → Stands refusal → Contains noted.kept refusal
+-- As many refusals of this group are noted as there is room for.
+abbrev pub Lists : List Refusal → Noted → Type 0
+Lists group noted = noted.kept ≡ take noted.room group
 
--- Where a call stops with a refusal, these are noted of the group of which it is the first.
-abbrev pub Tells : (Refusal → Type 0) → Noted → Stop → Type 0
-Tells Stands noted Memory = ⊤
-Tells Stands noted (Refused refusal) = Lists Stands noted
+-- Where a call stops with a refusal, as many are noted of the group of which it is the first as there is room for.
+abbrev pub Tells : List Refusal → Noted → Stop → Type 0
+Tells group noted Memory = ⊤
+Tells group noted (Refused refusal) = Lists group noted
 
 -- The group has one refusal alone.
 abbrev pub IsAlone : List Refusal → Type 0
 IsAlone group = (refusal : Refusal) × (group ≡ refusal ∷ [])
 
--- Where a call stops with a refusal, these are noted of such a group of which it is the first.
+-- The same of such a group.
 abbrev pub TellsOf : (List Refusal → Type 0) → Noted → Stop → Type 0
 TellsOf IsGroup noted Memory = ⊤
-TellsOf IsGroup noted (Refused refusal) = (group : List Refusal) × IsGroup group × IsFirst (Contains group) refusal × Lists (Contains group) noted
+TellsOf IsGroup noted (Refused refusal) = (group : List Refusal) × IsGroup group × IsFirst (Contains group) refusal × Lists group noted

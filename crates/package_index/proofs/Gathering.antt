@@ -1,16 +1,16 @@
 -- The packages of the units, one after the other.
-use Rattle.std.proofs.Common.{ℕ, ◌+◌, ◌≡◌, ◌<◌, List, [], ◌∷◌, ◌++◌, length, take, get_or, Contains, MatchOption, flat_map, refl, sym, ap, ◌∙◌, subst}
+use Rattle.std.proofs.Common.{ℕ, ◌+◌, ◌≡◌, ◌<◌, List, [], ◌∷◌, ◌++◌, length, take, get_or, MatchOption, flat_map, refl, sym, ap, ◌∙◌, subst}
 use Rattle.std.proofs.lemmas.List.{take_more, append-nil, append_assoc}
 use Rattle.std.proofs.lemmas.Grind.{flat_map-append}
 use Rattle.aadl_syntax.specs.declared.core_model.PackageUnit.{PackageUnit}
 use Rattle.plain_values.specs.declared.refusal.Refusal.{Refusal}
 use Rattle.plain_values.specs.Order.{IsClear, IsFirst}
 use Rattle.noted_refusals.specs.Noted.{Lists, Noted, noting, nothing_noted}
-use Rattle.noted_refusals.proofs.Laws.{noted-all, noted-lists, noted-more, lists-same}
+use Rattle.noted_refusals.proofs.Laws.{noted-all, noted-lists, noted-more}
 use Rattle.package_index.specs.Duplicates.{IsDuplicate}
 use Rattle.package_index.specs.inner.Duplicates.{classifiers_again, duplicates, packages_again}
 use Rattle.package_index.specs.inner.Tables.{Gathered}
-use Rattle.package_index.proofs.DuplicateLaws.{is_duplicate, is_listed, told}
+use Rattle.package_index.proofs.DuplicateLaws.{told}
 
 pub gathered-none : (packages : List PackageUnit) (noted : Noted) → Gathered packages packages noted noted []
 gathered-none packages noted = record { packages = sym (append-nil packages); first = refl }
@@ -50,6 +50,5 @@ module _ (units packages : List PackageUnit) (room : ℕ) (none first last : Not
   noted-duplicates = told units last.first (noted-all room last (duplicates units) all-duplicates)
 
   -- and all of them
-  pub listed-duplicates : Lists (IsDuplicate units) last
-  listed-duplicates =
-      lists-same (Contains (duplicates units)) (IsDuplicate units) last (is_duplicate units) (is_listed units) (noted-lists room last (duplicates units) all-duplicates)
+  pub listed-duplicates : Lists (duplicates units) last
+  listed-duplicates = noted-lists room last (duplicates units) all-duplicates

@@ -4,7 +4,7 @@ ghost use Rattle.plain_values.specs.Order.{IsClear};
 ghost use Rattle.noted_refusals.specs.Noted.{Tells, noting};
 ghost use Rattle.plain_values.specs.declared.refusal.Place.TheVariants.{Words as InWords};
 ghost use Rattle.package_index.specs.Duplicates.{IsDuplicate};
-ghost use Rattle.package_index.specs.inner.Duplicates.{packages_again};
+ghost use Rattle.package_index.specs.inner.Duplicates.{duplicates, packages_again};
 ghost use Rattle.plain_values.specs.inner.Stops.{StopsAtFirst};
 ghost use Rattle.package_index.specs.Lookup.{aliased_in, classifier_in, declared_by, declared_in, declared_package, decl_of, look_classifier, look_in, look_package, package_alias, package_at, package_meant, package_of, packages_of, refused_at};
 ghost use Rattle.plain_values.specs.Refusal.{place_of};
@@ -57,7 +57,7 @@ impl<'a> Index<'a> {
         ensures packages { IfOk result (λ index. index ≡ packages_of files.now) }
         ensures accepted { OnOk result (IsClear (IsDuplicate (packages_of files.now))) }
         ensures refused { IfErr result (StopsAtFirst (IsDuplicate (packages_of files.now))) }
-        ensures told { IfErr result (Tells (IsDuplicate (packages_of files.now)) refusals.new) }
+        ensures told { IfErr result (Tells (duplicates (packages_of files.now)) refusals.new) }
     {
         refusals.clear();
         let packages = tables_of(alloc, files, refusals)?;

@@ -1,4 +1,4 @@
-ghost use Rattle.std.specs.Prelude.{◌≡◌, ◌<◌, ◌≤◌, ◌^◌, Contains, length, None, Some, IfOk, IfErr, OnOk, MatchResult, map};
+ghost use Rattle.std.specs.Prelude.{◌≡◌, ◌<◌, ◌≤◌, ◌^◌, length, None, Some, IfOk, IfErr, OnOk, MatchResult, map};
 ghost use Rattle.plain_values.specs.inner.Stops.{StopsAt};
 ghost use Rattle.propagation_links.specs.Bound.{all_bounds};
 ghost use Rattle.propagation_links.specs.Links.{links_of};
@@ -92,7 +92,7 @@ fn add_effective<'a>(
     refusals: &mut Refusals,
 ) -> Answer<()>
     ensures linked { MatchResult result (λ _. Linked pointed.now number effective.now links.old links.new) (StopsAt (least (refusals_in pointed.now number effective.now))) }
-    ensures told { IfErr result (Tells (Contains (refusals_in pointed.now number effective.now)) refusals.new) }
+    ensures told { IfErr result (Tells (refusals_in pointed.now number effective.now) refusals.new) }
 {
     refusals.clear();
     note_faults(refusals, pointed, number, effective);

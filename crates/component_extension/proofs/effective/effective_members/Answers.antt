@@ -22,7 +22,7 @@ returns-in_err-settle-clause-told c =
     let listed = all-listed c.args.classifiers.now _ _ _ _ _ _ _ _ _ _ c.clear.ensures c.in_ok-features.ensures.noted c.in_ok-subcomponents.ensures.noted c.in_ok-connections.ensures.noted c.note_duplicates.ensures
     c.new-marks.ensures.items c.in_ok-features.ensures.marks c.in_ok-subcomponents.ensures.marks (c.in_ok-names.ensures ∙ c.in_ok-connections.ensures.marks) in
     let p = err_from_is_err_and c.from_residual-in_err-settle.result c.from_residual-in_err-settle.ensures.1 in
-    subst (λ r. IfErr r (Tells (Contains group) c.note_duplicates.new.refusals)) (sym (p.1 ∙ ap Err p.2)) listed
+    subst (λ r. IfErr r (Tells group c.note_duplicates.new.refusals)) (sym (p.1 ∙ ap Err p.2)) listed
 
 pub returns-clause-accepted : goal.returns-clause-accepted
 returns-clause-accepted c =

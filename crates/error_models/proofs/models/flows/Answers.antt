@@ -19,7 +19,7 @@ pub returns-in_err-settle-clause-told : goal.returns-in_err-settle-clause-told
 returns-in_err-settle-clause-told c =
     let group = all_flow_refusals c.args.reading.now.types c.args.points.now c.args.states.now c.args.effective.now in
     let p = err_from_is_err_and c.from_residual-in_err-settle.result c.from_residual-in_err-settle.ensures.1 in
-    subst (λ r. IfErr r (Tells (Contains group) c.flows_of.new.reading.refusals)) (sym (p.1 ∙ ap Err p.2))
+    subst (λ r. IfErr r (Tells group c.flows_of.new.reading.refusals)) (sym (p.1 ∙ ap Err p.2))
     (noted-lists c.args.reading.now.refusals.room c.flows_of.new.reading.refusals group (c.in_ok-flows.ensures.noted ∙ ap (λ noted. noting noted group) c.clear.ensures))
 
 pub returns-clause-accepted : goal.returns-clause-accepted

@@ -20,7 +20,7 @@ returns-in_err-settle-clause-told c =
     let group = all_set_refusals c.args.reading.now.types c.args.instance.now.kinds in
     let listed = noted-lists c.args.reading.now.refusals.room c.note_sets.new.reading.refusals group (c.in_ok-note_sets.ensures.noted ∙ ap (λ noted. noting noted group) c.clear.ensures) in
     let p = err_from_is_err_and c.from_residual-in_err-settle.result c.from_residual-in_err-settle.ensures.1 in
-    subst (λ r. IfErr r (Tells (Contains group) c.note_sets.new.reading.refusals)) (sym (p.1 ∙ ap Err p.2)) listed
+    subst (λ r. IfErr r (Tells group c.note_sets.new.reading.refusals)) (sym (p.1 ∙ ap Err p.2)) listed
 
 pub returns-clause-accepted : goal.returns-clause-accepted
 returns-clause-accepted c =
