@@ -30,7 +30,7 @@ module _ (text : List ℕ) (byte : ℕ) (before : List ℕ) (begin : ℕ) (line 
   its_line =
       found.line_is ∙ ap first_line (from_front text before begin byte found.front found.within ∙ ap (λ l. l ++ drop byte text) front_is)
 
-  its_characters : characters ≡ reached text byte
+  pub its_characters : characters ≡ reached text byte
   its_characters =
       let count : length before - begin ≡ length (line_front text byte) = sym (length-drop begin before) ∙ ap length front_is in
       found.characters_are ∙ ap (λ n. filter begins_character (take (n + 1) (line ++ 10 ∷ []))) count

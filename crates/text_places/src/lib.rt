@@ -5,4 +5,4 @@ mod columns;
 mod lines;
 mod places;
 
-pub use places::place_text;
+pub use places::{line_and_column, place_text};

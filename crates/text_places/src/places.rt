@@ -1,7 +1,7 @@
 //! The text on a place.
 
 ghost use Rattle.std.specs.Prelude.{◌≡◌, ◌++◌, IfOk, OnOk, codes, decimal};
-ghost use Rattle.text_places.specs.Places.{place_text};
+ghost use Rattle.text_places.specs.Places.{column, line_number, place_text};
 
 use crate::columns::{column_of, push_caret, reached};
 use crate::lines::{feeds_of, first_line, line_begin, text_before};
@@ -33,6 +33,21 @@ pub fn place_text(alloc: Global, file: &[u8], text: &[u8], byte: u32) -> Mem<Vec
     push_caret(&mut place, reached.as_slice())?;
     place.push(b'\n')?;
     Ok(place)
+}
+
+/// The line and the column of a byte in a text, as `place_text` counts them.
+pub fn line_and_column(alloc: Global, text: &[u8], byte: u32) -> Mem<(u64, u64)>
+    ensures line { IfOk result (λ found. found.0 ≡ line_number text.now byte) }
+    ensures column { IfOk result (λ found. found.1 ≡ column text.now byte) }
+{
+    let before = text_before(text, byte as usize);
+    let begin = line_begin(before);
+    let line = first_line(&text[begin..]);
+    let reached = reached(alloc, line, before.len() - begin)?;
+    Ok((
+        feeds_of(before) as u64 + 1,
+        column_of(reached.as_slice()) as u64,
+    ))
 }
 
 /// Adds the line of a file, a line and a column.
