@@ -25,6 +25,7 @@ use Rattle.phases.proofs.Steps.{computed, ends, meets_later, not_computed}
 use Rattle.model_facts.specs.Assembly.{Assembly}
 use Rattle.model_phases.specs.Phases.{assembled}
 use Rattle.fta_run.specs.Due.{made_of_units}
+use Rattle.fta_run.specs.Groups.{AreAll}
 use Rattle.fta_run.specs.Model.{HasDuplicate, root_named}
 
 -- ---- the root
@@ -47,12 +48,13 @@ root_is files its packages root result are same found =
     sym (found ∙ ap (λ (ps : List PackageUnit). refused_at Words (look_classifier ps None root.names root.item)) (are ∙ ap packages_of same))
 
 -- what is declared again is told
-pub duplicates_told : (packages : List PackageUnit) (noted : Noted) (why : Stop) → StopsAtFirst (IsDuplicate packages) why → Tells (duplicates packages) noted why → TellsOf (λ group. group ≡ duplicates packages) noted why
-duplicates_told packages noted (stop.Refused refusal) first lists =
-    (duplicates packages,
-    refl,
-    record { stands = is_listed packages refusal first.stands; none_before = λ other there. first.none_before other (is_duplicate packages other there) },
-    lists)
+pub duplicates_told : (packages : List PackageUnit) (noted : Noted) (why : Stop) → StopsAtFirst (IsDuplicate packages) why → Tells (duplicates packages) noted why → TellsOf (λ group. AreAll group (IsDuplicate packages)) noted why
+duplicates_told packages noted (stop.Refused refusal) first lists = (
+  duplicates packages,
+  λ other. (is_duplicate packages other, is_listed packages other),
+  record { stands = is_listed packages refusal first.stands; none_before = λ other there. first.none_before other (is_duplicate packages other there) },
+  lists,
+)
 duplicates_told packages noted stop.Memory first lists = tt
 
 -- the root names nothing

@@ -229,6 +229,7 @@ text_stops kind.Events voices asked texts = (refusals (made_of_texts origins_pha
 text_stops kind.Review voices asked texts = (refusals (made_of_texts review_phase asked.root texts) (made_stops review_phase review_stop asked.root texts), λ model at. tt)
 text_stops kind.Place voices asked texts = tt
 text_stops kind.Manifest voices asked texts = (refusals (model_of_texts asked.root texts) (texts_model_stops asked.root texts), λ model at. tt)
+text_stops kind.Refusals voices asked texts = λ status none. absurd none
 text_stops kind.Help voices asked texts = tt
 text_stops kind.Explain voices asked texts = tt
 text_stops kind.Version voices asked texts = tt

@@ -28,6 +28,7 @@ use Rattle.fta_words.specs.declared.kind.Kind.TheVariants as kind
 use Rattle.fta_run.specs.Words.{Kind, Request, IsRequest, is_set}
 use Rattle.target_orders.specs.Text.{TellsOrders}
 use Rattle.fta_run.specs.Effects.{asked_effects, asked_targets}
+use Rattle.fta_run.specs.Groups.{TellsRefusals}
 use Rattle.fta_run.specs.Later.{in_later_files}
 use Rattle.fta_run.specs.Files.{MayContain, NamesTooMany, HasTooLong, HasTooMuch, AreTokens, LacksTokens, AreUnits, LacksUnits}
 use Rattle.fta_run.specs.Model.{HasDuplicate, root_named}
@@ -225,6 +226,10 @@ manifest_in root files texts = do
   model ← model_of_texts root texts
   yields (manifest_text root files texts model)
 
+-- the text of `refusals`
+abbrev pub refusals_in : Root → List (List ℕ) → List (List ℕ) → Phase (List ℕ)
+refusals_in root files texts = accepts (TellsRefusals (model_of_texts root texts) (units_of texts) root files texts)
+
 -- the text of a command, asked with this request, in files of these texts, where these are the reports
 abbrev pub text_for : Kind → List Voice → Request → List (List ℕ) → Phase (List ℕ)
 text_for kind.Check voices asked texts = check_in asked.root texts
@@ -242,6 +247,7 @@ text_for kind.Events voices asked texts = events_in asked.root asked.files texts
 text_for kind.Review voices asked texts = review_in asked.root texts
 text_for kind.Place voices asked texts = place_in asked.files asked.number texts
 text_for kind.Manifest voices asked texts = manifest_in asked.root asked.files texts
+text_for kind.Refusals voices asked texts = refusals_in asked.root asked.files texts
 text_for kind.Explain voices asked texts = yields (explain_text asked.target)
 text_for kind.Help voices asked texts = yields (help_text asked.of)
 text_for kind.Version voices asked texts = yields version_text

@@ -9,3 +9,4 @@ pub mod Model
 pub mod Text
 pub mod Words
 pub mod inner
+pub mod Groups

@@ -4,4 +4,3 @@ pub mod Read
 pub mod Ready
 pub mod Held
 pub mod OneEnd
-pub mod Groups

@@ -12,7 +12,7 @@ ghost use Rattle.model_phases.specs.Named.{IsPlainModel};
 ghost use Rattle.system_answers.specs.inner.Ends.{EndsReports};
 ghost use Rattle.system_answers.specs.Voices.{voices_of};
 ghost use Rattle.fta_run.specs.Answers.{is_by_lines};
-ghost use Rattle.fta_run.specs.Due.{check_in, cuts_in, events_in, first_name, first_text, fmea_in, galileo_in, made_of_texts, manifest_in, model_of_texts, paths_in, place_in, report_in, review_in, sets_of_tree, targets_in, text_for, tree_in, why_in};
+ghost use Rattle.fta_run.specs.Due.{check_in, cuts_in, events_in, first_name, first_text, fmea_in, galileo_in, made_of_texts, manifest_in, model_of_texts, paths_in, place_in, refusals_in, report_in, review_in, sets_of_tree, targets_in, text_for, tree_in, why_in};
 ghost use Rattle.fta_run.specs.Forms.{drawn_words, is_drawn, picture_legend};
 ghost use Rattle.fta_run.specs.inner.Ready.{IsByLines, held_text, ready_text};
 ghost use Rattle.system_answers.specs.Texts.{drawn_text};
@@ -25,6 +25,7 @@ use crate::made::make;
 use crate::manifest::manifest_text;
 use crate::model::model_of_texts;
 use crate::ready::{Held, Ready, ready_of};
+use crate::refused::refusals_text;
 use crate::targets::orders_of;
 use crate::text::numbers_of;
 use cutset_writer::ListingPage;
@@ -85,6 +86,7 @@ pub fn answer_in(
         Kind::Review => ready_of(review(alloc, root, texts)),
         Kind::Place => ready_of(place(alloc, asked.files, asked.number, texts)),
         Kind::Manifest => ready_of(manifest(alloc, root, asked.files, texts)),
+        Kind::Refusals => ready_of(refusals(alloc, root, asked.files, texts)),
         Kind::Explain => Ok(Ready::Held(explain(target))),
         Kind::Help => ready_of(help(alloc, asked.of)),
         Kind::Version => Ok(Ready::Held(Held::Fixed(version_text()))),
@@ -297,6 +299,14 @@ fn manifest(alloc: Global, root: &Root, names: &[Word], texts: Texts) -> Result<
 {
     let model = model_at(alloc, root, &texts)?;
     let text = manifest_text(alloc, root, names, texts.items(), &model)?;
+    Ok(Held::Text(text))
+}
+
+/// What is refused of the model of a root.
+fn refusals(alloc: Global, root: &Root, names: &[Word], texts: Texts) -> Result<Held, Status>
+    ensures { MeetsBut IsMemory held_text (refusals_in root.now names.now texts) result }
+{
+    let text = refusals_text(alloc, root, names, texts.items())?;
     Ok(Held::Text(text))
 }
 

@@ -1,19 +1,15 @@
 //! What is made of texts that were read, and may be too many or too long.
 
-ghost use Rattle.std.specs.Prelude.{◌≤◌, All, IfErr, IfOk, length};
+ghost use Rattle.std.specs.Prelude.{◌≤◌, All, IfOk, length};
 ghost use Rattle.phases.specs.inner.Meets.{IsMemory, Meets, MeetsBut};
 ghost use Rattle.fta_run.specs.Due.{within_limits};
 ghost use Rattle.fta_run.specs.Files.{most_bytes, most_files};
-ghost use Rattle.noted_refusals.specs.Noted.{IsAlone};
-ghost use Rattle.model_phases.specs.Told.{ToldOf};
-ghost use Rattle.fta_run.specs.inner.Groups.{IsTextsGroup};
 ghost use Rattle.fta_run.specs.inner.Read.{few_texts, model_read, units_read};
 
 use crate::input::{MOST_FILES, check_each, check_total, units_of_texts};
-use crate::model::{model_of_texts, told_model};
+use crate::model::model_of_texts;
 use aadl_syntax::Unit;
-use model_phases::{FlatModel, noted_alone};
-use noted_refusals::Refusals;
+use model_phases::FlatModel;
 use phases::Status;
 use plain_values::{Code, List, Name, Refusal, Root};
 use std::alloc::Global;
@@ -32,33 +28,6 @@ pub fn model_read(alloc: Global, root: &Root, texts: &[Name]) -> Result<FlatMode
 {
     check_few(texts)?;
     model_of_texts(alloc, root, texts)
-}
-
-/// The same; the refusals of the group that refuses are noted, in place of what was noted before.
-pub fn told_model_read(
-    alloc: Global,
-    root: &Root,
-    texts: &[Name],
-    refusals: &mut Refusals,
-) -> Result<FlatModel, Status>
-    ensures meets { Meets (model_read root.now texts.now) result }
-    ensures told { IfErr result (ToldOf (IsTextsGroup root.now texts.now) refusals.new) }
-{
-    told_few(texts, refusals)?;
-    told_model(alloc, root, texts, refusals)
-}
-
-/// Refuses texts that are too many, or too long, and notes that.
-fn told_few(texts: &[Name], refusals: &mut Refusals) -> Result<(), Status>
-    ensures tested { MeetsBut IsMemory (λ _. texts.now) (few_texts texts.now) result }
-    ensures few { IfOk result (λ _. length texts.now ≤ most_files) }
-    ensures short { IfOk result (λ _. All (λ text. length text ≤ most_bytes) texts.now) }
-    ensures told { IfErr result (ToldOf IsAlone refusals.new) }
-{
-    match check_few(texts) {
-        Ok(()) => Ok(()),
-        Err(status) => Err(noted_alone(status, refusals)),
-    }
 }
 
 /// Refuses texts that are too many, or too long.

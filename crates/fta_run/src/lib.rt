@@ -15,6 +15,7 @@ mod made;
 mod manifest;
 mod model;
 mod ready;
+mod refused;
 mod targets;
 mod text;
 mod words;

@@ -10,7 +10,7 @@ ghost use Rattle.package_index.specs.Lookup.{look_classifier, refused_at};
 ghost use Rattle.model_phases.specs.Told.{ToldOf};
 ghost use Rattle.fta_run.specs.Due.{made_of_texts, made_of_units, units_of};
 ghost use Rattle.fta_run.specs.Files.{most_bytes, most_files};
-ghost use Rattle.fta_run.specs.inner.Groups.{IsTextsGroup, IsUnitsGroup};
+ghost use Rattle.fta_run.specs.Groups.{IsFilesGroup, IsUnitsGroup};
 
 use crate::input::units_of_texts;
 use aadl_syntax::Unit;
@@ -45,7 +45,7 @@ pub(crate) fn told_model<M: FromAssembly>(
     requires few { length texts.now ≤ most_files }
     requires short { All (λ text. length text ≤ most_bytes) texts.now }
     ensures made { Meets (made_of_texts M.phase root.now texts.now) result }
-    ensures told { IfErr result (ToldOf (IsTextsGroup root.now texts.now) refusals.new) }
+    ensures told { IfErr result (ToldOf (IsFilesGroup (units_of texts.now) root.now) refusals.new) }
 {
     let files = told_units(alloc, texts, refusals)?;
     model_of_units(alloc, root, &files, refusals)

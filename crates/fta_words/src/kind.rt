@@ -16,13 +16,14 @@ pub enum Kind {
     Review,
     Place,
     Manifest,
+    Refusals,
     Explain,
     Help,
     Version,
 }
 
 /// All commands, in order.
-pub const KINDS: [Kind; 18] = [
+pub const KINDS: [Kind; 19] = [
     Kind::Check,
     Kind::Cuts,
     Kind::Tree,
@@ -38,6 +39,7 @@ pub const KINDS: [Kind; 18] = [
     Kind::Review,
     Kind::Place,
     Kind::Manifest,
+    Kind::Refusals,
     Kind::Explain,
     Kind::Help,
     Kind::Version,

@@ -81,7 +81,7 @@ pub const CODES: [&'static [u8]; 59] = [
 ];
 
 /// A row for each command, in the order of `KINDS`, which is that of help.
-pub const ROWS: [CommandRow; 18] = [
+pub const ROWS: [CommandRow; 19] = [
     Row {
         kind: Kind::Check,
         name: b"check",
@@ -248,6 +248,17 @@ pub const ROWS: [CommandRow; 18] = [
         about: b"of which program and which files a result is, to be kept beside it",
     },
     Row {
+        kind: Kind::Refusals,
+        name: b"refusals",
+        shape: Shape::Model,
+        flags: &[],
+        valued: &[],
+        required: &[],
+        usage: b"refusals ROOT FILE..",
+        optional: b"",
+        about: b"all that is refused of a model at once, a line each with its line and column",
+    },
+    Row {
         kind: Kind::Explain,
         name: b"explain",
         shape: Shape::Code,
@@ -285,7 +296,7 @@ pub const ROWS: [CommandRow; 18] = [
 /// The place of the row of a command.
 fn place_of(kind: Kind) -> usize
     ensures place { result ≡ place_of kind }
-    ensures within { result < 18 }
+    ensures within { result < 19 }
 {
     kind as usize
 }

@@ -161,6 +161,19 @@ pub const MANIFEST: &[u8] =
     Example, in the folder of the repository:\n\
     ./aadl_fta manifest Acs::Control.dual examples/attitude_control.aadl\n";
 
+/// Of `refusals`.
+pub const REFUSALS: &[u8] =
+    b"Tests the texts of a model as check does, and writes what is refused of the part at which check stops: of\n\
+    the members of a component, of all sets of error types that are used, of the points, the machine, the\n\
+    flows or the composite states of a component, or of its connections and paths. The first line is the\n\
+    refusal that check tells; each line has the file, the line and the column, the code and its name. Then\n\
+    comes end, or more where the part has 1024 refusals or more. Where nothing is refused, end stands alone.\n\
+    Mend them, and ask again: what stands behind them was not looked at. The exit status is 0 also where\n\
+    something is refused; ask check for the verdict.\n\
+    \n\
+    Example, in the folder of the repository:\n\
+    ./aadl_fta refusals Acs::Control.dual examples/attitude_control.aadl\n";
+
 /// Of `explain`.
 pub const EXPLAIN: &[u8] =
     b"Writes what a refusal says, by its code, and what to write instead. The code is the first word behind the\n\
@@ -198,4 +211,4 @@ pub const PROGRAM: &[u8] = b"aadl_fta 0.1.0";
 /// The version of the program, that of its profile, and those of the formats of what its commands write.
 pub const VERSIONS: &[u8] = b"aadl_fta 0.1.0\n\
     profile 1\n\
-    formats: check 1 cuts 1 tree 1 mef 1 dot 1 fmea 1 report 1 make 1 galileo 1 paths 1 why 1 confirm 1 targets 1 events 1 review 1 place 1 manifest 1\n";
+    formats: check 1 cuts 1 tree 1 mef 1 dot 1 fmea 1 report 1 make 1 galileo 1 paths 1 why 1 confirm 1 targets 1 events 1 review 1 place 1 manifest 1 refusals 1\n";

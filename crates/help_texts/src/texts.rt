@@ -96,6 +96,7 @@ fn lines_of(kind: Kind) -> &'static [u8]
         Kind::Review => texts::REVIEW,
         Kind::Place => texts::PLACE,
         Kind::Manifest => texts::MANIFEST,
+        Kind::Refusals => texts::REFUSALS,
         Kind::Explain => texts::EXPLAIN,
         Kind::Help => texts::HELP,
         Kind::Version => texts::VERSION,

@@ -107,6 +107,15 @@ returns-in-Manifest-clause-by_lines g c = held_is _ c.manifest.result c.ready_of
 pub returns-in-Manifest-clause-reports : goal.returns-in-Manifest-clause-reports
 returns-in-Manifest-clause-reports g c = all_kept (λ b. (goal.Report-dyn g (b.vtable, b.value)).text b.value) (λ b. (goal.Report-dyn g (b.vtable, b.value)).label b.value) (λ b. (goal.Report-dyn g (b.vtable, b.value)).report_faults b.value) _ c.args.reports.now.items
 
+pub returns-in-Refusals-clause-text : goal.returns-in-Refusals-clause-text
+returns-in-Refusals-clause-text g c = rw c.in-Refusals.is (ready_held _ _ c.refusals.result c.ready_of-in-Refusals.result c.ready_of-in-Refusals.ensures (λ s memory. inl memory) c.refusals.ensures)
+
+pub returns-in-Refusals-clause-by_lines : goal.returns-in-Refusals-clause-by_lines
+returns-in-Refusals-clause-by_lines g c = held_is _ c.refusals.result c.ready_of-in-Refusals.result c.ready_of-in-Refusals.ensures
+
+pub returns-in-Refusals-clause-reports : goal.returns-in-Refusals-clause-reports
+returns-in-Refusals-clause-reports g c = all_kept (λ b. (goal.Report-dyn g (b.vtable, b.value)).text b.value) (λ b. (goal.Report-dyn g (b.vtable, b.value)).label b.value) (λ b. (goal.Report-dyn g (b.vtable, b.value)).report_faults b.value) _ c.args.reports.now.items
+
 pub returns-in-Place-clause-text : goal.returns-in-Place-clause-text
 returns-in-Place-clause-text g c = rw c.in-Place.is (ready_held _ _ c.place.result c.ready_of-in-Place.result c.ready_of-in-Place.ensures (λ s memory. inl memory) c.place.ensures)
 

@@ -4,11 +4,12 @@ use Rattle.noted_refusals.specs.Noted.{IsAlone}
 use Rattle.phases.proofs.Steps.{◌beyond◌, ends, exits, not_computed}
 use Rattle.phases.specs.inner.Stopped.{status_of}
 use Rattle.package_index.specs.Lookup.{packages_of}
-use Rattle.package_index.specs.inner.Duplicates.{duplicates}
+use Rattle.package_index.specs.Duplicates.{IsDuplicate}
 use Rattle.model_phases.specs.Told.{IsGroupOf}
 use Rattle.model_phases.proofs.ToldLaws.{answer-told, end-told, stop-told}
 use Rattle.fta_run.specs.Due.{made_of_units}
-use Rattle.fta_run.specs.inner.Groups.{IsUnitsGroup}
+use Rattle.fta_run.specs.Groups.{AreAll, IsUnitsGroup}
+use Rattle.fta_run.specs.Model.{HasDuplicate}
 use Rattle.fta_run.proofs.Models.{duplicates_told, index_stop, model_in, no_duplicate, root_is, root_stop}
 use Rattle.fta_run.proofs.model.model_of_units.Goals as goal
 
@@ -20,8 +21,8 @@ returns-in_err-index-clause-made g c =
 pub returns-in_err-index-clause-told : goal.returns-in_err-index-clause-told
 returns-in_err-index-clause-told g c =
     let files = c.items.result.now in
-    stop-told (λ group. group ≡ duplicates (packages_of files)) (IsUnitsGroup c.args.root.now c.args.files.now) c.new-index.new.refusals c.in_err-index.field-0.0 c.from_residual-in_err-index.result
-    (λ group is. inr (inl (is ∙ ap (λ its. duplicates (packages_of its)) c.items.ensures.items))) c.from_residual-in_err-index.ensures.1
+    stop-told (λ group. AreAll group (IsDuplicate (packages_of files))) (IsUnitsGroup c.args.root.now c.args.files.now) c.new-index.new.refusals c.in_err-index.field-0.0 c.from_residual-in_err-index.result
+    (λ group is. inr (inl (subst (λ its. AreAll group (HasDuplicate its)) c.items.ensures.items is))) c.from_residual-in_err-index.ensures.1
     (duplicates_told (packages_of files) c.new-index.new.refusals c.in_err-index.field-0.0 c.in_err-index.ensures.refused c.in_err-index.ensures.told)
 
 pub returns-in_err-id-clause-made : goal.returns-in_err-id-clause-made
