@@ -13,7 +13,7 @@ _aadl_fta_names() {
 }
 
 _aadl_fta() {
-  local commands='check cuts tree fmea report make galileo paths why confirm targets events review place manifest explain help version'
+  local commands='check cuts tree fmea report make galileo paths why confirm targets events review place manifest refusals explain help version'
   local cur prev words cword options='' files_from=0
   # A colon and an equals sign end a word for bash. bash-completion joins what they part; without it a root counts as several words.
   if declare -F _get_comp_words_by_ref >/dev/null; then
@@ -81,7 +81,7 @@ _aadl_fta() {
   esac
   # The options of the command, and the number of its first word that is a file.
   case ${words[1]} in
-    check | events | review | manifest) files_from=3 ;;
+    check | events | review | manifest | refusals) files_from=3 ;;
     cuts) options='--limit --after --max-order --tokens' files_from=4 ;;
     tree) options='--format --gates --unrated' files_from=4 ;;
     fmea | targets) options='--all' files_from=3 ;;

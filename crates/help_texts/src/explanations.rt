@@ -347,9 +347,10 @@ pub const EXPLANATIONS: [&'static [u8]; 59] = [
     fdep, seq or mutex; the place is the gate's name. What such a gate says depends on the order of\n\
     events, or on spares, so a static tree cannot say it.\n\
     \n\
-    Instead: replace it by what holds without regard to order: pand by and, a spare by and of the part\n\
-    and its spares. The sets then hold for more orders of events than the gate does, and none is\n\
-    missing.\n",
+    Instead: replace pand by and, and a spare gate that shares no spare by and of its part and its\n\
+    spares: the sets then hold for more orders of events than the gate does, and none is missing. A\n\
+    shared spare fails its gate also where another has taken it, and fdep fails its events with its\n\
+    trigger: an and in their place would lose sets.\n",
     b"R1 UnratedEvent\n\
     \n\
     Of tree with --unrated refuse: an event of the tree has no rate; its name follows. It is the first\n\

@@ -42,7 +42,8 @@ pub fn line_and_column(alloc: Global, text: &[u8], byte: u32) -> Mem<(u64, u64)>
 {
     let before = text_before(text, byte as usize);
     let begin = line_begin(before);
-    let line = first_line(&text[begin..]);
+    let rest = &text[begin..];
+    let line = first_line(rest);
     let reached = reached(alloc, line, before.len() - begin)?;
     Ok((
         feeds_of(before) as u64 + 1,
