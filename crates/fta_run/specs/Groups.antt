@@ -10,7 +10,7 @@ use Rattle.phases.specs.Phases.{Passes, Phase, Stops}
 use Rattle.phases.specs.declared.status.Status.TheVariants.{Refused}
 use Rattle.package_index.specs.declared.id.ClassifierId.{ClassifierId}
 use Rattle.package_index.specs.Lookup.{packages_of}
-use Rattle.model_phases.specs.Told.{IsGroupOf}
+use Rattle.model_phases.specs.Groups.{IsGroupOf}
 use Rattle.model_phases.specs.declared.flat.FlatModel.{FlatModel}
 use Rattle.fta_run.specs.Model.{HasDuplicate, root_named}
 

@@ -7,7 +7,7 @@ ghost use Rattle.noted_refusals.specs.Noted.{IsAlone};
 ghost use Rattle.phases.specs.declared.status.Status.TheVariants.{Refused};
 ghost use Rattle.phases.specs.inner.Meets.{Meets};
 ghost use Rattle.package_index.specs.Lookup.{look_classifier, refused_at};
-ghost use Rattle.model_phases.specs.Told.{ToldOf};
+ghost use Rattle.model_phases.specs.inner.Told.{ToldOf};
 ghost use Rattle.fta_run.specs.Due.{made_of_texts, made_of_units, units_of};
 ghost use Rattle.fta_run.specs.Files.{most_bytes, most_files};
 ghost use Rattle.fta_run.specs.Groups.{IsFilesGroup, IsUnitsGroup};

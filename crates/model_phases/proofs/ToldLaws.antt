@@ -10,7 +10,7 @@ use Rattle.noted_refusals.proofs.Laws.{told-as}
 use Rattle.phases.specs.declared.status.Status.{Status}
 use Rattle.phases.specs.declared.status.Status.TheVariants as status
 use Rattle.phases.specs.inner.Stopped.{status_of}
-use Rattle.model_phases.specs.Told.{ToldOf}
+use Rattle.model_phases.specs.inner.Told.{ToldOf}
 
 told-status : (IsGroup IsOther : List Refusal → Type 0) (noted : Noted) (why : Stop) → ((group : List Refusal) → IsGroup group → IsOther group) → TellsOf IsGroup noted why → ToldOf IsOther noted (status_of why)
 told-status IsGroup IsOther noted (stop.Refused refusal) so told = told-as IsGroup IsOther noted (stop.Refused refusal) so told

@@ -2,4 +2,4 @@ pub mod Named
 pub mod Tests
 pub mod Phases
 pub mod inner
-pub mod Told
+pub mod Groups

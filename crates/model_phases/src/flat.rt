@@ -9,7 +9,8 @@ ghost use Rattle.propagation_links.specs.Refused.{IsLinksGroup, links_refusal};
 ghost use Rattle.model_facts.specs.Assembly.{points_in};
 ghost use Rattle.model_phases.specs.Phases.{assembled, sized};
 ghost use Rattle.model_phases.specs.Tests.{IsIt};
-ghost use Rattle.model_phases.specs.Told.{IsGroupOf, ToldOf};
+ghost use Rattle.model_phases.specs.Groups.{IsGroupOf};
+ghost use Rattle.model_phases.specs.inner.Told.{ToldOf};
 ghost use Rattle.model_phases.specs.inner.Tests.{MeetsTests};
 
 use crate::kinds::{Kinds, kinds_of};

@@ -5,7 +5,7 @@ use Rattle.phases.proofs.Steps.{◌beyond◌, ends, exits, not_computed}
 use Rattle.phases.specs.inner.Stopped.{status_of}
 use Rattle.package_index.specs.Lookup.{packages_of}
 use Rattle.package_index.specs.Duplicates.{IsDuplicate}
-use Rattle.model_phases.specs.Told.{IsGroupOf}
+use Rattle.model_phases.specs.Groups.{IsGroupOf}
 use Rattle.model_phases.proofs.ToldLaws.{answer-told, end-told, stop-told}
 use Rattle.fta_run.specs.Due.{made_of_units}
 use Rattle.fta_run.specs.Groups.{AreAll, IsUnitsGroup}

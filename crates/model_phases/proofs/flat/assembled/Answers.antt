@@ -4,7 +4,7 @@ use Rattle.instantiator.specs.Whole.{Instance}
 use Rattle.model_facts.specs.Assembly.{points_in}
 use Rattle.noted_refusals.specs.Noted.{IsAlone}
 use Rattle.propagation_links.specs.Refused.{IsLinksGroup}
-use Rattle.model_phases.specs.Told.{IsGroupOf, IsKindsGroup}
+use Rattle.model_phases.specs.Groups.{IsGroupOf, IsKindsGroup}
 use Rattle.model_phases.proofs.ToldLaws.{answer-told, end-told}
 use Rattle.phases.specs.inner.Meets.{IsMemory}
 use Rattle.phases.proofs.Steps.{◌beyond◌, ends, exits}

@@ -6,7 +6,7 @@ use Rattle.error_libraries.specs.Libraries.{Table}
 use Rattle.noted_refusals.specs.Noted.{IsAlone}
 use Rattle.error_models.specs.Refused.{IsModelGroup, all_set_refusals}
 use Rattle.model_phases.specs.Phases.{content_tests, kind_tests}
-use Rattle.model_phases.specs.Told.{IsKindsGroup}
+use Rattle.model_phases.specs.Groups.{IsKindsGroup}
 use Rattle.model_phases.proofs.ToldLaws.{end-told}
 use Rattle.model_phases.proofs.Tested.{tests_stop}
 use Rattle.model_phases.proofs.kinds.kinds_of.Goals as goal

@@ -1,11 +1,8 @@
--- The groups of refusals by which a model is tested, and what is told of the one that stops it.
-use Rattle.std.specs.Prelude.{◌≡◌, ◌⊎◌, List, ⊤}
+-- The groups of refusals by which a model is tested.
+use Rattle.std.specs.Prelude.{◌≡◌, ◌⊎◌, List}
 use Rattle.aadl_syntax.specs.declared.core_model.PackageUnit.{PackageUnit}
 use Rattle.plain_values.specs.declared.refusal.Refusal.{Refusal}
-use Rattle.plain_values.specs.declared.refusal.Stop.TheVariants as stop
-use Rattle.noted_refusals.specs.Noted.{IsAlone, Noted, TellsOf}
-use Rattle.phases.specs.declared.status.Status.{Status}
-use Rattle.phases.specs.declared.status.Status.TheVariants.{Refused}
+use Rattle.noted_refusals.specs.Noted.{IsAlone}
 use Rattle.package_index.specs.declared.id.ClassifierId.{ClassifierId}
 use Rattle.error_libraries.specs.Libraries.{table_of}
 use Rattle.instantiator.specs.Refused.{IsClassifierGroup}
@@ -13,11 +10,6 @@ use Rattle.instantiator.specs.Whole.{Instance, instance_of}
 use Rattle.error_models.specs.Refused.{IsModelGroup, all_set_refusals}
 use Rattle.propagation_links.specs.Refused.{IsLinksGroup}
 use Rattle.model_facts.specs.Assembly.{assembly_of, points_in}
-
--- Where a status is a refusal, these are noted of such a group of which it is the first.
-abbrev pub ToldOf : (List Refusal → Type 0) → Noted → Status → Type 0
-ToldOf IsGroup noted (Refused refusal) = TellsOf IsGroup noted (stop.Refused refusal)
-ToldOf IsGroup noted _ = ⊤
 
 -- The group is one of those of the kinds of an instance: a refusal alone, all written sets that are used, or one of those of an error model.
 abbrev pub IsKindsGroup : Instance → List Refusal → Type 0
