@@ -171,6 +171,9 @@ fn earliest(alloc: Global, parts: &[Formula], event: u32, rounds: &[u32]) -> Mem
     let mut round = NEVER;
     for part in parts {
         round = formula_round(alloc, part, event, rounds)?.min(round);
+        if round == 1 {
+            return Ok(1);
+        }
     }
     Ok(round)
 }
