@@ -15,9 +15,10 @@ ghost use Rattle.fact_users.specs.inner.Users.{AreUsers};
 ghost use Rattle.fmea_rows.specs.inner.Tables.{IsBetween, IsKnown, IsNone, IsRight, changed_rows, is_new, table_rows};
 
 use crate::change::{Change, are_rising, make_changes, take_back, time_at};
-use crate::proposing::{Felt, Proposer};
+use crate::places::Places;
 use crate::row::Row;
-use crate::testing::{Run, fits_where_felt};
+use crate::testing::fits_where_felt;
+use crate::truth::Run;
 use backward_slice::{Reach, reach};
 use fact_users::{Users, users_of};
 use fault_system::{Bits, FaultSystem, checked_table, table_of_rounds};
@@ -44,20 +45,20 @@ pub(crate) struct Known {
 }
 
 /// What is used for each event again: the table that is changed and put back, the marks of the facts that were tested, the set of
-/// the event that is looked at, and what proposes changes.
+/// the event that is looked at, and the places of the formulas, which propose what changes.
 #[derive(Drop)]
 pub(crate) struct Desk {
     times: Vec<u32>,
     marks: Vec<u32>,
     alone: Bits,
-    proposer: Proposer,
+    places: Places,
 }
 
 /// The rows of an FMEA table: for each event each effect that holds under the event alone and not under no event, with
 /// the round in which it comes to hold; by event, and then by effect. The effects are the rising numbers of facts.
 ///
-/// Events on which no effect depends are passed over. For the others the time goes with the formulas of the facts that they reach, and
-/// not with events times facts.
+/// Events on which no effect depends are passed over. For the others the time goes with the places of formulas that come to be true
+/// earlier, and not with events times facts.
 pub fn rows(alloc: Global, system: &FaultSystem, effects: &[u32]) -> Mem<List<Row>>
     requires { RisesWithin 0 (length system.now.facts) effects.now }
     ensures rows { IfOk result (λ rows. rows ≡ rows_of system.now effects.now) }
@@ -98,7 +99,7 @@ fn desk_of(alloc: Global, system: &FaultSystem, known: &Known) -> Mem<Desk>
         times: Vec::from_slice(alloc, base)?,
         marks: vec![in alloc; 0u32; base.len()]?,
         alone: Bits::new(alloc, system.events())?,
-        proposer: Proposer::new(alloc, base)?,
+        places: Places::of(alloc, system, base)?,
     })
 }
 
@@ -150,11 +151,7 @@ fn add_felt(
     ensures alone { desk.new.alone ≡ desk.old.alone }
 {
     let _few = asked.system.events();
-    let felt = Felt {
-        system: asked.system,
-        users: &known.users,
-    };
-    let changes = desk.proposer.propose(alloc, &felt, event)?;
+    let changes = desk.places.propose(alloc, event)?;
     if is_right(asked.system, known, event, changes.as_slice(), desk) {
         add_changed(known, event, changes.as_slice(), rows)?;
         return Ok(());
@@ -182,6 +179,7 @@ fn is_right(
 {
     checked_table();
     if !are_rising(changes, system.facts()) {
+        desk.places.settle();
         return false;
     }
     make_changes(desk.times.as_mut_slice(), changes);
@@ -189,6 +187,7 @@ fn is_right(
         system,
         only: &desk.alone,
         times: desk.times.as_slice(),
+        places: desk.places.all(),
     };
     let fits = fits_where_felt(
         &run,
@@ -198,6 +197,7 @@ fn is_right(
         desk.marks.as_mut_slice(),
     );
     take_back(desk.times.as_mut_slice(), known.base.items(), changes);
+    desk.places.settle();
     fits
 }
 

@@ -12,7 +12,7 @@ use Rattle.backward_slice.specs.inner.Reach.{IsReach}
 use Rattle.fact_users.specs.inner.Users.{AreUsers, users_at}
 use Rattle.fact_users.specs.declared.users.Users.{Users}
 use Rattle.fmea_rows.specs.declared.table.Known.{Known}
-use Rattle.fmea_rows.specs.declared.testing.Run.{Run}
+use Rattle.fmea_rows.specs.declared.truth.Run.{Run}
 
 -- ---- changes of a table
 
