@@ -5,11 +5,12 @@
 mod change;
 mod fields;
 mod laws;
-mod proposing;
+mod places;
 mod row;
 mod table;
 mod table_lines;
 mod testing;
+mod truth;
 
 pub use laws::{computed_rows, one_table, reads_back};
 pub use row::Row;

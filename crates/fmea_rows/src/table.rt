@@ -12,12 +12,14 @@ ghost use Rattle.fault_system.specs.inner.Rounds.{IsTable};
 ghost use Rattle.fmea_rows.specs.Rows.{event_rows, rows_of};
 ghost use Rattle.fmea_rows.specs.inner.Rows.{AreRows};
 ghost use Rattle.fact_users.specs.inner.Users.{AreUsers};
-ghost use Rattle.fmea_rows.specs.inner.Tables.{IsBetween, IsKnown, IsRight, changed_rows, is_new, table_rows};
+ghost use Rattle.fmea_rows.specs.inner.Tables.{IsBetween, IsKnown, IsNone, IsRight, changed_rows, is_new, table_rows};
 
 use crate::change::{Change, are_rising, make_changes, take_back, time_at};
-use crate::proposing::{Felt, Proposer};
+use crate::places::Places;
 use crate::row::Row;
-use crate::testing::{Run, fits_where_felt};
+use crate::testing::fits_where_felt;
+use crate::truth::Run;
+use backward_slice::{Reach, reach};
 use fact_users::{Users, users_of};
 use fault_system::{Bits, FaultSystem, checked_table, table_of_rounds};
 use plain_values::{List, Mem};
@@ -32,28 +34,31 @@ struct Asked<'a> {
     effects: &'a [u32],
 }
 
-/// What is known of all events: the rounds of all facts under no event, which facts are effects, and in which formulas each fact
-/// and each event occurs.
+/// What is known of all events: the rounds of all facts under no event, which facts are effects, in which formulas each fact
+/// and each event occurs, and on which facts and events the effects depend.
 #[derive(Drop)]
 pub(crate) struct Known {
     base: List<u32>,
     effects: Bits,
     users: Users,
+    reach: Reach,
 }
 
-/// What is used for each event again: the table that is changed and put back, the marks of the facts that were tested, and
-/// what proposes changes.
+/// What is used for each event again: the table that is changed and put back, the marks of the facts that were tested, the set of
+/// the event that is looked at, and the places of the formulas, which propose what changes.
 #[derive(Drop)]
 pub(crate) struct Desk {
     times: Vec<u32>,
     marks: Vec<u32>,
-    proposer: Proposer,
+    alone: Bits,
+    places: Places,
 }
 
 /// The rows of an FMEA table: for each event each effect that holds under the event alone and not under no event, with
 /// the round in which it comes to hold; by event, and then by effect. The effects are the rising numbers of facts.
 ///
-/// The time goes with the formulas of the facts that the events reach, and not with events times facts.
+/// Events on which no effect depends are passed over. For the others the time goes with the places of formulas that come to be true
+/// earlier, and not with events times facts.
 pub fn rows(alloc: Global, system: &FaultSystem, effects: &[u32]) -> Mem<List<Row>>
     requires { RisesWithin 0 (length system.now.facts) effects.now }
     ensures rows { IfOk result (λ rows. rows ≡ rows_of system.now effects.now) }
@@ -61,7 +66,7 @@ pub fn rows(alloc: Global, system: &FaultSystem, effects: &[u32]) -> Mem<List<Ro
 {
     let asked = Asked { system, effects };
     let known = known_of(alloc, &asked)?;
-    let mut desk = desk_of(alloc, &known)?;
+    let mut desk = desk_of(alloc, system, &known)?;
     let mut rows = List::new(alloc);
     for event in 0..system.events() {
         add_rows(alloc, &asked, &known, event, &mut desk, &mut rows)?;
@@ -80,18 +85,21 @@ fn known_of(alloc: Global, asked: &Asked<'_>) -> Mem<Known>
         base: asked.system.rounds(alloc, &none)?,
         effects: Bits::of(alloc, asked.system.facts(), asked.effects)?,
         users: users_of(alloc, asked.system)?,
+        reach: reach(alloc, asked.system, asked.effects)?,
     })
 }
 
 // The table of no event, without marks.
-fn desk_of(alloc: Global, known: &Known) -> Mem<Desk>
-    ensures { IfOk result (λ desk. IsBetween known.now.base 0 desk.times.items desk.marks.items) }
+fn desk_of(alloc: Global, system: &FaultSystem, known: &Known) -> Mem<Desk>
+    ensures between { IfOk result (λ desk. IsBetween known.now.base 0 desk.times.items desk.marks.items) }
+    ensures alone { IfOk result (λ desk. IsNone (length system.now.events) desk.alone) }
 {
     let base = known.base.items();
     Ok(Desk {
         times: Vec::from_slice(alloc, base)?,
         marks: vec![in alloc; 0u32; base.len()]?,
-        proposer: Proposer::new(alloc, base)?,
+        alone: Bits::new(alloc, system.events())?,
+        places: Places::of(alloc, system, base)?,
     })
 }
 
@@ -108,21 +116,47 @@ fn add_rows(
     requires rise { RisesWithin 0 (length asked.now.system.now.facts) asked.now.effects.now }
     requires known { IsKnown asked.now.system.now asked.now.effects.now known.now }
     requires between { IsBetween known.now.base event desk.old.times.items desk.old.marks.items }
+    requires alone { IsNone (length asked.now.system.now.events) desk.old.alone }
     ensures rows { OnOk result (rows.new ≡ rows.old ++ event_rows asked.now.system.now asked.now.effects.now event) }
     ensures between { OnOk result
         (IsBetween known.now.base (event + 1) desk.new.times.items desk.new.marks.items) }
+    ensures alone { OnOk result (IsNone (length asked.now.system.now.events) desk.new.alone) }
 {
-    let felt = Felt {
-        system: asked.system,
-        users: &known.users,
-    };
-    let changes = desk.proposer.propose(alloc, &felt, event)?;
-    let alone = Bits::of(alloc, asked.system.events(), &[event])?;
-    if is_right(asked.system, known, event, &alone, changes.as_slice(), desk) {
+    if !known.reach.events.has(event) {
+        return Ok(());
+    }
+    desk.alone.put(event);
+    add_felt(alloc, asked, known, event, desk, rows)?;
+    desk.alone.take(event);
+    Ok(())
+}
+
+// Adds the rows of an event on which an effect depends.
+fn add_felt(
+    alloc: Global,
+    asked: &Asked<'_>,
+    known: &Known,
+    event: u32,
+    desk: &mut Desk,
+    rows: &mut List<Row>,
+) -> Mem<()>
+    requires event { event < length asked.now.system.now.events }
+    requires rise { RisesWithin 0 (length asked.now.system.now.facts) asked.now.effects.now }
+    requires known { IsKnown asked.now.system.now asked.now.effects.now known.now }
+    requires between { IsBetween known.now.base event desk.old.times.items desk.old.marks.items }
+    requires alone { member desk.old.alone ≡ only event }
+    ensures rows { OnOk result (rows.new ≡ rows.old ++ event_rows asked.now.system.now asked.now.effects.now event) }
+    ensures between { OnOk result
+        (IsBetween known.now.base (event + 1) desk.new.times.items desk.new.marks.items) }
+    ensures alone { desk.new.alone ≡ desk.old.alone }
+{
+    let _few = asked.system.events();
+    let changes = desk.places.propose(alloc, event)?;
+    if is_right(asked.system, known, event, changes.as_slice(), desk) {
         add_changed(known, event, changes.as_slice(), rows)?;
         return Ok(());
     }
-    add_plain(alloc, asked, known, event, &alone, rows)
+    add_plain(alloc, asked, known, event, &desk.alone, rows)
 }
 
 // Whether the table of no event with these changes is that of an event alone.
@@ -130,28 +164,30 @@ fn is_right(
     system: &FaultSystem,
     known: &Known,
     event: u32,
-    alone: &Bits,
     changes: &[Change],
     desk: &mut Desk,
 ) -> bool
     requires event { event < length system.now.events }
     requires few { event + 1 < 2 ^ 32 }
-    requires alone { member alone.now ≡ only event }
+    requires alone { member desk.old.alone ≡ only event }
     requires base { IsTable system.now no_event known.now.base }
     requires users { AreUsers system.now known.now.users }
     requires between { IsBetween known.now.base event desk.old.times.items desk.old.marks.items }
     ensures right { IsTrue result → IsRight system.now event known.now.base changes.now }
     ensures between { IsBetween known.now.base (event + 1) desk.new.times.items desk.new.marks.items }
+    ensures alone { desk.new.alone ≡ desk.old.alone }
 {
     checked_table();
     if !are_rising(changes, system.facts()) {
+        desk.places.settle();
         return false;
     }
     make_changes(desk.times.as_mut_slice(), changes);
     let run = Run {
         system,
-        only: alone,
+        only: &desk.alone,
         times: desk.times.as_slice(),
+        places: desk.places.all(),
     };
     let fits = fits_where_felt(
         &run,
@@ -161,6 +197,7 @@ fn is_right(
         desk.marks.as_mut_slice(),
     );
     take_back(desk.times.as_mut_slice(), known.base.items(), changes);
+    desk.places.settle();
     fits
 }
 

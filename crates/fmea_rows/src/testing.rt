@@ -5,20 +5,9 @@ ghost use Rattle.fault_system.specs.Truth.{Has, set_of};
 ghost use Rattle.fmea_rows.specs.inner.Tables.{AllFit, Fits, FitsAround, FitsWhereFelt, IsTested, facts_of, tested_of};
 
 use crate::change::Change;
+use crate::truth::{Run, fits};
 use fact_users::{Users, users_at};
-use fault_system::{Bits, FaultSystem};
 use plain_values::List;
-
-/// What is tested: the table of a run of a system under one event alone.
-#[derive(Clone, Copy)]
-pub(crate) struct Run<'a> {
-    /// The system.
-    pub system: &'a FaultSystem,
-    /// The set of that event alone.
-    pub only: &'a Bits,
-    /// The round of each fact, and 0 for none.
-    pub times: &'a [u32],
-}
 
 /// Whether the times of a table fit wherever changes or an event may be felt. Each fact is tested once: those whose times fit
 /// get a mark, which is higher than all marks before.
@@ -105,9 +94,9 @@ fn fits_once(run: &Run<'_>, fact: u32, mark: u32, marks: &mut [u32]) -> bool
     if at < marks.len() && marks[at] == mark {
         return true;
     }
-    let fits = run.system.fits(run.only, run.times, fact);
-    if fits && at < marks.len() {
+    let is_fit = fits(run, fact);
+    if is_fit && at < marks.len() {
         marks[at] = mark;
     }
-    fits
+    is_fit
 }

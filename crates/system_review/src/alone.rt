@@ -1,14 +1,15 @@
 //! What is so where one event or one fact stands alone.
 
-ghost use Rattle.std.specs.Prelude.{◌≡◌, ◌++◌, IfOk, OnOk, false, filter, length, map, nat_le};
-ghost use Rattle.fault_system.specs.Truth.{count_true, member, set_of, truth};
+ghost use Rattle.std.specs.Prelude.{◌≡◌, IfOk, false, map, nat_le};
+ghost use Rattle.fault_system.specs.Truth.{count_true, member, truth};
 ghost use Rattle.fault_system.specs.Systems.{applied};
 ghost use Rattle.fault_system.specs.Rounds.{no_event};
-ghost use Rattle.system_review.specs.Alone.{and_next, following, made_by_event, made_by_fact};
-ghost use Rattle.system_review.specs.inner.Steps.{is_next};
+ghost use Rattle.system_review.specs.Alone.{made_by_event, made_by_fact};
 
+use crate::by_rounds::{Listed, following};
+use crate::followed::followed;
 use fault_system::{FaultSystem, Formula, Numbers};
-use plain_values::{List, Mem};
+use plain_values::Mem;
 use std::alloc::Global;
 
 /// The set of no number.
@@ -40,22 +41,6 @@ impl Numbers for Only {
     }
 }
 
-/// The set of these numbers.
-#[derive(Clone, Copy)]
-struct Listed<'a> {
-    numbers: &'a [u32],
-}
-
-impl<'a> Numbers for Listed<'a> {
-    ghost use Rattle.fault_system.specs.Truth.{set_of};
-
-    ghost set = { λ set. set_of set.numbers.now };
-
-    fn is_in(&self, number: u32) -> bool {
-        has_number(self.numbers, number)
-    }
-}
-
 /// Whether a fact holds by itself where this event alone occurs: its formula is true, and no other fact need hold.
 pub fn made_by_event(system: &FaultSystem, target: u32, event: u32) -> bool
     ensures { result ≡ made_by_event system.now target event }
@@ -68,6 +53,9 @@ pub fn made_by_event(system: &FaultSystem, target: u32, event: u32) -> bool
 
 /// Whether a fact makes another one hold by itself, by way of some facts alone: the formula of the other is true where what
 /// follows from the one holds, and no event occurs.
+///
+/// Mostly the one fact alone is enough, and then nothing else is looked at; else the time goes with the formulas of the facts by way
+/// of which it may go.
 pub fn made_by_fact(
     alloc: Global,
     system: &FaultSystem,
@@ -77,78 +65,43 @@ pub fn made_by_fact(
 ) -> Mem<bool>
     ensures { IfOk result (λ made. made ≡ made_by_fact system.now among.now target cause) }
 {
+    if is_true_at(system, &Only(cause), target) {
+        return Ok(true);
+    }
+    match followed(alloc, system, among, cause)? {
+        Some(found) => Ok(is_true_at(system, &found, target)),
+        None => made_by_rounds(alloc, system, among, target, cause),
+    }
+}
+
+// The same, round by round.
+fn made_by_rounds(
+    alloc: Global,
+    system: &FaultSystem,
+    among: &[u32],
+    target: u32,
+    cause: u32,
+) -> Mem<bool>
+    ensures { IfOk result (λ made. made ≡ made_by_fact system.now among.now target cause) }
+{
     let found = following(alloc, system, among, cause)?;
-    Ok(is_true_at(system, found.items(), target))
+    Ok(is_true_at(
+        system,
+        &Listed {
+            numbers: found.items(),
+        },
+        target,
+    ))
 }
 
-// What follows from a fact by way of some others.
-fn following(alloc: Global, system: &FaultSystem, among: &[u32], cause: u32) -> Mem<List<u32>>
-    ensures { IfOk result (λ found. set_of found ≡ following system.now among.now cause (length among.now)) }
-{
-    let mut found = List::new(alloc);
-    found.push(cause)?;
-    for round in 0..among.len() {
-        let _ = round;
-        if !add_next(alloc, system, among, &mut found)? {
-            return Ok(found);
-        }
-    }
-    Ok(found)
-}
-
-// Adds those among some facts whose formulas are true where the others hold and no event occurs; whether there are any.
-fn add_next(alloc: Global, system: &FaultSystem, among: &[u32], found: &mut List<u32>) -> Mem<bool>
-    ensures next { OnOk result (set_of found.new ≡ and_next system.now among.now (set_of found.old)) }
-    ensures none { IfOk result (λ more. more ≡ false → set_of found.new ≡ set_of found.old) }
-{
-    let more = next(alloc, system, among, found.items())?;
-    if more.len_u32() == 0 {
-        return Ok(false);
-    }
-    append(found, more.items())?;
-    Ok(true)
-}
-
-// Those among some facts whose formulas are true where these hold and no event occurs, but for these.
-fn next(alloc: Global, system: &FaultSystem, among: &[u32], facts: &[u32]) -> Mem<List<u32>>
-    ensures { IfOk result (λ more. more ≡ filter (is_next system.now facts.now) among.now) }
-{
-    let mut more = List::new(alloc);
-    for number in among {
-        more.push_if(*number, is_next(system, facts, *number))?;
-    }
-    Ok(more)
-}
-
-fn is_next(system: &FaultSystem, facts: &[u32], number: u32) -> bool
-    ensures { result ≡ is_next system.now facts.now number }
-{
-    !has_number(facts, number) && is_true_at(system, facts, number)
-}
-
-// Whether the formula of a fact is true where these facts hold and no event occurs.
-fn is_true_at(system: &FaultSystem, facts: &[u32], number: u32) -> bool
-    ensures { result ≡ member (applied system.now no_event (set_of facts.now)) number }
+/// Whether the formula of a fact is true where these facts hold and no event occurs.
+pub(crate) fn is_true_at<S: Numbers>(system: &FaultSystem, facts: &S, number: u32) -> bool
+    ensures { result ≡ member (applied system.now no_event (S.set facts.now)) number }
 {
     match system.fact(number) {
-        Some(fact) => is_true_over(&fact.formula, &Nothing, &Listed { numbers: facts }),
+        Some(fact) => is_true_over(&fact.formula, &Nothing, facts),
         None => false,
     }
-}
-
-fn append(found: &mut List<u32>, more: &[u32]) -> Mem<()>
-    ensures { OnOk result (found.new ≡ found.old ++ more.now) }
-{
-    for number in more {
-        found.push(*number)?;
-    }
-    Ok(())
-}
-
-fn has_number(numbers: &[u32], number: u32) -> bool
-    ensures { result ≡ set_of numbers.now number }
-{
-    numbers.iter().any(|other| *other == number)
 }
 
 // Whether a formula is true under a set of events and a set of facts.

@@ -2,11 +2,14 @@
 #![tactic(auto)]
 
 mod alone;
+mod by_rounds;
+mod followed;
 mod laws;
 mod listing;
 mod looping;
 mod occurring;
 mod possible;
+mod proposing;
 mod unreached;
 
 pub use alone::{made_by_event, made_by_fact};

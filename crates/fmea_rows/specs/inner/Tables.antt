@@ -1,5 +1,5 @@
 -- What the functions that find rows owe each other: tables that change, tests, and rows of tables.
-use Rattle.std.specs.Prelude.{ℕ, ◌≤◌, ◌≡◌, ◌==◌, ◌&&◌, Bool, if◌then◌else◌, List, [], ◌∷◌, length, map, slice_index_or, slice_set, nat_lt}
+use Rattle.std.specs.Prelude.{ℕ, ◌≤◌, ◌≡◌, ◌==◌, ◌&&◌, Bool, false, if◌then◌else◌, List, [], ◌∷◌, length, map, slice_index_or, slice_set, nat_lt}
 use Rattle.std.specs.List.{flat_map}
 use Rattle.plain_values.specs.Rising.{RisesWithin}
 use Rattle.fault_system.specs.Truth.{NumberSet, Has, member, set_of}
@@ -8,10 +8,11 @@ use Rattle.fault_system.specs.Rounds.{no_event, only, time_of}
 use Rattle.fault_system.specs.inner.Rounds.{FitsFact, IsTable}
 use Rattle.fmea_rows.specs.declared.row.Row.{Row}
 use Rattle.fmea_rows.specs.declared.change.Change.{Change}
+use Rattle.backward_slice.specs.inner.Reach.{IsReach}
 use Rattle.fact_users.specs.inner.Users.{AreUsers, users_at}
 use Rattle.fact_users.specs.declared.users.Users.{Users}
 use Rattle.fmea_rows.specs.declared.table.Known.{Known}
-use Rattle.fmea_rows.specs.declared.testing.Run.{Run}
+use Rattle.fmea_rows.specs.declared.truth.Run.{Run}
 
 -- ---- changes of a table
 
@@ -29,11 +30,12 @@ pub record IsRight (system : System) (event : ℕ) (base : List ℕ) (changes : 
   pub rise : RisesWithin 0 (length system.facts) (facts_of changes)
   pub table : IsTable system (only event) (changed base changes)
 
--- what is known of all events: the table of no event, which facts are effects, and the users
+-- what is known of all events: the table of no event, which facts are effects, the users, and on what the effects depend
 pub record IsKnown (system : System) (effects : List ℕ) (known : Known) : Type 0 where
   pub base : IsTable system no_event known.base
   pub effects_are : (n : ℕ) → member known.effects n ≡ set_of effects n
   pub users_are : AreUsers system known.users
+  pub reach_is : IsReach system effects known.reach
 
 -- ---- tests
 
@@ -72,6 +74,11 @@ pub record FitsWhereFelt (run : Tested) (users : Users) (event : ℕ) (changes :
 pub record IsBetween (base : List ℕ) (done : ℕ) (times marks : List ℕ) : Type 0 where
   pub same : times ≡ base
   pub low : (n : ℕ) → slice_index_or marks n 0 ≤ done
+
+-- a set of no number, with room for so many
+pub record IsNone (size : ℕ) (marks : List Bool) : Type 0 where
+  pub size_is : length marks ≡ size
+  pub none : (n : ℕ) → member marks n ≡ false
 
 -- ---- rows of tables
 

@@ -1,10 +1,11 @@
 -- What the steps of the gathering of loops add, and what follows next from some facts.
 use Rattle.std.specs.Prelude.{ℕ, ◌≡◌, Bool, false, cond, ◌&&◌, ◌||◌, not, nat_lt, nat_eq, List, [], ◌∷◌, ◌++◌, slice_get}
 use Rattle.std.specs.Option.{option_map_or}
-use Rattle.fault_system.specs.Truth.{NumberSet, member, occurs, set_of}
+use Rattle.fault_system.specs.Truth.{NumberSet, Has, member, occurs, set_of}
 use Rattle.fault_system.specs.Systems.{System, applied}
 use Rattle.fault_system.specs.Rounds.{no_event}
 use Rattle.dependency_blocks.specs.Blocks.{number_of, size_of}
+use Rattle.system_review.specs.Alone.{following}
 use Rattle.system_review.specs.declared.looping.Loop.{Loop}
 
 -- whether a fact occurs in its own formula
@@ -27,3 +28,12 @@ pub record AddsLoop (system : System) (numbers : List ℕ) (number : ℕ) (seen_
 -- whether the formula of a fact is true where these facts hold and no event occurs, and it is none of these
 abbrev pub is_next : System → List ℕ → NumberSet
 is_next system facts n = not (set_of facts n) && member (applied system no_event (set_of facts)) n
+
+-- facts that follow from a fact by way of some others in so many rounds, among them the fact itself
+pub record IsWithin (system : System) (among : List ℕ) (cause rounds : ℕ) (facts : NumberSet) : Type 0 where
+  pub cause_in : Has facts cause
+  pub inside : (n : ℕ) → Has facts n → Has (following system among cause rounds) n
+
+-- each among some facts whose formula is true where these hold and no event occurs is one of these
+abbrev pub IsClosedAmong : System → List ℕ → NumberSet → Type 0
+IsClosedAmong system among facts = (n : ℕ) → Has (set_of among) n → Has (member (applied system no_event facts)) n → Has facts n

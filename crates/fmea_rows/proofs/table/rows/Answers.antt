@@ -10,6 +10,7 @@ pub loop-event-preserved : goal.loop-event-preserved
 loop-event-preserved c = record {
   rows = rows-next c.args.system.now c.args.effects.now c.loop-event.event c.loop-event.rows c.add_rows.new.rows c.loop-event.invariant.rows c.in_ok-add_rows.ensures.rows;
   between = c.in_ok-add_rows.ensures.between;
+  alone = c.in_ok-add_rows.ensures.alone;
 }
 
 pub returns : goal.returns

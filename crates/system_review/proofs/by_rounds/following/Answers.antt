@@ -1,7 +1,7 @@
 use Rattle.std.proofs.Common.{ℕ, List, [], ◌∷◌, ◌++◌, ap, ◌∙◌, arith}
 use Rattle.fault_system.specs.Truth.{set_of}
 use Rattle.system_review.proofs.Following.{following-end, following-first, following-next}
-use Rattle.system_review.proofs.alone.following.Goals as goal
+use Rattle.system_review.proofs.by_rounds.following.Goals as goal
 
 pub loop-round-init : goal.loop-round-init
 loop-round-init c = following-first c.args.cause c.push.new.self (c.in_ok-push.ensures.ok ∙ ap (λ (ns : List ℕ). ns ++ c.args.cause ∷ []) c.new-found.ensures)

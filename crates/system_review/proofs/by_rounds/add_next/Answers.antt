@@ -1,6 +1,6 @@
 use Rattle.std.proofs.Common.{sym, ◌∙◌}
 use Rattle.system_review.proofs.Following.{added-set, none-set}
-use Rattle.system_review.proofs.alone.add_next.Goals as goal
+use Rattle.system_review.proofs.by_rounds.add_next.Goals as goal
 
 pub returns-clause-next : goal.returns-clause-next
 returns-clause-next c =
