@@ -1,3 +1,4 @@
+pub mod Counting
 pub mod Labels
 pub mod OneMef
 pub mod TreeLeft

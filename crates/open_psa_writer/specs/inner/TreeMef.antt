@@ -1,5 +1,5 @@
 -- Beside specs/TreeMef.antt: what is asked of a tree, and what is left of a text.
-use Rattle.std.specs.Prelude.{ℕ, ◌==◌, suc, if◌then◌else◌, List, [], ◌++◌, map, slice_index_or, ◌<◌, ◌≡◌, ◌≢◌, ◌^◌, true, drop, length, AllPairs, Contains}
+use Rattle.std.specs.Prelude.{ℕ, ◌==◌, suc, if◌then◌else◌, List, [], ◌++◌, map, ◌<◌, ◌≡◌, ◌≢◌, ◌^◌, true, drop, length, AllPairs, Contains}
 use Rattle.std.specs.List.{AllByRecursion, flat_map, list_any}
 use Rattle.fault_system.specs.Systems.{System}
 use Rattle.property_reader.specs.declared.rate.Rate.{Rate}
@@ -8,7 +8,7 @@ use Rattle.round_gates.specs.declared.tree.Tree.{Tree}
 use Rattle.round_gates.specs.Trees.{is_event}
 use Rattle.round_gates.specs.inner.Targets.{IsWithin, MayHave}
 use Rattle.open_psa_writer.specs.Mef.{end_text, event_text, gate_text, head_text, middle_text}
-use Rattle.open_psa_writer.specs.TreeMef.{gates_from, mef_event, mef_gate, no_gate}
+use Rattle.open_psa_writer.specs.TreeMef.{gate_parts, gates_from, mef_event, mef_gate, top_gate}
 use Rattle.open_psa_writer.specs.declared.tree_lines.Place.{Place}
 use Rattle.open_psa_writer.specs.declared.tree_lines.Place.TheVariants.{Start, Gates, Events, End}
 
@@ -38,6 +38,10 @@ pub record IsMefTree (system : System) (tree : Tree) : Type 0 where
 abbrev pub past_top : ℕ → ℕ → ℕ
 past_top top at = if at == top then suc at else at
 
+-- the gate at a position, and its auxiliary gates
+abbrev pub group_text : System → ℕ → ℕ → Gate → List ℕ
+group_text system top at gate = gate_text (mef_gate system top at gate) ++ flat_map gate_text (gate_parts top at gate)
+
 -- the gates from a position on, but for the top
 abbrev pub others_text : System → Tree → ℕ → List ℕ
 others_text system tree at = flat_map gate_text (gates_from system tree.top at (drop at tree.gates))
@@ -49,7 +53,7 @@ events_text system rates events at = flat_map event_text (map (mef_event system 
 -- what is left of the text of a tree, from a place on
 abbrev pub text_left : System → Tree → List Rate → Place → List ℕ
 text_left system tree rates Start =
-    head_text ++ (gate_text (mef_gate system tree.top tree.top (slice_index_or tree.gates tree.top no_gate))
+    head_text ++ (group_text system tree.top tree.top (top_gate tree)
     ++ (others_text system tree 0 ++ (middle_text ++ (events_text system rates tree.events 0 ++ end_text))))
 text_left system tree rates (Gates at) = others_text system tree at ++ (middle_text ++ (events_text system rates tree.events 0 ++ end_text))
 text_left system tree rates (Events at) = events_text system rates tree.events at ++ end_text
