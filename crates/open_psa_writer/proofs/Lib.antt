@@ -11,3 +11,4 @@ pub mod WellMade
 pub mod Examples
 pub mod BasedWorth
 pub mod Pieces
+pub mod ReadBack
