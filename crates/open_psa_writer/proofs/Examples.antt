@@ -59,12 +59,34 @@ counted =
 abbrev rates : List Rate
 rates = conservative_rate ∷ record { kind = Lambda; text = codes "1_0.0e-5" } ∷ []
 
+-- it is written by auxiliary gates, since one of its inputs is a gate
 counted_text : mef_text machine counted rates
     ≡ codes "<?xml version=\"1.0\"?>\n<opsa-mef>\n<define-fault-tree name=\"tree\">\n"
-    ++ codes "<define-gate name=\"g1\">\n<label>root/state:bad@1.3</label>\n<atleast min=\"2\">\n<basic-event name=\"e1\"/>\n<basic-event name=\"e2\"/>\n<gate name=\"g2\"/>\n</atleast>\n</define-gate>\n"
+    ++ codes "<define-gate name=\"g1\">\n<label>root/state:bad@1.3</label>\n<gate name=\"g1_2_3\"/>\n</define-gate>\n"
+    ++ codes "<define-gate name=\"g1_1_1\">\n<gate name=\"g2\"/>\n</define-gate>\n"
+    ++ codes "<define-gate name=\"g1_1_2\">\n<or>\n<basic-event name=\"e2\"/>\n<gate name=\"g1_1_1\"/>\n</or>\n</define-gate>\n"
+    ++ codes "<define-gate name=\"g1_2_2\">\n<and>\n<basic-event name=\"e2\"/>\n<gate name=\"g1_1_1\"/>\n</and>\n</define-gate>\n"
+    ++ codes "<define-gate name=\"g1_2_3\">\n<or>\n<and>\n<basic-event name=\"e1\"/>\n<gate name=\"g1_1_2\"/>\n</and>\n<gate name=\"g1_2_2\"/>\n</or>\n</define-gate>\n"
     ++ codes "<define-gate name=\"g2\">\n<label>root/state:bad@1.0</label>\n<basic-event name=\"e3\"/>\n</define-gate>\n"
     ++ codes "</define-fault-tree>\n<model-data>\n<define-basic-event name=\"e1\">\n<label>root/e1</label>\n<float value=\"1\"/>\n</define-basic-event>\n"
     ++ codes "<define-basic-event name=\"e2\">\n<label>root/e2</label>\n<exponential>\n<float value=\"10.0e-5\"/>\n<system-mission-time/>\n</exponential>\n</define-basic-event>\n"
     ++ codes "<define-basic-event name=\"e3\">\n<label>root/e3</label>\n<float value=\"1\"/>\n</define-basic-event>\n</model-data>\n</opsa-mef>\n"
 unfolding digits
 counted_text = refl
+
+-- two of three events
+abbrev counted_events : Tree
+counted_events =
+    record {
+      top = 0;
+      gates = gate 1 1 0 (AtLeast 2) (inputs.Event 0 ∷ inputs.Event 1 ∷ inputs.Event 2 ∷ []) ∷ [];
+      events = [];
+    }
+
+-- they stand as they are
+counted_events_text : mef_text machine counted_events []
+    ≡ codes "<?xml version=\"1.0\"?>\n<opsa-mef>\n<define-fault-tree name=\"tree\">\n"
+    ++ codes "<define-gate name=\"g1\">\n<label>root/state:bad@1.0</label>\n<atleast min=\"2\">\n<basic-event name=\"e1\"/>\n<basic-event name=\"e2\"/>\n<basic-event name=\"e3\"/>\n</atleast>\n</define-gate>\n"
+    ++ codes "</define-fault-tree>\n<model-data>\n</model-data>\n</opsa-mef>\n"
+unfolding digits
+counted_events_text = refl

@@ -1,3 +1,4 @@
+pub mod Counting
 pub mod Labels
 pub mod OneMef
 pub mod TreeLeft
@@ -10,3 +11,4 @@ pub mod WellMade
 pub mod Examples
 pub mod BasedWorth
 pub mod Pieces
+pub mod ReadBack

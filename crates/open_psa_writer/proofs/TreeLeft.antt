@@ -2,14 +2,15 @@
 use Rattle.std.proofs.Common.{ℕ, zero, suc, ◌+◌, ◌≡◌, ◌⊎◌, ◌==◌, Bool, true, false, if◌then◌else◌, List, [], ◌∷◌, ◌++◌, drop, map, slice_get, None, Some, inl, inr, ⊎_elim, ap, ◌∙◌, sym, refl, arith}
 use Rattle.std.specs.List.{flat_map}
 use Rattle.std.proofs.lemmas.Bool.{eqb-true, eqb-false, ne_eqb}
+use Rattle.std.proofs.lemmas.Grind.{flat_map-append}
 use Rattle.std.proofs.lemmas.List.{append_assoc}
 use Rattle.fault_system.specs.Systems.{System}
 use Rattle.property_reader.specs.declared.rate.Rate.{Rate}
 use Rattle.round_gates.specs.declared.tree.Gate.{Gate}
 use Rattle.round_gates.specs.declared.tree.Tree.{Tree}
-use Rattle.open_psa_writer.specs.Mef.{event_text, gate_text}
-use Rattle.open_psa_writer.specs.inner.TreeMef.{events_text, others_text, past_top}
-use Rattle.open_psa_writer.specs.TreeMef.{gates_from, mef_event, mef_gate}
+use Rattle.open_psa_writer.specs.Mef.{MefGate, event_text, gate_text}
+use Rattle.open_psa_writer.specs.inner.TreeMef.{events_text, group_text, others_text, past_top}
+use Rattle.open_psa_writer.specs.TreeMef.{gate_parts, gates_from, mef_event, mef_gate}
 
 -- what stands from a position on
 drop-more : {X : Type 0} (xs : List X) (at : ℕ) (x : X) → slice_get xs at ≡ Some x → drop at xs ≡ x ∷ drop (suc at) xs
@@ -37,6 +38,10 @@ past-other top at = by (at == top) refl
     by false e h = eqb-false at top e h
 
 module _ (system : System) (tree : Tree) where
+  -- a gate at a position with its auxiliary gates, and all behind it
+  abbrev with_group : ℕ → Gate → List MefGate
+  with_group at g = mef_gate system tree.top at g ∷ (gate_parts tree.top at g ++ gates_from system tree.top (suc at) (drop (suc at) tree.gates))
+
   -- the top is passed
   skip : (at : ℕ) → others_text system tree at ≡ others_text system tree (past_top tree.top at)
   skip at = by (at == tree.top) refl
@@ -45,24 +50,28 @@ module _ (system : System) (tree : Tree) where
       by true e =
           ⊎_elim
           (λ (g, more). ap (λ gates. flat_map gate_text (gates_from system tree.top at gates)) more
-          ∙ ap (λ (c : Bool). flat_map gate_text (if c then gates_from system tree.top (suc at) (drop (suc at) tree.gates) else mef_gate system tree.top at g ∷ gates_from system tree.top (suc at) (drop (suc at) tree.gates))) e)
+          ∙ ap (λ (c : Bool). flat_map gate_text (if c then gates_from system tree.top (suc at) (drop (suc at) tree.gates) else with_group at g)) e)
           (λ (here, later). ap (λ gates. flat_map gate_text (gates_from system tree.top at gates)) here ∙ sym (ap (λ gates. flat_map gate_text (gates_from system tree.top (suc at) gates)) later))
           (drop-cases tree.gates at)
       by false e = refl
 
   -- the next gate that is not the top
   pub other-gate : (at : ℕ) (gate : Gate) (t : List ℕ) → slice_get tree.gates (past_top tree.top at) ≡ Some gate
-      → others_text system tree at ++ t ≡ gate_text (mef_gate system tree.top (past_top tree.top at) gate) ++ (others_text system tree (past_top tree.top at + 1) ++ t)
+      → others_text system tree at ++ t ≡ group_text system tree.top (past_top tree.top at) gate ++ (others_text system tree (past_top tree.top at + 1) ++ t)
   other-gate at gate t e =
       let place = past_top tree.top at in
       let next : suc place ≡ place + 1 = omega arith in
-      let split : others_text system tree place ≡ gate_text (mef_gate system tree.top place gate) ++ others_text system tree (suc place)
+      let group = group_text system tree.top place gate in
+      let split : others_text system tree place ≡ group ++ others_text system tree (suc place)
       = ap (λ gates. flat_map gate_text (gates_from system tree.top place gates)) (drop-more tree.gates place gate e)
-      ∙ ap (λ (c : Bool). flat_map gate_text (if c then gates_from system tree.top (suc place) (drop (suc place) tree.gates) else mef_gate system tree.top place gate ∷ gates_from system tree.top (suc place) (drop (suc place) tree.gates)))
-      (ne_eqb place tree.top (past-other tree.top at)) in
+      ∙ ap (λ (c : Bool). flat_map gate_text (if c then gates_from system tree.top (suc place) (drop (suc place) tree.gates) else with_group place gate))
+      (ne_eqb place tree.top (past-other tree.top at))
+      ∙ ap (λ u. gate_text (mef_gate system tree.top place gate) ++ u)
+      (flat_map-append gate_text (gate_parts tree.top place gate) (gates_from system tree.top (suc place) (drop (suc place) tree.gates)))
+      ∙ sym (append_assoc (gate_text (mef_gate system tree.top place gate)) (flat_map gate_text (gate_parts tree.top place gate)) (others_text system tree (suc place))) in
       ap (λ u. u ++ t) (skip at ∙ split)
-      ∙ append_assoc (gate_text (mef_gate system tree.top place gate)) (others_text system tree (suc place)) t
-      ∙ ap (λ n. gate_text (mef_gate system tree.top place gate) ++ (others_text system tree n ++ t)) next
+      ∙ append_assoc group (others_text system tree (suc place)) t
+      ∙ ap (λ n. group ++ (others_text system tree n ++ t)) next
 
   -- no gate is left
   pub no-gate : (at : ℕ) (t : List ℕ) → slice_get tree.gates (past_top tree.top at) ≡ None → others_text system tree at ++ t ≡ t
@@ -71,10 +80,10 @@ module _ (system : System) (tree : Tree) where
 -- a step of the code: the next gate that is not the top, at its place, was added to a buffer that was cleared
 pub other-step : (system : System) (tree : Tree) (at place number : ℕ) (gate : Gate) (t : List ℕ) {cleared items : List ℕ}
     → place ≡ past_top tree.top at → number ≡ place → slice_get tree.gates place ≡ Some gate
-    → cleared ≡ [] → items ≡ cleared ++ gate_text (mef_gate system tree.top number gate)
+    → cleared ≡ [] → items ≡ cleared ++ group_text system tree.top number gate
     → others_text system tree at ++ t ≡ items ++ (others_text system tree (place + 1) ++ t)
 other-step system tree at place number gate t is_place is_number found none added =
-    let text : ℕ → List ℕ = λ n. gate_text (mef_gate system tree.top n gate) in
+    let text : ℕ → List ℕ = λ n. group_text system tree.top n gate in
     other-gate system tree at gate t (ap (slice_get tree.gates) (sym is_place) ∙ found)
     ∙ ap (λ n. text n ++ (others_text system tree (n + 1) ++ t)) (sym is_place)
     ∙ ap (λ n. text n ++ (others_text system tree (place + 1) ++ t)) (sym is_number)

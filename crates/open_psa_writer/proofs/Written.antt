@@ -1,5 +1,5 @@
 -- The text of a tree may stand, and it is true exactly where the tree is.
-use Rattle.std.proofs.Common.{ℕ, zero, suc, ◌≡◌, ◌<◌, ◌^◌, ◌↔◌, ◌==◌, ◌||◌, not, Bool, true, false, if◌then◌else◌, List, [], ◌∷◌, length, map, filter, take, drop, codes, decimal, Contains, inl, inr, ⊎_elim, ap, ◌∙◌, sym, subst, refl, arith}
+use Rattle.std.proofs.Common.{ℕ, zero, suc, ◌-◌, ◌≡◌, ◌<◌, ◌≤◌, ◌^◌, ◌↔◌, ◌==◌, ◌||◌, not, Bool, true, false, if◌then◌else◌, List, [], ◌∷◌, length, map, filter, take, drop, slice_get, slice_index_or, Some, codes, decimal, Contains, inl, inr, ⊎_elim, ap, ◌∙◌, sym, subst, refl, arith}
 use lib.ListN.{length-map}
 use Rattle.std.specs.List.{AllByRecursion, concat}
 use Rattle.std.proofs.lemmas.Bool.{false≢true}
@@ -13,6 +13,7 @@ use Rattle.property_reader.specs.Rates.{conservative_rate}
 use Rattle.property_reader.specs.declared.rate.Rate.{Rate}
 use Rattle.round_gates.specs.declared.node.GateKind.{GateKind}
 use Rattle.round_gates.specs.declared.node.GateKind.TheVariants as kinds
+use Rattle.round_gates.specs.declared.tree.Gate.{Gate}
 use Rattle.round_gates.specs.declared.tree.Input.{Input}
 use Rattle.round_gates.specs.declared.tree.Input.TheVariants as inputs
 use Rattle.round_gates.specs.declared.tree.Tree.{Tree}
@@ -23,12 +24,12 @@ use Rattle.round_gates.proofs.TreeTruth.{tree-truth}
 use Rattle.galileo_writer.specs.TreeText.{names_of}
 use Rattle.galileo_writer.specs.inner.TreeText.{AreRates}
 use Rattle.galileo_writer.proofs.Bytes.{decimal-lacks}
-use Rattle.open_psa_writer.specs.Mef.{Figures, Digit, IsMefOf, IsPlainEvent, IsPlainGate, IsPlainInput, IsPlainKind, IsPlainNumber, Mef, Number}
+use Rattle.open_psa_writer.specs.Mef.{Choice, Figures, Digit, IsMefOf, IsPlainEvent, IsPlainFormula, IsPlainGate, IsPlainInput, IsPlainKind, IsPlainNumber, Mef, MefInput, Number, Over}
 use Rattle.open_psa_writer.specs.Numbers.{base_len, digit_of, digits_behind, number_of, plain}
 use Rattle.open_psa_writer.specs.Truth.{MefTrue, Tells}
 use Rattle.open_psa_writer.specs.inner.TreeMef.{IsMefGate, IsMefTree}
-use Rattle.open_psa_writer.specs.TreeMef.{mef_event, mef_text, numbered, tree_mef}
-use Rattle.open_psa_writer.proofs.Positions.{all-gates, number-most}
+use Rattle.open_psa_writer.specs.TreeMef.{gate_number, is_spread, mef_event, mef_text, numbered, part, part_formula, tree_mef, whole_formula}
+use Rattle.open_psa_writer.proofs.Positions.{Group, all-gates, number-most, to-parts}
 use Rattle.open_psa_writer.proofs.OneMef.{one-mef}
 use Rattle.open_psa_writer.proofs.Truth.{all-at, mef-from-tree, tree-from-mef}
 
@@ -109,24 +110,72 @@ module _ (system : System) (few_events : length system.events < 2 ^ 32) (tree : 
   plain-single kinds.Or count may one = refl
   plain-single (kinds.AtLeast k) count may one = absurd (omega (arith, may.0, may.1))
 
+  plain-input : (input : Input) → IsWithin (length system.events) (length tree.gates) input → IsPlainInput (numbered tree.top input)
+  plain-input (inputs.Event n) inside = omega (arith, inside, few_events)
+  plain-input (inputs.Gate n) inside = omega (arith, inside, few_gates, number-most tree.top n)
+
   plain-inputs : (ins : List Input) → AllByRecursion (IsWithin (length system.events) (length tree.gates)) ins → AllByRecursion IsPlainInput (map (numbered tree.top) ins)
   plain-inputs [] inside = tt
-  plain-inputs (inputs.Event n ∷ ins) inside = (omega (arith, inside.0, few_events), plain-inputs ins inside.1)
-  plain-inputs (inputs.Gate n ∷ ins) inside = (omega (arith, inside.0, few_gates, number-most tree.top n), plain-inputs ins inside.1)
+  plain-inputs (input ∷ ins) inside = (plain-input input inside.0, plain-inputs ins inside.1)
+
+  plain-number : (n : ℕ) (gate : Gate) → slice_get tree.gates n ≡ Some gate → gate_number tree.top n < 2 ^ 64
+  plain-number n gate at = let fits = slice_get_within tree.gates n gate at in omega (arith, fits, few_gates, number-most tree.top n)
+
+  -- what makes an auxiliary gate true
+  plain-part : (number : ℕ) (first : MefInput) (needed among : ℕ) → number < 2 ^ 64 → IsPlainInput first → needed < 2 ^ 32 → among < 2 ^ 32 → IsPlainFormula (part_formula number first needed among)
+  plain-part number first needed among few is small less = by (among == 1) (needed == 1) (needed == among)
+    where
+      part_is : (n m : ℕ) → n ≤ needed → m ≤ among → IsPlainInput (part number n m)
+      part_is n m below inside = (few, omega (arith, small, below), omega (arith, less, inside))
+
+      by : (b c d : Bool)
+          → IsPlainFormula (if b then Over kinds.Or (first ∷ []) else if c then Over kinds.Or (first ∷ part number needed (among - 1) ∷ [])
+          else if d then Over kinds.And (first ∷ part number (needed - 1) (among - 1) ∷ []) else Choice first (part number (needed - 1) (among - 1)) (part number needed (among - 1)))
+      by true c d = (tt, (is, tt), λ one. refl)
+      by false true d = (tt, (is, (part_is needed (among - 1) (omega arith) (omega arith), tt)), λ one. refl)
+      by false false true = (tt, (is, (part_is (needed - 1) (among - 1) (omega arith) (omega arith), tt)), λ one. absurd (omega (arith, one)))
+      by false false false = (is, part_is (needed - 1) (among - 1) (omega arith) (omega arith), part_is needed (among - 1) (omega arith) (omega arith))
+
+  plain-whole : (number : ℕ) (kind : GateKind) (ins : List Input) → number < 2 ^ 64 → MayHave kind (length ins) → length ins < 2 ^ 32
+      → AllByRecursion (IsWithin (length system.events) (length tree.gates)) ins → IsPlainFormula (whole_formula tree.top number kind ins)
+  plain-whole number kinds.And ins small may few inside =
+      (tt, plain-inputs ins inside, λ one. plain-single kinds.And (length ins) may (sym (length-map ins (numbered tree.top)) ∙ one))
+  plain-whole number kinds.Or ins small may few inside = (tt, plain-inputs ins inside, λ one. refl)
+  plain-whole number (kinds.AtLeast least) ins small may few inside = by (is_spread least ins)
+    where
+      by : (b : Bool) → IsPlainFormula (if b then Over kinds.Or (part number least (length ins) ∷ []) else Over (kinds.AtLeast least) (map (numbered tree.top) ins))
+      by true = (tt, ((small, omega (arith, may.1, few), omega (arith, few)), tt), λ one. refl)
+      by false = (
+        plain-kind (kinds.AtLeast least) (length ins) few may,
+        plain-inputs ins inside,
+        λ one. plain-single (kinds.AtLeast least) (length ins) may (sym (length-map ins (numbered tree.top)) ∙ one),
+      )
+
+  within-at : (ins : List Input) → AllByRecursion (IsWithin (length system.events) (length tree.gates)) ins → (d : ℕ) → d < length ins
+      → IsPlainInput (numbered tree.top (slice_index_or ins d (inputs.Event 0)))
+  within-at [] inside d below = absurd (omega arith)
+  within-at (x ∷ xs) inside zero below = plain-input x inside.0
+  within-at (x ∷ xs) inside (suc d) below = within-at xs inside.1 d (omega arith)
+
+  plain-group : (n : ℕ) (gate : Gate) → slice_get tree.gates n ≡ Some gate → Group IsPlainGate system tree.top n gate
+  plain-group n gate at =
+      let is = all-at (IsMefGate system (length tree.gates)) tree.gates made.gates n gate at in
+      let small = plain-number n gate at in (
+        record { name = small; label = tt; formula = plain-whole (gate_number tree.top n) gate.kind gate.inputs small is.count is.few is.inputs },
+        to-parts IsPlainGate tree.top (gate_number tree.top n) gate.kind gate.inputs
+            (λ least needed among kind spread some most low high fits.
+            let inside : among ≤ length gate.inputs = omega (arith, most, high, fits) in
+            record {
+              name = (small, omega (arith, low, inside, is.few), omega (arith, inside, is.few));
+              label = refl;
+              formula =
+                  plain-part (gate_number tree.top n) (numbered tree.top (slice_index_or gate.inputs (length gate.inputs - among) (inputs.Event 0))) needed among small
+                  (within-at gate.inputs is.inputs (length gate.inputs - among) (omega (arith, some, low, inside))) (omega (arith, low, inside, is.few)) (omega (arith, inside, is.few));
+            }),
+      )
 
   plain-gates : AllByRecursion IsPlainGate ((tree_mef system tree rates).top ∷ (tree_mef system tree rates).others)
-  plain-gates =
-      all-gates IsPlainGate system tree rates made.top_in
-      (λ n gate at.
-      let is = all-at (IsMefGate system (length tree.gates)) tree.gates made.gates n gate at in
-      let fits = slice_get_within tree.gates n gate at in
-      let long = length-map gate.inputs (numbered tree.top) in
-      record {
-        number = omega (arith, fits, few_gates, number-most tree.top n);
-        kind = plain-kind gate.kind (length gate.inputs) is.few is.count;
-        inputs = plain-inputs gate.inputs is.inputs;
-        single = λ one. plain-single gate.kind (length gate.inputs) is.count (sym long ∙ one);
-      })
+  plain-gates = all-gates IsPlainGate system tree rates made.top_in plain-group
 
   plain-events : (events : List ℕ) → AllByRecursion (λ event. event < length system.events) events → AllByRecursion IsPlainEvent (map (mef_event system rates) events)
   plain-events [] inside = tt

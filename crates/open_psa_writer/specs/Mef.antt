@@ -6,20 +6,33 @@ use Rattle.property_reader.specs.declared.rate.RateKind.{RateKind}
 use Rattle.property_reader.specs.declared.rate.RateKind.TheVariants.{Prob, Lambda}
 use Rattle.round_gates.specs.declared.node.GateKind.{GateKind}
 use Rattle.round_gates.specs.declared.node.GateKind.TheVariants.{And, Or, AtLeast}
-use Rattle.round_gates.specs.declared.tree.Input.{Input}
-use Rattle.round_gates.specs.declared.tree.Input.TheVariants as inputs
 
 -- a number: its figures, or a number times a base and a digit more, both of which are figures
 pub data Number : Type 0 where
   Figures : List ℕ → Number
   Digit : Number → List ℕ → List ℕ → Number
 
--- a gate: its number, its name, its kind, and its inputs, which are basic events and gates by their numbers
+-- The name of a gate: a number; or, of an auxiliary gate, the number of the gate that counts which it is a part of, how many inputs
+-- it asks for, and of how many of the last inputs of that gate.
+pub data GateName : Type 0 where
+  Own : ℕ → GateName
+  Part : ℕ → ℕ → ℕ → GateName
+
+-- an input of a gate: the basic event of a number, or the gate of a name
+pub data MefInput : Type 0 where
+  EventInput : ℕ → MefInput
+  GateInput : GateName → MefInput
+
+-- what makes a gate true: a kind over inputs, or a choice: both of two inputs, or a third one
+pub data MefFormula : Type 0 where
+  Over : GateKind → List MefInput → MefFormula
+  Choice : MefInput → MefInput → MefInput → MefFormula
+
+-- a gate: its name, its label, which an auxiliary gate has not, and what makes it true
 pub record MefGate : Type 0 where
-  pub number : ℕ
-  pub name : List ℕ
-  pub kind : GateKind
-  pub inputs : List Input
+  pub name : GateName
+  pub label : List ℕ
+  pub formula : MefFormula
 
 -- a basic event: its number, its name, and its probability or its failure rate
 pub record MefEvent : Type 0 where
@@ -57,10 +70,15 @@ label_text name = codes "<label>" ++ (flat_map byte_text name ++ codes "</label>
 
 -- ---- the bytes of gates
 
--- an input: the basic event or the gate of a number
-abbrev pub input_text : Input → List ℕ
-input_text (inputs.Event n) = codes "<basic-event name=\"e" ++ (decimal n ++ codes "\"/>\n")
-input_text (inputs.Gate n) = codes "<gate name=\"g" ++ (decimal n ++ codes "\"/>\n")
+-- a name behind its `g`: a number, or three with `_` between them
+abbrev pub name_text : GateName → List ℕ
+name_text (Own number) = decimal number
+name_text (Part number needed among) = decimal number ++ (codes "_" ++ (decimal needed ++ (codes "_" ++ decimal among)))
+
+-- an input: the basic event of a number, or the gate of a name
+abbrev pub input_text : MefInput → List ℕ
+input_text (EventInput number) = codes "<basic-event name=\"e" ++ (decimal number ++ codes "\"/>\n")
+input_text (GateInput name) = codes "<gate name=\"g" ++ (name_text name ++ codes "\"/>\n")
 
 -- what begins a gate of a kind
 abbrev pub open_text : GateKind → List ℕ
@@ -74,15 +92,22 @@ close_text And = codes "</and>\n"
 close_text Or = codes "</or>\n"
 close_text (AtLeast k) = codes "</atleast>\n"
 
--- what a gate of a kind is: its only input, or its kind over its inputs
-abbrev pub formula_text : GateKind → List Input → List ℕ
-formula_text kind ins = if length ins == 1 then flat_map input_text ins else open_text kind ++ (flat_map input_text ins ++ close_text kind)
+-- what makes a gate true: its only input, its kind over its inputs, or `or` over `and` of two inputs and a third one
+abbrev pub formula_text : MefFormula → List ℕ
+formula_text (Over kind ins) = if length ins == 1 then flat_map input_text ins else open_text kind ++ (flat_map input_text ins ++ close_text kind)
+formula_text (Choice first second third) =
+    codes "<or>\n<and>\n" ++ (input_text first ++ (input_text second ++ (codes "</and>\n" ++ (input_text third ++ codes "</or>\n"))))
+
+-- the label of a gate of a name; an auxiliary gate has none
+abbrev pub title_text : GateName → List ℕ → List ℕ
+title_text (Own number) label = label_text label
+title_text (Part number needed among) label = []
 
 -- the definition of a gate
 abbrev pub gate_text : MefGate → List ℕ
 gate_text gate =
-    codes "<define-gate name=\"g" ++ (decimal gate.number ++ (codes "\">\n"
-    ++ (label_text gate.name ++ (formula_text gate.kind gate.inputs ++ codes "</define-gate>\n"))))
+    codes "<define-gate name=\"g" ++ (name_text gate.name ++ (codes "\">\n"
+    ++ (title_text gate.name gate.label ++ (formula_text gate.formula ++ codes "</define-gate>\n"))))
 
 -- ---- the bytes of basic events
 
@@ -131,10 +156,15 @@ mef_bytes mef = head_text ++ (gate_text mef.top ++ (flat_map gate_text mef.other
 abbrev pub IsWord : ℕ → Type 0
 IsWord n = n < 2 ^ 64
 
--- an input has such a number
-abbrev pub IsPlainInput : Input → Type 0
-IsPlainInput (inputs.Event n) = IsWord n
-IsPlainInput (inputs.Gate n) = IsWord n
+-- a name has such numbers
+abbrev pub IsPlainName : GateName → Type 0
+IsPlainName (Own number) = IsWord number
+IsPlainName (Part number needed among) = IsWord number × IsWord needed × IsWord among
+
+-- an input has such numbers
+abbrev pub IsPlainInput : MefInput → Type 0
+IsPlainInput (EventInput number) = IsWord number
+IsPlainInput (GateInput name) = IsPlainName name
 
 -- a gate that counts asks for such a number
 abbrev pub IsPlainKind : GateKind → Type 0
@@ -142,12 +172,21 @@ IsPlainKind And = Unit {0}
 IsPlainKind Or = Unit {0}
 IsPlainKind (AtLeast k) = IsWord k
 
--- a gate with one input is `or`
+-- one input stands under `or`
+abbrev pub IsPlainFormula : MefFormula → Type 0
+IsPlainFormula (Over kind ins) = IsPlainKind kind × AllByRecursion IsPlainInput ins × (length ins ≡ 1 → kind ≡ Or)
+IsPlainFormula (Choice first second third) = IsPlainInput first × IsPlainInput second × IsPlainInput third
+
+-- an auxiliary gate has no label
+abbrev pub IsPlainLabel : GateName → List ℕ → Type 0
+IsPlainLabel (Own number) label = Unit {0}
+IsPlainLabel (Part number needed among) label = label ≡ []
+
+-- a gate that may be written
 pub record IsPlainGate (gate : MefGate) : Type 0 where
-  pub number : IsWord gate.number
-  pub kind : IsPlainKind gate.kind
-  pub inputs : AllByRecursion IsPlainInput gate.inputs
-  pub single : length gate.inputs ≡ 1 → gate.kind ≡ Or
+  pub name : IsPlainName gate.name
+  pub label : IsPlainLabel gate.name gate.label
+  pub formula : IsPlainFormula gate.formula
 
 -- no figures hold a quote
 abbrev pub IsPlainNumber : Number → Type 0

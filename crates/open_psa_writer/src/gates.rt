@@ -2,12 +2,14 @@
 
 ghost use Rattle.std.specs.Prelude.{◌≡◌, ◌++◌, OnOk, codes, decimal, map};
 ghost use Rattle.std.specs.List.{flat_map};
-ghost use Rattle.open_psa_writer.specs.Mef.{close_text, formula_text, gate_text, input_text, label_text, open_text};
+ghost use Rattle.open_psa_writer.specs.Mef.{Over, close_text, formula_text, gate_text, input_text, label_text, open_text};
 ghost use Rattle.round_gates.specs.declared.node.GateKind.TheVariants.{AtLeast};
 ghost use Rattle.galileo_writer.specs.TreeText.{gate_name};
-ghost use Rattle.open_psa_writer.specs.TreeMef.{gate_number, mef_gate, numbered};
+ghost use Rattle.open_psa_writer.specs.TreeMef.{gate_number, gate_parts, kind_parts, mef_gate, numbered, whole_formula};
+ghost use Rattle.open_psa_writer.specs.inner.TreeMef.{group_text};
 
 use crate::names::{push_label, push_number};
+use crate::parts::{is_spread, push_only_part, push_part_rows};
 use fault_system::FaultSystem;
 use galileo_writer::gate_name;
 use plain_values::Mem;
@@ -15,7 +17,7 @@ use round_gates::{Gate, GateKind, Input};
 use std::alloc::Global;
 
 /// The number in the text of the gate at a position.
-fn gate_number(top: u32, at: u32) -> u64
+pub(crate) fn gate_number(top: u32, at: u32) -> u64
     ensures { result ≡ gate_number top at }
 {
     if at == top {
@@ -38,7 +40,7 @@ pub(crate) fn push_element(line: &mut Vec<u8>, front: &[u8], number: u64, back: 
 }
 
 /// Adds an input.
-fn push_input(line: &mut Vec<u8>, top: u32, input: Input) -> Mem<()>
+pub(crate) fn push_input(line: &mut Vec<u8>, top: u32, input: Input) -> Mem<()>
     ensures { OnOk result (line.new.items ≡ line.old.items ++ input_text (numbered top input)) }
 {
     match input {
@@ -103,9 +105,9 @@ fn push_close(line: &mut Vec<u8>, kind: GateKind) -> Mem<()>
     Ok(())
 }
 
-/// Adds what a gate of a kind is: its only input, or its kind over its inputs.
-fn push_formula(line: &mut Vec<u8>, top: u32, kind: GateKind, inputs: &[Input]) -> Mem<()>
-    ensures { OnOk result (line.new.items ≡ line.old.items ++ formula_text kind (map (numbered top) inputs.now)) }
+/// Adds a kind over inputs: the only input, or the kind over all.
+fn push_over(line: &mut Vec<u8>, top: u32, kind: GateKind, inputs: &[Input]) -> Mem<()>
+    ensures { OnOk result (line.new.items ≡ line.old.items ++ formula_text (Over kind (map (numbered top) inputs.now))) }
 {
     if inputs.len() == 1 {
         return push_inputs(line, top, inputs);
@@ -115,11 +117,45 @@ fn push_formula(line: &mut Vec<u8>, top: u32, kind: GateKind, inputs: &[Input]) 
     push_close(line, kind)
 }
 
-/// Adds what a gate is.
-fn push_gate_formula(line: &mut Vec<u8>, top: u32, gate: &Gate) -> Mem<()>
-    ensures { OnOk result (line.new.items ≡ line.old.items ++ formula_text gate.now.kind (map (numbered top) gate.now.inputs)) }
+/// Adds what makes a gate that counts true.
+fn push_counted(line: &mut Vec<u8>, top: u32, number: u64, least: u32, inputs: &[Input]) -> Mem<()>
+    ensures { OnOk result (line.new.items ≡ line.old.items ++ formula_text (whole_formula top number (AtLeast least) inputs.now)) }
 {
-    push_formula(line, top, gate.kind, gate.inputs.items())
+    if is_spread(least, inputs) {
+        push_only_part(line, number, u64::from(least), inputs.len() as u64)
+    } else {
+        push_over(line, top, GateKind::AtLeast(least), inputs)
+    }
+}
+
+/// Adds what makes a gate of a kind true.
+fn push_formula(
+    line: &mut Vec<u8>,
+    top: u32,
+    number: u64,
+    kind: GateKind,
+    inputs: &[Input],
+) -> Mem<()>
+    ensures { OnOk result (line.new.items ≡ line.old.items ++ formula_text (whole_formula top number kind inputs.now)) }
+{
+    match kind {
+        GateKind::And | GateKind::Or => push_over(line, top, kind, inputs),
+        GateKind::AtLeast(least) => push_counted(line, top, number, least, inputs),
+    }
+}
+
+/// Adds what makes the gate at a position true.
+fn push_gate_formula(line: &mut Vec<u8>, top: u32, at: u32, gate: &Gate) -> Mem<()>
+    ensures { OnOk result (line.new.items
+        ≡ line.old.items ++ formula_text (whole_formula top (gate_number top at) gate.now.kind gate.now.inputs)) }
+{
+    push_formula(
+        line,
+        top,
+        gate_number(top, at),
+        gate.kind,
+        gate.inputs.items(),
+    )
 }
 
 /// Adds the element that tells the name of a gate.
@@ -143,7 +179,7 @@ fn push_gate_head(line: &mut Vec<u8>, top: u32, at: u32) -> Mem<()>
 }
 
 /// Adds the definition of the gate at a position.
-pub(crate) fn push_gate(
+fn push_gate(
     alloc: Global,
     line: &mut Vec<u8>,
     system: &FaultSystem,
@@ -155,7 +191,68 @@ pub(crate) fn push_gate(
 {
     push_gate_head(line, top, at)?;
     push_gate_label(alloc, line, system, gate)?;
-    push_gate_formula(line, top, gate)?;
+    push_gate_formula(line, top, at, gate)?;
     line.extend_from_slice(b"</define-gate>\n")?;
     Ok(())
+}
+
+/// Adds the auxiliary gates of a gate that counts.
+fn push_counted_parts(
+    line: &mut Vec<u8>,
+    top: u32,
+    number: u64,
+    least: u32,
+    inputs: &[Input],
+) -> Mem<()>
+    ensures { OnOk result (line.new.items ≡ line.old.items ++ flat_map gate_text (kind_parts top number (AtLeast least) inputs.now)) }
+{
+    if is_spread(least, inputs) {
+        push_part_rows(line, top, number, inputs, least)
+    } else {
+        Ok(())
+    }
+}
+
+/// Adds the auxiliary gates of a gate of a kind.
+fn push_kind_parts(
+    line: &mut Vec<u8>,
+    top: u32,
+    number: u64,
+    kind: GateKind,
+    inputs: &[Input],
+) -> Mem<()>
+    ensures { OnOk result (line.new.items ≡ line.old.items ++ flat_map gate_text (kind_parts top number kind inputs.now)) }
+{
+    match kind {
+        GateKind::And | GateKind::Or => Ok(()),
+        GateKind::AtLeast(least) => push_counted_parts(line, top, number, least, inputs),
+    }
+}
+
+/// Adds the auxiliary gates of the gate at a position.
+fn push_gate_parts(line: &mut Vec<u8>, top: u32, at: u32, gate: &Gate) -> Mem<()>
+    ensures { OnOk result (line.new.items ≡ line.old.items ++ flat_map gate_text (gate_parts top at gate.now)) }
+{
+    push_kind_parts(
+        line,
+        top,
+        gate_number(top, at),
+        gate.kind,
+        gate.inputs.items(),
+    )
+}
+
+/// Adds the definition of the gate at a position, and those of its auxiliary gates.
+pub(crate) fn push_group(
+    alloc: Global,
+    line: &mut Vec<u8>,
+    system: &FaultSystem,
+    top: u32,
+    at: u32,
+    gate: &Gate,
+) -> Mem<()>
+    ensures { OnOk result (line.new.items ≡ line.old.items ++ group_text system.now top at gate.now) }
+{
+    push_gate(alloc, line, system, top, at, gate)?;
+    push_gate_parts(line, top, at, gate)
 }

@@ -15,7 +15,7 @@ ghost use Rattle.open_psa_writer.specs.Mef.{Figures, Mef, IsMefOf};
 ghost use Rattle.open_psa_writer.specs.Numbers.{digits_behind};
 ghost use Rattle.open_psa_writer.specs.inner.Worth.{number_worth, worth_behind};
 ghost use Rattle.open_psa_writer.specs.Truth.{MefTrue};
-ghost use Rattle.open_psa_writer.specs.inner.TreeMef.{IsMefTree};
+ghost use Rattle.open_psa_writer.specs.inner.TreeMef.{IsMefTree, numbered_gates};
 ghost use Rattle.open_psa_writer.specs.TreeMef.{mef_text, tree_mef};
 
 /// Bytes are one text at most.
@@ -31,12 +31,15 @@ pub fn mef_truth()
         → MefTrue (mef_text system tree rates) (names_of system events) ↔ Holds system events target }
 {}
 
-/// The text determines the gates of its tree, their kinds, inputs and names, and the names and rates of its events.
+/// The text determines what is written of its tree, and so the gates of the tree, their kinds, inputs and names, those that are written by
+/// auxiliary gates too, and the names and rates of its events.
 pub fn mef_reads_back()
-    ensures { (system : System) (a b : Tree) (first second : List Rate)
+    ensures text { (system : System) (a b : Tree) (first second : List Rate)
         → length system.events < 2 ^ 32 → length a.gates < 2 ^ 32 → length b.gates < 2 ^ 32
         → IsMefTree system a → IsMefTree system b → AreRates system first → AreRates system second
         → mef_text system a first ≡ mef_text system b second → tree_mef system a first ≡ tree_mef system b second }
+    ensures gates { (system : System) (a b : Tree) (first second : List Rate)
+        → IsMefTree system b → tree_mef system a first ≡ tree_mef system b second → numbered_gates system a ≡ numbered_gates system b }
 {}
 
 /// Each tree that is well made may be written.

@@ -6,6 +6,7 @@ mod gates;
 mod laws;
 mod names;
 mod numbers;
+mod parts;
 mod tree_lines;
 
 pub use laws::{based_worth, may_be_written, mef_reads_back, mef_truth, one_mef};

@@ -14,7 +14,7 @@ ghost use Rattle.open_psa_writer.specs.inner.TreeMef.{IsMefTree, past_top, text_
 ghost use Rattle.open_psa_writer.specs.TreeMef.{mef_text, tree_mef};
 ghost use Rattle.open_psa_writer.specs.declared.tree_lines.Place.TheVariants.{Start, Gates, Events};
 
-use crate::gates::push_gate;
+use crate::gates::push_group;
 use crate::numbers::push_event;
 use fault_system::FaultSystem;
 use fta_outside::Lines;
@@ -29,7 +29,7 @@ use std::marker::Model;
 pub enum Place {
     /// Nothing was made.
     Start,
-    /// What stands before the gates, the top, and the other gates before this position.
+    /// What stands before the gates, the top, and the other gates before this position, each with its auxiliary gates.
     Gates(usize),
     /// All gates, and so many events.
     Events(usize),
@@ -41,6 +41,8 @@ pub enum Place {
 /// and the basic events, by number. Its value is what is left of the text.
 ///
 /// The top is `g1`, the other gates are `g2` and so on, the events `e` and their number in the system, from 1 on. A label has the name.
+/// A gate that counts and has a gate among its inputs is written in `and` and `or` alone, by auxiliary gates: `g12_2_5` is true where at
+/// least 2 of the last 5 inputs of `g12` are. One that would need more than 1,000,000 of them is written by `atleast`.
 #[derive(Drop)]
 pub struct MefLines {
     alloc: Global,
@@ -122,7 +124,7 @@ fn put_front(alloc: Global, line: &mut Vec<u8>, system: &FaultSystem, tree: &Tre
     line.extend_from_slice(
         b"<?xml version=\"1.0\"?>\n<opsa-mef>\n<define-fault-tree name=\"tree\">\n",
     )?;
-    push_gate(
+    push_group(
         alloc,
         line,
         system,
@@ -165,7 +167,7 @@ fn put_other(
     line.clear();
     match gates.get(at) {
         Some(gate) => {
-            push_gate(alloc, line, system, tree.top, narrow(at), gate)?;
+            push_group(alloc, line, system, tree.top, narrow(at), gate)?;
             Ok(Place::Gates(at + 1))
         }
         None => {

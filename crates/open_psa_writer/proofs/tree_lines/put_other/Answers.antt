@@ -5,8 +5,8 @@ use Rattle.open_psa_writer.specs.inner.TreeMef.{events_text}
 use Rattle.open_psa_writer.proofs.TreeLeft.{no-step, other-step}
 use Rattle.open_psa_writer.proofs.tree_lines.put_other.Goals as goal
 
-pub returns-in_ok-push_gate-in-Some-clause-line : goal.returns-in_ok-push_gate-in-Some-clause-line
-returns-in_ok-push_gate-in-Some-clause-line c = λ rates.
+pub returns-in_ok-push_group-in-Some-clause-line : goal.returns-in_ok-push_group-in-Some-clause-line
+returns-in_ok-push_group-in-Some-clause-line c = λ rates.
     let system = c.args.system.now in
     let tree = c.args.tree.now in
     let place = c.past_top-at.result in
@@ -15,7 +15,7 @@ returns-in_ok-push_gate-in-Some-clause-line c = λ rates.
     (ap (λ gates. slice_get gates place) (sym c.items-gates.ensures.items)
     ∙ slice_get-get_or c.items-gates.result.now place gate c.in-Some.ensures.lookup.3.0
     ∙ ap Some (sym (c.in-Some.ensures.lookup.3.1 gate)))
-    c.clear.ensures.items c.in_ok-push_gate-in-Some.ensures
+    c.clear.ensures.items c.in_ok-push_group-in-Some.ensures
 
 pub returns-in_ok-extend_from_slice-in-None-clause-line : goal.returns-in_ok-extend_from_slice-in-None-clause-line
 returns-in_ok-extend_from_slice-in-None-clause-line c = λ rates.
