@@ -29,10 +29,10 @@ impl Decimal {
         product(Side::Up, self, other, whole)
     }
 
-    /// At most the sum. It is near where the sum is the whole at most.
+    /// At most the sum. It is near where the sum is twice the whole at most.
     pub fn plus_down(self, other: Decimal, whole: u32) -> Decimal
         ensures down { parts result ≤ parts self + parts other }
-        ensures near { parts self + parts other ≤ 10 ^ whole → IsNear (parts self + parts other) (parts result) }
+        ensures near { parts self + parts other ≤ 2 * 10 ^ whole → IsNear (parts self + parts other) (parts result) }
         ensures places { (places : ℕ) → HasPlaces whole places self → HasPlaces whole places other → HasPlaces whole places result }
     {
         rounded(Side::Down, sum(Side::Down, self, other), whole)
