@@ -75,3 +75,40 @@ near_units c x y at_once =
         let a : x * 100000000000000000 * u ≤ y * (100000000000000000 + c) * u = mul-le-mul_right u at_once in
         let b : y * ((100000000000000000 + c * 1) * u) ≤ y * (100000000000000000 * v) = mul-le-mul_left y h in
         omega arith
+
+-- so many steps are less than so many small parts more
+pub steps_less : (times rest : ℕ) → times + rest ≡ 100000000000000000 → 100000000000000001 ^ times * rest ≤ 100000000000000000 ^ times * 100000000000000000
+steps_less zero rest all = rw (pow-zero 100000000000000001, pow-zero 100000000000000000) (omega arith)
+steps_less (suc times) rest all =
+    let h = steps_less times (rest + 1) (omega arith) in
+    rw (pow-succ' 100000000000000001 times, pow-succ' 100000000000000000 times) (more (100000000000000001 ^ times) (100000000000000000 ^ times) h)
+  where
+    more : (u v : ℕ) → u * (rest + 1) ≤ v * 100000000000000000 → 100000000000000001 * u * rest ≤ 100000000000000000 * v * 100000000000000000
+    more u v h =
+        let a : u * (100000000000000001 * rest) ≤ u * (100000000000000000 * (rest + 1)) = mul-le-mul_left u (omega arith) in
+        omega arith
+
+power_times : (a i j : ℕ) → a ^ (i * j) ≡ (a ^ i) ^ j
+power_times a i zero = let none : i * zero ≡ zero = omega arith in ap (λ k. a ^ k) none ∙ (pow-zero a ∙ sym (pow-zero (a ^ i)))
+power_times a i (suc j) =
+    let e : i * suc j ≡ i * j + i = omega arith in
+    ap (λ k. a ^ k) e ∙ (pow-add a (i * j) i ∙ (ap (λ t. t * a ^ i) (power_times a i j) ∙ (turn ((a ^ i) ^ j) (a ^ i) ∙ sym (pow-succ' (a ^ i) j))))
+  where
+    turn : (x y : ℕ) → x * y ≡ y * x
+    turn x y = omega arith
+
+-- above by so many times what so many steps are more than none
+pub near_often : (times j x y more : ℕ) → 100000000000000001 ^ times ≡ 100000000000000000 ^ times + more → x * 100000000000000000 ^ times ≤ y * (100000000000000000 ^ times + j * more) → AreNear (times * j) x y
+near_often times j x y more is at_once =
+    let h = steps_more (100000000000000000 ^ times) more j in
+    rw (power_times 100000000000000000 times j, power_times 100000000000000001 times j, is)
+    (at (100000000000000000 ^ times) ((100000000000000000 ^ times) ^ j) ((100000000000000000 ^ times + more) ^ j) (pow-pos times) at_once h)
+  where
+    pow-pos : (k : ℕ) → 0 < 100000000000000000 ^ k
+    pow-pos k = let h = one-le-pow k 100000000000000000 (omega arith) in omega arith
+
+    at : (p u v : ℕ) → 0 < p → x * p ≤ y * (p + j * more) → (p + j * more) * u ≤ p * v → x * u ≤ y * v
+    at p u v pos first h =
+        let a : x * p * u ≤ y * (p + j * more) * u = mul-le-mul_right u first in
+        let b : y * ((p + j * more) * u) ≤ y * (p * v) = mul-le-mul_left y h in
+        le_of_mul-le-mul_left {k = p} (omega arith) pos

@@ -32,8 +32,8 @@ family_near s hn h ln l ul uh ll lh ru rd u m pos up down absent present lo hi =
     near_cancel (4 + u + m) s ru rd pos (subst (λ k. AreNear k (s * ru) (s * rd)) all e)
 
 -- a product is within the whole, and so is a sum of two
-pub product_within : (s a b : ℕ) → a ≤ s → b ≤ s → a * b ≤ s * s
-product_within s a b ha hb = mul-le-mul ha hb
+pub product_within : (s a b : ℕ) → a ≤ s → b ≤ s → a * b ≤ 2 * (s * s)
+product_within s a b ha hb = let h : a * b ≤ s * s = mul-le-mul ha hb in omega arith
 
 pub sum_within : (s n l a b x y : ℕ) → 0 < s → n + l ≤ s → a ≤ s → b ≤ s → s * x ≤ n * a → s * y ≤ l * b → x + y ≤ s
 sum_within s n l a b x y pos whole low high one other =

@@ -4,7 +4,7 @@ use Rattle.decimals.specs.inner.Decimals.{parts}
 use Rattle.decimals.specs.inner.Numerals.{Number}
 use Rattle.decimals.specs.inner.Figures.{number_parts, decimal_parts}
 use Rattle.exponentials.specs.declared.span.Span.{Span}
-use Rattle.exponentials.specs.inner.Exponentials.{IsChance}
+use Rattle.exponentials.specs.inner.Exponentials.{IsAtLeastChance, IsAtMostChance}
 use Rattle.probabilities.specs.declared.rates.Rate.{Rate}
 use Rattle.property_reader.specs.declared.rate.RateKind.{RateKind}
 use Rattle.property_reader.specs.declared.rate.RateKind.TheVariants.{Lambda, Prob}
@@ -37,9 +37,9 @@ under lambda hours = 10 ^ lambda.lowered * 10 ^ hours.lowered
 -- that it is 1 at most, or nothing is said.
 pub record IsLambdaRate (whole : ℕ) (lambda hours : Number) (rate : Rate) : Type 0 where
   pub halvings : ℕ
-  pub low : (d m : ℕ) → IsChance (over lambda hours) (under lambda hours * 2 ^ halvings) d m
+  pub low : (d m : ℕ) → IsAtLeastChance (over lambda hours) (under lambda hours * 2 ^ halvings) d m
       → parts rate.low * d ^ (2 ^ halvings) ≤ (d ^ (2 ^ halvings) - (d - m) ^ (2 ^ halvings)) * 10 ^ whole
-  pub high : (d m : ℕ) → IsChance (over lambda hours) (under lambda hours * 2 ^ halvings) d m
+  pub high : (d m : ℕ) → IsAtMostChance (over lambda hours) (under lambda hours * 2 ^ halvings) d m
       → (d ^ (2 ^ halvings) - (d - m) ^ (2 ^ halvings)) * 10 ^ whole ≤ parts rate.high * d ^ (2 ^ halvings)
   pub enough : (over lambda hours ≤ under lambda hours * 2 ^ halvings) ⊎ ((parts rate.low ≡ 0) × (parts rate.high ≡ 10 ^ whole))
 
