@@ -27,7 +27,8 @@ impl Decimal {
 
     /// The same, or the whole where it is more.
     pub fn within(self, whole: u32) -> Decimal
-        ensures { parts result ≡ min (parts self) (10 ^ whole) }
+        ensures value { parts result ≡ min (parts self) (10 ^ whole) }
+        ensures places { (places : ℕ) → HasPlaces whole places self → HasPlaces whole places result }
     {
         if self.is_part(whole) {
             return self;

@@ -27,7 +27,7 @@ high_at s t x y p l h L H pos step first second =
     le_of_mul-le-mul_left {k = t} (omega arith) pos
 
 -- a product that is not held at the whole
-inside : (w p q : ℕ) → min (10 ^ (w + 20) * 10 ^ (w + 20)) q ≤ 10 ^ (w + 20) * p → p ≤ 10 ^ (w + 13) → q ≤ 10 ^ (w + 20) * p
+pub inside : (w p q : ℕ) → min (10 ^ (w + 20) * 10 ^ (w + 20)) q ≤ 10 ^ (w + 20) * p → p ≤ 10 ^ (w + 13) → q ≤ 10 ^ (w + 20) * p
 inside w p q step few = at (cases_lt (10 ^ (w + 20) * 10 ^ (w + 20)) q)
   where
     at : (10 ^ (w + 20) * 10 ^ (w + 20) < q) ⊎ (q ≤ 10 ^ (w + 20) * 10 ^ (w + 20)) → q ≤ 10 ^ (w + 20) * p

@@ -1,5 +1,5 @@
 -- How near the bounds of the terms are, of their sums, and of 1 - e^(-x).
-use Rattle.std.proofs.Common.{ℕ, zero, suc, ◌+◌, ◌-◌, ◌*◌, ◌^◌, ◌≤◌, ◌<◌, ◌≡◌, refl, sym, ap, subst, arith}
+use Rattle.std.proofs.Common.{ℕ, zero, suc, ◌+◌, ◌-◌, ◌*◌, ◌^◌, ◌≤◌, ◌<◌, ◌≡◌, min, refl, sym, ap, subst, arith}
 use Rattle.std.proofs.Math.Nat.{mul-le-mul, mul-le-mul_left, mul-le-mul_right, le_of_mul-le-mul_left, one-le-pow, pow-le-pow_left}
 use Rattle.decimals.specs.inner.Decimals.{parts, AreNear}
 use Rattle.decimals.proofs.Nearness.{near_same, near_then, near_times, near_plus, near_more, near_cancel, near_scale, near_often, steps_more, steps_less, more_places}
@@ -19,6 +19,7 @@ narrow_more whole p q i j span few near is =
     record {
       low_places = more_places whole p q span.low.mantissa span.low.exponent few is.low_places;
       high_places = more_places whole p q span.high.mantissa span.high.exponent few is.high_places;
+      order = is.order;
       near = near_more i j (parts span.high) (parts span.low) near is.near;
     }
 
@@ -49,6 +50,20 @@ sum_near i ah bh al bl rh rl up one other down =
     let count : 1 + i + 1 ≡ i + 2 = omega arith in
     subst (λ m. AreNear m rh rl) count d
 
+-- the bounds of a product, and of its parts, are in order where those of the factors are
+pub product_order : (s ah bh al bl rh rl : ℕ) → al ≤ ah → bl ≤ bh → al * bl ≤ s * s → s * rl ≤ al * bl → min (s * s) (ah * bh) ≤ s * rh → s * rl ≤ s * rh
+product_order s ah bh al bl rh rl one other within low high = let h : al * bl ≤ ah * bh = mul-le-mul one other in omega arith
+
+pub term_order : (s c th xh tl xl rh rl : ℕ) → 0 < s → 0 < c → tl ≤ th → xl ≤ xh → tl * xl ≤ s * s → s * (rl * c) ≤ tl * xl → min (s * s) (th * xh) ≤ s * (rh * c) → rl ≤ rh
+term_order s c th xh tl xl rh rl ps pc term x within low high =
+    let h = product_order s th xh tl xl (rh * c) (rl * c) term x within low high in
+    let g : s * c * rl ≤ s * c * rh = omega arith in
+    le_of_mul-le-mul_left {k = s * c} g (product_pos s c ps pc)
+
+-- so are those of a sum
+pub sum_order : (s ah bh al bl rh rl : ℕ) → al ≤ ah → bl ≤ bh → al + bl ≤ s → min s (ah + bh) ≤ rh → rl ≤ al + bl → rl ≤ rh
+sum_order s ah bh al bl rh rl one other within high low = omega arith
+
 -- the terms before the first one
 pub first_narrow : (whole places units : ℕ) (terms : Terms) → IsNarrow whole (0 * (places + 18)) (0 * (units + 50)) terms.term → IsNarrow whole (0 * (places + 18)) (0 * (units + 52)) terms.latest
     → IsNarrow whole (0 * (places + 18)) (0 * (units + 52)) terms.other → parts terms.term.low ≡ 10 ^ whole → parts terms.latest.low ≡ 0 → parts terms.other.low ≡ 0
@@ -61,6 +76,8 @@ first_narrow whole places units terms term latest other all none nothing =
       other = other;
       small = rw e (omega arith);
       few = omega arith;
+      odd = λ k is. absurd (omega arith);
+      even = λ k is. omega arith;
       begun = λ here. omega arith;
     }
 
@@ -82,12 +99,18 @@ few_next : (n s r t l o u v : ℕ) → r * (n + 2) ≤ t → t ≤ s → 4 * (l 
 few_next zero s r t l o u v part within few begun sum kept = let none = begun refl in omega arith
 few_next (suc n) s r t l o u v part within few begun sum kept = let h : r * 3 ≤ r * (suc n + 2) = mul-le-mul_left r (omega arith) in omega arith
 
+odd_next : (s r rh t l o oh v u : ℕ) → r * 2 ≤ t → 4 * (l + o) + 2 * t ≤ 3 * s → r ≤ rh → l ≤ oh → v ≡ l → min s (oh + rh) ≤ u → v + r ≤ u
+odd_next s r rh t l o oh v u part few order even kept high = omega arith
+
+even_next : (r t o lh u vh : ℕ) → r ≤ t → o + t ≤ lh → u ≤ o + r → vh ≡ lh → u ≤ vh
+even_next r t o lh u vh part odd sum kept = omega arith
+
 -- a term more
 pub next_narrow : (whole n count places units : ℕ) (x : Span) (t u : Terms) → n + 2 ≡ count → n ≤ 21 → IsNarrow whole places units x → parts x.low ≤ 10 ^ whole → 22 * (places + 18) ≤ whole
     → AreNarrowTerms whole places units n t → IsNextTerm whole count t.term x u.term → IsSum whole t.other u.term u.latest → u.other ≡ t.latest
     → ((p q i j : ℕ) → IsNarrow whole p i t.term → IsNarrow whole q j x → parts t.term.low ≤ 10 ^ whole → parts x.low ≤ 10 ^ whole → count ≤ 1000 → p + q + 18 ≤ whole
     → IsNarrow whole (p + q + 18) (i + j + 2 + 2 * count) u.term)
-    → ((p i : ℕ) → IsNarrow whole p i t.other → IsNarrow whole p i u.term → parts t.other.low + parts u.term.low ≤ 2 * 10 ^ whole → IsNarrow whole p (i + 2) u.latest)
+    → ((p i : ℕ) → IsNarrow whole p i t.other → IsNarrow whole p i u.term → parts t.other.low + parts u.term.low ≤ 10 ^ whole → IsNarrow whole p (i + 2) u.latest)
     → AreNarrowTerms whole places units (n + 1) u
 next_narrow whole n count places units x t u is few_terms narrow small room are next sum kept step add =
     let s = 10 ^ whole in
@@ -105,6 +128,8 @@ next_narrow whole n count places units x t u is few_terms narrow small room are 
     (omega (arith, are.few)) in
     let more : n * (units + 52) + units + 50 + 2 ≡ (n + 1) * (units + 52) = omega arith in
     let same : parts u.other.low ≡ parts t.latest.low = ap (λ (k : Span). parts k.low) kept in
+    let same_high : parts u.other.high ≡ parts t.latest.high = ap (λ (k : Span). parts k.high) kept in
+    let order = are.latest.order in
     record {
       term = term;
       latest = subst (λ k. IsNarrow whole ((n + 1) * (places + 18)) k u.latest) more latest;
@@ -112,6 +137,9 @@ next_narrow whole n count places units x t u is few_terms narrow small room are 
           (narrow_more whole (n * (places + 18)) ((n + 1) * (places + 18)) (n * (units + 52)) ((n + 1) * (units + 52)) t.latest (omega arith) (omega arith) are.latest);
       small = small_next (parts u.term.low) (parts t.term.low) part_n are.small;
       few = few_next n s (parts u.term.low) (parts t.term.low) (parts t.latest.low) (parts t.other.low) (parts u.latest.low) (parts u.other.low) part_n within are.few are.begun sum.low same;
+      odd = λ k here. odd_next s (parts u.term.low) (parts u.term.high) (parts t.term.low) (parts t.latest.low) (parts t.other.low) (parts t.other.high) (parts u.other.low) (parts u.latest.high) (omega arith) are.few term.order
+          (are.even k (omega arith)) same sum.high;
+      even = λ k here. even_next (parts u.term.low) (parts t.term.low) (parts t.other.low) (parts t.latest.high) (parts u.latest.low) (parts u.other.high) (omega arith) (are.odd (k - 1) (omega arith)) sum.low same_high;
       begun = λ none. absurd (omega arith);
     }
   where
@@ -201,3 +229,7 @@ series_near s k m xh xl wh wl x y rh rl pos up factor high gap low down =
     let e = near_then (1 + (k + (2 + m + 2))) 1 (s * rh) (xl * wl) (s * rl) d down in
     let count : 1 + (k + (2 + m + 2)) + 1 ≡ k + m + 6 = omega arith in
     near_cancel (k + m + 6) s rh rl pos (subst (λ n. AreNear n (s * rh) (s * rl)) count e)
+
+-- what is left without the upper bound of a sum and with the lower one of another is no more than what is left the other way
+pub without_order : (s al ah bl bh th g v wl wh : ℕ) → al ≤ ah → bl ≤ bh → bl ≤ s → ah ≤ s → wl ≤ s → v ≡ al → min s (bh + th) ≤ g → wl + min ah s ≤ s + bl → min (s + min v s) (s + g) ≤ wh + min v s → wl ≤ wh
+without_order s al ah bl bh th g v wl wh a b few part below same sum low high = omega arith

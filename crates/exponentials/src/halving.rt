@@ -63,7 +63,7 @@ fn squared_chance(x: Span, halvings: u32, whole: u32) -> Span
 /// The bounds of 1 - e^(-x), from bounds of x in parts of the whole.
 pub fn chance_of(x: Span, whole: u32) -> Chance
     ensures chances { AreChances whole x result }
-    ensures narrow { (places units : ℕ) → units ≤ 1000000000000 → IsNarrow whole places units x → parts x.low ≤ 10 ^ whole → parts x.high ≤ 10 ^ whole
+    ensures narrow { (places units : ℕ) → units ≤ 1000000000000 → IsNarrow whole places units x → parts x.high ≤ 10 ^ whole
         → chance_places places ≤ whole → IsNarrow whole (chance_places places) (chance_units units) result.span }
 {
     if x.high.is_part(whole) {

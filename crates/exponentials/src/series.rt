@@ -5,7 +5,7 @@ ghost use Rattle.decimals.specs.inner.Decimals.{parts, AreNear, HasPlaces};
 ghost use Rattle.exponentials.specs.declared.span.Span.{Span};
 ghost use Rattle.exponentials.specs.inner.Exponentials.{IsAtLeastChance, IsAtMostChance};
 ghost use Rattle.exponentials.specs.inner.Spans.{IsAbove, IsBelow, IsWithin};
-ghost use Rattle.exponentials.specs.inner.Terms.{AreTerms};
+ghost use Rattle.exponentials.specs.inner.Terms.{AreTerms, IsSum};
 ghost use Rattle.exponentials.specs.inner.Widths.{AreNarrowTerms, IsNarrow, chance_places, chance_units};
 
 use crate::span::Span;
@@ -38,7 +38,7 @@ impl Terms {
         ensures terms { (n : ℕ) → n + 2 ≡ count → AreTerms whole x n self → AreTerms whole x (n + 1) result }
         ensures narrow { (n places units : ℕ) → n + 2 ≡ count → n ≤ 21 → IsNarrow whole places units x → parts x.low ≤ 10 ^ whole
             → 22 * (places + 18) ≤ whole → AreNarrowTerms whole places units n self → AreNarrowTerms whole places units (n + 1) result }
-        ensures latest { parts result.latest.low ≤ parts self.other.low + parts result.term.low }
+        ensures sum { IsSum whole self.other result.term result.latest }
         ensures other { result.other ≡ self.latest }
     {
         let term = self.term.next_term(x, count, whole);
@@ -87,7 +87,7 @@ pub fn series(x: Span, whole: u32) -> Span
     requires { parts x.high ≤ 10 ^ whole }
     ensures low { (a b d m : ℕ) → 0 < b → IsWithin whole a b x → IsAtLeastChance a b d m → IsAbove whole m d result }
     ensures high { (a b d m : ℕ) → 0 < b → IsWithin whole a b x → IsAtMostChance a b d m → IsBelow whole m d result }
-    ensures narrow { (places units : ℕ) → units ≤ 1000000000000 → IsNarrow whole places units x → parts x.low ≤ 10 ^ whole → chance_places places ≤ whole
+    ensures narrow { (places units : ℕ) → units ≤ 1000000000000 → IsNarrow whole places units x → chance_places places ≤ whole
         → IsNarrow whole (chance_places places) (chance_units units) result }
 {
     let odd = Terms::many(x, 21, whole);

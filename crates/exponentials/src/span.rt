@@ -75,7 +75,7 @@ impl Span {
     /// The sum, up to the whole.
     pub(crate) fn plus(self, other: Span, whole: u32) -> Span
         ensures sum { IsSum whole self other result }
-        ensures narrow { (p i : ℕ) → IsNarrow whole p i self → IsNarrow whole p i other → parts self.low + parts other.low ≤ 2 * 10 ^ whole
+        ensures narrow { (p i : ℕ) → IsNarrow whole p i self → IsNarrow whole p i other → parts self.low + parts other.low ≤ 10 ^ whole
             → IsNarrow whole p (i + 2) result }
     {
         Span {

@@ -1,7 +1,7 @@
 //! Bounds of the probabilities of events and of families, as decimals.
 
 ghost use Rattle.std.specs.Prelude.{ℕ, ◌≤◌, ◌≡◌, ◌^◌, ◌-◌};
-ghost use Rattle.decimals.specs.inner.Decimals.{parts, IsNear, HasPlaces};
+ghost use Rattle.decimals.specs.inner.Decimals.{parts, AreNear, IsNear, HasPlaces};
 ghost use Rattle.probabilities.specs.inner.Decided.{FitsWhole};
 ghost use Rattle.probabilities.specs.inner.Certain.{IsCertain};
 ghost use Rattle.probabilities.specs.inner.Widths.{IsNarrowRate};
@@ -36,6 +36,8 @@ impl Rate {
         ensures high_near { IsNear (parts result.high_not) (10 ^ whole - parts high) }
         ensures low_places { HasPlaces whole 36 result.low_not }
         ensures high_places { HasPlaces whole 36 result.high_not }
+        ensures narrow { (places units : ℕ) → 36 ≤ places → 2 ≤ units → HasPlaces whole places low → HasPlaces whole places high → parts low ≤ parts high
+            → AreNear units (parts high) (parts low) → IsNarrowRate whole places units result }
     {
         Rate {
             low,

@@ -13,4 +13,4 @@ pub returns-clause-chances : goal.returns-clause-chances
 returns-clause-chances c = unknown_chance c.args.whole c.halved-half.result.halvings c.args.x c.unknown.result (c.is_part.ensures.above c.if-is_part.false) c.unknown.ensures.low c.unknown.ensures.high
 
 pub returns-then-is_part-clause-narrow : goal.returns-then-is_part-clause-narrow
-returns-then-is_part-clause-narrow c places units some narrow low high room = c.series.ensures.narrow places units some narrow low room
+returns-then-is_part-clause-narrow c places units some narrow high room = c.series.ensures.narrow places units some narrow room

@@ -1,10 +1,10 @@
 use Rattle.std.proofs.Common.{ℕ, ◌+◌, ◌-◌, ◌*◌, ◌^◌, ◌≤◌, ◌≡◌, refl, sym, ap, subst, arith}
-use Rattle.std.proofs.Math.Nat.{mul-le-mul}
+use Rattle.std.proofs.Math.Nat.{mul-le-mul, le_of_mul-le-mul_left}
 use Rattle.decimals.specs.inner.Decimals.{parts, AreNear, HasPlaces}
 use Rattle.decimals.proofs.Nearness.{near_more, more_places}
 use Rattle.exponentials.specs.declared.span.Span.{Span}
 use Rattle.exponentials.proofs.Summing.{least_chance, most_chance}
-use Rattle.exponentials.proofs.Narrowing.{ten_pos, little, gap_near, sum_part, series_near}
+use Rattle.exponentials.proofs.Narrowing.{ten_pos, little, gap_near, sum_part, series_near, product_order, without_order}
 use Rattle.exponentials.proofs.series.series.Goals as goal
 
 pub returns-clause-low : goal.returns-clause-low
@@ -18,9 +18,10 @@ returns-clause-high c a b d m some within chance =
     c.without_high.ensures.high c.times_up.ensures.up
 
 pub returns-clause-narrow : goal.returns-clause-narrow
-returns-clause-narrow c places units some x small room =
+returns-clause-narrow c places units some x room =
     let w = c.args.whole in
     let s = 10 ^ w in
+    let small : parts c.args.x.low ≤ s = omega (arith, x.order, c.requires) in
     let odd = c.many-odd.result in
     let even = c.next-even.result in
     let before = c.many-odd.ensures.narrow places units (omega arith) x small (omega arith) in
@@ -31,7 +32,7 @@ returns-clause-narrow c places units some x small room =
     let first = near_more (21 * (units + 52)) times (parts odd.latest.high) (parts odd.latest.low) (omega arith) before.latest.near in
     let top : 4 * (parts odd.latest.low + parts odd.other.low) ≤ 3 * s = omega (arith, before.few) in
     let gap = gap_near s times (parts odd.latest.low) (parts odd.latest.high) (parts odd.other.low) (parts even.latest.low) (parts even.latest.high) (parts even.term.low) one few first after.latest.near
-    c.next-even.ensures.latest top (little (parts even.term.low) s after.small) in
+    c.next-even.ensures.sum.low top (little (parts even.term.low) s after.small) in
     let part = sum_part s times (parts odd.latest.low) (parts odd.latest.high) (parts odd.other.low) one few first top in
     let same : parts even.other.low ≡ parts odd.latest.low = ap (λ (k : Span). parts k.low) c.next-even.ensures.other in
     let high : AreNear 2 (parts c.without_high.result) (s - parts odd.latest.low + parts even.latest.high) =
@@ -43,7 +44,17 @@ returns-clause-narrow c places units some x small room =
     let within : parts c.args.x.low * parts c.without_low.result ≤ s * (2 * s) = mul-le-mul small (omega (arith, c.without_low.ensures.low, part)) in
     let count : units + times * 15 + 6 ≡ 331 * units + 17166 = omega arith in
     let all : places + 22 * (places + 18) ≡ 23 * places + 396 = omega arith in
+    let part_low : parts odd.other.low + parts odd.term.low ≤ parts odd.latest.high = before.odd 10 refl in
+    let below : parts c.without_low.result ≤ s = omega (arith, c.without_low.ensures.low, part) in
+    let sum = c.next-even.ensures.sum in
+    let wide : parts c.without_low.result ≤ parts c.without_high.result =
+    without_order s (parts odd.latest.low) (parts odd.latest.high) (parts odd.other.low) (parts odd.other.high) (parts even.term.high) (parts even.latest.high) (parts even.other.low) (parts c.without_low.result) (parts c.without_high.result)
+    before.latest.order before.other.order (omega arith) part below same sum.high c.without_low.ensures.low c.without_high.ensures.high in
+    let square : parts c.args.x.low * parts c.without_low.result ≤ s * s = mul-le-mul small below in
     record {
+      order = le_of_mul-le-mul_left {k = s}
+          (product_order s (parts c.args.x.high) (parts c.without_high.result) (parts c.args.x.low) (parts c.without_low.result) (parts c.times_up.result) (parts c.times_down.result) x.order wide square
+          c.times_down.ensures.down c.times_up.ensures.up) (ten_pos w);
       low_places = subst (λ k. HasPlaces w k c.times_down.result) all (c.times_down.ensures.places places (22 * (places + 18)) x.low_places low_places (omega arith));
       high_places = subst (λ k. HasPlaces w k c.times_up.result) all (c.times_up.ensures.places places (22 * (places + 18)) x.high_places high_places (omega arith));
       near = subst (λ k. AreNear k (parts c.times_up.result) (parts c.times_down.result)) count

@@ -9,7 +9,7 @@ returns-clause-near c part =
     let t = parts c.args.taken in
     let a = parts c.args.added in
     let r = parts c.rest_up.result in
-    let same : parts c.within.result ≡ t = omega (arith, c.within.ensures) in
+    let same : parts c.within.result ≡ t = omega (arith, c.within.ensures.value) in
     let rest : AreNear 1 r (s - t) = subst (λ k. AreNear 1 r (s - k)) same c.rest_up.ensures.near in
     near_then 1 1 (parts c.plus_up.result) (r + a) (s - t + a) c.plus_up.ensures.near (near_plus 1 r (s - t) a a rest (near_same 1 a))
 

@@ -9,7 +9,7 @@ returns-clause-near c part added =
     let t = parts c.args.taken in
     let a = parts c.args.added in
     let r = parts c.rest_down.result in
-    let same : parts c.within.result ≡ t = omega (arith, c.within.ensures) in
+    let same : parts c.within.result ≡ t = omega (arith, c.within.ensures.value) in
     let rest : AreNear 1 (s - t) r = subst (λ k. AreNear 1 (s - k) r) same c.rest_down.ensures.near in
     near_then 1 1 (s - t + a) (r + a) (parts c.plus_down.result) (near_plus 1 (s - t) r a a rest (near_same 1 a)) (c.plus_down.ensures.near (omega (arith, c.rest_down.ensures.down)))
 

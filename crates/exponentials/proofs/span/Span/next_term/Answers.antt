@@ -1,7 +1,7 @@
 use Rattle.std.proofs.Common.{ℕ, ◌+◌, ◌*◌, ◌^◌, ◌≤◌, min, arith}
 use Rattle.std.proofs.Math.Nat.{mul-le-mul, mul-le-mul_left}
 use Rattle.decimals.specs.inner.Decimals.{parts}
-use Rattle.exponentials.proofs.Narrowing.{ten_pos, term_near}
+use Rattle.exponentials.proofs.Narrowing.{ten_pos, term_near, term_order}
 use Rattle.exponentials.proofs.span.Span.next_term.Goals as goal
 
 low : (s q r c p : ℕ) → s * q ≤ p → r * c ≤ q → s * (r * c) ≤ p
@@ -18,14 +18,16 @@ returns-clause-next c =
     }
 
 pub returns-clause-narrow : goal.returns-clause-narrow
-returns-clause-narrow c p q i j term x low small few fit =
+returns-clause-narrow c p q i j term x part small few fit =
     let w = c.args.whole in
     let down = c.times_down.ensures.places p q term.low_places x.low_places (omega arith) in
     let up = c.times_up.ensures.places p q term.high_places x.high_places (omega arith) in
-    let within : parts c.args.self.low * parts c.args.x.low ≤ 10 ^ w * 10 ^ w = mul-le-mul low small in
+    let within : parts c.args.self.low * parts c.args.x.low ≤ 10 ^ w * 10 ^ w = mul-le-mul part small in
     record {
       low_places = c.over_down.ensures.places w (p + q) down;
       high_places = c.over_up.ensures.places w (p + q) up;
+      order = term_order (10 ^ w) c.args.count (parts c.args.self.high) (parts c.args.x.high) (parts c.args.self.low) (parts c.args.x.low) (parts c.over_up.result) (parts c.over_down.result) (ten_pos w)
+          c.requires term.order x.order within (low _ _ _ c.args.count _ c.times_down.ensures.down c.over_down.ensures.down) (high _ _ _ c.args.count _ c.times_up.ensures.up c.over_up.ensures.up);
       near = term_near (10 ^ w) c.args.count i j (parts c.args.self.high) (parts c.args.x.high) (parts c.args.self.low) (parts c.args.x.low)
           (parts c.times_up.result) (parts c.over_up.result) (parts c.times_down.result) (parts c.over_down.result) (ten_pos w) c.requires
           (c.over_up.ensures.near w (p + q) up fit) (c.times_up.ensures.near p q term.high_places x.high_places (omega arith)) term.near x.near
