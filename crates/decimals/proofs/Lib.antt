@@ -2,6 +2,7 @@ pub mod Cuts
 pub mod Powers
 pub mod Sums
 pub mod Bounds
+pub mod Nearness
 pub mod FirstDigits
 pub mod EqualParts
 pub mod ReadBounds

@@ -6,7 +6,7 @@ use Rattle.std.proofs.Math.Nat.{mul-le-mul_left, mul-le-mul_right, pow-le-pow_ri
 use Rattle.decimals.specs.declared.decimal.Decimal.{Decimal}
 use Rattle.decimals.specs.declared.figures.Figures.{Figures}
 use Rattle.decimals.specs.declared.numeral.Numeral.{Numeral}
-use Rattle.decimals.specs.inner.Decimals.{parts, IsNear}
+use Rattle.decimals.specs.inner.Decimals.{parts, HasPlaces, IsNear}
 use Rattle.decimals.specs.inner.Numerals.{Number}
 use Rattle.decimals.specs.inner.Figures.{AreFigures, IsRead, number_parts, decimal_parts}
 use Rattle.decimals.proofs.Powers.{ten_sum}
@@ -111,6 +111,11 @@ near_up number x whole u y is few kept same =
     let e = rest_power u x.figures.dropped x.raised whole in
     let h = near_times (u * 10 ^ x.figures.dropped) number.digits (10 ^ (x.raised + whole)) (near_above number.digits u x.figures is.figures few kept) in
     rw (is.raised, is.lowered) (omega arith)
+
+-- the places of what is read are those that the number is divided by
+pub places_read : (number : Number) (x : Numeral) (whole : ℕ) (y : Decimal) → IsRead number x → (y.mantissa ≡ 0) ⊎ (x.figures.dropped + x.raised + whole ≤ y.exponent + x.lowered) → HasPlaces whole number.lowered y
+places_read number x whole y is (inl none) = inl none
+places_read number x whole y is (inr some) = inr (omega (arith, is.lowered))
 
 -- a number that no decimal is as great as
 pub great_read : (number : Number) (x : Numeral) (whole k most : ℕ) → IsRead number x → 0 < x.figures.mantissa → k ≤ most → x.lowered + most ≤ x.figures.dropped + x.raised + whole → 10 ^ number.lowered * 10 ^ k ≤ number_parts whole number

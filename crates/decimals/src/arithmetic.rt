@@ -9,11 +9,12 @@ use crate::decimal::Decimal;
 use crate::rounding::Side;
 
 impl Decimal {
-    /// At most the product, where the whole has `whole` zeros. It is near where the places of the two fit the whole.
+    /// At most the product, where the whole has `whole` zeros. It is near where the places of the two fit the whole, and the product is
+    /// twice the whole at most.
     pub fn times_down(self, other: Decimal, whole: u32) -> Decimal
         ensures down { 10 ^ whole * parts result ≤ parts self * parts other }
         ensures near { (p q : ℕ) → HasPlaces whole p self → HasPlaces whole q other → p + q ≤ whole
-            → parts self * parts other ≤ 10 ^ whole * 10 ^ whole → IsNear (parts self * parts other) (10 ^ whole * parts result) }
+            → parts self * parts other ≤ 2 * (10 ^ whole * 10 ^ whole) → IsNear (parts self * parts other) (10 ^ whole * parts result) }
         ensures places { (p q : ℕ) → HasPlaces whole p self → HasPlaces whole q other → p + q ≤ whole → HasPlaces whole (p + q) result }
     {
         product(Side::Down, self, other, whole)
@@ -29,10 +30,10 @@ impl Decimal {
         product(Side::Up, self, other, whole)
     }
 
-    /// At most the sum. It is near where the sum is the whole at most.
+    /// At most the sum. It is near where the sum is twice the whole at most.
     pub fn plus_down(self, other: Decimal, whole: u32) -> Decimal
         ensures down { parts result ≤ parts self + parts other }
-        ensures near { parts self + parts other ≤ 10 ^ whole → IsNear (parts self + parts other) (parts result) }
+        ensures near { parts self + parts other ≤ 2 * 10 ^ whole → IsNear (parts self + parts other) (parts result) }
         ensures places { (places : ℕ) → HasPlaces whole places self → HasPlaces whole places other → HasPlaces whole places result }
     {
         rounded(Side::Down, sum(Side::Down, self, other), whole)

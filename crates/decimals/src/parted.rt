@@ -1,7 +1,7 @@
 //! Parts of decimals, and decimals that are no more than the whole.
 
-ghost use Rattle.std.specs.Prelude.{◌≡◌, ◌≤◌, ◌<◌, ◌*◌, ◌^◌, IsTrue, false, min};
-ghost use Rattle.decimals.specs.inner.Decimals.{parts};
+ghost use Rattle.std.specs.Prelude.{ℕ, ◌≡◌, ◌≤◌, ◌<◌, ◌+◌, ◌*◌, ◌^◌, ◌⊎◌, IsTrue, false, min};
+ghost use Rattle.decimals.specs.inner.Decimals.{parts, AreNear, HasPlaces};
 
 use crate::decimal::Decimal;
 use crate::rounding::power;
@@ -27,7 +27,8 @@ impl Decimal {
 
     /// The same, or the whole where it is more.
     pub fn within(self, whole: u32) -> Decimal
-        ensures { parts result ≡ min (parts self) (10 ^ whole) }
+        ensures value { parts result ≡ min (parts self) (10 ^ whole) }
+        ensures places { (places : ℕ) → HasPlaces whole places self → HasPlaces whole places result }
     {
         if self.is_part(whole) {
             return self;
@@ -40,7 +41,11 @@ impl Decimal {
 
     /// The same with a digit more, where there is room.
     fn lifted_once(self) -> Decimal
-        ensures { parts result ≡ parts self }
+        ensures same { parts result ≡ parts self }
+        ensures room { self.exponent ≤ result.exponent + 1 }
+        ensures none { self.mantissa ≡ 0 → result.mantissa ≡ 0 }
+        ensures more { 0 < self.exponent → self.mantissa ≤ 100000000000000000 → result.mantissa ≡ self.mantissa * 10 }
+        ensures full { 100000000000000000 < self.mantissa → result.mantissa ≡ self.mantissa }
     {
         if self.mantissa <= 100_000_000_000_000_000 && self.exponent > 0 {
             return Decimal {
@@ -53,19 +58,24 @@ impl Decimal {
 
     /// The same with as many digits as there may be.
     fn lifted(self) -> Decimal
-        ensures { parts result ≡ parts self }
+        ensures same { parts result ≡ parts self }
+        ensures room { self.exponent ≤ result.exponent + 18 }
+        ensures none { self.mantissa ≡ 0 → result.mantissa ≡ 0 }
+        ensures full { 18 ≤ self.exponent → (self.mantissa ≡ 0) ⊎ (100000000000000000 < result.mantissa) }
     {
         let mut lifted = self;
-        for _step in 0..18 {
+        for _step in 0..18_u32 {
             lifted = lifted.lifted_once();
         }
         lifted
     }
 
-    /// At most one of so many equal parts.
+    /// At most one of so many equal parts. It is near where there is room for 18 places more.
     pub fn over_down(self, count: u32) -> Decimal
         requires { 0 < count }
-        ensures { parts result * count ≤ parts self }
+        ensures down { parts result * count ≤ parts self }
+        ensures near { (whole places : ℕ) → HasPlaces whole places self → places + 18 ≤ whole → count ≤ 1000 → AreNear count (parts self) (parts result * count) }
+        ensures places { (whole places : ℕ) → HasPlaces whole places self → HasPlaces whole (places + 18) result }
     {
         let lifted = self.lifted();
         Decimal {
@@ -74,10 +84,12 @@ impl Decimal {
         }
     }
 
-    /// At least one of so many equal parts.
+    /// At least one of so many equal parts. It is near where there is room for 18 places more.
     pub fn over_up(self, count: u32) -> Decimal
         requires { 0 < count }
-        ensures { parts self ≤ parts result * count }
+        ensures up { parts self ≤ parts result * count }
+        ensures near { (whole places : ℕ) → HasPlaces whole places self → places + 18 ≤ whole → AreNear count (parts result * count) (parts self) }
+        ensures places { (whole places : ℕ) → HasPlaces whole places self → HasPlaces whole (places + 18) result }
     {
         let lifted = self.lifted();
         Decimal {

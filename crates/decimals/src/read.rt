@@ -1,9 +1,9 @@
 //! What a number of a text comes to as decimals.
 
-ghost use Rattle.std.specs.Prelude.{ℕ, ◌≡◌, ◌≤◌, ◌<◌, ◌+◌, ◌*◌, ◌^◌, IfSome, None};
+ghost use Rattle.std.specs.Prelude.{ℕ, ◌≡◌, ◌≤◌, ◌<◌, ◌+◌, ◌*◌, ◌^◌, ◌⊎◌, IfSome, None};
 ghost use Rattle.decimals.specs.inner.Numerals.{Number};
 ghost use Rattle.decimals.specs.inner.Figures.{decimal_parts, number_parts, AreFigures, IsRead};
-ghost use Rattle.decimals.specs.inner.Decimals.{parts, IsCut, IsNear};
+ghost use Rattle.decimals.specs.inner.Decimals.{parts, HasPlaces, IsCut, IsNear};
 
 use crate::decimal::Decimal;
 use crate::numeral::Numeral;
@@ -18,6 +18,7 @@ impl Numeral {
             → IfSome result (λ x. decimal_parts number x ≡ number_parts whole number) }
         ensures near { (number : Number) → IsRead number self → number.lowered ≤ number.raised + whole
             → IfSome result (λ x. IsNear (number_parts whole number) (decimal_parts number x)) }
+        ensures places { (number : Number) → IsRead number self → number.lowered ≤ number.raised + whole → IfSome result (HasPlaces whole number.lowered) }
         ensures none { (number : Number) (k : ℕ) → IsRead number self → result ≡ None → k ≤ 4294967296
             → 10 ^ number.lowered * 10 ^ k ≤ number_parts whole number }
     {
@@ -37,6 +38,7 @@ impl Numeral {
             → IfSome result (λ x. decimal_parts number x ≡ number_parts whole number) }
         ensures near { (number : Number) → IsRead number self → number.lowered ≤ number.raised + whole
             → IfSome result (λ x. IsNear (decimal_parts number x) (number_parts whole number)) }
+        ensures places { (number : Number) → IsRead number self → number.lowered ≤ number.raised + whole → IfSome result (HasPlaces whole number.lowered) }
         ensures none { (number : Number) (k : ℕ) → IsRead number self → result ≡ None → k ≤ 4294967296
             → 10 ^ number.lowered * 10 ^ k ≤ number_parts whole number }
     {
@@ -54,6 +56,7 @@ pub fn placed(side: Side, mantissa: u64, raised: u64, lowered: u64) -> Option<De
     requires { mantissa ≤ 1000000000000000000 }
     ensures cut { IfSome result (λ x. IsCut side (mantissa * 10 ^ raised) (parts x) (10 ^ lowered)) }
     ensures exact { lowered ≤ raised → IfSome result (λ x. parts x * 10 ^ lowered ≡ mantissa * 10 ^ raised) }
+    ensures places { lowered ≤ raised → IfSome result (λ x. (x.mantissa ≡ 0) ⊎ (raised ≤ x.exponent + lowered)) }
     ensures none { result ≡ None → 0 < mantissa }
     ensures great { result ≡ None → lowered + 4294967296 ≤ raised }
 {

@@ -27,7 +27,7 @@ high_at s t x y p l h L H pos step first second =
     le_of_mul-le-mul_left {k = t} (omega arith) pos
 
 -- a product that is not held at the whole
-inside : (w p q : ℕ) → min (10 ^ (w + 20) * 10 ^ (w + 20)) q ≤ 10 ^ (w + 20) * p → p ≤ 10 ^ (w + 13) → q ≤ 10 ^ (w + 20) * p
+pub inside : (w p q : ℕ) → min (10 ^ (w + 20) * 10 ^ (w + 20)) q ≤ 10 ^ (w + 20) * p → p ≤ 10 ^ (w + 13) → q ≤ 10 ^ (w + 20) * p
 inside w p q step few = at (cases_lt (10 ^ (w + 20) * 10 ^ (w + 20)) q)
   where
     at : (10 ^ (w + 20) * 10 ^ (w + 20) < q) ⊎ (q ≤ 10 ^ (w + 20) * 10 ^ (w + 20)) → q ≤ 10 ^ (w + 20) * p
@@ -83,8 +83,8 @@ lambda_held whole lambda hours x chance rate within are low high =
     let pos : 0 < under lambda hours = (product_pos (10 ^ lambda.lowered) (10 ^ hours.lowered) (ten_pos lambda.lowered) (ten_pos hours.lowered)) in
     record {
       halvings = k;
-      low = λ d m is. low_held (10 ^ whole) (parts chance.span.low) (parts rate.low) (d ^ (2 ^ k) - (d - m) ^ (2 ^ k)) (d ^ (2 ^ k)) low (are.bounds (over lambda hours) (under lambda hours) d m pos within is).least;
-      high = λ d m is. high_held (10 ^ whole) (parts chance.span.high) (parts rate.high) (d ^ (2 ^ k) - (d - m) ^ (2 ^ k)) (d ^ (2 ^ k)) high (omega arith) (are.bounds (over lambda hours) (under lambda hours) d m pos within is).most;
+      low = λ d m is. low_held (10 ^ whole) (parts chance.span.low) (parts rate.low) (d ^ (2 ^ k) - (d - m) ^ (2 ^ k)) (d ^ (2 ^ k)) low (are.least (over lambda hours) (under lambda hours) d m pos within is);
+      high = λ d m is. high_held (10 ^ whole) (parts chance.span.high) (parts rate.high) (d ^ (2 ^ k) - (d - m) ^ (2 ^ k)) (d ^ (2 ^ k)) high (omega arith) (are.most (over lambda hours) (under lambda hours) d m pos within is);
       enough = enough_at (10 ^ whole) (over lambda hours) (under lambda hours) (parts x.high) (2 ^ k) (parts chance.span.low) (parts chance.span.high) (parts rate.low) (parts rate.high) (ten_pos whole) within.most are.enough low high;
     }
   where

@@ -1,12 +1,14 @@
 //! The probability of an event that fails so often an hour.
 
-ghost use Rattle.std.specs.Prelude.{ℕ, ◌≡◌, ◌≤◌, ◌+◌, ◌*◌, ◌^◌, IfSome, min};
+ghost use Rattle.std.specs.Prelude.{ℕ, ◌≡◌, ◌≤◌, ◌+◌, ◌*◌, ◌^◌, IfSome, IsSomeAnd, min};
 ghost use Rattle.decimals.specs.inner.Decimals.{parts};
 ghost use Rattle.decimals.specs.inner.Numerals.{Number};
 ghost use Rattle.decimals.specs.inner.Figures.{IsRead};
 ghost use Rattle.exponentials.specs.inner.Spans.{AreChances, IsWithin};
-ghost use Rattle.event_probabilities.specs.inner.EventRates.{IsLambdaRate, IsSpanOf, over, under};
+ghost use Rattle.event_probabilities.specs.inner.EventRates.{IsLambdaRate, IsModest, IsNarrowExposure, IsNarrowLambda, IsNarrowSpan, IsSmallExposure, IsSpanOf, over, under};
+ghost use Rattle.exponentials.specs.inner.Widths.{IsNarrow};
 ghost use Rattle.probabilities.specs.inner.Decided.{FitsWhole};
+ghost use Rattle.probabilities.specs.inner.Widths.{IsNarrowRate};
 
 use crate::numbers::span_of;
 use decimals::Numeral;
@@ -17,8 +19,10 @@ use probabilities::Rate;
 /// 10,000,000,000,000.
 fn product_of(lambda: Span, hours: Span, whole: u32) -> Option<Span>
     requires { whole ≤ 4000000000 }
-    ensures { (first second : Number) → IsSpanOf whole first lambda → IsSpanOf (whole + 20) second hours
+    ensures product { (first second : Number) → IsSpanOf whole first lambda → IsSpanOf (whole + 20) second hours
         → IfSome result (IsWithin whole (over first second) (under first second)) }
+    ensures narrow { (first second : Number) (p q : ℕ) → IsNarrowSpan whole p first lambda → IsNarrowSpan (whole + 20) q second hours → p + q ≤ whole
+        → IsSmallExposure first second → IsSomeAnd result (IsNarrowExposure whole (p + q)) }
 {
     let high = lambda.high.times_up(hours.high, whole + 20);
     if !high.is_part(whole + 13) {
@@ -33,8 +37,10 @@ fn product_of(lambda: Span, hours: Span, whole: u32) -> Option<Span>
 /// The bounds of lambda times hours. None where one of them is more than any decimal, or the product is above 10,000,000,000,000.
 fn exposure(lambda: Numeral, hours: Numeral, whole: u32) -> Option<Span>
     requires { whole ≤ 4000000000 }
-    ensures { (first second : Number) → IsRead first lambda → IsRead second hours
+    ensures exposure { (first second : Number) → IsRead first lambda → IsRead second hours
         → IfSome result (IsWithin whole (over first second) (under first second)) }
+    ensures narrow { (first second : Number) (places : ℕ) → IsRead first lambda → IsRead second hours → first.lowered + second.lowered ≤ places → places ≤ whole
+        → IsModest first → IsModest second → IsSmallExposure first second → IsSomeAnd result (IsNarrowExposure whole places) }
 {
     let Some(first) = span_of(lambda, whole) else {
         return None;
@@ -50,6 +56,7 @@ fn held(chance: Chance, whole: u32) -> Rate
     ensures fits { FitsWhole whole result }
     ensures low { parts result.low ≡ min (parts chance.span.low) (10 ^ whole) }
     ensures high { parts result.high ≡ min (parts chance.span.high) (10 ^ whole) }
+    ensures narrow { (places units : ℕ) → 36 ≤ places → 2 ≤ units → IsNarrow whole places units chance.span → IsNarrowRate whole places units result }
 {
     Rate::between(
         chance.span.low.within(whole),
@@ -63,6 +70,7 @@ pub fn lambda_rate(lambda: Numeral, hours: Numeral, whole: u32) -> Rate
     requires { whole ≤ 4000000000 }
     ensures fits { FitsWhole whole result }
     ensures rate { (first second : Number) → IsRead first lambda → IsRead second hours → IsLambdaRate whole first second result }
+    ensures narrow { (first second : Number) → IsRead first lambda → IsRead second hours → IsNarrowLambda whole first second result }
 {
     match exposure(lambda, hours, whole) {
         Some(x) => held(chance_of(x, whole), whole),

@@ -1,17 +1,19 @@
 //! Bounds of numbers, as a text has them.
 
-ghost use Rattle.std.specs.Prelude.{ℕ, ◌≤◌, ◌*◌, ◌^◌, IfSome};
+ghost use Rattle.std.specs.Prelude.{ℕ, ◌≤◌, ◌*◌, ◌^◌, IfSome, IsSomeAnd};
 ghost use Rattle.decimals.specs.inner.Decimals.{parts};
 ghost use Rattle.decimals.specs.inner.Numerals.{Number};
 ghost use Rattle.decimals.specs.inner.Figures.{IsRead};
-ghost use Rattle.event_probabilities.specs.inner.EventRates.{IsSpanOf};
+ghost use Rattle.event_probabilities.specs.inner.EventRates.{IsModest, IsNarrowSpan, IsSpanOf};
 
 use decimals::Numeral;
 use exponentials::Span;
 
 /// The bounds of a number, in parts of the whole. None where it is more than any decimal.
 pub fn span_of(number: Numeral, whole: u32) -> Option<Span>
-    ensures { (read : Number) → IsRead read number → IfSome result (IsSpanOf whole read) }
+    ensures span { (read : Number) → IsRead read number → IfSome result (IsSpanOf whole read) }
+    ensures narrow { (read : Number) (places : ℕ) → IsRead read number → read.lowered ≤ places → places ≤ whole → whole ≤ 4000000020 → IsModest read
+        → IsSomeAnd result (IsNarrowSpan whole places read) }
 {
     let Some(low) = number.down(whole) else {
         return None;

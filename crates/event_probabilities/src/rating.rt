@@ -5,7 +5,7 @@ ghost use Rattle.decimals.specs.inner.Decimals.{parts};
 ghost use Rattle.decimals.specs.inner.Numerals.{Number, number_of};
 ghost use Rattle.decimals.specs.inner.Figures.{IsRead, IsReadAs};
 ghost use Rattle.property_reader.specs.declared.rate.RateKind.TheVariants.{Lambda, Prob};
-ghost use Rattle.event_probabilities.specs.inner.EventRates.{IsFound, IsUnknown};
+ghost use Rattle.event_probabilities.specs.inner.EventRates.{IsFound, IsNarrowFound, IsUnknown};
 ghost use Rattle.probabilities.specs.inner.Decided.{FitsWhole};
 
 use crate::finding::Found;
@@ -38,6 +38,7 @@ fn prob_rate(number: Numeral, whole: u32) -> EventRate
     requires { whole ≤ 4000000000 }
     ensures fits { FitsWhole whole result.rate }
     ensures found { (read : Number) (hours : Option Number) → IsRead read number → IsFound whole Prob (Some read) hours result.found result.rate }
+    ensures narrow { (read : Number) (hours : Option Number) → IsRead read number → IsNarrowFound whole Prob (Some read) hours result.found result.rate }
 {
     let Some(high) = number.up(whole) else {
         return without(Found::NoProbability, whole);
@@ -59,6 +60,7 @@ fn hourly_rate(number: Numeral, hours: Option<Numeral>, whole: u32) -> EventRate
     requires { whole ≤ 4000000000 }
     ensures fits { FitsWhole whole result.rate }
     ensures found { (read : Number) (given : Option Number) → IsRead read number → IsReadAs given hours → IsFound whole Lambda (Some read) given result.found result.rate }
+    ensures narrow { (read : Number) (given : Option Number) → IsRead read number → IsReadAs given hours → IsNarrowFound whole Lambda (Some read) given result.found result.rate }
 {
     match hours {
         Some(hours) => EventRate {
@@ -74,6 +76,7 @@ fn number_rate(kind: RateKind, number: Numeral, hours: Option<Numeral>, whole: u
     requires { whole ≤ 4000000000 }
     ensures fits { FitsWhole whole result.rate }
     ensures found { (read : Number) (given : Option Number) → IsRead read number → IsReadAs given hours → IsFound whole kind (Some read) given result.found result.rate }
+    ensures narrow { (read : Number) (given : Option Number) → IsRead read number → IsReadAs given hours → IsNarrowFound whole kind (Some read) given result.found result.rate }
 {
     match kind {
         RateKind::Prob => prob_rate(number, whole),
@@ -87,6 +90,7 @@ pub fn event_rate(kind: RateKind, text: &[u8], hours: Option<Numeral>, whole: u3
     requires { whole ≤ 4000000000 }
     ensures fits { FitsWhole whole result.rate }
     ensures found { (given : Option Number) → IsReadAs given hours → IsFound whole kind (number_of text.now) given result.found result.rate }
+    ensures narrow { (given : Option Number) → IsReadAs given hours → IsNarrowFound whole kind (number_of text.now) given result.found result.rate }
 {
     match Numeral::read(text) {
         Some(number) => number_rate(kind, number, hours, whole),

@@ -1,3 +1,4 @@
 pub mod Numbers
 pub mod Summing
 pub mod Squares
+pub mod Narrowing

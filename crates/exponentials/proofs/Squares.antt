@@ -4,8 +4,8 @@ use Rattle.std.proofs.Math.Nat.{mul-le-mul, mul-le-mul_right, pow-succ', one-le-
 use Rattle.std.proofs.lemmas.Nat.{pow-add}
 use Rattle.decimals.specs.inner.Decimals.{parts}
 use Rattle.exponentials.specs.declared.span.Span.{Span}
-use Rattle.exponentials.specs.inner.Exponentials.{IsChance}
-use Rattle.exponentials.specs.inner.Spans.{AreChances, IsWithin}
+use Rattle.exponentials.specs.inner.Exponentials.{IsAtLeastChance, IsAtMostChance}
+use Rattle.exponentials.specs.inner.Spans.{AreChances, IsAbove, IsBelow, IsWithin}
 use Rattle.exponentials.specs.inner.Terms.{IsProduct}
 use Rattle.exponentials.proofs.Numbers.{none_power, square_low, square_high}
 
@@ -36,16 +36,19 @@ power_le n d (suc i) le =
     subst (λ (k : ℕ). n ^ (2 ^ k) ≤ d ^ (2 ^ k)) one_more g
 
 -- the bounds of a square
-pub squared_once : (whole n d i : ℕ) (q r : Span) → n ≤ d → IsProduct whole q q r → IsWithin whole (n ^ (2 ^ i)) (d ^ (2 ^ i)) q → IsWithin whole (n ^ (2 ^ (i + 1))) (d ^ (2 ^ (i + 1))) r
-squared_once whole n d i q r le product within =
-    rw (twice n i, twice d i)
-    record {
-      least = square_low (10 ^ whole) (parts q.low) (parts r.low) (n ^ (2 ^ i)) (d ^ (2 ^ i)) (ten_pos whole) product.low within.least;
-      most = square_high (10 ^ whole) (parts q.high) (parts r.high) (n ^ (2 ^ i)) (d ^ (2 ^ i)) (ten_pos whole) product.high within.most (power_le n d i le);
-    }
+pub squared_above : (whole n d i : ℕ) (q r : Span) → IsProduct whole q q r → IsAbove whole (n ^ (2 ^ i)) (d ^ (2 ^ i)) q → IsAbove whole (n ^ (2 ^ (i + 1))) (d ^ (2 ^ (i + 1))) r
+squared_above whole n d i q r product above =
+    rw (twice n i, twice d i) (square_low (10 ^ whole) (parts q.low) (parts r.low) (n ^ (2 ^ i)) (d ^ (2 ^ i)) (ten_pos whole) product.low above)
 
-pub first_power : (whole n d : ℕ) (q : Span) → IsWithin whole n d q → IsWithin whole (n ^ (2 ^ 0)) (d ^ (2 ^ 0)) q
-first_power whole n d q within = rw (once n, once d) within
+pub squared_below : (whole n d i : ℕ) (q r : Span) → n ≤ d → IsProduct whole q q r → IsBelow whole (n ^ (2 ^ i)) (d ^ (2 ^ i)) q → IsBelow whole (n ^ (2 ^ (i + 1))) (d ^ (2 ^ (i + 1))) r
+squared_below whole n d i q r le product below =
+    rw (twice n i, twice d i) (square_high (10 ^ whole) (parts q.high) (parts r.high) (n ^ (2 ^ i)) (d ^ (2 ^ i)) (ten_pos whole) product.high below (power_le n d i le))
+
+pub first_above : (whole n d : ℕ) (q : Span) → IsAbove whole n d q → IsAbove whole (n ^ (2 ^ 0)) (d ^ (2 ^ 0)) q
+first_above whole n d q above = rw (once n, once d) above
+
+pub first_below : (whole n d : ℕ) (q : Span) → IsBelow whole n d q → IsBelow whole (n ^ (2 ^ 0)) (d ^ (2 ^ 0)) q
+first_below whole n d q below = rw (once n, once d) below
 
 -- x that is halved lies within bounds that are
 pub halved_within : (whole a b k : ℕ) (x y : Span) → parts y.low * 2 ^ k ≤ parts x.low → parts x.high ≤ parts y.high * 2 ^ k → IsWithin whole a b x → IsWithin whole a (b * 2 ^ k) y
@@ -75,38 +78,44 @@ half_high l h x k half high =
     omega arith
 
 -- all that may be
-pub unknown_within : (whole n d : ℕ) (q : Span) → n ≤ d → parts q.low ≡ 0 → parts q.high ≡ 10 ^ whole → IsWithin whole n d q
-unknown_within whole n d q le low high =
-    let h : n * 10 ^ whole ≤ d * 10 ^ whole = mul-le-mul_right (10 ^ whole) le in
-    record { least = rw low (omega arith); most = rw high (omega arith) }
+pub unknown_above : (whole n d : ℕ) (q : Span) → parts q.low ≡ 0 → IsAbove whole n d q
+unknown_above whole n d q low = rw low (omega arith)
+
+pub unknown_below : (whole n d : ℕ) (q : Span) → n ≤ d → parts q.high ≡ 10 ^ whole → IsBelow whole n d q
+unknown_below whole n d q le high = let h : n * 10 ^ whole ≤ d * 10 ^ whole = mul-le-mul_right (10 ^ whole) le in rw high (omega arith)
 
 -- without halving
-pub small_chance : (whole : ℕ) (x p : Span) → parts x.high ≤ 10 ^ whole → ((a b d m : ℕ) → 0 < b → IsWithin whole a b x → IsChance a b d m → IsWithin whole m d p)
-    → AreChances whole x record { span = p; halvings = 0 }
-small_chance whole x p few found =
+pub small_chance : (whole : ℕ) (x p : Span) → parts x.high ≤ 10 ^ whole → ((a b d m : ℕ) → 0 < b → IsWithin whole a b x → IsAtLeastChance a b d m → IsAbove whole m d p)
+    → ((a b d m : ℕ) → 0 < b → IsWithin whole a b x → IsAtMostChance a b d m → IsBelow whole m d p) → AreChances whole x record { span = p; halvings = 0 }
+small_chance whole x p few low high =
     record {
-      bounds = λ a b d m some within chance. bounds a b d m some within chance;
+      least = λ a b d m some within chance.
+          let here : IsAtLeastChance a b d m = subst (λ (k : ℕ). IsAtLeastChance a k d m) (one b) chance in
+          rw (once d, once (d - m), left d m here.part) (low a b d m some within here);
+      most = λ a b d m some within chance.
+          let here : IsAtMostChance a b d m = subst (λ (k : ℕ). IsAtMostChance a k d m) (one b) chance in
+          rw (once d, once (d - m), left d m here.part) (high a b d m some within here);
       enough = inl (omega arith);
       small = λ top. refl;
     }
   where
-    bounds : (a b d m : ℕ) → 0 < b → IsWithin whole a b x → IsChance a (b * 2 ^ 0) d m → IsWithin whole (d ^ (2 ^ 0) - (d - m) ^ (2 ^ 0)) (d ^ (2 ^ 0)) p
-    bounds a b d m some within chance =
-        let one : b * 2 ^ 0 ≡ b = omega arith in
-        let here : IsChance a b d m = subst (λ (k : ℕ). IsChance a k d m) one chance in
-        let part = here.part in
-        let left : d - (d - m) ≡ m = omega arith in
-        rw (once d, once (d - m), left) (found a b d m some within here)
+    one : (b : ℕ) → b * 2 ^ 0 ≡ b
+    one b = omega arith
+
+    left : (d m : ℕ) → m ≤ d → d - (d - m) ≡ m
+    left d m part = omega arith
 
 -- with halving
 pub halved_chance : (whole k : ℕ) (x y p : Span) → parts y.low * 2 ^ k ≤ parts x.low → parts x.high ≤ parts y.high * 2 ^ k → parts y.high ≤ 10 ^ whole → 10 ^ whole < parts x.high
-    → ((a b d m : ℕ) → 0 < b → IsWithin whole a b y → IsChance a b d m → IsWithin whole (d ^ (2 ^ k) - (d - m) ^ (2 ^ k)) (d ^ (2 ^ k)) p)
+    → ((a b d m : ℕ) → 0 < b → IsWithin whole a b y → IsAtLeastChance a b d m → IsAbove whole (d ^ (2 ^ k) - (d - m) ^ (2 ^ k)) (d ^ (2 ^ k)) p)
+    → ((a b d m : ℕ) → 0 < b → IsWithin whole a b y → IsAtMostChance a b d m → IsBelow whole (d ^ (2 ^ k) - (d - m) ^ (2 ^ k)) (d ^ (2 ^ k)) p)
     → AreChances whole x record { span = p; halvings = k }
-halved_chance whole k x y p low high few many found =
+halved_chance whole k x y p low high few many least most =
     let h : parts y.high * 2 ^ k ≤ 10 ^ whole * 2 ^ k = mul-le-mul_right (2 ^ k) few in
     let top_halved : parts x.high ≤ 10 ^ whole * 2 ^ k = omega arith in
     record {
-      bounds = λ a b d m some within chance. found a (b * 2 ^ k) d m (halvings_pos b k some) (halved_within whole a b k x y low high within) chance;
+      least = λ a b d m some within chance. least a (b * 2 ^ k) d m (halvings_pos b k some) (halved_within whole a b k x y low high within) chance;
+      most = λ a b d m some within chance. most a (b * 2 ^ k) d m (halvings_pos b k some) (halved_within whole a b k x y low high within) chance;
       enough = inl top_halved;
       small = λ top. absurd (omega arith);
     }
@@ -115,7 +124,8 @@ halved_chance whole k x y p low high few many found =
 pub unknown_chance : (whole k : ℕ) (x p : Span) → 10 ^ whole < parts x.high → parts p.low ≡ 0 → parts p.high ≡ 10 ^ whole → AreChances whole x record { span = p; halvings = k }
 unknown_chance whole k x p many low high =
     record {
-      bounds = λ a b d m some within chance. unknown_within whole (d ^ (2 ^ k) - (d - m) ^ (2 ^ k)) (d ^ (2 ^ k)) p (omega arith) low high;
+      least = λ a b d m some within chance. unknown_above whole (d ^ (2 ^ k) - (d - m) ^ (2 ^ k)) (d ^ (2 ^ k)) p low;
+      most = λ a b d m some within chance. unknown_below whole (d ^ (2 ^ k) - (d - m) ^ (2 ^ k)) (d ^ (2 ^ k)) p (omega arith) high;
       enough = inr (low, high);
       small = λ top. absurd (omega arith);
     }

@@ -4,7 +4,7 @@ use Rattle.std.proofs.Math.Nat.{mul-le-mul, mul-le-mul_left, mul-le-mul_right, l
 use Rattle.decimals.specs.inner.Decimals.{parts}
 use Rattle.exponentials.specs.declared.span.Span.{Span}
 use Rattle.exponentials.specs.declared.series.Terms.{Terms}
-use Rattle.exponentials.specs.inner.Exponentials.{below, partial, IsChance}
+use Rattle.exponentials.specs.inner.Exponentials.{below, partial, IsAtLeastChance, IsAtMostChance}
 use Rattle.exponentials.specs.inner.Spans.{IsWithin}
 use Rattle.exponentials.specs.inner.Terms.{AreSummed, AreTerms, IsNextTerm, IsSum}
 use Rattle.exponentials.proofs.Numbers.{none_power, product_pos, term_low, term_high, sum_low, sum_high, keep_low, keep_high, series_low, series_high, held_low, held_high}
@@ -127,7 +127,7 @@ no_more whole a b x within few =
     le_of_mul-le-mul_left {k = 10 ^ whole} (omega arith) (ten_pos whole)
 
 -- the bounds by 21 terms and by 22
-pub least_chance : (whole a b d m : ℕ) (x : Span) (odd : Terms) (B p : ℕ) → 0 < b → parts x.high ≤ 10 ^ whole → IsWithin whole a b x → IsChance a b d m → AreTerms whole x 21 odd
+pub least_chance : (whole a b d m : ℕ) (x : Span) (odd : Terms) (B p : ℕ) → 0 < b → parts x.high ≤ 10 ^ whole → IsWithin whole a b x → IsAtLeastChance a b d m → AreTerms whole x 21 odd
     → B + min (parts odd.latest.high) (10 ^ whole) ≤ 10 ^ whole + parts odd.other.low → 10 ^ whole * p ≤ parts x.low * B → p * d ≤ m * 10 ^ whole
 least_chance whole a b d m x odd B p some top within chance are step low =
     let less = no_more whole a b x within top in
@@ -136,7 +136,7 @@ least_chance whole a b d m x odd B p some top within chance are step low =
     series_low (10 ^ whole) (parts x.low) B (min (parts odd.latest.high) (10 ^ whole)) (parts odd.other.low) p (below b 21) (partial a b 21).other (partial a b 21).latest a b d m
     (ten_pos whole) some (below_pos b 21 some) within.least step (held_high (10 ^ whole) (parts odd.latest.high) (partial a b 21).latest (below b 21) is.latest.most (omega arith)) is.other.least low (chance.least 10)
 
-pub most_chance : (whole a b d m : ℕ) (x : Span) (even : Terms) (B p : ℕ) → 0 < b → parts x.high ≤ 10 ^ whole → IsWithin whole a b x → IsChance a b d m → AreTerms whole x 22 even
+pub most_chance : (whole a b d m : ℕ) (x : Span) (even : Terms) (B p : ℕ) → 0 < b → parts x.high ≤ 10 ^ whole → IsWithin whole a b x → IsAtMostChance a b d m → AreTerms whole x 22 even
     → min (10 ^ whole + min (parts even.other.low) (10 ^ whole)) (10 ^ whole + parts even.latest.high) ≤ B + min (parts even.other.low) (10 ^ whole)
     → min (10 ^ whole * 10 ^ whole) (parts x.high * B) ≤ 10 ^ whole * p → m * 10 ^ whole ≤ p * d
 most_chance whole a b d m x even B p some top within chance are step high =

@@ -1,3 +1,4 @@
 pub mod Exponentials
 pub mod Spans
 pub mod Terms
+pub mod Widths

@@ -2,8 +2,9 @@
 
 ghost use Rattle.std.specs.Prelude.{ℕ, ◌≡◌, ◌≤◌, ◌<◌, ◌-◌, ◌*◌, ◌^◌};
 ghost use Rattle.decimals.specs.inner.Decimals.{parts};
-ghost use Rattle.exponentials.specs.inner.Exponentials.{IsChance};
-ghost use Rattle.exponentials.specs.inner.Spans.{AreChances, IsWithin};
+ghost use Rattle.exponentials.specs.inner.Exponentials.{IsAtLeastChance, IsAtMostChance};
+ghost use Rattle.exponentials.specs.inner.Spans.{AreChances, IsAbove, IsBelow, IsWithin};
+ghost use Rattle.exponentials.specs.inner.Widths.{IsNarrow, chance_places, chance_units};
 
 use crate::series::series;
 use crate::span::Span;
@@ -38,7 +39,8 @@ fn halved(x: Span, whole: u32) -> HalvedSpan
 
 /// The bounds of a number that is squared so often.
 fn squared(number: Span, times: u32, whole: u32) -> Span
-    ensures { (n d : ℕ) → n ≤ d → IsWithin whole n d number → IsWithin whole (n ^ (2 ^ times)) (d ^ (2 ^ times)) result }
+    ensures low { (n d : ℕ) → n ≤ d → IsAbove whole n d number → IsAbove whole (n ^ (2 ^ times)) (d ^ (2 ^ times)) result }
+    ensures high { (n d : ℕ) → n ≤ d → IsBelow whole n d number → IsBelow whole (n ^ (2 ^ times)) (d ^ (2 ^ times)) result }
 {
     let mut power = number;
     for _time in 0..times {
@@ -50,15 +52,19 @@ fn squared(number: Span, times: u32, whole: u32) -> Span
 /// The bounds of 1 - e^(-x) from x that was halved so often, and is 1 at most.
 fn squared_chance(x: Span, halvings: u32, whole: u32) -> Span
     requires { parts x.high ≤ 10 ^ whole }
-    ensures { (a b d m : ℕ) → 0 < b → IsWithin whole a b x → IsChance a b d m
-        → IsWithin whole (d ^ (2 ^ halvings) - (d - m) ^ (2 ^ halvings)) (d ^ (2 ^ halvings)) result }
+    ensures low { (a b d m : ℕ) → 0 < b → IsWithin whole a b x → IsAtLeastChance a b d m
+        → IsAbove whole (d ^ (2 ^ halvings) - (d - m) ^ (2 ^ halvings)) (d ^ (2 ^ halvings)) result }
+    ensures high { (a b d m : ℕ) → 0 < b → IsWithin whole a b x → IsAtMostChance a b d m
+        → IsBelow whole (d ^ (2 ^ halvings) - (d - m) ^ (2 ^ halvings)) (d ^ (2 ^ halvings)) result }
 {
     squared(series(x, whole).rest(whole), halvings, whole).rest(whole)
 }
 
 /// The bounds of 1 - e^(-x), from bounds of x in parts of the whole.
 pub fn chance_of(x: Span, whole: u32) -> Chance
-    ensures { AreChances whole x result }
+    ensures chances { AreChances whole x result }
+    ensures narrow { (places units : ℕ) → units ≤ 1000000000000 → IsNarrow whole places units x → parts x.high ≤ 10 ^ whole
+        → chance_places places ≤ whole → IsNarrow whole (chance_places places) (chance_units units) result.span }
 {
     if x.high.is_part(whole) {
         return Chance {

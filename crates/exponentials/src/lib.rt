@@ -1,6 +1,7 @@
 //! Bounds of 1 - e^(-x), the probability that an exponential distribution gives, in decimals that are rounded outward.
 //!
-//! No real number and no float comes up: what is said is said of all numbers that lie between the partial sums of the series.
+//! No real number and no float comes up: what is said is said of the fractions that are no less, and of those that are no more, than what
+//! the partial sums of the series come to.
 #![tactic(auto)]
 
 mod halving;

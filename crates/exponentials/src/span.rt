@@ -1,9 +1,10 @@
 //! Bounds of numbers, in parts of the whole.
 
-ghost use Rattle.std.specs.Prelude.{ℕ, ◌≡◌, ◌≤◌, ◌<◌, ◌-◌, ◌*◌, ◌^◌};
+ghost use Rattle.std.specs.Prelude.{ℕ, ◌≡◌, ◌≤◌, ◌<◌, ◌+◌, ◌-◌, ◌*◌, ◌^◌};
 ghost use Rattle.decimals.specs.inner.Decimals.{parts};
-ghost use Rattle.exponentials.specs.inner.Spans.{IsWithin};
+ghost use Rattle.exponentials.specs.inner.Spans.{IsAbove, IsBelow};
 ghost use Rattle.exponentials.specs.inner.Terms.{IsNextTerm, IsProduct, IsSum};
+ghost use Rattle.exponentials.specs.inner.Widths.{IsNarrow};
 
 use decimals::Decimal;
 
@@ -19,6 +20,7 @@ impl Span {
     pub(crate) fn nothing() -> Span
         ensures low { parts result.low ≡ 0 }
         ensures high { parts result.high ≡ 0 }
+        ensures narrow { (whole places units : ℕ) → IsNarrow whole places units result }
     {
         let none = Decimal {
             mantissa: 0,
@@ -34,6 +36,7 @@ impl Span {
     pub(crate) fn all(whole: u32) -> Span
         ensures low { parts result.low ≡ 10 ^ whole }
         ensures high { parts result.high ≡ 10 ^ whole }
+        ensures narrow { (places units : ℕ) → IsNarrow whole places units result }
     {
         let all = Decimal {
             mantissa: 1,
@@ -59,7 +62,9 @@ impl Span {
     /// One of so many equal parts of the product.
     pub(crate) fn next_term(self, x: Span, count: u32, whole: u32) -> Span
         requires { 0 < count }
-        ensures { IsNextTerm whole count self x result }
+        ensures next { IsNextTerm whole count self x result }
+        ensures narrow { (p q i j : ℕ) → IsNarrow whole p i self → IsNarrow whole q j x → parts self.low ≤ 10 ^ whole → parts x.low ≤ 10 ^ whole → count ≤ 1000
+            → p + q + 18 ≤ whole → IsNarrow whole (p + q + 18) (i + j + 2 + 2 * count) result }
     {
         Span {
             low: self.low.times_down(x.low, whole).over_down(count),
@@ -69,7 +74,9 @@ impl Span {
 
     /// The sum, up to the whole.
     pub(crate) fn plus(self, other: Span, whole: u32) -> Span
-        ensures { IsSum whole self other result }
+        ensures sum { IsSum whole self other result }
+        ensures narrow { (p i : ℕ) → IsNarrow whole p i self → IsNarrow whole p i other → parts self.low + parts other.low ≤ 10 ^ whole
+            → IsNarrow whole p (i + 2) result }
     {
         Span {
             low: self.low.plus_down(other.low, whole),
@@ -89,7 +96,8 @@ impl Span {
 
     /// What is left of the whole.
     pub(crate) fn rest(self, whole: u32) -> Span
-        ensures { (n d : ℕ) → n ≤ d → IsWithin whole n d self → IsWithin whole (d - n) d result }
+        ensures low { (n d : ℕ) → n ≤ d → IsBelow whole n d self → IsAbove whole (d - n) d result }
+        ensures high { (n d : ℕ) → n ≤ d → IsAbove whole n d self → IsBelow whole (d - n) d result }
     {
         Span {
             low: self.high.within(whole).rest_down(whole),

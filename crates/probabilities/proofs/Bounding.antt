@@ -55,11 +55,11 @@ or-more : (l h : Bool) → (IsTrue l → IsTrue h) → (l || (true && h)) ≡ h
 or-more true h more = sym (more refl)
 or-more false h more = refl
 
-at-absent : (family : Family) (v : ℕ) (lo hi : Family) → AreParts family v lo hi → (set : List ℕ) → has set v ≡ false → covers family set ≡ covers lo set
+pub at-absent : (family : Family) (v : ℕ) (lo hi : Family) → AreParts family v lo hi → (set : List ℕ) → has set v ≡ false → covers family set ≡ covers lo set
 at-absent family v lo hi parts set out =
     parts.covering set ∙ (ap (λ (b : Bool). covers lo set || (b && covers hi set)) out ∙ or-none (covers lo set) (covers hi set))
 
-at-present : (family : Family) (v : ℕ) (lo hi : Family) → AreParts family v lo hi → (set : List ℕ) → covers family (v ∷ set) ≡ covers hi set
+pub at-present : (family : Family) (v : ℕ) (lo hi : Family) → AreParts family v lo hi → (set : List ℕ) → covers family (v ∷ set) ≡ covers hi set
 at-present family v lo hi parts set =
     let a : covers lo (v ∷ set) ≡ covers lo set = covers-more lo set v parts.lo_greater in
     let b : covers hi (v ∷ set) ≡ covers hi set = covers-more hi set v parts.hi_greater in

@@ -19,7 +19,7 @@ use Rattle.probabilities.specs.inner.Widths.{AreNarrow, IsNarrowRate, IsNarrowed
 use Rattle.probabilities.specs.inner.Remembered.{IsBounded, IsBoundedAt, KnowsBounds}
 use Rattle.decimals.specs.inner.Decimals.{parts}
 use Rattle.std.proofs.Math.Nat.{mul-le-mul_left}
-use Rattle.probabilities.proofs.Nearness.{near_more, more_places}
+use Rattle.decimals.proofs.Nearness.{near_more, more_places}
 use Rattle.probabilities.specs.declared.rates.Bounds.{Bounds}
 use Rattle.probabilities.specs.declared.rates.Rate.{Rate}
 
@@ -39,7 +39,7 @@ parts_bits h true r = refl
 parts_bits h false r = refl
 
 -- what the family of a node covers with its variable is the union of the families below it
-node_parts : (before after : Families) (id with : Id) (node : Node) → Fits before node → family_of before id ≡ family_with before node
+pub node_parts : (before after : Families) (id with : Id) (node : Node) → Fits before node → family_of before id ≡ family_with before node
     → IsLeastFamily (either (family_of before node.lo) (family_of before node.hi)) (family_of after with) → AreParts (family_of before id) node.var (family_of before node.lo) (family_of after with)
 node_parts before after id with node fits is least =
     let lo = family_of before node.lo in
@@ -65,29 +65,29 @@ node_above before after later id with node fits is least kept here =
     subst (λ f. node.var < least_number f) (sym (kept.same with.position here)) (node_parts before after id with node fits is least).hi_greater
 
 -- narrow bounds are narrow over more events
-widen : (whole places n m : ℕ) (bounds : Bounds) → n ≤ m → AreNarrow whole places n bounds → AreNarrow whole places m bounds
-widen whole places n m bounds le narrow =
+widen : (whole places units n m : ℕ) (bounds : Bounds) → n ≤ m → AreNarrow whole places units n bounds → AreNarrow whole places units m bounds
+widen whole places units n m bounds le narrow =
     let more : places * n ≤ places * m = mul-le-mul_left places le in
     record {
       within = narrow.within;
       lower_places = more_places whole (places * n) (places * m) bounds.lower.mantissa bounds.lower.exponent more narrow.lower_places;
       upper_places = more_places whole (places * n) (places * m) bounds.upper.mantissa bounds.upper.exponent more narrow.upper_places;
-      near = near_more (6 * n) (6 * m) (parts bounds.upper) (parts bounds.lower) (omega arith) narrow.near;
+      near = near_more ((4 + units) * n) ((4 + units) * m) (parts bounds.upper) (parts bounds.lower) (mul-le-mul_left (4 + units) le) narrow.near;
     }
 
 -- the bounds that are made of narrow ones of the parts
 made_narrow : (whole : ℕ) (list : List Rate) (family low high : Family) (event : ℕ) (rate : Rate) (lo hi result : Bounds) → slice_get list event ≡ Some rate → event < length list
     → least_number family ≡ event → event < least_number low → event < least_number high → IsNarrowed whole list low lo → IsNarrowed whole list high hi
-    → ((places count : ℕ) → IsNarrowRate whole places rate → AreNarrow whole places count lo → AreNarrow whole places count hi → places + places * count ≤ whole → AreNarrow whole places (count + 1) result)
+    → ((places units count : ℕ) → IsNarrowRate whole places units rate → AreNarrow whole places units count lo → AreNarrow whole places units count hi → places + places * count ≤ whole → AreNarrow whole places units (count + 1) result)
     → IsNarrowed whole list family result
-made_narrow whole list family low high event rate lo hi result rated inside top low_greater high_greater first second step places narrow fit =
+made_narrow whole list family low high event rate lo hi result rated inside top low_greater high_greater first second step places units narrow fit =
     let count = length list - (event + 1) in
     let all : places * (count + 1) ≤ places * length list = mul-le-mul_left places (omega arith) in
     let same : count + 1 ≡ length list - least_number family = omega arith in
-    let made = step places count (narrow event rate rated)
-    (widen whole places (length list - least_number low) count lo (omega arith) (first places narrow fit))
-    (widen whole places (length list - least_number high) count hi (omega arith) (second places narrow fit)) (omega arith) in
-    subst (λ k. AreNarrow whole places k result) same made
+    let made = step places units count (narrow event rate rated)
+    (widen whole places units (length list - least_number low) count lo (omega arith) (first places units narrow fit))
+    (widen whole places units (length list - least_number high) count hi (omega arith) (second places units narrow fit)) (omega arith) in
+    subst (λ k. AreNarrow whole places units k result) same made
 
 -- the bounds that are made of those of the parts
 pub node_bounded : (whole : ℕ) (list : List Rate) (s0 s1 s2 s3 : Families) (id with : Id) (node : Node) (rate : Rate) (lo hi result : Bounds)
@@ -96,7 +96,7 @@ pub node_bounded : (whole : ℕ) (list : List Rate) (s0 s1 s2 s3 : Families) (id
     → IsIn s1 with → IsLeastFamily (either (family_of s0 node.lo) (family_of s0 node.hi)) (family_of s1 with)
     → IsBounded whole list (family_of s1 node.lo) lo → IsBounded whole list (family_of s2 with) hi
     → ((rates : Rates) (end event : ℕ) (family low high : Family) → IsStep whole rate lo hi rates end event family low high → AreBoundsOf whole rates end family result)
-    → ((places count : ℕ) → IsNarrowRate whole places rate → AreNarrow whole places count lo → AreNarrow whole places count hi → places + places * count ≤ whole → AreNarrow whole places (count + 1) result)
+    → ((places units count : ℕ) → IsNarrowRate whole places units rate → AreNarrow whole places units count lo → AreNarrow whole places units count hi → places + places * count ≤ whole → AreNarrow whole places units (count + 1) result)
     → IsBoundedAt whole list s3 id result
 node_bounded whole list s0 s1 s2 s3 id with node rate lo hi result here fits is top k1 k2 k3 rated inside with_in least low high step narrow =
     let first = bounded_before whole list s0 s1 node.lo lo k1 fits.lo_in low in

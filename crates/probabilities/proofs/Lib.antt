@@ -6,3 +6,4 @@ pub mod Bounding
 pub mod Nearness
 pub mod Deciding
 pub mod Setting
+pub mod Cofactors

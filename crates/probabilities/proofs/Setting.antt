@@ -78,28 +78,28 @@ certain_right s k event rates few right = record { least = λ e. low (e == event
     high true x y h = omega arith
     high false x y h = h
 
-narrow_set : (whole places event : ℕ) (list : List Rate) (rate : Rate) → event < length list → IsNarrowRate whole places rate → AreNarrowRates whole places list → AreNarrowRates whole places (slice_set list event rate)
-narrow_set whole places event list rate inside near all e r found = at (at_set list event e rate r inside found)
+narrow_set : (whole places units event : ℕ) (list : List Rate) (rate : Rate) → event < length list → IsNarrowRate whole places units rate → AreNarrowRates whole places units list → AreNarrowRates whole places units (slice_set list event rate)
+narrow_set whole places units event list rate inside near all e r found = at (at_set list event e rate r inside found)
   where
-    at : ((e ≡ event) × (r ≡ rate)) ⊎ ((e ≡ event → ⊥) × (slice_get list e ≡ Some r)) → IsNarrowRate whole places r
-    at (inl here) = subst (λ (x : Rate). IsNarrowRate whole places x) (sym here.1) near
+    at : ((e ≡ event) × (r ≡ rate)) ⊎ ((e ≡ event → ⊥) × (slice_get list e ≡ Some r)) → IsNarrowRate whole places units r
+    at (inl here) = subst (λ (x : Rate). IsNarrowRate whole places units x) (sym here.1) near
     at (inr there) = all e r there.1
 
 -- bounds with another rate are bounds where the event is certain
 pub certain_bounds : (whole k event : ℕ) (list : List Rate) (rate : Rate) (family : Family) (bounds : Bounds) → event < length list → k ≤ 10 ^ whole → FitWhole whole list
-    → IsCertain whole k rate → ((places : ℕ) → IsNarrowRate whole places rate) → IsBounded whole (slice_set list event rate) family bounds → AreCertainBounds whole k list event family bounds
+    → IsCertain whole k rate → ((places units : ℕ) → IsNarrowRate whole places units rate) → IsBounded whole (slice_set list event rate) family bounds → AreCertainBounds whole k list event family bounds
 certain_bounds whole k event list rate family bounds inside few fit is near bounded =
     let same = length-set list event rate in
     record {
       right = subst (λ (n : ℕ). AreBoundsOf whole (certain (10 ^ whole) k event (rates_of whole list)) n family bounds) same
           (bounded.all (certain (10 ^ whole) k event (rates_of whole list)) (certain_right (10 ^ whole) k event (rates_of whole list) few (rates_right whole list fit)) (certain_rated whole k event list rate inside is));
-      narrow = λ places all room.
-          subst (λ (n : ℕ). AreNarrow whole places (n - least_number family) bounds) same
-          (bounded.narrow places (narrow_set whole places event list rate inside (near places) all) (subst (λ (n : ℕ). places * n ≤ whole) (sym same) room));
+      narrow = λ places units all room.
+          subst (λ (n : ℕ). AreNarrow whole places units (n - least_number family) bounds) same
+          (bounded.narrow places units (narrow_set whole places units event list rate inside (near places units) all) (subst (λ (n : ℕ). places * n ≤ whole) (sym same) room));
     }
 
 pub certain_found : (whole k event : ℕ) (list : List Rate) (rate : Rate) (family : Family) (result : Result (Option Bounds) AllocError) → event < length list → k ≤ 10 ^ whole → FitWhole whole list
-    → IsCertain whole k rate → ((places : ℕ) → IsNarrowRate whole places rate) → IfOk result (λ found. IfSome found (IsBounded whole (slice_set list event rate) family))
+    → IsCertain whole k rate → ((places units : ℕ) → IsNarrowRate whole places units rate) → IfOk result (λ found. IfSome found (IsBounded whole (slice_set list event rate) family))
     → IfOk result (λ found. IfSome found (AreCertainBounds whole k list event family))
 certain_found whole k event list rate family (Err none) inside few fit is near right = right
 certain_found whole k event list rate family (Ok None) inside few fit is near right = right

@@ -5,3 +5,4 @@ pub mod Decided
 pub mod Widths
 pub mod Remembered
 pub mod Certain
+pub mod Cofactors

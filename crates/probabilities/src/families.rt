@@ -1,11 +1,13 @@
 //! The bounds of the probability of a family of a store.
 
-ghost use Rattle.std.specs.Prelude.{◌<◌, IfOk, IfSome, length};
+ghost use Rattle.std.specs.Prelude.{◌<◌, ◌≡◌, IfOk, IfSome, IfNone, Some, length};
 ghost use Rattle.std.specs.HashMap.{get};
+ghost use Rattle.zdd_store.specs.inner.Family.{Family, IsAntichain};
 ghost use Rattle.zdd_store.specs.inner.Store.{IsIn, Keeps, family_of};
 ghost use Rattle.probabilities.specs.inner.Decided.{AreBoundsOf, FitWhole, rates_of};
 ghost use Rattle.probabilities.specs.inner.Widths.{IsNarrowed};
 ghost use Rattle.probabilities.specs.inner.Remembered.{IsBoundedAt, KnowsBounds, Bounded};
+ghost use Rattle.probabilities.specs.inner.Cofactors.{IsCofactorAt, KnowsCofactors, IsGivenUp, IsTraced};
 
 use crate::rates::{Bounds, Rate};
 use crate::steps::{end_bounds, family_step, rate_of};
@@ -24,7 +26,8 @@ fn known_bounds(
     id: Id,
 ) -> Option<Bounds>
     requires { KnowsBounds whole rates.now store.now (get ⟦<Id as PartialEq>⟧.eq known.now) }
-    ensures { IfSome result (IsBoundedAt whole rates.now store.now id) }
+    ensures value { result ≡ get ⟦<Id as PartialEq>⟧.eq known.now id }
+    ensures bounds { IfSome result (IsBoundedAt whole rates.now store.now id) }
 {
     let _count = rates.len();
     known.get(&id).copied()
@@ -42,7 +45,10 @@ fn note_bounds(
     requires bounds { IsBoundedAt whole rates.now store.now id bounds }
     requires known { KnowsBounds whole rates.now store.now (get ⟦<Id as PartialEq>⟧.eq known.old) }
     ensures known { KnowsBounds whole rates.now store.now (get ⟦<Id as PartialEq>⟧.eq known.new) }
+    ensures cofactors { (root : Family) → IsCofactorAt root store.now id → KnowsCofactors root store.now (get ⟦<Id as PartialEq>⟧.eq known.old)
+        → KnowsCofactors root store.now (get ⟦<Id as PartialEq>⟧.eq known.new) }
     ensures bounds { IfOk result (λ found. IfSome found (IsBoundedAt whole rates.now store.now id)) }
+    ensures found { IfOk result (λ found. found ≡ Some bounds) }
 {
     known.insert(id, bounds)?;
     Ok(Some(bounds))
@@ -62,6 +68,8 @@ pub(crate) fn bounds_in(
     requires known { KnowsBounds whole rates.now store.old (get ⟦<Id as PartialEq>⟧.eq known.old) }
     ensures bounds { Bounded whole rates.now store.old store.new id result }
     ensures known { KnowsBounds whole rates.now store.new (get ⟦<Id as PartialEq>⟧.eq known.new) }
+    ensures traced { (root : Family) → IsCofactorAt root store.old id → KnowsCofactors root store.old (get ⟦<Id as PartialEq>⟧.eq known.old)
+        → IfOk result (IsTraced (length rates.now) most root store.new (get ⟦<Id as PartialEq>⟧.eq known.new)) }
 {
     store.laws();
     let Some(node) = look(store, id) else {
@@ -109,6 +117,7 @@ pub fn family_bounds(
     requires rates { FitWhole whole rates.now }
     ensures bounds { IfOk result (λ found. IfSome found (AreBoundsOf whole (rates_of whole rates.now) (length rates.now) (family_of store.old id))) }
     ensures narrow { IfOk result (λ found. IfSome found (IsNarrowed whole rates.now (family_of store.old id))) }
+    ensures none { IsAntichain (family_of store.old id) → IfOk result (λ found. IfNone found (IsGivenUp (length rates.now) most (family_of store.old id))) }
     ensures kept { Keeps store.old store.new }
 {
     let mut known = HashMap::new(alloc);

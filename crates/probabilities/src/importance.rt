@@ -1,10 +1,11 @@
 //! The bounds of a family where one event never occurs, and where it always does.
 
-ghost use Rattle.std.specs.Prelude.{ℕ, ◌≡◌, ◌<◌, ◌≤◌, ◌^◌, IfOk, IfSome, length, slice_set};
+ghost use Rattle.std.specs.Prelude.{ℕ, ◌≡◌, ◌<◌, ◌≤◌, ◌^◌, IfOk, IfSome, IfNone, length, slice_set};
+ghost use Rattle.zdd_store.specs.inner.Family.{IsAntichain};
 ghost use Rattle.zdd_store.specs.inner.Store.{IsIn, Keeps, family_of};
 ghost use Rattle.probabilities.specs.inner.Decided.{FitWhole};
 ghost use Rattle.probabilities.specs.inner.Certain.{AreCertainBounds, IsCertain};
-ghost use Rattle.probabilities.specs.inner.Remembered.{IsBounded};
+ghost use Rattle.probabilities.specs.inner.Cofactors.{IsGivenUp};
 ghost use Rattle.probabilities.specs.inner.Widths.{IsNarrowRate};
 
 use crate::families::bounds_in;
@@ -45,69 +46,16 @@ fn bounds_with(
     id: Id,
 ) -> Mem<Option<Bounds>>
     requires id_in { IsIn store.old id }
+    requires rates { FitWhole whole rates.now }
     requires inside { event < length rates.now }
-    ensures bounds { IfOk result (λ found. IfSome found (IsBounded whole (slice_set rates.now event rate) (family_of store.old id))) }
+    ensures bounds { (k : ℕ) → k ≤ 10 ^ whole → IsCertain whole k rate → ((places units : ℕ) → IsNarrowRate whole places units rate)
+        → IfOk result (λ found. IfSome found (AreCertainBounds whole k rates.now event (family_of store.old id))) }
+    ensures none { IsAntichain (family_of store.old id) → IfOk result (λ found. IfNone found (IsGivenUp (length rates.now) most (family_of store.old id))) }
     ensures kept { Keeps store.old store.new }
 {
     let list = rates_with(alloc, rates, event, rate)?;
     let mut known = HashMap::new(alloc);
     bounds_in(store, list.as_slice(), whole, most, &mut known, id)
-}
-
-/// The bounds of a family where an event never occurs.
-fn never_bounds(
-    alloc: Global,
-    store: &mut Store,
-    rates: &[Rate],
-    event: u32,
-    whole: u32,
-    most: usize,
-    id: Id,
-) -> Mem<Option<Bounds>>
-    requires id_in { IsIn store.old id }
-    requires rates { FitWhole whole rates.now }
-    requires inside { event < length rates.now }
-    ensures bounds { IfOk result (λ found. IfSome found (AreCertainBounds whole 0 rates.now event (family_of store.old id))) }
-    ensures kept { Keeps store.old store.new }
-{
-    bounds_with(
-        alloc,
-        store,
-        rates,
-        event,
-        Rate::never(whole),
-        whole,
-        most,
-        id,
-    )
-}
-
-/// The bounds of a family where an event always occurs.
-fn always_bounds(
-    alloc: Global,
-    store: &mut Store,
-    rates: &[Rate],
-    event: u32,
-    whole: u32,
-    most: usize,
-    id: Id,
-) -> Mem<Option<Bounds>>
-    requires id_in { IsIn store.old id }
-    requires rates { FitWhole whole rates.now }
-    requires inside { event < length rates.now }
-    ensures bounds { IfOk result (λ found. IfSome found (AreCertainBounds whole (10 ^ whole) rates.now event (family_of store.old id))) }
-    ensures kept { Keeps store.old store.new }
-{
-    bounds_with(
-        alloc,
-        store,
-        rates,
-        event,
-        Rate::always(whole),
-        whole,
-        most,
-        id,
-    )
 }
 
 /// The bounds of the probability that the events which occur contain a set of the family, where one event never occurs, and
@@ -127,12 +75,15 @@ pub fn event_importance(
     requires inside { event < length rates.now }
     ensures never { IfOk result (λ found. IfSome found (λ both. AreCertainBounds whole 0 rates.now event (family_of store.old id) both.never)) }
     ensures always { IfOk result (λ found. IfSome found (λ both. AreCertainBounds whole (10 ^ whole) rates.now event (family_of store.old id) both.always)) }
+    ensures none { IsAntichain (family_of store.old id) → IfOk result (λ found. IfNone found (IsGivenUp (length rates.now) most (family_of store.old id))) }
     ensures kept { Keeps store.old store.new }
 {
-    let Some(never) = never_bounds(alloc, store, rates, event, whole, most, id)? else {
+    let rate = Rate::never(whole);
+    let Some(never) = bounds_with(alloc, store, rates, event, rate, whole, most, id)? else {
         return Ok(None);
     };
-    let Some(always) = always_bounds(alloc, store, rates, event, whole, most, id)? else {
+    let other = Rate::always(whole);
+    let Some(always) = bounds_with(alloc, store, rates, event, other, whole, most, id)? else {
         return Ok(None);
     };
     Ok(Some(Importance { never, always }))

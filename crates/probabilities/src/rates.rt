@@ -1,7 +1,7 @@
 //! Bounds of the probabilities of events and of families, as decimals.
 
 ghost use Rattle.std.specs.Prelude.{ℕ, ◌≤◌, ◌≡◌, ◌^◌, ◌-◌};
-ghost use Rattle.decimals.specs.inner.Decimals.{parts, IsNear, HasPlaces};
+ghost use Rattle.decimals.specs.inner.Decimals.{parts, AreNear, IsNear, HasPlaces};
 ghost use Rattle.probabilities.specs.inner.Decided.{FitsWhole};
 ghost use Rattle.probabilities.specs.inner.Certain.{IsCertain};
 ghost use Rattle.probabilities.specs.inner.Widths.{IsNarrowRate};
@@ -36,6 +36,8 @@ impl Rate {
         ensures high_near { IsNear (parts result.high_not) (10 ^ whole - parts high) }
         ensures low_places { HasPlaces whole 36 result.low_not }
         ensures high_places { HasPlaces whole 36 result.high_not }
+        ensures narrow { (places units : ℕ) → 36 ≤ places → 2 ≤ units → HasPlaces whole places low → HasPlaces whole places high → parts low ≤ parts high
+            → AreNear units (parts high) (parts low) → IsNarrowRate whole places units result }
     {
         Rate {
             low,
@@ -51,7 +53,7 @@ impl Rate {
         ensures low { result.low ≡ probability }
         ensures high { result.high ≡ probability }
         ensures fits { FitsWhole whole result }
-        ensures narrow { (places : ℕ) → 36 ≤ places → HasPlaces whole places probability → IsNarrowRate whole places result }
+        ensures narrow { (places units : ℕ) → 36 ≤ places → 2 ≤ units → HasPlaces whole places probability → IsNarrowRate whole places units result }
     {
         Rate::between(probability, probability, whole)
     }
@@ -60,6 +62,8 @@ impl Rate {
     pub fn unknown(whole: u32) -> Rate
         ensures low { parts result.low ≡ 0 }
         ensures high { parts result.high ≡ 10 ^ whole }
+        ensures low_not { parts result.low_not ≡ 10 ^ whole }
+        ensures high_not { parts result.high_not ≡ 0 }
         ensures fits { FitsWhole whole result }
     {
         let never = Decimal {
@@ -81,7 +85,7 @@ impl Rate {
     /// The rate of an event that never occurs.
     pub fn never(whole: u32) -> Rate
         ensures certain { IsCertain whole 0 result }
-        ensures narrow { (places : ℕ) → IsNarrowRate whole places result }
+        ensures narrow { (places units : ℕ) → IsNarrowRate whole places units result }
     {
         let none = Decimal {
             mantissa: 0,
@@ -102,7 +106,7 @@ impl Rate {
     /// The rate of an event that always occurs.
     pub fn always(whole: u32) -> Rate
         ensures certain { IsCertain whole (10 ^ whole) result }
-        ensures narrow { (places : ℕ) → IsNarrowRate whole places result }
+        ensures narrow { (places units : ℕ) → IsNarrowRate whole places units result }
     {
         let none = Decimal {
             mantissa: 0,

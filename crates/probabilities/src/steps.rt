@@ -40,8 +40,8 @@ fn upper_step(rate: Rate, lo: Decimal, hi: Decimal, whole: u32) -> Decimal
 pub(crate) fn family_step(rate: Rate, lo: Bounds, hi: Bounds, whole: u32) -> Bounds
     ensures bounds { (rates : Rates) (end event : ℕ) (family low high : Family) → IsStep whole rate lo hi rates end event family low high
         → AreBoundsOf whole rates end family result }
-    ensures narrow { (places count : ℕ) → IsNarrowRate whole places rate → AreNarrow whole places count lo → AreNarrow whole places count hi
-        → places + places * count ≤ whole → AreNarrow whole places (count + 1) result }
+    ensures narrow { (places units count : ℕ) → IsNarrowRate whole places units rate → AreNarrow whole places units count lo → AreNarrow whole places units count hi
+        → places + places * count ≤ whole → AreNarrow whole places units (count + 1) result }
 {
     Bounds {
         lower: lower_step(rate, lo.lower, hi.lower, whole),

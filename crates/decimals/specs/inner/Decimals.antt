@@ -13,6 +13,10 @@ parts x = x.mantissa * 10 ^ x.exponent
 abbrev pub IsNear : ℕ → ℕ → Type 0
 IsNear more less = more * 100000000000000000 ≤ less * 100000000000000001
 
+-- it is above the second by at most so many times one in the 17th digit
+abbrev pub AreNear : ℕ → ℕ → ℕ → Type 0
+AreNear times more less = more * 100000000000000000 ^ times ≤ less * 100000000000000001 ^ times
+
 -- a number with zeros behind it has at most so many places behind the point of the whole: it is nothing, or has the other zeros
 abbrev pub HavePlaces : ℕ → ℕ → ℕ → ℕ → Type 0
 HavePlaces whole places number exponent = (number ≡ 0) ⊎ (whole ≤ exponent + places)
@@ -59,7 +63,7 @@ abbrev pub IsBound : Side → ℕ → ℕ → ℕ → Type 0
 IsBound Down whole n bound = bound ≤ n
 IsBound Up whole n bound = min whole n ≤ bound
 
--- and near it, where it is within the whole; near it
+-- and near it, where it is twice the whole at most; near it
 abbrev pub IsNearBound : Side → ℕ → ℕ → ℕ → Type 0
-IsNearBound Down whole n bound = n ≤ whole → IsNear n bound
+IsNearBound Down whole n bound = n ≤ 2 * whole → IsNear n bound
 IsNearBound Up whole n bound = IsNear bound n

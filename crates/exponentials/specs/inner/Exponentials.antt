@@ -15,8 +15,15 @@ unfoldable pub partial : ℕ → ℕ → ℕ → Sums
 partial a b zero = record { latest = 0; other = 0 }
 partial a b (suc n) = record { latest = (partial a b n).other * (b * (n + 2)) + a ^ (suc n); other = (partial a b n).latest * (b * (n + 2)) }
 
--- m out of d lies between all partial partial of x (1 - x/2 + x^2/6 - ..): where x is 1 at most, 1 - e^(-x) alone does so
-pub record IsChance (a b d m : ℕ) : Type 0 where
+-- Where x is 1 at most, 1 - e^(-x) is the one number that lies between all of these sums of x (1 - x/2 + x^2/6 - ..). It is no fraction
+-- but for 0, so what is said of it is said of the fractions on its two sides.
+
+-- m out of d is 1 at most, and no less than each sum that is below 1 - e^(-x): it is no less than 1 - e^(-x)
+pub record IsAtLeastChance (a b d m : ℕ) : Type 0 where
+  pub part : m ≤ d
+  pub least : (j : ℕ) → a * (below b (2 * j + 1) + (partial a b (2 * j + 1)).other) * d ≤ m * (b * below b (2 * j + 1)) + a * (partial a b (2 * j + 1)).latest * d
+
+-- and no more than each sum that is above it: it is no more than 1 - e^(-x)
+pub record IsAtMostChance (a b d m : ℕ) : Type 0 where
   pub part : m ≤ d
   pub most : (j : ℕ) → m * (b * below b (2 * j)) + a * (partial a b (2 * j)).other * d ≤ a * (below b (2 * j) + (partial a b (2 * j)).latest) * d
-  pub least : (j : ℕ) → a * (below b (2 * j + 1) + (partial a b (2 * j + 1)).other) * d ≤ m * (b * below b (2 * j + 1)) + a * (partial a b (2 * j + 1)).latest * d

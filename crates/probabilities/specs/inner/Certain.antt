@@ -29,4 +29,4 @@ pub record IsCertain (whole k : ℕ) (rate : Rate) : Type 0 where
 -- rates are
 pub record AreCertainBounds (whole k : ℕ) (list : List Rate) (event : ℕ) (family : Family) (bounds : Bounds) : Type 0 where
   pub right : AreBoundsOf whole (certain (10 ^ whole) k event (rates_of whole list)) (length list) family bounds
-  pub narrow : (places : ℕ) → AreNarrowRates whole places list → places * length list ≤ whole → AreNarrow whole places (length list - least_number family) bounds
+  pub narrow : (places units : ℕ) → AreNarrowRates whole places units list → places * length list ≤ whole → AreNarrow whole places units (length list - least_number family) bounds

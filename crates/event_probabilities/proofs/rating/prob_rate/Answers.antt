@@ -1,4 +1,5 @@
 use Rattle.std.proofs.Common.{◌+◌, arith}
+use Rattle.event_probabilities.proofs.Narrow.{prob_narrow}
 use Rattle.event_probabilities.proofs.Read.{rate_read, unrated, above_found, great_read}
 use Rattle.event_probabilities.proofs.rating.prob_rate.Goals as goal
 
@@ -22,4 +23,11 @@ returns-in_default-down-clause-found c read hours is =
 pub returns-clause-found : goal.returns-clause-found
 returns-clause-found c read hours is =
     rate_read c.args.whole read c.in-Some-down.low c.in-Some.high c.within.result c.between.result (rw c.in-Some-down.is at (c.down.ensures.down read is)) (rw c.in-Some.is at (c.up.ensures.up read is))
-    (c.is_part.ensures.within c.if-not-is_part.false) c.within.ensures c.between.ensures.low c.between.ensures.high
+    (c.is_part.ensures.within c.if-not-is_part.false) c.within.ensures.value c.between.ensures.low c.between.ensures.high
+
+pub returns-clause-narrow : goal.returns-clause-narrow
+returns-clause-narrow c read hours is =
+    let low = c.in-Some-down.ensures in
+    let high = c.in-Some.ensures in
+    prob_narrow c.args.whole read c.in-Some-down.low c.in-Some.high c.within.result c.between.result (low.down read is) (high.up read is) (c.is_part.ensures.within c.if-not-is_part.false) c.within.ensures.value
+    c.between.ensures.low c.between.ensures.high (low.exact read is) (high.exact read is) (low.near read is) (high.near read is) (low.places read is) (high.places read is) c.within.ensures.places c.between.ensures.narrow

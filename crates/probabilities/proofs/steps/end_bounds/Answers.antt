@@ -2,7 +2,7 @@ use Rattle.std.proofs.Common.{◌≡◌, ◌∙◌, ◌∷◌, [], ◌*◌, ◌^
 use Rattle.zdd_store.specs.inner.Store.{family_at, family_of}
 use Rattle.probabilities.specs.inner.Bounded.{IsLowerBound, IsUpperBound}
 use Rattle.probabilities.proofs.Bounding.{lower-none, upper-none, lower-full, upper-full}
-use Rattle.probabilities.proofs.Nearness.{near_same}
+use Rattle.decimals.proofs.Nearness.{near_same}
 use Rattle.probabilities.proofs.steps.end_bounds.Goals as goal
 
 pub returns-then-id-eq0 : goal.returns-then-id-eq0
@@ -15,7 +15,7 @@ returns-then-id-eq0 c =
         lower = subst (λ f. IsLowerBound s rates end f 0) (sym is) (lower-none s rates end);
         upper = subst (λ f. IsUpperBound s rates end f 0) (sym is) (upper-none s rates end);
       };
-      narrow = λ places narrow fit. record { within = omega arith; lower_places = inl refl; upper_places = inl refl; near = near_same _ 0 };
+      narrow = λ places units narrow fit. record { within = omega arith; lower_places = inl refl; upper_places = inl refl; near = near_same _ 0 };
     }
 
 pub returns : goal.returns
@@ -29,5 +29,5 @@ returns c =
         lower = subst (λ f. IsLowerBound s rates end f (1 * s)) (sym is) (lower-full s rates end (1 * s) (omega arith));
         upper = subst (λ f. IsUpperBound s rates end f (1 * s)) (sym is) (upper-full s rates end (1 * s) (omega arith));
       };
-      narrow = λ places narrow fit. record { within = omega arith; lower_places = inr (omega arith); upper_places = inr (omega arith); near = near_same _ (1 * s) };
+      narrow = λ places units narrow fit. record { within = omega arith; lower_places = inr (omega arith); upper_places = inr (omega arith); near = near_same _ (1 * s) };
     }

@@ -29,5 +29,5 @@ returns-clause-near c p q absent present first second fit whole low high =
       within = omega (arith, c.plus_down.ensures.down);
       few = c.plus_down.ensures.places (p + q) (x.ensures.places p q absent first fit) (y.ensures.places p q present second fit);
       near = below_near s (n * a) (l * b) (parts x.result) (parts y.result) (parts c.plus_down.result)
-          (x.ensures.near p q absent first fit (product_within s n a nl low)) (y.ensures.near p q present second fit (product_within s l b ll high)) (c.plus_down.ensures.near sum);
+          (x.ensures.near p q absent first fit (product_within s n a nl low)) (y.ensures.near p q present second fit (product_within s l b ll high)) (c.plus_down.ensures.near (omega (arith, sum)));
     }

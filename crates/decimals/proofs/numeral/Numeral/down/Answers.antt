@@ -1,5 +1,5 @@
 use Rattle.std.proofs.Common.{refl, arith}
-use Rattle.decimals.proofs.ReadBounds.{if_some, down_read, exact_read, near_down, great_read}
+use Rattle.decimals.proofs.ReadBounds.{if_some, down_read, exact_read, near_down, places_read, great_read}
 use Rattle.decimals.proofs.numeral.Numeral.down.Goals as goal
 
 pub returns-clause-down : goal.returns-clause-down
@@ -15,3 +15,7 @@ returns-clause-near c number is fit =
 
 pub returns-clause-none : goal.returns-clause-none
 returns-clause-none c number k is none few = great_read number c.args.self c.args.whole k 4294967296 is (c.placed.ensures.none none) few (c.placed.ensures.great none)
+
+pub returns-clause-places : goal.returns-clause-places
+returns-clause-places c number is fit =
+    if_some c.placed.result (λ y places. places_read number c.args.self c.args.whole y is places) (c.placed.ensures.places (omega (arith, fit, is.raised, is.lowered)))

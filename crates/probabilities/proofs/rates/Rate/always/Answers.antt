@@ -1,15 +1,15 @@
 use Rattle.std.proofs.Common.{◌*◌, ◌^◌, refl, inl, inr, arith}
-use Rattle.probabilities.proofs.Nearness.{near_same}
+use Rattle.decimals.proofs.Nearness.{near_same}
 use Rattle.probabilities.proofs.rates.Rate.always.Goals as goal
 
 pub returns-clause-narrow : goal.returns-clause-narrow
-returns-clause-narrow c places =
+returns-clause-narrow c places units =
     record {
       fits = record { least = omega arith; most = omega arith };
       low_places = inr (omega arith);
       high_places = inr (omega arith);
       low_not_places = inl refl;
       high_not_places = inl refl;
-      present = near_same 2 (1 * 10 ^ c.args.whole);
-      absent = near_same 2 0;
+      present = near_same units (1 * 10 ^ c.args.whole);
+      absent = near_same units 0;
     }

@@ -1,15 +1,15 @@
 use Rattle.std.proofs.Common.{◌*◌, ◌^◌, refl, inl, inr, arith}
-use Rattle.probabilities.proofs.Nearness.{near_same}
+use Rattle.decimals.proofs.Nearness.{near_same}
 use Rattle.probabilities.proofs.rates.Rate.never.Goals as goal
 
 pub returns-clause-narrow : goal.returns-clause-narrow
-returns-clause-narrow c places =
+returns-clause-narrow c places units =
     record {
       fits = record { least = omega arith; most = omega arith };
       low_places = inl refl;
       high_places = inl refl;
       low_not_places = inr (omega arith);
       high_not_places = inr (omega arith);
-      present = near_same 2 0;
-      absent = near_same 2 (1 * 10 ^ c.args.whole);
+      present = near_same units 0;
+      absent = near_same units (1 * 10 ^ c.args.whole);
     }
