@@ -20,7 +20,7 @@ pub struct Reading<'i, 'a> {
 impl<'i, 'a> Reading<'i, 'a> {
     /// A reading with these types, whose refusals are noted here.
     pub fn new(types: TypeTable<'i, 'a>, refusals: Refusals) -> Reading<'i, 'a>
-        ensures { result ≡ record { types = types.entry; refusals = refusals.entry } }
+        ensures { result ≡ record { types = types.entry; refusals = refusals } }
     {
         Reading { types, refusals }
     }
