@@ -28,8 +28,8 @@ pub(crate) struct Place {
     next: u32,
     // the first round in which it is true, by the rounds that are known
     round: u32,
-    /// Where one true part is enough: which part came to be true first.
-    pub soonest: u32,
+    /// Where one true part is enough: which part comes to be true first; and where all must be true, which does last.
+    pub marked: u32,
 }
 
 /// The places of the formulas of a system, numbered: first the whole formula of each fact, then the parts. Their rounds are those under
@@ -58,7 +58,7 @@ fn blank(whole: u32) -> Place {
         count: 0,
         next: NEVER,
         round: NEVER,
-        soonest: 0,
+        marked: 0,
     }
 }
 
@@ -167,15 +167,57 @@ impl Places {
     fn tell(&mut self, alloc: Global, part: u32, round: u32) -> Mem<u32> {
         let at = self.at(part).whole;
         let whole = self.at(at);
-        if whole.least != 1 {
+        if round >= whole.round {
+            return Ok(whole.round);
+        }
+        let number = part.saturating_sub(whole.first);
+        if whole.least == 1 {
+            self.mark(at, number)?;
+            return Ok(round);
+        }
+        if whole.least != whole.count {
             return self.round_of(alloc, whole);
         }
-        if round < whole.round {
-            self.changed.push((at, whole))?;
-            let soonest = part.saturating_sub(whole.first);
-            self.put(at, Place { soonest, ..whole });
+        if number != whole.marked {
+            return Ok(whole.round);
         }
-        Ok(round)
+        let last = self.last_of(whole);
+        self.mark(at, last)?;
+        Ok(self.part(whole, last).round)
+    }
+
+    // Marks a part of a place.
+    fn mark(&mut self, at: u32, number: u32) -> Mem<()> {
+        let old = self.at(at);
+        self.changed.push((at, old))?;
+        self.put(
+            at,
+            Place {
+                marked: number,
+                ..old
+            },
+        );
+        Ok(())
+    }
+
+    // The part of a place that comes to be true last; one that never does is looked for from the marked one on.
+    fn last_of(&self, whole: Place) -> u32 {
+        for number in whole.marked..whole.count {
+            if self.part(whole, number).round == NEVER {
+                return number;
+            }
+        }
+        let mut last = 0;
+        for number in 0..whole.count {
+            if self.part(whole, number).round > self.part(whole, last).round {
+                last = number;
+            }
+        }
+        last
+    }
+
+    fn part(&self, whole: Place, number: u32) -> Place {
+        self.at(whole.first.saturating_add(number))
     }
 
     // The first round in which as many parts are true as must be.
@@ -188,7 +230,7 @@ impl Places {
         }
         let mut rounds = Vec::new(alloc);
         for number in 0..whole.count {
-            rounds.push(self.at(whole.first.saturating_add(number)).round)?;
+            rounds.push(self.part(whole, number).round)?;
         }
         rounds.sort()?;
         Ok(value(rounds.as_slice(), whole.least - 1))
@@ -197,7 +239,7 @@ impl Places {
     fn latest(&self, whole: Place) -> u32 {
         let mut round = 1;
         for number in 0..whole.count {
-            round = self.at(whole.first.saturating_add(number)).round.max(round);
+            round = self.part(whole, number).round.max(round);
         }
         round
     }
@@ -235,22 +277,22 @@ impl Places {
     fn end(&mut self, alloc: Global, at: u32) -> Mem<()> {
         let old = self.at(at);
         let round = self.round_of(alloc, old)?;
-        let soonest = self.soonest(old, round);
+        let marked = self.part_at(old, round);
         self.put(
             at,
             Place {
                 round,
-                soonest,
+                marked,
                 ..old
             },
         );
         Ok(())
     }
 
-    // Which part comes to be true in a round.
-    fn soonest(&self, whole: Place, round: u32) -> u32 {
+    // The first part of a place that comes to be true in a round.
+    fn part_at(&self, whole: Place, round: u32) -> u32 {
         for number in 0..whole.count {
-            if self.at(whole.first.saturating_add(number)).round == round {
+            if self.part(whole, number).round == round {
                 return number;
             }
         }

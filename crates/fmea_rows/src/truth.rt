@@ -102,8 +102,8 @@ fn are_all(run: &Run<'_>, parts: &[Formula], most: u32, place: Place) -> bool
 fn is_any(run: &Run<'_>, parts: &[Formula], most: u32, place: Place) -> bool
     ensures { result ≡ list_any (λ part. part) (map (truth (member run.now.only.now) (within (time_of run.now.times.now) most)) parts.now) }
 {
-    let begin = (place.soonest as usize).min(parts.len());
-    let mut at = place.first.saturating_add(place.soonest);
+    let begin = (place.marked as usize).min(parts.len());
+    let mut at = place.first.saturating_add(place.marked);
     for part in &parts[begin..] {
         if is_true(run, part, most, at) {
             return true;
