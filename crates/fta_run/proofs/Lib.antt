@@ -11,3 +11,4 @@ mod Read
 mod Chosen
 mod Below
 mod DerivationLaws
+mod Refusals
