@@ -75,11 +75,11 @@ parts-weight d m v es family lo hi apart parts =
     let b : weight d m es (λ set. covers family (v ∷ set)) ≡ weight d m es (covers hi) = weight-same d m v es _ _ apart (λ set out. at-present family v lo hi parts set) in
     weight-cases d m v es (covers family) apart ∙ (ap (λ k. (d - m v) * k + m v * weight d m es (λ set. covers family (v ∷ set))) a ∙ ap (λ k. (d - m v) * weight d m es (covers lo) + m v * k) b)
 
-more-numbers : (count first : ℕ) → numbers (suc count) first ≡ first ∷ numbers count (first + 1)
+pub more-numbers : (count first : ℕ) → numbers (suc count) first ≡ first ∷ numbers count (first + 1)
 unfolding numbers
 more-numbers count first = refl
 
-skip-weight : (d : ℕ) (m : ℕ → ℕ) (count first : ℕ) (family : Family) → m first ≤ d → first < least_number family → weight d m (first ∷ numbers count (first + 1)) (covers family) ≡ d * weight d m (numbers count (first + 1)) (covers family)
+pub skip-weight : (d : ℕ) (m : ℕ → ℕ) (count first : ℕ) (family : Family) → m first ≤ d → first < least_number family → weight d m (first ∷ numbers count (first + 1)) (covers family) ≡ d * weight d m (numbers count (first + 1)) (covers family)
 skip-weight d m count first family part less =
     weight-skips d m first (numbers count (first + 1)) (covers family) (numbers-apart first count (first + 1) (omega arith)) part (λ set. covers-more family set first less)
 
@@ -141,11 +141,11 @@ weight-never d m (suc count) first part =
     let a = weight-skips d m first (numbers count (first + 1)) (λ set. false) (numbers-apart first count (first + 1) (omega arith)) (part first) (λ set. refl) in
     rw (more-numbers count first) (a ∙ (ap (λ k. d * k) (weight-never d m count (first + 1) part) ∙ omega arith))
 
-full-family : (d : ℕ) (m : ℕ → ℕ) (count first : ℕ) → ((e : ℕ) → m e ≤ d) → weight d m (numbers count first) (covers ([] ∷ [])) ≡ d ^ count
+pub full-family : (d : ℕ) (m : ℕ → ℕ) (count first : ℕ) → ((e : ℕ) → m e ≤ d) → weight d m (numbers count first) (covers ([] ∷ [])) ≡ d ^ count
 unfolding covers is_within
 full-family d m count first part = weight-full d m count first part
 
-none-family : (d : ℕ) (m : ℕ → ℕ) (count first : ℕ) → ((e : ℕ) → m e ≤ d) → weight d m (numbers count first) (covers []) ≡ 0
+pub none-family : (d : ℕ) (m : ℕ → ℕ) (count first : ℕ) → ((e : ℕ) → m e ≤ d) → weight d m (numbers count first) (covers []) ≡ 0
 unfolding covers
 none-family d m count first part = weight-never d m count first part
 

@@ -192,9 +192,9 @@ cofactor_kept root before after id kept at =
 pub cofactors_kept : (root : Family) (before after : Families) (known : Id → Option Bounds) → Keeps before after → KnowsCofactors root before known → KnowsCofactors root after known
 cofactors_kept root before after known kept all id bounds e = cofactor_kept root before after id kept (all id bounds e)
 
--- no rate stands at a number that is behind all
-pub no_rate : {X : Type 0} (list : List X) (at : ℕ) → slice_get list at ≡ None → length list ≤ at
-no_rate {X = X} list at none = by (slice_get_cases list at).1
+-- where nothing stands, all of the list stands before
+pub behind_all : {X : Type 0} (list : List X) (at : ℕ) → slice_get list at ≡ None → length list ≤ at
+behind_all {X = X} list at none = by (slice_get_cases list at).1
   where
     by : ((x : X) × (at < length list) × (slice_get list at ≡ Some x) × (get_or list at x ≡ x)) ⊎ ((length list ≤ at) × (slice_get list at ≡ None)) → length list ≤ at
     by (inl p) = absurd (false≢true (sym (ap is_some (sym p.2 ∙ none))))

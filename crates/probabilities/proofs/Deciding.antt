@@ -17,6 +17,8 @@ use Rattle.probabilities.specs.inner.Bounded.{AreParts}
 use Rattle.probabilities.specs.inner.Decided.{AreBoundsOf, IsStep, AreRated, FitsWhole, FitWhole, rates_of, low_of, high_of, low_not_of, high_not_of}
 use Rattle.probabilities.specs.inner.Widths.{AreNarrow, IsNarrowRate, IsNarrowed}
 use Rattle.probabilities.specs.inner.Remembered.{IsBounded, IsBoundedAt, KnowsBounds}
+use Rattle.probabilities.specs.inner.Sharp.{IsSharp, IsSharpStep}
+use Rattle.probabilities.proofs.Sharpening.{node_sharp}
 use Rattle.decimals.specs.inner.Decimals.{parts}
 use Rattle.std.proofs.Math.Nat.{mul-le-mul_left}
 use Rattle.decimals.proofs.Nearness.{near_more, more_places}
@@ -97,8 +99,8 @@ pub node_bounded : (whole : ℕ) (list : List Rate) (s0 s1 s2 s3 : Families) (id
     → IsBounded whole list (family_of s1 node.lo) lo → IsBounded whole list (family_of s2 with) hi
     → ((rates : Rates) (end event : ℕ) (family low high : Family) → IsStep whole rate lo hi rates end event family low high → AreBoundsOf whole rates end family result)
     → ((places units count : ℕ) → IsNarrowRate whole places units rate → AreNarrow whole places units count lo → AreNarrow whole places units count hi → places + places * count ≤ whole → AreNarrow whole places units (count + 1) result)
-    → IsBoundedAt whole list s3 id result
-node_bounded whole list s0 s1 s2 s3 id with node rate lo hi result here fits is top k1 k2 k3 rated inside with_in least low high step narrow =
+    → IsSharpStep whole rate lo hi result → IsBoundedAt whole list s3 id result
+node_bounded whole list s0 s1 s2 s3 id with node rate lo hi result here fits is top k1 k2 k3 rated inside with_in least low high step narrow sharp =
     let first = bounded_before whole list s0 s1 node.lo lo k1 fits.lo_in low in
     let second = bounded_before whole list s1 s2 with hi k2 with_in high in
     let are = node_parts s0 s1 id with node fits is least in
@@ -117,6 +119,7 @@ node_bounded whole list s0 s1 s2 s3 id with node rate lo hi result here fits is 
                   hi_bounds = second.all rates right all;
                 };
             narrow = made_narrow whole list (family_of s0 id) (family_of s0 node.lo) (family_of s1 with) node.var rate lo hi result rated inside top are.lo_greater are.hi_greater first.narrow second.narrow narrow;
+            sharp = node_sharp whole list (family_of s0 id) (family_of s0 node.lo) (family_of s1 with) node.var rate lo hi result rated inside top are first.sharp second.sharp sharp;
           };
     }
 
@@ -148,3 +151,9 @@ pub narrow_list : (whole : ℕ) (list : List Rate) (family : Family) (result : R
 narrow_list whole list family (Err none) right = right
 narrow_list whole list family (Ok None) right = right
 narrow_list whole list family (Ok (Some bounds)) right = right.narrow
+
+pub sharp_list : (whole : ℕ) (list : List Rate) (family : Family) (result : Result (Option Bounds) AllocError) → IfOk result (λ found. IfSome found (IsBounded whole list family))
+    → IfOk result (λ found. IfSome found (IsSharp whole list family))
+sharp_list whole list family (Err none) right = right
+sharp_list whole list family (Ok None) right = right
+sharp_list whole list family (Ok (Some bounds)) right = right.sharp

@@ -7,3 +7,4 @@ pub mod Nearness
 pub mod Deciding
 pub mod Setting
 pub mod Cofactors
+pub mod Sharpening

@@ -10,8 +10,9 @@ use Rattle.zdd_store.specs.inner.Family.{Family, least_number}
 use Rattle.probabilities.specs.declared.rates.Bounds.{Bounds}
 use Rattle.probabilities.specs.declared.rates.Rate.{Rate}
 use Rattle.probabilities.specs.inner.Rates.{Rates, AreRates}
-use Rattle.probabilities.specs.inner.Decided.{AreBoundsOf, AreRated, IsRateOf, FitWhole, rates_of}
+use Rattle.probabilities.specs.inner.Decided.{AreBoundsOf, AreRated, IsRateOf, FitWhole, rates_of, low_of, high_of}
 use Rattle.probabilities.specs.inner.Widths.{AreNarrow, AreNarrowRates, IsNarrowRate}
+use Rattle.probabilities.specs.inner.Sharp.{AreParted, AreSharp, AreSharpRates, IsSharpRate}
 use Rattle.probabilities.specs.inner.Remembered.{IsBounded}
 use Rattle.probabilities.specs.inner.Certain.{certain, IsCertain, AreCertainBounds}
 use Rattle.probabilities.proofs.Deciding.{rates_right, rates_rated}
@@ -85,22 +86,50 @@ narrow_set whole places units event list rate inside near all e r found = at (at
     at (inl here) = subst (λ (x : Rate). IsNarrowRate whole places units x) (sym here.1) near
     at (inr there) = all e r there.1
 
+sharp_set : (whole places event : ℕ) (list : List Rate) (rate : Rate) → event < length list → IsSharpRate whole places rate → AreSharpRates whole places list → AreSharpRates whole places (slice_set list event rate)
+sharp_set whole places event list rate inside near all e r found = at (at_set list event e rate r inside found)
+  where
+    at : ((e ≡ event) × (r ≡ rate)) ⊎ ((e ≡ event → ⊥) × (slice_get list e ≡ Some r)) → IsSharpRate whole places r
+    at (inl here) = subst (λ (x : Rate). IsSharpRate whole places x) (sym here.1) near
+    at (inr there) = all e r there.1
+
+-- no event occurs more often than always
+certain_parted : (whole k event places : ℕ) (list : List Rate) → k ≤ 10 ^ whole → AreSharpRates whole places list → AreParted (10 ^ whole) (certain (10 ^ whole) k event (rates_of whole list))
+certain_parted whole k event places list few all =
+    record { low = λ e. at (e == event) (low_of (slice_get list e)) (low (slice_get list e) (all e)); high = λ e. at (e == event) (high_of whole (slice_get list e)) (high (slice_get list e) (all e)) }
+  where
+    at : (b : Bool) (x : ℕ) → x ≤ 10 ^ whole → (if b then k else x) ≤ 10 ^ whole
+    at true x h = few
+    at false x h = h
+
+    low : (found : Option Rate) → ((rate : Rate) → found ≡ Some rate → IsSharpRate whole places rate) → low_of found ≤ 10 ^ whole
+    low None each = omega arith
+    low (Some rate) each = let r = each rate refl in omega (arith, r.least)
+
+    high : (found : Option Rate) → ((rate : Rate) → found ≡ Some rate → IsSharpRate whole places rate) → high_of whole found ≤ 10 ^ whole
+    high None each = omega arith
+    high (Some rate) each = (each rate refl).most
+
 -- bounds with another rate are bounds where the event is certain
 pub certain_bounds : (whole k event : ℕ) (list : List Rate) (rate : Rate) (family : Family) (bounds : Bounds) → event < length list → k ≤ 10 ^ whole → FitWhole whole list
-    → IsCertain whole k rate → ((places units : ℕ) → IsNarrowRate whole places units rate) → IsBounded whole (slice_set list event rate) family bounds → AreCertainBounds whole k list event family bounds
-certain_bounds whole k event list rate family bounds inside few fit is near bounded =
+    → IsCertain whole k rate → ((places units : ℕ) → IsNarrowRate whole places units rate) → ((places : ℕ) → IsSharpRate whole places rate) → IsBounded whole (slice_set list event rate) family bounds → AreCertainBounds whole k list event family bounds
+certain_bounds whole k event list rate family bounds inside few fit is near keen bounded =
     let same = length-set list event rate in
     record {
       right = subst (λ (n : ℕ). AreBoundsOf whole (certain (10 ^ whole) k event (rates_of whole list)) n family bounds) same
           (bounded.all (certain (10 ^ whole) k event (rates_of whole list)) (certain_right (10 ^ whole) k event (rates_of whole list) few (rates_right whole list fit)) (certain_rated whole k event list rate inside is));
+      sharp = λ places all room.
+          subst (λ (n : ℕ). AreSharp whole places (certain (10 ^ whole) k event (rates_of whole list)) n family bounds) same
+          (bounded.sharp (certain (10 ^ whole) k event (rates_of whole list)) places (certain_parted whole k event places list few all) (certain_rated whole k event list rate inside is)
+          (sharp_set whole places event list rate inside (keen places) all) (subst (λ (n : ℕ). places * n ≤ whole) (sym same) room));
       narrow = λ places units all room.
           subst (λ (n : ℕ). AreNarrow whole places units (n - least_number family) bounds) same
           (bounded.narrow places units (narrow_set whole places units event list rate inside (near places units) all) (subst (λ (n : ℕ). places * n ≤ whole) (sym same) room));
     }
 
 pub certain_found : (whole k event : ℕ) (list : List Rate) (rate : Rate) (family : Family) (result : Result (Option Bounds) AllocError) → event < length list → k ≤ 10 ^ whole → FitWhole whole list
-    → IsCertain whole k rate → ((places units : ℕ) → IsNarrowRate whole places units rate) → IfOk result (λ found. IfSome found (IsBounded whole (slice_set list event rate) family))
+    → IsCertain whole k rate → ((places units : ℕ) → IsNarrowRate whole places units rate) → ((places : ℕ) → IsSharpRate whole places rate) → IfOk result (λ found. IfSome found (IsBounded whole (slice_set list event rate) family))
     → IfOk result (λ found. IfSome found (AreCertainBounds whole k list event family))
-certain_found whole k event list rate family (Err none) inside few fit is near right = right
-certain_found whole k event list rate family (Ok None) inside few fit is near right = right
-certain_found whole k event list rate family (Ok (Some bounds)) inside few fit is near right = certain_bounds whole k event list rate family bounds inside few fit is near right
+certain_found whole k event list rate family (Err none) inside few fit is near keen right = right
+certain_found whole k event list rate family (Ok None) inside few fit is near keen right = right
+certain_found whole k event list rate family (Ok (Some bounds)) inside few fit is near keen right = certain_bounds whole k event list rate family bounds inside few fit is near keen right

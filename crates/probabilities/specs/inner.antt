@@ -6,3 +6,4 @@ pub mod Widths
 pub mod Remembered
 pub mod Certain
 pub mod Cofactors
+pub mod Sharp

@@ -6,6 +6,7 @@ ghost use Rattle.zdd_store.specs.inner.Family.{Family, IsAntichain};
 ghost use Rattle.zdd_store.specs.inner.Store.{IsIn, Keeps, family_of};
 ghost use Rattle.probabilities.specs.inner.Decided.{AreBoundsOf, FitWhole, rates_of};
 ghost use Rattle.probabilities.specs.inner.Widths.{IsNarrowed};
+ghost use Rattle.probabilities.specs.inner.Sharp.{IsSharp};
 ghost use Rattle.probabilities.specs.inner.Remembered.{IsBoundedAt, KnowsBounds, Bounded};
 ghost use Rattle.probabilities.specs.inner.Cofactors.{IsCofactorAt, KnowsCofactors, IsGivenUp, IsTraced};
 
@@ -117,6 +118,7 @@ pub fn family_bounds(
     requires rates { FitWhole whole rates.now }
     ensures bounds { IfOk result (λ found. IfSome found (AreBoundsOf whole (rates_of whole rates.now) (length rates.now) (family_of store.old id))) }
     ensures narrow { IfOk result (λ found. IfSome found (IsNarrowed whole rates.now (family_of store.old id))) }
+    ensures sharp { IfOk result (λ found. IfSome found (IsSharp whole rates.now (family_of store.old id))) }
     ensures none { IsAntichain (family_of store.old id) → IfOk result (λ found. IfNone found (IsGivenUp (length rates.now) most (family_of store.old id))) }
     ensures kept { Keeps store.old store.new }
 {

@@ -7,6 +7,7 @@ ghost use Rattle.probabilities.specs.inner.Decided.{FitWhole};
 ghost use Rattle.probabilities.specs.inner.Certain.{AreCertainBounds, IsCertain};
 ghost use Rattle.probabilities.specs.inner.Cofactors.{IsGivenUp};
 ghost use Rattle.probabilities.specs.inner.Widths.{IsNarrowRate};
+ghost use Rattle.probabilities.specs.inner.Sharp.{IsSharpRate};
 
 use crate::families::bounds_in;
 use crate::rates::{Bounds, Rate};
@@ -49,6 +50,7 @@ fn bounds_with(
     requires rates { FitWhole whole rates.now }
     requires inside { event < length rates.now }
     ensures bounds { (k : ℕ) → k ≤ 10 ^ whole → IsCertain whole k rate → ((places units : ℕ) → IsNarrowRate whole places units rate)
+        → ((places : ℕ) → IsSharpRate whole places rate)
         → IfOk result (λ found. IfSome found (AreCertainBounds whole k rates.now event (family_of store.old id))) }
     ensures none { IsAntichain (family_of store.old id) → IfOk result (λ found. IfNone found (IsGivenUp (length rates.now) most (family_of store.old id))) }
     ensures kept { Keeps store.old store.new }

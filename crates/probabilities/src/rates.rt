@@ -5,6 +5,7 @@ ghost use Rattle.decimals.specs.inner.Decimals.{parts, AreNear, IsNear, HasPlace
 ghost use Rattle.probabilities.specs.inner.Decided.{FitsWhole};
 ghost use Rattle.probabilities.specs.inner.Certain.{IsCertain};
 ghost use Rattle.probabilities.specs.inner.Widths.{IsNarrowRate};
+ghost use Rattle.probabilities.specs.inner.Sharp.{IsSharpRate};
 
 use decimals::Decimal;
 
@@ -38,6 +39,7 @@ impl Rate {
         ensures high_places { HasPlaces whole 36 result.high_not }
         ensures narrow { (places units : ℕ) → 36 ≤ places → 2 ≤ units → HasPlaces whole places low → HasPlaces whole places high → parts low ≤ parts high
             → AreNear units (parts high) (parts low) → IsNarrowRate whole places units result }
+        ensures sharp { (places : ℕ) → 36 ≤ places → HasPlaces whole places low → HasPlaces whole places high → IsSharpRate whole places result }
     {
         Rate {
             low,
@@ -54,6 +56,7 @@ impl Rate {
         ensures high { result.high ≡ probability }
         ensures fits { FitsWhole whole result }
         ensures narrow { (places units : ℕ) → 36 ≤ places → 2 ≤ units → HasPlaces whole places probability → IsNarrowRate whole places units result }
+        ensures sharp { (places : ℕ) → 36 ≤ places → HasPlaces whole places probability → IsSharpRate whole places result }
     {
         Rate::between(probability, probability, whole)
     }
@@ -64,6 +67,7 @@ impl Rate {
         ensures high { parts result.high ≡ 10 ^ whole }
         ensures low_not { parts result.low_not ≡ 10 ^ whole }
         ensures high_not { parts result.high_not ≡ 0 }
+        ensures sharp { (places : ℕ) → IsSharpRate whole places result }
         ensures fits { FitsWhole whole result }
     {
         let never = Decimal {
@@ -86,6 +90,7 @@ impl Rate {
     pub fn never(whole: u32) -> Rate
         ensures certain { IsCertain whole 0 result }
         ensures narrow { (places units : ℕ) → IsNarrowRate whole places units result }
+        ensures sharp { (places : ℕ) → IsSharpRate whole places result }
     {
         let none = Decimal {
             mantissa: 0,
@@ -107,6 +112,7 @@ impl Rate {
     pub fn always(whole: u32) -> Rate
         ensures certain { IsCertain whole (10 ^ whole) result }
         ensures narrow { (places units : ℕ) → IsNarrowRate whole places units result }
+        ensures sharp { (places : ℕ) → IsSharpRate whole places result }
     {
         let none = Decimal {
             mantissa: 0,

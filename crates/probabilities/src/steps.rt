@@ -8,6 +8,7 @@ ghost use Rattle.probabilities.specs.inner.Rates.{Rates};
 ghost use Rattle.probabilities.specs.inner.Decided.{AreBoundsOf, IsStep};
 ghost use Rattle.probabilities.specs.inner.Widths.{AreNarrow, IsNarrowRate, IsNearBelow, IsNearAbove};
 ghost use Rattle.probabilities.specs.inner.Remembered.{IsBounded};
+ghost use Rattle.probabilities.specs.inner.Sharp.{IsSharpStep};
 
 use crate::rates::{Bounds, Rate};
 use decimals::Decimal;
@@ -42,6 +43,7 @@ pub(crate) fn family_step(rate: Rate, lo: Bounds, hi: Bounds, whole: u32) -> Bou
         → AreBoundsOf whole rates end family result }
     ensures narrow { (places units count : ℕ) → IsNarrowRate whole places units rate → AreNarrow whole places units count lo → AreNarrow whole places units count hi
         → places + places * count ≤ whole → AreNarrow whole places units (count + 1) result }
+    ensures sharp { IsSharpStep whole rate lo hi result }
 {
     Bounds {
         lower: lower_step(rate, lo.lower, hi.lower, whole),

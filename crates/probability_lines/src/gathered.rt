@@ -44,13 +44,9 @@ fn add_unrated(
 {
     match found {
         Found::Rated => Ok(()),
-        Found::WithoutHours => {
+        _ => {
             let name = name_of(alloc, system.event_name(number))?;
-            lines.push(Line::Unrated(name, Found::WithoutHours))
-        }
-        Found::NoProbability => {
-            let name = name_of(alloc, system.event_name(number))?;
-            lines.push(Line::Unrated(name, Found::NoProbability))
+            lines.push(Line::Unrated(name, found))
         }
     }
 }

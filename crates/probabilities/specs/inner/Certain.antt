@@ -7,6 +7,7 @@ use Rattle.probabilities.specs.declared.rates.Rate.{Rate}
 use Rattle.probabilities.specs.inner.Rates.{Rates}
 use Rattle.probabilities.specs.inner.Decided.{AreBoundsOf, rates_of}
 use Rattle.probabilities.specs.inner.Widths.{AreNarrow, AreNarrowRates}
+use Rattle.probabilities.specs.inner.Sharp.{AreSharp, AreSharpRates}
 
 -- what is known where an event occurs k times out of s, and of the others what is known of them
 abbrev pub certain : ℕ → ℕ → ℕ → Rates → Rates
@@ -25,8 +26,9 @@ pub record IsCertain (whole k : ℕ) (rate : Rate) : Type 0 where
   pub low_not : parts rate.low_not ≡ 10 ^ whole - k
   pub high_not : parts rate.high_not ≡ 10 ^ whole - k
 
--- the two decimals bound the probability of a family where the event occurs in so many parts of the whole, and are near where the
--- rates are
+-- the two decimals bound the probability of a family where the event occurs in so many parts of the whole, are near where the rates
+-- are, and near the probabilities at the ends of these
 pub record AreCertainBounds (whole k : ℕ) (list : List Rate) (event : ℕ) (family : Family) (bounds : Bounds) : Type 0 where
   pub right : AreBoundsOf whole (certain (10 ^ whole) k event (rates_of whole list)) (length list) family bounds
+  pub sharp : (places : ℕ) → AreSharpRates whole places list → places * length list ≤ whole → AreSharp whole places (certain (10 ^ whole) k event (rates_of whole list)) (length list) family bounds
   pub narrow : (places units : ℕ) → AreNarrowRates whole places units list → places * length list ≤ whole → AreNarrow whole places units (length list - least_number family) bounds

@@ -8,11 +8,13 @@ use Rattle.probabilities.specs.declared.rates.Bounds.{Bounds}
 use Rattle.probabilities.specs.declared.rates.Rate.{Rate}
 use Rattle.probabilities.specs.inner.Decided.{BoundAll}
 use Rattle.probabilities.specs.inner.Widths.{IsNarrowed}
+use Rattle.probabilities.specs.inner.Sharp.{IsSharp}
 
--- the two decimals bound the probability of a family, and are near where the rates are
+-- the two decimals bound the probability of a family, are near where the rates are, and near the probabilities at the ends of these
 pub record IsBounded (whole : ℕ) (list : List Rate) (family : Family) (bounds : Bounds) : Type 0 where
   pub all : BoundAll whole list family bounds
   pub narrow : IsNarrowed whole list family bounds
+  pub sharp : IsSharp whole list family bounds
 
 -- they bound that of the family of a number
 pub record IsBoundedAt (whole : ℕ) (list : List Rate) (store : Families) (id : Id) (bounds : Bounds) : Type 0 where

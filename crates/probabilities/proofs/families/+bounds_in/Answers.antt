@@ -10,7 +10,7 @@ use Rattle.zdd_store.specs.contracts.id.IdPartialEq.TheImpl.{eq-value as id_eq}
 use Rattle.zdd_families.proofs.Ways.{Keeps_trans}
 use Rattle.probabilities.specs.inner.Remembered.{IsBounded}
 use Rattle.probabilities.specs.inner.Cofactors.{IsTraced}
-use Rattle.probabilities.proofs.Cofactors.{node_lacks, no_rate, more_cofactors, lo_at, with_at, cofactor_kept, cofactors_kept, note_traced}
+use Rattle.probabilities.proofs.Cofactors.{node_lacks, behind_all, more_cofactors, lo_at, with_at, cofactor_kept, cofactors_kept, note_traced}
 use Rattle.probabilities.proofs.Deciding.{knows_kept, node_above, node_bounded}
 use Rattle.probabilities.proofs.families.+bounds_in.Goals as goal
 
@@ -35,7 +35,7 @@ note_bounds-requires-clause-bounds t c =
     (sym c.in-Some-rate_of.ensures.rate) c.in-Some-rate_of.ensures.inside c.in_ok-with.ensures.found c.in_ok-with.ensures.covers
     (subst (λ o. IfSome o (IsBounded c.args.whole c.args.rates.now (family_of s1 node.lo))) c.in-Some-2.is c.in_ok-lo.ensures.bounds.bounds)
     (subst (λ o. IfSome o (IsBounded c.args.whole c.args.rates.now (family_of s2 c.in_ok-with.with))) c.in-Some-3.is c.in_ok-hi.ensures.bounds.bounds)
-    c.family_step.ensures.bounds c.family_step.ensures.narrow
+    c.family_step.ensures.bounds c.family_step.ensures.narrow c.family_step.ensures.sharp
 
 pub returns-in_err-with-clause-known : goal.returns-in_err-with-clause-known
 returns-in_err-with-clause-known t c =
@@ -57,7 +57,7 @@ returns-in_default-rate_of-clause-traced t c root at known =
     record {
       still = known;
       none = inl (node_lacks root c.args.store.now c.args.id c.in-Some.node (length c.args.rates.now) c.laws.ensures c.in-Some.ensures.fits c.in-Some.ensures.family c.in-Some.ensures.least
-          (no_rate c.args.rates.now c.in-Some.node.var (sym c.in_default-rate_of.ensures.rate)) at);
+          (behind_all c.args.rates.now c.in-Some.node.var (sym c.in_default-rate_of.ensures.rate)) at);
     }
 
 reflexive : (a : Id) → (id_eq).it a a ≡ true

@@ -3,7 +3,7 @@ use Rattle.std.specs.HashMap.{get}
 use Rattle.zdd_store.specs.inner.Store.{family_of}
 use Rattle.zdd_store.specs.contracts.id.IdPartialEq.TheImpl.{eq-value as id_eq}
 use Rattle.probabilities.proofs.Cofactors.{root_cofactor, given_up, nothing_known}
-use Rattle.probabilities.proofs.Deciding.{bounded_list, narrow_list}
+use Rattle.probabilities.proofs.Deciding.{bounded_list, narrow_list, sharp_list}
 use Rattle.probabilities.proofs.families.family_bounds.Goals as goal
 
 pub returns-clause-bounds : goal.returns-clause-bounds
@@ -17,3 +17,6 @@ returns-clause-none c apart =
     let family = family_of c.args.store.now c.args.id in
     given_up (length c.args.rates.now) c.args.most family c.bounds_in.new.store (get id_eq.it c.bounds_in.new.known) c.bounds_in.result
     (c.bounds_in.ensures.traced family record { found = c.requires.id_in; apart = apart; cofactor = root_cofactor family } (nothing_known id_eq.it family c.args.store.now c.new-known.result.entries c.new-known.ensures.empty))
+
+pub returns-clause-sharp : goal.returns-clause-sharp
+returns-clause-sharp c = sharp_list c.args.whole c.args.rates.now (family_of c.args.store.now c.args.id) c.bounds_in.result c.bounds_in.ensures.bounds.bounds

@@ -11,9 +11,9 @@ use Rattle.probabilities.proofs.Setting.{certain_found}
 use Rattle.probabilities.proofs.importance.bounds_with.Goals as goal
 
 pub returns-clause-bounds : goal.returns-clause-bounds
-returns-clause-bounds c k few certain narrow =
+returns-clause-bounds c k few certain narrow sharp =
     let family = family_of c.args.store.now c.args.id in
-    certain_found c.args.whole k c.args.event c.args.rates.now c.args.rate family c.bounds_in.result c.requires.inside few c.requires.rates certain narrow
+    certain_found c.args.whole k c.args.event c.args.rates.now c.args.rate family c.bounds_in.result c.requires.inside few c.requires.rates certain narrow sharp
     (subst (λ list. IfOk c.bounds_in.result (λ found. IfSome found (IsBounded c.args.whole list family))) (c.as_slice.ensures.value ∙ c.in_ok-list.ensures) c.bounds_in.ensures.bounds.bounds)
 
 pub returns-clause-none : goal.returns-clause-none

@@ -3,6 +3,7 @@ use Rattle.zdd_store.specs.inner.Store.{family_at, family_of}
 use Rattle.probabilities.specs.inner.Bounded.{IsLowerBound, IsUpperBound}
 use Rattle.probabilities.proofs.Bounding.{lower-none, upper-none, lower-full, upper-full}
 use Rattle.decimals.proofs.Nearness.{near_same}
+use Rattle.probabilities.proofs.Sharpening.{none_sharp, full_sharp}
 use Rattle.probabilities.proofs.steps.end_bounds.Goals as goal
 
 pub returns-then-id-eq0 : goal.returns-then-id-eq0
@@ -16,6 +17,7 @@ returns-then-id-eq0 c =
         upper = subst (λ f. IsUpperBound s rates end f 0) (sym is) (upper-none s rates end);
       };
       narrow = λ places units narrow fit. record { within = omega arith; lower_places = inl refl; upper_places = inl refl; near = near_same _ 0 };
+      sharp = none_sharp c.args.whole c.args.rates.now (family_of c.args.store.now c.args.id) _ is (omega arith) (omega arith) (λ places. inl refl) (λ places. inl refl);
     }
 
 pub returns : goal.returns
@@ -30,4 +32,5 @@ returns c =
         upper = subst (λ f. IsUpperBound s rates end f (1 * s)) (sym is) (upper-full s rates end (1 * s) (omega arith));
       };
       narrow = λ places units narrow fit. record { within = omega arith; lower_places = inr (omega arith); upper_places = inr (omega arith); near = near_same _ (1 * s) };
+      sharp = full_sharp c.args.whole c.args.rates.now (family_of c.args.store.now c.args.id) _ is (omega arith) (omega arith) (λ places. inr (omega arith)) (λ places. inr (omega arith));
     }

@@ -35,3 +35,7 @@ returns-clause-narrow c places units count rate lo hi fit =
           (family_near (10 ^ w) (parts r.high_not) (parts r.high) (parts r.low_not) (parts r.low) (parts c.args.lo.upper) (parts c.args.hi.upper) (parts c.args.lo.lower) (parts c.args.hi.lower)
           (parts c.upper_step.result) (parts c.lower_step.result) units ((4 + units) * count) some up.near down.near rate.absent rate.present lo.near hi.near);
     }
+
+pub returns-clause-sharp : goal.returns-clause-sharp
+returns-clause-sharp c p q rate first second third fourth fit low high =
+    (c.lower_step.ensures.near p q rate.low_not_places rate.low_places first second fit rate.least low high, c.upper_step.ensures.near p q rate.high_not_places rate.high_places third fourth fit)

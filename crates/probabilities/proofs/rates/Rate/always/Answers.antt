@@ -13,3 +13,16 @@ returns-clause-narrow c places units =
       present = near_same units (1 * 10 ^ c.args.whole);
       absent = near_same units 0;
     }
+
+pub returns-clause-sharp : goal.returns-clause-sharp
+returns-clause-sharp c places =
+    record {
+      least = omega arith;
+      most = omega arith;
+      low_places = inr (omega arith);
+      high_places = inr (omega arith);
+      low_not_places = inl refl;
+      high_not_places = inl refl;
+      low_absent = omega arith;
+      high_absent = omega arith;
+    }

@@ -24,3 +24,19 @@ returns-clause-narrow c places units few enough low_places high_places order nea
       present = near;
       absent = near_more 2 units (parts up.result) (parts down.result) enough absent;
     }
+
+pub returns-clause-sharp : goal.returns-clause-sharp
+returns-clause-sharp c places few low_places high_places =
+    let w = c.args.whole in
+    let down = c.rest_down in
+    let up = c.rest_up in
+    record {
+      least = omega (arith, down.ensures.down);
+      most = c.requires.high;
+      low_places = low_places;
+      high_places = high_places;
+      low_not_places = more_places w 36 places down.result.mantissa down.result.exponent few down.ensures.places;
+      high_not_places = more_places w 36 places up.result.mantissa up.result.exponent few up.ensures.places;
+      low_absent = down.ensures.near;
+      high_absent = up.ensures.near;
+    }
