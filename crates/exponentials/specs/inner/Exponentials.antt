@@ -1,4 +1,4 @@
--- The probability 1 - e^(-x) of an exponential distribution, between the partial partial of its series x (1 - x/2 + x^2/6 - ..).
+-- The probability 1 - e^(-x) of an exponential distribution, between the partial sums of its series x (1 - x/2 + x^2/6 - ..).
 use Rattle.std.specs.Prelude.{ℕ, zero, suc, ◌+◌, ◌*◌, ◌^◌, ◌≤◌}
 
 -- what stands below x^n / (n + 1)!, where x is a out of b
