@@ -6,7 +6,7 @@ use Rattle.propagation_points.proofs.held.covered.Goals as goal
 
 pub loop-place-preserved : goal.loop-place-preserved
 loop-place-preserved c =
-    let give = covered_variant c.args.reach.now c.args.refusals in
+    let give = covered_variant c.args.reach.now c.args.first in
     let types = c.args.types.now in
     let place = c.loop-place.place in
     c.in_ok-add_covered.ensures ∙ ap (λ had. had ++ give place (get_or types place 0)) c.loop-place.invariant
