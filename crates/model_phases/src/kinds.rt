@@ -40,14 +40,11 @@ pub(crate) fn kinds_of<'i, 'a>(
 {
     let machines = machines_in(alloc, instance, refusals)?;
     let mut reading = reading_of(alloc, instance, refusals)?;
-    let read = models_with(alloc, instance, &machines, &mut reading);
-    let Reading {
-        types,
-        refusals: noted,
-    } = reading;
-    *refusals = noted;
-    let models = read?;
-    Ok(Kinds { types, models })
+    let models = noted_models(alloc, instance, &machines, &mut reading, refusals)?;
+    Ok(Kinds {
+        types: reading.types,
+        models,
+    })
 }
 
 /// The machines of the kinds of an instance, in order; a kind may use none.
@@ -92,6 +89,26 @@ fn types_of<'i, 'a>(
         Ok(types) => Ok(types),
         Err(stop) => Err(Status::from(refusals.only(stop))),
     }
+}
+
+/// The error models of the kinds of an instance, which have these machines. What is noted in the reading is handed back.
+fn noted_models<'a>(
+    alloc: Global,
+    instance: &Instance<'_, 'a>,
+    machines: &List<Option<UsedMachine<'a>>>,
+    reading: &mut Reading<'_, 'a>,
+    refusals: &mut Refusals,
+) -> Result<List<ErrorModel<'a>>, Status>
+    requires machines { machines.now ≡ map (kind_machine instance.now.packages) instance.now.kinds }
+    requires table { reading.old.types ≡ table_of instance.now.packages }
+    ensures tested { MeetsTests (content_tests reading.old.types instance.now.kinds) result }
+    ensures told { IfErr result (ToldOf (λ group. (group ≡ all_set_refusals reading.old.types instance.now.kinds) ⊎ IsModelGroup reading.old.types instance.now.kinds group) refusals.new) }
+    ensures kept { reading.new.types ≡ reading.old.types }
+    ensures models { IfOk result (λ models. models ≡ map (model_of reading.old.types instance.now.kinds) instance.now.kinds) }
+{
+    let read = models_with(alloc, instance, machines, reading);
+    std::mem::swap(refusals, &mut reading.refusals);
+    read
 }
 
 /// The error models of the kinds of an instance, which have these machines, once the written sets that they use are tested.

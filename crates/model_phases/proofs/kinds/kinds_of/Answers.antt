@@ -36,5 +36,5 @@ returns-in_err-reading-clause-told c =
 pub returns-in_err-models-clause-told : goal.returns-in_err-models-clause-told
 returns-in_err-models-clause-told c =
     let kinds = c.args.instance.now.kinds in
-    end-told (λ group. (group ≡ all_set_refusals c.in_ok-reading.reading.types kinds) ⊎ IsModelGroup c.in_ok-reading.reading.types kinds group) (IsKindsGroup c.args.instance.now) c.models_with.new.reading.refusals c.in_err-models.field-0.0 c.from_residual-in_err-models.result
+    end-told (λ group. (group ≡ all_set_refusals c.in_ok-reading.reading.types kinds) ⊎ IsModelGroup c.in_ok-reading.reading.types kinds group) (IsKindsGroup c.args.instance.now) c.noted_models.new.refusals c.in_err-models.field-0.0 c.from_residual-in_err-models.result
     (λ group is. inr (subst (λ (types : Table). (group ≡ all_set_refusals types kinds) ⊎ IsModelGroup types kinds group) c.in_ok-reading.ensures.types is)) c.from_residual-in_err-models.ensures.1 c.in_err-models.ensures.told
