@@ -301,27 +301,6 @@ fn place_of(kind: Kind) -> usize
     kind as usize
 }
 
-/// What help has of a command: the words that must be there, the options that may follow, and what it writes. One function reads all
-/// three, since a proof that reads the table is dear.
-fn texts_of(kind: Kind) -> (&'static [u8], &'static [u8], &'static [u8])
-    ensures usage { result.0.now ≡ usage_of kind }
-    ensures optional { result.1.now ≡ optional_of kind }
-    ensures about { result.2.now ≡ about_of kind }
-{
-    let row = &ROWS[place_of(kind)];
-    (row.usage, row.optional, row.about)
-}
-
-/// The names of a command's flags, of its options that have a value, and of those of them that it requires.
-fn option_names_of(kind: Kind) -> (Names, Names, Names)
-    ensures flags { map (λ name. name.now) result.0.now ≡ flags_of kind }
-    ensures valued { map (λ name. name.now) result.1.now ≡ valued_of kind }
-    ensures required { map (λ name. name.now) result.2.now ≡ required_of kind }
-{
-    let row = &ROWS[place_of(kind)];
-    (row.flags, row.valued, row.required)
-}
-
 /// The name of a command.
 pub fn name_of(kind: Kind) -> &'static [u8]
     ensures { result.now ≡ name_of kind }
@@ -341,42 +320,42 @@ pub(crate) fn shape_of(kind: Kind) -> Shape
 pub fn usage_of(kind: Kind) -> &'static [u8]
     ensures { result.now ≡ usage_of kind }
 {
-    texts_of(kind).0
+    ROWS[place_of(kind)].usage
 }
 
 /// The options that may follow, each in brackets.
 pub fn optional_of(kind: Kind) -> &'static [u8]
     ensures { result.now ≡ optional_of kind }
 {
-    texts_of(kind).1
+    ROWS[place_of(kind)].optional
 }
 
 /// What a command writes, in one line.
 pub fn about_of(kind: Kind) -> &'static [u8]
     ensures { result.now ≡ about_of kind }
 {
-    texts_of(kind).2
+    ROWS[place_of(kind)].about
 }
 
 /// The flags of a command.
 pub fn flags_of(kind: Kind) -> Names
     ensures { map (λ name. name.now) result.now ≡ flags_of kind }
 {
-    option_names_of(kind).0
+    ROWS[place_of(kind)].flags
 }
 
 /// The options of a command that have a value.
 pub fn valued_of(kind: Kind) -> Names
     ensures { map (λ name. name.now) result.now ≡ valued_of kind }
 {
-    option_names_of(kind).1
+    ROWS[place_of(kind)].valued
 }
 
 /// The options that a command requires.
 pub(crate) fn required_of(kind: Kind) -> Names
     ensures { map (λ name. name.now) result.now ≡ required_of kind }
 {
-    option_names_of(kind).2
+    ROWS[place_of(kind)].required
 }
 
 /// The formats in which a command writes a tree: one that is read from a file is drawn alone.

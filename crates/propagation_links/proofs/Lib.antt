@@ -1,5 +1,6 @@
 pub mod EndLaws
 pub mod LinkLaws
+mod ToldLaws
 pub mod JoinLaws
 pub mod FittingLaws
 pub mod BoundLaws
