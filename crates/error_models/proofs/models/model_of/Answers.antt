@@ -90,7 +90,7 @@ returns-in_err-points-clause-told c =
     let below = states_below c.args.below.now.tree.packages c.args.below.now.tree.kinds (Some c.args.below.now.classifier) in
     let stop = c.in_err-points.field-0.0 in
     let same : point_refusals table effective ≡ point_refusals table effective = refl in
-    let p = err_from_is_err_and c.from_residual-in_err-points.result c.from_residual-in_err-points.ensures.1 in
+    let p = err_from_is_err_and c.from_residual.result c.from_residual.ensures.1 in
     rw (p.1, p.2) (told-least (IsGroupWith table effective machine below) (point_refusals table effective) (point_refusals table effective) c.points.new.reading.refusals stop (inl refl) same c.in_err-points.ensures.refused c.in_err-points.ensures.told)
 
 pub returns-in_err-behavior-clause-told : goal.returns-in_err-behavior-clause-told
