@@ -15,15 +15,15 @@ use Rattle.fta_run.proofs.model.model_of_units.Goals as goal
 
 pub returns-in_err-index-clause-made : goal.returns-in_err-index-clause-made
 returns-in_err-index-clause-made g c =
-    exits _ _ (made_of_units g.M.FromAssembly.phase c.args.root.now c.args.files.now) (status_of c.in_err-index.field-0.0) c.from_residual-in_err-index.result c.from_residual-in_err-index.ensures.1
+    exits _ _ (made_of_units g.M.FromAssembly.phase c.args.root.now c.args.files.now) (status_of c.in_err-index.field-0.0) c.from_residual.result c.from_residual.ensures.1
     (index_stop g.M.FromAssembly.phase c.args.files.now c.items.result.now c.args.root.now c.in_err-index.field-0.0 c.items.ensures.items c.in_err-index.ensures.refused)
 
 pub returns-in_err-index-clause-told : goal.returns-in_err-index-clause-told
 returns-in_err-index-clause-told g c =
     let files = c.items.result.now in
-    stop-told (λ group. AreAll group (IsDuplicate (packages_of files))) (IsUnitsGroup c.args.root.now c.args.files.now) c.new-index.new.refusals c.in_err-index.field-0.0 c.from_residual-in_err-index.result
-    (λ group is. inr (inl (subst (λ its. AreAll group (HasDuplicate its)) c.items.ensures.items is))) c.from_residual-in_err-index.ensures.1
-    (duplicates_told (packages_of files) c.new-index.new.refusals c.in_err-index.field-0.0 c.in_err-index.ensures.refused c.in_err-index.ensures.told)
+    stop-told (λ group. AreAll group (IsDuplicate (packages_of files))) (IsUnitsGroup c.args.root.now c.args.files.now) c.new.new.refusals c.in_err-index.field-0.0 c.from_residual.result
+    (λ group is. inr (inl (subst (λ its. AreAll group (HasDuplicate its)) c.items.ensures.items is))) c.from_residual.ensures.1
+    (duplicates_told (packages_of files) c.new.new.refusals c.in_err-index.field-0.0 c.in_err-index.ensures.refused c.in_err-index.ensures.told)
 
 pub returns-in_err-id-clause-made : goal.returns-in_err-id-clause-made
 returns-in_err-id-clause-made g c =

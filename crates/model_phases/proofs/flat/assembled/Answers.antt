@@ -37,7 +37,7 @@ returns-clause-made g c =
 pub returns-in_err-instance-clause-told : goal.returns-in_err-instance-clause-told
 returns-in_err-instance-clause-told g c =
     let packages = c.args.index.now in
-    end-told (IsClassifierGroup packages) (IsGroupOf packages c.args.root) c.instance_at.new.refusals c.in_err-instance.field-0.0 c.from_residual-in_err-instance.result (λ group is. inl is) c.from_residual-in_err-instance.ensures.1 c.in_err-instance.ensures.told
+    end-told (IsClassifierGroup packages) (IsGroupOf packages c.args.root) c.instance_at.new.refusals c.in_err-instance.field-0.0 c.from_residual.result (λ group is. inl is) c.from_residual.ensures.1 c.in_err-instance.ensures.told
 
 pub returns-in_err-kinds-clause-told : goal.returns-in_err-kinds-clause-told
 returns-in_err-kinds-clause-told g c =

@@ -27,7 +27,7 @@ returns-clause-tested c =
 
 pub returns-in_err-machines-clause-told : goal.returns-in_err-machines-clause-told
 returns-in_err-machines-clause-told c =
-    end-told IsAlone (IsKindsGroup c.args.instance.now) c.machines_in.new.refusals c.in_err-machines.field-0.0 c.from_residual-in_err-machines.result (λ group is. inl is) c.from_residual-in_err-machines.ensures.1 c.in_err-machines.ensures.told
+    end-told IsAlone (IsKindsGroup c.args.instance.now) c.machines_in.new.refusals c.in_err-machines.field-0.0 c.from_residual.result (λ group is. inl is) c.from_residual.ensures.1 c.in_err-machines.ensures.told
 
 pub returns-in_err-reading-clause-told : goal.returns-in_err-reading-clause-told
 returns-in_err-reading-clause-told c =

@@ -26,7 +26,7 @@ returns-in_err-test_sets-clause-told c =
     let kinds = c.args.instance.now.kinds in
     let stop = c.in_err-test_sets.field-0.0 in
     let IsGroup : List Refusal → Type 0 = λ group. (group ≡ all_set_refusals types kinds) ⊎ IsModelGroup types kinds group in
-    stop-told IsGroup IsGroup c.test_sets.new.reading.refusals stop c.from_residual-in_err-test_sets.result (λ group is. is) c.from_residual-in_err-test_sets.ensures.1
+    stop-told IsGroup IsGroup c.test_sets.new.reading.refusals stop c.from_residual.result (λ group is. is) c.from_residual.ensures.1
     (told-of IsGroup (all_set_refusals types kinds) c.test_sets.new.reading.refusals stop (inl refl) c.in_err-test_sets.ensures.refused c.in_err-test_sets.ensures.told)
 
 pub returns-in_err-models_of-clause-told : goal.returns-in_err-models_of-clause-told
