@@ -19,3 +19,5 @@ pub mod WrittenTruth
 pub mod WrittenSets
 pub mod GapLaws
 pub mod Pieces
+pub mod WideNumbers
+pub mod RateNumbers

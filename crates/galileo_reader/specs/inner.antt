@@ -3,3 +3,4 @@ pub mod Truth
 pub mod Tables
 pub mod Cycles
 pub mod Written
+pub mod Rates

@@ -6,6 +6,7 @@ ghost use Rattle.galileo_reader.specs.Nodes.{bad_count, second_line};
 ghost use Rattle.galileo_reader.specs.Statements.{AreLines, IsBadAt};
 ghost use Rattle.galileo_reader.specs.declared.statement.Statement.{Statement};
 ghost use Rattle.galileo_reader.specs.Trees.{IsAcyclic, IsRead, IsTreeOf};
+ghost use Rattle.galileo_reader.specs.inner.Rates.{HasNumbers};
 ghost use Rattle.galileo_reader.specs.inner.Trees.{HasNoTree, HaveNoTree, IsCyclicIn, IsNamedTree};
 ghost use Rattle.galileo_reader.specs.inner.Truth.{StaticTrue, tree_galileo};
 
@@ -103,11 +104,13 @@ fn tree_of_lines(alloc: Global, lines: &[Statement]) -> Result<NamedTree, Galile
 ///
 /// The text is refused with the first [`Flaw`], in the order of its variants, that it has, at the least place; so two readings
 /// of one text in one way answer the same, but for want of memory. The answered tree is true, as a text, for a set of names of basic
-/// events exactly where the text is.
+/// events exactly where the text is. The rate of each of its events has a number as AADL writes it; in the wide reading one also as other
+/// tools do, without digits before or behind its point.
 pub fn read(alloc: Global, text: &[u8], wide: bool) -> Result<NamedTree, GalileoFault>
     requires { length text.now ≤ 4194304 }
     ensures answer { MatchResult result (IsRead wide text.now) (HasNoTree wide text.now) }
     ensures tree { IfOk result IsNamedTree }
+    ensures rates { IfOk result (HasNumbers wide) }
     ensures truth { IfOk result (λ tree. (given : NameSet) → StaticTrue wide text.now given ↔ Tells (tree_galileo tree) given) }
 {
     let lines = lines_of(alloc, text, wide)?;
