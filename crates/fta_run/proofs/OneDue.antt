@@ -240,8 +240,7 @@ text_opened kind.Review voices asked texts short = decided_opened (text_for kind
 text_opened kind.Place voices asked texts short = decided_opened (text_for kind.Place voices asked texts) (text_decided kind.Place voices asked texts short tt)
 text_opened kind.Manifest voices asked texts short = decided_opened (text_for kind.Manifest voices asked texts) (text_decided kind.Manifest voices asked texts short tt)
 text_opened kind.Refusals voices asked texts short = (λ text status tells none. none, λ a b none. absurd none)
-text_opened kind.Help voices asked texts short = decided_opened (text_for kind.Help voices asked texts) (text_decided kind.Refusals voices asked texts short keeps = absurd keeps
-text_decided kind.Help voices asked texts short tt)
+text_opened kind.Help voices asked texts short = decided_opened (text_for kind.Help voices asked texts) (text_decided kind.Help voices asked texts short tt)
 text_opened kind.Explain voices asked texts short = decided_opened (text_for kind.Explain voices asked texts) (text_decided kind.Explain voices asked texts short tt)
 text_opened kind.Version voices asked texts short = decided_opened (text_for kind.Version voices asked texts) (text_decided kind.Version voices asked texts short tt)
 
