@@ -1,6 +1,6 @@
 //! The model of the root.
 
-ghost use Rattle.std.specs.Prelude.{◌≡◌, ◌×◌, ◌≤◌, All, Err, IfErr, MatchResult, None, Ok, length};
+ghost use Rattle.std.specs.Prelude.{◌≡◌, ◌≤◌, All, Err, IfErr, MatchResult, None, Ok, length};
 ghost use Rattle.plain_values.specs.declared.refusal.Place.TheVariants.{Words as InWords};
 ghost use Rattle.plain_values.specs.declared.refusal.Refusal.{Refusal};
 ghost use Rattle.noted_refusals.specs.Noted.{IsAlone};
