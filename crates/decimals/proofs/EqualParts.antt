@@ -3,7 +3,7 @@ use Rattle.std.proofs.Common.{ℕ, zero, suc, ◌+◌, ◌-◌, ◌*◌, ◌/◌
 use Rattle.std.specs.Prelude.{◌⊎◌}
 use Rattle.std.proofs.lemmas.Bool.{cases_lt}
 use Rattle.std.proofs.Math.Nat.{mul-le-mul_left, mul-le-mul_right, pow-le-pow_right}
-use Rattle.decimals.specs.inner.Decimals.{AreNear, HavePlaces}
+use Rattle.decimals.specs.Decimals.{AreNear, HavePlaces}
 use Rattle.decimals.proofs.Powers.{ten_pos, ten_sum, above_whole}
 use Rattle.decimals.proofs.Cuts.{cut_quotient, cut_ceiling}
 use Rattle.decimals.proofs.Nearness.{near_units, near_scale, near_same}

@@ -3,7 +3,7 @@ use Rattle.std.proofs.Common.{ℕ, ◌+◌, ◌*◌, ◌^◌, ◌≤◌, ◌<◌
 use Rattle.std.specs.Prelude.{◌⊎◌, if◌then◌else◌}
 use Rattle.std.proofs.lemmas.Bool.{false≢true}
 use Rattle.decimals.specs.declared.figures.Figures.{Figures}
-use Rattle.decimals.specs.inner.Numerals.{behind, digit_of, is_digit}
+use Rattle.decimals.specs.Numerals.{behind, digit_of, is_digit}
 use Rattle.decimals.specs.inner.Figures.{AreFigures}
 use Rattle.decimals.proofs.Powers.{ten_none, ten_sum}
 

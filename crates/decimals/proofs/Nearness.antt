@@ -2,7 +2,7 @@
 use Rattle.std.proofs.Common.{ℕ, zero, suc, ◌+◌, ◌-◌, ◌*◌, ◌^◌, ◌≤◌, ◌<◌, ◌≡◌, ◌∙◌, sym, ap, subst, inl, inr, arith}
 use Rattle.std.proofs.lemmas.Nat.{pow-add}
 use Rattle.std.proofs.Math.Nat.{pow-succ', pow-zero, one-le-pow, pow-le-pow_left, le_of_mul-le-mul_left, mul-le-mul_left, mul-le-mul_right, mul-le-mul}
-use Rattle.decimals.specs.inner.Decimals.{AreNear, HavePlaces}
+use Rattle.decimals.specs.Decimals.{AreNear, HavePlaces}
 
 then_at : (x y z a b p q : ℕ) → x * a ≤ y * b → y * p ≤ z * q → x * (a * p) ≤ z * (b * q)
 then_at x y z a b p q first second =

@@ -9,9 +9,10 @@ use Rattle.std.proofs.lemmas.List.Folds.{list_all-append}
 use Rattle.std.proofs.Math.Nat.{div-add-mod, mul-le-mul_left}
 use Rattle.std.proofs.Math.Seq.{take-append_seam, drop-append_seam}
 use Rattle.decimals.specs.declared.decimal.Decimal.{Decimal}
-use Rattle.decimals.specs.inner.Decimals.{parts}
-use Rattle.decimals.specs.inner.Numerals.{Number, digit_of, is_digit, is_figure, is_run, behind, worth, point, is_fraction, is_plain, places, plain, exponent_of, raised, lowered, signed, number_behind, front_len, number_of}
-use Rattle.decimals.specs.inner.DecimalTexts.{Trim, trimmed, fraction_text, figures_text, trimmed_text, decimal_text, ReadsBack}
+use Rattle.decimals.specs.Decimals.{parts}
+use Rattle.decimals.specs.Numerals.{Number, digit_of, is_digit, is_figure, is_run, behind, worth, point, is_fraction, is_plain, places, plain, exponent_of, raised, lowered, signed, number_behind, front_len, number_of}
+use Rattle.decimals.specs.DecimalTexts.{Trim, trimmed, fraction_text, figures_text, trimmed_text, decimal_text}
+use Rattle.decimals.specs.inner.DecimalTexts.{ReadsBack}
 use Rattle.decimals.proofs.Powers.{ten_pos, ten_sum}
 use Rattle.decimals.proofs.Trimming.{trimmed_worth}
 

@@ -6,9 +6,11 @@ use Rattle.std.proofs.Math.Nat.{mul-le-mul_left, mul-le-mul_right, pow-le-pow_ri
 use Rattle.decimals.specs.declared.decimal.Decimal.{Decimal}
 use Rattle.decimals.specs.declared.figures.Figures.{Figures}
 use Rattle.decimals.specs.declared.numeral.Numeral.{Numeral}
-use Rattle.decimals.specs.inner.Decimals.{parts, HasPlaces, IsNear}
-use Rattle.decimals.specs.inner.Numerals.{Number}
-use Rattle.decimals.specs.inner.Figures.{AreFigures, IsRead, number_parts, decimal_parts}
+use Rattle.decimals.specs.Decimals.{parts, HasPlaces}
+use Rattle.decimals.specs.inner.Decimals.{IsNear}
+use Rattle.decimals.specs.Numerals.{Number}
+use Rattle.decimals.specs.Decimals.{number_parts, decimal_parts}
+use Rattle.decimals.specs.inner.Figures.{AreFigures, IsRead}
 use Rattle.decimals.proofs.Powers.{ten_sum}
 
 pub if_some : {P Q : Decimal → Type 0} (r : Option Decimal) → ((x : Decimal) → P x → Q x) → IfSome r P → IfSome r Q

@@ -4,7 +4,8 @@ use Rattle.std.specs.Prelude.{◌⊎◌}
 use Rattle.std.proofs.lemmas.Bool.{cases_lt}
 use Rattle.std.proofs.Math.Nat.{mul-le-mul, mul-le-mul_right, le_of_mul-le-mul_left}
 use Rattle.decimals.specs.declared.rounding.Side.{Side}
-use Rattle.decimals.specs.inner.Decimals.{IsCut, HavePlaces, opposite}
+use Rattle.decimals.specs.Decimals.{HavePlaces}
+use Rattle.decimals.specs.inner.Decimals.{IsCut, opposite}
 use Rattle.decimals.specs.inner.Aligned.{IsAligned}
 use Rattle.decimals.proofs.Powers.{ten_pos, ten_none, ten_sum, most_power, above_whole}
 use Rattle.decimals.proofs.Cuts.{cut_same, cut_exact, cut_one, cut_times, cut_plus, cut_left}

@@ -2,7 +2,7 @@
 use Rattle.std.proofs.Common.{ℕ, zero, suc, ◌+◌, ◌-◌, ◌*◌, ◌/◌, ◌%◌, ◌^◌, ◌≤◌, ◌<◌, ◌≡◌, ◌==◌, ◌∙◌, refl, sym, ap, Bool, true, false, if◌then◌else◌, arith}
 use Rattle.std.proofs.lemmas.Bool.{eqb-true, eq-eqb, false≢true}
 use Rattle.std.proofs.Math.Nat.{div-add-mod}
-use Rattle.decimals.specs.inner.DecimalTexts.{Trim, trimmed}
+use Rattle.decimals.specs.DecimalTexts.{Trim, trimmed}
 use Rattle.decimals.proofs.Powers.{ten_sum}
 
 -- digits with zeros are worth so much, and few

@@ -1,1 +1,4 @@
+pub mod DecimalTexts
+pub mod Decimals
+pub mod Numerals
 pub mod inner

@@ -1,5 +1,4 @@
-pub mod Decimals
 pub mod Aligned
-pub mod Numerals
-pub mod Figures
 pub mod DecimalTexts
+pub mod Decimals
+pub mod Figures

@@ -1,7 +1,7 @@
 //! Sums and rests at one exponent.
 
 ghost use Rattle.std.specs.Prelude.{ℕ, ◌≤◌, ◌+◌, ◌-◌, ◌^◌};
-ghost use Rattle.decimals.specs.inner.Decimals.{parts, HasPlaces, HavePlaces};
+ghost use Rattle.decimals.specs.Decimals.{parts, HasPlaces, HavePlaces};
 ghost use Rattle.decimals.specs.inner.Aligned.{IsAligned};
 
 use crate::decimal::Decimal;

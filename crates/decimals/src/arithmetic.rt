@@ -1,7 +1,8 @@
 //! Products, sums and rests of decimals, rounded down and up.
 
 ghost use Rattle.std.specs.Prelude.{ℕ, ◌≤◌, ◌*◌, ◌+◌, ◌-◌, ◌^◌, min};
-ghost use Rattle.decimals.specs.inner.Decimals.{parts, IsBound, IsHeld, IsNear, IsNearBound, HasPlaces, HavePlaces};
+ghost use Rattle.decimals.specs.Decimals.{parts, HasPlaces, HavePlaces};
+ghost use Rattle.decimals.specs.inner.Decimals.{IsBound, IsHeld, IsNear, IsNearBound};
 ghost use Rattle.decimals.specs.inner.Aligned.{IsAligned};
 
 use crate::aligned::{Aligned, left, sum};

@@ -2,7 +2,8 @@
 
 ghost use Rattle.std.specs.Prelude.{◌≡◌, ◌≤◌, ◌<◌, ◌+◌, ◌-◌, ◌++◌, ◌^◌, ℕ, OnOk, decimal};
 ghost use Rattle.decimals.specs.declared.decimal.Decimal.{Decimal};
-ghost use Rattle.decimals.specs.inner.DecimalTexts.{decimal_text, figures_text, fraction_text, power_text, trimmed, ReadsBack};
+ghost use Rattle.decimals.specs.DecimalTexts.{decimal_text, figures_text, fraction_text, power_text, trimmed};
+ghost use Rattle.decimals.specs.inner.DecimalTexts.{ReadsBack};
 
 use crate::decimal::Decimal;
 use itoa::Buffer;

@@ -2,7 +2,7 @@
 
 ghost use Rattle.std.specs.Prelude.{ℕ, ◌≡◌, ◌≤◌, min, length, IfSome};
 ghost use Rattle.std.specs.List.{count_by, list_all};
-ghost use Rattle.decimals.specs.inner.Numerals.{behind, digit_of, is_digit, is_figure, is_run, up_to, worth};
+ghost use Rattle.decimals.specs.Numerals.{behind, digit_of, is_digit, is_figure, is_run, up_to, worth};
 
 /// What a digit means; 36 where a byte is none.
 pub fn digit_of(byte: u8) -> u8

@@ -1,7 +1,7 @@
 //! The first digits of a number.
 
 ghost use Rattle.std.specs.Prelude.{ℕ, ◌≡◌, ◌≤◌, ◌<◌, ◌+◌, ◌*◌, ◌^◌, false, length};
-ghost use Rattle.decimals.specs.inner.Numerals.{behind, worth};
+ghost use Rattle.decimals.specs.Numerals.{behind, worth};
 ghost use Rattle.decimals.specs.inner.Figures.{AreFigures};
 
 use crate::digits::{digit_of, is_digit};

@@ -1,7 +1,7 @@
 //! Parts of decimals, and decimals that are no more than the whole.
 
 ghost use Rattle.std.specs.Prelude.{ℕ, ◌≡◌, ◌≤◌, ◌<◌, ◌+◌, ◌*◌, ◌^◌, ◌⊎◌, IsTrue, false, min};
-ghost use Rattle.decimals.specs.inner.Decimals.{parts, AreNear, HasPlaces};
+ghost use Rattle.decimals.specs.Decimals.{parts, AreNear, HasPlaces};
 
 use crate::decimal::Decimal;
 use crate::rounding::power;

@@ -1,9 +1,11 @@
 //! What a number of a text comes to as decimals.
 
 ghost use Rattle.std.specs.Prelude.{ℕ, ◌≡◌, ◌≤◌, ◌<◌, ◌+◌, ◌*◌, ◌^◌, ◌⊎◌, IfSome, None};
-ghost use Rattle.decimals.specs.inner.Numerals.{Number};
-ghost use Rattle.decimals.specs.inner.Figures.{decimal_parts, number_parts, AreFigures, IsRead};
-ghost use Rattle.decimals.specs.inner.Decimals.{parts, HasPlaces, IsCut, IsNear};
+ghost use Rattle.decimals.specs.Numerals.{Number};
+ghost use Rattle.decimals.specs.Decimals.{decimal_parts, number_parts};
+ghost use Rattle.decimals.specs.inner.Figures.{AreFigures, IsRead};
+ghost use Rattle.decimals.specs.Decimals.{parts, HasPlaces};
+ghost use Rattle.decimals.specs.inner.Decimals.{IsCut, IsNear};
 
 use crate::decimal::Decimal;
 use crate::numeral::Numeral;

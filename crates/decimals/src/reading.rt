@@ -1,7 +1,7 @@
 //! Numbers as texts have them.
 
 ghost use Rattle.std.specs.Prelude.{◌≡◌, ◌≤◌, ◌+◌, length, IfSome, take, drop};
-ghost use Rattle.decimals.specs.inner.Numerals.{base_of, based, digits_to, exponent_of, front_len, hash, is_fraction, is_last, is_plain, lowered, number_behind, number_of, places, point, raised, signed, whole_number, worth};
+ghost use Rattle.decimals.specs.Numerals.{base_of, based, digits_to, exponent_of, front_len, hash, is_fraction, is_last, is_plain, lowered, number_behind, number_of, places, point, raised, signed, whole_number, worth};
 ghost use Rattle.decimals.specs.inner.Figures.{IsRead, IsReadAs};
 
 use crate::digits::{count_digits, is_figure, is_run, small_worth, up_to};

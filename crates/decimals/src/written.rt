@@ -1,7 +1,8 @@
 //! Numbers as they are written: digits, of which so many stand behind the point.
 
 ghost use Rattle.std.specs.Prelude.{◌≤◌, ◌≡◌, ◌*◌, ◌^◌, ◌<◌, ◌+◌};
-ghost use Rattle.decimals.specs.inner.Decimals.{parts, HasPlaces, IsCut};
+ghost use Rattle.decimals.specs.Decimals.{parts, HasPlaces};
+ghost use Rattle.decimals.specs.inner.Decimals.{IsCut};
 
 use crate::decimal::Decimal;
 use crate::rounding::Side;

@@ -4,13 +4,14 @@ use Rattle.std.specs.Prelude.{◌⊎◌}
 use Rattle.std.proofs.lemmas.Bool.{cases_lt}
 use Rattle.std.proofs.Math.Nat.{mul-le-mul, mul-le-mul_left, mul-le-mul_right, le_of_mul-le-mul_left}
 use Rattle.std.proofs.lemmas.Nat.{pow-add}
-use Rattle.decimals.specs.inner.Decimals.{parts}
-use Rattle.decimals.specs.inner.Numerals.{Number}
+use Rattle.decimals.specs.Decimals.{parts}
+use Rattle.decimals.specs.Numerals.{Number}
 use Rattle.exponentials.specs.declared.span.Span.{Span}
 use Rattle.exponentials.specs.declared.halving.Chance.{Chance}
 use Rattle.exponentials.specs.inner.Spans.{AreChances, IsWithin}
 use Rattle.probabilities.specs.declared.rates.Rate.{Rate}
-use Rattle.event_probabilities.specs.inner.EventRates.{IsLambdaRate, IsSpanOf, over, under}
+use Rattle.event_probabilities.specs.EventRates.{IsLambdaRate, over, under}
+use Rattle.event_probabilities.specs.inner.EventRates.{IsSpanOf}
 use Rattle.event_probabilities.proofs.Read.{ten_pos, parts_split}
 
 -- p is below x times y, which are below L and H parts of s and of t

@@ -5,9 +5,9 @@ use Rattle.std.proofs.lemmas.Bool.{cases_lt}
 use Rattle.std.proofs.lemmas.Nat.{pow-add}
 use Rattle.std.proofs.Math.Nat.{mul-le-mul, mul-le-mul_left, mul-le-mul_right, le_of_mul-le-mul_left, one-le-pow, pow-le-pow_right}
 use Rattle.decimals.specs.declared.decimal.Decimal.{Decimal}
-use Rattle.decimals.specs.inner.Decimals.{parts, AreNear, HavePlaces, HasPlaces}
-use Rattle.decimals.specs.inner.Numerals.{Number}
-use Rattle.decimals.specs.inner.Figures.{number_parts, decimal_parts}
+use Rattle.decimals.specs.Decimals.{parts, AreNear, HavePlaces, HasPlaces}
+use Rattle.decimals.specs.Numerals.{Number}
+use Rattle.decimals.specs.Decimals.{number_parts, decimal_parts}
 use Rattle.decimals.proofs.Nearness.{near_same, near_then, near_times, near_cancel, near_scale, near_more, more_places}
 use Rattle.exponentials.specs.declared.span.Span.{Span}
 use Rattle.exponentials.specs.inner.Widths.{IsNarrow}
@@ -17,9 +17,10 @@ use Rattle.decimals.specs.inner.Figures.{IsRead, IsReadAs}
 use Rattle.property_reader.specs.declared.rate.RateKind.{RateKind}
 use Rattle.property_reader.specs.declared.rate.RateKind.TheVariants.{Lambda}
 use Rattle.probabilities.specs.declared.rates.Rate.{Rate}
-use Rattle.probabilities.specs.inner.Widths.{IsNarrowRate}
+use Rattle.probabilities.specs.Widths.{IsNarrowRate}
 use Rattle.event_probabilities.specs.declared.finding.Found.{Found}
-use Rattle.event_probabilities.specs.inner.EventRates.{IsModest, IsNarrowSpan, IsSpanOf, IsSmallExposure, IsNarrowExposure, IsNarrowProbability, IsNarrowLambda, IsNarrowRated, IsNarrowFound, over, under}
+use Rattle.event_probabilities.specs.EventRates.{IsModest, IsSmallExposure, IsNarrowProbability, IsNarrowLambda, IsNarrowRated, IsNarrowFound, over, under}
+use Rattle.event_probabilities.specs.inner.EventRates.{IsNarrowSpan, IsSpanOf, IsNarrowExposure}
 use Rattle.event_probabilities.proofs.Read.{ten_pos, parts_split}
 
 cancel_right : (i s x y : ℕ) → 0 < s → AreNear i (x * s) (y * s) → AreNear i x y

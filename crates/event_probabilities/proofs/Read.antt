@@ -6,15 +6,16 @@ use Rattle.std.proofs.Math.Nat.{mul-le-mul_right, one-le-pow, le_of_mul-le-mul_l
 use Rattle.std.proofs.lemmas.Nat.{pow-add}
 use Rattle.decimals.specs.declared.decimal.Decimal.{Decimal}
 use Rattle.decimals.specs.declared.numeral.Numeral.{Numeral}
-use Rattle.decimals.specs.inner.Decimals.{parts}
-use Rattle.decimals.specs.inner.Numerals.{Number}
-use Rattle.decimals.specs.inner.Figures.{IsRead, IsReadAs, number_parts, decimal_parts}
+use Rattle.decimals.specs.Decimals.{parts}
+use Rattle.decimals.specs.Numerals.{Number}
+use Rattle.decimals.specs.Decimals.{number_parts, decimal_parts}
+use Rattle.decimals.specs.inner.Figures.{IsRead, IsReadAs}
 use Rattle.property_reader.specs.declared.rate.RateKind.{RateKind}
 use Rattle.property_reader.specs.declared.rate.RateKind.TheVariants.{Prob}
 use Rattle.probabilities.specs.declared.rates.Rate.{Rate}
 use Rattle.event_probabilities.specs.declared.finding.Found.{Found}
 use Rattle.event_probabilities.specs.declared.finding.Found.TheVariants.{NoProbability}
-use Rattle.event_probabilities.specs.inner.EventRates.{IsProbabilityRate, IsUnknown, IsFound}
+use Rattle.event_probabilities.specs.EventRates.{IsProbabilityRate, IsUnknown, IsFound}
 
 pub ten_pos : (k : ℕ) → 0 < 10 ^ k
 ten_pos k = let h = one-le-pow k 10 (omega arith) in omega arith

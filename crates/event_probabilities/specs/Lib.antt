@@ -1,1 +1,2 @@
+pub mod EventRates
 pub mod inner

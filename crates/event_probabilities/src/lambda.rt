@@ -1,14 +1,15 @@
 //! The probability of an event that fails so often an hour.
 
 ghost use Rattle.std.specs.Prelude.{ℕ, ◌≡◌, ◌≤◌, ◌+◌, ◌*◌, ◌^◌, IfSome, IsSomeAnd, min};
-ghost use Rattle.decimals.specs.inner.Decimals.{parts};
-ghost use Rattle.decimals.specs.inner.Numerals.{Number};
+ghost use Rattle.decimals.specs.Decimals.{parts};
+ghost use Rattle.decimals.specs.Numerals.{Number};
 ghost use Rattle.decimals.specs.inner.Figures.{IsRead};
 ghost use Rattle.exponentials.specs.inner.Spans.{AreChances, IsWithin};
-ghost use Rattle.event_probabilities.specs.inner.EventRates.{IsLambdaRate, IsModest, IsNarrowExposure, IsNarrowLambda, IsNarrowSpan, IsSmallExposure, IsSpanOf, over, under};
+ghost use Rattle.event_probabilities.specs.EventRates.{IsLambdaRate, IsModest, IsNarrowLambda, IsSharpWhereShort, IsSmallExposure, over, under};
+ghost use Rattle.event_probabilities.specs.inner.EventRates.{IsNarrowExposure, IsNarrowSpan, IsSpanOf};
 ghost use Rattle.exponentials.specs.inner.Widths.{IsNarrow};
-ghost use Rattle.probabilities.specs.inner.Decided.{FitsWhole};
-ghost use Rattle.probabilities.specs.inner.Widths.{IsNarrowRate};
+ghost use Rattle.probabilities.specs.Decided.{FitsWhole};
+ghost use Rattle.probabilities.specs.Widths.{IsNarrowRate};
 
 use crate::numbers::span_of;
 use decimals::Numeral;
@@ -56,6 +57,7 @@ fn held(chance: Chance, whole: u32) -> Rate
     ensures fits { FitsWhole whole result }
     ensures low { parts result.low ≡ min (parts chance.span.low) (10 ^ whole) }
     ensures high { parts result.high ≡ min (parts chance.span.high) (10 ^ whole) }
+    ensures sharp { IsSharpWhereShort whole result }
     ensures narrow { (places units : ℕ) → 36 ≤ places → 2 ≤ units → IsNarrow whole places units chance.span → IsNarrowRate whole places units result }
 {
     Rate::between(
@@ -71,6 +73,7 @@ pub fn lambda_rate(lambda: Numeral, hours: Numeral, whole: u32) -> Rate
     ensures fits { FitsWhole whole result }
     ensures rate { (first second : Number) → IsRead first lambda → IsRead second hours → IsLambdaRate whole first second result }
     ensures narrow { (first second : Number) → IsRead first lambda → IsRead second hours → IsNarrowLambda whole first second result }
+    ensures sharp { IsSharpWhereShort whole result }
 {
     match exposure(lambda, hours, whole) {
         Some(x) => held(chance_of(x, whole), whole),

@@ -1,10 +1,11 @@
 //! Bounds of numbers, as a text has them.
 
 ghost use Rattle.std.specs.Prelude.{ℕ, ◌≤◌, ◌*◌, ◌^◌, IfSome, IsSomeAnd};
-ghost use Rattle.decimals.specs.inner.Decimals.{parts};
-ghost use Rattle.decimals.specs.inner.Numerals.{Number};
+ghost use Rattle.decimals.specs.Decimals.{parts};
+ghost use Rattle.decimals.specs.Numerals.{Number};
 ghost use Rattle.decimals.specs.inner.Figures.{IsRead};
-ghost use Rattle.event_probabilities.specs.inner.EventRates.{IsModest, IsNarrowSpan, IsSpanOf};
+ghost use Rattle.event_probabilities.specs.EventRates.{IsModest};
+ghost use Rattle.event_probabilities.specs.inner.EventRates.{IsNarrowSpan, IsSpanOf};
 
 use decimals::Numeral;
 use exponentials::Span;

@@ -1,12 +1,12 @@
 //! The rate of an event as bounds of its probability.
 
 ghost use Rattle.std.specs.Prelude.{ℕ, ◌≡◌, ◌≤◌, ◌^◌, Option, Some};
-ghost use Rattle.decimals.specs.inner.Decimals.{parts};
-ghost use Rattle.decimals.specs.inner.Numerals.{Number, number_of};
+ghost use Rattle.decimals.specs.Decimals.{parts};
+ghost use Rattle.decimals.specs.Numerals.{Number, number_of};
 ghost use Rattle.decimals.specs.inner.Figures.{IsRead, IsReadAs};
 ghost use Rattle.property_reader.specs.declared.rate.RateKind.TheVariants.{Lambda, Prob};
-ghost use Rattle.event_probabilities.specs.inner.EventRates.{IsFound, IsNarrowFound, IsUnknown};
-ghost use Rattle.probabilities.specs.inner.Decided.{FitsWhole};
+ghost use Rattle.event_probabilities.specs.EventRates.{IsFound, IsNarrowFound, IsSharpWhereShort, IsUnknown};
+ghost use Rattle.probabilities.specs.Decided.{FitsWhole};
 
 use crate::finding::Found;
 use crate::lambda::lambda_rate;
@@ -24,6 +24,7 @@ pub struct EventRate {
 /// Nothing is known.
 fn without(found: Found, whole: u32) -> EventRate
     ensures fits { FitsWhole whole result.rate }
+    ensures sharp { IsSharpWhereShort whole result.rate }
     ensures unknown { IsUnknown whole result.rate }
     ensures found { result.found ≡ found }
 {
@@ -37,6 +38,7 @@ fn without(found: Found, whole: u32) -> EventRate
 fn prob_rate(number: Numeral, whole: u32) -> EventRate
     requires { whole ≤ 4000000000 }
     ensures fits { FitsWhole whole result.rate }
+    ensures sharp { IsSharpWhereShort whole result.rate }
     ensures found { (read : Number) (hours : Option Number) → IsRead read number → IsFound whole Prob (Some read) hours result.found result.rate }
     ensures narrow { (read : Number) (hours : Option Number) → IsRead read number → IsNarrowFound whole Prob (Some read) hours result.found result.rate }
 {
@@ -59,6 +61,7 @@ fn prob_rate(number: Numeral, whole: u32) -> EventRate
 fn hourly_rate(number: Numeral, hours: Option<Numeral>, whole: u32) -> EventRate
     requires { whole ≤ 4000000000 }
     ensures fits { FitsWhole whole result.rate }
+    ensures sharp { IsSharpWhereShort whole result.rate }
     ensures found { (read : Number) (given : Option Number) → IsRead read number → IsReadAs given hours → IsFound whole Lambda (Some read) given result.found result.rate }
     ensures narrow { (read : Number) (given : Option Number) → IsRead read number → IsReadAs given hours → IsNarrowFound whole Lambda (Some read) given result.found result.rate }
 {
@@ -75,6 +78,7 @@ fn hourly_rate(number: Numeral, hours: Option<Numeral>, whole: u32) -> EventRate
 fn number_rate(kind: RateKind, number: Numeral, hours: Option<Numeral>, whole: u32) -> EventRate
     requires { whole ≤ 4000000000 }
     ensures fits { FitsWhole whole result.rate }
+    ensures sharp { IsSharpWhereShort whole result.rate }
     ensures found { (read : Number) (given : Option Number) → IsRead read number → IsReadAs given hours → IsFound whole kind (Some read) given result.found result.rate }
     ensures narrow { (read : Number) (given : Option Number) → IsRead read number → IsReadAs given hours → IsNarrowFound whole kind (Some read) given result.found result.rate }
 {
@@ -89,6 +93,7 @@ fn number_rate(kind: RateKind, number: Numeral, hours: Option<Numeral>, whole: u
 pub fn event_rate(kind: RateKind, text: &[u8], hours: Option<Numeral>, whole: u32) -> EventRate
     requires { whole ≤ 4000000000 }
     ensures fits { FitsWhole whole result.rate }
+    ensures sharp { IsSharpWhereShort whole result.rate }
     ensures found { (given : Option Number) → IsReadAs given hours → IsFound whole kind (number_of text.now) given result.found result.rate }
     ensures narrow { (given : Option Number) → IsReadAs given hours → IsNarrowFound whole kind (number_of text.now) given result.found result.rate }
 {

@@ -1,11 +1,11 @@
 -- How near the bounds of the terms are, of their sums, and of 1 - e^(-x).
 use Rattle.std.proofs.Common.{ℕ, zero, suc, ◌+◌, ◌-◌, ◌*◌, ◌^◌, ◌≤◌, ◌<◌, ◌≡◌, min, refl, sym, ap, subst, arith}
 use Rattle.std.proofs.Math.Nat.{mul-le-mul, mul-le-mul_left, mul-le-mul_right, le_of_mul-le-mul_left, one-le-pow, pow-le-pow_left}
-use Rattle.decimals.specs.inner.Decimals.{parts, AreNear}
+use Rattle.decimals.specs.Decimals.{parts, AreNear}
 use Rattle.decimals.proofs.Nearness.{near_same, near_then, near_times, near_plus, near_more, near_cancel, near_scale, near_often, steps_more, steps_less, more_places}
 use Rattle.exponentials.specs.declared.span.Span.{Span}
 use Rattle.exponentials.specs.declared.series.Terms.{Terms}
-use Rattle.exponentials.specs.inner.Exponentials.{below}
+use Rattle.exponentials.specs.Exponentials.{below}
 use Rattle.exponentials.specs.inner.Terms.{IsNextTerm, IsSum}
 use Rattle.exponentials.specs.inner.Widths.{IsNarrow, AreNarrowTerms}
 use Rattle.exponentials.proofs.Numbers.{product_pos}

@@ -2,9 +2,9 @@
 use Rattle.std.proofs.Common.{ℕ, zero, suc, ◌+◌, ◌*◌, ◌-◌, ◌^◌, ◌≤◌, ◌<◌, ◌≡◌, ◌∙◌, inl, inr, refl, ap, subst, arith}
 use Rattle.std.proofs.Math.Nat.{mul-le-mul, mul-le-mul_right, pow-succ', one-le-pow}
 use Rattle.std.proofs.lemmas.Nat.{pow-add}
-use Rattle.decimals.specs.inner.Decimals.{parts}
+use Rattle.decimals.specs.Decimals.{parts}
 use Rattle.exponentials.specs.declared.span.Span.{Span}
-use Rattle.exponentials.specs.inner.Exponentials.{IsAtLeastChance, IsAtMostChance}
+use Rattle.exponentials.specs.Exponentials.{IsAtLeastChance, IsAtMostChance}
 use Rattle.exponentials.specs.inner.Spans.{AreChances, IsAbove, IsBelow, IsWithin}
 use Rattle.exponentials.specs.inner.Terms.{IsProduct}
 use Rattle.exponentials.proofs.Numbers.{none_power, square_low, square_high}

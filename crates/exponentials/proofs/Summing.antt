@@ -1,10 +1,10 @@
 -- The sums of the series, term by term.
 use Rattle.std.proofs.Common.{ℕ, zero, suc, ◌+◌, ◌*◌, ◌^◌, ◌≤◌, ◌<◌, ◌≡◌, min, refl, sym, subst, arith}
 use Rattle.std.proofs.Math.Nat.{mul-le-mul, mul-le-mul_left, mul-le-mul_right, le_of_mul-le-mul_left, pow-succ', one-le-pow}
-use Rattle.decimals.specs.inner.Decimals.{parts}
+use Rattle.decimals.specs.Decimals.{parts}
 use Rattle.exponentials.specs.declared.span.Span.{Span}
 use Rattle.exponentials.specs.declared.series.Terms.{Terms}
-use Rattle.exponentials.specs.inner.Exponentials.{below, partial, IsAtLeastChance, IsAtMostChance}
+use Rattle.exponentials.specs.Exponentials.{below, partial, IsAtLeastChance, IsAtMostChance}
 use Rattle.exponentials.specs.inner.Spans.{IsWithin}
 use Rattle.exponentials.specs.inner.Terms.{AreSummed, AreTerms, IsNextTerm, IsSum}
 use Rattle.exponentials.proofs.Numbers.{none_power, product_pos, term_low, term_high, sum_low, sum_high, keep_low, keep_high, series_low, series_high, held_low, held_high}

@@ -1,1 +1,3 @@
+pub mod Exponentials
+pub mod Widths
 pub mod inner

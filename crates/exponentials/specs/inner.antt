@@ -1,4 +1,3 @@
-pub mod Exponentials
 pub mod Spans
 pub mod Terms
 pub mod Widths

@@ -1,10 +1,11 @@
 //! 1 - e^(-x) for any x, by halving x and squaring e^(-x/2).
 
 ghost use Rattle.std.specs.Prelude.{ℕ, ◌≡◌, ◌≤◌, ◌<◌, ◌-◌, ◌*◌, ◌^◌};
-ghost use Rattle.decimals.specs.inner.Decimals.{parts};
-ghost use Rattle.exponentials.specs.inner.Exponentials.{IsAtLeastChance, IsAtMostChance};
+ghost use Rattle.decimals.specs.Decimals.{parts};
+ghost use Rattle.exponentials.specs.Exponentials.{IsAtLeastChance, IsAtMostChance};
 ghost use Rattle.exponentials.specs.inner.Spans.{AreChances, IsAbove, IsBelow, IsWithin};
-ghost use Rattle.exponentials.specs.inner.Widths.{IsNarrow, chance_places, chance_units};
+ghost use Rattle.exponentials.specs.Widths.{chance_places, chance_units};
+ghost use Rattle.exponentials.specs.inner.Widths.{IsNarrow};
 
 use crate::series::series;
 use crate::span::Span;

@@ -1,12 +1,13 @@
 //! The series of 1 - e^(-x), for x up to 1.
 
 ghost use Rattle.std.specs.Prelude.{ℕ, ◌≡◌, ◌≤◌, ◌<◌, ◌+◌, ◌-◌, ◌*◌, ◌^◌, min};
-ghost use Rattle.decimals.specs.inner.Decimals.{parts, AreNear, HasPlaces};
+ghost use Rattle.decimals.specs.Decimals.{parts, AreNear, HasPlaces};
 ghost use Rattle.exponentials.specs.declared.span.Span.{Span};
-ghost use Rattle.exponentials.specs.inner.Exponentials.{IsAtLeastChance, IsAtMostChance};
+ghost use Rattle.exponentials.specs.Exponentials.{IsAtLeastChance, IsAtMostChance};
 ghost use Rattle.exponentials.specs.inner.Spans.{IsAbove, IsBelow, IsWithin};
 ghost use Rattle.exponentials.specs.inner.Terms.{AreTerms, IsSum};
-ghost use Rattle.exponentials.specs.inner.Widths.{AreNarrowTerms, IsNarrow, chance_places, chance_units};
+ghost use Rattle.exponentials.specs.Widths.{chance_places, chance_units};
+ghost use Rattle.exponentials.specs.inner.Widths.{AreNarrowTerms, IsNarrow};
 
 use crate::span::Span;
 use decimals::Decimal;

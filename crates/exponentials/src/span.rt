@@ -1,7 +1,7 @@
 //! Bounds of numbers, in parts of the whole.
 
 ghost use Rattle.std.specs.Prelude.{ℕ, ◌≡◌, ◌≤◌, ◌<◌, ◌+◌, ◌-◌, ◌*◌, ◌^◌};
-ghost use Rattle.decimals.specs.inner.Decimals.{parts};
+ghost use Rattle.decimals.specs.Decimals.{parts};
 ghost use Rattle.exponentials.specs.inner.Spans.{IsAbove, IsBelow};
 ghost use Rattle.exponentials.specs.inner.Terms.{IsNextTerm, IsProduct, IsSum};
 ghost use Rattle.exponentials.specs.inner.Widths.{IsNarrow};

@@ -5,8 +5,10 @@ use Rattle.std.proofs.lemmas.Bool.{cases_lt}
 use Rattle.std.proofs.lemmas.Grind.{common_steps}
 use Rattle.std.proofs.Math.Nat.{pow-succ', mul-le-mul_right}
 use Rattle.zdd_store.specs.inner.Family.{has}
-use Rattle.probabilities.specs.inner.Weights.{weight, IsApart, AreDistinct, numbers}
-use Rattle.probabilities.specs.inner.Rates.{Rates, AreRates}
+use Rattle.probabilities.specs.Weights.{weight, numbers}
+use Rattle.probabilities.specs.inner.Weights.{IsApart, AreDistinct}
+use Rattle.probabilities.specs.Rates.{Rates}
+use Rattle.probabilities.specs.inner.Rates.{AreRates}
 use Rattle.zdd_store.specs.inner.Family.{Family, least_of, least_number, is_within, covers}
 use Rattle.probabilities.specs.inner.Bounded.{AreParts, IsLowerBound, IsUpperBound}
 use Rattle.probabilities.proofs.Sums.{has-first, has-other}

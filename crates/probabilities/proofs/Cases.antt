@@ -2,12 +2,13 @@
 use Rattle.std.proofs.Common.{ℕ, ◌+◌, ◌*◌, ◌-◌, ◌≤◌, ◌≡◌, ◌∙◌, Bool, true, false, List, [], ◌∷◌, refl, ap, arith, rules}
 use Rattle.std.specs.Prelude.{if◌then◌else◌, IsTrue}
 use Rattle.zdd_store.specs.inner.Family.{has}
-use Rattle.probabilities.specs.inner.Weights.{times_of, weight, IsApart}
+use Rattle.probabilities.specs.Weights.{times_of, weight}
+use Rattle.probabilities.specs.inner.Weights.{IsApart}
 use Rattle.probabilities.proofs.Sums.{total, total-same, total-more, total-scaled, total-none, total-le, has-first, has-other}
 
 -- an event that is none of these changes nothing
 times-other : (d : ℕ) (m : ℕ → ℕ) (v : ℕ) (es set : List ℕ) → IsApart v es → times_of d m es (v ∷ set) ≡ times_of d m es set
-unfolding times_of IsApart
+unfolding times_of IsApart has
 times-other d m v [] set apart = refl
 times-other d m v (e ∷ es) set apart = rw (has-other v e set apart.0, times-other d m v es set apart.2) refl
 
@@ -16,11 +17,11 @@ without true k n = refl
 without false k n = omega arith
 
 at-without : (d : ℕ) (m : ℕ → ℕ) (e : ℕ) (es set : List ℕ) (b : Bool) → has set e ≡ false → (if b then times_of d m (e ∷ es) set else 0) ≡ (d - m e) * (if b then times_of d m es set else 0)
-unfolding times_of
+unfolding times_of has
 at-without d m e es set b out = rw out (without b (d - m e) (times_of d m es set))
 
 at-with : (d : ℕ) (m : ℕ → ℕ) (e : ℕ) (es set : List ℕ) (b : Bool) → IsApart e es → (if b then times_of d m (e ∷ es) (e ∷ set) else 0) ≡ m e * (if b then times_of d m es set else 0)
-unfolding times_of
+unfolding times_of has
 at-with d m e es set b apart = rw (has-first e set, times-other d m e es set apart) (without b (m e) (times_of d m es set))
 
 pub weight-cases : (d : ℕ) (m : ℕ → ℕ) (e : ℕ) (es : List ℕ) (f : List ℕ → Bool) → IsApart e es → weight d m (e ∷ es) f ≡ (d - m e) * weight d m es f + m e * weight d m es (λ set. f (e ∷ set))

@@ -1,8 +1,8 @@
 -- The bounds of the families of a store, as it grows.
-use Rattle.std.proofs.Common.{◌≡◌, ℕ, ◌+◌, ◌-◌, ◌*◌, ◌^◌, ◌<◌, ◌≤◌, Bool, true, false, ◌&&◌, ◌||◌, List, length, Option, None, Some, Result, Ok, Err, refl, sym, ap, ◌∙◌, subst, arith}
+use Rattle.std.proofs.Common.{◌≡◌, ℕ, ◌+◌, ◌-◌, ◌*◌, ◌^◌, ◌<◌, ◌≤◌, Bool, true, false, ◌&&◌, ◌||◌, List, [], ◌∷◌, length, Option, None, Some, Result, Ok, Err, refl, sym, ap, ◌∙◌, subst, arith}
 use Rattle.std.specs.Prelude.{slice_get, IfSome, IfOk}
 use Rattle.std.specs.declared.alloc.AllocError.{AllocError}
-use Rattle.zdd_store.specs.inner.Family.{Family, least_number, has, covers}
+use Rattle.zdd_store.specs.inner.Family.{Family, least_of, least_number, has, covers}
 use Rattle.zdd_store.specs.inner.Store.{Families, IsIn, family_of, family_with, Fits, Keeps}
 use Rattle.zdd_store.specs.inner.Answers.{IsLeastFamily}
 use Rattle.zdd_store.specs.declared.id.Id.{Id}
@@ -12,14 +12,17 @@ use Rattle.zdd_families.proofs.Booleans.{or_left}
 use Rattle.zdd_families.proofs.Covers.{covers-branch}
 use Rattle.zdd_families.proofs.Above.{above, covers-above, least-bound, least_number-most}
 use Rattle.zdd_families.proofs.Pairs.{found_kept}
-use Rattle.probabilities.specs.inner.Rates.{Rates, AreRates}
+use Rattle.probabilities.specs.Rates.{Rates}
+use Rattle.probabilities.specs.inner.Rates.{AreRates}
 use Rattle.probabilities.specs.inner.Bounded.{AreParts}
-use Rattle.probabilities.specs.inner.Decided.{AreBoundsOf, IsStep, AreRated, FitsWhole, FitWhole, rates_of, low_of, high_of, low_not_of, high_not_of}
-use Rattle.probabilities.specs.inner.Widths.{AreNarrow, IsNarrowRate, IsNarrowed}
+use Rattle.probabilities.specs.Decided.{FitsWhole, rates_of, low_of, high_of, low_not_of, high_not_of}
+use Rattle.probabilities.specs.inner.Decided.{AreBoundsOf, AreEnds, IsStep, AreRated, FitWhole}
+use Rattle.probabilities.specs.Widths.{AreNarrow, IsNarrowRate}
+use Rattle.probabilities.specs.inner.Widths.{IsNarrowed}
 use Rattle.probabilities.specs.inner.Remembered.{IsBounded, IsBoundedAt, KnowsBounds}
 use Rattle.probabilities.specs.inner.Sharp.{IsSharp, IsSharpStep}
 use Rattle.probabilities.proofs.Sharpening.{node_sharp}
-use Rattle.decimals.specs.inner.Decimals.{parts}
+use Rattle.decimals.specs.Decimals.{parts}
 use Rattle.std.proofs.Math.Nat.{mul-le-mul_left}
 use Rattle.decimals.proofs.Nearness.{near_more, more_places}
 use Rattle.probabilities.specs.declared.rates.Bounds.{Bounds}
@@ -157,3 +160,29 @@ pub sharp_list : (whole : ℕ) (list : List Rate) (family : Family) (result : Re
 sharp_list whole list family (Err none) right = right
 sharp_list whole list family (Ok None) right = right
 sharp_list whole list family (Ok (Some bounds)) right = right.sharp
+
+-- ---- the ends
+
+-- a family is not both without a set and that of the empty set
+pub not_both : (family : Family) → family ≡ [] → family ≡ [] ∷ [] → ⊥
+not_both family none full = apart (sym none ∙ full)
+  where
+    apart : ◌≡◌ {A = Family} [] ([] ∷ []) → ⊥
+    apart same = absurd (cc (same))
+
+-- a family with a number is no end
+pub no_end : (whole var : ℕ) (family : Family) (bounds : Bounds) → least_number family ≡ var → var < 4294967296 → AreEnds whole family bounds
+unfolding least_number least_of
+no_end whole var family bounds least few =
+    record {
+      none = λ is. absurd (above (sym (ap least_number is) ∙ least));
+      full = λ is. absurd (above (sym (ap least_number is) ∙ least));
+    }
+  where
+    above : 4294967296 ≡ var → ⊥
+    above same = absurd (omega (arith, few))
+
+pub no_ends : (whole var : ℕ) (family : Family) (result : Result (Option Bounds) AllocError) → least_number family ≡ var → var < 4294967296 → IfOk result (λ found. IfSome found (AreEnds whole family))
+no_ends whole var family (Ok (Some bounds)) least few = no_end whole var family bounds least few
+no_ends whole var family (Ok None) least few = tt
+no_ends whole var family (Err none) least few = tt

@@ -3,7 +3,8 @@ use Rattle.std.proofs.Common.{ℕ, ◌+◌, ◌*◌, ◌-◌, ◌^◌, ◌≤◌
 use Rattle.std.specs.Prelude.{IsTrue, ◌||◌}
 use Rattle.std.proofs.Math.Nat.{pow-zero, pow-succ', mul-le-mul_left}
 use Rattle.zdd_store.specs.inner.Family.{has}
-use Rattle.probabilities.specs.inner.Weights.{weight, IsApart, AreDistinct, Grows}
+use Rattle.probabilities.specs.Weights.{weight}
+use Rattle.probabilities.specs.inner.Weights.{IsApart, AreDistinct, Grows}
 use Rattle.probabilities.proofs.Cases.{weight-cases, weight-skips, weight-none, weight-le}
 
 -- p and q out of d; a and b at the first weights, x and y at the second

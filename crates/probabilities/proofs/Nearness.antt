@@ -1,7 +1,7 @@
 -- The bounds of families that are near, from those of their parts.
 use Rattle.std.proofs.Common.{ℕ, ◌+◌, ◌*◌, ◌^◌, ◌≤◌, ◌<◌, ◌≡◌, subst, arith}
 use Rattle.std.proofs.Math.Nat.{le_of_mul-le-mul_left, mul-le-mul_left, mul-le-mul_right, mul-le-mul}
-use Rattle.decimals.specs.inner.Decimals.{AreNear}
+use Rattle.decimals.specs.Decimals.{AreNear}
 use Rattle.decimals.proofs.Nearness.{near_then, near_times, near_plus, near_cancel, near_scale}
 
 -- a lower bound of a family, by two products and their sum

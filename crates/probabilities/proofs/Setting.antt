@@ -5,16 +5,20 @@ use Rattle.std.specs.declared.alloc.AllocError.{AllocError}
 use Rattle.std.proofs.lemmas.Bool.{eqb-true, eqb-false, eq-eqb, ne_eqb, false≢true}
 use Rattle.std.proofs.lemmas.Option.{slice_get_within, slice_get-get_or, get_or_from_slice_get}
 use Rattle.std.proofs.lemmas.List.{get_or-set_same, get_or-set_other, length-set}
-use Rattle.decimals.specs.inner.Decimals.{parts}
+use Rattle.decimals.specs.Decimals.{parts}
 use Rattle.zdd_store.specs.inner.Family.{Family, least_number}
 use Rattle.probabilities.specs.declared.rates.Bounds.{Bounds}
 use Rattle.probabilities.specs.declared.rates.Rate.{Rate}
-use Rattle.probabilities.specs.inner.Rates.{Rates, AreRates}
-use Rattle.probabilities.specs.inner.Decided.{AreBoundsOf, AreRated, IsRateOf, FitWhole, rates_of, low_of, high_of}
-use Rattle.probabilities.specs.inner.Widths.{AreNarrow, AreNarrowRates, IsNarrowRate}
-use Rattle.probabilities.specs.inner.Sharp.{AreParted, AreSharp, AreSharpRates, IsSharpRate}
+use Rattle.probabilities.specs.Rates.{Rates}
+use Rattle.probabilities.specs.inner.Rates.{AreRates}
+use Rattle.probabilities.specs.Decided.{rates_of, low_of, high_of}
+use Rattle.probabilities.specs.inner.Decided.{AreBoundsOf, AreRated, IsRateOf, FitWhole}
+use Rattle.probabilities.specs.Widths.{AreNarrow, AreNarrowRates, IsNarrowRate}
+use Rattle.probabilities.specs.Sharp.{AreSharpRates, IsSharpRate}
+use Rattle.probabilities.specs.inner.Sharp.{AreParted, AreSharp}
 use Rattle.probabilities.specs.inner.Remembered.{IsBounded}
-use Rattle.probabilities.specs.inner.Certain.{certain, IsCertain, AreCertainBounds}
+use Rattle.probabilities.specs.Certain.{certain}
+use Rattle.probabilities.specs.inner.Certain.{IsCertain, AreCertainBounds}
 use Rattle.probabilities.proofs.Deciding.{rates_right, rates_rated}
 
 -- the rate at a number
@@ -94,14 +98,9 @@ sharp_set whole places event list rate inside near all e r found = at (at_set li
     at (inr there) = all e r there.1
 
 -- no event occurs more often than always
-certain_parted : (whole k event places : ℕ) (list : List Rate) → k ≤ 10 ^ whole → AreSharpRates whole places list → AreParted (10 ^ whole) (certain (10 ^ whole) k event (rates_of whole list))
-certain_parted whole k event places list few all =
-    record { low = λ e. at (e == event) (low_of (slice_get list e)) (low (slice_get list e) (all e)); high = λ e. at (e == event) (high_of whole (slice_get list e)) (high (slice_get list e) (all e)) }
+pub rates_parted : (whole places : ℕ) (list : List Rate) → AreSharpRates whole places list → AreParted (10 ^ whole) (rates_of whole list)
+rates_parted whole places list all = record { low = λ e. low (slice_get list e) (all e); high = λ e. high (slice_get list e) (all e) }
   where
-    at : (b : Bool) (x : ℕ) → x ≤ 10 ^ whole → (if b then k else x) ≤ 10 ^ whole
-    at true x h = few
-    at false x h = h
-
     low : (found : Option Rate) → ((rate : Rate) → found ≡ Some rate → IsSharpRate whole places rate) → low_of found ≤ 10 ^ whole
     low None each = omega arith
     low (Some rate) each = let r = each rate refl in omega (arith, r.least)
@@ -109,6 +108,13 @@ certain_parted whole k event places list few all =
     high : (found : Option Rate) → ((rate : Rate) → found ≡ Some rate → IsSharpRate whole places rate) → high_of whole found ≤ 10 ^ whole
     high None each = omega arith
     high (Some rate) each = (each rate refl).most
+
+certain_parted : (s k event : ℕ) (rates : Rates) → k ≤ s → AreParted s rates → AreParted s (certain s k event rates)
+certain_parted s k event rates few parted = record { low = λ e. at (e == event) (rates.low e) (parted.low e); high = λ e. at (e == event) (rates.high e) (parted.high e) }
+  where
+    at : (b : Bool) (x : ℕ) → x ≤ s → (if b then k else x) ≤ s
+    at true x h = few
+    at false x h = h
 
 -- bounds with another rate are bounds where the event is certain
 pub certain_bounds : (whole k event : ℕ) (list : List Rate) (rate : Rate) (family : Family) (bounds : Bounds) → event < length list → k ≤ 10 ^ whole → FitWhole whole list
@@ -120,7 +126,7 @@ certain_bounds whole k event list rate family bounds inside few fit is near keen
           (bounded.all (certain (10 ^ whole) k event (rates_of whole list)) (certain_right (10 ^ whole) k event (rates_of whole list) few (rates_right whole list fit)) (certain_rated whole k event list rate inside is));
       sharp = λ places all room.
           subst (λ (n : ℕ). AreSharp whole places (certain (10 ^ whole) k event (rates_of whole list)) n family bounds) same
-          (bounded.sharp (certain (10 ^ whole) k event (rates_of whole list)) places (certain_parted whole k event places list few all) (certain_rated whole k event list rate inside is)
+          (bounded.sharp (certain (10 ^ whole) k event (rates_of whole list)) places (certain_parted (10 ^ whole) k event (rates_of whole list) few (rates_parted whole places list all)) (certain_rated whole k event list rate inside is)
           (sharp_set whole places event list rate inside (keen places) all) (subst (λ (n : ℕ). places * n ≤ whole) (sym same) room));
       narrow = λ places units all room.
           subst (λ (n : ℕ). AreNarrow whole places units (n - least_number family) bounds) same

@@ -3,13 +3,13 @@ use Rattle.std.proofs.Common.{ℕ, zero, suc, ◌+◌, ◌-◌, ◌*◌, ◌^◌
 use Rattle.std.specs.Prelude.{◌⊎◌}
 use Rattle.std.proofs.lemmas.Bool.{cases_lt}
 use Rattle.std.proofs.Math.Nat.{pow-succ', mul-le-mul_left}
-use Rattle.decimals.specs.inner.Decimals.{parts, AreNear, HasPlaces}
+use Rattle.decimals.specs.Decimals.{parts, AreNear, HasPlaces}
 use Rattle.decimals.proofs.Nearness.{near_same, near_then, near_times, near_plus, near_more, near_scale, more_places}
 use Rattle.zdd_store.specs.inner.Family.{Family, least_number, covers}
 use Rattle.probabilities.specs.declared.rates.Bounds.{Bounds}
 use Rattle.probabilities.specs.declared.rates.Rate.{Rate}
-use Rattle.probabilities.specs.inner.Weights.{weight, numbers}
-use Rattle.probabilities.specs.inner.Rates.{Rates}
+use Rattle.probabilities.specs.Weights.{weight, numbers}
+use Rattle.probabilities.specs.Rates.{Rates}
 use Rattle.probabilities.specs.inner.Bounded.{AreParts}
 use Rattle.probabilities.specs.inner.Decided.{AreRated}
 use Rattle.probabilities.specs.inner.Widths.{IsNearBelow, IsNearAbove}

@@ -4,7 +4,8 @@ use Rattle.std.specs.List.{sum_by}
 use Rattle.std.proofs.lemmas.List.Sums.{sum_by-append, sum_by-cons}
 use Rattle.std.proofs.lemmas.Grind.{common_steps}
 use Rattle.zdd_store.specs.inner.Family.{has}
-use Rattle.probabilities.specs.inner.Weights.{subsets, IsApart}
+use Rattle.probabilities.specs.Weights.{subsets}
+use Rattle.probabilities.specs.inner.Weights.{IsApart}
 
 -- the sum over all sets of the events
 abbrev pub total : List ℕ → (List ℕ → ℕ) → ℕ

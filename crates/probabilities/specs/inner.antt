@@ -1,9 +1,9 @@
-pub mod Weights
-pub mod Rates
 pub mod Bounded
-pub mod Decided
-pub mod Widths
-pub mod Remembered
 pub mod Certain
 pub mod Cofactors
+pub mod Decided
+pub mod Rates
+pub mod Remembered
 pub mod Sharp
+pub mod Weights
+pub mod Widths

@@ -4,7 +4,8 @@ ghost use Rattle.std.specs.Prelude.{◌<◌, ◌≡◌, IfOk, IfSome, IfNone, So
 ghost use Rattle.std.specs.HashMap.{get};
 ghost use Rattle.zdd_store.specs.inner.Family.{Family, IsAntichain};
 ghost use Rattle.zdd_store.specs.inner.Store.{IsIn, Keeps, family_of};
-ghost use Rattle.probabilities.specs.inner.Decided.{AreBoundsOf, FitWhole, rates_of};
+ghost use Rattle.probabilities.specs.Decided.{rates_of};
+ghost use Rattle.probabilities.specs.inner.Decided.{AreBoundsOf, AreEnds, FitWhole};
 ghost use Rattle.probabilities.specs.inner.Widths.{IsNarrowed};
 ghost use Rattle.probabilities.specs.inner.Sharp.{IsSharp};
 ghost use Rattle.probabilities.specs.inner.Remembered.{IsBoundedAt, KnowsBounds, Bounded};
@@ -120,8 +121,12 @@ pub fn family_bounds(
     ensures narrow { IfOk result (λ found. IfSome found (IsNarrowed whole rates.now (family_of store.old id))) }
     ensures sharp { IfOk result (λ found. IfSome found (IsSharp whole rates.now (family_of store.old id))) }
     ensures none { IsAntichain (family_of store.old id) → IfOk result (λ found. IfNone found (IsGivenUp (length rates.now) most (family_of store.old id))) }
+    ensures ends { IfOk result (λ found. IfSome found (AreEnds whole (family_of store.old id))) }
     ensures kept { Keeps store.old store.new }
 {
+    let Some(_node) = look(store, id) else {
+        return Ok(Some(end_bounds(store, rates, id, whole)));
+    };
     let mut known = HashMap::new(alloc);
     bounds_in(store, rates, whole, most, &mut known, id)
 }

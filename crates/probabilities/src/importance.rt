@@ -6,8 +6,8 @@ ghost use Rattle.zdd_store.specs.inner.Store.{IsIn, Keeps, family_of};
 ghost use Rattle.probabilities.specs.inner.Decided.{FitWhole};
 ghost use Rattle.probabilities.specs.inner.Certain.{AreCertainBounds, IsCertain};
 ghost use Rattle.probabilities.specs.inner.Cofactors.{IsGivenUp};
-ghost use Rattle.probabilities.specs.inner.Widths.{IsNarrowRate};
-ghost use Rattle.probabilities.specs.inner.Sharp.{IsSharpRate};
+ghost use Rattle.probabilities.specs.Widths.{IsNarrowRate};
+ghost use Rattle.probabilities.specs.Sharp.{IsSharpRate};
 
 use crate::families::bounds_in;
 use crate::rates::{Bounds, Rate};

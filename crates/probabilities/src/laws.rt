@@ -2,8 +2,10 @@
 
 ghost use Rattle.std.specs.Prelude.{◌≡◌, ◌≤◌, ◌<◌, ◌+◌, ◌-◌, ◌*◌, ◌^◌, ◌∷◌, [], ℕ, Bool, true, List, length, min};
 ghost use Rattle.zdd_store.specs.inner.Family.{Family, least_number};
-ghost use Rattle.probabilities.specs.inner.Weights.{weight, IsApart, AreDistinct, Grows};
-ghost use Rattle.probabilities.specs.inner.Rates.{Rates, AreRates};
+ghost use Rattle.probabilities.specs.Weights.{weight};
+ghost use Rattle.probabilities.specs.inner.Weights.{IsApart, AreDistinct, Grows};
+ghost use Rattle.probabilities.specs.Rates.{Rates};
+ghost use Rattle.probabilities.specs.inner.Rates.{AreRates};
 ghost use Rattle.probabilities.specs.inner.Bounded.{AreParts, IsLowerBound, IsUpperBound};
 
 /// How often a condition holds, by cases of one event.

@@ -1,11 +1,12 @@
 //! Bounds of the probabilities of events and of families, as decimals.
 
 ghost use Rattle.std.specs.Prelude.{ℕ, ◌≤◌, ◌≡◌, ◌^◌, ◌-◌};
-ghost use Rattle.decimals.specs.inner.Decimals.{parts, AreNear, IsNear, HasPlaces};
-ghost use Rattle.probabilities.specs.inner.Decided.{FitsWhole};
+ghost use Rattle.decimals.specs.Decimals.{parts, AreNear, HasPlaces};
+ghost use Rattle.decimals.specs.inner.Decimals.{IsNear};
+ghost use Rattle.probabilities.specs.Decided.{FitsWhole};
 ghost use Rattle.probabilities.specs.inner.Certain.{IsCertain};
-ghost use Rattle.probabilities.specs.inner.Widths.{IsNarrowRate};
-ghost use Rattle.probabilities.specs.inner.Sharp.{IsSharpRate};
+ghost use Rattle.probabilities.specs.Widths.{IsNarrowRate};
+ghost use Rattle.probabilities.specs.Sharp.{IsSharpRate};
 
 use decimals::Decimal;
 

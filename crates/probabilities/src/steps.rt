@@ -1,12 +1,13 @@
 //! The step from the bounds of a family's parts to those of the family.
 
 ghost use Rattle.std.specs.Prelude.{◌≤◌, ◌<◌, ◌≡◌, ◌*◌, ◌+◌, ◌^◌, min, ℕ, IfSome, slice_get, length};
-ghost use Rattle.decimals.specs.inner.Decimals.{parts, HasPlaces};
+ghost use Rattle.decimals.specs.Decimals.{parts, HasPlaces};
 ghost use Rattle.zdd_store.specs.inner.Family.{Family};
 ghost use Rattle.zdd_store.specs.inner.Store.{family_of};
-ghost use Rattle.probabilities.specs.inner.Rates.{Rates};
-ghost use Rattle.probabilities.specs.inner.Decided.{AreBoundsOf, IsStep};
-ghost use Rattle.probabilities.specs.inner.Widths.{AreNarrow, IsNarrowRate, IsNearBelow, IsNearAbove};
+ghost use Rattle.probabilities.specs.Rates.{Rates};
+ghost use Rattle.probabilities.specs.inner.Decided.{AreBoundsOf, AreEnds, IsStep};
+ghost use Rattle.probabilities.specs.Widths.{AreNarrow, IsNarrowRate};
+ghost use Rattle.probabilities.specs.inner.Widths.{IsNearBelow, IsNearAbove};
 ghost use Rattle.probabilities.specs.inner.Remembered.{IsBounded};
 ghost use Rattle.probabilities.specs.inner.Sharp.{IsSharpStep};
 
@@ -54,7 +55,8 @@ pub(crate) fn family_step(rate: Rate, lo: Bounds, hi: Bounds, whole: u32) -> Bou
 /// The bounds of EMPTY, which no event covers, and of UNIT, which each does.
 pub(crate) fn end_bounds(store: &Store, rates: &[Rate], id: Id, whole: u32) -> Bounds
     requires { id.position < 2 }
-    ensures { IsBounded whole rates.now (family_of store.now id) result }
+    ensures bounds { IsBounded whole rates.now (family_of store.now id) result }
+    ensures ends { AreEnds whole (family_of store.now id) result }
 {
     store.laws();
     let _count = rates.len();

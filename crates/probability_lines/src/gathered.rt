@@ -1,15 +1,16 @@
 //! Which lines tell of a probability.
 
-ghost use Rattle.std.specs.Prelude.{◌≡◌, ◌++◌, ◌∷◌, ◌<◌, ◌^◌, [], IfOk, OnOk, length, option_copied};
+ghost use Rattle.std.specs.Prelude.{◌≡◌, ◌++◌, IfOk, OnOk, option_copied, slice_index_or};
+ghost use Rattle.std.specs.List.{flat_map};
 ghost use Rattle.fault_system.specs.Systems.{event_name};
-ghost use Rattle.probability_lines.specs.declared.line.Line.TheVariants.{AtLeast, AtMost};
-ghost use Rattle.probability_lines.specs.inner.Gathered.{event_lines, hours_lines, lines_of, numbered, unrated_lines};
+ghost use Rattle.event_probabilities.specs.declared.finding.Found.TheVariants.{Rated};
+ghost use Rattle.probability_lines.specs.Gathered.{bounds_lines, event_lines, hours_lines, lines_of, unrated_at, unrated_lines};
 
-use crate::line::Line;
+use crate::line::{EventImportance, Line};
 use event_probabilities::Found;
 use fault_system::FaultSystem;
 use plain_values::{List, Mem, Name};
-use probabilities::{Bounds, Importance};
+use probabilities::Bounds;
 use std::alloc::Global;
 
 /// A text, as a list of its own.
@@ -32,6 +33,16 @@ fn add_hours(alloc: Global, lines: &mut List<Line>, hours: Option<&[u8]>) -> Mem
     }
 }
 
+/// What is found of an event by its number.
+fn found_at(found: &[Found], number: u32) -> Found
+    ensures { result ≡ slice_index_or found.now number Rated }
+{
+    match found.get(number as usize) {
+        Some(found) => *found,
+        None => Found::Rated,
+    }
+}
+
 /// Adds the line of an event that has no probability.
 fn add_unrated(
     alloc: Global,
@@ -51,20 +62,33 @@ fn add_unrated(
     }
 }
 
-/// Adds the lines of the events that have no probability.
+/// Adds the lines of those of some events that have no probability.
 fn add_all_unrated(
     alloc: Global,
     lines: &mut List<Line>,
     system: &FaultSystem,
+    events: &[u32],
     found: &[Found],
 ) -> Mem<()>
-    requires { length found.now < 2 ^ 32 }
-    ensures { OnOk result (lines.new ≡ lines.old ++ numbered (unrated_lines system.now) 0 found.now) }
+    ensures { OnOk result (lines.new ≡ lines.old ++ flat_map (unrated_at system.now found.now) events.now) }
 {
-    for number in 0..found.len() as u32 {
-        add_unrated(alloc, lines, system, number, found[number as usize])?;
+    for number in events {
+        add_unrated(alloc, lines, system, *number, found_at(found, *number))?;
     }
     Ok(())
+}
+
+/// Adds the lines of the two bounds; where none are found, they are 0 and 1.
+fn add_bounds(lines: &mut List<Line>, bounds: Option<Bounds>) -> Mem<()>
+    ensures { OnOk result (lines.new ≡ lines.old ++ bounds_lines bounds) }
+{
+    match bounds {
+        None => lines.push(Line::Large),
+        Some(bounds) => {
+            lines.push(Line::AtLeast(bounds.lower))?;
+            lines.push(Line::AtMost(bounds.upper))
+        }
+    }
 }
 
 /// Adds the line of an event's importance.
@@ -72,13 +96,12 @@ fn add_event(
     alloc: Global,
     lines: &mut List<Line>,
     system: &FaultSystem,
-    number: u32,
-    both: Importance,
+    its: &EventImportance,
 ) -> Mem<()>
-    ensures { OnOk result (lines.new ≡ lines.old ++ event_lines system.now number both) }
+    ensures { OnOk result (lines.new ≡ lines.old ++ event_lines system.now its.now) }
 {
-    let name = name_of(alloc, system.event_name(number))?;
-    lines.push(Line::Event(name, both.never, both.always))
+    let name = name_of(alloc, system.event_name(its.event))?;
+    lines.push(Line::Event(name, its.both.never, its.both.always))
 }
 
 /// Adds the lines of the importance of events.
@@ -86,42 +109,32 @@ fn add_events(
     alloc: Global,
     lines: &mut List<Line>,
     system: &FaultSystem,
-    importances: &[Importance],
+    importances: &[EventImportance],
 ) -> Mem<()>
-    requires { length importances.now < 2 ^ 32 }
-    ensures { OnOk result (lines.new ≡ lines.old ++ numbered (event_lines system.now) 0 importances.now) }
+    ensures { OnOk result (lines.new ≡ lines.old ++ flat_map (event_lines system.now) importances.now) }
 {
-    for number in 0..importances.len() as u32 {
-        add_event(alloc, lines, system, number, importances[number as usize])?;
+    for its in importances {
+        add_event(alloc, lines, system, its)?;
     }
     Ok(())
 }
 
-/// Adds the lines of the two bounds.
-fn add_bounds(lines: &mut List<Line>, bounds: Bounds) -> Mem<()>
-    ensures { OnOk result (lines.new ≡ lines.old ++ (AtLeast bounds.lower ∷ (AtMost bounds.upper ∷ []))) }
-{
-    lines.push(Line::AtLeast(bounds.lower))?;
-    lines.push(Line::AtMost(bounds.upper))
-}
-
-/// The lines of a probability: the hours, if they are given, each event that has none, the bounds, the importance of each
-/// event, which may be none, and the end. Events stand by their numbers.
+/// The lines of a probability: the hours, if they are given, those of these events that have none, the bounds, which are 0 and 1 where
+/// none are found, the importance of events, which may be left out, and the end.
 pub fn lines_of(
     alloc: Global,
     system: &FaultSystem,
     hours: Option<&[u8]>,
+    events: &[u32],
     found: &[Found],
-    bounds: Bounds,
-    importances: &[Importance],
+    bounds: Option<Bounds>,
+    importances: &[EventImportance],
 ) -> Mem<List<Line>>
-    requires found { length found.now < 2 ^ 32 }
-    requires importances { length importances.now < 2 ^ 32 }
-    ensures { IfOk result (λ lines. lines ≡ lines_of system.now (option_copied hours.entry) found.now bounds importances.now) }
+    ensures { IfOk result (λ lines. lines ≡ lines_of system.now (option_copied hours.entry) events.now found.now bounds importances.now) }
 {
     let mut lines = List::new(alloc);
     add_hours(alloc, &mut lines, hours)?;
-    add_all_unrated(alloc, &mut lines, system, found)?;
+    add_all_unrated(alloc, &mut lines, system, events, found)?;
     add_bounds(&mut lines, bounds)?;
     add_events(alloc, &mut lines, system, importances)?;
     lines.push(Line::End)?;

@@ -5,8 +5,7 @@
 mod gathered;
 mod line;
 mod pushed;
-mod source;
 
 pub use gathered::lines_of;
-pub use line::Line;
-pub use source::ProbabilityLines;
+pub use line::{EventImportance, Line};
+pub use pushed::text_of;

@@ -3,7 +3,7 @@
 use decimals::Decimal;
 use event_probabilities::Found;
 use plain_values::Name;
-use probabilities::Bounds;
+use probabilities::{Bounds, Importance};
 
 /// A line.
 #[derive(Drop)]
@@ -12,6 +12,8 @@ pub enum Line {
     Hours(Name),
     /// An event that has no probability, by its name, and why.
     Unrated(Name, Found),
+    /// No bounds are found: the bounds 0 and 1.
+    Large,
     /// The lower bound.
     AtLeast(Decimal),
     /// The upper bound.
@@ -20,4 +22,11 @@ pub enum Line {
     Event(Name, Bounds, Bounds),
     /// The end.
     End,
+}
+
+/// The importance of an event, by its number.
+#[derive(Clone, Copy)]
+pub struct EventImportance {
+    pub event: u32,
+    pub both: Importance,
 }

@@ -1,14 +1,15 @@
 //! Lines as bytes.
 
-ghost use Rattle.std.specs.Prelude.{◌≡◌, ◌++◌, ◌<◌, OnOk, codes, length};
-ghost use Rattle.decimals.specs.inner.DecimalTexts.{decimal_text};
-ghost use Rattle.probability_lines.specs.inner.ProbabilityText.{bounds_text, line_text, reason_text};
+ghost use Rattle.std.specs.Prelude.{◌≡◌, ◌++◌, IfOk, OnOk, codes};
+ghost use Rattle.decimals.specs.DecimalTexts.{decimal_text};
+ghost use Rattle.probability_lines.specs.ProbabilityText.{bounds_text, line_text, lines_text, reason_text};
 
 use crate::line::Line;
 use decimals::Decimal;
 use event_probabilities::Found;
 use plain_values::Mem;
 use probabilities::Bounds;
+use std::alloc::Global;
 
 /// Adds why an event has no probability.
 fn push_reason(text: &mut Vec<u8>, found: Found) -> Mem<()>
@@ -17,6 +18,10 @@ fn push_reason(text: &mut Vec<u8>, found: Found) -> Mem<()>
     match found {
         Found::NoProbability => {
             text.extend_from_slice(b" not-a-probability")?;
+            Ok(())
+        }
+        Found::WithoutHours => {
+            text.extend_from_slice(b" without-hours")?;
             Ok(())
         }
         _ => Ok(()),
@@ -111,12 +116,16 @@ fn push_hours(text: &mut Vec<u8>, hours: &[u8]) -> Mem<()>
 }
 
 /// Adds a line.
-pub fn push_line(text: &mut Vec<u8>, whole: u32, line: &Line) -> Mem<()>
+fn push_line(text: &mut Vec<u8>, whole: u32, line: &Line) -> Mem<()>
     ensures { OnOk result (text.new.items ≡ text.old.items ++ line_text whole line.now) }
 {
     match line {
         Line::Hours(hours) => push_hours(text, hours.items()),
         Line::Unrated(name, found) => push_unrated(text, name.items(), *found),
+        Line::Large => {
+            text.extend_from_slice(b"large\nat-least 0\nat-most 1\n")?;
+            Ok(())
+        }
         Line::AtLeast(bound) => push_bound(text, b"at-least ", whole, *bound),
         Line::AtMost(bound) => push_bound(text, b"at-most ", whole, *bound),
         Line::Event(name, never, always) => push_event(text, whole, name.items(), never, always),
@@ -125,4 +134,15 @@ pub fn push_line(text: &mut Vec<u8>, whole: u32, line: &Line) -> Mem<()>
             Ok(())
         }
     }
+}
+
+/// The text of some lines, with decimals as parts of the whole.
+pub fn text_of(alloc: Global, lines: &[Line], whole: u32) -> Mem<Vec<u8>>
+    ensures { IfOk result (λ text. text.items ≡ lines_text whole lines.now) }
+{
+    let mut text = Vec::new(alloc);
+    for line in lines {
+        push_line(&mut text, whole, line)?;
+    }
+    Ok(text)
 }

@@ -9,3 +9,4 @@ pub mod Reported
 pub mod Decided
 pub mod Derived
 pub mod WrittenPages
+pub mod Probable

@@ -20,6 +20,7 @@ use Rattle.path_sets.specs.PathSets.{HasLargePaths, IsPathListing}
 use Rattle.system_answers.specs.Galileo.{LacksNamedTree}
 use Rattle.fta_words.specs.declared.command.Paging.{Paging}
 use Rattle.system_answers.specs.Targets.{IsFactNamed, IsStart, LacksStart, LacksTarget}
+use Rattle.system_answers.specs.Probability.{TellsProbability}
 use Rattle.system_answers.specs.Trees.{IsFormed, LacksRate, LacksTree, unrated_in}
 use Rattle.system_answers.specs.declared.form.TreeForm.{TreeForm}
 use Rattle.system_answers.specs.declared.form.TreeFormat.TheVariants.{Dot}
@@ -88,6 +89,13 @@ tree_text target form system rates = do
   number ← target_of target system
   _ ← slice_of number system
   formed_tree number form system rates
+
+-- the text of `probability`, in so many hours, if they are given, and with the importance of events, where it is asked for
+abbrev pub probability_text : List ℕ → Option (List ℕ) → Bool → System → List Rate → Phase (List ℕ)
+probability_text target hours asked system rates = do
+  number ← target_of target system
+  slice ← slice_of number system
+  accepts (TellsProbability system rates number slice.events hours asked)
 
 -- the text of the chosen reports on a target's listing
 abbrev pub reports_of : ℕ → List ℕ → Option ℕ → List Voice → System → Phase (List ℕ)

@@ -1,3 +1,4 @@
 pub mod Ends
 pub mod Forms
 pub mod Fronts
+pub mod Probable

@@ -159,7 +159,7 @@ fn limited_writer(
 }
 
 /// The minimal cut sets of the target of a slice, as a family.
-fn cut_family(
+pub fn cut_family(
     alloc: Global,
     system: &FaultSystem,
     part: &Slice,

@@ -2,6 +2,7 @@
 #![tactic(auto)]
 
 mod answers;
+mod chances;
 mod cut_sets;
 mod derivation_laws;
 mod derivations_text;
@@ -10,12 +11,14 @@ mod form;
 mod fronts;
 mod galileo;
 mod galileo_laws;
+mod known;
 mod path_pages;
 mod reports;
 mod target;
 mod trees;
 
 pub use answers::{cuts, paths, report, tree};
+pub use chances::probability;
 pub use cut_sets::{find_slice, page_writer};
 pub use derivation_laws::{accepts_why, holds_where_accepted};
 pub use derivations_text::{confirmed, why};

@@ -1,28 +1,12 @@
--- What decimals are worth, when two numbers are near, and what it means that a number is rounded down or up.
+-- What it means that a number is rounded down or up.
 use Rattle.std.specs.Prelude.{ℕ, ◌+◌, ◌*◌, ◌^◌, ◌<◌, ◌≤◌, ◌≡◌, ◌⊎◌, min}
-use Rattle.decimals.specs.declared.decimal.Decimal.{Decimal}
 use Rattle.decimals.specs.declared.rounding.Shortened.{Shortened}
 use Rattle.decimals.specs.declared.rounding.Side.{Side}
 use Rattle.decimals.specs.declared.rounding.Side.TheVariants.{Down, Up}
 
--- in parts of the whole
-abbrev pub parts : Decimal → ℕ
-parts x = x.mantissa * 10 ^ x.exponent
-
 -- the first number is above the second by one in the 17th digit at most
 abbrev pub IsNear : ℕ → ℕ → Type 0
 IsNear more less = more * 100000000000000000 ≤ less * 100000000000000001
-
--- it is above the second by at most so many times one in the 17th digit
-abbrev pub AreNear : ℕ → ℕ → ℕ → Type 0
-AreNear times more less = more * 100000000000000000 ^ times ≤ less * 100000000000000001 ^ times
-
--- a number with zeros behind it has at most so many places behind the point of the whole: it is nothing, or has the other zeros
-abbrev pub HavePlaces : ℕ → ℕ → ℕ → ℕ → Type 0
-HavePlaces whole places number exponent = (number ≡ 0) ⊎ (whole ≤ exponent + places)
-
-abbrev pub HasPlaces : ℕ → ℕ → Decimal → Type 0
-HasPlaces whole places x = HavePlaces whole places x.mantissa x.exponent
 
 -- a number, rounded to so many of a part: it is less than one part away
 abbrev pub IsCut : Side → ℕ → ℕ → ℕ → Type 0

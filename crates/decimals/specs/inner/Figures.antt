@@ -1,10 +1,8 @@
 -- The first digits of numbers.
 use Rattle.std.specs.Prelude.{ℕ, ◌+◌, ◌*◌, ◌^◌, ◌<◌, ◌≤◌, ◌≡◌, ◌⊎◌, false, Option, None, Some}
-use Rattle.decimals.specs.declared.decimal.Decimal.{Decimal}
 use Rattle.decimals.specs.declared.figures.Figures.{Figures}
 use Rattle.decimals.specs.declared.numeral.Numeral.{Numeral}
-use Rattle.decimals.specs.inner.Decimals.{parts}
-use Rattle.decimals.specs.inner.Numerals.{Number}
+use Rattle.decimals.specs.Numerals.{Number}
 
 -- the first 18 digits of a number, how many are dropped behind them, and whether one of these is not 0
 pub record AreFigures (n : ℕ) (x : Figures) : Type 0 where
@@ -27,10 +25,3 @@ IsReadAs None None = Unit {0}
 IsReadAs None (Some x) = ⊥
 IsReadAs (Some number) None = ⊥
 IsReadAs (Some number) (Some x) = IsRead number x
-
--- what a number comes to in parts of the whole, and what a decimal does, both times what the number is divided by
-abbrev pub number_parts : ℕ → Number → ℕ
-number_parts whole number = number.digits * 10 ^ (number.raised + whole)
-
-abbrev pub decimal_parts : Number → Decimal → ℕ
-decimal_parts number x = parts x * 10 ^ number.lowered

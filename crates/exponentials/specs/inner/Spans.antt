@@ -1,9 +1,9 @@
 -- Bounds of numbers, in parts of the whole.
 use Rattle.std.specs.Prelude.{ℕ, ◌-◌, ◌*◌, ◌^◌, ◌<◌, ◌≤◌, ◌≡◌, ◌⊎◌}
-use Rattle.decimals.specs.inner.Decimals.{parts}
+use Rattle.decimals.specs.Decimals.{parts}
 use Rattle.exponentials.specs.declared.span.Span.{Span}
 use Rattle.exponentials.specs.declared.halving.Chance.{Chance}
-use Rattle.exponentials.specs.inner.Exponentials.{IsAtLeastChance, IsAtMostChance}
+use Rattle.exponentials.specs.Exponentials.{IsAtLeastChance, IsAtMostChance}
 
 -- n out of d is no less than the lower bound
 abbrev pub IsAbove : ℕ → ℕ → ℕ → Span → Type 0

@@ -1,9 +1,9 @@
 -- Bounds of the partial of the series, term by term.
 use Rattle.std.specs.Prelude.{ℕ, ◌+◌, ◌*◌, ◌^◌, ◌<◌, ◌≤◌, min}
-use Rattle.decimals.specs.inner.Decimals.{parts}
+use Rattle.decimals.specs.Decimals.{parts}
 use Rattle.exponentials.specs.declared.span.Span.{Span}
 use Rattle.exponentials.specs.declared.series.Terms.{Terms}
-use Rattle.exponentials.specs.inner.Exponentials.{below, partial}
+use Rattle.exponentials.specs.Exponentials.{below, partial}
 use Rattle.exponentials.specs.inner.Spans.{IsWithin}
 
 -- the last term and the partial lie within their bounds

@@ -1,9 +1,9 @@
 -- How far apart bounds are.
 use Rattle.std.specs.Prelude.{ℕ, ◌+◌, ◌*◌, ◌^◌, ◌≤◌, ◌≡◌}
-use Rattle.decimals.specs.inner.Decimals.{parts, AreNear, HasPlaces}
+use Rattle.decimals.specs.Decimals.{parts, AreNear, HasPlaces}
 use Rattle.exponentials.specs.declared.span.Span.{Span}
 use Rattle.exponentials.specs.declared.series.Terms.{Terms}
-use Rattle.exponentials.specs.inner.Exponentials.{below}
+use Rattle.exponentials.specs.Exponentials.{below}
 
 -- two bounds have at most so many places, and the upper one is no less than the lower one, and above it by at most so many times one in
 -- the 17th digit
@@ -12,14 +12,6 @@ pub record IsNarrow (whole places units : ℕ) (span : Span) : Type 0 where
   pub high_places : HasPlaces whole places span.high
   pub order : parts span.low ≤ parts span.high
   pub near : AreNear units (parts span.high) (parts span.low)
-
--- the places that 1 - e^(-x) has where x, up to 1, has so many
-abbrev pub chance_places : ℕ → ℕ
-chance_places places = 23 * places + 396
-
--- and how near its bounds are, where those of x are near by so much
-abbrev pub chance_units : ℕ → ℕ
-chance_units units = 331 * units + 17166
 
 -- So many terms are narrow, and so are their sums; the last term is small, the sums are three fourths of the whole at most, and the terms
 -- with the sign of the first come to no less than the others.

@@ -2,8 +2,8 @@
 use Rattle.std.specs.Prelude.{ℕ, ◌+◌, ◌*◌, ◌^◌, ◌<◌, ◌≤◌, ◌≡◌, List, IsTrue}
 use Rattle.zdd_store.specs.inner.Family.{Family, least_number, covers}
 use Rattle.zdd_families.specs.inner.Steps.{joined}
-use Rattle.probabilities.specs.inner.Weights.{weight, numbers}
-use Rattle.probabilities.specs.inner.Rates.{Rates, IsWithin}
+use Rattle.probabilities.specs.Weights.{weight, numbers}
+use Rattle.probabilities.specs.Rates.{Rates, IsWithin}
 
 -- So many parts of the whole s are at most the probability that the family covers the events which occur, of all events below
 -- `end`, whatever the probabilities are within their bounds. The first event may be any that the family does not go below.

@@ -1,23 +1,15 @@
 -- What is known where one event occurs always, or never.
-use Rattle.std.specs.Prelude.{ℕ, ◌-◌, ◌==◌, ◌^◌, ◌*◌, ◌≤◌, ◌≡◌, if◌then◌else◌, List, length}
-use Rattle.decimals.specs.inner.Decimals.{parts}
+use Rattle.std.specs.Prelude.{ℕ, ◌-◌, ◌^◌, ◌*◌, ◌≤◌, ◌≡◌, List, length}
+use Rattle.decimals.specs.Decimals.{parts}
 use Rattle.zdd_store.specs.inner.Family.{Family, least_number}
 use Rattle.probabilities.specs.declared.rates.Bounds.{Bounds}
 use Rattle.probabilities.specs.declared.rates.Rate.{Rate}
-use Rattle.probabilities.specs.inner.Rates.{Rates}
-use Rattle.probabilities.specs.inner.Decided.{AreBoundsOf, rates_of}
-use Rattle.probabilities.specs.inner.Widths.{AreNarrow, AreNarrowRates}
-use Rattle.probabilities.specs.inner.Sharp.{AreSharp, AreSharpRates}
-
--- what is known where an event occurs k times out of s, and of the others what is known of them
-abbrev pub certain : ℕ → ℕ → ℕ → Rates → Rates
-certain s k event rates =
-    record {
-      low = λ e. if e == event then k else rates.low e;
-      high = λ e. if e == event then k else rates.high e;
-      low_not = λ e. if e == event then s - k else rates.low_not e;
-      high_not = λ e. if e == event then s - k else rates.high_not e;
-    }
+use Rattle.probabilities.specs.Decided.{rates_of}
+use Rattle.probabilities.specs.inner.Decided.{AreBoundsOf}
+use Rattle.probabilities.specs.Widths.{AreNarrow, AreNarrowRates}
+use Rattle.probabilities.specs.Sharp.{AreSharpRates}
+use Rattle.probabilities.specs.inner.Sharp.{AreSharp}
+use Rattle.probabilities.specs.Certain.{certain}
 
 -- the rate of an event that occurs in so many parts of the whole
 pub record IsCertain (whole k : ℕ) (rate : Rate) : Type 0 where

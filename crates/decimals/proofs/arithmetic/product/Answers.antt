@@ -3,7 +3,8 @@ use Rattle.std.specs.Prelude.{◌⊎◌}
 use Rattle.decimals.specs.declared.rounding.Side.{Side}
 use Rattle.decimals.specs.declared.rounding.Side.TheVariants.{Down, Up}
 use Rattle.decimals.specs.declared.rounding.Shortened.{Shortened}
-use Rattle.decimals.specs.inner.Decimals.{parts, least, HavePlaces, IsCut, IsShortened, IsBound, IsNearBound}
+use Rattle.decimals.specs.Decimals.{parts, HavePlaces}
+use Rattle.decimals.specs.inner.Decimals.{least, IsCut, IsShortened, IsBound, IsNearBound}
 use Rattle.decimals.proofs.Powers.{ten_pos, ten_sum}
 use Rattle.decimals.proofs.Cuts.{IsNearTo, cut_more, cut_exact, cut_none, near_shortened}
 use Rattle.decimals.proofs.Bounds.{bound_held, near_held}

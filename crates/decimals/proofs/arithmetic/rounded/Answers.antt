@@ -1,5 +1,5 @@
 use Rattle.std.proofs.Common.{◌+◌, ◌*◌, ◌^◌, inl, inr, refl, arith}
-use Rattle.decimals.specs.inner.Decimals.{parts, HavePlaces}
+use Rattle.decimals.specs.Decimals.{parts, HavePlaces}
 use Rattle.decimals.proofs.Powers.{ten_pos, ten_sum}
 use Rattle.decimals.proofs.Cuts.{cut_more, cut_none, near_shortened}
 use Rattle.decimals.proofs.Bounds.{bound_held, near_held}

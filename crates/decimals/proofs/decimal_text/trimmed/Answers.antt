@@ -1,5 +1,5 @@
 use Rattle.std.proofs.Common.{ℕ, ◌+◌, ◌-◌, ◌∙◌, ◌≡◌, sym, subst, arith}
-use Rattle.decimals.specs.inner.DecimalTexts.{trimmed}
+use Rattle.decimals.specs.DecimalTexts.{trimmed}
 use Rattle.decimals.proofs.decimal_text.trimmed.Goals as goal
 
 pub loop-step-preserved : goal.loop-step-preserved

@@ -1,5 +1,5 @@
 use Rattle.std.proofs.Common.{◌≡◌, ◌≤◌, ◌-◌}
-use Rattle.decimals.specs.inner.DecimalTexts.{trimmed}
+use Rattle.decimals.specs.DecimalTexts.{trimmed}
 use Rattle.decimals.proofs.decimal_text.trimmed.Given as goal
 
 abbrev pub invariant-loop-step : goal.invariant-loop-step

@@ -1,5 +1,5 @@
 use Rattle.std.proofs.Common.{◌≡◌, min, take}
-use Rattle.decimals.specs.inner.Numerals.{worth}
+use Rattle.decimals.specs.Numerals.{worth}
 use Rattle.decimals.proofs.digits.small_worth.Given as goal
 
 abbrev pub invariant-loop-byte : goal.invariant-loop-byte

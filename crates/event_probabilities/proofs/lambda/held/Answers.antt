@@ -1,5 +1,5 @@
 use Rattle.std.proofs.Common.{◌^◌, min, arith}
-use Rattle.decimals.specs.inner.Decimals.{parts}
+use Rattle.decimals.specs.Decimals.{parts}
 use Rattle.event_probabilities.proofs.Narrow.{held_near}
 use Rattle.event_probabilities.proofs.lambda.held.Goals as goal
 

@@ -1,5 +1,5 @@
 use Rattle.std.proofs.Common.{◌+◌, ◌*◌, ◌≤◌, arith}
-use Rattle.exponentials.specs.inner.Widths.{chance_places, chance_units}
+use Rattle.exponentials.specs.Widths.{chance_places, chance_units}
 use Rattle.exponentials.proofs.Narrowing.{narrow_more}
 use Rattle.event_probabilities.specs.inner.EventRates.{IsNarrowExposure}
 use Rattle.event_probabilities.proofs.Exposure.{lambda_held, lambda_unknown}
@@ -22,3 +22,6 @@ returns-in-Some-clause-narrow c first second one two places units lowered room e
 pub returns-in-None-clause-narrow : goal.returns-in-None-clause-narrow
 returns-in-None-clause-narrow c first second one two places units lowered room enough modest other small =
     absurd (rw c.in-None.is at (c.exposure.ensures.narrow first second places one two lowered (omega arith) modest other small))
+
+pub returns-in-None-clause-sharp : goal.returns-in-None-clause-sharp
+returns-in-None-clause-sharp c = λ places few low high. c.unknown.ensures.sharp places

@@ -1,5 +1,5 @@
 use Rattle.std.proofs.Common.{◌+◌, ◌*◌, ◌^◌, ◌≤◌, arith}
-use Rattle.decimals.specs.inner.Decimals.{parts}
+use Rattle.decimals.specs.Decimals.{parts}
 use Rattle.event_probabilities.proofs.Exposure.{product_within, inside}
 use Rattle.event_probabilities.proofs.Narrow.{wide_power, wider_places, small_product, square_within, exposure_narrow}
 use Rattle.event_probabilities.proofs.lambda.product_of.Goals as goal

@@ -1,5 +1,5 @@
 use Rattle.std.proofs.Common.{◌+◌, ◌≤◌, arith}
-use Rattle.decimals.specs.inner.Figures.{number_parts}
+use Rattle.decimals.specs.Decimals.{number_parts}
 use Rattle.decimals.proofs.Nearness.{more_places}
 use Rattle.event_probabilities.proofs.Narrow.{span_near, span_order, not_great}
 use Rattle.event_probabilities.proofs.numbers.span_of.Goals as goal

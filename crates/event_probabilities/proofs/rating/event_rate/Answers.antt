@@ -1,4 +1,4 @@
-use Rattle.decimals.specs.inner.Numerals.{number_of}
+use Rattle.decimals.specs.Numerals.{number_of}
 use Rattle.event_probabilities.proofs.Narrow.{narrow_of}
 use Rattle.event_probabilities.proofs.Read.{found_of, no_number}
 use Rattle.event_probabilities.proofs.rating.event_rate.Goals as goal

@@ -1,5 +1,5 @@
 use Rattle.std.proofs.Common.{arith}
-use Rattle.decimals.specs.inner.Decimals.{parts}
+use Rattle.decimals.specs.Decimals.{parts}
 use Rattle.exponentials.proofs.Squares.{half_low, half_high}
 use Rattle.exponentials.proofs.halving.halved.Goals as goal
 

@@ -1,6 +1,6 @@
 use Rattle.std.proofs.Common.{ℕ, ◌+◌, ◌-◌, ◌*◌, ◌^◌, ◌≤◌, ◌≡◌, refl, sym, ap, subst, arith}
 use Rattle.std.proofs.Math.Nat.{mul-le-mul, le_of_mul-le-mul_left}
-use Rattle.decimals.specs.inner.Decimals.{parts, AreNear, HasPlaces}
+use Rattle.decimals.specs.Decimals.{parts, AreNear, HasPlaces}
 use Rattle.decimals.proofs.Nearness.{near_more, more_places}
 use Rattle.exponentials.specs.declared.span.Span.{Span}
 use Rattle.exponentials.proofs.Summing.{least_chance, most_chance}

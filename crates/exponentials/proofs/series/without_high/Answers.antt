@@ -1,5 +1,5 @@
 use Rattle.std.proofs.Common.{◌+◌, ◌-◌, ◌^◌, ◌≡◌, min, ap, subst, arith}
-use Rattle.decimals.specs.inner.Decimals.{parts, AreNear}
+use Rattle.decimals.specs.Decimals.{parts, AreNear}
 use Rattle.decimals.proofs.Nearness.{near_same, near_then, near_plus, more_places}
 use Rattle.exponentials.proofs.series.without_high.Goals as goal
 

@@ -1,9 +1,11 @@
-use Rattle.std.proofs.Common.{length}
+use Rattle.std.proofs.Common.{◌<◌, ◌≤◌, length, Ok, Some, arith}
 use Rattle.std.specs.HashMap.{get}
+use Rattle.zdd_store.specs.inner.Family.{least_number}
 use Rattle.zdd_store.specs.inner.Store.{family_of}
+use Rattle.zdd_families.proofs.Above.{least_number-most}
 use Rattle.zdd_store.specs.contracts.id.IdPartialEq.TheImpl.{eq-value as id_eq}
 use Rattle.probabilities.proofs.Cofactors.{root_cofactor, given_up, nothing_known}
-use Rattle.probabilities.proofs.Deciding.{bounded_list, narrow_list, sharp_list}
+use Rattle.probabilities.proofs.Deciding.{bounded_list, narrow_list, no_ends, sharp_list}
 use Rattle.probabilities.proofs.families.family_bounds.Goals as goal
 
 pub returns-clause-bounds : goal.returns-clause-bounds
@@ -20,3 +22,13 @@ returns-clause-none c apart =
 
 pub returns-clause-sharp : goal.returns-clause-sharp
 returns-clause-sharp c = sharp_list c.args.whole c.args.rates.now (family_of c.args.store.now c.args.id) c.bounds_in.result c.bounds_in.ensures.bounds.bounds
+
+pub returns-in_default-clause-bounds : goal.returns-in_default-clause-bounds
+returns-in_default-clause-bounds c = bounded_list c.args.whole c.args.rates.now (family_of c.args.store.now c.args.id) (Ok (Some c.end_bounds.result)) c.requires.rates c.end_bounds.ensures.bounds
+
+pub returns-clause-ends : goal.returns-clause-ends
+returns-clause-ends c =
+    let node = c.in-Some._node in
+    let above : node.var < least_number (family_of c.args.store.now node.lo) = c.in-Some.ensures.fits.lo_greater in
+    let most : least_number (family_of c.args.store.now node.lo) ≤ 4294967296 = least_number-most (family_of c.args.store.now node.lo) in
+    no_ends c.args.whole node.var (family_of c.args.store.now c.args.id) c.bounds_in.result c.in-Some.ensures.least (omega (arith, above, most))

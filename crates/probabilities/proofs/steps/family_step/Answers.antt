@@ -1,6 +1,6 @@
 use Rattle.std.proofs.Common.{◌^◌, ◌*◌, ◌+◌, ◌<◌, ◌≡◌, subst, arith}
 use Rattle.std.proofs.Math.Nat.{one-le-pow}
-use Rattle.decimals.specs.inner.Decimals.{parts, AreNear, HasPlaces}
+use Rattle.decimals.specs.Decimals.{parts, AreNear, HasPlaces}
 use Rattle.probabilities.proofs.Bounding.{lower-node, upper-node}
 use Rattle.probabilities.proofs.Nearness.{family_near}
 use Rattle.probabilities.proofs.steps.family_step.Goals as goal

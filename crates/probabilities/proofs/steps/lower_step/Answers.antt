@@ -1,6 +1,6 @@
 use Rattle.std.proofs.Common.{◌^◌, ◌*◌, ◌+◌, ◌<◌, ◌≤◌, arith}
 use Rattle.std.proofs.Math.Nat.{one-le-pow}
-use Rattle.decimals.specs.inner.Decimals.{parts}
+use Rattle.decimals.specs.Decimals.{parts}
 use Rattle.probabilities.proofs.OneStep.{sum_down}
 use Rattle.probabilities.proofs.Nearness.{below_near, product_within, sum_within}
 use Rattle.probabilities.proofs.steps.lower_step.Goals as goal

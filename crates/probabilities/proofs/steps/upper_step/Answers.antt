@@ -1,5 +1,5 @@
 use Rattle.std.proofs.Common.{◌^◌, ◌*◌, ◌+◌}
-use Rattle.decimals.specs.inner.Decimals.{parts}
+use Rattle.decimals.specs.Decimals.{parts}
 use Rattle.probabilities.proofs.OneStep.{sum_up}
 use Rattle.probabilities.proofs.Nearness.{above_near}
 use Rattle.probabilities.proofs.steps.upper_step.Goals as goal

@@ -1,5 +1,5 @@
 use Rattle.std.proofs.Common.{◌≡◌, ◌≤◌, ◌+◌}
-use Rattle.decimals.specs.inner.Decimals.{parts}
+use Rattle.decimals.specs.Decimals.{parts}
 use Rattle.decimals.proofs.EqualParts.{IsLifting}
 use Rattle.decimals.proofs.decimal.Decimal.lifted.Given as goal
 

@@ -1,6 +1,6 @@
 use Rattle.std.proofs.Common.{◌≡◌, ◌/◌, ◌*◌, ◌^◌, ap, inl, inr, arith}
 use Rattle.std.specs.Prelude.{◌⊎◌, ◌<◌, ◌≤◌}
-use Rattle.decimals.specs.inner.Decimals.{parts, AreNear, HasPlaces}
+use Rattle.decimals.specs.Decimals.{parts, AreNear, HasPlaces}
 use Rattle.decimals.proofs.EqualParts.{part_down, part_down_near, part_none, lifted_places, room_places}
 use Rattle.decimals.proofs.decimal.Decimal.over_down.Goals as goal
 

@@ -1,6 +1,6 @@
 use Rattle.std.proofs.Common.{◌≡◌, ◌*◌, ◌^◌, inl, inr, arith}
 use Rattle.std.specs.Prelude.{◌⊎◌, ◌<◌, ◌≤◌}
-use Rattle.decimals.specs.inner.Decimals.{parts, AreNear, HasPlaces}
+use Rattle.decimals.specs.Decimals.{parts, AreNear, HasPlaces}
 use Rattle.decimals.proofs.EqualParts.{part_up, part_up_near, ceiling_none, lifted_places, room_places}
 use Rattle.decimals.proofs.decimal.Decimal.over_up.Goals as goal
 

@@ -1,5 +1,5 @@
 use Rattle.std.proofs.Common.{◌≤◌, take}
-use Rattle.decimals.specs.inner.Numerals.{worth}
+use Rattle.decimals.specs.Numerals.{worth}
 use Rattle.decimals.specs.inner.Figures.{AreFigures}
 use Rattle.decimals.proofs.figures.Figures.of.Given as goal
 

@@ -1,5 +1,5 @@
 use Rattle.std.proofs.Common.{ℕ, ◌+◌, ◌*◌, ◌^◌, ◌≤◌}
-use Rattle.decimals.specs.inner.Decimals.{parts}
+use Rattle.decimals.specs.Decimals.{parts}
 use Rattle.exponentials.specs.inner.Terms.{AreTerms}
 use Rattle.exponentials.specs.inner.Widths.{IsNarrow, AreNarrowTerms}
 use Rattle.exponentials.proofs.series.Terms.many.Given as goal

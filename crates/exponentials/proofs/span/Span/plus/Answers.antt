@@ -1,5 +1,5 @@
 use Rattle.std.proofs.Common.{◌+◌, ◌*◌, ◌^◌, arith}
-use Rattle.decimals.specs.inner.Decimals.{parts}
+use Rattle.decimals.specs.Decimals.{parts}
 use Rattle.exponentials.proofs.Narrowing.{sum_near, sum_order}
 use Rattle.exponentials.proofs.span.Span.plus.Goals as goal
 

@@ -1,5 +1,5 @@
 use Rattle.std.proofs.Common.{◌^◌}
-use Rattle.decimals.specs.inner.Decimals.{parts}
+use Rattle.decimals.specs.Decimals.{parts}
 use Rattle.exponentials.proofs.Numbers.{held_low, held_high, rest_low, rest_high}
 use Rattle.exponentials.proofs.span.Span.rest.Goals as goal
 

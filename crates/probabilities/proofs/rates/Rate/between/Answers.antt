@@ -1,5 +1,5 @@
 use Rattle.std.proofs.Common.{◌+◌, ◌-◌, ◌^◌, ◌≤◌, arith}
-use Rattle.decimals.specs.inner.Decimals.{parts, AreNear}
+use Rattle.decimals.specs.Decimals.{parts, AreNear}
 use Rattle.decimals.proofs.Nearness.{near_then, near_more, more_places}
 use Rattle.probabilities.proofs.rates.Rate.between.Goals as goal
 

@@ -1,5 +1,5 @@
 use Rattle.std.proofs.Common.{arith}
-use Rattle.decimals.specs.inner.Decimals.{parts}
+use Rattle.decimals.specs.Decimals.{parts}
 use Rattle.decimals.proofs.Nearness.{near_same}
 use Rattle.probabilities.proofs.rates.Rate.exact.Goals as goal
 

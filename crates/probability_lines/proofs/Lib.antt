@@ -1,2 +1,0 @@
-pub mod TextLeft
-pub mod Numbering

@@ -1,0 +1,34 @@
+-- The lines that tell of the probability of a target.
+use Rattle.std.specs.Prelude.{ℕ, List, [], ◌++◌, codes}
+use Rattle.std.specs.List.{flat_map}
+use Rattle.decimals.specs.DecimalTexts.{decimal_text}
+use Rattle.probabilities.specs.declared.rates.Bounds.{Bounds}
+use Rattle.event_probabilities.specs.declared.finding.Found.{Found}
+use Rattle.event_probabilities.specs.declared.finding.Found.TheVariants.{Rated, WithoutRate, WithoutHours, NoProbability}
+use Rattle.probability_lines.specs.declared.line.Line.{Line}
+use Rattle.probability_lines.specs.declared.line.Line.TheVariants.{Hours, Unrated, Large, AtLeast, AtMost, Event, End}
+
+-- why an event has no probability: nothing is said where hours are missing
+abbrev pub reason_text : Found → List ℕ
+reason_text Rated = []
+reason_text WithoutRate = []
+reason_text WithoutHours = codes " without-hours"
+reason_text NoProbability = codes " not-a-probability"
+
+-- the two bounds of a probability, with a blank between them
+abbrev pub bounds_text : ℕ → Bounds → List ℕ
+bounds_text whole bounds = decimal_text whole bounds.lower ++ (codes " " ++ decimal_text whole bounds.upper)
+
+abbrev pub line_text : ℕ → Line → List ℕ
+line_text whole (Hours hours) = codes "hours " ++ (hours ++ codes "\n")
+line_text whole (Unrated name found) = codes "unrated " ++ (name ++ (reason_text found ++ codes "\n"))
+line_text whole Large = codes "large\nat-least 0\nat-most 1\n"
+line_text whole (AtLeast bound) = codes "at-least " ++ (decimal_text whole bound ++ codes "\n")
+line_text whole (AtMost bound) = codes "at-most " ++ (decimal_text whole bound ++ codes "\n")
+line_text whole (Event name never always) =
+    codes "event " ++ (name ++ (codes " never " ++ (bounds_text whole never ++ (codes " always " ++ (bounds_text whole always ++ codes "\n")))))
+line_text whole End = codes "end\n"
+
+-- the text of some lines
+abbrev pub lines_text : ℕ → List Line → List ℕ
+lines_text whole lines = flat_map (line_text whole) lines

@@ -1,2 +1,0 @@
-pub mod ProbabilityText
-pub mod Gathered

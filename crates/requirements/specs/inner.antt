@@ -1,0 +1,4 @@
+pub mod Words
+pub mod Sentences
+pub mod Requirements
+pub mod Faults
