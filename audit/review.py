@@ -17,8 +17,9 @@ class Review:
         """All lines in their order."""
         groups = (self.hidden_sources, self.hidden_paths, self.hidden_links,
                   self.hidden_transitions, self.not_declared, self.stops_here, self.no_links,
-                  self.open_sides, self.never, self.unused_states, self.loops,
-                  self.unused_events, self.no_effect, self.unreached_events)
+                  self.open_sides, self.dry_sides, self.no_sources, self.never,
+                  self.unused_states, self.loops, self.unused_events, self.no_singles,
+                  self.no_effect, self.unreached_events)
         return [line for group in groups for line in group()] + ["end"]
 
     # What lines are made of
@@ -42,6 +43,10 @@ class Review:
         """Is the side declared by a propagation?"""
         number, direction, point = side
         return isinstance(self.facts.parts[number].sides[point][direction], list)
+
+    def has_declared_types(self, side):
+        """Are types declared for the side? A set that denotes no type declares none."""
+        return self.declared(side) and bool(self.types_of(side))
 
     def sides(self, direction):
         """The inward or outward sides that are there, in order."""
@@ -168,15 +173,33 @@ class Review:
             sides = [(other.number, direction, point)
                      for other, point in [end for end in ends if end] if point in other.sides
                      for direction in ("in", "out")]
-            if not links and any(self.declared(side) and self.types_of(side)
-                                 for side in sides):
+            if not links and any(self.has_declared_types(side) for side in sides):
                 yield f"no-link {part.path}/{name}"
 
     def open_sides(self):
         """`open SIDE{TYPES}`."""
         for side in self.sides("in"):
-            if self.declared(side) and side not in self.facts.incoming and self.types_of(side):
+            if self.has_declared_types(side) and side not in self.facts.incoming:
                 yield f"open {self.with_types(side, self.types_of(side))}"
+
+    def dry_sides(self):
+        """`dry SIDE{TYPES}`: all declared types of the side, where none of them may come."""
+        for side in self.sides("in"):
+            if (self.has_declared_types(side) and side in self.facts.incoming
+                    and not self.coming(side)):
+                yield f"dry {self.with_types(side, self.types_of(side))}"
+
+    def no_sources(self):
+        """`no-source SIDE`."""
+        for side in self.sides("in"):
+            if self.declared(side) or side in self.facts.incoming:
+                continue
+            to_types = [self.declared(goal) for start, goal in self.facts.links
+                        if start == side]
+            occurs = any(("fact", side + (number,)) in self.used
+                         for number in self.types_of(side))
+            if any(to_types) or (occurs and all(to_types)):
+                yield f"no-source {self.side_name(side)}"
 
     def never(self):
         """`never SIDE{TYPES}`, and behind all of these `never FACT` of states of the root."""
@@ -221,6 +244,14 @@ class Review:
         for event in self.facts.events:
             if event[1] == "error" and ("event", event) not in self.used:
                 yield f"unused-event {self.facts.print(event)}"
+
+    def no_singles(self):
+        """`no-single EVENT`."""
+        always = rounds(self.facts, set())
+        for event in self.facts.events:
+            if ("event", event) in self.used:
+                if rounds(self.facts, {event}).keys() <= always.keys():
+                    yield f"no-single {self.facts.print(event)}"
 
     def no_effect(self):
         """`no-effect root`."""

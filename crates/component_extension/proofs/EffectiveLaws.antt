@@ -7,7 +7,7 @@ use Rattle.plain_values.specs.Order.{IsFirst}
 use Rattle.plain_values.proofs.OrderLaws.{least-first}
 use Rattle.package_index.specs.declared.id.ClassifierId.{ClassifierId}
 use Rattle.plain_values.specs.inner.Stops.{StopsAtFirst}
-use Rattle.noted_refusals.specs.Noted.{Lists, Noted, Tells, alone, nothing_noted, noting}
+use Rattle.noted_refusals.specs.inner.Noted.{Lists, Noted, Tells, alone, nothing_noted, noting}
 use Rattle.noted_refusals.proofs.Laws.{noted-lists}
 use Rattle.component_extension.specs.Chain.{chain_of}
 use Rattle.component_extension.specs.inner.Chain.{Answers}

@@ -2,7 +2,7 @@
 use Rattle.std.proofs.Common.{ℕ, ◌≡◌, List, [], ◌++◌, flat_map, Contains, MatchOption, ap, ◌∙◌}
 use Rattle.plain_values.specs.declared.refusal.Refusal.{Refusal}
 use Rattle.plain_values.specs.Order.{IsFirst}
-use Rattle.noted_refusals.specs.Noted.{Lists, Noted, nothing_noted, noting}
+use Rattle.noted_refusals.specs.inner.Noted.{Lists, Noted, nothing_noted, noting}
 use Rattle.noted_refusals.proofs.Laws.{noted-all, noted-lists, noted-more}
 use Rattle.component_extension.specs.Members.{Class, Declared, Kind, Mark, Member, all_marks, connection_limits, connections, declarations, duplicates, refusals_of, feature_limits, features, marks_along, marks_of, member_refusals, members_along, members_of, subcomponent_limits, subcomponents, unknown_members}
 

@@ -1,5 +1,5 @@
 ghost use Rattle.std.specs.Prelude.{◌≡◌, ◌++◌, [], Contains, IfOk, IfErr, OnOk};
-ghost use Rattle.noted_refusals.specs.Noted.{Tells, noting};
+ghost use Rattle.noted_refusals.specs.inner.Noted.{Tells, noting};
 ghost use Rattle.plain_values.specs.inner.Stops.{StopsAtFirst};
 ghost use Rattle.component_extension.specs.Chain.{chain_of};
 ghost use Rattle.component_extension.specs.inner.Chain.{Answers};

@@ -1,5 +1,5 @@
 ghost use Rattle.std.specs.Prelude.{◌≡◌, flat_map, option_and_then};
-ghost use Rattle.noted_refusals.specs.Noted.{noting};
+ghost use Rattle.noted_refusals.specs.inner.Noted.{noting};
 ghost use Rattle.component_extension.specs.Members.{connection_limits, feature_limits, is_feature_group, is_group_connection, subcomponent_limits};
 
 use crate::member::{Inherited, MemberKind};
@@ -10,7 +10,7 @@ use plain_values::{Code, Spot};
 /// A kind of member, with what is not supported of it.
 pub trait Limited: MemberKind {
     ghost use Rattle.std.specs.Prelude.{◌≡◌, List};
-    ghost use Rattle.noted_refusals.specs.Noted.{noting};
+    ghost use Rattle.noted_refusals.specs.inner.Noted.{noting};
     ghost use Rattle.plain_values.specs.declared.refusal.Refusal.{Refusal};
     ghost use Rattle.component_extension.specs.Members.{Member};
 

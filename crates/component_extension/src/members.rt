@@ -1,6 +1,6 @@
 ghost use Rattle.std.specs.Prelude.{◌≡◌, ◌∷◌, ◌++◌, [], IfOk, OnOk, filter, fold, option_copied};
 ghost use Rattle.std.specs.HashMap.{get};
-ghost use Rattle.noted_refusals.specs.Noted.{noting};
+ghost use Rattle.noted_refusals.specs.inner.Noted.{noting};
 ghost use Rattle.component_extension.specs.Members.{declarations, declare, declared_by, is_declared_earlier, is_declared_farther, member_key, members_of, refined_by, refines_nothing, stands, unknown_members};
 ghost use Rattle.component_extension.specs.inner.Rows.{KnowsRows, same_words};
 

@@ -1,7 +1,7 @@
 ghost use Rattle.std.specs.Prelude.{◌≡◌, ◌++◌, ◌||◌, List, ℕ, IfOk, OnOk};
 ghost use denote.Ref.{Bor};
 ghost use Rattle.std.specs.HashMap.{get};
-ghost use Rattle.noted_refusals.specs.Noted.{noting};
+ghost use Rattle.noted_refusals.specs.inner.Noted.{noting};
 ghost use Rattle.plain_values.specs.declared.refusal.Code.TheVariants.{DuplicateName};
 ghost use Rattle.std.specs.List.{list_any};
 ghost use Rattle.component_extension.specs.Members.{duplicates, is_before, is_earlier, mark_of, marks_of};

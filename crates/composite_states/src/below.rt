@@ -1,5 +1,5 @@
 ghost use Rattle.std.specs.Prelude.{◌≡◌, IfOk, OnOk, Some, is_none, map, option_copied};
-ghost use Rattle.noted_refusals.specs.Noted.{noting};
+ghost use Rattle.noted_refusals.specs.inner.Noted.{noting};
 ghost use Rattle.package_index.specs.Names.{front};
 ghost use Rattle.plain_values.specs.declared.refusal.Code.TheVariants.{UnknownState};
 ghost use Rattle.plain_values.specs.Refusal.{refused_so};

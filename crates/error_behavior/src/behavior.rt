@@ -1,5 +1,5 @@
 ghost use Rattle.std.specs.Prelude.{◌≡◌, ◌++◌, IfOk, OnOk, flat_map, option_copied, option_map, slice_get};
-ghost use Rattle.noted_refusals.specs.Noted.{noting};
+ghost use Rattle.noted_refusals.specs.inner.Noted.{noting};
 ghost use Rattle.error_types.specs.Types.{text_scope};
 ghost use Rattle.error_behavior.specs.Behavior.{behavior_refusals, behavior_of, behavior_with, clause_emissions, clause_outgoing_refusals, clause_steps, clause_transition_refusals, decl_refusals, refusals_with, machine_refusals, machine_steps, step_refusals, texts_of};
 ghost use Rattle.error_machines.specs.States.{states_of};

@@ -1,5 +1,5 @@
 ghost use Rattle.std.specs.Prelude.{◌≡◌, [], IfOk, flat_map, fold, map, option_copied, option_map};
-ghost use Rattle.noted_refusals.specs.Noted.{noting};
+ghost use Rattle.noted_refusals.specs.inner.Noted.{noting};
 ghost use Rattle.error_behavior.specs.Behavior.{clause_event_refusals, texts_of};
 ghost use Rattle.error_machines.specs.States.{clause_event, event_at, event_refusals, events_of, is_recovery, keep_event, machine_events, machine_scope};
 

@@ -1,5 +1,5 @@
 ghost use Rattle.std.specs.Prelude.{◌≡◌, ◌++◌, [], IfOk, OnOk, flat_map, option_and_then, option_map, option_to_list};
-ghost use Rattle.noted_refusals.specs.Noted.{noting};
+ghost use Rattle.noted_refusals.specs.inner.Noted.{noting};
 ghost use Rattle.std.specs.Option.{option_map_or};
 ghost use Rattle.propagation_points.specs.Settings.{state_refusals_in};
 ghost use Rattle.propagation_points.specs.States.{held_numbers};

@@ -1,5 +1,5 @@
 ghost use Rattle.std.specs.Prelude.{◌≡◌, IfOk, OnOk, option_copied};
-ghost use Rattle.noted_refusals.specs.Noted.{noting};
+ghost use Rattle.noted_refusals.specs.inner.Noted.{noting};
 ghost use Rattle.error_behavior.specs.Triggers.{event_named, event_or_point, event_or_point_refusals, trigger_refusals, trigger_meaning};
 
 use aadl_syntax::Atom;

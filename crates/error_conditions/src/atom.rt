@@ -1,5 +1,5 @@
 ghost use Rattle.std.specs.Prelude.{◌≡◌, IfOk, OnOk, flat_map, map};
-ghost use Rattle.noted_refusals.specs.Noted.{noting};
+ghost use Rattle.noted_refusals.specs.inner.Noted.{noting};
 ghost use Rattle.propagation_points.specs.Settings.{refusals_in};
 ghost use Rattle.propagation_points.specs.Uses.{atom_use};
 ghost use Rattle.error_conditions.specs.Conditions.{held_cause, no_error_at, no_error_refusals, point_cause, point_meaning};

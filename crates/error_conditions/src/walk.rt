@@ -1,5 +1,5 @@
 ghost use Rattle.std.specs.Prelude.{◌≡◌, IfOk, OnOk, flat_map, map};
-ghost use Rattle.noted_refusals.specs.Noted.{noting};
+ghost use Rattle.noted_refusals.specs.inner.Noted.{noting};
 ghost use Rattle.error_conditions.specs.Conditions.{cause_of, condition_refusals};
 
 use crate::cause::Cause;
@@ -11,7 +11,7 @@ use std::alloc::Global;
 /// What the named parts of a condition mean where it stands.
 pub trait Atoms {
     ghost use Rattle.std.specs.Prelude.{◌≡◌, List, IfOk, OnOk};
-    ghost use Rattle.noted_refusals.specs.Noted.{noting};
+    ghost use Rattle.noted_refusals.specs.inner.Noted.{noting};
     ghost use Rattle.aadl_syntax.specs.declared.error_model.Atom.{Atom as Named};
     ghost use Rattle.plain_values.specs.declared.refusal.Refusal.{Refusal};
     ghost use Rattle.error_libraries.specs.Libraries.{Table};

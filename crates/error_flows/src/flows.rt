@@ -1,5 +1,5 @@
 ghost use Rattle.std.specs.Prelude.{◌≡◌, ◌++◌, IfOk, OnOk, true, flat_map, option_map, option_and_then, option_to_list};
-ghost use Rattle.noted_refusals.specs.Noted.{noting};
+ghost use Rattle.noted_refusals.specs.inner.Noted.{noting};
 ghost use Rattle.plain_values.specs.declared.refusal.Code.TheVariants.{Mapping};
 ghost use Rattle.plain_values.specs.Refusal.{refused_so, refused_there};
 ghost use Rattle.propagation_points.specs.Settings.{refusals_in, held_in, reached_in, state_refusals_in};

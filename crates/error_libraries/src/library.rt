@@ -1,7 +1,7 @@
 ghost use Rattle.std.specs.Prelude.{◌≡◌, ◌<◌, ◌^◌, ◌∷◌, ◌++◌, length, option_copied, position, slice_get, IfOk, OnOk};
 ghost use Rattle.std.specs.HashMap.{get};
 ghost use Rattle.plain_values.specs.Order.{least};
-ghost use Rattle.noted_refusals.specs.Noted.{noting};
+ghost use Rattle.noted_refusals.specs.inner.Noted.{noting};
 ghost use Rattle.package_index.specs.inner.Tables.{Knows, same_text};
 ghost use Rattle.error_libraries.specs.Libraries.{extended_by, has_item_name, items_of, libraries_named, library_named, library_of, libraries_of, unknown_libraries, unknown_to, used_by};
 ghost use Rattle.error_libraries.specs.inner.Tables.{has_item_text};

@@ -1,2 +1,2 @@
 pub mod KindLaws
-pub mod ToldLaws
+pub mod GroupLaws

@@ -1,12 +1,13 @@
 -- What is refused of the error models of an instance, by the phases of their tests. An instance is tested by its kinds, which are
 -- its classifiers, each once, in the order in which they first come: what is refused of a component is refused of each component
 -- of its classifier, and a component without a classifier has nothing that could be refused.
-use Rattle.std.specs.Prelude.{◌≡◌, ◌⊎◌, List, [], ◌∷◌, flat_map, map, Option, Some, None, Result, Ok, Err}
+use Rattle.std.specs.Prelude.{List, [], ◌∷◌, flat_map, map, Option, Some, None, Result, Ok, Err}
 use Rattle.std.specs.Option.{option_or}
 use Rattle.aadl_syntax.specs.declared.core_model.PackageUnit.{PackageUnit}
 use Rattle.plain_values.specs.declared.refusal.Refusal.{Refusal}
 use Rattle.plain_values.specs.Order.{least}
 use Rattle.plain_values.specs.Refusal.{refusal}
+use Rattle.noted_refusals.specs.Groups.{first_group, or_group}
 use Rattle.package_index.specs.declared.id.ClassifierId.{ClassifierId}
 use Rattle.component_extension.specs.declared.effective.Effective.{Effective}
 use Rattle.error_libraries.specs.Libraries.{Table}
@@ -71,16 +72,20 @@ model_refusal table kinds id =
 abbrev pub models_refusal : Table → List ClassifierId → Option Refusal
 models_refusal table kinds = first_of (map (model_refusal table kinds) kinds)
 
--- The group is one of those of the error model of a component: what is refused of its points, of its machine, of its flows, or of its
+-- The group of the error model of a component: the first in which anything is refused, of its points, its machine, its flows and its
 -- composite states.
-abbrev pub IsGroupWith : Table → Effective → Option Machine → StatesAt → List Refusal → Type 0
-IsGroupWith table effective machine below group =
-    (group ≡ point_refusals table effective)
-    ⊎ ((group ≡ behavior_refusals table (points_of table effective) machine effective)
-    ⊎ ((group ≡ all_flow_refusals table (points_of table effective) (states_of table machine).sorts effective)
-    ⊎ (group ≡ composite_clause_refusals below table (points_of table effective) (states_of table machine) effective)))
+abbrev pub group_with : Table → Effective → Option Machine → StatesAt → List Refusal
+group_with table effective machine below =
+    or_group (point_refusals table effective)
+    (or_group (behavior_refusals table (points_of table effective) machine effective)
+    (or_group (all_flow_refusals table (points_of table effective) (states_of table machine).sorts effective)
+    (composite_clause_refusals below table (points_of table effective) (states_of table machine) effective)))
 
--- The group is one of those of the error model of a component of such a classifier.
-abbrev pub IsModelGroup : Table → List ClassifierId → List Refusal → Type 0
-IsModelGroup table kinds group =
-    (id : ClassifierId) × IsGroupWith table (effective_of table.packages id) (kind_machine table.packages id) (states_below table.packages kinds (Some id)) group
+-- the same for a component of this classifier
+unfoldable pub model_group : Table → List ClassifierId → ClassifierId → List Refusal
+model_group table kinds id =
+    group_with table (effective_of table.packages id) (kind_machine table.packages id) (states_below table.packages kinds (Some id))
+
+-- The group of the error models: that of the first component of which anything is refused.
+abbrev pub models_group : Table → List ClassifierId → List Refusal
+models_group table kinds = first_group (map (model_group table kinds) kinds)

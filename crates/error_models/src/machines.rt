@@ -1,7 +1,7 @@
-ghost use Rattle.std.specs.Prelude.{◌≡◌, None, Some, IfErr, IfOk, MatchResult, OnOk, map};
+ghost use Rattle.std.specs.Prelude.{◌≡◌, None, Some, IfErr, IfOk, MatchResult, OnOk, map, option_to_list};
 ghost use Rattle.error_machines.specs.Machines.{find_machine};
 ghost use Rattle.plain_values.specs.inner.Stops.{StopsAt};
-ghost use Rattle.noted_refusals.specs.Noted.{IsAlone, TellsOf};
+ghost use Rattle.noted_refusals.specs.inner.Noted.{TellsFirst, alone};
 ghost use Rattle.error_models.specs.Below.{kind_machine, machine_of};
 ghost use Rattle.error_models.specs.Refused.{fault_of, machines_refusal};
 
@@ -25,7 +25,7 @@ pub fn machines_of<'a>(
     ensures machines { IfOk result (λ machines. machines ≡ map (kind_machine instance.now.packages) instance.now.kinds) }
     ensures accepted { OnOk result (machines_refusal instance.now.packages instance.now.kinds ≡ None) }
     ensures refused { IfErr result (StopsAt (machines_refusal instance.now.packages instance.now.kinds)) }
-    ensures told { IfErr result (TellsOf IsAlone refusals.new) }
+    ensures told { IfErr result (TellsFirst (option_to_list (machines_refusal instance.now.packages instance.now.kinds)) refusals.new) }
 {
     let mut machines = List::new(alloc);
     for kind in instance.kinds() {
@@ -42,7 +42,7 @@ fn machine_in<'a>(
     refusals: &mut Refusals,
 ) -> Answer<Option<UsedMachine<'a>>>
     ensures machine { MatchResult result (λ machine. (machine ≡ machine_of index.now effective.now) × (fault_of (find_machine index.now effective.now) ≡ None)) (StopsAt (fault_of (find_machine index.now effective.now))) }
-    ensures told { IfErr result (TellsOf IsAlone refusals.new) }
+    ensures told { IfErr result (λ stop. TellsFirst (alone stop) refusals.new stop) }
 {
     match machine_of(index, effective) {
         Ok(machine) => Ok(machine),

@@ -9,8 +9,8 @@ ghost use Rattle.composite_states.specs.Composites.{clauses_of, composite_clause
 ghost use Rattle.plain_values.specs.inner.Stops.{StopsAt};
 ghost use Rattle.error_models.specs.Below.{kind_machine, states_below};
 ghost use Rattle.error_models.specs.Models.{is_composite, model_of, model_with};
-ghost use Rattle.error_models.specs.Refused.{IsGroupWith, IsModelGroup, models_refusal, refusal_with};
-ghost use Rattle.noted_refusals.specs.Noted.{Tells, TellsOf};
+ghost use Rattle.error_models.specs.Refused.{group_with, models_group, models_refusal, refusal_with};
+ghost use Rattle.noted_refusals.specs.inner.Noted.{Tells, TellsFirst};
 
 use crate::model::ErrorModel;
 use crate::tree::{BelowKind, Tree};
@@ -43,7 +43,7 @@ pub fn models_of<'a>(
     ensures models { IfOk result (λ models. models ≡ map (model_of reading.old.types instance.now.kinds) instance.now.kinds) }
     ensures accepted { OnOk result (models_refusal reading.old.types instance.now.kinds ≡ None) }
     ensures refused { IfErr result (StopsAt (models_refusal reading.old.types instance.now.kinds)) }
-    ensures told { IfErr result (TellsOf (IsModelGroup reading.old.types instance.now.kinds) reading.new.refusals) }
+    ensures told { IfErr result (TellsFirst (models_group reading.old.types instance.now.kinds) reading.new.refusals) }
 {
     let tree = Tree::of(alloc, instance, machines, &mut reading.types)?;
     let mut models = List::new(alloc);
@@ -70,7 +70,7 @@ fn model_of<'a>(
     ensures model { IfOk result (λ model. model ≡ model_with reading.old.types effective.now machine.now (states_below below.now.tree.packages below.now.tree.kinds (Some below.now.classifier))) }
     ensures accepted { OnOk result (refusal_with reading.old.types effective.now machine.now (states_below below.now.tree.packages below.now.tree.kinds (Some below.now.classifier)) ≡ None) }
     ensures refused { IfErr result (StopsAt (refusal_with reading.old.types effective.now machine.now (states_below below.now.tree.packages below.now.tree.kinds (Some below.now.classifier)))) }
-    ensures told { IfErr result (TellsOf (IsGroupWith reading.old.types effective.now machine.now (states_below below.now.tree.packages below.now.tree.kinds (Some below.now.classifier))) reading.new.refusals) }
+    ensures told { IfErr result (TellsFirst (group_with reading.old.types effective.now machine.now (states_below below.now.tree.packages below.now.tree.kinds (Some below.now.classifier))) reading.new.refusals) }
 {
     let points = points(alloc, effective, reading)?;
     let states = states_of(alloc, &mut reading.types, machine)?;

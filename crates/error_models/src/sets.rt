@@ -1,5 +1,5 @@
 ghost use Rattle.std.specs.Prelude.{◌≡◌, [], Contains, IfErr, OnOk, map};
-ghost use Rattle.noted_refusals.specs.Noted.{Tells, noting};
+ghost use Rattle.noted_refusals.specs.inner.Noted.{Tells, noting};
 ghost use Rattle.plain_values.specs.inner.Stops.{StopsAtFirst};
 ghost use Rattle.error_models.specs.Below.{kind_machine};
 ghost use Rattle.error_models.specs.Refused.{all_set_refusals};

@@ -1,5 +1,5 @@
 -- The root in the files, and the target.
-use Rattle.std.proofs.Common.{◌≡◌, ◌⊎◌, inl, inr, Contains, Err, List, None, Result, Ok, refl, sym, ap, subst, ◌∙◌}
+use Rattle.std.proofs.Common.{◌≡◌, ◌⊎◌, inl, inr, Contains, Err, List, [], None, Result, Ok, refl, sym, ap, subst, ◌∙◌}
 use Rattle.aadl_syntax.specs.declared.core_model.PackageUnit.{PackageUnit}
 use Rattle.aadl_syntax.specs.declared.core_model.Unit.{Unit as FileUnit}
 use Rattle.plain_values.specs.declared.name.Root.{Root}
@@ -8,10 +8,12 @@ use Rattle.plain_values.specs.declared.refusal.Refusal.{Refusal}
 use Rattle.plain_values.specs.declared.refusal.Stop.{Stop}
 use Rattle.plain_values.specs.declared.refusal.Stop.TheVariants as stop
 use Rattle.plain_values.specs.Order.{IsClear, IsFirst}
-use Rattle.package_index.specs.Duplicates.{IsDuplicate}
-use Rattle.package_index.specs.inner.Duplicates.{duplicates}
+use Rattle.package_index.specs.Duplicates.{IsDuplicate, duplicates}
 use Rattle.package_index.proofs.DuplicateLaws.{is_duplicate, is_listed}
-use Rattle.noted_refusals.specs.Noted.{Noted, Tells, TellsOf}
+use Rattle.noted_refusals.specs.inner.Noted.{Noted, Tells, TellsFirst}
+use Rattle.noted_refusals.proofs.Laws.{told-least}
+use Rattle.instantiator.proofs.KindLaws.{refused-stops}
+use Rattle.model_phases.proofs.GroupLaws.{clear-group}
 use Rattle.plain_values.specs.inner.Stops.{StopsAtFirst}
 use Rattle.package_index.specs.Lookup.{look_classifier, packages_of, refused_at}
 use Rattle.package_index.specs.declared.id.ClassifierId.{ClassifierId}
@@ -25,7 +27,6 @@ use Rattle.phases.proofs.Steps.{computed, ends, meets_later, not_computed}
 use Rattle.model_facts.specs.Assembly.{Assembly}
 use Rattle.model_phases.specs.Phases.{assembled}
 use Rattle.fta_run.specs.Due.{made_of_units}
-use Rattle.fta_run.specs.Groups.{AreAll}
 use Rattle.fta_run.specs.Model.{HasDuplicate, root_named}
 
 -- ---- the root
@@ -47,15 +48,18 @@ pub root_is : (files its : List (List FileUnit)) (packages : List PackageUnit) (
 root_is files its packages root result are same found =
     sym (found ∙ ap (λ (ps : List PackageUnit). refused_at Words (look_classifier ps None root.names root.item)) (are ∙ ap packages_of same))
 
+-- the list of what is declared again is that group
+first_again : (packages : List PackageUnit) (why : Stop) → StopsAtFirst (IsDuplicate packages) why → StopsAtFirst (Contains (duplicates packages)) why
+first_again packages (stop.Refused refusal) first = record { stands = is_listed packages refusal first.stands; none_before = λ other there. first.none_before other (is_duplicate packages other there) }
+first_again packages stop.Memory first = tt
+
 -- what is declared again is told
-pub duplicates_told : (packages : List PackageUnit) (noted : Noted) (why : Stop) → StopsAtFirst (IsDuplicate packages) why → Tells (duplicates packages) noted why → TellsOf (λ group. AreAll group (IsDuplicate packages)) noted why
-duplicates_told packages noted (stop.Refused refusal) first lists = (
-  duplicates packages,
-  λ other. (is_duplicate packages other, is_listed packages other),
-  record { stands = is_listed packages refusal first.stands; none_before = λ other there. first.none_before other (is_duplicate packages other there) },
-  lists,
-)
-duplicates_told packages noted stop.Memory first lists = tt
+pub duplicates_told : (packages : List PackageUnit) (noted : Noted) (why : Stop) → StopsAtFirst (IsDuplicate packages) why → Tells (duplicates packages) noted why → TellsFirst (duplicates packages) noted why
+duplicates_told packages noted why first lists = told-least (duplicates packages) noted why (refused-stops (duplicates packages) why (first_again packages why first)) lists
+
+-- where nothing is declared again, the group is empty
+pub none_again : (packages : List PackageUnit) → IsClear (IsDuplicate packages) → duplicates packages ≡ []
+none_again packages clear = clear-group (duplicates packages) (λ refusal there. clear refusal (is_duplicate packages refusal there))
 
 -- the root names nothing
 pub root_stop : {A : Type 0} (next : Assembly → Phase A) (files its : List (List FileUnit)) (packages : List PackageUnit) (root : Root) (end : Status) → packages ≡ packages_of its → its ≡ files

@@ -1,34 +1,39 @@
--- The groups of refusals of the files of a model: of the one that refuses the model the first refusal is the verdict.
-use Rattle.std.specs.Prelude.{◌≡◌, ◌⊎◌, ◌↔◌, ℕ, Contains, List, Ok, codes}
+-- The groups of refusals of the files of a model: the first in which anything is refused is told.
+use Rattle.std.specs.Prelude.{◌≡◌, ◌⊎◌, ℕ, List, [], ◌∷◌, Result, Ok, Err, codes}
 use Rattle.plain_values.specs.declared.name.Root.{Root}
 use Rattle.plain_values.specs.declared.refusal.Refusal.{Refusal}
-use Rattle.plain_values.specs.Order.{IsFirst}
+use Rattle.aadl_syntax.specs.declared.core_model.PackageUnit.{PackageUnit}
 use Rattle.aadl_syntax.specs.declared.core_model.Unit.{Unit as FileUnit}
-use Rattle.noted_refusals.specs.Noted.{IsAlone}
+use Rattle.noted_refusals.specs.Groups.{or_group}
 use Rattle.refusal_lines.specs.Text.{refusals_text}
 use Rattle.phases.specs.Phases.{Passes, Phase, Stops}
 use Rattle.phases.specs.declared.status.Status.TheVariants.{Refused}
 use Rattle.package_index.specs.declared.id.ClassifierId.{ClassifierId}
+use Rattle.package_index.specs.Duplicates.{duplicates}
 use Rattle.package_index.specs.Lookup.{packages_of}
-use Rattle.model_phases.specs.Groups.{IsGroupOf}
+use Rattle.model_phases.specs.Groups.{root_group}
 use Rattle.model_phases.specs.declared.flat.FlatModel.{FlatModel}
-use Rattle.fta_run.specs.Model.{HasDuplicate, root_named}
+use Rattle.fta_run.specs.Model.{root_named}
 
--- The list has the refusals of a group, and no others.
-abbrev pub AreAll : List Refusal → (Refusal → Type 0) → Type 0
-AreAll group Stands = (refusal : Refusal) → (Contains group refusal ↔ Stands refusal)
+-- the group of the model of a root, where its name means a classifier of these packages
+abbrev pub named_group : List PackageUnit → Result ClassifierId Refusal → List Refusal
+named_group packages (Ok id) = root_group packages id
+named_group packages (Err refusal) = []
 
--- The group is one of these files: what is declared again in them (N1), one of those of the model of the root, or a refusal alone.
-abbrev pub IsUnitsGroup : Root → List (List FileUnit) → List Refusal → Type 0
-IsUnitsGroup root files group =
-    IsAlone group ⊎ (AreAll group (HasDuplicate files) ⊎ ((id : ClassifierId) × (root_named files root ≡ Ok id) × IsGroupOf (packages_of files) id group))
+-- The group of these files: what is declared again in them (N1), and else that of the model of the root. It is empty where nothing is
+-- refused but the name of the root, or the size of the model, which have one refusal alone.
+abbrev pub units_group : Root → List (List FileUnit) → List Refusal
+units_group root files = or_group (duplicates (packages_of files)) (named_group (packages_of files) (root_named files root))
 
--- The group is one of the files that are read so, or a refusal alone.
-abbrev pub IsFilesGroup : Phase (List (List FileUnit)) → Root → List Refusal → Type 0
-IsFilesGroup units root group = IsAlone group ⊎ ((files : List (List FileUnit)) × Passes units files × IsUnitsGroup root files group)
+-- The group that is told with a refusal: that of the files that are read so, or the refusal alone where that is empty; and the refusal
+-- alone where they are not read.
+abbrev pub IsFilesGroup : Phase (List (List FileUnit)) → Root → Refusal → List Refusal → Type 0
+IsFilesGroup units root refusal group =
+    (Stops units (Refused refusal) × (group ≡ refusal ∷ []))
+    ⊎ ((files : List (List FileUnit)) × Passes units files × (group ≡ or_group (units_group root files) (refusal ∷ [])))
 
--- The text of `refusals`: that nothing is refused of the model; or the refusals of the group of which the first is the verdict.
+-- The text of `refusals`: that nothing is refused of the model; or the group that is told with the refusal with which it stops.
 abbrev pub TellsRefusals : Phase FlatModel → Phase (List (List FileUnit)) → Root → List (List ℕ) → List (List ℕ) → List ℕ → Type 0
 TellsRefusals model units root files texts text =
     ((made : FlatModel) × Passes model made × (text ≡ codes "end\n"))
-    ⊎ ((refusal : Refusal) × Stops model (Refused refusal) × (group : List Refusal) × IsFilesGroup units root group × IsFirst (Contains group) refusal × (text ≡ refusals_text files texts refusal group))
+    ⊎ ((refusal : Refusal) × Stops model (Refused refusal) × (group : List Refusal) × IsFilesGroup units root refusal group × (text ≡ refusals_text files texts refusal group))

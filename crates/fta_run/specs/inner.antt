@@ -4,3 +4,4 @@ pub mod Read
 pub mod Ready
 pub mod Held
 pub mod OneEnd
+pub mod Told

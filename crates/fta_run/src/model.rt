@@ -1,16 +1,16 @@
 //! The model of the root.
 
-ghost use Rattle.std.specs.Prelude.{◌≡◌, ◌≤◌, All, Err, IfErr, MatchResult, None, Ok, length};
+ghost use Rattle.std.specs.Prelude.{◌≡◌, ◌≤◌, [], All, Err, IfErr, MatchResult, None, Ok, length};
 ghost use Rattle.plain_values.specs.declared.refusal.Place.TheVariants.{Words as InWords};
 ghost use Rattle.plain_values.specs.declared.refusal.Refusal.{Refusal};
-ghost use Rattle.noted_refusals.specs.Noted.{IsAlone};
 ghost use Rattle.phases.specs.declared.status.Status.TheVariants.{Refused};
 ghost use Rattle.phases.specs.inner.Meets.{Meets};
 ghost use Rattle.package_index.specs.Lookup.{look_classifier, refused_at};
-ghost use Rattle.model_phases.specs.inner.Told.{ToldOf};
+ghost use Rattle.model_phases.specs.inner.Told.{OnRefusal, ToldOf};
 ghost use Rattle.fta_run.specs.Due.{made_of_texts, made_of_units, units_of};
 ghost use Rattle.fta_run.specs.Files.{most_bytes, most_files};
-ghost use Rattle.fta_run.specs.Groups.{IsFilesGroup, IsUnitsGroup};
+ghost use Rattle.fta_run.specs.Groups.{units_group};
+ghost use Rattle.fta_run.specs.inner.Told.{ListsFiles};
 
 use crate::input::units_of_texts;
 use aadl_syntax::Unit;
@@ -45,7 +45,7 @@ pub(crate) fn told_model<M: FromAssembly>(
     requires few { length texts.now ≤ most_files }
     requires short { All (λ text. length text ≤ most_bytes) texts.now }
     ensures made { Meets (made_of_texts M.phase root.now texts.now) result }
-    ensures told { IfErr result (ToldOf (IsFilesGroup (units_of texts.now) root.now) refusals.new) }
+    ensures told { IfErr result (OnRefusal (ListsFiles (units_of texts.now) root.now refusals.new)) }
 {
     let files = told_units(alloc, texts, refusals)?;
     model_of_units(alloc, root, &files, refusals)
@@ -60,7 +60,7 @@ fn told_units(
     requires few { length texts.now ≤ most_files }
     requires short { All (λ text. length text ≤ most_bytes) texts.now }
     ensures units { Meets (units_of texts.now) result }
-    ensures told { IfErr result (ToldOf IsAlone refusals.new) }
+    ensures told { IfErr result (ToldOf [] refusals.new) }
 {
     match units_of_texts(alloc, texts) {
         Ok(files) => Ok(files),
@@ -76,7 +76,7 @@ fn model_of_units<M: FromAssembly>(
     refusals: &mut Refusals,
 ) -> Result<M, Status>
     ensures made { Meets (made_of_units M.phase root.now files.now) result }
-    ensures told { IfErr result (ToldOf (IsUnitsGroup root.now files.now) refusals.new) }
+    ensures told { IfErr result (ToldOf (units_group root.now files.now) refusals.new) }
 {
     let index = Index::new(alloc, files.items(), refusals)?;
     let id = told_root(&index, root, refusals)?;
@@ -86,7 +86,7 @@ fn model_of_units<M: FromAssembly>(
 /// The classifier that a root names. Its refusal is noted, in place of what was noted before.
 fn told_root(index: &Index, root: &Root, refusals: &mut Refusals) -> Result<ClassifierId, Status>
     ensures found { MatchResult result (λ id. refused_at InWords (look_classifier index.now None root.now.names root.now.item) ≡ Ok id) (λ status. (refusal : Refusal) × (refused_at InWords (look_classifier index.now None root.now.names root.now.item) ≡ Err refusal) × (status ≡ Refused refusal)) }
-    ensures told { IfErr result (ToldOf IsAlone refusals.new) }
+    ensures told { IfErr result (ToldOf [] refusals.new) }
 {
     match index.root(root) {
         Ok(id) => Ok(id),

@@ -6,6 +6,7 @@ pub mod MemberNames
 pub mod PathLaws
 pub mod StepLaws
 pub mod StepMore
+pub mod GroupLaws
 pub mod InstanceLaws
 pub mod ReachedLaws
 pub mod OrderOfPaths

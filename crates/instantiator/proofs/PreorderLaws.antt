@@ -4,20 +4,21 @@ use Rattle.std.specs.Option.{option_or}
 use Rattle.std.proofs.lemmas.List.{append-nil, length-map, map-append, take-append-drop, take_more}
 use Rattle.std.proofs.lemmas.Grind.{flat_map-append, fold-append}
 use Rattle.aadl_syntax.specs.declared.core_model.PackageUnit.{PackageUnit}
-use Rattle.plain_values.specs.declared.refusal.Refusal.{Refusal}
 use Rattle.plain_values.specs.declared.refusal.Stop.{Stop}
-use Rattle.plain_values.specs.declared.refusal.Stop.TheVariants.{Memory, Refused}
 use Rattle.package_index.specs.declared.id.ClassifierId.{ClassifierId}
 use Rattle.instantiator.specs.declared.draft.Draft.{Draft}
 use Rattle.instantiator.specs.declared.occurrence.Occurrence.{Occurrence}
 use Rattle.instantiator.specs.declared.path.Component.{Component}
 use Rattle.instantiator.specs.Components.{Part, component_of, found, occurrence_of, parts_of, preorder}
 use Rattle.instantiator.specs.Effectives.{effective_at}
-use Rattle.plain_values.specs.inner.Stops.{StopsAt}
-use Rattle.instantiator.specs.Refused.{component_refusal, first_refusal}
+use Rattle.noted_refusals.specs.Groups.{or_group}
+use Rattle.noted_refusals.specs.inner.Noted.{Noted, TellsFirst}
+use Rattle.noted_refusals.proofs.Laws.{told-here, told-next}
+use Rattle.instantiator.specs.Refused.{component_group, component_refusal, first_refusal, groups_from}
 use Rattle.instantiator.specs.inner.Tables.{Added, Grown}
 use Rattle.instantiator.specs.Whole.{with_kind}
 use Rattle.instantiator.specs.inner.Whole.{Kinds, with_kinds}
+use Rattle.instantiator.proofs.GroupLaws.{groups-append, groups-none}
 use Rattle.instantiator.proofs.Lists.{rest-less}
 
 -- ---- the first refusal
@@ -38,11 +39,6 @@ first-append packages number (one ∷ xs) ys =
     let count : number + 1 + length xs ≡ number + suc (length xs) = omega arith in
     ap (option_or (component_refusal packages number one)) (first-append packages (number + 1) xs ys ∙ ap (λ n. option_or (first_refusal packages (number + 1) xs) (first_refusal packages n ys)) count)
     ∙ or-assoc (component_refusal packages number one) (first_refusal packages (number + 1) xs) (first_refusal packages (number + suc (length xs)) ys)
-
--- what stops a part that begins with nothing refused stops the whole
-stops-or : (a b c : Option Refusal) (stop : Stop) → a ≡ None → StopsAt b stop → StopsAt (option_or a (option_or b c)) stop
-stops-or a b c Memory none stops = tt
-stops-or a b c (Refused refusal) none stops = ap (λ o. option_or o (option_or b c)) none ∙ ap (λ o. option_or o c) stops
 
 -- ---- what is grown
 
@@ -75,14 +71,16 @@ module _ (start now : Draft) (xs : List Occurrence) (grown : Grown start now xs)
         ∙ sym (first-here ys) ∙ more.accepted;
   }
 
-  pub stops-more : (ys rest : List Occurrence) (stop : Stop) → StopsAt (first_refusal now.kinds.packages (length now.components) ys) stop → StopsAt (first_refusal start.kinds.packages (length start.components) (xs ++ (ys ++ rest))) stop
-  stops-more ys rest stop stops =
+  pub tells-more : (ys rest : List Occurrence) (noted : Noted) (stop : Stop) → TellsFirst (groups_from now.kinds.packages (length now.components) ys) noted stop → TellsFirst (groups_from start.kinds.packages (length start.components) (xs ++ (ys ++ rest))) noted stop
+  tells-more ys rest noted stop told =
       let packages = start.kinds.packages in
       let number = length start.components in
-      let whole =
-      first-append packages number xs (ys ++ rest) ∙ ap (option_or (first_refusal packages number xs)) (first-append packages (number + length xs) ys rest) in
-      subst (λ o. StopsAt o stop) (sym whole)
-      (stops-or (first_refusal packages number xs) (first_refusal packages (number + length xs) ys) (first_refusal packages (number + length xs + length ys) rest) stop grown.accepted (subst (λ o. StopsAt o stop) (first-here ys) stops))
+      let behind = number + length xs in
+      let here : groups_from now.kinds.packages (length now.components) ys ≡ groups_from packages behind ys = λ i. groups_from (kept i) (longer i) ys in
+      let whole = groups-append packages number xs (ys ++ rest) ∙ ap (or_group (groups_from packages number xs)) (groups-append packages behind ys rest) in
+      subst (λ group. TellsFirst group noted stop) (sym whole)
+      (told-next (groups_from packages number xs) (or_group (groups_from packages behind ys) (groups_from packages (behind + length ys) rest)) noted stop (groups-none packages xs number grown.accepted)
+      (told-here (groups_from packages behind ys) (groups_from packages (behind + length ys) rest) noted stop (subst (λ group. TellsFirst group noted stop) here told)))
 
 -- ---- a component and its parts
 
@@ -103,11 +101,11 @@ walked-all packages one short =
     ap (λ n. preorder n packages one) levels
 
 -- a component that stops
-pub stops-here : (packages : List PackageUnit) (number : ℕ) (one : Occurrence) (stop : Stop) → length one.path ≤ 33 → StopsAt (component_refusal packages number one) stop → StopsAt (first_refusal packages number (preorder (34 - length one.path) packages one)) stop
-stops-here packages number one Memory short stops = tt
-stops-here packages number one (Refused refusal) short stops =
+pub tells-here : (packages : List PackageUnit) (number : ℕ) (one : Occurrence) (noted : Noted) (stop : Stop) → length one.path ≤ 33 → TellsFirst (component_group packages number one) noted stop → TellsFirst (groups_from packages number (preorder (34 - length one.path) packages one)) noted stop
+tells-here packages number one noted stop short told =
     let rest = flat_map (preorder (33 - length one.path) packages) (map (occurrence_of one.path) (parts_of packages (effective_at packages (found one.classifier)))) in
-    ap (first_refusal packages number) (walked-all packages one short) ∙ ap (λ o. option_or o (first_refusal packages (number + 1) rest)) stops
+    subst (λ all. TellsFirst (groups_from packages number all) noted stop) (sym (walked-all packages one short))
+    (told-here (component_group packages number one) (groups_from packages (number + 1) rest) noted stop told)
 
 module _ (one below : Occurrence) (start now : Draft) (parts : List Part) (i : ℕ) (part : Part) (within : i < length parts) (is : part ≡ get_or parts i part) (below_is : below ≡ occurrence_of one.path part) where
   abbrev levels : ℕ
@@ -144,12 +142,12 @@ module _ (one below : Occurrence) (start now : Draft) (parts : List Part) (i : �
         ap (λ more. so_far (take i parts) ++ more) (here-is ∙ sym (append-nil one_part)) ∙ sym (walked-append levels start.kinds.packages one (take i parts) (part ∷ [])) ∙ ap so_far (sym front-more) in
         subst (Grown start next) all (grown-more start now (so_far (take i parts)) grown next here more)
 
-    pub part-stops : (stop : Stop) → StopsAt (first_refusal now.kinds.packages (length now.components) here) stop → StopsAt (first_refusal start.kinds.packages (length start.components) (so_far parts)) stop
-    part-stops stop stops =
+    pub part-tells : (noted : Noted) (stop : Stop) → TellsFirst (groups_from now.kinds.packages (length now.components) here) noted stop → TellsFirst (groups_from start.kinds.packages (length start.components) (so_far parts)) noted stop
+    part-tells noted stop told =
         let rest = flat_map (preorder levels start.kinds.packages) (map (occurrence_of one.path) (drop (i + 1) parts)) in
         let all : so_far (take i parts) ++ (here ++ rest) ≡ so_far parts =
         ap (λ more. so_far (take i parts) ++ (more ++ rest)) here-is ∙ sym (walked-append levels start.kinds.packages one (take i parts) (part ∷ drop (i + 1) parts)) ∙ ap so_far (sym split) in
-        subst (λ xs. StopsAt (first_refusal start.kinds.packages (length start.components) xs) stop) all (stops-more start now (so_far (take i parts)) grown here rest stop stops)
+        subst (λ xs. TellsFirst (groups_from start.kinds.packages (length start.components) xs) noted stop) all (tells-more start now (so_far (take i parts)) grown here rest noted stop told)
 
 -- the component that was added, with all its parts
 pub whole : (start first : Draft) (one : Occurrence) (kind : Option ℕ) (parts : List Part) → Added start first one kind

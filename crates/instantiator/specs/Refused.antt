@@ -1,12 +1,12 @@
 -- What is refused of an instance: the first component in preorder of which anything is.
-use Rattle.std.specs.Prelude.{ℕ, ◌+◌, ◌≡◌, ◌⊎◌, nat_le, List, [], ◌∷◌, length, Option, Some, None, Result, Ok, Err}
+use Rattle.std.specs.Prelude.{ℕ, ◌+◌, nat_le, List, [], ◌∷◌, length, Option, Some, None, Result, Ok, Err, option_to_list}
 use Rattle.std.specs.Option.{option_or}
 use Rattle.aadl_syntax.specs.declared.core_model.PackageUnit.{PackageUnit}
 use Rattle.plain_values.specs.declared.refusal.Code.TheVariants.{TooManyComponents, TooDeep}
 use Rattle.plain_values.specs.declared.refusal.Refusal.{Refusal}
 use Rattle.plain_values.specs.Order.{least}
 use Rattle.plain_values.specs.Refusal.{over_limit}
-use Rattle.noted_refusals.specs.Noted.{IsAlone}
+use Rattle.noted_refusals.specs.Groups.{or_group}
 use Rattle.package_index.specs.declared.id.ClassifierId.{ClassifierId}
 use Rattle.component_extension.specs.Items.{classifier_refusals}
 use Rattle.instantiator.specs.declared.occurrence.Occurrence.{Occurrence}
@@ -37,6 +37,23 @@ first_refusal packages number (one ∷ more) = option_or (component_refusal pack
 abbrev pub instance_refusal : List PackageUnit → ClassifierId → Option Refusal
 instance_refusal packages root = first_refusal packages 0 (occurrences_of packages root)
 
--- The group is that of a classifier, the refusals of its chain or of its members, or one refusal alone.
-abbrev pub IsClassifierGroup : List PackageUnit → List Refusal → Type 0
-IsClassifierGroup packages group = IsAlone group ⊎ ((id : ClassifierId) × (group ≡ classifier_refusals packages id))
+-- ---- groups
+
+-- the group of the refusals of a classifier: that of its name alone where that is refused, and else those of its chain or of its members
+abbrev pub classifier_group : List PackageUnit → Result (Option ClassifierId) Refusal → List Refusal
+classifier_group packages (Err refusal) = refusal ∷ []
+classifier_group packages (Ok None) = []
+classifier_group packages (Ok (Some id)) = classifier_refusals packages id
+
+-- The group of the component of a number: the refusal of a limit alone, and else the group of its classifier.
+abbrev pub component_group : List PackageUnit → ℕ → Occurrence → List Refusal
+component_group packages number one = or_group (option_to_list (limit_refusal number one)) (classifier_group packages one.classifier)
+
+-- the group of the first of these components of which anything is refused, where they are numbered from here on
+abbrev pub groups_from : List PackageUnit → ℕ → List Occurrence → List Refusal
+groups_from packages number [] = []
+groups_from packages number (one ∷ more) = or_group (component_group packages number one) (groups_from packages (number + 1) more)
+
+-- The group of an instance: that of its first component in preorder of which anything is refused.
+abbrev pub instance_group : List PackageUnit → ClassifierId → List Refusal
+instance_group packages root = groups_from packages 0 (occurrences_of packages root)

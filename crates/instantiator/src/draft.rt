@@ -1,8 +1,8 @@
 ghost use Rattle.std.specs.Prelude.{◌≡◌, ◌≤◌, [], length, None, Some, IfOk, IfErr, MatchResult};
 ghost use Rattle.instantiator.specs.Components.{found};
 ghost use Rattle.plain_values.specs.inner.Stops.{StopsAt};
-ghost use Rattle.instantiator.specs.Refused.{IsClassifierGroup, component_refusal, limit_refusal};
-ghost use Rattle.noted_refusals.specs.Noted.{TellsOf};
+ghost use Rattle.instantiator.specs.Refused.{component_group, component_refusal, limit_refusal};
+ghost use Rattle.noted_refusals.specs.inner.Noted.{TellsFirst};
 ghost use Rattle.instantiator.specs.inner.Tables.{Added};
 
 use crate::kinds::Kinds;
@@ -39,7 +39,7 @@ impl<'i, 'a> Draft<'i, 'a> {
         refusals: &mut Refusals,
     ) -> Answer<Option<usize>>
         ensures added { MatchResult result (Added self.old self.new one.now) (StopsAt (component_refusal self.old.kinds.packages (length self.old.components) one.now)) }
-        ensures told { IfErr result (TellsOf (IsClassifierGroup self.old.kinds.packages) refusals.new) }
+        ensures told { IfErr result (TellsFirst (component_group self.old.kinds.packages (length self.old.components) one.now) refusals.new) }
     {
         if let Err(refusal) = within_limits(self.components.items().len(), one) {
             return Err(refusals.only(Stop::Refused(refusal)));

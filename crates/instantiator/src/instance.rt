@@ -2,8 +2,8 @@ ghost use Rattle.std.specs.Prelude.{◌≡◌, ◌≤◌, None, IfOk, IfErr, OnO
 ghost use Rattle.instantiator.specs.Components.{component_below};
 ghost use Rattle.instantiator.specs.Effectives.{effective_of};
 ghost use Rattle.plain_values.specs.inner.Stops.{StopsAt};
-ghost use Rattle.instantiator.specs.Refused.{IsClassifierGroup, instance_refusal};
-ghost use Rattle.noted_refusals.specs.Noted.{TellsOf};
+ghost use Rattle.instantiator.specs.Refused.{instance_group, instance_refusal};
+ghost use Rattle.noted_refusals.specs.inner.Noted.{TellsFirst};
 ghost use Rattle.instantiator.specs.inner.Tables.{kind_of};
 ghost use Rattle.instantiator.specs.Whole.{classifier_at, instance_of, kind_number, kinds_of};
 ghost use Rattle.instantiator.specs.inner.Whole.{ParentsComeFirst, PathsDiffer};
@@ -65,7 +65,7 @@ impl<'i, 'a> Instance<'i, 'a> {
         ensures instance { IfOk result (λ instance. instance ≡ instance_of index.now root) }
         ensures accepted { OnOk result (instance_refusal index.now root ≡ None) }
         ensures refused { IfErr result (StopsAt (instance_refusal index.now root)) }
-        ensures told { IfErr result (TellsOf (IsClassifierGroup index.now) refusals.new) }
+        ensures told { IfErr result (TellsFirst (instance_group index.now root) refusals.new) }
     {
         let mut draft = Draft::new(alloc, index);
         let one = Occurrence::root(alloc, root);

@@ -3,8 +3,8 @@ ghost use Rattle.component_extension.specs.Items.{classifier_refusals};
 ghost use Rattle.instantiator.specs.Components.{parts_of};
 ghost use Rattle.instantiator.specs.Effectives.{effective_at, effective_of};
 ghost use Rattle.plain_values.specs.inner.Stops.{StopsAt};
-ghost use Rattle.instantiator.specs.Refused.{IsClassifierGroup, classifier_refusal};
-ghost use Rattle.noted_refusals.specs.Noted.{TellsOf};
+ghost use Rattle.instantiator.specs.Refused.{classifier_group, classifier_refusal};
+ghost use Rattle.noted_refusals.specs.inner.Noted.{TellsFirst};
 ghost use Rattle.instantiator.specs.inner.Tables.{Entered, kind_of};
 ghost use Rattle.instantiator.specs.Whole.{kind_place};
 
@@ -72,7 +72,7 @@ impl<'i, 'a> Kinds<'i, 'a> {
         refusals: &mut Refusals,
     ) -> Answer<Option<usize>>
         ensures entered { MatchResult result (Entered self.old self.new classifier) (StopsAt (classifier_refusal self.old.packages classifier)) }
-        ensures told { IfErr result (TellsOf (IsClassifierGroup self.old.packages) refusals.new) }
+        ensures told { IfErr result (TellsFirst (classifier_group self.old.packages classifier) refusals.new) }
     {
         match classifier {
             Ok(Some(id)) => Ok(Some(self.enter_id(alloc, id, refusals)?)),
@@ -89,7 +89,7 @@ impl<'i, 'a> Kinds<'i, 'a> {
         refusals: &mut Refusals,
     ) -> Answer<usize>
         ensures entered { MatchResult result (λ number. Entered self.old self.new (Ok (Some id)) (Some number)) (StopsAt (classifier_refusal self.old.packages (Ok (Some id)))) }
-        ensures told { IfErr result (TellsOf (IsClassifierGroup self.old.packages) refusals.new) }
+        ensures told { IfErr result (TellsFirst (classifier_refusals self.old.packages id) refusals.new) }
     {
         if let Some(number) = self.number(id) {
             return Ok(number);

@@ -1,8 +1,8 @@
 ghost use Rattle.std.specs.Prelude.{◌≤◌, ◌-◌, length, IfErr, MatchResult};
 ghost use Rattle.instantiator.specs.Components.{preorder};
 ghost use Rattle.plain_values.specs.inner.Stops.{StopsAt};
-ghost use Rattle.instantiator.specs.Refused.{IsClassifierGroup, first_refusal};
-ghost use Rattle.noted_refusals.specs.Noted.{TellsOf};
+ghost use Rattle.instantiator.specs.Refused.{first_refusal, groups_from};
+ghost use Rattle.noted_refusals.specs.inner.Noted.{TellsFirst};
 ghost use Rattle.instantiator.specs.inner.Tables.{Grown};
 
 use crate::draft::Draft;
@@ -20,7 +20,7 @@ pub(crate) fn add_all<'a>(
 ) -> Answer<()>
     requires { length one.now.path ≤ 33 }
     ensures grown { MatchResult result (λ _. Grown draft.old draft.new (preorder (34 - length one.now.path) draft.old.kinds.packages one.now)) (StopsAt (first_refusal draft.old.kinds.packages (length draft.old.components) (preorder (34 - length one.now.path) draft.old.kinds.packages one.now))) }
-    ensures told { IfErr result (TellsOf (IsClassifierGroup draft.old.kinds.packages) refusals.new) }
+    ensures told { IfErr result (TellsFirst (groups_from draft.old.kinds.packages (length draft.old.components) (preorder (34 - length one.now.path) draft.old.kinds.packages one.now)) refusals.new) }
 {
     let kind = draft.add(alloc, one, refusals)?;
     let parts = draft.kinds.parts(alloc, kind)?;

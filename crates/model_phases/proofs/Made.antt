@@ -12,8 +12,7 @@ use Rattle.instantiator.specs.Refused.{instance_refusal}
 use Rattle.instantiator.specs.Whole.{Instance, instance_of}
 use Rattle.propagation_links.specs.declared.link.Link.{Link}
 use Rattle.propagation_links.specs.Links.{links_of}
-use Rattle.propagation_links.specs.Refused.{IsLinksGroup, links_refusal}
-use Rattle.plain_values.specs.declared.refusal.Refusal.{Refusal}
+use Rattle.propagation_links.specs.Refused.{links_group, links_refusal}
 use Rattle.model_facts.specs.Assembly.{Assembly, assembly_of, points_in, with_links}
 use Rattle.model_phases.specs.Phases.{assembled, kind_tests, sized}
 use Rattle.model_phases.specs.Tests.{IsIt}
@@ -44,11 +43,10 @@ pub links_pass : (packages : List PackageUnit) (root : ClassifierId) (instance :
     → Passes (tests (IsIt (links_refusal instance (points_in models)))) (tt {0}) → Passes (tests (IsIt (links_refusal (instance_of packages root) (points_in (assembly_of packages root).models)))) (tt {0})
 links_pass packages root instance models made are pass = subst (λ one. Passes (tests (IsIt one)) (tt {0})) (points-made packages root instance models made are) pass
 
--- the groups of its links
-pub links_group : (packages : List PackageUnit) (root : ClassifierId) (instance : Instance) (models : List ErrorModel) (group : List Refusal) → instance ≡ instance_of packages root → models ≡ models_in instance
-    → IsLinksGroup instance (points_in models) group → IsLinksGroup (instance_of packages root) (points_in (assembly_of packages root).models) group
-links_group packages root instance models group made are is =
-    subst (λ (one : Instance). IsLinksGroup one (points_in (models_in one)) group) made (subst (λ all. IsLinksGroup instance (points_in all) group) are is)
+-- the group of its links
+pub links_named : (packages : List PackageUnit) (root : ClassifierId) (instance : Instance) (models : List ErrorModel) → instance ≡ instance_of packages root → models ≡ models_in instance
+    → links_group instance (points_in models) ≡ links_group (instance_of packages root) (points_in (assembly_of packages root).models)
+links_named packages root instance models made are = ap (λ all. links_group instance (points_in all)) are ∙ ap (λ (one : Instance). links_group one (points_in (models_in one))) made
 
 -- the model put together
 whole : (packages : List PackageUnit) (root : ClassifierId) (instance : Instance) (types : Table) (models : List ErrorModel) (links : List Link) → instance ≡ instance_of packages root → types ≡ table_of instance.packages → models ≡ models_in instance → links ≡ links_of instance (points_in models)

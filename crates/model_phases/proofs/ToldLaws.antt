@@ -1,46 +1,58 @@
 -- What is told of a stop, as a status.
-use Rattle.std.proofs.Common.{◌≡◌, List, Result, Ok, Err, sym, ap, subst, ◌∙◌}
+use Rattle.std.proofs.Common.{◌≡◌, List, [], ◌∷◌, Result, Ok, Err, sym, ap, subst, ◌∙◌}
 use Rattle.std.specs.Prelude.{IfErr, IsErrAnd}
 use Rattle.std.proofs.lemmas.Result.{err_from_is_err_and}
 use Rattle.plain_values.specs.declared.refusal.Refusal.{Refusal}
 use Rattle.plain_values.specs.declared.refusal.Stop.{Stop}
 use Rattle.plain_values.specs.declared.refusal.Stop.TheVariants as stop
-use Rattle.noted_refusals.specs.Noted.{Noted, TellsOf}
-use Rattle.noted_refusals.proofs.Laws.{told-as}
+use Rattle.noted_refusals.specs.Groups.{or_group}
+use Rattle.noted_refusals.specs.inner.Noted.{Noted, TellsFirst}
 use Rattle.phases.specs.declared.status.Status.{Status}
 use Rattle.phases.specs.declared.status.Status.TheVariants as status
 use Rattle.phases.specs.inner.Stopped.{status_of}
-use Rattle.model_phases.specs.inner.Told.{ToldOf}
+use Rattle.model_phases.specs.inner.Told.{OnRefusal, ToldFirst, ToldOf}
 
-told-status : (IsGroup IsOther : List Refusal → Type 0) (noted : Noted) (why : Stop) → ((group : List Refusal) → IsGroup group → IsOther group) → TellsOf IsGroup noted why → ToldOf IsOther noted (status_of why)
-told-status IsGroup IsOther noted (stop.Refused refusal) so told = told-as IsGroup IsOther noted (stop.Refused refusal) so told
-told-status IsGroup IsOther noted stop.Memory so told = tt
+told-status : (group : List Refusal) (noted : Noted) (why : Stop) → TellsFirst group noted why → ToldFirst group noted (status_of why)
+told-status group noted (stop.Refused refusal) told = told
+told-status group noted stop.Memory told = tt
 
 -- the exit of a `?` behind a call that stops
-pub stop-told : {T : Type 0} (IsGroup IsOther : List Refusal → Type 0) (noted : Noted) (why : Stop) (result : Result T Status) → ((group : List Refusal) → IsGroup group → IsOther group) → IsErrAnd result (λ its. its ≡ status_of why) → TellsOf IsGroup noted why → IfErr result (ToldOf IsOther noted)
-stop-told IsGroup IsOther noted why result so is told =
+pub stop-told : {T : Type 0} (group : List Refusal) (noted : Noted) (why : Stop) (result : Result T Status) → IsErrAnd result (λ its. its ≡ status_of why) → TellsFirst group noted why → IfErr result (ToldFirst group noted)
+stop-told group noted why result is told =
     let p = err_from_is_err_and result is in
-    subst (λ r. IfErr r (ToldOf IsOther noted)) (sym (p.1 ∙ ap Err p.2)) (told-status IsGroup IsOther noted why so told)
+    subst (λ r. IfErr r (ToldFirst group noted)) (sym (p.1 ∙ ap Err p.2)) (told-status group noted why told)
 
-told-on : (IsGroup IsOther : List Refusal → Type 0) (noted : Noted) (end : Status) → ((group : List Refusal) → IsGroup group → IsOther group) → ToldOf IsGroup noted end → ToldOf IsOther noted end
-told-on IsGroup IsOther noted (status.Refused refusal) so told = told-as IsGroup IsOther noted (stop.Refused refusal) so told
-told-on IsGroup IsOther noted status.Done so told = tt
-told-on IsGroup IsOther noted status.Usage so told = tt
-told-on IsGroup IsOther noted (status.Constant always) so told = tt
-told-on IsGroup IsOther noted (status.Unrated name) so told = tt
-told-on IsGroup IsOther noted (status.StaleToken token input) so told = tt
-told-on IsGroup IsOther noted (status.ReadFault file) so told = tt
-told-on IsGroup IsOther noted status.WriteFault so told = tt
-told-on IsGroup IsOther noted (status.ReportFault place) so told = tt
-told-on IsGroup IsOther noted status.Memory so told = tt
+-- what is told of a refusal, where this is so of the status
+pub told-with : (With : Status → Type 0) (Is IsNow : Refusal → Type 0) (end : Status) → ((refusal : Refusal) → With (status.Refused refusal) → Is refusal → IsNow refusal) → With end → OnRefusal Is end → OnRefusal IsNow end
+told-with With Is IsNow (status.Refused refusal) so with told = so refusal with told
+told-with With Is IsNow status.Done so with told = tt
+told-with With Is IsNow status.Usage so with told = tt
+told-with With Is IsNow (status.Constant always) so with told = tt
+told-with With Is IsNow (status.Unrated name) so with told = tt
+told-with With Is IsNow (status.StaleToken token input) so with told = tt
+told-with With Is IsNow (status.ReadFault file) so with told = tt
+told-with With Is IsNow status.WriteFault so with told = tt
+told-with With Is IsNow (status.ReportFault place) so with told = tt
+told-with With Is IsNow status.Memory so with told = tt
+
+told-on : (Is IsNow : Refusal → Type 0) (end : Status) → ((refusal : Refusal) → Is refusal → IsNow refusal) → OnRefusal Is end → OnRefusal IsNow end
+told-on Is IsNow end so told = told-with (λ _. Unit {0}) Is IsNow end (λ refusal _ its. so refusal its) tt told
 
 -- the exit of a `?` behind a call that ends with a status
-pub end-told : {T : Type 0} (IsGroup IsOther : List Refusal → Type 0) (noted : Noted) (end : Status) (result : Result T Status) → ((group : List Refusal) → IsGroup group → IsOther group) → IsErrAnd result (λ its. its ≡ end) → ToldOf IsGroup noted end → IfErr result (ToldOf IsOther noted)
-end-told IsGroup IsOther noted end result so is told =
+pub end-told : {T : Type 0} (Is IsNow : Refusal → Type 0) (end : Status) (result : Result T Status) → ((refusal : Refusal) → Is refusal → IsNow refusal) → IsErrAnd result (λ its. its ≡ end) → OnRefusal Is end → IfErr result (OnRefusal IsNow)
+end-told Is IsNow end result so is told =
     let p = err_from_is_err_and result is in
-    subst (λ r. IfErr r (ToldOf IsOther noted)) (sym (p.1 ∙ ap Err p.2)) (told-on IsGroup IsOther noted end so told)
+    subst (λ r. IfErr r (OnRefusal IsNow)) (sym (p.1 ∙ ap Err p.2)) (told-on Is IsNow end so told)
 
 -- what a call answers is told of other groups too
-pub answer-told : {T : Type 0} (IsGroup IsOther : List Refusal → Type 0) (noted : Noted) (result : Result T Status) → ((group : List Refusal) → IsGroup group → IsOther group) → IfErr result (ToldOf IsGroup noted) → IfErr result (ToldOf IsOther noted)
-answer-told IsGroup IsOther noted (Ok made) so told = tt
-answer-told IsGroup IsOther noted (Err end) so told = told-on IsGroup IsOther noted end so told
+pub answer-told : {T : Type 0} (Is IsNow : Refusal → Type 0) (result : Result T Status) → ((refusal : Refusal) → Is refusal → IsNow refusal) → IfErr result (OnRefusal Is) → IfErr result (OnRefusal IsNow)
+answer-told Is IsNow (Ok made) so told = tt
+answer-told Is IsNow (Err end) so told = told-on Is IsNow end so told
+
+-- what is told of this group of a refusal
+abbrev pub First : List Refusal → Noted → Refusal → Type 0
+First group noted refusal = TellsFirst group noted (stop.Refused refusal)
+
+-- what is told of this group, or of the refusal alone
+abbrev pub FirstOf : List Refusal → Noted → Refusal → Type 0
+FirstOf group noted refusal = TellsFirst (or_group group (refusal ∷ [])) noted (stop.Refused refusal)

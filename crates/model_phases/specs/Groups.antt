@@ -1,24 +1,34 @@
--- The groups of refusals by which a model is tested.
-use Rattle.std.specs.Prelude.{◌≡◌, ◌⊎◌, List}
+-- The groups of refusals by which a model is tested: the first in which anything is refused is told.
+use Rattle.std.specs.Prelude.{cond, nat_lt, List, [], ◌∷◌, length, option_to_list}
 use Rattle.aadl_syntax.specs.declared.core_model.PackageUnit.{PackageUnit}
+use Rattle.plain_values.specs.declared.refusal.Code.TheVariants.{TooManyTypes}
 use Rattle.plain_values.specs.declared.refusal.Refusal.{Refusal}
-use Rattle.noted_refusals.specs.Noted.{IsAlone}
+use Rattle.plain_values.specs.Refusal.{of_words}
+use Rattle.noted_refusals.specs.Groups.{or_group}
 use Rattle.package_index.specs.declared.id.ClassifierId.{ClassifierId}
-use Rattle.error_libraries.specs.Libraries.{table_of}
-use Rattle.instantiator.specs.Refused.{IsClassifierGroup}
+use Rattle.error_libraries.specs.Libraries.{declared_types, greatest_types, libraries_of, table_of}
+use Rattle.instantiator.specs.Refused.{instance_group}
 use Rattle.instantiator.specs.Whole.{Instance, instance_of}
-use Rattle.error_models.specs.Refused.{IsModelGroup, all_set_refusals}
-use Rattle.propagation_links.specs.Refused.{IsLinksGroup}
+use Rattle.error_models.specs.Refused.{all_set_refusals, machines_refusal, models_group}
+use Rattle.propagation_links.specs.Refused.{links_group}
 use Rattle.model_facts.specs.Assembly.{assembly_of, points_in}
 
--- The group is one of those of the kinds of an instance: a refusal alone, all written sets that are used, or one of those of an error model.
-abbrev pub IsKindsGroup : Instance → List Refusal → Type 0
-IsKindsGroup instance group =
-    IsAlone group ⊎ ((group ≡ all_set_refusals (table_of instance.packages) instance.kinds) ⊎ IsModelGroup (table_of instance.packages) instance.kinds group)
+-- M8 alone, where packages declare too many types
+abbrev pub types_group : List PackageUnit → List Refusal
+types_group packages = cond (nat_lt greatest_types (length (declared_types (libraries_of packages)))) (of_words TooManyTypes ∷ []) []
 
--- The group is one of those of the model of a root in packages: of the chain or the members of a classifier, of its kinds, of the links of
--- a component, or a refusal alone.
-abbrev pub IsGroupOf : List PackageUnit → ClassifierId → List Refusal → Type 0
-IsGroupOf packages root group =
-    IsClassifierGroup packages group
-    ⊎ (IsKindsGroup (instance_of packages root) group ⊎ IsLinksGroup (instance_of packages root) (points_in (assembly_of packages root).models) group)
+-- the group of the error models of an instance: all written sets that are used, and then that of a model
+abbrev pub content_group : Instance → List Refusal
+content_group instance = or_group (all_set_refusals (table_of instance.packages) instance.kinds) (models_group (table_of instance.packages) instance.kinds)
+
+-- The group of the kinds of an instance: the refusal of a machine alone, M8 alone, and then the group of their error models.
+abbrev pub kinds_group : Instance → List Refusal
+kinds_group instance =
+    or_group (option_to_list (machines_refusal instance.packages instance.kinds)) (or_group (types_group instance.packages) (content_group instance))
+
+-- The group of the model of a root in packages: that of its components, of their kinds, or of its links. It is empty where nothing is
+-- refused but its size, which has one refusal alone.
+abbrev pub root_group : List PackageUnit → ClassifierId → List Refusal
+root_group packages root =
+    or_group (instance_group packages root)
+    (or_group (kinds_group (instance_of packages root)) (links_group (instance_of packages root) (points_in (assembly_of packages root).models)))

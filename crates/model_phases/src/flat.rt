@@ -1,16 +1,15 @@
-ghost use Rattle.std.specs.Prelude.{◌≡◌, IfErr, IfOk};
+ghost use Rattle.std.specs.Prelude.{◌≡◌, [], IfErr, IfOk};
 ghost use Rattle.phases.specs.inner.Meets.{Meets};
 ghost use Rattle.phases.specs.Phases.{tests};
-ghost use Rattle.instantiator.specs.Refused.{IsClassifierGroup, instance_refusal};
-ghost use Rattle.noted_refusals.specs.Noted.{IsAlone};
+ghost use Rattle.instantiator.specs.Refused.{instance_group, instance_refusal};
 ghost use Rattle.instantiator.specs.Whole.{instance_of};
 ghost use Rattle.propagation_links.specs.Links.{links_of};
-ghost use Rattle.propagation_links.specs.Refused.{IsLinksGroup, links_refusal};
+ghost use Rattle.propagation_links.specs.Refused.{links_group, links_refusal};
 ghost use Rattle.model_facts.specs.Assembly.{points_in};
 ghost use Rattle.model_phases.specs.Phases.{assembled, sized};
 ghost use Rattle.model_phases.specs.Tests.{IsIt};
-ghost use Rattle.model_phases.specs.Groups.{IsGroupOf};
-ghost use Rattle.model_phases.specs.inner.Told.{ToldOf};
+ghost use Rattle.model_phases.specs.Groups.{root_group};
+ghost use Rattle.model_phases.specs.inner.Told.{ToldFirst, ToldOf};
 ghost use Rattle.model_phases.specs.inner.Tests.{MeetsTests};
 
 use crate::kinds::{Kinds, kinds_of};
@@ -87,7 +86,7 @@ pub fn assembled<M: FromAssembly>(
     refusals: &mut Refusals,
 ) -> Result<M, Status>
     ensures made { Meets (assembled M.phase index.now root) result }
-    ensures told { IfErr result (ToldOf (IsGroupOf index.now root) refusals.new) }
+    ensures told { IfErr result (ToldOf (root_group index.now root) refusals.new) }
 {
     let instance = instance_at(alloc, index, root, refusals)?;
     let kinds = kinds_of(alloc, &instance, refusals)?;
@@ -103,7 +102,7 @@ fn instance_at<'i, 'a>(
     refusals: &mut Refusals,
 ) -> Result<Instance<'i, 'a>, Status>
     ensures tested { MeetsTests (tests (IsIt (instance_refusal index.now root))) result }
-    ensures told { IfErr result (ToldOf (IsClassifierGroup index.now) refusals.new) }
+    ensures told { IfErr result (ToldFirst (instance_group index.now root) refusals.new) }
     ensures instance { IfOk result (λ instance. instance ≡ instance_of index.now root) }
 {
     Ok(Instance::of(alloc, index, root, refusals)?)
@@ -117,7 +116,7 @@ fn links_between<'a>(
     refusals: &mut Refusals,
 ) -> Result<List<Link>, Status>
     ensures tested { MeetsTests (tests (IsIt (links_refusal instance.now (points_in kinds.now.models)))) result }
-    ensures told { IfErr result (ToldOf (IsLinksGroup instance.now (points_in kinds.now.models)) refusals.new) }
+    ensures told { IfErr result (ToldFirst (links_group instance.now (points_in kinds.now.models)) refusals.new) }
     ensures links { IfOk result (λ links. links ≡ links_of instance.now (points_in kinds.now.models)) }
 {
     let points = points_of_models(alloc, kinds.models.items())?;
@@ -134,7 +133,7 @@ fn noted_made<'m, 'i, 'a, M: FromAssembly>(
     refusals: &mut Refusals,
 ) -> Result<M, Status>
     ensures made { Meets (sized M.phase (record { instance = instance.now; types = kinds.now.types; models = kinds.now.models; links = links.now })) result }
-    ensures told { IfErr result (ToldOf IsAlone refusals.new) }
+    ensures told { IfErr result (ToldOf [] refusals.new) }
 {
     match made_of(alloc, instance, kinds, links) {
         Ok(made) => Ok(made),
@@ -145,7 +144,7 @@ fn noted_made<'m, 'i, 'a, M: FromAssembly>(
 /// Notes the refusal with which a call ends, if it ends with one, in place of what was noted before. Hands back how it ends.
 pub fn noted_alone(status: Status, refusals: &mut Refusals) -> Status
     ensures status { result ≡ status }
-    ensures told { ToldOf IsAlone refusals.new status }
+    ensures told { ToldOf [] refusals.new status }
 {
     if let Status::Refused(refusal) = &status {
         refusals.only(Stop::Refused(*refusal));

@@ -1,12 +1,12 @@
-ghost use Rattle.std.specs.Prelude.{◌≡◌, ◌⊎◌, IfErr, IfOk, map};
+ghost use Rattle.std.specs.Prelude.{◌≡◌, [], IfErr, IfOk, map, option_to_list};
 ghost use Rattle.phases.specs.Phases.{tests};
 ghost use Rattle.error_libraries.specs.Libraries.{HasTooManyTypes, table_of};
 ghost use Rattle.error_models.specs.Below.{kind_machine};
 ghost use Rattle.error_models.specs.Models.{model_of};
-ghost use Rattle.error_models.specs.Refused.{IsModelGroup, all_set_refusals, machines_refusal};
-ghost use Rattle.noted_refusals.specs.Noted.{IsAlone};
-ghost use Rattle.model_phases.specs.Groups.{IsKindsGroup};
-ghost use Rattle.model_phases.specs.inner.Told.{ToldOf};
+ghost use Rattle.error_models.specs.Refused.{all_set_refusals, machines_refusal, models_group};
+ghost use Rattle.noted_refusals.specs.Groups.{or_group};
+ghost use Rattle.model_phases.specs.Groups.{kinds_group};
+ghost use Rattle.model_phases.specs.inner.Told.{ToldFirst, ToldOf};
 ghost use Rattle.model_phases.specs.Phases.{content_tests, kind_tests};
 ghost use Rattle.model_phases.specs.Tests.{IsIt};
 ghost use Rattle.model_phases.specs.inner.Tests.{MeetsTests};
@@ -34,7 +34,7 @@ pub(crate) fn kinds_of<'i, 'a>(
     refusals: &mut Refusals,
 ) -> Result<Kinds<'i, 'a>, Status>
     ensures tested { MeetsTests (kind_tests instance.now) result }
-    ensures told { IfErr result (ToldOf (IsKindsGroup instance.now) refusals.new) }
+    ensures told { IfErr result (ToldFirst (kinds_group instance.now) refusals.new) }
     ensures types { IfOk result (λ kinds. kinds.types ≡ table_of instance.now.packages) }
     ensures models { IfOk result (λ kinds. kinds.models ≡ map (model_of (table_of instance.now.packages) instance.now.kinds) instance.now.kinds) }
 {
@@ -54,7 +54,7 @@ fn machines_in<'a>(
     refusals: &mut Refusals,
 ) -> Result<List<Option<UsedMachine<'a>>>, Status>
     ensures tested { MeetsTests (tests (IsIt (machines_refusal instance.now.packages instance.now.kinds))) result }
-    ensures told { IfErr result (ToldOf IsAlone refusals.new) }
+    ensures told { IfErr result (ToldFirst (option_to_list (machines_refusal instance.now.packages instance.now.kinds)) refusals.new) }
     ensures machines { IfOk result (λ machines. machines ≡ map (kind_machine instance.now.packages) instance.now.kinds) }
 {
     Ok(machines_of(alloc, instance, refusals)?)
@@ -67,7 +67,7 @@ fn reading_of<'i, 'a>(
     refusals: &mut Refusals,
 ) -> Result<Reading<'i, 'a>, Status>
     ensures tested { MeetsTests (tests (HasTooManyTypes instance.now.packages)) result }
-    ensures told { IfErr result (ToldOf IsAlone refusals.new) }
+    ensures told { IfErr result (ToldOf [] refusals.new) }
     ensures types { IfOk result (λ reading. reading.types ≡ table_of instance.now.packages) }
 {
     let types = types_of(alloc, instance, refusals)?;
@@ -82,7 +82,7 @@ fn types_of<'i, 'a>(
     refusals: &mut Refusals,
 ) -> Result<TypeTable<'i, 'a>, Status>
     ensures tested { MeetsTests (tests (HasTooManyTypes instance.now.packages)) result }
-    ensures told { IfErr result (ToldOf IsAlone refusals.new) }
+    ensures told { IfErr result (ToldOf [] refusals.new) }
     ensures types { IfOk result (λ types. types ≡ table_of instance.now.packages) }
 {
     match TypeTable::new(alloc, instance.index()) {
@@ -102,7 +102,7 @@ fn noted_models<'a>(
     requires machines { machines.now ≡ map (kind_machine instance.now.packages) instance.now.kinds }
     requires table { reading.old.types ≡ table_of instance.now.packages }
     ensures tested { MeetsTests (content_tests reading.old.types instance.now.kinds) result }
-    ensures told { IfErr result (ToldOf (λ group. (group ≡ all_set_refusals reading.old.types instance.now.kinds) ⊎ IsModelGroup reading.old.types instance.now.kinds group) refusals.new) }
+    ensures told { IfErr result (ToldFirst (or_group (all_set_refusals reading.old.types instance.now.kinds) (models_group reading.old.types instance.now.kinds)) refusals.new) }
     ensures kept { reading.new.types ≡ reading.old.types }
     ensures models { IfOk result (λ models. models ≡ map (model_of reading.old.types instance.now.kinds) instance.now.kinds) }
 {
@@ -121,7 +121,7 @@ fn models_with<'a>(
     requires machines { machines.now ≡ map (kind_machine instance.now.packages) instance.now.kinds }
     requires table { reading.old.types ≡ table_of instance.now.packages }
     ensures tested { MeetsTests (content_tests reading.old.types instance.now.kinds) result }
-    ensures told { IfErr result (ToldOf (λ group. (group ≡ all_set_refusals reading.old.types instance.now.kinds) ⊎ IsModelGroup reading.old.types instance.now.kinds group) reading.new.refusals) }
+    ensures told { IfErr result (ToldFirst (or_group (all_set_refusals reading.old.types instance.now.kinds) (models_group reading.old.types instance.now.kinds)) reading.new.refusals) }
     ensures kept { reading.new.types ≡ reading.old.types }
     ensures models { IfOk result (λ models. models ≡ map (model_of reading.old.types instance.now.kinds) instance.now.kinds) }
 {

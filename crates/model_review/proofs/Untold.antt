@@ -75,11 +75,11 @@ module _ (seen : Seen) where
 
   -- where no finding is hidden, nothing is
   pub none-hidden : (findings : List Finding) → AreFindings seen findings → list_any is_hidden findings ≡ false → HasNoHidden seen
-  none-hidden findings (loops, unused, unreached, told, is) none =
+  none-hidden findings (loops, unused, no_single, unreached, told, is) none =
       let sources : List Finding = of_components seen (hidden_flows false seen) in
       let paths : List Finding = of_components seen (hidden_flows true seen) in
       let links : List Finding = flat_map (hidden_link seen) seen.numbered.assembly.links in
-      let all = both-false is_hidden (model_findings seen) (system_findings seen loops unused unreached) (sym (ap (list_any is_hidden) is) ∙ none) in
+      let all = both-false is_hidden (model_findings seen) (system_findings seen loops unused no_single unreached) (sym (ap (list_any is_hidden) is) ∙ none) in
       let first = both-false is_hidden sources _ all.0 in
       let second = both-false is_hidden paths _ first.1 in
       let third = both-false is_hidden links _ second.1 in

@@ -1,5 +1,6 @@
 -- What a review tells of a model but for its loops and its events: what it leaves without effect, and where its errors stop (EMV2).
-use Rattle.std.specs.Prelude.{ℕ, Bool, true, false, cond, ◌&&◌, ◌==◌, not, nat_eq, List, [], ◌∷◌, ◌++◌, filter, flat_map, length, map, slice_index_or}
+use Rattle.std.specs.Prelude.{ℕ, Bool, true, false, cond, ◌&&◌, ◌||◌, ◌==◌, not, nat_eq, List, [], ◌∷◌, ◌++◌, filter, flat_map, length, map, slice_index_or}
+use Rattle.std.specs.Bool.{beq}
 use Rattle.std.specs.List.{list_any}
 use Rattle.std.specs.Option.{option_map_or}
 use Rattle.aadl_syntax.specs.declared.error_model.FlowKind.{FlowKind}
@@ -10,6 +11,8 @@ use Rattle.package_index.specs.Names.{only}
 use Rattle.error_libraries.specs.Search.{is_number_in}
 use Rattle.propagation_points.specs.Points.{Point}
 use Rattle.propagation_points.specs.States.{all_variants, held_numbers}
+use Rattle.propagation_points.specs.declared.side.Side.{Side}
+use Rattle.propagation_points.specs.declared.side.Side.TheVariants.{Absent, Free, Declared}
 use Rattle.propagation_points.specs.Uses.{covers}
 use Rattle.error_flows.specs.declared.meaning.FlowMeaning.{FlowMeaning}
 use Rattle.error_flows.specs.declared.meaning.FlowMeaning.TheVariants as flow
@@ -22,9 +25,9 @@ use Rattle.propagation_links.specs.declared.link.PointAt.{PointAt}
 use Rattle.model_facts.specs.Assembly.{model_at, points_in}
 use Rattle.model_facts.specs.Facts.{inward_of, is_linked, outward_of}
 use Rattle.fact_formulas.specs.Formulas.{end_of}
-use Rattle.model_review.specs.Seen.{Seen, declared_for, is_lost_event, is_lost_fact, may_come, number_at, side_in, source_number, state_number, states_of, stops, types_in}
+use Rattle.model_review.specs.Seen.{Seen, declared_for, is_lost_event, is_lost_fact, is_used, may_come, number_at, side_in, source_number, state_number, states_of, stops, types_in}
 use Rattle.model_review.specs.declared.finding.Finding.{Finding}
-use Rattle.model_review.specs.declared.finding.Finding.TheVariants.{HiddenLink, HiddenPath, HiddenSource, HiddenTransitions, Never, NeverState, NoLink, NotDeclared, Open, StopsHere, UnusedState}
+use Rattle.model_review.specs.declared.finding.Finding.TheVariants.{Dry, HiddenLink, HiddenPath, HiddenSource, HiddenTransitions, Never, NeverState, NoLink, NoSource, NotDeclared, Open, StopsHere, UnusedState}
 use Rattle.model_review.specs.declared.finding.TypesAt.{TypesAt}
 
 -- types at a side
@@ -176,6 +179,62 @@ open_at seen owner number point =
 abbrev pub open_ends : Seen → ℕ → ErrorModel → List Finding
 open_ends seen owner model = numbered_from (open_at seen owner) 0 model.points
 
+-- ---- sides to which nothing comes
+
+-- these types at a side, if there are any, and none of them may come there
+abbrev pub dry_with : Seen → PointAt → List ℕ → List Finding
+dry_with seen side types =
+    cond (list_any (λ type. may_come seen (number_at seen side type)) types) [] (if_any (λ types. Dry (types_at side types)) types)
+
+-- A point is told with the types that are declared for its inward side, if a link leads there, and none of them may come.
+abbrev pub dry_at : Seen → ℕ → ℕ → Point → List Finding
+dry_at seen owner number point =
+    cond (is_linked seen.numbered.assembly.links (inward_of owner number)) (option_map_or (dry_with seen (inward_of owner number)) (declared_for point.inward) []) []
+
+abbrev pub dry_sides : Seen → ℕ → ErrorModel → List Finding
+dry_sides seen owner model = numbered_from (dry_at seen owner) 0 model.points
+
+-- ---- sides without a source
+
+-- whether a side is one for which no types are declared
+abbrev pub is_free : Side → Bool
+is_free Absent = false
+is_free Free = true
+is_free (Declared types) = false
+
+-- whether types are declared for a side
+abbrev pub has_types : Seen → PointAt → Bool
+has_types seen side = option_map_or (λ types. true) (declared_for (side_in seen side)) false
+
+-- a link, turned round
+abbrev pub turned : Link → Link
+turned link = record { from = link.to; to = link.from }
+
+-- the links that lead to sides with declared types, or those that lead to sides without, turned round
+abbrev pub turned_links : Seen → Bool → List Link
+turned_links seen declared = map turned (filter (λ link. beq (has_types seen link.to) declared) seen.numbered.assembly.links)
+
+-- whether a link leads from a side to one with declared types, or to one without
+abbrev pub leads_to : Seen → Bool → PointAt → Bool
+leads_to seen declared side = is_linked (turned_links seen declared) side
+
+-- whether a type that may be at a side occurs there in a formula
+abbrev pub is_used_side : Seen → PointAt → Bool
+is_used_side seen side = list_any (λ type. is_used seen (number_at seen side type)) (types_in seen side)
+
+-- Whether something looks at a side: a link leads from it to one with declared types; or it occurs in a formula, and no link leads from it to
+-- one without.
+abbrev pub is_asked : Seen → PointAt → Bool
+is_asked seen side = leads_to seen true side || (not (leads_to seen false side) && is_used_side seen side)
+
+-- A point is told if no types are declared for its inward side, no link leads there, and something looks at it.
+abbrev pub no_source_at : Seen → ℕ → ℕ → Point → List Finding
+no_source_at seen owner number point =
+    cond ((is_free point.inward && not (is_linked seen.numbered.assembly.links (inward_of owner number))) && is_asked seen (inward_of owner number)) (NoSource (inward_of owner number) ∷ []) []
+
+abbrev pub no_sources : Seen → ℕ → ErrorModel → List Finding
+no_sources seen owner model = numbered_from (no_source_at seen owner) 0 model.points
+
 -- ---- what never comes about
 
 -- A point is told with the types that are declared for its outward side and never come out, if there are any.
@@ -226,6 +285,8 @@ model_findings seen =
     ++ (of_components seen (stops_of seen)
     ++ (no_links seen
     ++ (of_components seen (open_ends seen)
+    ++ (of_components seen (dry_sides seen)
+    ++ (of_components seen (no_sources seen)
     ++ (of_components seen (never_out seen)
     ++ (never_states seen (model_at seen.numbered.assembly 0)
-    ++ of_components seen (unused_states seen))))))))))
+    ++ of_components seen (unused_states seen))))))))))))

@@ -17,7 +17,7 @@ use Rattle.model_facts.specs.declared.keys.FactKind.TheVariants.{State}
 use Rattle.fault_system.specs.Systems.{event_name, fact_name}
 use Rattle.model_review.specs.Seen.{Seen}
 use Rattle.model_review.specs.declared.finding.Finding.{Finding}
-use Rattle.model_review.specs.declared.finding.Finding.TheVariants.{HiddenLink, HiddenPath, HiddenSource, HiddenTransitions, InLoop, Never, NeverState, NoEffect, NoLink, NotDeclared, Open, StopsHere, UnreachedEvent, UnusedEvent, UnusedState}
+use Rattle.model_review.specs.declared.finding.Finding.TheVariants.{Dry, HiddenLink, HiddenPath, HiddenSource, HiddenTransitions, InLoop, Never, NeverState, NoEffect, NoLink, NoSingle, NoSource, NotDeclared, Open, StopsHere, UnreachedEvent, UnusedEvent, UnusedState}
 use Rattle.model_review.specs.declared.finding.TypesAt.{TypesAt}
 
 -- ---- sides
@@ -91,11 +91,14 @@ finding_text seen (NotDeclared at to) = codes "not-declared " ++ (types_text see
 finding_text seen (StopsHere at) = codes "stops-here " ++ types_text seen.numbered.assembly at
 finding_text seen (NoLink one) = codes "no-link " ++ unlinked_text seen.numbered.assembly one
 finding_text seen (Open at) = codes "open " ++ types_text seen.numbered.assembly at
+finding_text seen (Dry at) = codes "dry " ++ types_text seen.numbered.assembly at
+finding_text seen (NoSource side) = codes "no-source " ++ side_text seen.numbered.assembly side
 finding_text seen (Never at) = codes "never " ++ types_text seen.numbered.assembly at
 finding_text seen (NeverState state) = codes "never " ++ its_fact_name seen.numbered.assembly (fact_in 0 (State state))
 finding_text seen (UnusedState owner state) = codes "unused-state " ++ its_fact_name seen.numbered.assembly (fact_in owner (State state))
 finding_text seen (InLoop loop) = codes "loop " ++ (decimal loop.size ++ (codes " " ++ fact_name seen.system loop.first))
 finding_text seen (UnusedEvent event) = codes "unused-event " ++ event_name seen.system event
+finding_text seen (NoSingle event) = codes "no-single " ++ event_name seen.system event
 finding_text seen NoEffect = codes "no-effect root"
 finding_text seen (UnreachedEvent event) = codes "unreached-event " ++ event_name seen.system event
 

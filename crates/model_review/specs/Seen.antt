@@ -74,6 +74,10 @@ may_come seen fact = option_map_or (possible_in seen.system) fact false
 abbrev pub stops : Seen → Option ℕ → Bool
 stops seen fact = option_map_or (λ number. possible_in seen.system number && not (used_in seen.system number)) fact false
 
+-- whether a fact is there, and occurs in a formula
+abbrev pub is_used : Seen → Option ℕ → Bool
+is_used seen fact = option_map_or (used_in seen.system) fact false
+
 -- the facts that a component is in its states
 abbrev pub states_of : Seen → ℕ → List ℕ
 states_of seen owner =

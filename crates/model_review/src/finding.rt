@@ -39,6 +39,10 @@ pub enum Finding {
     NoLink(Unlinked),
     /// These types arrive from outside of the model: they are declared, and no link leads there.
     Open(TypesAt),
+    /// These types are declared, and none of them may come along the links that lead there.
+    Dry(TypesAt),
+    /// No types are declared for this side and no link leads there, and something looks at it.
+    NoSource(PointAt),
     /// These types are declared, and never come out.
     Never(TypesAt),
     /// The root is never in this state.
@@ -49,6 +53,8 @@ pub enum Finding {
     InLoop(Loop),
     /// An error event occurs in no formula.
     UnusedEvent(u32),
+    /// An event occurs in a formula, and alone makes no fact hold.
+    NoSingle(u32),
     /// The root has no effect.
     NoEffect,
     /// An event occurs in a formula, and no effect of the root depends on it.

@@ -1,6 +1,7 @@
 //! What a model leaves without effect, and where its errors stop: the text of its review.
 #![tactic(auto)]
 
+mod ends;
 mod finding;
 mod flows;
 mod laws;

@@ -69,6 +69,8 @@ fn push_text(alloc: Global, text: &mut Vec<u8>, view: &View, finding: &Finding) 
         Finding::StopsHere(at) => push_at(text, b"stops-here ", assembly, at),
         Finding::NoLink(one) => push_unlinked(text, assembly, *one),
         Finding::Open(at) => push_at(text, b"open ", assembly, at),
+        Finding::Dry(at) => push_at(text, b"dry ", assembly, at),
+        Finding::NoSource(side) => push_side_at(text, b"no-source ", assembly, *side),
         Finding::Never(at) => push_at(text, b"never ", assembly, at),
         Finding::NeverState(state) => push_state(alloc, text, b"never ", assembly, 0, *state),
         Finding::UnusedState(owner, state) => {
@@ -76,6 +78,7 @@ fn push_text(alloc: Global, text: &mut Vec<u8>, view: &View, finding: &Finding) 
         }
         Finding::InLoop(one) => push_loop(text, view.system(), *one),
         Finding::UnusedEvent(event) => push_event(text, b"unused-event ", view.system(), *event),
+        Finding::NoSingle(event) => push_event(text, b"no-single ", view.system(), *event),
         Finding::NoEffect => push_two(text, b"no-effect ", b"root"),
         Finding::UnreachedEvent(event) => {
             push_event(text, b"unreached-event ", view.system(), *event)

@@ -3,14 +3,15 @@
 ghost use Rattle.std.specs.Prelude.{◌≡◌, ◌++◌, IfOk, OnOk, false, flat_map, length, map, true};
 ghost use Rattle.plain_values.specs.Rising.{RisesWithin};
 ghost use Rattle.model_facts.specs.Assembly.{model_at};
-ghost use Rattle.model_review.specs.Findings.{hidden_flows, hidden_link, model_findings, never_out, never_states, no_links, of_components, open_ends, stops_of, unused_states};
+ghost use Rattle.model_review.specs.Findings.{dry_sides, hidden_flows, hidden_link, model_findings, never_out, never_states, no_links, no_sources, of_components, open_ends, stops_of, unused_states};
 ghost use Rattle.model_review.specs.Told.{AreFindings};
 ghost use Rattle.model_review.specs.declared.finding.Finding.TheVariants.{NoLink};
 
+use crate::ends::{DrySides, Linked, NoSources, OpenEnds};
 use crate::finding::Finding;
 use crate::flows::HiddenFlows;
 use crate::links::{HiddenLinks, NotDeclaredThere};
-use crate::sides::{NeverOut, OpenEnds, Stops};
+use crate::sides::{NeverOut, Stops};
 use crate::states::{HiddenTransitions, NeverInState, UnusedStates};
 use crate::told::add_told;
 use crate::view::View;
@@ -60,16 +61,31 @@ fn add_ends(alloc: Global, found: &mut List<Finding>, view: &View) -> Mem<()>
         ++ (of_components view.now (stops_of view.now)
         ++ (no_links view.now
         ++ (of_components view.now (open_ends view.now)
+        ++ (of_components view.now (dry_sides view.now)
+        ++ (of_components view.now (no_sources view.now)
         ++ (of_components view.now (never_out view.now)
         ++ (never_states view.now (model_at view.now.numbered.assembly 0)
-        ++ of_components view.now (unused_states view.now))))))) }
+        ++ of_components view.now (unused_states view.now))))))))) }
 {
     add_of_components(alloc, found, view, &AtPoints(Stops))?;
     add_no_links(alloc, found, view)?;
-    let open_ends = OpenEnds::of(alloc, view.links())?;
-    add_of_components(alloc, found, view, &AtPoints(open_ends))?;
+    add_inward(alloc, found, view)?;
     add_of_components(alloc, found, view, &AtPoints(NeverOut))?;
     add_states(alloc, found, view)
+}
+
+/// Adds the sides that errors enter from outside, those to which none comes, and those without a source.
+fn add_inward(alloc: Global, found: &mut List<Finding>, view: &View) -> Mem<()>
+    ensures { OnOk result (found.new ≡ found.old
+        ++ (of_components view.now (open_ends view.now)
+        ++ (of_components view.now (dry_sides view.now)
+        ++ of_components view.now (no_sources view.now)))) }
+{
+    let linked = Linked::of(alloc, view.links())?;
+    add_of_components(alloc, found, view, &AtPoints(OpenEnds(&linked)))?;
+    add_of_components(alloc, found, view, &AtPoints(DrySides(&linked)))?;
+    let sources = NoSources::of(alloc, view, &linked)?;
+    add_of_components(alloc, found, view, &AtPoints(sources))
 }
 
 /// Adds the states of the root in which it never is, and those of its parts at which nothing looks.

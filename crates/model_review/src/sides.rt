@@ -1,16 +1,14 @@
-//! Sides at which errors stop, come from outside, or never come out.
+//! Sides at which errors stop, or never come out.
 
 ghost use Rattle.std.specs.Prelude.{◌≡◌, ◌&&◌, ◌++◌, IfOk, OnOk, filter, nat_eq, not};
-ghost use Rattle.std.specs.HashSet.{contains};
 ghost use Rattle.std.specs.List.{list_any};
 ghost use Rattle.error_libraries.specs.Search.{is_number_in};
 ghost use Rattle.propagation_points.specs.Uses.{covers};
 ghost use Rattle.model_facts.specs.Assembly.{model_at};
-ghost use Rattle.model_facts.specs.Facts.{inward_of, is_linked, outward_of};
-ghost use Rattle.model_facts.specs.inner.Tables.{KnowsSides, same_side_key};
+ghost use Rattle.model_facts.specs.Facts.{inward_of, outward_of};
 ghost use Rattle.model_review.specs.Findings.{has_sink, if_any, is_sink_at, is_stopped, takes, types_at, types_where};
 ghost use Rattle.model_review.specs.Seen.{may_come, number_at};
-ghost use Rattle.model_review.specs.declared.finding.Finding.TheVariants.{Never, Open, StopsHere};
+ghost use Rattle.model_review.specs.declared.finding.Finding.TheVariants.{Never, StopsHere};
 
 use crate::finding::{Finding, TypesAt, tell_unless};
 use crate::flows::{has_number, inward_of, outward_of};
@@ -20,10 +18,9 @@ use aadl_syntax::{Flow, FlowKind};
 use component_extension::InClause;
 use error_flows::FlowMeaning;
 use plain_values::{List, Mem, is_same};
-use propagation_links::{Link, PointAt};
+use propagation_links::PointAt;
 use propagation_points::{Point, ReachedPoint, only_name};
 use std::alloc::Global;
-use std::collections::HashSet;
 
 /// The types that stop at a point without a sink, if there are any.
 #[derive(Clone, Copy)]
@@ -171,78 +168,6 @@ fn is_sink_at(kind: &FlowKind, name: &[u8]) -> bool
         },
         FlowKind::Source(_, _, _) | FlowKind::Path(_, _, _, _, _) => false,
     }
-}
-
-// ---- open ends
-
-/// The types that are declared for the inward side of a point, if there are any, and no link leads there. It has the sides into which
-/// links lead.
-#[derive(Drop)]
-pub(crate) struct OpenEnds {
-    linked: HashSet<(u32, u32, bool)>,
-}
-
-impl OpenEnds {
-    /// Where these are the links.
-    pub(crate) fn of(alloc: Global, links: &[Link]) -> Mem<OpenEnds>
-        ensures { IfOk result (λ told. KnowsSides links.now (contains same_side_key told.linked)) }
-    {
-        let mut linked = HashSet::new(alloc);
-        for link in links {
-            let to = link.to;
-            linked.insert((to.component, to.point, to.outward))?;
-        }
-        Ok(OpenEnds { linked })
-    }
-}
-
-impl PointFinding for OpenEnds {
-    ghost use Rattle.std.specs.HashSet.{contains};
-    ghost use Rattle.model_facts.specs.inner.Tables.{KnowsSides, same_side_key};
-    ghost use Rattle.model_review.specs.Findings.{open_at};
-
-    ghost fits = { λ told seen. KnowsSides seen.numbered.assembly.links (contains same_side_key told.linked) };
-
-    ghost finding = { λ _. open_at };
-
-    fn tell(
-        &self,
-        alloc: Global,
-        found: &mut List<Finding>,
-        view: &View,
-        at: PointPlace,
-        point: &Point,
-    ) -> Mem<()> {
-        if is_linked(view, &self.linked, at.owner, at.number) {
-            return Ok(());
-        }
-        match declared_for(point.side(false)) {
-            Some(types) => add_arrivals(alloc, found, inward_of(at.owner, at.number), types),
-            None => Ok(()),
-        }
-    }
-}
-
-/// Whether a link leads into the inward side of a point.
-fn is_linked(view: &View, linked: &HashSet<(u32, u32, bool)>, owner: u32, number: u32) -> bool
-    requires { KnowsSides view.now.numbered.assembly.links (contains same_side_key linked.now) }
-    ensures { result ≡ is_linked view.now.numbered.assembly.links (inward_of owner number) }
-{
-    let _ = view;
-    linked.contains(&(owner, number, false))
-}
-
-fn add_arrivals(
-    alloc: Global,
-    found: &mut List<Finding>,
-    side: PointAt,
-    declared: &[u32],
-) -> Mem<()>
-    ensures { OnOk result (found.new ≡ found.old ++ if_any (λ types. Open (types_at side types)) declared.now) }
-{
-    let types = List::of(Vec::from_slice(alloc, declared)?)?;
-    let at = TypesAt { side, types };
-    tell_unless(found, at.is_empty(), Finding::Open(at))
 }
 
 // ---- what never comes out

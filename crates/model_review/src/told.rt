@@ -5,7 +5,7 @@ ghost use Rattle.plain_values.specs.Rising.{RisesWithin};
 ghost use Rattle.fact_formulas.specs.Flat.{is_of_root};
 ghost use Rattle.model_review.specs.Seen.{is_error_event, root_effects};
 ghost use Rattle.model_review.specs.Told.{AddsTold, effect_findings};
-ghost use Rattle.model_review.specs.declared.finding.Finding.TheVariants.{InLoop, UnreachedEvent, UnusedEvent};
+ghost use Rattle.model_review.specs.declared.finding.Finding.TheVariants.{InLoop, NoSingle, UnreachedEvent, UnusedEvent};
 
 use crate::finding::Finding;
 use crate::view::View;
@@ -13,10 +13,10 @@ use fact_formulas::is_of_root;
 use fault_system::FaultSystem;
 use plain_values::{List, Mem};
 use std::alloc::Global;
-use system_review::{Loop, loops, unreached_events, unused_events};
+use system_review::{Loop, loops, no_single_events, unreached_events, unused_events};
 
-/// Adds the loops of a model, its error events that occur in no formula, and what its root tells: that it has no effect, or the
-/// events on which none depends.
+/// Adds the loops of a model, its error events that occur in no formula, those of its events that alone make no fact hold, and what its
+/// root tells: that it has no effect, or the events on which none depends.
 pub(crate) fn add_told(alloc: Global, found: &mut List<Finding>, view: &View) -> Mem<()>
     requires { RisesWithin 0 (length view.now.system.facts) view.now.effects }
     ensures { OnOk result (AddsTold view.now found.old found.new) }
@@ -25,10 +25,12 @@ pub(crate) fn add_told(alloc: Global, found: &mut List<Finding>, view: &View) ->
     let effects = view.effects();
     let loops = loops(alloc, system)?;
     let unused = unused_events(alloc, system)?;
+    let no_single = no_single_events(alloc, system)?;
     let root = root_effects(alloc, system, effects)?;
     let unreached = unreached_events(alloc, system, root.items())?;
     add_loops(found, loops.items())?;
     add_unused(found, view, unused.items())?;
+    add_no_single(found, no_single.items())?;
     add_unreached(found, root.items(), unreached.items())?;
     Ok(())
 }
@@ -60,6 +62,15 @@ fn add_unused(found: &mut List<Finding>, view: &View, unused: &[u32]) -> Mem<()>
 {
     for event in unused {
         found.push_if(Finding::UnusedEvent(*event), view.is_error_event(*event))?;
+    }
+    Ok(())
+}
+
+fn add_no_single(found: &mut List<Finding>, events: &[u32]) -> Mem<()>
+    ensures { OnOk result (found.new ≡ found.old ++ map NoSingle events.now) }
+{
+    for event in events {
+        found.push(Finding::NoSingle(*event))?;
     }
     Ok(())
 }

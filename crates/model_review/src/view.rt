@@ -6,7 +6,7 @@ ghost use Rattle.model_facts.specs.Assembly.{model_at, no_model};
 ghost use Rattle.model_facts.specs.Assembly.{side_at};
 ghost use Rattle.fact_formulas.specs.Facts.{fact_at};
 ghost use Rattle.propagation_points.specs.Uses.{side_types};
-ghost use Rattle.model_review.specs.Seen.{declared_for, is_error, is_error_event, is_lost_event, is_lost_fact, may_come, number_at, side_in, source_number, state_number, states_of, stops, types_in};
+ghost use Rattle.model_review.specs.Seen.{declared_for, is_error, is_error_event, is_lost_event, is_lost_fact, is_used, may_come, number_at, side_in, source_number, state_number, states_of, stops, types_in};
 ghost use Rattle.system_review.specs.Alone.{made_by_fact};
 ghost use Rattle.system_review.specs.Occurring.{used_in};
 ghost use Rattle.system_review.specs.Possible.{possible_in};
@@ -216,6 +216,16 @@ impl<'v> View<'v> {
     {
         match fact {
             Some(fact) => self.is_possible(fact) && !self.is_used(fact),
+            None => false,
+        }
+    }
+
+    /// Whether a fact is there, and occurs in a formula.
+    pub(crate) fn uses(&self, fact: Option<u32>) -> bool
+        ensures { result ≡ is_used self.now fact }
+    {
+        match fact {
+            Some(fact) => self.is_used(fact),
             None => false,
         }
     }

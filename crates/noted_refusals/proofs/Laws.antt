@@ -1,13 +1,16 @@
 -- Groups of refusals that are noted part after part, and what is known at the end.
-use Rattle.std.proofs.Common.{ℕ, zero, suc, ◌≡◌, ◌≤◌, List, [], ◌∷◌, ◌++◌, take, Some, MatchOption, Contains, refl, sym, ap, subst, arith, ◌∙◌}
+use Rattle.std.proofs.Common.{ℕ, zero, suc, ◌≡◌, ◌≤◌, List, [], ◌∷◌, ◌++◌, take, Option, None, Some, MatchOption, Contains, refl, sym, ap, subst, arith, ◌∙◌}
+use Rattle.std.specs.Prelude.{option_to_list}
+use Rattle.std.specs.Option.{option_or}
 use Rattle.std.proofs.lemmas.List.{append_assoc, append-nil, take-take, take_all}
 use Rattle.plain_values.specs.declared.refusal.Refusal.{Refusal}
 use Rattle.plain_values.specs.declared.refusal.Stop.{Stop}
 use Rattle.plain_values.specs.declared.refusal.Stop.TheVariants.{Memory, Refused}
-use Rattle.plain_values.specs.inner.Stops.{StopsAtFirst}
+use Rattle.plain_values.specs.inner.Stops.{StopsAt}
 use Rattle.plain_values.specs.Order.{IsFirst, least, nearer}
 use Rattle.plain_values.proofs.OrderLaws.{least-first, nearer-assoc, nearer-none}
-use Rattle.noted_refusals.specs.Noted.{IsAlone, Lists, Noted, Tells, TellsOf, alone, note, nothing_noted, noting}
+use Rattle.noted_refusals.specs.Groups.{or_group}
+use Rattle.noted_refusals.specs.inner.Noted.{Lists, Noted, Tells, TellsFirst, alone, note, nothing_noted, noting}
 
 -- one list behind another
 pub noting-append : (noted : Noted) (p q : List Refusal) → noting noted (p ++ q) ≡ noting (noting noted p) q
@@ -72,19 +75,61 @@ noted-lists room after group noted =
     let same : after.room ≡ room = ap (λ n. n.room) noted ∙ noting-room (nothing_noted room) group in
     ap (λ n. n.kept) noted ∙ noting-kept room group ∙ ap (λ n. take n group) (sym same)
 
+-- the first that was noted is the least of the group
+pub settled : (room : ℕ) (after : Noted) (group : List Refusal) (first : Option Refusal) → after ≡ noting (nothing_noted room) group → after.first ≡ first → least group ≡ first
+settled room after group first noted is = sym (ap (λ n. n.first) noted ∙ noting-first (nothing_noted room) group) ∙ is
+
+-- a group without a first refusal is empty
+pub none-in : (group : List Refusal) → least group ≡ None → group ≡ []
+none-in group none = subst (λ o. MatchOption o (group ≡ []) (λ first. IsFirst (Contains group) first)) none (least-first group)
+
 -- ---- what is told of a stop
 
 -- the refusal of a stop, noted alone
-pub alone-told : (room : ℕ) (after : Noted) (stop : Stop) → after ≡ noting (nothing_noted room) (alone stop) → TellsOf IsAlone after stop
+pub alone-told : (room : ℕ) (after : Noted) (stop : Stop) → after ≡ noting (nothing_noted room) (alone stop) → TellsFirst (alone stop) after stop
 alone-told room after Memory only = tt
-alone-told room after (Refused refusal) only = (refusal ∷ [], (refusal, refl), least-first (refusal ∷ []), noted-lists room after (refusal ∷ []) only)
+alone-told room after (Refused refusal) only = (refl, noted-lists room after (refusal ∷ []) only)
 
--- what is told of such groups is told of all that are such groups too
-pub told-as : (IsGroup IsOther : List Refusal → Type 0) (noted : Noted) (stop : Stop) → ((group : List Refusal) → IsGroup group → IsOther group) → TellsOf IsGroup noted stop → TellsOf IsOther noted stop
-told-as IsGroup IsOther noted Memory so told = tt
-told-as IsGroup IsOther noted (Refused refusal) so (group, is, first, lists) = (group, so group is, first, lists)
+-- a refusal alone, with which a call stops
+pub told-alone : (one : Option Refusal) (noted : Noted) (stop : Stop) → StopsAt one stop → TellsFirst (alone stop) noted stop → TellsFirst (option_to_list one) noted stop
+told-alone one noted Memory is told = tt
+told-alone one noted (Refused refusal) is told = subst (λ o. TellsFirst (option_to_list o) noted (Refused refusal)) (sym is) told
 
--- what is told of this group is told of such groups
-pub told-of : (IsGroup : List Refusal → Type 0) (group : List Refusal) (noted : Noted) (stop : Stop) → IsGroup group → StopsAtFirst (Contains group) stop → Tells group noted stop → TellsOf IsGroup noted stop
-told-of IsGroup group noted Memory is first lists = tt
-told-of IsGroup group noted (Refused refusal) is first lists = (group, is, first, lists)
+-- the least of a group with which a call stops, where the group is noted
+pub told-least : (group : List Refusal) (noted : Noted) (stop : Stop) → StopsAt (least group) stop → Tells group noted stop → TellsFirst group noted stop
+told-least group noted Memory first lists = tt
+told-least group noted (Refused refusal) first lists = (first, lists)
+
+-- what is told of a group is told of it and of the next
+pub told-here : (group next : List Refusal) (noted : Noted) (stop : Stop) → TellsFirst group noted stop → TellsFirst (or_group group next) noted stop
+told-here group next noted Memory told = tt
+told-here [] next noted (Refused refusal) told = let none : None ≡ Some refusal = told.0 in cc
+told-here (first ∷ more) next noted (Refused refusal) told = told
+
+-- what is told of a group behind one in which nothing is refused
+pub told-next : (group next : List Refusal) (noted : Noted) (stop : Stop) → group ≡ [] → TellsFirst next noted stop → TellsFirst (or_group group next) noted stop
+told-next group next noted stop none told = subst (λ before. TellsFirst (or_group before next) noted stop) (sym none) told
+
+-- ---- groups one after the other
+
+pub or-none : (group : List Refusal) → or_group group [] ≡ group
+or-none [] = refl
+or-none (refusal ∷ more) = refl
+
+pub or-assoc : (one two three : List Refusal) → or_group one (or_group two three) ≡ or_group (or_group one two) three
+or-assoc [] two three = refl
+or-assoc (refusal ∷ more) two three = refl
+
+some-or : (first : Refusal) (more next : Option Refusal) → nearer (Some first) more ≡ option_or (nearer (Some first) more) next
+some-or first None next = refl
+some-or first (Some other) next = refl
+
+-- the first refusal of groups one after the other
+pub least-or : (group next : List Refusal) → least (or_group group next) ≡ option_or (least group) (least next)
+least-or [] next = refl
+least-or (refusal ∷ more) next = some-or refusal (least more) (least next)
+
+-- the first refusal of one at most
+pub least-one : (one : Option Refusal) → least (option_to_list one) ≡ one
+least-one None = refl
+least-one (Some refusal) = refl

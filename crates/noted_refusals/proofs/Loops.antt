@@ -2,7 +2,7 @@
 use Rattle.std.proofs.Common.{ℕ, suc, ◌+◌, ◌≡◌, ◌<◌, ◌≤◌, List, ◌∷◌, length, drop, get_or, flat_map, sym, ap, ◌∙◌, add-one, drop-cons}
 use Rattle.std.proofs.lemmas.List.{drop_all}
 use Rattle.plain_values.specs.declared.refusal.Refusal.{Refusal}
-use Rattle.noted_refusals.specs.Noted.{Noted, noting}
+use Rattle.noted_refusals.specs.inner.Noted.{Noted, noting}
 use Rattle.noted_refusals.proofs.Laws.{noted-more}
 
 module _ {A : Type 0} (xs : List A) (i : ℕ) (x : A) (within : i < length xs) (is : x ≡ get_or xs i x) where

@@ -1,6 +1,6 @@
 ghost use Rattle.std.specs.Prelude.{◌≡◌, IfOk, MatchResult, None, Some, option_to_list};
 ghost use Rattle.plain_values.specs.Refusal.{refused_so, refused_there};
-ghost use Rattle.noted_refusals.specs.Noted.{IsAlone, TellsOf, alone, note, nothing_noted, noting};
+ghost use Rattle.noted_refusals.specs.inner.Noted.{TellsFirst, alone, note, nothing_noted, noting};
 
 use plain_values::{Code, FirstRefusal, Mem, Refusal, Spot, Stop};
 use std::alloc::Global;
@@ -17,7 +17,7 @@ pub struct Refusals {
 }
 
 impl Model for Refusals {
-    ghost use Rattle.noted_refusals.specs.Noted.{Noted};
+    ghost use Rattle.noted_refusals.specs.inner.Noted.{Noted};
 
     ghost Value = { Noted };
 
@@ -102,7 +102,7 @@ impl Refusals {
     pub fn only(&mut self, stop: Stop) -> Stop
         ensures stop { result ≡ stop }
         ensures noted { self.new ≡ noting (nothing_noted self.old.room) (alone stop) }
-        ensures told { TellsOf IsAlone self.new stop }
+        ensures told { TellsFirst (alone stop) self.new stop }
     {
         self.clear();
         if let Stop::Refused(refusal) = stop {

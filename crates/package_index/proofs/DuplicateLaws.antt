@@ -10,8 +10,7 @@ use Rattle.plain_values.specs.declared.spot.Spot.{Spot}
 use Rattle.plain_values.specs.declared.refusal.Code.TheVariants.{DuplicateUnit}
 use Rattle.plain_values.specs.declared.refusal.Refusal.{Refusal}
 use Rattle.plain_values.specs.Order.{IsClear, IsFirst}
-use Rattle.package_index.specs.Duplicates.{IsAgain, IsDuplicate}
-use Rattle.package_index.specs.inner.Duplicates.{again_after, again_at, classifiers_again, duplicates, packages_again}
+use Rattle.package_index.specs.Duplicates.{IsAgain, IsDuplicate, again_after, again_at, classifiers_again, duplicates, packages_again}
 use Rattle.package_index.specs.Lookup.{has_name, is_named}
 use Rattle.plain_values.specs.Refusal.{place_of, refusal}
 

@@ -7,7 +7,7 @@ use Rattle.aadl_syntax.specs.declared.core_model.Unit.TheVariants.{Package, Prop
 use Rattle.plain_values.specs.declared.spot.Spot.{Spot}
 use Rattle.plain_values.specs.declared.refusal.Code.TheVariants.{DuplicateUnit, UnknownClassifier, UnknownPackage}
 use Rattle.plain_values.specs.declared.refusal.Place.TheVariants.{At}
-use Rattle.package_index.specs.inner.Duplicates.{duplicates}
+use Rattle.package_index.specs.Duplicates.{duplicates}
 use Rattle.package_index.specs.Lookup.{look_classifier, look_package, packages_of}
 use Rattle.plain_values.specs.Refusal.{refusal}
 

@@ -5,10 +5,9 @@ use Rattle.std.proofs.lemmas.Grind.{flat_map-append}
 use Rattle.aadl_syntax.specs.declared.core_model.PackageUnit.{PackageUnit}
 use Rattle.plain_values.specs.declared.refusal.Refusal.{Refusal}
 use Rattle.plain_values.specs.Order.{IsClear, IsFirst}
-use Rattle.noted_refusals.specs.Noted.{Lists, Noted, noting, nothing_noted}
+use Rattle.noted_refusals.specs.inner.Noted.{Lists, Noted, noting, nothing_noted}
 use Rattle.noted_refusals.proofs.Laws.{noted-all, noted-lists, noted-more}
-use Rattle.package_index.specs.Duplicates.{IsDuplicate}
-use Rattle.package_index.specs.inner.Duplicates.{classifiers_again, duplicates, packages_again}
+use Rattle.package_index.specs.Duplicates.{IsDuplicate, classifiers_again, duplicates, packages_again}
 use Rattle.package_index.specs.inner.Tables.{Gathered}
 use Rattle.package_index.proofs.DuplicateLaws.{told}
 

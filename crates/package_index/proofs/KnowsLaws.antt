@@ -9,9 +9,9 @@ use Rattle.std.proofs.lemmas.Iterator.Adapters.{position_from-zero}
 use Rattle.std.proofs.lemmas.List.{take_more, drop_all, take_all, length-take-le}
 use Rattle.plain_values.specs.declared.spot.Spot.{Spot}
 use Rattle.plain_values.specs.declared.refusal.Refusal.{Refusal}
-use Rattle.noted_refusals.specs.Noted.{Noted, noting}
+use Rattle.noted_refusals.specs.inner.Noted.{Noted, noting}
 use Rattle.noted_refusals.proofs.Laws.{noted-more}
-use Rattle.package_index.specs.inner.Duplicates.{again_at, again_after}
+use Rattle.package_index.specs.Duplicates.{again_at, again_after}
 use Rattle.package_index.specs.inner.Tables.{Added, Knows}
 
 -- ---- places

@@ -1,3 +1,2 @@
 pub mod Names
-pub mod Duplicates
 pub mod Tables

@@ -1,10 +1,9 @@
 ghost use Rattle.std.specs.Prelude.{◌≡◌, ◌<◌, ◌^◌, [], length, None, Some, option_copied, slice_get, IfOk, IfErr, IsSome, OnOk, flat_map};
 ghost use Rattle.std.specs.HashMap.{get};
 ghost use Rattle.plain_values.specs.Order.{IsClear};
-ghost use Rattle.noted_refusals.specs.Noted.{Tells, noting};
+ghost use Rattle.noted_refusals.specs.inner.Noted.{Tells, noting};
 ghost use Rattle.plain_values.specs.declared.refusal.Place.TheVariants.{Words as InWords};
-ghost use Rattle.package_index.specs.Duplicates.{IsDuplicate};
-ghost use Rattle.package_index.specs.inner.Duplicates.{duplicates, packages_again};
+ghost use Rattle.package_index.specs.Duplicates.{IsDuplicate, duplicates, packages_again};
 ghost use Rattle.plain_values.specs.inner.Stops.{StopsAtFirst};
 ghost use Rattle.package_index.specs.Lookup.{aliased_in, classifier_in, declared_by, declared_in, declared_package, decl_of, look_classifier, look_in, look_package, package_alias, package_at, package_meant, package_of, packages_of, refused_at};
 ghost use Rattle.plain_values.specs.Refusal.{place_of};

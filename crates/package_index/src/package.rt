@@ -1,7 +1,7 @@
 ghost use Rattle.std.specs.Prelude.{◌≡◌, ◌<◌, ◌^◌, length, IfOk, OnOk, option_copied, option_map, position, slice_get};
 ghost use Rattle.std.specs.HashMap.{get};
-ghost use Rattle.noted_refusals.specs.Noted.{noting};
-ghost use Rattle.package_index.specs.inner.Duplicates.{classifiers_again};
+ghost use Rattle.noted_refusals.specs.inner.Noted.{noting};
+ghost use Rattle.package_index.specs.Duplicates.{classifiers_again};
 ghost use Rattle.package_index.specs.Lookup.{alias_in, declared, is_alias};
 ghost use Rattle.package_index.specs.inner.Tables.{Knows, has_alias, has_key, same_alias_key, same_key};
 

@@ -1,6 +1,5 @@
 pub mod EndLaws
 pub mod LinkLaws
-mod ToldLaws
 pub mod JoinLaws
 pub mod FittingLaws
 pub mod BoundLaws

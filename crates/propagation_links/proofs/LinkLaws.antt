@@ -8,6 +8,9 @@ use Rattle.plain_values.specs.declared.refusal.Refusal.{Refusal}
 use Rattle.plain_values.specs.declared.refusal.Stop.{Stop}
 use Rattle.plain_values.specs.declared.refusal.Stop.TheVariants.{Memory, Refused}
 use Rattle.plain_values.specs.Order.{least}
+use Rattle.noted_refusals.specs.Groups.{first_group, or_group}
+use Rattle.noted_refusals.specs.inner.Noted.{Noted, TellsFirst, alone}
+use Rattle.noted_refusals.proofs.Laws.{least-one, least-or, none-in, or-assoc, told-alone, told-here, told-next}
 use Rattle.package_index.specs.declared.id.ClassifierId.{ClassifierId}
 use Rattle.plain_values.specs.Numbered.{numbered_from}
 use Rattle.package_index.proofs.Loops.{numbered-more}
@@ -21,7 +24,7 @@ use Rattle.propagation_links.specs.declared.link.Link.{Link}
 use Rattle.propagation_links.specs.Bound.{all_bounds}
 use Rattle.propagation_links.specs.Ends.{Pointed}
 use Rattle.propagation_links.specs.Links.{all_links, bound_links, component_links, connected, links_in}
-use Rattle.propagation_links.specs.Refused.{component_fault, refusals_in, first_fault, limit_refusal}
+use Rattle.propagation_links.specs.Refused.{component_fault, component_groups, faults_group, first_fault, limit_refusal, refusals_in}
 use Rattle.propagation_links.specs.inner.Steps.{Linked}
 
 -- ---- the effective classifier of a component
@@ -54,6 +57,11 @@ numbered-front give number (x ∷ xs) ys =
     let more = numbered-front give (number + 1) xs ys in
     (more.0, ap (λ rest. give number x ++ rest) more.1 ∙ sym (append_assoc (give number x) (numbered_from give (number + 1) xs) more.0))
 
+-- the first group of one list and then of another
+first-append : (xs ys : List (List Refusal)) → first_group (xs ++ ys) ≡ or_group (first_group xs) (first_group ys)
+first-append [] ys = refl
+first-append (group ∷ xs) ys = ap (or_group group) (first-append xs ys) ∙ or-assoc group (first_group xs) (first_group ys)
+
 module _ (pointed : Pointed) (i : ℕ) (within : i < length pointed.instance.components) where
   abbrev all : List Component
   all = pointed.instance.components
@@ -72,19 +80,26 @@ module _ (pointed : Pointed) (i : ℕ) (within : i < length pointed.instance.com
   links-more before after had linked =
       linked.links ∙ ap (λ front. front ++ links_in pointed i (effective_in pointed.instance i)) had ∙ sym (numbered-more (component_links pointed) all i component within component_is)
 
-  faults-more : numbered_from (component_fault pointed) 0 (take i all) ≡ [] → numbered_from (component_fault pointed) 0 (take (i + 1) all) ≡ option_to_list (least faults)
-  faults-more none = numbered-more (component_fault pointed) all i component within component_is ∙ ap (λ front. front ++ option_to_list (least faults)) none
+  abbrev groups : ℕ → List (List Refusal)
+  groups n = numbered_from (component_groups pointed) 0 (take n all)
 
-  pub accepted-more : numbered_from (component_fault pointed) 0 (take i all) ≡ [] → least faults ≡ None → numbered_from (component_fault pointed) 0 (take (i + 1) all) ≡ []
-  accepted-more none accepted = faults-more none ∙ ap option_to_list accepted
+  groups-more : first_group (groups i) ≡ [] → first_group (groups (i + 1)) ≡ or_group faults []
+  groups-more none =
+      ap first_group (numbered-more (component_groups pointed) all i component within component_is) ∙ first-append (groups i) (faults ∷ [])
+      ∙ ap (λ before. or_group before (or_group faults [])) none
 
-  -- a refusal of a component of which none before it is refused
-  pub stops-at : numbered_from (component_fault pointed) 0 (take i all) ≡ [] → (stop : Stop) → StopsAt (least faults) stop → StopsAt (first_fault pointed) stop
-  stops-at none Memory stops = tt
-  stops-at none (Refused refusal) stops =
-      let split = numbered-front (component_fault pointed) 0 (take (i + 1) all) (drop (i + 1) all) in
-      let whole = ap (numbered_from (component_fault pointed) 0) (sym (take-append-drop (i + 1) all)) ∙ split.1 ∙ ap (λ front. front ++ split.0) (faults-more none ∙ ap option_to_list stops) in
-      ap (λ refusals. slice_get refusals 0) whole
+  -- of one component more nothing is refused
+  pub clear-more : first_group (groups i) ≡ [] → least faults ≡ None → first_group (groups (i + 1)) ≡ []
+  clear-more none accepted = groups-more none ∙ ap (λ group. or_group group []) (none-in faults accepted)
+
+  -- what is told of a component of which none before it is refused
+  pub tells-at : first_group (groups i) ≡ [] → (noted : Noted) (stop : Stop) → TellsFirst faults noted stop → TellsFirst (faults_group pointed) noted stop
+  tells-at none noted stop told =
+      let split = numbered-front (component_groups pointed) 0 (take (i + 1) all) (drop (i + 1) all) in
+      let whole : faults_group pointed ≡ or_group (or_group faults []) (first_group split.0) =
+      ap (λ its. first_group (numbered_from (component_groups pointed) 0 its)) (sym (take-append-drop (i + 1) all)) ∙ ap first_group split.1 ∙ first-append (groups (i + 1)) split.0
+      ∙ ap (λ before. or_group before (first_group split.0)) (groups-more none) in
+      subst (λ group. TellsFirst group noted stop) (sym whole) (told-here (or_group faults []) (first_group split.0) noted stop (told-here faults [] noted stop told))
 
   -- the count of one component more
   pub count-more : (give : ℕ → Component → List ℕ) (before count : ℕ) → before ≡ sum (numbered_from give 0 (take i all)) → give i component ≡ count ∷ [] → before + count ≡ sum (numbered_from give 0 (take (i + 1) all))
@@ -92,8 +107,26 @@ module _ (pointed : Pointed) (i : ℕ) (within : i < length pointed.instance.com
       let more = ap sum (numbered-more give all i component within component_is ∙ ap (λ rest. numbered_from give 0 (take i all) ++ rest) gives) in
       ap (λ n. n + count) had ∙ sym (more ∙ sum_by_push (λ n. n) (numbered_from give 0 (take i all)) count)
 
-pub accepted-all : (pointed : Pointed) (i : ℕ) → length pointed.instance.components ≤ i → numbered_from (component_fault pointed) 0 (take i pointed.instance.components) ≡ [] → first_fault pointed ≡ None
-accepted-all pointed i past none = ap (λ refusals. slice_get refusals 0) (ap (numbered_from (component_fault pointed) 0) (sym (take_all i pointed.instance.components past)) ∙ none)
+front-or : (first : Option Refusal) (rest : List Refusal) → slice_get (option_to_list first ++ rest) 0 ≡ option_or first (slice_get rest 0)
+front-or None rest = refl
+front-or (Some refusal) rest = refl
+
+faults-from : (pointed : Pointed) (number : ℕ) (components : List Component) → least (first_group (numbered_from (component_groups pointed) number components)) ≡ slice_get (numbered_from (component_fault pointed) number components) 0
+faults-from pointed number [] = refl
+faults-from pointed number (component ∷ more) =
+    let faults = refusals_in pointed number (effective_in pointed.instance number) in
+    let rest = first_group (numbered_from (component_groups pointed) (number + 1) more) in
+    least-or faults rest ∙ ap (option_or (least faults)) (faults-from pointed (number + 1) more)
+    ∙ sym (front-or (least faults) (numbered_from (component_fault pointed) (number + 1) more))
+
+-- the first refusal of the components is that of their group
+pub faults-least : (pointed : Pointed) → least (faults_group pointed) ≡ first_fault pointed
+faults-least pointed = faults-from pointed 0 pointed.instance.components
+
+-- of no component anything is refused
+pub accepted-all : (pointed : Pointed) (i : ℕ) → length pointed.instance.components ≤ i → first_group (numbered_from (component_groups pointed) 0 (take i pointed.instance.components)) ≡ [] → first_fault pointed ≡ None
+accepted-all pointed i past none =
+    sym (faults-least pointed) ∙ ap least (ap (λ all. first_group (numbered_from (component_groups pointed) 0 all)) (sym (take_all i pointed.instance.components past)) ∙ none)
 
 -- ---- the limit, and then the components
 
@@ -111,9 +144,27 @@ module _ (pointed made : Pointed) (same : made ≡ pointed) where
   component-stops Memory none is = tt
   component-stops (Refused refusal) none is = sym (within-limit none) ∙ is
 
+  -- what is told of the limit
+  pub limit-told : (noted : Noted) (stop : Stop) → StopsAt (limit_refusal made) stop → TellsFirst (alone stop) noted stop → TellsFirst (or_group (option_to_list (limit_refusal pointed)) (faults_group pointed)) noted stop
+  limit-told noted stop over told =
+      told-here (option_to_list (limit_refusal pointed)) (faults_group pointed) noted stop
+      (told-alone (limit_refusal pointed) noted stop (subst (λ (its : Pointed). StopsAt (limit_refusal its) stop) same over) told)
+
+  -- and else of the components
+  pub component-told : (noted : Noted) (stop : Stop) → limit_refusal made ≡ None → TellsFirst (faults_group made) noted stop → TellsFirst (or_group (option_to_list (limit_refusal pointed)) (faults_group pointed)) noted stop
+  component-told noted stop none told =
+      told-next (option_to_list (limit_refusal pointed)) (faults_group pointed) noted stop (ap option_to_list (ap limit_refusal (sym same) ∙ none))
+      (subst (λ (its : Pointed). TellsFirst (faults_group its) noted stop) same told)
+
   pub all-accepted : limit_refusal made ≡ None → first_fault made ≡ None → option_or (limit_refusal pointed) (first_fault pointed) ≡ None
   all-accepted none nothing = sym (within-limit none) ∙ nothing
 
   -- the links of connections and paths, and those of bindings behind them
   pub all-linked : (links after : List Link) (bounds : List BoundTo) → links ≡ connected made → bounds ≡ all_bounds pointed.instance → after ≡ links ++ flat_map (bound_links made) bounds → after ≡ all_links pointed
   all-linked links after bounds are is more = let first : links ≡ connected pointed = are ∙ ap connected same in more ∙ (λ i. first i ++ flat_map (bound_links (same i)) (is i))
+
+-- the first refusal of the links is that of their group
+pub links-least : (pointed : Pointed) → least (or_group (option_to_list (limit_refusal pointed)) (faults_group pointed)) ≡ option_or (limit_refusal pointed) (first_fault pointed)
+links-least pointed =
+    least-or (option_to_list (limit_refusal pointed)) (faults_group pointed)
+    ∙ (λ i. option_or (least-one (limit_refusal pointed) i) (faults-least pointed i))

@@ -1,5 +1,5 @@
 -- What is refused of the links of an instance.
-use Rattle.std.specs.Prelude.{ℕ, ◌+◌, ◌≡◌, ◌⊎◌, Bool, true, false, cond, ◌&&◌, ◌||◌, not, nat_le, is_some, List, [], ◌∷◌, ◌++◌, length, map, sum, flat_map, slice_get, Option, Some, None, option_to_list}
+use Rattle.std.specs.Prelude.{ℕ, ◌+◌, Bool, true, false, cond, ◌&&◌, ◌||◌, not, nat_le, is_some, List, [], ◌∷◌, ◌++◌, length, map, sum, flat_map, slice_get, Option, Some, None, option_to_list}
 use Rattle.std.specs.Option.{option_map_or, option_or}
 use Rattle.aadl_syntax.specs.declared.core_model.Connection.{Connection}
 use Rattle.aadl_syntax.specs.declared.core_model.Ends.{Ends}
@@ -10,7 +10,7 @@ use Rattle.plain_values.specs.declared.refusal.Place.TheVariants.{Words}
 use Rattle.plain_values.specs.declared.refusal.Refusal.{Refusal}
 use Rattle.plain_values.specs.Order.{least}
 use Rattle.plain_values.specs.Refusal.{refused_so}
-use Rattle.noted_refusals.specs.Noted.{IsAlone}
+use Rattle.noted_refusals.specs.Groups.{first_group, or_group}
 use Rattle.package_index.specs.Names.{front, last}
 use Rattle.plain_values.specs.Numbered.{numbered_from}
 use Rattle.component_extension.specs.declared.effective.Effective.{Effective}
@@ -116,10 +116,16 @@ limit_refusal pointed = over_limit (nat_le 1048577 (count_all pointed)) TooManyL
 abbrev pub links_refusal : Instance → List (List Point) → Option Refusal
 links_refusal instance points = let pointed : Pointed = record { instance = instance; points = points } in option_or (limit_refusal pointed) (first_fault pointed)
 
--- The group is that of a component, or one refusal alone.
-abbrev pub IsLinkGroup : Pointed → List Refusal → Type 0
-IsLinkGroup pointed group = IsAlone group ⊎ ((number : ℕ) × (group ≡ refusals_in pointed number (effective_in pointed.instance number)))
+-- ---- groups
 
--- The group is that of a component of an instance with these points, or one refusal alone.
-abbrev pub IsLinksGroup : Instance → List (List Point) → List Refusal → Type 0
-IsLinksGroup instance points = IsLinkGroup (record { instance = instance; points = points })
+-- the refusals of the component of a number, as a group
+abbrev pub component_groups : Pointed → ℕ → Component → List (List Refusal)
+component_groups pointed number component = refusals_in pointed number (effective_in pointed.instance number) ∷ []
+
+-- the group of the first component of which anything is refused
+abbrev pub faults_group : Pointed → List Refusal
+faults_group pointed = first_group (numbered_from (component_groups pointed) 0 pointed.instance.components)
+
+-- The group of the links of an instance with these points: M14 alone, and else that of the first component of which anything is refused.
+abbrev pub links_group : Instance → List (List Point) → List Refusal
+links_group instance points = let pointed : Pointed = record { instance = instance; points = points } in or_group (option_to_list (limit_refusal pointed)) (faults_group pointed)

@@ -2,11 +2,11 @@ ghost use Rattle.std.specs.Prelude.{◌≡◌, ◌<◌, ◌≤◌, ◌^◌, leng
 ghost use Rattle.plain_values.specs.inner.Stops.{StopsAt};
 ghost use Rattle.propagation_links.specs.Bound.{all_bounds};
 ghost use Rattle.propagation_links.specs.Links.{links_of};
-ghost use Rattle.propagation_links.specs.Refused.{IsLinkGroup, IsLinksGroup, count_in, count_links, refusals_in, first_fault, limit_refusal, links_refusal};
+ghost use Rattle.propagation_links.specs.Refused.{count_in, count_links, faults_group, first_fault, limit_refusal, links_group, links_refusal, refusals_in};
 ghost use Rattle.propagation_links.specs.inner.Steps.{Linked, AllLinked};
 ghost use Rattle.instantiator.specs.Whole.{effective_in};
 ghost use Rattle.plain_values.specs.Order.{least};
-ghost use Rattle.noted_refusals.specs.Noted.{IsAlone, Tells, TellsOf};
+ghost use Rattle.noted_refusals.specs.inner.Noted.{TellsFirst, alone};
 
 use crate::bound::{BoundTo, bounds_of};
 use crate::bound_links::{add_all_bound, count_references};
@@ -46,7 +46,7 @@ pub fn links_of<'a>(
     ensures links { IfOk result (λ links. links ≡ links_of instance.now (map (λ points. points.now) points.now)) }
     ensures accepted { OnOk result (links_refusal instance.now (map (λ points. points.now) points.now) ≡ None) }
     ensures refused { IfErr result (StopsAt (links_refusal instance.now (map (λ points. points.now) points.now))) }
-    ensures told { IfErr result (TellsOf (IsLinksGroup instance.now (map (λ points. points.now) points.now)) refusals.new) }
+    ensures told { IfErr result (TellsFirst (links_group instance.now (map (λ points. points.now) points.now)) refusals.new) }
 {
     let pointed = Pointed::new(instance, points);
     let bounds = bounds_of(alloc, instance)?;
@@ -59,7 +59,7 @@ pub fn links_of<'a>(
 /// The links of the connections and paths of all components.
 fn connected(alloc: Global, pointed: &Pointed, refusals: &mut Refusals) -> Answer<List<Link>>
     ensures linked { MatchResult result (AllLinked pointed.now) (StopsAt (first_fault pointed.now)) }
-    ensures told { IfErr result (TellsOf (IsLinkGroup pointed.now) refusals.new) }
+    ensures told { IfErr result (TellsFirst (faults_group pointed.now) refusals.new) }
 {
     let mut links = List::new(alloc);
     for number in 0..pointed.instance().components().len() {
@@ -76,7 +76,7 @@ fn add_component(
     refusals: &mut Refusals,
 ) -> Answer<()>
     ensures linked { MatchResult result (λ _. Linked pointed.now number (effective_in pointed.now.instance number) links.old links.new) (StopsAt (least (refusals_in pointed.now number (effective_in pointed.now.instance number)))) }
-    ensures told { IfErr result (TellsOf (IsLinkGroup pointed.now) refusals.new) }
+    ensures told { IfErr result (TellsFirst (refusals_in pointed.now number (effective_in pointed.now.instance number)) refusals.new) }
 {
     match pointed.instance().effective(number) {
         Some(effective) => add_effective(links, pointed, number, effective, refusals),
@@ -92,7 +92,7 @@ fn add_effective<'a>(
     refusals: &mut Refusals,
 ) -> Answer<()>
     ensures linked { MatchResult result (λ _. Linked pointed.now number effective.now links.old links.new) (StopsAt (least (refusals_in pointed.now number effective.now))) }
-    ensures told { IfErr result (Tells (refusals_in pointed.now number effective.now) refusals.new) }
+    ensures told { IfErr result (TellsFirst (refusals_in pointed.now number effective.now) refusals.new) }
 {
     refusals.clear();
     note_faults(refusals, pointed, number, effective);
@@ -106,7 +106,7 @@ fn test_limit(pointed: &Pointed, bounds: &[BoundTo], refusals: &mut Refusals) ->
     requires bounds { bounds.now ≡ all_bounds pointed.now.instance }
     requires few { length bounds.now ≤ 4096 }
     ensures limit { MatchResult result (λ _. limit_refusal pointed.now ≡ None) (StopsAt (limit_refusal pointed.now)) }
-    ensures told { IfErr result (TellsOf IsAlone refusals.new) }
+    ensures told { IfErr result (λ stop. TellsFirst (alone stop) refusals.new stop) }
 {
     match within_limit(pointed, bounds) {
         Ok(()) => Ok(()),

@@ -1,5 +1,5 @@
 ghost use Rattle.std.specs.Prelude.{◌≡◌, ◌++◌, true, flat_map};
-ghost use Rattle.noted_refusals.specs.Noted.{noting};
+ghost use Rattle.noted_refusals.specs.inner.Noted.{noting};
 ghost use Rattle.plain_values.specs.declared.refusal.Code.TheVariants.{ConnectionError};
 ghost use Rattle.plain_values.specs.Refusal.{refused_so};
 ghost use Rattle.propagation_links.specs.Links.{is_apart};

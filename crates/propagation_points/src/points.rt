@@ -1,5 +1,5 @@
 ghost use Rattle.std.specs.Prelude.{◌≡◌, [], IfOk, OnOk, flat_map, map, fold, option_copied, option_map};
-ghost use Rattle.noted_refusals.specs.Noted.{noting};
+ghost use Rattle.noted_refusals.specs.inner.Noted.{noting};
 ghost use Rattle.package_index.specs.Names.{only};
 ghost use Rattle.propagation_points.specs.Points.{fault_at, keep_first, place_named, point_refusals, point_named, points_of, propagation_refusals, side_of, side_with, with_sides};
 ghost use Rattle.propagation_points.specs.inner.Points.{NamesDiffer};

@@ -1,5 +1,5 @@
 ghost use Rattle.std.specs.Prelude.{◌≡◌, IfOk, None, OnOk, cond, option_copied, option_map};
-ghost use Rattle.noted_refusals.specs.Noted.{noting};
+ghost use Rattle.noted_refusals.specs.inner.Noted.{noting};
 ghost use Rattle.propagation_points.specs.Uses.{declared_for, is_absent, is_outside, reach_of, reached, set_outside, use_refusals, used_place, used_side};
 
 use crate::declared::types_in;

@@ -1,6 +1,6 @@
 ghost use Rattle.std.specs.Prelude.{◌≡◌, Bool, List, codes, flat_map, if◌then◌else◌, IfOk};
 ghost use Rattle.plain_values.specs.declared.refusal.Refusal.{Refusal};
-ghost use Rattle.noted_refusals.specs.Noted.{Lists};
+ghost use Rattle.noted_refusals.specs.inner.Noted.{Lists};
 ghost use Rattle.refusal_lines.specs.Text.{refusals_text};
 
 use crate::gathering::lines_of;

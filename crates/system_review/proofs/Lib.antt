@@ -6,3 +6,4 @@ pub mod Following
 pub mod InOrder
 pub mod Lost
 pub mod OneReview
+pub mod Beginning

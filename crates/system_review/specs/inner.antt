@@ -1,5 +1,6 @@
 pub mod Possible
 pub mod Alone
 pub mod Occurring
+pub mod Single
 pub mod Loops
 pub mod Steps

@@ -29,7 +29,7 @@ impl Numbers for Nothing {
 
 /// The set of one number.
 #[derive(Clone, Copy)]
-struct Only(u32);
+pub(crate) struct Only(pub u32);
 
 impl Numbers for Only {
     ghost use Rattle.fault_system.specs.Rounds.{only};
@@ -104,9 +104,9 @@ pub(crate) fn is_true_at<S: Numbers>(system: &FaultSystem, facts: &S, number: u3
     }
 }
 
-// Whether a formula is true under a set of events and a set of facts.
+/// Whether a formula is true under a set of events and a set of facts.
 #[cycle(truth)]
-fn is_true_over<E: Numbers, S: Numbers>(formula: &Formula, events: &E, facts: &S) -> bool
+pub(crate) fn is_true_over<E: Numbers, S: Numbers>(formula: &Formula, events: &E, facts: &S) -> bool
     ensures { result ≡ truth (E.set events.now) (S.set facts.now) formula.now }
 {
     match formula {

@@ -10,6 +10,7 @@ mod looping;
 mod occurring;
 mod possible;
 mod proposing;
+mod single;
 mod unreached;
 
 pub use alone::{made_by_event, made_by_fact};
@@ -17,4 +18,5 @@ pub use laws::nothing_is_lost;
 pub use looping::{Loop, loops};
 pub use occurring::used_facts;
 pub use possible::possible_facts;
+pub use single::no_single_events;
 pub use unreached::{unreached_events, unused_events};

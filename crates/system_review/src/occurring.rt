@@ -86,8 +86,8 @@ fn mark_facts_of(marks: &mut Bits, parts: &[Formula])
     }
 }
 
-// Marks a number, if it is in range.
-fn mark(marks: &mut Bits, number: u32)
+/// Marks a number, if it is in range.
+pub(crate) fn mark(marks: &mut Bits, number: u32)
     ensures size { length marks.new ≡ length marks.old }
     ensures marks { (m : ℕ) → m < length marks.old → member marks.new m ≡ member marks.old m || number == m }
 {

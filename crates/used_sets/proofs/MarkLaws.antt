@@ -1,7 +1,7 @@
 -- Rows of marks, set one after the other.
 use Rattle.std.proofs.Common.{ℕ, ◌+◌, ◌≡◌, ◌<◌, Bool, true, false, ◌||◌, List, [], ◌∷◌, ◌++◌, length, drop, get_or, slice_index_or, refl, sym, ap, ◌∙◌, subst, suc, add-one, drop-cons, arith, Option}
 use Rattle.plain_values.specs.declared.refusal.Refusal.{Refusal}
-use Rattle.noted_refusals.specs.Noted.{Noted, noting}
+use Rattle.noted_refusals.specs.inner.Noted.{Noted, noting}
 use Rattle.noted_refusals.proofs.Laws.{noted-more}
 use Rattle.plain_values.specs.Numbered.{numbered_from}
 use Rattle.used_sets.specs.inner.Marks.{Marked}

@@ -1,5 +1,5 @@
 ghost use Rattle.std.specs.Prelude.{◌≡◌, ◌++◌, ◌&&◌, [], cond, false, nat_eq, ℕ, IfOk, OnOk, flat_map, length, option_copied, slice_get, slice_index_or};
-ghost use Rattle.noted_refusals.specs.Noted.{noting};
+ghost use Rattle.noted_refusals.specs.inner.Noted.{noting};
 ghost use Rattle.error_libraries.specs.Libraries.{unknown_libraries};
 ghost use Rattle.plain_values.specs.Numbered.{numbered_from};
 ghost use Rattle.used_sets.specs.inner.Marks.{Marked};

@@ -18,8 +18,8 @@ IsDecidedButLast Same (yields x) = Unit {0}
 IsDecidedButLast {A} Same (tells Is Ends) = ((a : A) (status : Status) → Is a → Ends status → ⊥) × ((a b : Status) → Ends a → Ends b → Same a b)
 IsDecidedButLast Same (chains {A = A} first later) = IsDecided Same first × ((x : A) → Passed first x → IsDecidedButLast Same (later x))
 
--- A request of this kind asks for no tree with merged gates, of which more than one may be made, and not for the refusals of a group, of
--- which two may have one verdict.
+-- A request of this kind asks for no tree with merged gates, of which more than one may be made, and not for refusals, which tell the place
+-- of a syntax error, of which only that it is dead is said.
 abbrev pub KeepsGates : Kind → Request → Type 0
 KeepsGates kind.Tree asked = is_merging asked.options.form ≡ false
 KeepsGates kind.Galileo asked = is_merging asked.options.form ≡ false

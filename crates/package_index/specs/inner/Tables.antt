@@ -9,8 +9,8 @@ use Rattle.aadl_syntax.specs.declared.core_model.Decl.{Decl}
 use Rattle.aadl_syntax.specs.declared.core_model.PackageUnit.{PackageUnit}
 use Rattle.package_index.specs.declared.words.Words.{Words}
 use Rattle.plain_values.specs.declared.refusal.Refusal.{Refusal}
-use Rattle.noted_refusals.specs.Noted.{Noted, noting}
-use Rattle.package_index.specs.inner.Duplicates.{classifiers_again}
+use Rattle.noted_refusals.specs.inner.Noted.{Noted, noting}
+use Rattle.package_index.specs.Duplicates.{classifiers_again}
 use Rattle.package_index.specs.Names.{is_same_name}
 use Rattle.package_index.specs.inner.Names.{names_of}
 use Rattle.package_index.specs.Lookup.{has_name, is_alias, is_named}

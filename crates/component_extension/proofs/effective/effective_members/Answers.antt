@@ -2,7 +2,7 @@ use Rattle.std.proofs.Common.{[], Contains, Err, IfErr, MatchOption, ap, subst, 
 use Rattle.std.proofs.lemmas.Result.{err_from_is_err_and}
 use Rattle.plain_values.specs.Order.{IsFirst}
 use Rattle.plain_values.specs.inner.Stops.{StopsAtFirst}
-use Rattle.noted_refusals.specs.Noted.{Tells}
+use Rattle.noted_refusals.specs.inner.Noted.{Tells}
 use Rattle.component_extension.specs.Members.{member_refusals}
 use Rattle.component_extension.proofs.MemberLaws.{all-listed, all-noted}
 use Rattle.component_extension.proofs.effective.effective_members.Goals as goal

@@ -1,5 +1,5 @@
 use Rattle.std.proofs.Common.{◌≡◌, ◌++◌, flat_map, ap, ◌∙◌}
-use Rattle.noted_refusals.specs.Noted.{noting}
+use Rattle.noted_refusals.specs.inner.Noted.{noting}
 use Rattle.component_extension.specs.Members.{marks_of, members_of, unknown_members}
 use Rattle.component_extension.proofs.MemberLaws.{kind-noted, members-are}
 use Rattle.component_extension.proofs.effective.members_along.Goals as goal

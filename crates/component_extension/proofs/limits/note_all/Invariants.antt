@@ -1,5 +1,5 @@
 use Rattle.std.proofs.Common.{◌≡◌, drop, flat_map}
-use Rattle.noted_refusals.specs.Noted.{noting}
+use Rattle.noted_refusals.specs.inner.Noted.{noting}
 use Rattle.component_extension.proofs.limits.note_all.Given as goal
 
 abbrev pub invariant-loop-member : goal.invariant-loop-member

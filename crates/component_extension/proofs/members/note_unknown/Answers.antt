@@ -1,6 +1,6 @@
 use Rattle.std.proofs.Common.{◌≡◌, ap, ◌∙◌}
 use Rattle.plain_values.specs.declared.refusal.Code.TheVariants.{UnknownMember}
-use Rattle.noted_refusals.specs.Noted.{noting}
+use Rattle.noted_refusals.specs.inner.Noted.{noting}
 use Rattle.component_extension.specs.Members.{refines_nothing}
 use Rattle.plain_values.specs.Refusal.{refused_so}
 use Rattle.noted_refusals.proofs.Loops.{noting-more}

@@ -1,5 +1,5 @@
 use Rattle.std.proofs.Common.{◌≡◌, drop}
-use Rattle.noted_refusals.specs.Noted.{noting}
+use Rattle.noted_refusals.specs.inner.Noted.{noting}
 use Rattle.component_extension.specs.Members.{unknown_members}
 use Rattle.component_extension.proofs.members.note_unknown.Given as goal
 

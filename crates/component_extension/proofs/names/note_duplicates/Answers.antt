@@ -1,7 +1,7 @@
 use Rattle.std.proofs.Common.{◌≡◌, ap, ◌∙◌}
 use Rattle.std.specs.List.{list_any}
 use Rattle.plain_values.specs.declared.refusal.Code.TheVariants.{DuplicateName}
-use Rattle.noted_refusals.specs.Noted.{noting}
+use Rattle.noted_refusals.specs.inner.Noted.{noting}
 use Rattle.component_extension.specs.Members.{is_earlier}
 use Rattle.plain_values.specs.Refusal.{refused_so}
 use Rattle.noted_refusals.proofs.Loops.{noting-more}

@@ -1,6 +1,6 @@
 use Rattle.std.proofs.Common.{◌≡◌, ◌&&◌, is_none, ap, ◌∙◌}
 use Rattle.std.proofs.lemmas.Result.{on_ok_weaker}
-use Rattle.noted_refusals.specs.Noted.{noting}
+use Rattle.noted_refusals.specs.inner.Noted.{noting}
 use Rattle.plain_values.specs.declared.refusal.Code.TheVariants.{Others}
 use Rattle.plain_values.specs.Refusal.{refused_so}
 use Rattle.noted_refusals.proofs.Laws.{noted-three}

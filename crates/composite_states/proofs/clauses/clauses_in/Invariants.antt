@@ -1,5 +1,5 @@
 use Rattle.std.proofs.Common.{◌≡◌, drop, take}
-use Rattle.noted_refusals.specs.Noted.{noting}
+use Rattle.noted_refusals.specs.inner.Noted.{noting}
 use Rattle.composite_states.specs.Composites.{clauses_in, refusals_in}
 use Rattle.composite_states.proofs.clauses.clauses_in.Given as goal
 

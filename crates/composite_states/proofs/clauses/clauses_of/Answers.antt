@@ -1,5 +1,5 @@
 use Rattle.std.proofs.Common.{◌≡◌, OnOk, subst, ap, ◌∙◌}
-use Rattle.noted_refusals.specs.Noted.{noting}
+use Rattle.noted_refusals.specs.inner.Noted.{noting}
 use Rattle.propagation_points.specs.Points.{scopes_of}
 use Rattle.composite_states.specs.Composites.{refusals_in}
 use Rattle.composite_states.proofs.clauses.clauses_of.Goals as goal

@@ -1,5 +1,5 @@
 use Rattle.std.proofs.Common.{◌≡◌, ◌++◌, ap, ◌∙◌}
-use Rattle.noted_refusals.specs.Noted.{noting}
+use Rattle.noted_refusals.specs.inner.Noted.{noting}
 use Rattle.package_index.proofs.Loops.{gathered-more}
 use Rattle.noted_refusals.proofs.Loops.{noting-more}
 use Rattle.error_behavior.specs.Behavior.{clause_place}

@@ -1,5 +1,5 @@
 use Rattle.std.proofs.Common.{◌≡◌, drop, take}
-use Rattle.noted_refusals.specs.Noted.{noting}
+use Rattle.noted_refusals.specs.inner.Noted.{noting}
 use Rattle.error_behavior.specs.Behavior.{clause_emissions, clause_outgoing_refusals}
 use Rattle.error_behavior.proofs.behavior.emissions_of.Given as goal
 

@@ -1,5 +1,5 @@
 use Rattle.std.proofs.Common.{flat_map, ap, ◌∙◌}
-use Rattle.noted_refusals.specs.Noted.{noting}
+use Rattle.noted_refusals.specs.inner.Noted.{noting}
 use Rattle.plain_values.specs.declared.refusal.Code.TheVariants.{MachineExtends, Mapping}
 use Rattle.plain_values.specs.Refusal.{refused_there}
 use Rattle.noted_refusals.proofs.Laws.{noted-three}

@@ -1,5 +1,5 @@
 use Rattle.std.proofs.Common.{◌≡◌, drop, flat_map, take}
-use Rattle.noted_refusals.specs.Noted.{noting}
+use Rattle.noted_refusals.specs.inner.Noted.{noting}
 use Rattle.error_behavior.specs.Steps.{step_of, transition_refusals}
 use Rattle.error_behavior.proofs.behavior.steps_at.Given as goal
 

@@ -1,5 +1,5 @@
 use Rattle.std.proofs.Common.{ap, ◌∙◌}
-use Rattle.noted_refusals.specs.Noted.{noting}
+use Rattle.noted_refusals.specs.inner.Noted.{noting}
 use Rattle.noted_refusals.proofs.Laws.{noted-three}
 use Rattle.error_behavior.specs.Behavior.{clause_event_refusals, clause_transition_refusals, machine_refusals}
 use Rattle.error_behavior.proofs.behavior.steps_of.Goals as goal

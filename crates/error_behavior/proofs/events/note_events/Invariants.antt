@@ -1,5 +1,5 @@
 use Rattle.std.proofs.Common.{◌≡◌, drop, flat_map}
-use Rattle.noted_refusals.specs.Noted.{noting}
+use Rattle.noted_refusals.specs.inner.Noted.{noting}
 use Rattle.error_machines.specs.States.{event_refusals}
 use Rattle.error_behavior.proofs.events.note_events.Given as goal
 

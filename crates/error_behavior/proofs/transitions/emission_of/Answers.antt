@@ -1,5 +1,5 @@
 use Rattle.std.proofs.Common.{◌≡◌, true, Option, option_and_then, option_map, option_to_list, ap, ◌∙◌}
-use Rattle.noted_refusals.specs.Noted.{noting}
+use Rattle.noted_refusals.specs.inner.Noted.{noting}
 use Rattle.propagation_points.specs.Settings.{reached_in, refusals_in}
 use Rattle.propagation_points.specs.Uses.{point_use}
 use Rattle.noted_refusals.proofs.Laws.{noted-three}

@@ -1,5 +1,5 @@
 use Rattle.std.proofs.Common.{ℕ, ◌≡◌, List, flat_map, option_map, option_to_list, ap, ◌∙◌}
-use Rattle.noted_refusals.specs.Noted.{noting}
+use Rattle.noted_refusals.specs.inner.Noted.{noting}
 use Rattle.propagation_points.specs.Settings.{state_refusals_in}
 use Rattle.error_conditions.specs.declared.cause.Cause.{Cause}
 use Rattle.error_conditions.specs.Conditions.{cause_of, condition_refusals}

@@ -1,6 +1,6 @@
 use Rattle.std.proofs.Common.{◌≡◌, [], ◌++◌, ◌∙◌}
 use Rattle.std.specs.Option.{option_map_or}
-use Rattle.noted_refusals.specs.Noted.{noting}
+use Rattle.noted_refusals.specs.inner.Noted.{noting}
 use Rattle.package_index.proofs.Loops.{gathered-more}
 use Rattle.noted_refusals.proofs.Loops.{noting-more}
 use Rattle.propagation_points.specs.Settings.{state_refusals_in}

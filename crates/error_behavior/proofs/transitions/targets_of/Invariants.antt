@@ -1,5 +1,5 @@
 use Rattle.std.proofs.Common.{◌≡◌, drop, flat_map, take}
-use Rattle.noted_refusals.specs.Noted.{noting}
+use Rattle.noted_refusals.specs.inner.Noted.{noting}
 use Rattle.propagation_points.specs.Settings.{state_refusals_in}
 use Rattle.error_behavior.specs.Steps.{targets_of}
 use Rattle.error_behavior.proofs.transitions.targets_of.Given as goal

@@ -1,5 +1,5 @@
 use Rattle.std.proofs.Common.{◌≡◌, drop, flat_map}
-use Rattle.noted_refusals.specs.Noted.{noting}
+use Rattle.noted_refusals.specs.inner.Noted.{noting}
 use Rattle.error_conditions.specs.Conditions.{no_error_at}
 use Rattle.error_conditions.proofs.atom.note_terms.Given as goal
 

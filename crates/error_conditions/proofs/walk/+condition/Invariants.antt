@@ -1,5 +1,5 @@
 use Rattle.std.proofs.Common.{◌≡◌, drop, flat_map, map, take}
-use Rattle.noted_refusals.specs.Noted.{noting}
+use Rattle.noted_refusals.specs.inner.Noted.{noting}
 use Rattle.error_conditions.specs.Conditions.{cause_of, condition_refusals}
 use Rattle.error_conditions.proofs.walk.+condition.Given as goal
 

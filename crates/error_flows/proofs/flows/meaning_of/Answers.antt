@@ -1,6 +1,6 @@
 use Rattle.std.proofs.Common.{◌≡◌, ◌++◌, true, OnOk, subst, sym}
 use Rattle.plain_values.specs.declared.refusal.Code.TheVariants.{Mapping}
-use Rattle.noted_refusals.specs.Noted.{noting}
+use Rattle.noted_refusals.specs.inner.Noted.{noting}
 use Rattle.plain_values.specs.Refusal.{refused_there}
 use Rattle.propagation_points.specs.Uses.{point_use}
 use Rattle.propagation_points.specs.Settings.{refusals_in}

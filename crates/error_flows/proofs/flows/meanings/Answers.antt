@@ -1,5 +1,5 @@
 use Rattle.std.proofs.Common.{◌≡◌, ◌++◌, [], option_to_list, ap, ◌∙◌}
-use Rattle.noted_refusals.specs.Noted.{noting}
+use Rattle.noted_refusals.specs.inner.Noted.{noting}
 use Rattle.package_index.proofs.Loops.{gathered-more}
 use Rattle.noted_refusals.proofs.Loops.{noting-more}
 use Rattle.propagation_points.specs.Settings.{clause_setting}

@@ -1,5 +1,5 @@
 use Rattle.std.proofs.Common.{◌≡◌, drop, take}
-use Rattle.noted_refusals.specs.Noted.{noting}
+use Rattle.noted_refusals.specs.inner.Noted.{noting}
 use Rattle.error_flows.specs.Flows.{refusals_of_flows, meanings}
 use Rattle.error_flows.proofs.flows.meanings.Given as goal
 

@@ -1,5 +1,5 @@
 use Rattle.std.proofs.Common.{◌≡◌, drop, flat_map, true}
-use Rattle.noted_refusals.specs.Noted.{noting}
+use Rattle.noted_refusals.specs.inner.Noted.{noting}
 use Rattle.plain_values.specs.declared.refusal.Code.TheVariants.{Mapping}
 use Rattle.plain_values.specs.Refusal.{refused_so}
 use Rattle.error_flows.proofs.flows.note_mappings.Given as goal

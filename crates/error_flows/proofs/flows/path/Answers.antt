@@ -1,6 +1,6 @@
 use Rattle.std.proofs.Common.{◌++◌, ap, ◌∙◌}
 use Rattle.plain_values.specs.declared.refusal.Code.TheVariants.{Mapping}
-use Rattle.noted_refusals.specs.Noted.{noting}
+use Rattle.noted_refusals.specs.inner.Noted.{noting}
 use Rattle.noted_refusals.proofs.Laws.{noted-more}
 use Rattle.plain_values.specs.Refusal.{refused_there}
 use Rattle.propagation_points.specs.Settings.{refusals_in}

@@ -1,6 +1,6 @@
 use Rattle.std.proofs.Common.{ℕ, ◌≡◌, Bool, true, false, not, Option, Some, None, is_none, is_some, refl, sym, ap, ◌∙◌}
 use Rattle.std.proofs.lemmas.Bool.{false≢true}
-use Rattle.noted_refusals.specs.Noted.{noting}
+use Rattle.noted_refusals.specs.inner.Noted.{noting}
 use Rattle.plain_values.specs.declared.refusal.Code.TheVariants.{UnknownPackage}
 use Rattle.plain_values.specs.Refusal.{refused_so}
 use Rattle.noted_refusals.proofs.Loops.{noting-more}

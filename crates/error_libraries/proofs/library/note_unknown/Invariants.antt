@@ -1,5 +1,5 @@
 use Rattle.std.proofs.Common.{◌≡◌, drop}
-use Rattle.noted_refusals.specs.Noted.{noting}
+use Rattle.noted_refusals.specs.inner.Noted.{noting}
 use Rattle.error_libraries.specs.Libraries.{unknown_libraries}
 use Rattle.error_libraries.proofs.library.note_unknown.Given as goal
 

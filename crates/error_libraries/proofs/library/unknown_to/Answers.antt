@@ -1,5 +1,5 @@
 use Rattle.std.proofs.Common.{◌++◌, ap, ◌∙◌}
-use Rattle.noted_refusals.specs.Noted.{Noted, nothing_noted}
+use Rattle.noted_refusals.specs.inner.Noted.{Noted, nothing_noted}
 use Rattle.noted_refusals.proofs.Laws.{noting-first}
 use Rattle.noted_refusals.proofs.Loops.{noting-end, noting-more}
 use Rattle.error_libraries.specs.Libraries.{unknown_libraries, unknown_to}

@@ -1,5 +1,5 @@
 use Rattle.std.proofs.Common.{◌≡◌, drop}
-use Rattle.noted_refusals.specs.Noted.{nothing_noted, noting}
+use Rattle.noted_refusals.specs.inner.Noted.{nothing_noted, noting}
 use Rattle.error_libraries.specs.Libraries.{unknown_to}
 use Rattle.error_libraries.proofs.library.unknown_to.Given as goal
 

@@ -10,7 +10,8 @@ use Rattle.instantiator.specs.declared.kinds.Kind.{Kind}
 use Rattle.plain_values.specs.inner.Stops.{StopsAt}
 use Rattle.instantiator.specs.inner.Tables.{kind_of}
 use Rattle.error_models.specs.Below.{kind_machine, machine_of}
-use Rattle.error_models.specs.Refused.{fault_of, first_of, machine_fault}
+use Rattle.noted_refusals.proofs.Laws.{told-alone}
+use Rattle.error_models.specs.Refused.{fault_of, first_of, machine_fault, machines_refusal}
 use Rattle.error_models.proofs.KindLaws.{first-end, first-step, first-stop, kinds-mapped}
 use Rattle.error_models.proofs.machines.machines_of.Goals as goal
 
@@ -41,6 +42,19 @@ returns-in_err-machine-clause-refused c =
     let p = err_from_is_err_and c.from_residual.result c.from_residual.ensures.1 in
     rw (p.1, p.2) (subst (λ refusal. StopsAt refusal stop) (whole packages kinds c.args.instance.now.kinds c.kinds-kind-items.ensures.kinds)
     (first-stop (fault packages) kinds c.loop-kind.kind-index one (first_of (map (fault packages) kinds)) c.loop-kind-test.true c.kind-item.is c.loop-kind.invariant.left stop here))
+
+pub returns-in_err-machine-clause-told : goal.returns-in_err-machine-clause-told
+returns-in_err-machine-clause-told c =
+    let packages = c.args.instance.now.packages in
+    let kinds = c.kinds-kind-items.result.now in
+    let one = c.kind-item.result in
+    let stop = c.in_err-machine.field-0.0 in
+    let noted = c.machine_in.new.refusals in
+    let here : StopsAt (fault packages one) stop = subst (λ all. StopsAt (fault all one) stop) c.index.ensures c.in_err-machine.ensures.machine in
+    let refused = subst (λ refusal. StopsAt refusal stop) (whole packages kinds c.args.instance.now.kinds c.kinds-kind-items.ensures.kinds)
+    (first-stop (fault packages) kinds c.loop-kind.kind-index one (first_of (map (fault packages) kinds)) c.loop-kind-test.true c.kind-item.is c.loop-kind.invariant.left stop here) in
+    let p = err_from_is_err_and c.from_residual.result c.from_residual.ensures.1 in
+    rw (p.1, p.2) (told-alone (machines_refusal packages c.args.instance.now.kinds) noted stop refused c.in_err-machine.ensures.told)
 
 pub loop-kind-preserved : goal.loop-kind-preserved
 loop-kind-preserved c =

@@ -2,10 +2,9 @@ use Rattle.std.proofs.Common.{Contains, Err, IfErr, None, Some, ap, subst, sym, 
 use Rattle.std.proofs.lemmas.Result.{err_from_is_err_and}
 use Rattle.plain_values.specs.inner.Stops.{StopsAt}
 use Rattle.plain_values.specs.Order.{least}
-use Rattle.noted_refusals.specs.Noted.{Tells, noting}
-use Rattle.noted_refusals.proofs.Laws.{noted-lists}
+use Rattle.noted_refusals.specs.inner.Noted.{Tells, noting}
+use Rattle.noted_refusals.proofs.Laws.{noted-lists, settled}
 use Rattle.error_behavior.specs.Behavior.{behavior_refusals}
-use Rattle.error_models.proofs.ToldLaws.{settled}
 use Rattle.error_models.proofs.models.behavior.Goals as goal
 
 pub returns-in_err-settle-clause-refused : goal.returns-in_err-settle-clause-refused

@@ -2,11 +2,10 @@ use Rattle.std.proofs.Common.{Contains, Err, IfErr, None, Some, ap, subst, sym, 
 use Rattle.std.proofs.lemmas.Result.{err_from_is_err_and}
 use Rattle.plain_values.specs.inner.Stops.{StopsAt}
 use Rattle.plain_values.specs.Order.{least}
-use Rattle.noted_refusals.specs.Noted.{Tells, noting}
-use Rattle.noted_refusals.proofs.Laws.{noted-lists}
+use Rattle.noted_refusals.specs.inner.Noted.{Tells, noting}
+use Rattle.noted_refusals.proofs.Laws.{noted-lists, settled}
 use Rattle.composite_states.specs.Composites.{composite_clause_refusals}
 use Rattle.error_models.specs.Below.{states_below}
-use Rattle.error_models.proofs.ToldLaws.{settled}
 use Rattle.error_models.proofs.models.composites.Goals as goal
 
 pub returns-in_err-settle-clause-refused : goal.returns-in_err-settle-clause-refused

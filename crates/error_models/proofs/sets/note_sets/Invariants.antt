@@ -1,5 +1,5 @@
 use Rattle.std.proofs.Common.{◌≡◌, drop, flat_map}
-use Rattle.noted_refusals.specs.Noted.{noting}
+use Rattle.noted_refusals.specs.inner.Noted.{noting}
 use Rattle.error_models.specs.Refused.{set_refusals}
 use Rattle.error_models.proofs.sets.note_sets.Given as goal
 

@@ -1,7 +1,7 @@
 use Rattle.std.proofs.Common.{[], Contains, Err, IfErr, MatchOption, ap, subst, sym, ◌≡◌, ◌∙◌}
 use Rattle.std.proofs.lemmas.Result.{err_from_is_err_and}
 use Rattle.plain_values.specs.Order.{IsFirst}
-use Rattle.noted_refusals.specs.Noted.{Tells, noting}
+use Rattle.noted_refusals.specs.inner.Noted.{Tells, noting}
 use Rattle.noted_refusals.proofs.Laws.{noted-all, noted-lists}
 use Rattle.plain_values.specs.inner.Stops.{StopsAtFirst}
 use Rattle.error_models.specs.Refused.{all_set_refusals}

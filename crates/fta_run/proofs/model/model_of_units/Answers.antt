@@ -1,16 +1,19 @@
-use Rattle.std.proofs.Common.{◌≡◌, List, inl, inr, refl, ap, subst, ◌∙◌}
+use Rattle.std.proofs.Common.{◌≡◌, List, [], ◌∷◌, refl, sym, ap, subst, ◌∙◌}
 use Rattle.aadl_syntax.specs.declared.core_model.PackageUnit.{PackageUnit}
-use Rattle.noted_refusals.specs.Noted.{IsAlone}
+use Rattle.aadl_syntax.specs.declared.core_model.Unit.{Unit as FileUnit}
+use Rattle.plain_values.specs.declared.refusal.Stop.TheVariants.{Refused}
+use Rattle.noted_refusals.specs.Groups.{or_group}
+use Rattle.noted_refusals.proofs.Laws.{told-here, told-next}
 use Rattle.phases.proofs.Steps.{◌beyond◌, ends, exits, not_computed}
 use Rattle.phases.specs.inner.Stopped.{status_of}
 use Rattle.package_index.specs.Lookup.{packages_of}
-use Rattle.package_index.specs.Duplicates.{IsDuplicate}
-use Rattle.model_phases.specs.Groups.{IsGroupOf}
-use Rattle.model_phases.proofs.ToldLaws.{answer-told, end-told, stop-told}
+use Rattle.package_index.specs.Duplicates.{duplicates}
+use Rattle.model_phases.specs.Groups.{root_group}
+use Rattle.model_phases.proofs.ToldLaws.{First, FirstOf, answer-told, end-told, stop-told}
 use Rattle.fta_run.specs.Due.{made_of_units}
-use Rattle.fta_run.specs.Groups.{AreAll, IsUnitsGroup}
-use Rattle.fta_run.specs.Model.{HasDuplicate}
-use Rattle.fta_run.proofs.Models.{duplicates_told, index_stop, model_in, no_duplicate, root_is, root_stop}
+use Rattle.fta_run.specs.Groups.{named_group, units_group}
+use Rattle.fta_run.specs.Model.{root_named}
+use Rattle.fta_run.proofs.Models.{duplicates_told, index_stop, model_in, no_duplicate, none_again, root_is, root_stop}
 use Rattle.fta_run.proofs.model.model_of_units.Goals as goal
 
 pub returns-in_err-index-clause-made : goal.returns-in_err-index-clause-made
@@ -20,10 +23,18 @@ returns-in_err-index-clause-made g c =
 
 pub returns-in_err-index-clause-told : goal.returns-in_err-index-clause-told
 returns-in_err-index-clause-told g c =
-    let files = c.items.result.now in
-    stop-told (λ group. AreAll group (IsDuplicate (packages_of files))) (IsUnitsGroup c.args.root.now c.args.files.now) c.new.new.refusals c.in_err-index.field-0.0 c.from_residual.result
-    (λ group is. inr (inl (subst (λ its. AreAll group (HasDuplicate its)) c.items.ensures.items is))) c.from_residual.ensures.1
-    (duplicates_told (packages_of files) c.new.new.refusals c.in_err-index.field-0.0 c.in_err-index.ensures.refused c.in_err-index.ensures.told)
+    let root = c.args.root.now in
+    let files = c.args.files.now in
+    let its = c.items.result.now in
+    let noted = c.new.new.refusals in
+    let again = duplicates (packages_of files) in
+    let rest = named_group (packages_of files) (root_named files root) in
+    let stop = c.in_err-index.field-0.0 in
+    let told = stop-told (duplicates (packages_of its)) noted stop c.from_residual.result c.from_residual.ensures.1
+    (duplicates_told (packages_of its) noted stop c.in_err-index.ensures.refused c.in_err-index.ensures.told) in
+    answer-told (First (duplicates (packages_of its)) noted) (FirstOf (units_group root files) noted) c.from_residual.result
+    (λ refusal here. told-here (units_group root files) (refusal ∷ []) noted (Refused refusal)
+    (told-here again rest noted (Refused refusal) (subst (λ (all : List (List FileUnit)). First (duplicates (packages_of all)) noted refusal) c.items.ensures.items here))) told
 
 pub returns-in_err-id-clause-made : goal.returns-in_err-id-clause-made
 returns-in_err-id-clause-made g c =
@@ -33,7 +44,15 @@ returns-in_err-id-clause-made g c =
 
 pub returns-in_err-id-clause-told : goal.returns-in_err-id-clause-told
 returns-in_err-id-clause-told g c =
-    end-told IsAlone (IsUnitsGroup c.args.root.now c.args.files.now) c.told_root.new.refusals c.in_err-id.field-0.0 c.from_residual-in_err-id.result (λ group alone. inl alone) c.from_residual-in_err-id.ensures.1 c.in_err-id.ensures.told
+    let root = c.args.root.now in
+    let files = c.args.files.now in
+    let noted = c.told_root.new.refusals in
+    let none : duplicates (packages_of files) ≡ [] =
+    ap (λ (all : List (List FileUnit)). duplicates (packages_of all)) (sym c.items.ensures.items) ∙ none_again (packages_of c.items.result.now) c.in_ok-index.ensures.accepted in
+    let named = root_is files c.items.result.now c.in_ok-index.index root _ c.in_ok-index.ensures.packages c.items.ensures.items refl ∙ c.in_err-id.ensures.found.1 in
+    let empty : units_group root files ≡ [] = λ i. or_group (none i) (named_group (packages_of files) (named i)) in
+    end-told (FirstOf [] noted) (FirstOf (units_group root files) noted) c.in_err-id.field-0.0 c.from_residual-in_err-id.result
+    (λ refusal told. told-next (units_group root files) (refusal ∷ []) noted (Refused refusal) empty told) c.from_residual-in_err-id.ensures.1 c.in_err-id.ensures.told
 
 pub returns-clause-made : goal.returns-clause-made
 returns-clause-made g c =
@@ -42,7 +61,15 @@ returns-clause-made g c =
 
 pub returns-clause-told : goal.returns-clause-told
 returns-clause-told g c =
+    let root = c.args.root.now in
+    let files = c.args.files.now in
+    let id = c.in_ok-id.id in
+    let noted = c.assembled.new.refusals in
     let are = c.in_ok-index.ensures.packages ∙ ap packages_of c.items.ensures.items in
-    let named = root_is c.args.files.now c.items.result.now c.in_ok-index.index c.args.root.now _ c.in_ok-index.ensures.packages c.items.ensures.items refl ∙ c.in_ok-id.ensures.found in
-    answer-told (IsGroupOf c.in_ok-index.index c.in_ok-id.id) (IsUnitsGroup c.args.root.now c.args.files.now) c.assembled.new.refusals c.assembled.result
-    (λ group is. inr (inr (c.in_ok-id.id, named, subst (λ (packages : List PackageUnit). IsGroupOf packages c.in_ok-id.id group) are is))) c.assembled.ensures.told
+    let named = root_is files c.items.result.now c.in_ok-index.index root _ c.in_ok-index.ensures.packages c.items.ensures.items refl ∙ c.in_ok-id.ensures.found in
+    let none : duplicates (packages_of files) ≡ [] =
+    ap (λ (all : List (List FileUnit)). duplicates (packages_of all)) (sym c.items.ensures.items) ∙ none_again (packages_of c.items.result.now) c.in_ok-index.ensures.accepted in
+    let same : root_group c.in_ok-index.index id ≡ units_group root files =
+    ap (λ (packages : List PackageUnit). root_group packages id) are ∙ sym (λ i. or_group (none i) (named_group (packages_of files) (named i))) in
+    answer-told (FirstOf (root_group c.in_ok-index.index id) noted) (FirstOf (units_group root files) noted) c.assembled.result
+    (λ refusal told. subst (λ group. FirstOf group noted refusal) same told) c.assembled.ensures.told

@@ -1,15 +1,18 @@
-use Rattle.std.proofs.Common.{inl, inr, subst}
-use Rattle.instantiator.specs.Refused.{IsClassifierGroup}
-use Rattle.instantiator.specs.Whole.{Instance}
-use Rattle.model_facts.specs.Assembly.{points_in}
-use Rattle.noted_refusals.specs.Noted.{IsAlone}
-use Rattle.propagation_links.specs.Refused.{IsLinksGroup}
-use Rattle.model_phases.specs.Groups.{IsGroupOf, IsKindsGroup}
-use Rattle.model_phases.proofs.ToldLaws.{answer-told, end-told}
+use Rattle.std.proofs.Common.{◌≡◌, [], ◌∷◌, subst}
+use Rattle.plain_values.specs.declared.refusal.Stop.TheVariants.{Refused}
+use Rattle.noted_refusals.specs.Groups.{or_group}
+use Rattle.noted_refusals.proofs.Laws.{told-here, told-next}
+use Rattle.instantiator.specs.Refused.{instance_group}
+use Rattle.instantiator.specs.Whole.{Instance, instance_of}
+use Rattle.model_facts.specs.Assembly.{assembly_of, points_in}
+use Rattle.propagation_links.specs.Refused.{links_group}
+use Rattle.model_phases.specs.Groups.{kinds_group, root_group}
+use Rattle.model_phases.proofs.GroupLaws.{instance-clear, kinds-clear, links-clear}
+use Rattle.model_phases.proofs.ToldLaws.{First, FirstOf, answer-told, end-told}
 use Rattle.phases.specs.inner.Meets.{IsMemory}
 use Rattle.phases.proofs.Steps.{◌beyond◌, ends, exits}
 use Rattle.model_phases.specs.Phases.{assembled}
-use Rattle.model_phases.proofs.Made.{kinds_stop, kinds_pass, links_group, links_stop, model_met}
+use Rattle.model_phases.proofs.Made.{kinds_pass, kinds_stop, links_named, links_pass, links_stop, model_met}
 use Rattle.model_phases.proofs.flat.assembled.Goals as goal
 
 pub returns-in_err-kinds-clause-made : goal.returns-in_err-kinds-clause-made
@@ -37,21 +40,65 @@ returns-clause-made g c =
 pub returns-in_err-instance-clause-told : goal.returns-in_err-instance-clause-told
 returns-in_err-instance-clause-told g c =
     let packages = c.args.index.now in
-    end-told (IsClassifierGroup packages) (IsGroupOf packages c.args.root) c.instance_at.new.refusals c.in_err-instance.field-0.0 c.from_residual.result (λ group is. inl is) c.from_residual.ensures.1 c.in_err-instance.ensures.told
+    let root = c.args.root in
+    let components = instance_group packages root in
+    let kinds = kinds_group (instance_of packages root) in
+    let links = links_group (instance_of packages root) (points_in (assembly_of packages root).models) in
+    let all = root_group packages root in
+    let noted = c.instance_at.new.refusals in
+    end-told (First components noted) (FirstOf all noted) c.in_err-instance.field-0.0 c.from_residual.result
+    (λ refusal told. told-here all (refusal ∷ []) noted (Refused refusal) (told-here components (or_group kinds links) noted (Refused refusal) told)) c.from_residual.ensures.1 c.in_err-instance.ensures.told
 
 pub returns-in_err-kinds-clause-told : goal.returns-in_err-kinds-clause-told
 returns-in_err-kinds-clause-told g c =
     let packages = c.args.index.now in
-    end-told (IsKindsGroup c.in_ok-instance.instance) (IsGroupOf packages c.args.root) c.kinds_of.new.refusals c.in_err-kinds.field-0.0 c.from_residual-in_err-kinds.result
-    (λ group is. inr (inl (subst (λ (one : Instance). IsKindsGroup one group) c.in_ok-instance.ensures.instance is))) c.from_residual-in_err-kinds.ensures.1 c.in_err-kinds.ensures.told
+    let root = c.args.root in
+    let components = instance_group packages root in
+    let kinds = kinds_group (instance_of packages root) in
+    let links = links_group (instance_of packages root) (points_in (assembly_of packages root).models) in
+    let all = root_group packages root in
+    let noted = c.kinds_of.new.refusals in
+    let instance = c.in_ok-instance.instance in
+    end-told (First (kinds_group instance) noted) (FirstOf all noted) c.in_err-kinds.field-0.0 c.from_residual-in_err-kinds.result
+    (λ refusal told. told-here all (refusal ∷ []) noted (Refused refusal)
+    (told-next components (or_group kinds links) noted (Refused refusal) (instance-clear packages root c.in_ok-instance.ensures.tested)
+    (told-here kinds links noted (Refused refusal) (subst (λ (one : Instance). First (kinds_group one) noted refusal) c.in_ok-instance.ensures.instance told))))
+    c.from_residual-in_err-kinds.ensures.1 c.in_err-kinds.ensures.told
 
 pub returns-in_err-links-clause-told : goal.returns-in_err-links-clause-told
 returns-in_err-links-clause-told g c =
     let packages = c.args.index.now in
+    let root = c.args.root in
+    let components = instance_group packages root in
+    let kinds = kinds_group (instance_of packages root) in
+    let links = links_group (instance_of packages root) (points_in (assembly_of packages root).models) in
+    let all = root_group packages root in
+    let noted = c.links_between.new.refusals in
     let instance = c.in_ok-instance.instance in
     let models = c.in_ok-kinds.kinds.models in
-    end-told (IsLinksGroup instance (points_in models)) (IsGroupOf packages c.args.root) c.links_between.new.refusals c.in_err-links.field-0.0 c.from_residual-in_err-links.result
-    (λ group is. inr (inr (links_group packages c.args.root instance models group c.in_ok-instance.ensures.instance c.in_ok-kinds.ensures.models is))) c.from_residual-in_err-links.ensures.1 c.in_err-links.ensures.told
+    let made = c.in_ok-instance.ensures.instance in
+    end-told (First (links_group instance (points_in models)) noted) (FirstOf all noted) c.in_err-links.field-0.0 c.from_residual-in_err-links.result
+    (λ refusal told. told-here all (refusal ∷ []) noted (Refused refusal)
+    (told-next components (or_group kinds links) noted (Refused refusal) (instance-clear packages root c.in_ok-instance.ensures.tested)
+    (told-next kinds links noted (Refused refusal) (kinds-clear (instance_of packages root) (kinds_pass packages root instance made c.in_ok-kinds.ensures.tested))
+    (subst (λ group. First group noted refusal) (links_named packages root instance models made c.in_ok-kinds.ensures.models) told))))
+    c.from_residual-in_err-links.ensures.1 c.in_err-links.ensures.told
 
 pub returns-clause-told : goal.returns-clause-told
-returns-clause-told g c = answer-told IsAlone (IsGroupOf c.args.index.now c.args.root) c.noted_made.new.refusals c.noted_made.result (λ group alone. inl (inl alone)) c.noted_made.ensures.told
+returns-clause-told g c =
+    let packages = c.args.index.now in
+    let root = c.args.root in
+    let components = instance_group packages root in
+    let kinds = kinds_group (instance_of packages root) in
+    let links = links_group (instance_of packages root) (points_in (assembly_of packages root).models) in
+    let all = root_group packages root in
+    let noted = c.noted_made.new.refusals in
+    let instance = c.in_ok-instance.instance in
+    let models = c.in_ok-kinds.kinds.models in
+    let made = c.in_ok-instance.ensures.instance in
+    let none = instance-clear packages root c.in_ok-instance.ensures.tested in
+    let kinds_none = kinds-clear (instance_of packages root) (kinds_pass packages root instance made c.in_ok-kinds.ensures.tested) in
+    let links_none =
+    links-clear (instance_of packages root) (points_in (assembly_of packages root).models) (links_pass packages root instance models made c.in_ok-kinds.ensures.models c.in_ok-links.ensures.tested) in
+    let empty : all ≡ [] = λ i. or_group (none i) (or_group (kinds_none i) (links_none i)) in
+    answer-told (FirstOf [] noted) (FirstOf all noted) c.noted_made.result (λ refusal told. told-next all (refusal ∷ []) noted (Refused refusal) empty told) c.noted_made.ensures.told

@@ -1,8 +1,7 @@
-use Rattle.instantiator.specs.Refused.{IsClassifierGroup}
 use Rattle.model_phases.proofs.ToldLaws.{stop-told}
 use Rattle.phases.specs.Phases.{tests}
 use Rattle.phases.specs.inner.Stopped.{status_of}
-use Rattle.instantiator.specs.Refused.{instance_refusal}
+use Rattle.instantiator.specs.Refused.{instance_group, instance_refusal}
 use Rattle.model_phases.specs.Tests.{IsIt}
 use Rattle.model_phases.proofs.Tested.{one_stops, tests_stop}
 use Rattle.model_phases.proofs.flat.instance_at.Goals as goal
@@ -14,4 +13,4 @@ returns-in_err-of-clause-tested c =
 
 pub returns-in_err-of-clause-told : goal.returns-in_err-of-clause-told
 returns-in_err-of-clause-told c =
-    stop-told (IsClassifierGroup c.args.index.now) (IsClassifierGroup c.args.index.now) c.of.new.refusals c.in_err-of.field-0.0 c.from_residual.result (λ group is. is) c.from_residual.ensures.1 c.in_err-of.ensures.told
+    stop-told (instance_group c.args.index.now c.args.root) c.of.new.refusals c.in_err-of.field-0.0 c.from_residual.result c.from_residual.ensures.1 c.in_err-of.ensures.told

@@ -2,9 +2,10 @@ use Rattle.std.proofs.Common.{List, Bor, map, sym, ap, ◌∙◌, subst}
 use Rattle.phases.specs.Phases.{tests}
 use Rattle.phases.specs.inner.Stopped.{status_of}
 use Rattle.plain_values.specs.inner.Stops.{StopsAt}
+use Rattle.noted_refusals.specs.inner.Noted.{TellsFirst}
 use Rattle.propagation_points.specs.Points.{Point}
 use Rattle.propagation_links.specs.Links.{links_of}
-use Rattle.propagation_links.specs.Refused.{IsLinksGroup, links_refusal}
+use Rattle.propagation_links.specs.Refused.{links_group, links_refusal}
 use Rattle.model_facts.specs.Assembly.{points_in}
 use Rattle.model_phases.specs.Tests.{IsIt}
 use Rattle.model_phases.proofs.Tested.{none_passes, one_stops, tests_stop}
@@ -35,5 +36,7 @@ pub returns-in_err-links_of-clause-told : goal.returns-in_err-links_of-clause-to
 returns-in_err-links_of-clause-told c =
     let instance = c.args.instance.now in
     let same = ap (map (λ (points : Bor (List Point)). points.now)) c.items-2.ensures.items ∙ c.in_ok-points.ensures ∙ ap points_in c.items.ensures.items in
-    stop-told (IsLinksGroup instance (map (λ (points : Bor (List Point)). points.now) c.items-2.result.now)) (IsLinksGroup instance (points_in c.args.kinds.now.models)) c.links_of.new.refusals c.in_err-links_of.field-0.0 c.from_residual-in_err-links_of.result
-    (λ group is. subst (λ points. IsLinksGroup instance points group) same is) c.from_residual-in_err-links_of.ensures.1 c.in_err-links_of.ensures.told
+    let noted = c.links_of.new.refusals in
+    let stop = c.in_err-links_of.field-0.0 in
+    stop-told (links_group instance (points_in c.args.kinds.now.models)) noted stop c.from_residual-in_err-links_of.result c.from_residual-in_err-links_of.ensures.1
+    (subst (λ points. TellsFirst (links_group instance points) noted stop) same c.in_err-links_of.ensures.told)

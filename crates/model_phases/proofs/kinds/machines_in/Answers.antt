@@ -1,4 +1,4 @@
-use Rattle.noted_refusals.specs.Noted.{IsAlone}
+use Rattle.std.specs.Prelude.{option_to_list}
 use Rattle.model_phases.proofs.ToldLaws.{stop-told}
 use Rattle.phases.specs.Phases.{tests}
 use Rattle.phases.specs.inner.Stopped.{status_of}
@@ -14,4 +14,4 @@ returns-in_err-machines_of-clause-tested c =
 
 pub returns-in_err-machines_of-clause-told : goal.returns-in_err-machines_of-clause-told
 returns-in_err-machines_of-clause-told c =
-    stop-told IsAlone IsAlone c.machines_of.new.refusals c.in_err-machines_of.field-0.0 c.from_residual.result (λ group is. is) c.from_residual.ensures.1 c.in_err-machines_of.ensures.told
+    stop-told (option_to_list (machines_refusal c.args.instance.now.packages c.args.instance.now.kinds)) c.machines_of.new.refusals c.in_err-machines_of.field-0.0 c.from_residual.result c.from_residual.ensures.1 c.in_err-machines_of.ensures.told

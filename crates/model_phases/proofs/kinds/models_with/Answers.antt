@@ -1,11 +1,13 @@
-use Rattle.std.proofs.Common.{◌≡◌, ◌⊎◌, List, inl, inr, refl, subst}
+use Rattle.std.proofs.Common.{subst}
 use Rattle.phases.specs.inner.Stopped.{status_of}
 use Rattle.phases.proofs.Steps.{◌beyond◌}
 use Rattle.plain_values.specs.inner.Stops.{StopsAt}
 use Rattle.error_libraries.specs.Libraries.{Table}
-use Rattle.plain_values.specs.declared.refusal.Refusal.{Refusal}
-use Rattle.noted_refusals.proofs.Laws.{told-of}
-use Rattle.error_models.specs.Refused.{IsModelGroup, all_set_refusals, models_refusal}
+use Rattle.noted_refusals.specs.Groups.{or_group}
+use Rattle.noted_refusals.specs.inner.Noted.{TellsFirst}
+use Rattle.noted_refusals.proofs.Laws.{told-here, told-least, told-next}
+use Rattle.instantiator.proofs.KindLaws.{refused-stops}
+use Rattle.error_models.specs.Refused.{all_set_refusals, models_group, models_refusal}
 use Rattle.model_phases.specs.Phases.{content_tests}
 use Rattle.model_phases.proofs.Tested.{empty_passes, one_stops, tests_stop}
 use Rattle.model_phases.proofs.ToldLaws.{stop-told}
@@ -25,14 +27,18 @@ returns-in_err-test_sets-clause-told c =
     let types = c.args.reading.now.types in
     let kinds = c.args.instance.now.kinds in
     let stop = c.in_err-test_sets.field-0.0 in
-    let IsGroup : List Refusal → Type 0 = λ group. (group ≡ all_set_refusals types kinds) ⊎ IsModelGroup types kinds group in
-    stop-told IsGroup IsGroup c.test_sets.new.reading.refusals stop c.from_residual.result (λ group is. is) c.from_residual.ensures.1
-    (told-of IsGroup (all_set_refusals types kinds) c.test_sets.new.reading.refusals stop (inl refl) c.in_err-test_sets.ensures.refused c.in_err-test_sets.ensures.told)
+    let noted = c.test_sets.new.reading.refusals in
+    let sets = all_set_refusals types kinds in
+    stop-told (or_group sets (models_group types kinds)) noted stop c.from_residual.result c.from_residual.ensures.1
+    (told-here sets (models_group types kinds) noted stop (told-least sets noted stop (refused-stops sets stop c.in_err-test_sets.ensures.refused) c.in_err-test_sets.ensures.told))
 
 pub returns-in_err-models_of-clause-told : goal.returns-in_err-models_of-clause-told
 returns-in_err-models_of-clause-told c =
     let types = c.args.reading.now.types in
     let kinds = c.args.instance.now.kinds in
     let stop = c.in_err-models_of.field-0.0 in
-    stop-told (IsModelGroup c.test_sets.new.reading.types kinds) (λ group. (group ≡ all_set_refusals types kinds) ⊎ IsModelGroup types kinds group) c.models_of.new.reading.refusals stop c.from_residual-in_err-models_of.result
-    (λ group is. inr (subst (λ (table : Table). IsModelGroup table kinds group) c.in_ok-test_sets.ensures.kept is)) c.from_residual-in_err-models_of.ensures.1 c.in_err-models_of.ensures.told
+    let noted = c.models_of.new.reading.refusals in
+    let sets = all_set_refusals types kinds in
+    stop-told (or_group sets (models_group types kinds)) noted stop c.from_residual-in_err-models_of.result c.from_residual-in_err-models_of.ensures.1
+    (told-next sets (models_group types kinds) noted stop c.in_ok-test_sets.ensures.accepted
+    (subst (λ (table : Table). TellsFirst (models_group table kinds) noted stop) c.in_ok-test_sets.ensures.kept c.in_err-models_of.ensures.told))

@@ -1,7 +1,7 @@
 use Rattle.std.proofs.Common.{◌≡◌, ◌++◌, codes, sym, subst}
 use Rattle.std.specs.Prelude.{OnOk}
 use Rattle.model_facts.specs.Assembly.{Assembly}
-use Rattle.model_review.specs.Lines.{finding_text, flow_text, types_text}
+use Rattle.model_review.specs.Lines.{finding_text, flow_text, side_text, types_text}
 use Rattle.model_review.specs.declared.finding.Finding.{Finding}
 use Rattle.model_review.proofs.lines.push_text.Goals as goal
 
@@ -17,3 +17,9 @@ returns-in-StopsHere c =
     let text = c.args.text.now.items in
     subst (λ (f : Finding). OnOk c.push_at.result (c.push_at.new.text.items ≡ text ++ finding_text c.args.view.now f)) (sym c.in-StopsHere.is)
     (subst (λ (a : Assembly). OnOk c.push_at.result (c.push_at.new.text.items ≡ text ++ (codes "stops-here " ++ types_text a c.in-StopsHere.at))) c.assembly-assembly.ensures c.push_at.ensures)
+
+pub returns-in-NoSource : goal.returns-in-NoSource
+returns-in-NoSource c =
+    let text = c.args.text.now.items in
+    subst (λ (f : Finding). OnOk c.push_side_at.result (c.push_side_at.new.text.items ≡ text ++ finding_text c.args.view.now f)) (sym c.in-NoSource.is)
+    (subst (λ (a : Assembly). OnOk c.push_side_at.result (c.push_side_at.new.text.items ≡ text ++ (codes "no-source " ++ side_text a c.in-NoSource.side))) c.assembly-assembly.ensures c.push_side_at.ensures)

@@ -1,9 +1,9 @@
 use Rattle.std.proofs.Common.{◌≡◌, ap, ◌∙◌, not, take}
 use Rattle.std.specs.HashMap.{get}
-use Rattle.noted_refusals.specs.Noted.{noting}
+use Rattle.noted_refusals.specs.inner.Noted.{noting}
 use Rattle.package_index.specs.declared.words.Words.{Words}
 use Rattle.package_index.specs.declared.words.Words.TheVariants.{Identifiers}
-use Rattle.package_index.specs.inner.Duplicates.{again_at}
+use Rattle.package_index.specs.Duplicates.{again_at}
 use Rattle.package_index.specs.Lookup.{has_name}
 use Rattle.package_index.specs.inner.Names.{names_of}
 use Rattle.package_index.specs.inner.Tables.{has_words, same_words}

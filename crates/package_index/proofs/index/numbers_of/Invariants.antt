@@ -1,7 +1,7 @@
 use Rattle.std.proofs.Common.{◌≡◌, take, drop}
 use Rattle.std.specs.HashMap.{get}
-use Rattle.noted_refusals.specs.Noted.{noting}
-use Rattle.package_index.specs.inner.Duplicates.{again_after, packages_again}
+use Rattle.noted_refusals.specs.inner.Noted.{noting}
+use Rattle.package_index.specs.Duplicates.{again_after, packages_again}
 use Rattle.package_index.specs.Lookup.{has_name}
 use Rattle.package_index.specs.inner.Tables.{Knows, has_words, same_words}
 use Rattle.package_index.proofs.index.numbers_of.Given as goal

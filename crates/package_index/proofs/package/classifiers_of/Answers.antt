@@ -1,7 +1,7 @@
 use Rattle.std.proofs.Common.{ap, ◌∙◌, take}
 use Rattle.std.specs.HashMap.{get}
-use Rattle.noted_refusals.specs.Noted.{noting}
-use Rattle.package_index.specs.inner.Duplicates.{again_at}
+use Rattle.noted_refusals.specs.inner.Noted.{noting}
+use Rattle.package_index.specs.Duplicates.{again_at}
 use Rattle.package_index.specs.Lookup.{is_named}
 use Rattle.package_index.specs.inner.Tables.{has_key, Key, same_key}
 use Rattle.package_index.proofs.Keys.{key_agrees, key_alike, same_names}

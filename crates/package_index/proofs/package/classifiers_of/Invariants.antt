@@ -1,7 +1,7 @@
 use Rattle.std.proofs.Common.{◌≡◌, take, drop}
 use Rattle.std.specs.HashMap.{get}
-use Rattle.noted_refusals.specs.Noted.{noting}
-use Rattle.package_index.specs.inner.Duplicates.{again_after, classifiers_again}
+use Rattle.noted_refusals.specs.inner.Noted.{noting}
+use Rattle.package_index.specs.Duplicates.{again_after, classifiers_again}
 use Rattle.package_index.specs.Lookup.{is_named}
 use Rattle.package_index.specs.inner.Tables.{Knows, has_key, same_key}
 use Rattle.package_index.proofs.package.classifiers_of.Given as goal

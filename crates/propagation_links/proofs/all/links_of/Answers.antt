@@ -1,11 +1,6 @@
-use Rattle.std.proofs.Common.{Bor, List, inl, map, subst, ◌∙◌}
+use Rattle.std.proofs.Common.{◌∙◌}
 use Rattle.std.proofs.lemmas.Result.{err_from_is_err_and}
-use Rattle.noted_refusals.specs.Noted.{IsAlone, TellsOf}
-use Rattle.noted_refusals.proofs.Laws.{told-as}
-use Rattle.propagation_points.specs.Points.{Point}
-use Rattle.propagation_links.specs.Ends.{Pointed}
-use Rattle.propagation_links.specs.Refused.{IsLinkGroup, IsLinksGroup}
-use Rattle.propagation_links.proofs.LinkLaws.{all-accepted, all-linked, component-stops, limit-stops}
+use Rattle.propagation_links.proofs.LinkLaws.{all-accepted, all-linked, component-stops, component-told, limit-stops, limit-told}
 use Rattle.propagation_links.proofs.all.links_of.Goals as goal
 
 pub returns-in_err-test_limit-clause-refused : goal.returns-in_err-test_limit-clause-refused
@@ -28,9 +23,9 @@ returns-clause-accepted c = all-accepted _ c.new-pointed.result c.new-pointed.en
 pub returns-in_err-test_limit-clause-told : goal.returns-in_err-test_limit-clause-told
 returns-in_err-test_limit-clause-told c =
     let p = err_from_is_err_and c.from_residual-in_err-test_limit.result c.from_residual-in_err-test_limit.ensures.1 in
-    rw (p.1, p.2) (told-as IsAlone (IsLinksGroup c.args.instance.now (map (λ (points : Bor (List Point)). points.now) c.args.points.now)) c.test_limit.new.refusals c.in_err-test_limit.field-0.0 (λ group alone. inl alone) c.in_err-test_limit.ensures.told)
+    rw (p.1, p.2) (limit-told _ c.new-pointed.result c.new-pointed.ensures c.test_limit.new.refusals c.in_err-test_limit.field-0.0 c.in_err-test_limit.ensures.limit c.in_err-test_limit.ensures.told)
 
 pub returns-in_err-links-clause-told : goal.returns-in_err-links-clause-told
 returns-in_err-links-clause-told c =
     let p = err_from_is_err_and c.from_residual-in_err-links.result c.from_residual-in_err-links.ensures.1 in
-    rw (p.1, p.2) (subst (λ (its : Pointed). TellsOf (IsLinkGroup its) c.connected.new.refusals c.in_err-links.field-0.0) c.new-pointed.ensures c.in_err-links.ensures.told)
+    rw (p.1, p.2) (component-told _ c.new-pointed.result c.new-pointed.ensures c.connected.new.refusals c.in_err-links.field-0.0 c.in_ok-test_limit.ensures.limit c.in_err-links.ensures.told)

@@ -1,6 +1,6 @@
 use Rattle.std.proofs.Common.{◌++◌, true, flat_map, ap, ◌∙◌}
 use Rattle.plain_values.specs.declared.refusal.Code.TheVariants.{ConnectionError}
-use Rattle.noted_refusals.specs.Noted.{noting}
+use Rattle.noted_refusals.specs.inner.Noted.{noting}
 use Rattle.noted_refusals.proofs.Laws.{noted-more}
 use Rattle.plain_values.specs.Refusal.{refused_so}
 use Rattle.propagation_links.specs.Refused.{connection_refusals, path_refusals}

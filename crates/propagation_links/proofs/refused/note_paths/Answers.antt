@@ -1,5 +1,5 @@
 use Rattle.std.proofs.Common.{◌++◌, ap, ◌∙◌}
-use Rattle.noted_refusals.specs.Noted.{noting}
+use Rattle.noted_refusals.specs.inner.Noted.{noting}
 use Rattle.aadl_syntax.specs.declared.error_model.UserPath.{UserPath}
 use Rattle.noted_refusals.proofs.Loops.{noting-more}
 use Rattle.propagation_links.specs.Refused.{path_end_refusals, path_refusals}

@@ -1,5 +1,5 @@
 use Rattle.std.proofs.Common.{◌≡◌, drop, flat_map}
-use Rattle.noted_refusals.specs.Noted.{noting}
+use Rattle.noted_refusals.specs.inner.Noted.{noting}
 use Rattle.propagation_links.specs.Refused.{path_refusals}
 use Rattle.propagation_links.proofs.refused.note_paths.Given as goal
 

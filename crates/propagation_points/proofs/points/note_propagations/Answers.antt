@@ -1,5 +1,5 @@
 use Rattle.std.proofs.Common.{ap, ◌∙◌}
-use Rattle.noted_refusals.specs.Noted.{noting}
+use Rattle.noted_refusals.specs.inner.Noted.{noting}
 use Rattle.package_index.specs.Names.{only}
 use Rattle.noted_refusals.proofs.Loops.{noting-more}
 use Rattle.propagation_points.specs.Points.{fault_at, propagation_refusals}

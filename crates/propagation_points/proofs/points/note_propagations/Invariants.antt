@@ -1,5 +1,5 @@
 use Rattle.std.proofs.Common.{◌≡◌, drop, flat_map}
-use Rattle.noted_refusals.specs.Noted.{noting}
+use Rattle.noted_refusals.specs.inner.Noted.{noting}
 use Rattle.propagation_points.specs.Points.{propagation_refusals}
 use Rattle.propagation_points.proofs.points.note_propagations.Given as goal
 

@@ -2,7 +2,7 @@ use Rattle.std.proofs.Common.{◌≡◌, ℕ, ◌<◌, Bool, true, false, List, 
 use Rattle.std.proofs.lemmas.Bool.Decides.{nat_tests}
 use Rattle.std.proofs.lemmas.List.{length-take}
 use Rattle.plain_values.specs.declared.refusal.Refusal.{Refusal}
-use Rattle.noted_refusals.specs.Noted.{Lists, Noted}
+use Rattle.noted_refusals.specs.inner.Noted.{Lists, Noted}
 use Rattle.refusal_lines.specs.Text.{end_line, lines_of, most_refusals, refusals_text}
 use Rattle.refusal_lines.proofs.text.group_text.Goals as goal
 

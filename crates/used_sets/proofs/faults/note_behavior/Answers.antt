@@ -1,5 +1,5 @@
 use Rattle.std.proofs.Common.{◌≡◌, ◌∙◌}
-use Rattle.noted_refusals.specs.Noted.{noting}
+use Rattle.noted_refusals.specs.inner.Noted.{noting}
 use Rattle.noted_refusals.proofs.Laws.{noted-four}
 use Rattle.used_sets.specs.Sets.{composite_sets, event_sets, outgoing_sets, transition_sets}
 use Rattle.used_sets.specs.Used.{items_refusals}

@@ -1,5 +1,5 @@
 use Rattle.std.proofs.Common.{◌≡◌, ap, ◌∙◌}
-use Rattle.noted_refusals.specs.Noted.{noting}
+use Rattle.noted_refusals.specs.inner.Noted.{noting}
 use Rattle.propagation_points.specs.Points.{scopes_of}
 use Rattle.used_sets.specs.Used.{refusals_with}
 use Rattle.used_sets.proofs.faults.note_clauses.Goals as goal

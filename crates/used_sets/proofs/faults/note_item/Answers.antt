@@ -1,5 +1,5 @@
 use Rattle.std.proofs.Common.{◌≡◌, ◌++◌, flat_map, option_copied, slice_get, ap, ◌∙◌}
-use Rattle.noted_refusals.specs.Noted.{noting}
+use Rattle.noted_refusals.specs.inner.Noted.{noting}
 use Rattle.used_sets.specs.Used.{set_fault}
 use Rattle.used_sets.proofs.faults.note_item.Goals as goal
 

@@ -1,5 +1,5 @@
 use Rattle.std.proofs.Common.{◌≡◌, ◌+◌, ◌||◌, take, sym, ap, ◌∙◌}
-use Rattle.noted_refusals.specs.Noted.{noting}
+use Rattle.noted_refusals.specs.inner.Noted.{noting}
 use Rattle.package_index.proofs.Loops.{any-more}
 use Rattle.noted_refusals.proofs.Loops.{noting-more}
 use Rattle.used_sets.specs.Used.{item_refusals, use_clause, uses_clause}

@@ -1,5 +1,5 @@
 use Rattle.std.proofs.Common.{◌≡◌, drop, take}
-use Rattle.noted_refusals.specs.Noted.{noting}
+use Rattle.noted_refusals.specs.inner.Noted.{noting}
 use Rattle.used_sets.specs.inner.Marks.{Marked}
 use Rattle.used_sets.specs.Used.{items_refusals, use_clause}
 use Rattle.used_sets.proofs.faults.note_items.Given as goal

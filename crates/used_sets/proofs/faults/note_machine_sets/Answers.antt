@@ -1,5 +1,5 @@
 use Rattle.std.proofs.Common.{◌≡◌, Some, [], cond, flat_map, ap, ◌∙◌}
-use Rattle.noted_refusals.specs.Noted.{noting}
+use Rattle.noted_refusals.specs.inner.Noted.{noting}
 use Rattle.error_libraries.specs.Libraries.{unknown_libraries}
 use Rattle.error_types.specs.Types.{text_scope}
 use Rattle.noted_refusals.proofs.Laws.{noted-two}

@@ -1,5 +1,5 @@
 use Rattle.std.proofs.Common.{◌≡◌, [], cond, false, slice_index_or, ap, ◌∙◌}
-use Rattle.noted_refusals.specs.Noted.{noting}
+use Rattle.noted_refusals.specs.inner.Noted.{noting}
 use Rattle.error_libraries.specs.Libraries.{unknown_libraries}
 use Rattle.used_sets.specs.Used.{uses_fault}
 use Rattle.used_sets.proofs.MarkLaws.{numbered-noting}

@@ -1,5 +1,5 @@
 use Rattle.std.proofs.Common.{◌≡◌, false, drop, slice_index_or}
-use Rattle.noted_refusals.specs.Noted.{noting}
+use Rattle.noted_refusals.specs.inner.Noted.{noting}
 use Rattle.plain_values.specs.Numbered.{numbered_from}
 use Rattle.used_sets.specs.Used.{uses_fault}
 use Rattle.used_sets.proofs.faults.note_uses.Given as goal

@@ -1,5 +1,5 @@
 use Rattle.std.proofs.Common.{ℕ, ◌+◌, ◌≡◌, ◌<◌, ◌||◌, [], cond, false, length, slice_index_or, sym, ap, ◌∙◌, subst, arith}
-use Rattle.noted_refusals.specs.Noted.{noting}
+use Rattle.noted_refusals.specs.inner.Noted.{noting}
 use Rattle.component_extension.specs.Items.{Clause}
 use Rattle.error_libraries.specs.Libraries.{unknown_libraries}
 use Rattle.plain_values.specs.Numbered.{numbered_from}

@@ -1,7 +1,7 @@
 use Rattle.std.proofs.Common.{Contains, Err, IfErr, ap, subst, sym, ◌∙◌}
 use Rattle.std.proofs.lemmas.Result.{err_from_is_err_and}
 use Rattle.plain_values.specs.inner.Stops.{StopsAtFirst}
-use Rattle.noted_refusals.specs.Noted.{Tells}
+use Rattle.noted_refusals.specs.inner.Noted.{Tells}
 use Rattle.component_extension.specs.Items.{classifier_refusals}
 use Rattle.component_extension.proofs.EffectiveLaws.{chain-refused}
 use Rattle.component_extension.proofs.effective.Effective.of.Goals as goal

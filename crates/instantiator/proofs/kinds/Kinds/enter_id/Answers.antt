@@ -1,12 +1,11 @@
-use Rattle.std.proofs.Common.{◌≡◌, inr, refl, sym, ap, ◌∙◌, subst}
+use Rattle.std.proofs.Common.{◌≡◌, sym, ap, ◌∙◌, subst}
 use Rattle.std.proofs.lemmas.Result.{err_from_is_err_and}
 use Rattle.plain_values.specs.Order.{least}
 use Rattle.component_extension.specs.Items.{classifier_refusals}
 use Rattle.component_extension.specs.inner.Effective.{IsEffective}
 use Rattle.plain_values.specs.inner.Stops.{StopsAt}
-use Rattle.noted_refusals.specs.Noted.{TellsOf}
-use Rattle.noted_refusals.proofs.Laws.{told-of}
-use Rattle.instantiator.specs.Refused.{IsClassifierGroup}
+use Rattle.noted_refusals.specs.inner.Noted.{TellsFirst}
+use Rattle.noted_refusals.proofs.Laws.{told-least}
 use Rattle.instantiator.specs.inner.Whole.{Kinds}
 use Rattle.instantiator.proofs.EffectiveIs.{effective-is}
 use Rattle.instantiator.proofs.KindLaws.{entered-again, entered-new, refused-stops}
@@ -23,13 +22,13 @@ returns-in_err-effective-clause-entered c =
 
 pub returns-in_err-effective-clause-told : goal.returns-in_err-effective-clause-told
 returns-in_err-effective-clause-told c =
-    let packages = c.self.inside.index.now in
-    let view : packages ≡ c.args.self.now.packages = ap (λ (kinds : Kinds). kinds.packages) c.self.view_is in
+    let view : c.self.inside.index.now ≡ c.args.self.now.packages = ap (λ (kinds : Kinds). kinds.packages) c.self.view_is in
+    let group = classifier_refusals c.self.inside.index.now c.args.id in
     let stop = c.in_err-effective.field-0.0 in
     let noted = c.of.new.refusals in
     let p = err_from_is_err_and c.from_residual.result c.from_residual.ensures.1 in
-    rw (p.1, p.2) (subst (λ all. TellsOf (IsClassifierGroup all) noted stop) view
-    (told-of (IsClassifierGroup packages) (classifier_refusals packages c.args.id) noted stop (inr (c.args.id, refl)) c.in_err-effective.ensures.refused c.in_err-effective.ensures.told))
+    rw (p.1, p.2) (subst (λ packages. TellsFirst (classifier_refusals packages c.args.id) noted stop) view
+    (told-least group noted stop (refused-stops group stop c.in_err-effective.ensures.refused) c.in_err-effective.ensures.told))
 
 pub add-requires-clause-effective : goal.add-requires-clause-effective
 add-requires-clause-effective c =

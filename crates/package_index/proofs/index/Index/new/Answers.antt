@@ -1,9 +1,8 @@
 use Rattle.std.proofs.Common.{◌≡◌, Err, IfErr, MatchOption, ap, subst, sym, ◌∙◌}
 use Rattle.std.proofs.lemmas.Result.{err_from_is_err_and}
 use Rattle.plain_values.specs.Order.{IsClear, IsFirst}
-use Rattle.noted_refusals.specs.Noted.{Tells, noting}
-use Rattle.package_index.specs.Duplicates.{IsDuplicate}
-use Rattle.package_index.specs.inner.Duplicates.{duplicates, packages_again}
+use Rattle.noted_refusals.specs.inner.Noted.{Tells, noting}
+use Rattle.package_index.specs.Duplicates.{IsDuplicate, duplicates, packages_again}
 use Rattle.plain_values.specs.inner.Stops.{StopsAtFirst}
 use Rattle.package_index.specs.Lookup.{packages_of}
 use Rattle.package_index.proofs.Gathering.{listed-duplicates, noted-duplicates}

@@ -1,9 +1,9 @@
 -- What is noted of a group of refusals.
-use Rattle.std.specs.Prelude.{ℕ, ◌≡◌, List, [], ◌∷◌, ◌++◌, take, Contains, Option, Some, None, ⊤}
+use Rattle.std.specs.Prelude.{ℕ, ◌≡◌, List, [], ◌∷◌, ◌++◌, take, Option, Some, None, ⊤}
 use Rattle.plain_values.specs.declared.refusal.Refusal.{Refusal}
 use Rattle.plain_values.specs.declared.refusal.Stop.{Stop}
 use Rattle.plain_values.specs.declared.refusal.Stop.TheVariants.{Memory, Refused}
-use Rattle.plain_values.specs.Order.{IsFirst, nearer}
+use Rattle.plain_values.specs.Order.{least, nearer}
 
 -- what is noted of a group: its first refusal, and as many of them as there is room for, in the order in which they were noted
 pub record Noted : Type 0 where
@@ -42,11 +42,7 @@ abbrev pub Tells : List Refusal → Noted → Stop → Type 0
 Tells group noted Memory = ⊤
 Tells group noted (Refused refusal) = Lists group noted
 
--- The group has one refusal alone.
-abbrev pub IsAlone : List Refusal → Type 0
-IsAlone group = (refusal : Refusal) × (group ≡ refusal ∷ [])
-
--- The same of such a group.
-abbrev pub TellsOf : (List Refusal → Type 0) → Noted → Stop → Type 0
-TellsOf IsGroup noted Memory = ⊤
-TellsOf IsGroup noted (Refused refusal) = (group : List Refusal) × IsGroup group × IsFirst (Contains group) refusal × Lists group noted
+-- Where a call stops with a refusal, it is the first of this group, and as many of the group are noted as there is room for.
+abbrev pub TellsFirst : List Refusal → Noted → Stop → Type 0
+TellsFirst group noted Memory = ⊤
+TellsFirst group noted (Refused refusal) = (least group ≡ Some refusal) × Lists group noted
