@@ -1,13 +1,16 @@
 //! Words that may ask for a call to be explained.
 
-ghost use Rattle.std.specs.Prelude.{◌≡◌, ◌++◌, ℕ, List as Items, IfOk, Option as Maybe, map};
+ghost use Rattle.std.specs.Prelude.{◌≡◌, ◌<◌, ◌++◌, ℕ, List as Items, IfOk, Option as Maybe, length, map};
+ghost use Rattle.cut_reports.specs.Feeding.{IsKept, RoseAt};
+ghost use Rattle.cut_reports.specs.Places.{AtChosen};
 ghost use Rattle.fta_outside.specs.Outside.{Rose, Took as TookAll, TookPrefix};
 ghost use Rattle.fta_outside.specs.inner.Outside.{Writes};
 ghost use Rattle.system_answers.specs.Voices.{labels, voices_of};
 ghost use Rattle.fta_run.specs.Answers.{Took};
+ghost use Rattle.fta_run.specs.Files.{most_files};
 ghost use Rattle.fta_run.specs.Line.{status_line};
-ghost use Rattle.fta_run.specs.Words.{file_words};
-ghost use Rattle.fta_run.specs.inner.Held.{AreFronts, IsToRead};
+ghost use Rattle.fta_run.specs.Words.{GiveNoRequest, IsRequest, Request as AnyRequest, file_words};
+ghost use Rattle.fta_run.specs.inner.Held.{AreFronts, IsReportCaused, IsToRead};
 ghost use Rattle.fta_words.specs.inner.Explained.{explained_call};
 ghost use Rattle.explained_calls.specs.inner.Calls.{Comes, ComesOf, EndsExplained, Explains, IsExplained, asked_words, call_or};
 ghost use Rattle.explained_calls.specs.inner.Texts.{IsExplanation, TellsMore, line_before};
@@ -39,6 +42,16 @@ pub fn run_explained<F: Files, S: Sink, E: Sink>(
     // The call that is to be explained is; or what `run_read` says comes of the words.
     ensures comes { Comes words.now (F.contents files.old) (F.faults files.old) (F.faults files.new) (voices_of label text reports.old.items) result (S.seen out.old) (S.seen out.new) }
 
+    // The list of reports is kept as by `run`, and a report fails only where the request chooses it and its count rose: the request of the
+    // call that is to be explained, or of the words.
+    ensures reports { (asked : AnyRequest) → IsRequest (labels (voices_of label text reports.old.items)) (asked_words words.now) asked → AtChosen asked.options.chosen (IsKept text label report_faults) reports.old.items reports.new.items }
+    ensures no_reports { GiveNoRequest (labels (voices_of label text reports.old.items)) (asked_words words.now) → reports.new ≡ reports.old }
+    ensures report_fault { IsReportCaused (labels (voices_of label text reports.old.items)) (asked_words words.now) (λ place. RoseAt report_faults place reports.old.items reports.new.items) result }
+
+    // No file is read where there is no such request, or where too many are named.
+    ensures no_files { GiveNoRequest (labels (voices_of label text reports.old.items)) (asked_words words.now) → files.new ≡ files.old }
+    ensures too_many { most_files < length (file_words (asked_words words.now)) → files.new ≡ files.old }
+
     // `err` took exactly the line of the status where its count did not rise, and else at most a front of it.
     ensures line { (Rose (E.seen err.old).faults (E.seen err.new).faults → ⊥) → TookAll (status_line (file_words (asked_words words.now)) (labels (voices_of label text reports.old.items)) result) (E.seen err.old) (E.seen err.new) }
     ensures at_most_the_line { TookPrefix (status_line (file_words (asked_words words.now)) (labels (voices_of label text reports.old.items)) result) (E.seen err.old) (E.seen err.new) }
@@ -65,6 +78,11 @@ fn run_or_explain<F: Files, S: Sink, E: Sink>(
     // Reports that another crate takes in boxes are asked for with a premise; this one always holds.
     requires { Unit {0} }
     ensures comes { ComesOf call.now words.now (F.contents files.old) (F.faults files.old) (F.faults files.new) (voices_of label text reports.old.items) result (S.seen out.old) (S.seen out.new) }
+    ensures reports { (asked : AnyRequest) → IsRequest (labels (voices_of label text reports.old.items)) (call_or call.now words.now) asked → AtChosen asked.options.chosen (IsKept text label report_faults) reports.old.items reports.new.items }
+    ensures no_reports { GiveNoRequest (labels (voices_of label text reports.old.items)) (call_or call.now words.now) → reports.new ≡ reports.old }
+    ensures report_fault { IsReportCaused (labels (voices_of label text reports.old.items)) (call_or call.now words.now) (λ place. RoseAt report_faults place reports.old.items reports.new.items) result }
+    ensures no_files { GiveNoRequest (labels (voices_of label text reports.old.items)) (call_or call.now words.now) → files.new ≡ files.old }
+    ensures too_many { most_files < length (file_words (call_or call.now words.now)) → files.new ≡ files.old }
     ensures line { (Rose (E.seen err.old).faults (E.seen err.new).faults → ⊥) → TookAll (status_line (file_words (call_or call.now words.now)) (labels (voices_of label text reports.old.items)) result) (E.seen err.old) (E.seen err.new) }
     ensures at_most_the_line { TookPrefix (status_line (file_words (call_or call.now words.now)) (labels (voices_of label text reports.old.items)) result) (E.seen err.old) (E.seen err.new) }
 {
@@ -86,6 +104,11 @@ fn explain<F: Files, S: Sink, E: Sink>(
     // Reports that another crate takes in boxes are asked for with a premise; this one always holds.
     requires { Unit {0} }
     ensures told { Explains call.now (F.contents files.old) (F.faults files.old) (F.faults files.new) (voices_of label text reports.old.items) result (S.seen out.old) (S.seen out.new) }
+    ensures reports { (asked : AnyRequest) → IsRequest (labels (voices_of label text reports.old.items)) call.now asked → AtChosen asked.options.chosen (IsKept text label report_faults) reports.old.items reports.new.items }
+    ensures no_reports { GiveNoRequest (labels (voices_of label text reports.old.items)) call.now → reports.new ≡ reports.old }
+    ensures report_fault { IsReportCaused (labels (voices_of label text reports.old.items)) call.now (λ place. RoseAt report_faults place reports.old.items reports.new.items) result }
+    ensures no_files { GiveNoRequest (labels (voices_of label text reports.old.items)) call.now → files.new ≡ files.old }
+    ensures too_many { most_files < length (file_words call.now) → files.new ≡ files.old }
     ensures line { (Rose (E.seen err.old).faults (E.seen err.new).faults → ⊥) → TookAll (status_line (file_words call.now) (labels (voices_of label text reports.old.items)) result) (E.seen err.old) (E.seen err.new) }
     ensures at_most_the_line { TookPrefix (status_line (file_words call.now) (labels (voices_of label text reports.old.items)) result) (E.seen err.old) (E.seen err.new) }
 {
@@ -110,6 +133,9 @@ fn explain_read<S: Sink, E: Sink>(
     // Reports that another crate takes in boxes are asked for with a premise; this one always holds.
     requires { Unit {0} }
     ensures told { (contents : Items ℕ → Maybe (Items ℕ)) → IsToRead (labels (voices_of label text reports.old.items)) call.now read.now.names.now → AreFronts contents read.now.names.now read.now.texts → IsExplained call.now read.now.names.now read.now.texts (voices_of label text reports.old.items) result (S.seen out.old) (S.seen out.new) }
+    ensures reports { (asked : AnyRequest) → IsRequest (labels (voices_of label text reports.old.items)) call.now asked → AtChosen asked.options.chosen (IsKept text label report_faults) reports.old.items reports.new.items }
+    ensures no_reports { GiveNoRequest (labels (voices_of label text reports.old.items)) call.now → reports.new ≡ reports.old }
+    ensures report_fault { IsReportCaused (labels (voices_of label text reports.old.items)) call.now (λ place. RoseAt report_faults place reports.old.items reports.new.items) result }
     ensures line { (Rose (E.seen err.old).faults (E.seen err.new).faults → ⊥) → TookAll (status_line (file_words call.now) (labels (voices_of label text reports.old.items)) result) (E.seen err.old) (E.seen err.new) }
     ensures at_most_the_line { TookPrefix (status_line (file_words call.now) (labels (voices_of label text reports.old.items)) result) (E.seen err.old) (E.seen err.new) }
 {

@@ -1,12 +1,14 @@
 //! What is said of how a call ended.
 
-ghost use Rattle.std.specs.Prelude.{◌≡◌, ◌++◌, [], IfOk, codes, get_or};
+ghost use Rattle.std.specs.Prelude.{◌≡◌, ◌++◌, IfOk, codes};
 ghost use Rattle.fta_words.specs.inner.Shown.{request_shown};
 ghost use Rattle.explained_calls.specs.inner.Texts.{TellsMore, TellsRefusal, code_name, constant_words, place_in, token_of, word_line, word_text};
+ghost use Rattle.explained_calls.specs.inner.Unplaced.{places_text};
 ghost use Rattle.help_texts.specs.Texts.{explain_text};
 ghost use Rattle.help_texts.specs.inner.Usage.{usage_text};
 
-use crate::near::{near_word, token_of, word_at};
+use crate::near::{near_word, text_at, token_of, word_at};
+use crate::unplaced::push_places;
 use event_lines::file_word;
 use fta_run::{ReadFiles, Status};
 use fta_words::{Options, Request};
@@ -37,9 +39,10 @@ pub(crate) fn more_of(
 
 /// What is said of words that give no request.
 fn usage_of(alloc: Global, call: &[Word]) -> Mem<Vec<u8>>
-    ensures { IfOk result (λ text. text.items ≡ usage_text call.now) }
+    ensures { IfOk result (λ text. text.items ≡ places_text call.now ++ usage_text call.now) }
 {
     let mut text = Vec::new(alloc);
+    push_places(alloc, &mut text, call)?;
     push_usage(alloc, &mut text, call)?;
     Ok(text)
 }
@@ -119,16 +122,6 @@ fn place_in(
             text_at(texts, file),
             at,
         ),
-    }
-}
-
-/// The text of a number.
-fn text_at(texts: &[Name], number: u32) -> &[u8]
-    ensures { result.now ≡ get_or texts.now number [] }
-{
-    match texts.get(number as usize) {
-        Some(text) => text.items(),
-        None => &[],
     }
 }
 

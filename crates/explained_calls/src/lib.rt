@@ -4,6 +4,8 @@
 mod call;
 mod closed;
 mod explanation;
+mod named;
 mod near;
+mod unplaced;
 
 pub use call::run_explained;

@@ -1,14 +1,15 @@
 //! The nearest names to a word of a call.
 
-ghost use Rattle.std.specs.Prelude.{◌≡◌, ◌++◌, ◌∷◌, [], IfOk, OnOk, drop, map, slice_index_or, unwrap_or};
+ghost use Rattle.std.specs.Prelude.{◌≡◌, ◌++◌, ◌∷◌, [], IfOk, OnOk, codes, drop, get_or, map, slice_index_or, unwrap_or};
 ghost use Rattle.std.specs.List.{flat_map};
-ghost use Rattle.package_index.specs.Lookup.{package_of, packages_of};
+ghost use Rattle.package_index.specs.Lookup.{package_of};
 ghost use Rattle.page_tokens.specs.Keys.{dotted, joined};
 ghost use Rattle.near_names.specs.inner.Near.{near_text};
 ghost use Rattle.fta_words.specs.inner.Shown.{request_shown};
 ghost use Rattle.fta_run.specs.inner.Read.{model_read, units_read};
-ghost use Rattle.explained_calls.specs.inner.Texts.{IsNear, IsNearOf, IsToldOf, classifier_name, classifier_names, model_texts, near_events, near_facts, near_roots, token_of};
+ghost use Rattle.explained_calls.specs.inner.Texts.{IsNear, IsNearAt, IsNearOf, IsToldOf, classifier_name, classifier_names, model_texts, name_at, names_in, near_events, near_facts, near_roots, package_before, token_of};
 
+use crate::named::{name_at, near_name};
 use aadl_syntax::{Decl, Identifier, PackageUnit, Unit};
 use fault_system::{EventInfo, FactInfo};
 use fta_run::{Status, model_read, units_read};
@@ -18,7 +19,8 @@ use near_names::push_near;
 use plain_values::{Code, List, Mem, Name, Place, Refusal, Word, fold};
 use std::alloc::{AllocError, Global};
 
-/// The lines of the names that are nearest to the word of a call that a refusal is about; none where its place is no word.
+/// The lines of the names that are nearest to what a refusal is about: a word of the call, or a name in a text; none where its place is a
+/// whole file.
 pub(crate) fn near_word(
     alloc: Global,
     call: &[Word],
@@ -31,7 +33,32 @@ pub(crate) fn near_word(
     match refusal.place {
         Place::Words => near_of(alloc, call, asked, texts, refusal.code),
         Place::Whole(_) => Ok(Vec::new(alloc)),
-        Place::At { .. } => Ok(Vec::new(alloc)),
+        Place::At { file, at } => near_at(alloc, asked.kind, texts, refusal.code, file, at),
+    }
+}
+
+/// The lines of the names that are nearest to the name at a byte of a file, where a refusal of this code is.
+fn near_at(
+    alloc: Global,
+    kind: Kind,
+    texts: &[Name],
+    code: Code,
+    file: u32,
+    at: u32,
+) -> Mem<Vec<u8>>
+    ensures { IfOk result (λ near. IsNearAt kind texts.now code file (name_at (get_or texts.now file []) at) near.items) }
+{
+    let name = name_at(alloc, text_at(texts, file), at)?;
+    near_name(alloc, kind, texts, code, file, name.items())
+}
+
+/// The text of a number.
+pub(crate) fn text_at(texts: &[Name], number: u32) -> &[u8]
+    ensures { result.now ≡ get_or texts.now number [] }
+{
+    match texts.get(number as usize) {
+        Some(text) => text.items(),
+        None => &[],
     }
 }
 
@@ -56,7 +83,7 @@ fn near_of(
 }
 
 /// The texts of the model, among those of the files.
-fn model_texts(kind: Kind, texts: &[Name]) -> &[Name]
+pub(crate) fn model_texts(kind: Kind, texts: &[Name]) -> &[Name]
     ensures { result.now ≡ model_texts kind texts.now }
 {
     match kind {
@@ -145,7 +172,7 @@ fn near_events(alloc: Global, word: &[u8], model: &FlatModel) -> Mem<Vec<u8>>
 }
 
 /// The lines of those of some names that are nearest to a word.
-fn near_among(alloc: Global, word: &[u8], names: &[&[u8]]) -> Mem<Vec<u8>>
+pub(crate) fn near_among(alloc: Global, word: &[u8], names: &[&[u8]]) -> Mem<Vec<u8>>
     ensures { IfOk result (λ near. near.items ≡ near_text [] word.now (map (λ name. name.now) names.now)) }
 {
     let mut near = Vec::new(alloc);
@@ -180,7 +207,7 @@ fn near_roots(alloc: Global, call: &[Word], files: &[List<Unit>]) -> Mem<Vec<u8>
     ensures { IfOk result (λ near. near.items ≡ near_roots call.now files.now) }
 {
     let word = fold(alloc, word_at(call, 1))?;
-    let names = classifiers_in(alloc, files)?;
+    let names = classifiers_in(alloc, true, files)?;
     let slices = slices_of(alloc, names.items())?;
     near_among(alloc, word.items(), slices.as_slice())
 }
@@ -196,7 +223,7 @@ pub(crate) fn word_at(call: &[Word], place: usize) -> &[u8]
 }
 
 /// Some names as slices.
-fn slices_of<'n>(alloc: Global, names: &'n [Name]) -> Mem<Vec<&'n [u8]>>
+pub(crate) fn slices_of<'n>(alloc: Global, names: &'n [Name]) -> Mem<Vec<&'n [u8]>>
     ensures { IfOk result (λ slices. map (λ slice. slice.now) slices.items ≡ names.now) }
 {
     let mut slices = Vec::new(alloc);
@@ -206,60 +233,92 @@ fn slices_of<'n>(alloc: Global, names: &'n [Name]) -> Mem<Vec<&'n [u8]>>
     Ok(slices)
 }
 
-/// The names of the classifiers in some files.
-fn classifiers_in(alloc: Global, files: &[List<Unit>]) -> Mem<List<Name>>
-    ensures { IfOk result (λ names. names ≡ flat_map classifier_names (packages_of files.now)) }
+/// The names of the classifiers in some files, with their packages or without.
+pub(crate) fn classifiers_in(alloc: Global, packaged: bool, files: &[List<Unit>]) -> Mem<List<Name>>
+    ensures { IfOk result (λ names. names ≡ names_in packaged files.now) }
 {
     let mut names = List::new(alloc);
     for units in files {
-        add_units(alloc, &mut names, units.items())?;
+        add_units(alloc, &mut names, packaged, units.items())?;
     }
     Ok(names)
 }
 
 /// Adds the names of the classifiers in some units.
-fn add_units(alloc: Global, names: &mut List<Name>, units: &[Unit]) -> Mem<()>
-    ensures { OnOk result (names.new ≡ names.old ++ flat_map classifier_names (flat_map package_of units.now)) }
+fn add_units(alloc: Global, names: &mut List<Name>, packaged: bool, units: &[Unit]) -> Mem<()>
+    ensures { OnOk result (names.new ≡ names.old ++ flat_map (classifier_names packaged) (flat_map package_of units.now)) }
 {
     for unit in units {
-        add_unit(alloc, names, unit)?;
+        add_unit(alloc, names, packaged, unit)?;
     }
     Ok(())
 }
 
 /// Adds the names of the classifiers in a unit.
-fn add_unit(alloc: Global, names: &mut List<Name>, unit: &Unit) -> Mem<()>
-    ensures { OnOk result (names.new ≡ names.old ++ flat_map classifier_names (package_of unit.now)) }
+fn add_unit(alloc: Global, names: &mut List<Name>, packaged: bool, unit: &Unit) -> Mem<()>
+    ensures { OnOk result (names.new ≡ names.old ++ flat_map (classifier_names packaged) (package_of unit.now)) }
 {
     match unit {
-        Unit::Package(holder) => add_classifiers(alloc, names, holder),
+        Unit::Package(holder) => add_classifiers(alloc, names, packaged, holder),
         Unit::PropertySet(_, _) => Ok(()),
     }
 }
 
 /// Adds the names of the classifiers of a package.
-fn add_classifiers(alloc: Global, names: &mut List<Name>, holder: &PackageUnit) -> Mem<()>
-    ensures { OnOk result (names.new ≡ names.old ++ classifier_names holder.now) }
+fn add_classifiers(
+    alloc: Global,
+    names: &mut List<Name>,
+    packaged: bool,
+    holder: &PackageUnit,
+) -> Mem<()>
+    ensures { OnOk result (names.new ≡ names.old ++ classifier_names packaged holder.now) }
 {
     for decl in holder.decls.items() {
-        names.push(classifier_name(alloc, holder, decl)?)?;
+        names.push(classifier_name(alloc, packaged, holder, decl)?)?;
     }
     Ok(())
 }
 
-/// The name of a classifier of a package, as a root is written.
-fn classifier_name(alloc: Global, holder: &PackageUnit, decl: &Decl) -> Mem<Name>
-    ensures { IfOk result (λ name. name ≡ classifier_name holder.now decl.now) }
+/// The name of a classifier of a package: as a root is written, or without its package.
+fn classifier_name(alloc: Global, packaged: bool, holder: &PackageUnit, decl: &Decl) -> Mem<Name>
+    ensures { IfOk result (λ name. name ≡ classifier_name packaged holder.now decl.now) }
 {
     let mut text = Vec::new(alloc);
-    push_names(&mut text, holder.name.items())?;
-    push_name(&mut text, &decl.name)?;
-    push_item(&mut text, &decl.item)?;
+    push_package(&mut text, packaged, holder)?;
+    push_decl(&mut text, decl)?;
     List::of(text)
 }
 
+/// Adds the name of a package before that of a classifier, if it is asked for.
+fn push_package(text: &mut Vec<u8>, packaged: bool, holder: &PackageUnit) -> Mem<()>
+    ensures { OnOk result (text.new.items ≡ text.old.items ++ package_before packaged holder.now) }
+{
+    if packaged {
+        push_before(text, holder)
+    } else {
+        Ok(())
+    }
+}
+
+/// Adds the name of a package and `::`.
+fn push_before(text: &mut Vec<u8>, holder: &PackageUnit) -> Mem<()>
+    ensures { OnOk result (text.new.items ≡ text.old.items ++ (joined holder.now.name ++ codes "::")) }
+{
+    push_names(text, holder.name.items())?;
+    text.extend_from_slice(b"::")?;
+    Ok(())
+}
+
+/// Adds the name of a classifier in its package.
+fn push_decl(text: &mut Vec<u8>, decl: &Decl) -> Mem<()>
+    ensures { OnOk result (text.new.items ≡ text.old.items ++ (decl.now.name ++ dotted decl.now.item)) }
+{
+    text.extend_from_slice(decl.name.text())?;
+    push_item(text, &decl.item)
+}
+
 /// Adds names with `::` between them.
-fn push_names(text: &mut Vec<u8>, names: &[Identifier]) -> Mem<()>
+pub(crate) fn push_names(text: &mut Vec<u8>, names: &[Identifier]) -> Mem<()>
     ensures { OnOk result (text.new.items ≡ text.old.items ++ joined names.now) }
 {
     let Some((name, others)) = names.split_first() else {

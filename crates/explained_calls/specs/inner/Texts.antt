@@ -1,7 +1,8 @@
 -- What `explain` writes of a call, by the status with which the call ends.
-use Rattle.std.specs.Prelude.{◌≡◌, ◌⊎◌, ℕ, Bool, true, false, List, [], ◌∷◌, ◌++◌, drop, map, codes, get_or, unwrap_or, slice_index_or}
-use Rattle.std.specs.List.{flat_map}
-use Rattle.plain_values.specs.Name.{folded}
+use Rattle.std.specs.Prelude.{◌≡◌, ◌⊎◌, ℕ, Bool, true, false, ◌||◌, ◌==◌, if◌then◌else◌, List, [], ◌∷◌, ◌++◌, drop, map, codes, get_or, take, unwrap_or, slice_index_or}
+use Rattle.std.specs.List.{before_last, flat_map, list_any, take_while}
+use Rattle.std.specs.Io.BufRead.{strip_last}
+use Rattle.plain_values.specs.Name.{folded, is_same_text}
 use Rattle.plain_values.specs.Refusal.{code_text}
 use Rattle.plain_values.specs.declared.name.Root.{Root}
 use Rattle.plain_values.specs.declared.refusal.Code.{Code}
@@ -9,6 +10,7 @@ use Rattle.plain_values.specs.declared.refusal.Code.TheVariants.{BadToken, NotCu
 use Rattle.plain_values.specs.declared.refusal.Place.{Place}
 use Rattle.plain_values.specs.declared.refusal.Place.TheVariants.{At, Whole, Words}
 use Rattle.plain_values.specs.declared.refusal.Refusal.{Refusal}
+use Rattle.aadl_syntax.specs.Form.{is_letter_or_digit}
 use Rattle.aadl_syntax.specs.declared.core_model.Decl.{Decl}
 use Rattle.aadl_syntax.specs.declared.core_model.PackageUnit.{PackageUnit}
 use Rattle.aadl_syntax.specs.declared.core_model.Unit.{Unit as FileUnit}
@@ -29,6 +31,7 @@ use Rattle.model_phases.specs.declared.flat.FlatModel.{FlatModel}
 use Rattle.fta_run.specs.Line.{status_line}
 use Rattle.fta_run.specs.Words.{IsRequest, Request}
 use Rattle.fta_run.specs.inner.Read.{model_read, units_read}
+use Rattle.explained_calls.specs.inner.Unplaced.{has_sign, places_text}
 
 -- ---- the word that a refusal is about
 
@@ -62,17 +65,26 @@ abbrev pub model_texts : Kind → List (List ℕ) → List (List ℕ)
 model_texts kind.Confirm texts = drop 1 texts
 model_texts _ texts = texts
 
--- the name of a classifier, as a root is written
-abbrev pub classifier_name : PackageUnit → Decl → List ℕ
-classifier_name unit decl = joined unit.name ++ (58 ∷ 58 ∷ decl.name) ++ dotted decl.item
+-- the name of a package before that of a classifier, if it is asked for
+abbrev pub package_before : Bool → PackageUnit → List ℕ
+package_before true unit = joined unit.name ++ codes "::"
+package_before false unit = []
+
+-- the name of a classifier: as a root is written, or without its package
+abbrev pub classifier_name : Bool → PackageUnit → Decl → List ℕ
+classifier_name packaged unit decl = package_before packaged unit ++ (decl.name ++ dotted decl.item)
 
 -- the names of the classifiers of a package
-abbrev pub classifier_names : PackageUnit → List (List ℕ)
-classifier_names unit = map (classifier_name unit) unit.decls
+abbrev pub classifier_names : Bool → PackageUnit → List (List ℕ)
+classifier_names packaged unit = map (classifier_name packaged unit) unit.decls
+
+-- the names of the classifiers of some files
+abbrev pub names_in : Bool → List (List FileUnit) → List (List ℕ)
+names_in packaged files = flat_map (classifier_names packaged) (packages_of files)
 
 -- the classifiers that are nearest to the root of a call, among those of some files
 abbrev pub near_roots : List (List ℕ) → List (List FileUnit) → List ℕ
-near_roots call files = near_text [] (folded (slice_index_or call 1 [])) (flat_map classifier_names (packages_of files))
+near_roots call files = near_text [] (folded (slice_index_or call 1 [])) (names_in true files)
 
 -- the facts that are nearest to a target, and the events that are nearest to a text
 abbrev pub near_facts : List ℕ → FlatModel → List ℕ
@@ -80,6 +92,56 @@ near_facts target model = near_text [] target (map (λ fact. fact.name) model.sy
 
 abbrev pub near_events : List ℕ → FlatModel → List ℕ
 near_events text model = near_text [] text (map (λ event. event.name) model.system.events)
+
+-- ---- the name at a byte
+
+-- whether a byte may stand in a name that has a package before it and an item behind it: a letter, a digit, `_`, `:` or `.`
+abbrev pub is_name_byte : ℕ → Bool
+is_name_byte byte = is_letter_or_digit byte || (byte == 95 || (byte == 58 || byte == 46))
+
+-- the name that stands at a byte of a text, in lower case: all that may stand in one, up to the first byte that may not
+abbrev pub name_at : List ℕ → ℕ → List ℕ
+name_at text at = folded (take_while is_name_byte (drop at text))
+
+-- whether a name has a package before it
+abbrev pub is_packaged : List ℕ → Bool
+is_packaged name = has_sign 58 name
+
+-- what stands before the last `::` of a name; nothing where it has none
+abbrev pub package_part : List ℕ → List ℕ
+package_part name = strip_last 58 (before_last (λ byte. byte == 58) name)
+
+-- the one text, or the other where it is empty
+abbrev pub or_text : List ℕ → List ℕ → List ℕ
+or_text [] other = other
+or_text (byte ∷ text) other = byte ∷ text
+
+-- the names of packages
+abbrev pub package_names : List (List FileUnit) → List (List ℕ)
+package_names files = map (λ unit. joined unit.name) (packages_of files)
+
+-- the nearest of some names to a name; or else those that are nearest to what stands before its last `::`
+abbrev pub near_either : List ℕ → List (List ℕ) → List ℕ
+near_either name names = or_text (near_text [] name names) (near_text [] (package_part name) names)
+
+-- the packages of some files that are so
+abbrev pub near_packages : List ℕ → List (List FileUnit) → List ℕ
+near_packages name files = near_either name (package_names files)
+
+-- the nearest of some names that do not have this one
+abbrev pub near_others : List ℕ → List (List ℕ) → List ℕ
+near_others name names = if list_any (λ other. is_same_text other name) names then [] else near_text [] name names
+
+-- the classifiers of some files that are nearest to a name, where none of them has it
+abbrev pub near_classifiers : List ℕ → List (List FileUnit) → List ℕ
+near_classifiers name files = near_others name (names_in (is_packaged name) files)
+
+-- the texts in which a classifier of a name is looked for that stands in the file of a number: all of the model where it has a package
+-- before it, and else that file
+abbrev pub texts_for : Kind → List (List ℕ) → ℕ → List ℕ → List (List ℕ)
+texts_for kind texts file name = if is_packaged name then model_texts kind texts else take 1 (drop file texts)
+
+-- ---- what is told of them
 
 -- The text is what is told of a value that passes a phase, or empty where the phase stops.
 abbrev pub IsToldOf : {A : Type 0} → Phase A → (A → List ℕ) → List ℕ → Type 0
@@ -93,11 +155,17 @@ IsNearOf call asked texts UnknownTarget near = IsToldOf (model_read asked.root (
 IsNearOf call asked texts BadToken near = IsToldOf (model_read asked.root (model_texts asked.kind texts)) (near_events (token_of asked.options)) near
 IsNearOf call asked texts _ near = near ≡ []
 
--- The same of a refusal: names are told where its place is the words.
+-- The same of a refusal at a byte of a file, where this name stands.
+abbrev pub IsNearAt : Kind → List (List ℕ) → Code → ℕ → List ℕ → List ℕ → Type 0
+IsNearAt kind texts UnknownPackage file name near = IsToldOf (units_read (model_texts kind texts)) (near_packages name) near
+IsNearAt kind texts UnknownClassifier file name near = IsToldOf (units_read (texts_for kind texts file name)) (near_classifiers name) near
+IsNearAt kind texts _ file name near = near ≡ []
+
+-- The same of a refusal of a place.
 abbrev pub IsNear : List (List ℕ) → Request → List (List ℕ) → Code → Place → List ℕ → Type 0
 IsNear call asked texts code Words near = IsNearOf call asked texts code near
 IsNear call asked texts code (Whole file) near = near ≡ []
-IsNear call asked texts code (At file at) near = near ≡ []
+IsNear call asked texts code (At file at) near = IsNearAt asked.kind texts code file (name_at (get_or texts file []) at) near
 
 -- ---- the text
 
@@ -120,7 +188,7 @@ constant_words false = codes "\nThe target does not hold even under all events: 
 
 -- The text says why a call ended so: what stands behind the line of the status.
 abbrev pub TellsMore : List (List ℕ) → List (List ℕ) → List (List ℕ) → List (List ℕ) → Status → List ℕ → Type 0
-TellsMore names call files texts Usage text = text ≡ usage_text call
+TellsMore names call files texts Usage text = text ≡ places_text call ++ usage_text call
 TellsMore names call files texts (Refused refusal) text = TellsRefusal names call files texts refusal text
 TellsMore names call files texts (Constant always) text = text ≡ constant_words always
 TellsMore names call files texts (StaleToken token input) text = text ≡ codes "\n" ++ explain_text (codes "k2")

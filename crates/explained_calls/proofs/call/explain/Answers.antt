@@ -1,8 +1,11 @@
 use Rattle.std.proofs.Common.{◌≡◌, List, ℕ, map, refl, sym, subst, inl, inr}
-use Rattle.system_answers.proofs.Reported.{labels_are}
+use Rattle.system_answers.specs.Voices.{labels, voices_of}
+use Rattle.system_answers.proofs.Reported.{all_kept, labels_are}
+use Rattle.cut_reports.specs.Feeding.{RoseAt}
 use Rattle.fta_outside.specs.Outside.{Took, TookPrefix}
 use Rattle.fta_run.specs.Line.{status_line}
 use Rattle.fta_run.specs.Words.{file_words}
+use Rattle.fta_run.proofs.Read.{none_failed}
 use Rattle.explained_calls.proofs.call.explain.Goals as goal
 
 pub returns-in-Ok-clause-told : goal.returns-in-Ok-clause-told
@@ -21,3 +24,12 @@ pub returns-in-Err-clause-at_most_the_line : goal.returns-in-Err-clause-at_most_
 returns-in-Err-clause-at_most_the_line g c =
     let names = sym (labels_are (λ b. (goal.Report-dyn g (b.vtable, b.value)).label b.value) (λ b. (goal.Report-dyn g (b.vtable, b.value)).text b.value) c.args.reports.now.items) in
     subst (λ (its : List (List ℕ)). TookPrefix (status_line (file_words c.args.call.now) its c.in-Err.status) (g.E.Sink.seen c.args.err.now) (g.E.Sink.seen c.write_status.new.err)) names c.write_status.ensures.at_most_the_line
+
+pub returns-in-Err-clause-reports : goal.returns-in-Err-clause-reports
+returns-in-Err-clause-reports g c = λ asked is. all_kept (λ b. (goal.Report-dyn g (b.vtable, b.value)).text b.value) (λ b. (goal.Report-dyn g (b.vtable, b.value)).label b.value) (λ b. (goal.Report-dyn g (b.vtable, b.value)).report_faults b.value) _ c.args.reports.now.items
+
+pub returns-in-Err-clause-report_fault : goal.returns-in-Err-clause-report_fault
+returns-in-Err-clause-report_fault g c =
+    none_failed (labels (voices_of (λ b. (goal.Report-dyn g (b.vtable, b.value)).label b.value) (λ b. (goal.Report-dyn g (b.vtable, b.value)).text b.value) c.args.reports.now.items)) c.args.call.now
+    (λ place. RoseAt (λ b. (goal.Report-dyn g (b.vtable, b.value)).report_faults b.value) place c.args.reports.now.items c.args.reports.now.items) (file_words c.args.call.now) (g.F.Files.faults c.args.files.now) (g.F.Files.faults c.read_first.new.files)
+    c.in-Err.status c.in-Err.ensures.fault

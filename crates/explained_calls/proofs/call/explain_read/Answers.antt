@@ -6,6 +6,7 @@ use Rattle.fta_run.specs.Answers.{Took}
 use Rattle.fta_run.specs.Line.{status_line}
 use Rattle.fta_run.specs.Words.{file_words}
 use Rattle.explained_calls.specs.inner.Texts.{IsExplanation}
+use Rattle.explained_calls.proofs.Choices.{report_failed}
 use Rattle.explained_calls.proofs.call.explain_read.Goals as goal
 
 pub returns-clause-told : goal.returns-clause-told
@@ -27,3 +28,7 @@ pub returns-clause-at_most_the_line : goal.returns-clause-at_most_the_line
 returns-clause-at_most_the_line g c =
     let names = c.run_held-its_end.ensures.names ∙ sym (labels_are (λ b. (goal.Report-dyn g (b.vtable, b.value)).label b.value) (λ b. (goal.Report-dyn g (b.vtable, b.value)).text b.value) c.args.reports.now.items) in
     subst (λ (its : List (List ℕ)). TookPrefix (status_line (file_words c.args.call.now) its c.tell-status.result) (g.E.Sink.seen c.args.err.now) (g.E.Sink.seen c.write_status.new.err)) names c.write_status.ensures.at_most_the_line
+
+pub returns-clause-report_fault : goal.returns-clause-report_fault
+returns-clause-report_fault g c =
+    report_failed _ c.args.call.now _ c.run_held-its_end.result c.tell-status.result (g.S.Sink.seen c.args.out.now) (g.S.Sink.seen c.tell-status.new.out) c.tell-status.ensures.ends c.run_held-its_end.ensures.report_fault

@@ -5,4 +5,4 @@ use Rattle.explained_calls.specs.inner.Texts.{classifier_names}
 use Rattle.explained_calls.proofs.near.add_units.Given as goal
 
 abbrev pub invariant-loop-unit : goal.invariant-loop-unit
-invariant-loop-unit l = l.names ≡ l.initial.names ++ flat_map classifier_names (flat_map package_of (take l.unit-index l.units))
+invariant-loop-unit l = l.names ≡ l.initial.names ++ flat_map (classifier_names l.packaged) (flat_map package_of (take l.unit-index l.units))
