@@ -13,7 +13,7 @@ _aadl_fta_names() {
 }
 
 _aadl_fta() {
-  local commands='check cuts tree fmea report make galileo paths why confirm targets events review place manifest refusals explain help version'
+  local commands='check cuts tree fmea report make galileo paths why confirm targets events review place manifest refusals probability explain help version'
   local cur prev words cword options='' files_from=0
   # A colon and an equals sign end a word for bash. bash-completion joins what they part; without it a root counts as several words.
   if declare -F _get_comp_words_by_ref >/dev/null; then
@@ -77,7 +77,7 @@ _aadl_fta() {
       _aadl_fta_names "$cur" '1 2'
       return
       ;;
-    --limit | --after | --max-order | --set) return ;;
+    --limit | --after | --max-order | --set | --hours) return ;;
   esac
   # The options of the command, and the number of its first word that is a file.
   case ${words[1]} in
@@ -91,6 +91,7 @@ _aadl_fta() {
     paths) options='--limit --after --max-order' files_from=4 ;;
     why | confirm) options='--set' files_from=4 ;;
     place) [ "$cword" -eq 2 ] && files_from=2 ;;
+    probability) options='--hours --events' files_from=4 ;;
     help)
       [ "$cword" -eq 2 ] && COMPREPLY=($(compgen -W "$commands" -- "$cur"))
       return

@@ -217,6 +217,7 @@ text_decided kind.Review voices asked texts short keeps = (made_decided review_p
 text_decided kind.Place voices asked texts short keeps = tt
 text_decided kind.Manifest voices asked texts short keeps = (texts_model_decided asked.root texts, λ model at. tt)
 text_decided kind.Refusals voices asked texts short keeps = absurd keeps
+text_decided kind.Probability voices asked texts short keeps = absurd keeps
 text_decided kind.Help voices asked texts short keeps = tt
 text_decided kind.Explain voices asked texts short keeps = tt
 text_decided kind.Version voices asked texts short keeps = tt
@@ -240,6 +241,13 @@ text_opened kind.Review voices asked texts short = decided_opened (text_for kind
 text_opened kind.Place voices asked texts short = decided_opened (text_for kind.Place voices asked texts) (text_decided kind.Place voices asked texts short tt)
 text_opened kind.Manifest voices asked texts short = decided_opened (text_for kind.Manifest voices asked texts) (text_decided kind.Manifest voices asked texts short tt)
 text_opened kind.Refusals voices asked texts short = (λ text status tells none. none, λ a b none. absurd none)
+text_opened kind.Probability voices asked texts short = (
+  texts_model_decided asked.root texts,
+  λ model at. (
+    target_decided IsSameStatus itself asked.target model.system,
+    λ number named. (slice_decided IsSameStatus itself number model.system, λ slice served. ((λ text status tells none. none), λ a b none other. absurd none)),
+  ),
+)
 text_opened kind.Help voices asked texts short = decided_opened (text_for kind.Help voices asked texts) (text_decided kind.Help voices asked texts short tt)
 text_opened kind.Explain voices asked texts short = decided_opened (text_for kind.Explain voices asked texts) (text_decided kind.Explain voices asked texts short tt)
 text_opened kind.Version voices asked texts short = decided_opened (text_for kind.Version voices asked texts) (text_decided kind.Version voices asked texts short tt)

@@ -33,7 +33,7 @@ use Rattle.system_answers.specs.Targets.{LacksStart, LacksTarget}
 use Rattle.galileo_reader.specs.TreeSystems.{system_of, target_of as top_of_tree}
 use Rattle.system_answers.specs.Galileo.{LacksNamedTree}
 use Rattle.system_answers.specs.Derivations.{IsNotGood, LacksSteps, LacksWhy, confirm_text, why_text}
-use Rattle.system_answers.specs.Texts.{begin_of, cuts_text, drawn_form, formed_tree, galileo_paths_text, galileo_text, paths_text, rates_of, report_text, tree_text}
+use Rattle.system_answers.specs.Texts.{begin_of, cuts_text, drawn_form, formed_tree, galileo_paths_text, galileo_text, paths_text, probability_text, rates_of, report_text, tree_text}
 use Rattle.path_sets.specs.Duals.{dual_of}
 use Rattle.page_tokens.specs.Forms.{IsMalformed}
 use Rattle.page_tokens.specs.Keys.{asked_digits}
@@ -104,6 +104,12 @@ report_stop : (target chosen : List ℕ) (max_order : Option ℕ) (voices : List
 report_stop target chosen max_order voices system = (
   refusal_is (IsFirst (LacksTarget system target)),
   λ number named. (refusal_is (HasLargeSlice system number), λ slice served. ((λ s none. absurd none), λ sets are. tt)),
+)
+
+probability_stop : (target : List ℕ) (hours : Option (List ℕ)) (asked : Bool) (system : System) (rates : List Rate) → StopsOnly IsARefusal (probability_text target hours asked system rates)
+probability_stop target hours asked system rates = (
+  refusal_is (IsFirst (LacksTarget system target)),
+  λ number named. (refusal_is (HasLargeSlice system number), λ slice served status none. absurd none),
 )
 
 galileo_stop : (wide : Bool) (limit max_order : Option ℕ) (text : List ℕ) → StopsOnly IsARefusal (galileo_text wide limit max_order text)
@@ -230,6 +236,12 @@ text_stops kind.Review voices asked texts = (refusals (made_of_texts review_phas
 text_stops kind.Place voices asked texts = tt
 text_stops kind.Manifest voices asked texts = (refusals (model_of_texts asked.root texts) (texts_model_stops asked.root texts), λ model at. tt)
 text_stops kind.Refusals voices asked texts = λ status none. absurd none
+text_stops kind.Probability voices asked texts = (
+  refusals (model_of_texts asked.root texts) (texts_model_stops asked.root texts),
+  λ model at.
+      refusals (probability_text asked.target asked.options.hours (is_set asked.options (codes "events")) model.system model.rates)
+      (probability_stop asked.target asked.options.hours (is_set asked.options (codes "events")) model.system model.rates),
+)
 text_stops kind.Help voices asked texts = tt
 text_stops kind.Explain voices asked texts = tt
 text_stops kind.Version voices asked texts = tt

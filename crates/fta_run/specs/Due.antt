@@ -34,7 +34,7 @@ use Rattle.fta_run.specs.Files.{MayContain, NamesTooMany, HasTooLong, HasTooMuch
 use Rattle.fta_run.specs.Model.{HasDuplicate, root_named}
 use Rattle.fta_run.specs.Text.{numbers_text}
 use Rattle.system_answers.specs.Derivations.{confirm_text, why_text}
-use Rattle.system_answers.specs.Texts.{cuts_text, drawn_text, galileo_paths_text, galileo_text, paths_text, report_text, slice_of, target_of, tree_text}
+use Rattle.system_answers.specs.Texts.{cuts_text, drawn_text, galileo_paths_text, galileo_text, paths_text, probability_text, report_text, slice_of, target_of, tree_text}
 use Rattle.system_answers.specs.Voices.{Voice, labels}
 
 -- these texts, where none is too long, and they are not too long together
@@ -212,6 +212,11 @@ review_in root texts = do
   reviewed ← made_of_texts review_phase root texts
   yields reviewed.text
 
+abbrev pub probability_in : Root → List ℕ → Option (List ℕ) → Bool → List (List ℕ) → Phase (List ℕ)
+probability_in root target hours asked texts = do
+  model ← model_of_texts root texts
+  probability_text target hours asked model.system model.rates
+
 -- the line of a root
 abbrev pub root_line : Root → List ℕ
 root_line root = codes "root " ++ (root_text root ++ codes "\n")
@@ -248,6 +253,7 @@ text_for kind.Review voices asked texts = review_in asked.root texts
 text_for kind.Place voices asked texts = place_in asked.files asked.number texts
 text_for kind.Manifest voices asked texts = manifest_in asked.root asked.files texts
 text_for kind.Refusals voices asked texts = refusals_in asked.root asked.files texts
+text_for kind.Probability voices asked texts = probability_in asked.root asked.target asked.options.hours (is_set asked.options (codes "events")) texts
 text_for kind.Explain voices asked texts = yields (explain_text asked.target)
 text_for kind.Help voices asked texts = yields (help_text asked.of)
 text_for kind.Version voices asked texts = yields version_text

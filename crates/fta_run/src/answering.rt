@@ -12,7 +12,7 @@ ghost use Rattle.model_phases.specs.Named.{IsPlainModel};
 ghost use Rattle.system_answers.specs.inner.Ends.{EndsReports};
 ghost use Rattle.system_answers.specs.Voices.{voices_of};
 ghost use Rattle.fta_run.specs.Answers.{is_by_lines};
-ghost use Rattle.fta_run.specs.Due.{check_in, cuts_in, events_in, first_name, first_text, fmea_in, galileo_in, made_of_texts, manifest_in, model_of_texts, paths_in, place_in, refusals_in, report_in, review_in, sets_of_tree, targets_in, text_for, tree_in, why_in};
+ghost use Rattle.fta_run.specs.Due.{check_in, cuts_in, events_in, first_name, first_text, fmea_in, galileo_in, made_of_texts, manifest_in, model_of_texts, paths_in, place_in, probability_in, refusals_in, report_in, review_in, sets_of_tree, targets_in, text_for, tree_in, why_in};
 ghost use Rattle.fta_run.specs.Forms.{drawn_words, is_drawn, picture_legend};
 ghost use Rattle.fta_run.specs.inner.Ready.{IsByLines, held_text, ready_text};
 ghost use Rattle.system_answers.specs.Texts.{drawn_text};
@@ -87,6 +87,14 @@ pub fn answer_in(
         Kind::Place => ready_of(place(alloc, asked.files, asked.number, texts)),
         Kind::Manifest => ready_of(manifest(alloc, root, asked.files, texts)),
         Kind::Refusals => ready_of(refusals(alloc, root, asked.files, texts)),
+        Kind::Probability => ready_of(probability(
+            alloc,
+            root,
+            target,
+            &options.hours,
+            options.is_set(b"events"),
+            texts,
+        )),
         Kind::Explain => Ok(Ready::Held(explain(target))),
         Kind::Help => ready_of(help(alloc, asked.of)),
         Kind::Version => Ok(Ready::Held(Held::Fixed(version_text()))),
@@ -307,6 +315,24 @@ fn refusals(alloc: Global, root: &Root, names: &[Word], texts: Texts) -> Result<
     ensures { MeetsBut IsMemory held_text (refusals_in root.now names.now texts) result }
 {
     let text = refusals_text(alloc, root, names, texts.items())?;
+    Ok(Held::Text(text))
+}
+
+/// How probable a target is at least and at most in the model of a root, in so many hours, if they are given; with the importance of
+/// each event, where it is asked for.
+fn probability(
+    alloc: Global,
+    root: &Root,
+    target: &Name,
+    hours: &Option<Name>,
+    asked: bool,
+    texts: Texts,
+) -> Result<Held, Status>
+    ensures { MeetsBut IsMemory held_text (probability_in root.now target.now hours.now asked texts) result }
+{
+    let model = flat_model(alloc, root, texts)?;
+    let (system, rates) = (&model.system, model.rates.items());
+    let text = system_answers::probability(alloc, system, rates, target, hours, asked)?;
     Ok(Held::Text(text))
 }
 

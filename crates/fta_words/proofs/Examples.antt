@@ -65,7 +65,7 @@ root = record { names = codes "p" ∷ codes "s" ∷ []; item = None }
 
 abbrev set_alone : Options
 set_alone =
-    record { paging = record { limit = None; after = None; max_order = None }; set = codes "e"; form = record { format = []; gates = []; unrated = []; profile = [] }; chosen = []; flags = [] }
+    record { paging = record { limit = None; after = None; max_order = None }; set = codes "e"; hours = None; form = record { format = []; gates = []; unrated = []; profile = [] }; chosen = []; flags = [] }
 
 abbrev asked : Request
 asked = record { kind = kind.Why; root = root; target = codes "t"; number = 0; of = None; files = codes "f" ∷ []; options = set_alone }
@@ -104,6 +104,7 @@ why_line =
             after = tt;
             max_order = tt;
             set = refl;
+            hours = tt;
             form = record { format = refl; gates = refl; unrated = refl; profile = refl };
             chosen = record { rise = tt; chosen_are = λ place. (λ has. absurd (none_of place has), λ less. absurd (omega (arith, less))) };
             flags = refl;

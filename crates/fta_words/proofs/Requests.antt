@@ -14,7 +14,7 @@ use Rattle.fta_words.specs.declared.kind.Kind.{Kind}
 use Rattle.fta_words.specs.declared.kind.Shape.{Shape}
 use Rattle.fta_words.specs.declared.kind.Shape.TheVariants as shape
 use Rattle.fta_words.specs.Table.{flags_of, formats_of, gate_choices, is_among, kind_named, name_of, profile_choices, required_of, shape_of, unrated_choices, valued_of}
-use Rattle.fta_words.specs.Words.{Alone, Apart, AreChosen, AreOptions, Attached, Given, IsAsked, IsChoice, IsFolded, IsNumberText, IsInFull, IsPlainWord, IsRequest, IsRoot, NamesModel, Request, Say, SayForm, Says, Spelling, before_options, file_words, files_in, in_full, is_fit, is_given, is_help_of, is_option, option_words, reports_for, shape_named, spelled, value_of, word_in_full}
+use Rattle.fta_words.specs.Words.{Alone, Apart, AreChosen, AreHours, AreOptions, Attached, Given, IsAsked, IsChoice, IsFolded, IsNumberText, IsInFull, IsPlainWord, IsRequest, IsRoot, NamesModel, Request, Say, SayForm, Says, Spelling, before_options, file_words, files_in, in_full, is_fit, is_given, is_help_of, is_option, option_words, reports_for, shape_named, spelled, value_of, word_in_full}
 use Rattle.fta_words.specs.inner.Reading.{AnswersInFull, IsRead, ReadsAs}
 use Rattle.fta_words.specs.inner.Shown.{request_shown}
 use Rattle.fta_words.proofs.AllKinds.{name_is_plain}
@@ -140,6 +140,9 @@ one_number text a b x y = x.number_is ∙ sym y.number_is
 one_fold : (text a b : List ℕ) → IsFolded text a → IsFolded text b → a ≡ b
 one_fold text a b x y = x ∙ sym y
 
+one_hours : (text a b : List ℕ) → AreHours text a → AreHours text b → a ≡ b
+one_hours text a b x y = x.1 ∙ sym y.1
+
 one_said : {A : Type 0} (Is : List ℕ → A → Type 0) → ((text : List ℕ) (a b : A) → Is text a → Is text b → a ≡ b) → (said : Option (List ℕ)) (a b : Option A) → Says Is said a → Says Is said b → a ≡ b
 one_said Is one None None None x y = refl
 one_said Is one None None (Some b) x y = absurd y
@@ -181,11 +184,12 @@ one_say k reports given a b x y =
     let limit = one_said IsNumberText one_number (value_of (codes "limit") given) p.limit q.limit x.limit y.limit in
     let after = one_said IsFolded one_fold (value_of (codes "after") given) p.after q.after x.after y.after in
     let max_order = one_said IsNumberText one_number (value_of (codes "max-order") given) p.max_order q.max_order x.max_order y.max_order in
+    let hours = one_said AreHours one_hours (value_of (codes "hours") given) a.hours b.hours x.hours y.hours in
     let chosen = one_chosen (reports_for k reports) (value_of (codes "reports") given) a.chosen b.chosen x.chosen y.chosen in
     let same : ◌≡◌ {A = Options}
-    (record { paging = record { limit = p.limit; after = p.after; max_order = p.max_order }; set = a.set; form = a.form; chosen = a.chosen; flags = a.flags })
-    (record { paging = record { limit = q.limit; after = q.after; max_order = q.max_order }; set = b.set; form = b.form; chosen = b.chosen; flags = b.flags })
-    = cc (limit, after, max_order, chosen, x.set ∙ sym y.set, one_form k given a.form b.form x.form y.form, x.flags ∙ sym y.flags) in
+    (record { paging = record { limit = p.limit; after = p.after; max_order = p.max_order }; set = a.set; hours = a.hours; form = a.form; chosen = a.chosen; flags = a.flags })
+    (record { paging = record { limit = q.limit; after = q.after; max_order = q.max_order }; set = b.set; hours = b.hours; form = b.form; chosen = b.chosen; flags = b.flags })
+    = cc (limit, after, max_order, chosen, hours, x.set ∙ sym y.set, one_form k given a.form b.form x.form y.form, x.flags ∙ sym y.flags) in
     same
 
 -- what two requests have in common that plain words make

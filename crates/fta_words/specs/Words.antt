@@ -1,9 +1,10 @@
 -- The words of the command line: the name of a command, plain words by its shape, and options.
-use Rattle.std.specs.Prelude.{◌≡◌, ◌≢◌, ◌<◌, ◌≤◌, ◌↔◌, ◌+◌, ◌*◌, ◌-◌, ℕ, Bool, true, false, not, ◌||◌, ◌==◌, if◌then◌else◌, List, [], ◌∷◌, ◌++◌, drop, filter, length, map, fold, codes, Option, Some, None, IfSome, IsUtf8, Contains, option_map, option_to_list, slice_get, take, unwrap_or}
-use Rattle.std.specs.List.{AllByRecursion, flat_map, join_with_byte, list_any}
+use Rattle.std.specs.Prelude.{◌≡◌, ◌≢◌, ◌<◌, ◌≤◌, ◌↔◌, ◌+◌, ◌*◌, ◌-◌, ℕ, Bool, true, false, not, ◌&&◌, ◌||◌, ◌==◌, if◌then◌else◌, List, [], ◌∷◌, ◌++◌, drop, filter, length, map, fold, codes, Option, Some, None, is_some, IfSome, IsUtf8, Contains, option_map, option_to_list, slice_get, take, unwrap_or}
+use Rattle.std.specs.List.{AllByRecursion, flat_map, join_with_byte, list_all, list_any}
 use Rattle.std.specs.Option.{option_map_or}
 use Rattle.plain_values.specs.Name.{folded, is_same_text}
 use Rattle.plain_values.specs.declared.name.Root.{Root}
+use Rattle.decimals.specs.Numerals.{number_of as number_of_text}
 use Rattle.aadl_syntax.specs.Form.{IsWord}
 use Rattle.fta_words.specs.declared.command.Form.{Form}
 use Rattle.fta_words.specs.declared.command.Options.{Options}
@@ -125,6 +126,14 @@ Says Is (Some text) (Some a) = Is text a
 abbrev pub IsFolded : List ℕ → List ℕ → Type 0
 IsFolded text name = name ≡ folded text
 
+-- whether a text is a number of hours: one with a point or an exponent or none, without `_` and without a base
+abbrev pub is_hours : List ℕ → Bool
+is_hours text = is_some (number_of_text text) && list_all (λ byte. not (byte == 95 || byte == 35)) text
+
+-- a text is a number of hours, and stays as it is
+abbrev pub AreHours : List ℕ → List ℕ → Type 0
+AreHours text hours = (is_hours text ≡ true) × (hours ≡ text)
+
 -- the first report of a name stands at a place
 pub record IsReport (reports : List (List ℕ)) (name : List ℕ) (place : ℕ) : Type 0 where
   pub here : slice_get reports place ≡ Some name
@@ -179,6 +188,7 @@ pub record Say (kind : Kind) (reports : List (List ℕ)) (given : List Given) (o
   pub after : Says IsFolded (value_of (codes "after") given) options.paging.after
   pub max_order : Says IsNumberText (value_of (codes "max-order") given) options.paging.max_order
   pub set : options.set ≡ folded (unwrap_or (value_of (codes "set") given) [])
+  pub hours : Says AreHours (value_of (codes "hours") given) options.hours
   pub form : SayForm kind given options.form
   pub chosen : AreChosen (reports_for kind reports) (value_of (codes "reports") given) options.chosen
   pub flags : options.flags ≡ filter (λ name. is_given name given) all_flags

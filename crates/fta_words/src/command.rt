@@ -43,13 +43,16 @@ pub struct Options {
     pub paging: Paging,
     /// The text of a set of events, folded.
     pub set: Name,
+    /// How many hours, as the words have them.
+    pub hours: Option<Name>,
     /// How a tree is read and written.
     pub form: Form,
     /// The places of the chosen reports, which rise; none where the command has no reports.
     pub chosen: List<u32>,
     /// The names of the flags that are given, in the order of those of all commands: `tokens`, that a last line `more` has a token;
     /// `all`, that all effects, or all facts, are asked for, and not those of the root alone; `text`, that the text of a model that is
-    /// made is; `paths`, that the path sets of a tree are, and not its cut sets.
+    /// made is; `paths`, that the path sets of a tree are, and not its cut sets;
+    /// `events`, that the importance of each event is.
     pub flags: List<Name>,
 }
 

@@ -17,13 +17,14 @@ pub enum Kind {
     Place,
     Manifest,
     Refusals,
+    Probability,
     Explain,
     Help,
     Version,
 }
 
 /// All commands, in order.
-pub const KINDS: [Kind; 19] = [
+pub const KINDS: [Kind; 20] = [
     Kind::Check,
     Kind::Cuts,
     Kind::Tree,
@@ -40,6 +41,7 @@ pub const KINDS: [Kind; 19] = [
     Kind::Place,
     Kind::Manifest,
     Kind::Refusals,
+    Kind::Probability,
     Kind::Explain,
     Kind::Help,
     Kind::Version,

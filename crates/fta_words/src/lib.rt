@@ -10,6 +10,7 @@ mod error;
 mod explained;
 mod files;
 mod form;
+mod hours;
 mod kind;
 mod number;
 mod options;

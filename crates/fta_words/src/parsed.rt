@@ -10,6 +10,7 @@ ghost use Rattle.fta_words.specs.inner.Reading.{HaveOptions, SaysAs};
 use crate::chosen::chosen_of;
 use crate::command::{Options, Paging};
 use crate::form::form_in;
+use crate::hours::hours_in;
 use crate::kind::Kind;
 use crate::number::number_said;
 use crate::table::{FLAGS, VALUED, is_among, valued_of};
@@ -62,6 +63,9 @@ fn options_found(
     let Some(form) = form_in(alloc, kind, matches)? else {
         return Ok(None);
     };
+    let Some(hours) = hours_in(alloc, matches)? else {
+        return Ok(None);
+    };
     let after = folded_in(alloc, matches, "after")?;
     let set = text_in(alloc, matches, "set")?;
     let flags = flags_in(alloc, matches, &FLAGS)?;
@@ -72,6 +76,7 @@ fn options_found(
             max_order,
         },
         set,
+        hours,
         form,
         chosen,
         flags,

@@ -41,10 +41,10 @@ pub type Names = &'static [&'static [u8]];
 pub type CommandRow = Row<&'static [u8], Names>;
 
 /// The flags of all commands.
-pub const FLAGS: [&'static str; 4] = ["tokens", "all", "text", "paths"];
+pub const FLAGS: [&'static str; 5] = ["tokens", "all", "text", "paths", "events"];
 
 /// The options of all commands that have a value.
-pub const VALUED: [&'static str; 9] = [
+pub const VALUED: [&'static str; 10] = [
     "limit",
     "after",
     "max-order",
@@ -54,6 +54,7 @@ pub const VALUED: [&'static str; 9] = [
     "gates",
     "unrated",
     "profile",
+    "hours",
 ];
 
 /// The formats in which a tree of a model may be written: Galileo text, the Open-PSA Model Exchange Format, and a picture for Graphviz.
@@ -81,7 +82,7 @@ pub const CODES: [&'static [u8]; 59] = [
 ];
 
 /// A row for each command, in the order of `KINDS`, which is that of help.
-pub const ROWS: [CommandRow; 19] = [
+pub const ROWS: [CommandRow; 20] = [
     Row {
         kind: Kind::Check,
         name: b"check",
@@ -259,6 +260,17 @@ pub const ROWS: [CommandRow; 19] = [
         about: b"all that is refused of a model at once, a line each with its line and column",
     },
     Row {
+        kind: Kind::Probability,
+        name: b"probability",
+        shape: Shape::Target,
+        flags: &[b"events"],
+        valued: &[b"hours"],
+        required: &[],
+        usage: b"probability ROOT TARGET FILE..",
+        optional: b" [--hours T] [--events]",
+        about: b"how probable a target is at least and at most, by the rates of its events",
+    },
+    Row {
         kind: Kind::Explain,
         name: b"explain",
         shape: Shape::Code,
@@ -296,7 +308,7 @@ pub const ROWS: [CommandRow; 19] = [
 /// The place of the row of a command.
 fn place_of(kind: Kind) -> usize
     ensures place { result ≡ place_of kind }
-    ensures within { result < 19 }
+    ensures within { result < 20 }
 {
     kind as usize
 }

@@ -174,6 +174,20 @@ pub const REFUSALS: &[u8] =
     Example, in the folder of the repository:\n\
     ./aadl_fta refusals Acs::Control.dual examples/attitude_control.aadl\n";
 
+/// Of `probability`.
+pub const PROBABILITY: &[u8] =
+    b"Writes how probable a target is at least and at most, where its events are independent: two numbers\n\
+    between which the probability lies, as the rates of the model have it. An event without a probability is\n\
+    named in a line unrated: the lower number takes it as one that never occurs, the upper one as one that\n\
+    always does. A line large stands where the two are 0 and 1, since there are more cases than are looked\n\
+    at. A target that holds without any event is 1, and one that never holds is 0.\n\
+    \n\
+    --hours T      the hours in which an event with a failure rate may occur; it has no probability without\n\
+    --events       of each event also the two numbers where it never occurs and where it always does\n\
+    \n\
+    Example, in the folder of the repository:\n\
+    ./aadl_fta probability Acs::Control.dual 'root/out:torque{errors::serviceomission}' examples/attitude_control.aadl --hours 1000\n";
+
 /// Of `explain`.
 pub const EXPLAIN: &[u8] =
     b"Writes what a refusal says, by its code, and what to write instead. The code is the first word behind the\n\
@@ -211,4 +225,4 @@ pub const PROGRAM: &[u8] = b"aadl_fta 0.1.0";
 /// The version of the program, that of its profile, and those of the formats of what its commands write.
 pub const VERSIONS: &[u8] = b"aadl_fta 0.1.0\n\
     profile 1\n\
-    formats: check 1 cuts 1 tree 1 mef 1 dot 1 fmea 1 report 1 make 1 galileo 1 paths 1 why 1 confirm 1 targets 1 events 1 review 2 place 1 manifest 1 refusals 1\n";
+    formats: check 1 cuts 1 tree 1 mef 1 dot 1 fmea 1 report 1 make 1 galileo 1 paths 1 why 1 confirm 1 targets 1 events 1 review 2 place 1 manifest 1 refusals 1 probability 1\n";

@@ -97,6 +97,7 @@ fn lines_of(kind: Kind) -> &'static [u8]
         Kind::Place => texts::PLACE,
         Kind::Manifest => texts::MANIFEST,
         Kind::Refusals => texts::REFUSALS,
+        Kind::Probability => texts::PROBABILITY,
         Kind::Explain => texts::EXPLAIN,
         Kind::Help => texts::HELP,
         Kind::Version => texts::VERSION,

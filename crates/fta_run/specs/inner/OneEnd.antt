@@ -18,14 +18,15 @@ IsDecidedButLast Same (yields x) = Unit {0}
 IsDecidedButLast {A} Same (tells Is Ends) = ((a : A) (status : Status) → Is a → Ends status → ⊥) × ((a b : Status) → Ends a → Ends b → Same a b)
 IsDecidedButLast Same (chains {A = A} first later) = IsDecided Same first × ((x : A) → Passed first x → IsDecidedButLast Same (later x))
 
--- A request of this kind asks for no tree with merged gates, of which more than one may be made, and not for refusals, which tell the place
--- of a syntax error, of which only that it is dead is said.
+-- A request of this kind asks for no tree with merged gates, of which more than one may be made; not for refusals, which tell the place
+-- of a syntax error, of which only that it is dead is said; and not for a probability, of which more than one pair of bounds is right.
 abbrev pub KeepsGates : Kind → Request → Type 0
 KeepsGates kind.Tree asked = is_merging asked.options.form ≡ false
 KeepsGates kind.Galileo asked = is_merging asked.options.form ≡ false
 KeepsGates kind.Refusals asked = ⊥
+KeepsGates kind.Probability asked = ⊥
 KeepsGates _ asked = Unit {0}
 
--- The words ask for no tree with merged gates, and not for refusals.
+-- The words ask for no tree with merged gates, and not for refusals or a probability.
 abbrev pub AskForOneText : List (List ℕ) → List Voice → Type 0
 AskForOneText words voices = (asked : Request) → IsRequest (labels voices) words asked → KeepsGates asked.kind asked

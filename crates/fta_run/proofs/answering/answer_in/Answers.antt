@@ -1,7 +1,7 @@
 use Rattle.std.proofs.Common.{inl}
 use Rattle.system_answers.specs.Voices.{voices_of}
 use Rattle.system_answers.proofs.Reported.{all_kept}
-use Rattle.fta_run.specs.Due.{cuts_in, first_text, fmea_in, make_text, sets_of_tree, targets_in}
+use Rattle.fta_run.specs.Due.{cuts_in, first_text, fmea_in, make_text, probability_in, sets_of_tree, targets_in}
 use Rattle.fta_run.proofs.Ran.{held_is, meets_set, meets_wider, ready_held, ready_set, ready_told, told_as}
 use Rattle.fta_run.proofs.answering.answer_in.Goals as goal
 
@@ -115,6 +115,17 @@ returns-in-Refusals-clause-by_lines g c = held_is _ c.refusals.result c.ready_of
 
 pub returns-in-Refusals-clause-reports : goal.returns-in-Refusals-clause-reports
 returns-in-Refusals-clause-reports g c = all_kept (λ b. (goal.Report-dyn g (b.vtable, b.value)).text b.value) (λ b. (goal.Report-dyn g (b.vtable, b.value)).label b.value) (λ b. (goal.Report-dyn g (b.vtable, b.value)).report_faults b.value) _ c.args.reports.now.items
+
+pub returns-in-Probability-clause-text : goal.returns-in-Probability-clause-text
+returns-in-Probability-clause-text g c =
+    let asked = c.args.asked.now in
+    rw c.in-Probability.is (ready_set _ (λ flag. probability_in asked.root asked.target asked.options.hours flag c.args.texts) c.is_set-in-Probability.result _ c.probability.result c.ready_of-in-Probability.result c.is_set-in-Probability.ensures c.ready_of-in-Probability.ensures (λ s memory. inl memory) c.probability.ensures)
+
+pub returns-in-Probability-clause-by_lines : goal.returns-in-Probability-clause-by_lines
+returns-in-Probability-clause-by_lines g c = held_is _ c.probability.result c.ready_of-in-Probability.result c.ready_of-in-Probability.ensures
+
+pub returns-in-Probability-clause-reports : goal.returns-in-Probability-clause-reports
+returns-in-Probability-clause-reports g c = all_kept (λ b. (goal.Report-dyn g (b.vtable, b.value)).text b.value) (λ b. (goal.Report-dyn g (b.vtable, b.value)).label b.value) (λ b. (goal.Report-dyn g (b.vtable, b.value)).report_faults b.value) _ c.args.reports.now.items
 
 pub returns-in-Place-clause-text : goal.returns-in-Place-clause-text
 returns-in-Place-clause-text g c = rw c.in-Place.is (ready_held _ _ c.place.result c.ready_of-in-Place.result c.ready_of-in-Place.ensures (λ s memory. inl memory) c.place.ensures)
