@@ -16,9 +16,9 @@ class Review:
     def lines(self):
         """All lines in their order."""
         groups = (self.hidden_sources, self.hidden_paths, self.hidden_links,
-                  self.hidden_transitions, self.not_declared, self.stops_here, self.no_links,
-                  self.open_sides, self.dry_sides, self.no_sources, self.never,
-                  self.unused_states, self.loops, self.unused_events, self.no_singles,
+                  self.hidden_transitions, self.not_declared, self.stops_here,
+                  self.goes_nowhere, self.no_links, self.open_sides, self.dry_sides,
+                  self.no_sources, self.never, self.unused_states, self.loops, self.unused_events, self.no_singles,
                   self.no_effect, self.unreached_events)
         return [line for group in groups for line in group()] + ["end"]
 
@@ -166,6 +166,14 @@ class Review:
                     types -= set(taken) & set(ends) if not flow.target_set else set()
             if types:
                 yield f"stops-here {self.with_types(side, types)}"
+
+    def goes_nowhere(self):
+        """`goes-nowhere SIDE{TYPES}`."""
+        for side in self.sides("out"):
+            types = {number for number in self.coming(side)
+                     if ("fact", side + (number,)) not in self.used}
+            if types and side[0] != 0:
+                yield f"goes-nowhere {self.with_types(side, types)}"
 
     def no_links(self):
         """`no-link OWNER/NAME`."""

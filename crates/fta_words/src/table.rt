@@ -37,6 +37,9 @@ pub struct Row<Text, Words> {
 /// Names of options.
 pub type Names = &'static [&'static [u8]];
 
+/// No names of options.
+const NO_NAMES: Names = &[];
+
 /// A row of the table.
 pub type CommandRow = Row<&'static [u8], Names>;
 
@@ -307,8 +310,7 @@ pub const ROWS: [CommandRow; 20] = [
 
 /// The place of the row of a command.
 fn place_of(kind: Kind) -> usize
-    ensures place { result ≡ place_of kind }
-    ensures within { result < 20 }
+    ensures { result ≡ place_of kind }
 {
     kind as usize
 }
@@ -317,57 +319,80 @@ fn place_of(kind: Kind) -> usize
 pub fn name_of(kind: Kind) -> &'static [u8]
     ensures { result.now ≡ name_of kind }
 {
-    ROWS[place_of(kind)].name
+    match ROWS.get(place_of(kind)) {
+        Some(row) => row.name,
+        None => b"",
+    }
 }
 
 /// Which plain words follow the name of a command.
 pub(crate) fn shape_of(kind: Kind) -> Shape
     ensures { result ≡ shape_of kind }
 {
-    let row = &ROWS[place_of(kind)];
-    row.shape
+    match ROWS.get(place_of(kind)) {
+        Some(row) => row.shape,
+        None => Shape::Alone,
+    }
 }
 
 /// The words of a command that must be there, as help has them.
 pub fn usage_of(kind: Kind) -> &'static [u8]
     ensures { result.now ≡ usage_of kind }
 {
-    ROWS[place_of(kind)].usage
+    match ROWS.get(place_of(kind)) {
+        Some(row) => row.usage,
+        None => b"",
+    }
 }
 
 /// The options that may follow, each in brackets.
 pub fn optional_of(kind: Kind) -> &'static [u8]
     ensures { result.now ≡ optional_of kind }
 {
-    ROWS[place_of(kind)].optional
+    match ROWS.get(place_of(kind)) {
+        Some(row) => row.optional,
+        None => b"",
+    }
 }
 
 /// What a command writes, in one line.
 pub fn about_of(kind: Kind) -> &'static [u8]
     ensures { result.now ≡ about_of kind }
 {
-    ROWS[place_of(kind)].about
+    match ROWS.get(place_of(kind)) {
+        Some(row) => row.about,
+        None => b"",
+    }
 }
 
 /// The flags of a command.
 pub fn flags_of(kind: Kind) -> Names
     ensures { map (λ name. name.now) result.now ≡ flags_of kind }
 {
-    ROWS[place_of(kind)].flags
+    let Some(row) = ROWS.get(place_of(kind)) else {
+        return NO_NAMES;
+    };
+    row.flags
 }
 
 /// The options of a command that have a value.
 pub fn valued_of(kind: Kind) -> Names
     ensures { map (λ name. name.now) result.now ≡ valued_of kind }
 {
-    ROWS[place_of(kind)].valued
+    let Some(row) = ROWS.get(place_of(kind)) else {
+        return NO_NAMES;
+    };
+    row.valued
 }
 
 /// The options that a command requires.
 pub(crate) fn required_of(kind: Kind) -> Names
     ensures { map (λ name. name.now) result.now ≡ required_of kind }
 {
-    ROWS[place_of(kind)].required
+    let Some(row) = ROWS.get(place_of(kind)) else {
+        return NO_NAMES;
+    };
+    row.required
 }
 
 /// The formats in which a command writes a tree: one that is read from a file is drawn alone.

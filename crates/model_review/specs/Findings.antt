@@ -27,7 +27,7 @@ use Rattle.model_facts.specs.Facts.{inward_of, is_linked, outward_of}
 use Rattle.fact_formulas.specs.Formulas.{end_of}
 use Rattle.model_review.specs.Seen.{Seen, declared_for, is_lost_event, is_lost_fact, is_used, may_come, number_at, side_in, source_number, state_number, states_of, stops, types_in}
 use Rattle.model_review.specs.declared.finding.Finding.{Finding}
-use Rattle.model_review.specs.declared.finding.Finding.TheVariants.{Dry, HiddenLink, HiddenPath, HiddenSource, HiddenTransitions, Never, NeverState, NoLink, NoSource, NotDeclared, Open, StopsHere, UnusedState}
+use Rattle.model_review.specs.declared.finding.Finding.TheVariants.{Dry, GoesNowhere, HiddenLink, HiddenPath, HiddenSource, HiddenTransitions, Never, NeverState, NoLink, NoSource, NotDeclared, Open, StopsHere, UnusedState}
 use Rattle.model_review.specs.declared.finding.TypesAt.{TypesAt}
 
 -- types at a side
@@ -163,6 +163,20 @@ stop_at seen owner number point =
 abbrev pub stops_of : Seen → ℕ → ErrorModel → List Finding
 stops_of seen owner model = numbered_from (stop_at seen owner) 0 model.points
 
+-- ---- what comes out and leads nowhere
+
+-- the types that may come out of a side, and occur in no formula
+abbrev pub lost_types : Seen → PointAt → List ℕ
+lost_types seen side = types_where seen side (λ type. stops seen (number_at seen side type))
+
+-- A point of a part is told with the types that may come out of it and occur in no formula, if there are any.
+abbrev pub nowhere_at : Seen → ℕ → ℕ → Point → List Finding
+nowhere_at seen owner number point =
+    cond (owner == 0) [] (if_any (λ types. GoesNowhere (types_at (outward_of owner number) types)) (lost_types seen (outward_of owner number)))
+
+abbrev pub nowhere_out : Seen → ℕ → ErrorModel → List Finding
+nowhere_out seen owner model = numbered_from (nowhere_at seen owner) 0 model.points
+
 -- ---- connections and user paths without a link
 
 -- Each connection and each user path is told that gives no link, where types are declared for a point that it names.
@@ -283,10 +297,11 @@ model_findings seen =
     ++ (of_components seen hidden_transitions
     ++ (flat_map (not_declared seen) seen.numbered.assembly.links
     ++ (of_components seen (stops_of seen)
+    ++ (of_components seen (nowhere_out seen)
     ++ (no_links seen
     ++ (of_components seen (open_ends seen)
     ++ (of_components seen (dry_sides seen)
     ++ (of_components seen (no_sources seen)
     ++ (of_components seen (never_out seen)
     ++ (never_states seen (model_at seen.numbered.assembly 0)
-    ++ of_components seen (unused_states seen))))))))))))
+    ++ of_components seen (unused_states seen)))))))))))))

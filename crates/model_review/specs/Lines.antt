@@ -17,7 +17,7 @@ use Rattle.model_facts.specs.declared.keys.FactKind.TheVariants.{State}
 use Rattle.fault_system.specs.Systems.{event_name, fact_name}
 use Rattle.model_review.specs.Seen.{Seen}
 use Rattle.model_review.specs.declared.finding.Finding.{Finding}
-use Rattle.model_review.specs.declared.finding.Finding.TheVariants.{Dry, HiddenLink, HiddenPath, HiddenSource, HiddenTransitions, InLoop, Never, NeverState, NoEffect, NoLink, NoSingle, NoSource, NotDeclared, Open, StopsHere, UnreachedEvent, UnusedEvent, UnusedState}
+use Rattle.model_review.specs.declared.finding.Finding.TheVariants.{Dry, GoesNowhere, HiddenLink, HiddenPath, HiddenSource, HiddenTransitions, InLoop, Never, NeverState, NoEffect, NoLink, NoSingle, NoSource, NotDeclared, Open, StopsHere, UnreachedEvent, UnusedEvent, UnusedState}
 use Rattle.model_review.specs.declared.finding.TypesAt.{TypesAt}
 
 -- ---- sides
@@ -89,6 +89,7 @@ finding_text seen (HiddenLink from at) = codes "hidden-link " ++ (side_text seen
 finding_text seen (HiddenTransitions owner count) = codes "hidden-transitions " ++ (path_text (path_at seen.numbered.assembly owner) ++ (codes " " ++ decimal count))
 finding_text seen (NotDeclared at to) = codes "not-declared " ++ (types_text seen.numbered.assembly at ++ (codes " -> " ++ side_text seen.numbered.assembly to))
 finding_text seen (StopsHere at) = codes "stops-here " ++ types_text seen.numbered.assembly at
+finding_text seen (GoesNowhere at) = codes "goes-nowhere " ++ types_text seen.numbered.assembly at
 finding_text seen (NoLink one) = codes "no-link " ++ unlinked_text seen.numbered.assembly one
 finding_text seen (Open at) = codes "open " ++ types_text seen.numbered.assembly at
 finding_text seen (Dry at) = codes "dry " ++ types_text seen.numbered.assembly at

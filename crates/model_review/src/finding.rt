@@ -35,6 +35,8 @@ pub enum Finding {
     NotDeclared(TypesAt, PointAt),
     /// These types may come in at this side, where nothing of the component looks at them.
     StopsHere(TypesAt),
+    /// These types may come out of a part at this side, and nothing looks at them.
+    GoesNowhere(TypesAt),
     /// A connection or a user path gives no link, and types are declared for a point that it names.
     NoLink(Unlinked),
     /// These types arrive from outside of the model: they are declared, and no link leads there.

@@ -67,6 +67,7 @@ fn push_text(alloc: Global, text: &mut Vec<u8>, view: &View, finding: &Finding) 
         Finding::HiddenTransitions(owner, count) => push_count(text, assembly, *owner, *count),
         Finding::NotDeclared(at, to) => push_other(text, assembly, at, *to),
         Finding::StopsHere(at) => push_at(text, b"stops-here ", assembly, at),
+        Finding::GoesNowhere(at) => push_at(text, b"goes-nowhere ", assembly, at),
         Finding::NoLink(one) => push_unlinked(text, assembly, *one),
         Finding::Open(at) => push_at(text, b"open ", assembly, at),
         Finding::Dry(at) => push_at(text, b"dry ", assembly, at),

@@ -3,7 +3,7 @@
 ghost use Rattle.std.specs.Prelude.{◌≡◌, ◌++◌, IfOk, OnOk, false, flat_map, length, map, true};
 ghost use Rattle.plain_values.specs.Rising.{RisesWithin};
 ghost use Rattle.model_facts.specs.Assembly.{model_at};
-ghost use Rattle.model_review.specs.Findings.{dry_sides, hidden_flows, hidden_link, model_findings, never_out, never_states, no_links, no_sources, of_components, open_ends, stops_of, unused_states};
+ghost use Rattle.model_review.specs.Findings.{dry_sides, hidden_flows, hidden_link, model_findings, never_out, never_states, no_links, no_sources, nowhere_out, of_components, open_ends, stops_of, unused_states};
 ghost use Rattle.model_review.specs.Told.{AreFindings};
 ghost use Rattle.model_review.specs.declared.finding.Finding.TheVariants.{NoLink};
 
@@ -11,7 +11,7 @@ use crate::ends::{DrySides, Linked, NoSources, OpenEnds};
 use crate::finding::Finding;
 use crate::flows::HiddenFlows;
 use crate::links::{HiddenLinks, NotDeclaredThere};
-use crate::sides::{NeverOut, Stops};
+use crate::sides::{NeverOut, NowhereOut, Stops};
 use crate::states::{HiddenTransitions, NeverInState, UnusedStates};
 use crate::told::add_told;
 use crate::view::View;
@@ -55,19 +55,21 @@ fn add_hidden(alloc: Global, found: &mut List<Finding>, view: &View) -> Mem<()>
     add_of_links(alloc, found, view, &HiddenLinks)
 }
 
-/// Adds where errors stop, where they come from outside, what never comes about, and states that nothing looks at.
+/// Adds where errors stop, where they lead nowhere, where they come from outside, what never comes about, and states that nothing looks at.
 fn add_ends(alloc: Global, found: &mut List<Finding>, view: &View) -> Mem<()>
     ensures { OnOk result (found.new ≡ found.old
         ++ (of_components view.now (stops_of view.now)
+        ++ (of_components view.now (nowhere_out view.now)
         ++ (no_links view.now
         ++ (of_components view.now (open_ends view.now)
         ++ (of_components view.now (dry_sides view.now)
         ++ (of_components view.now (no_sources view.now)
         ++ (of_components view.now (never_out view.now)
         ++ (never_states view.now (model_at view.now.numbered.assembly 0)
-        ++ of_components view.now (unused_states view.now))))))))) }
+        ++ of_components view.now (unused_states view.now)))))))))) }
 {
     add_of_components(alloc, found, view, &AtPoints(Stops))?;
+    add_of_components(alloc, found, view, &AtPoints(NowhereOut))?;
     add_no_links(alloc, found, view)?;
     add_inward(alloc, found, view)?;
     add_of_components(alloc, found, view, &AtPoints(NeverOut))?;

@@ -1,4 +1,4 @@
-//! Sides at which errors stop, or never come out.
+//! Sides at which errors stop, from which they lead nowhere, or where they never come out.
 
 ghost use Rattle.std.specs.Prelude.{◌≡◌, ◌&&◌, ◌++◌, IfOk, OnOk, filter, nat_eq, not};
 ghost use Rattle.std.specs.List.{list_any};
@@ -6,9 +6,9 @@ ghost use Rattle.error_libraries.specs.Search.{is_number_in};
 ghost use Rattle.propagation_points.specs.Uses.{covers};
 ghost use Rattle.model_facts.specs.Assembly.{model_at};
 ghost use Rattle.model_facts.specs.Facts.{inward_of, outward_of};
-ghost use Rattle.model_review.specs.Findings.{has_sink, if_any, is_sink_at, is_stopped, takes, types_at, types_where};
+ghost use Rattle.model_review.specs.Findings.{has_sink, if_any, is_sink_at, is_stopped, lost_types, takes, types_at, types_where};
 ghost use Rattle.model_review.specs.Seen.{may_come, number_at};
-ghost use Rattle.model_review.specs.declared.finding.Finding.TheVariants.{Never, StopsHere};
+ghost use Rattle.model_review.specs.declared.finding.Finding.TheVariants.{GoesNowhere, Never, StopsHere};
 
 use crate::finding::{Finding, TypesAt, tell_unless};
 use crate::flows::{has_number, inward_of, outward_of};
@@ -168,6 +168,53 @@ fn is_sink_at(kind: &FlowKind, name: &[u8]) -> bool
         },
         FlowKind::Source(_, _, _) | FlowKind::Path(_, _, _, _, _) => false,
     }
+}
+
+// ---- what leads nowhere
+
+/// The types that may come out of a part at a point, and occur in no formula, if there are any.
+#[derive(Clone, Copy)]
+pub(crate) struct NowhereOut;
+
+impl PointFinding for NowhereOut {
+    ghost use Rattle.model_review.specs.Findings.{nowhere_at};
+
+    ghost finding = { λ _. nowhere_at };
+
+    fn tell(
+        &self,
+        alloc: Global,
+        found: &mut List<Finding>,
+        view: &View,
+        at: PointPlace,
+        point: &Point,
+    ) -> Mem<()> {
+        let _ = point;
+        if at.owner == 0 {
+            return Ok(());
+        }
+        add_lost(alloc, found, view, outward_of(at.owner, at.number))
+    }
+}
+
+/// Adds the types that may come out of a side, and occur in no formula, if there are any.
+fn add_lost(alloc: Global, found: &mut List<Finding>, view: &View, side: PointAt) -> Mem<()>
+    ensures { OnOk result (found.new ≡ found.old ++ if_any (λ types. GoesNowhere (types_at side types)) (lost_types view.now side)) }
+{
+    let types = lost_types(alloc, view, side)?;
+    let at = TypesAt { side, types };
+    tell_unless(found, at.is_empty(), Finding::GoesNowhere(at))
+}
+
+/// The types that may come out of a side, and occur in no formula.
+fn lost_types(alloc: Global, view: &View, side: PointAt) -> Mem<List<u32>>
+    ensures { IfOk result (λ types. types ≡ lost_types view.now side) }
+{
+    let mut types = List::new(alloc);
+    for kind in view.types(side) {
+        types.push_if(*kind, view.stops(view.fact_at(side, *kind)))?;
+    }
+    Ok(types)
 }
 
 // ---- what never comes out

@@ -18,6 +18,12 @@ returns-in-StopsHere c =
     subst (λ (f : Finding). OnOk c.push_at.result (c.push_at.new.text.items ≡ text ++ finding_text c.args.view.now f)) (sym c.in-StopsHere.is)
     (subst (λ (a : Assembly). OnOk c.push_at.result (c.push_at.new.text.items ≡ text ++ (codes "stops-here " ++ types_text a c.in-StopsHere.at))) c.assembly-assembly.ensures c.push_at.ensures)
 
+pub returns-in-GoesNowhere : goal.returns-in-GoesNowhere
+returns-in-GoesNowhere c =
+    let text = c.args.text.now.items in
+    subst (λ (f : Finding). OnOk c.push_at.result (c.push_at.new.text.items ≡ text ++ finding_text c.args.view.now f)) (sym c.in-GoesNowhere.is)
+    (subst (λ (a : Assembly). OnOk c.push_at.result (c.push_at.new.text.items ≡ text ++ (codes "goes-nowhere " ++ types_text a c.in-GoesNowhere.at))) c.assembly-assembly.ensures c.push_at.ensures)
+
 pub returns-in-NoSource : goal.returns-in-NoSource
 returns-in-NoSource c =
     let text = c.args.text.now.items in
