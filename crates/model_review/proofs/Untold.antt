@@ -36,7 +36,7 @@ all-none test (x ∷ xs) each none = absurd (false≢true (sym (any-none test (x
 
 -- ---- each finding of what is hidden
 
-in-if : (tells : List ℕ → Finding) (types : List ℕ) (finding : Finding) → In finding (if_any tells types) → tells types ≡ finding
+pub in-if : (tells : List ℕ → Finding) (types : List ℕ) (finding : Finding) → In finding (if_any tells types) → tells types ≡ finding
 in-if tells types finding i = by (length types == 0) i
   where
     by : (b : Bool) → In finding (cond b [] (tells types ∷ [])) → tells types ≡ finding

@@ -1,5 +1,5 @@
 -- Facts that never come about may be taken away.
-use Rattle.std.proofs.Common.{ℕ, ◌≡◌, ◌<◌, ◌↔◌, ⊥, Bool, true, false, [], length, Some, inl, inr, ⊎_elim, ap, ◌∙◌, sym, subst, refl, arith}
+use Rattle.std.proofs.Common.{ℕ, ◌≡◌, ◌<◌, ◌↔◌, Bool, true, false, [], length, Some, inl, inr, ⊎_elim, ap, ◌∙◌, sym, subst, refl, arith}
 use Rattle.std.specs.Prelude.{◌&&◌, cond}
 use Rattle.std.proofs.lemmas.Bool.{false≢true, and_parts}
 use Rattle.std.proofs.lemmas.Option.{slice_get_cases, slice_get_within}
@@ -10,13 +10,14 @@ use Rattle.fault_system.specs.declared.formula.Formula.{Formula}
 use Rattle.fault_system.specs.declared.formula.Formula.TheVariants.{Or}
 use Rattle.fault_system.proofs.HoldsLaws.{holds_of-closed, holds_of-exact}
 use Rattle.fault_system.proofs.Occurring.{truth-grows}
+use Rattle.fault_system.proofs.TruthLaws.{truth-Or}
 use Rattle.system_review.specs.inner.Possible.{IsPossible}
 use Rattle.system_review.proofs.More.{applied-fact, applied-is}
 use Rattle.review_laws.specs.Emptied.{IsEmptied}
 
 -- a formula that is taken away is never true
 left-true : (events facts : NumberSet) (gone : Bool) (formula : Formula) → truth events facts (cond gone (Or []) formula) ≡ true → truth events facts formula ≡ true
-left-true events facts true formula holds = absurd (false≢true holds)
+left-true events facts true formula holds = absurd (false≢true (sym (truth-Or events facts []) ∙ holds))
 left-true events facts false formula holds = holds
 
 -- one that is not stays
@@ -36,12 +37,12 @@ module _ (silent : NumberSet) (system emptied : System) (is : IsEmptied silent s
       let whole = ap (truth events facts) (sym here.2) ∙ sym (applied-is emptied events facts n there.0 there.1) ∙ has in
       closed n (applied-is system events facts n here.0 here.1 ∙ left-true events facts (silent n) here.0.formula whole)
 
-  held : NumberSet
+  abbrev held : NumberSet
   held = member (holds_of system events)
 
   module _ (facts : NumberSet) (closed : IsClosed emptied events facts) where
     -- what holds, of these facts
-    among : NumberSet
+    abbrev among : NumberSet
     among n = facts n && held n
 
     held-at : (n : ℕ) (before : FactInfo) → IsFact system n before → truth events among before.formula ≡ true → Has held n

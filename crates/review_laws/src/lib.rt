@@ -3,4 +3,4 @@
 
 mod laws;
 
-pub use laws::nothing_comes_of_silent_facts;
+pub use laws::{nothing_comes_of_silent_facts, nothing_comes_of_silent_lines};
