@@ -169,10 +169,13 @@ stops_of seen owner model = numbered_from (stop_at seen owner) 0 model.points
 abbrev pub lost_types : Seen → PointAt → List ℕ
 lost_types seen side = types_where seen side (λ type. stops seen (number_at seen side type))
 
+-- these types at a side, if there are any
+abbrev pub nowhere_with : Seen → PointAt → List Finding
+nowhere_with seen side = if_any (λ types. GoesNowhere (types_at side types)) (lost_types seen side)
+
 -- A point of a part is told with the types that may come out of it and occur in no formula, if there are any.
 abbrev pub nowhere_at : Seen → ℕ → ℕ → Point → List Finding
-nowhere_at seen owner number point =
-    cond (owner == 0) [] (if_any (λ types. GoesNowhere (types_at (outward_of owner number) types)) (lost_types seen (outward_of owner number)))
+nowhere_at seen owner number point = cond (owner == 0) [] (nowhere_with seen (outward_of owner number))
 
 abbrev pub nowhere_out : Seen → ℕ → ErrorModel → List Finding
 nowhere_out seen owner model = numbered_from (nowhere_at seen owner) 0 model.points

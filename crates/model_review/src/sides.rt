@@ -6,9 +6,9 @@ ghost use Rattle.error_libraries.specs.Search.{is_number_in};
 ghost use Rattle.propagation_points.specs.Uses.{covers};
 ghost use Rattle.model_facts.specs.Assembly.{model_at};
 ghost use Rattle.model_facts.specs.Facts.{inward_of, outward_of};
-ghost use Rattle.model_review.specs.Findings.{has_sink, if_any, is_sink_at, is_stopped, lost_types, takes, types_at, types_where};
+ghost use Rattle.model_review.specs.Findings.{has_sink, if_any, is_sink_at, is_stopped, lost_types, nowhere_with, takes, types_at, types_where};
 ghost use Rattle.model_review.specs.Seen.{may_come, number_at};
-ghost use Rattle.model_review.specs.declared.finding.Finding.TheVariants.{GoesNowhere, Never, StopsHere};
+ghost use Rattle.model_review.specs.declared.finding.Finding.TheVariants.{Never, StopsHere};
 
 use crate::finding::{Finding, TypesAt, tell_unless};
 use crate::flows::{has_number, inward_of, outward_of};
@@ -199,7 +199,7 @@ impl PointFinding for NowhereOut {
 
 /// Adds the types that may come out of a side, and occur in no formula, if there are any.
 fn add_lost(alloc: Global, found: &mut List<Finding>, view: &View, side: PointAt) -> Mem<()>
-    ensures { OnOk result (found.new ≡ found.old ++ if_any (λ types. GoesNowhere (types_at side types)) (lost_types view.now side)) }
+    ensures { OnOk result (found.new ≡ found.old ++ nowhere_with view.now side) }
 {
     let types = lost_types(alloc, view, side)?;
     let at = TypesAt { side, types };
