@@ -13,7 +13,7 @@ use Rattle.fault_system.proofs.Occurring.{truth-grows}
 use Rattle.fault_system.proofs.TruthLaws.{truth-Or}
 use Rattle.system_review.specs.inner.Possible.{IsPossible}
 use Rattle.system_review.proofs.More.{applied-fact, applied-is}
-use Rattle.review_laws.specs.Emptied.{IsEmptied}
+use Rattle.review_laws.specs.inner.Emptied.{IsEmptied}
 
 -- a formula that is taken away is never true
 left-true : (events facts : NumberSet) (gone : Bool) (formula : Formula) → truth events facts (cond gone (Or []) formula) ≡ true → truth events facts formula ≡ true

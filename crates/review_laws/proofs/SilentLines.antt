@@ -24,7 +24,7 @@ use Rattle.model_review.specs.declared.finding.Finding.{Finding}
 use Rattle.model_review.specs.declared.finding.Finding.TheVariants.{Dry, Never, NeverState}
 use Rattle.model_review.proofs.Parts.{any-none, given-by, part-of}
 use Rattle.model_review.proofs.Untold.{in-if}
-use Rattle.review_laws.specs.Silent.{is_at, silent_facts, silent_findings, tells_silent}
+use Rattle.review_laws.specs.inner.Silent.{is_at, silent_facts, silent_findings, tells_silent}
 
 -- what does not hold when all events occur never comes about
 impossible : (system : System) (n : ℕ) → possible_in system n ≡ false → IsPossible system n → ⊥

@@ -8,8 +8,8 @@ ghost use Rattle.fact_formulas.specs.Flat.{system_of};
 ghost use Rattle.system_review.specs.inner.Alone.{HoldTheSame};
 ghost use Rattle.system_review.specs.inner.Possible.{IsPossible};
 ghost use Rattle.model_review.specs.Seen.{seen_of};
-ghost use Rattle.review_laws.specs.Emptied.{IsEmptied};
-ghost use Rattle.review_laws.specs.Silent.{silent_facts};
+ghost use Rattle.review_laws.specs.inner.Emptied.{IsEmptied};
+ghost use Rattle.review_laws.specs.inner.Silent.{silent_facts};
 
 /// Nothing comes of facts that never come about: where nothing makes them hold any more, the same facts hold under each set of events.
 pub fn nothing_comes_of_silent_facts()

@@ -1,6 +1,6 @@
 use Rattle.fact_formulas.specs.Flat.{system_of}
 use Rattle.model_review.specs.Seen.{seen_of}
-use Rattle.review_laws.specs.Silent.{silent_facts}
+use Rattle.review_laws.specs.inner.Silent.{silent_facts}
 use Rattle.review_laws.proofs.Silent.{same-without}
 use Rattle.review_laws.proofs.SilentLines.{told-silent}
 use Rattle.review_laws.proofs.laws.nothing_comes_of_silent_lines.Goals as goal
