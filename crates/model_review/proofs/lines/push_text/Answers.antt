@@ -21,8 +21,8 @@ returns-in-StopsHere c =
 pub returns-in-GoesNowhere : goal.returns-in-GoesNowhere
 returns-in-GoesNowhere c =
     let text = c.args.text.now.items in
-    subst (λ (f : Finding). OnOk c.push_at.result (c.push_at.new.text.items ≡ text ++ finding_text c.args.view.now f)) (sym c.in-GoesNowhere.is)
-    (subst (λ (a : Assembly). OnOk c.push_at.result (c.push_at.new.text.items ≡ text ++ (codes "goes-nowhere " ++ types_text a c.in-GoesNowhere.at))) c.assembly-assembly.ensures c.push_at.ensures)
+    subst (λ (f : Finding). OnOk c.push_at-in-GoesNowhere.result (c.push_at-in-GoesNowhere.new.text.items ≡ text ++ finding_text c.args.view.now f)) (sym c.in-GoesNowhere.is)
+    (subst (λ (a : Assembly). OnOk c.push_at-in-GoesNowhere.result (c.push_at-in-GoesNowhere.new.text.items ≡ text ++ (codes "goes-nowhere " ++ types_text a c.in-GoesNowhere.at))) c.assembly-assembly.ensures c.push_at-in-GoesNowhere.ensures)
 
 pub returns-in-NoSource : goal.returns-in-NoSource
 returns-in-NoSource c =
