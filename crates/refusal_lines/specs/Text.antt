@@ -50,7 +50,7 @@ lines_of files texts refusals = fold (λ lines refusal. with_line lines (refusal
 abbrev pub most_refusals : ℕ
 most_refusals = 1024
 
--- the last line: that all refusals of the group are listed, or that there are more
+-- the last line: `end` where the group has fewer refusals than that, which are all listed, and else `more`: also where it has exactly so many
 abbrev pub end_line : List Refusal → List ℕ
 end_line group = if nat_lt (length group) most_refusals then codes "end\n" else codes "more\n"
 

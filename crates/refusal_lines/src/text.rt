@@ -43,7 +43,7 @@ fn joined(alloc: Global, lines: &[Name]) -> Mem<Vec<u8>>
     Ok(text)
 }
 
-/// The last line: that all are listed, or that there are more.
+/// The last line: that all are listed, or that there may be more.
 fn end_line(all: bool) -> &'static [u8]
     ensures { result.now ≡ (if all then codes "end\n" else codes "more\n") }
 {
