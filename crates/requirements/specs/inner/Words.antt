@@ -3,7 +3,7 @@ use Rattle.std.specs.Prelude.{ℕ, ◌+◌, ◌==◌, Bool, true, false, ◌&&�
 use Rattle.requirements.specs.declared.words.PlacedWord.{PlacedWord}
 use Rattle.requirements.specs.declared.words.Scan.{Scan}
 
--- a blank between words: a space, a tabulator, or the carriage return at the end of a line
+-- a blank between words: a space, a tabulator, or a carriage return, which stands at the end of a line where lines end with both
 abbrev pub is_blank : ℕ → Bool
 is_blank byte = byte == 32 || (byte == 9 || byte == 13)
 
