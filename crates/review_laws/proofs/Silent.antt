@@ -1,10 +1,10 @@
 -- Facts that never come about may be taken away.
-use Rattle.std.proofs.Common.{ℕ, ◌≡◌, ◌<◌, ◌↔◌, Bool, true, false, [], length, Some, inl, inr, ⊎_elim, ap, ◌∙◌, sym, subst, refl, arith}
+use Rattle.std.proofs.Common.{ℕ, ◌≡◌, ◌↔◌, Bool, true, false, [], ⊎_elim, ap, ◌∙◌, sym, refl, arith}
 use Rattle.std.specs.Prelude.{◌&&◌, cond}
 use Rattle.std.proofs.lemmas.Bool.{false≢true, and_parts}
 use Rattle.std.proofs.lemmas.Option.{slice_get_cases, slice_get_within}
 use Rattle.fault_system.specs.Truth.{NumberSet, Has, member, truth}
-use Rattle.fault_system.specs.Systems.{System, IsFact, Holds, IsClosed, applied, holds_of}
+use Rattle.fault_system.specs.Systems.{System, IsFact, Holds, IsClosed, holds_of}
 use Rattle.fault_system.specs.declared.formula.FactInfo.{FactInfo}
 use Rattle.fault_system.specs.declared.formula.Formula.{Formula}
 use Rattle.fault_system.specs.declared.formula.Formula.TheVariants.{Or}

@@ -18,7 +18,7 @@ use Rattle.model_facts.specs.Facts.{inward_of, is_linked, outward_of}
 use Rattle.system_review.specs.Possible.{possible_in}
 use Rattle.system_review.specs.inner.Possible.{IsPossible}
 use Rattle.system_review.proofs.More.{holds-more}
-use Rattle.model_review.specs.Findings.{dry_at, dry_sides, dry_with, if_any, is_never, never_at, never_out, never_state, never_states, of_components, types_at}
+use Rattle.model_review.specs.Findings.{dry_at, dry_sides, dry_with, if_any, never_at, never_out, never_state, never_states, of_components, types_at}
 use Rattle.model_review.specs.Seen.{Seen, declared_for, may_come, number_at, state_number}
 use Rattle.model_review.specs.declared.finding.Finding.{Finding}
 use Rattle.model_review.specs.declared.finding.Finding.TheVariants.{Dry, Never, NeverState}
