@@ -23,18 +23,22 @@ unread_told units root noted end = told-with (StopsBut IsMemory units) (FirstOf 
   alone refusal (inl stops) told = (refusal ∷ [], inl (stops, refl), told.1)
   alone refusal (inr memory) told = let none : Refused refusal ≡ Memory = memory in cc
 
--- the text of the group that is noted, where the model is tested and refused
-pub group_tells : {T E : Type 0} (text_of : T → List ℕ) (model : Phase FlatModel) (units : Phase (List (List FileUnit))) (root : Root) (files texts : List (List ℕ)) (tested : Result FlatModel Status) (refusal : Refusal) (noted : Noted) (result : Result T E)
+-- the text of the group that is noted
+group_tells : {T E : Type 0} (text_of : T → List ℕ) (model : Phase FlatModel) (units : Phase (List (List FileUnit))) (root : Root) (files texts : List (List ℕ)) (refusal : Refusal) (noted : Noted) (result : Result T E) → Stops model (Refused refusal)
+    → OnRefusal (ListsFiles units root noted) (Refused refusal) → IfOk result (λ text. (group : List Refusal) → Lists group noted → text_of text ≡ refusals_text files texts refusal group)
+    → IfOk result (λ text. TellsRefusals model units root files texts (text_of text))
+group_tells text_of model units root files texts refusal noted (Ok text) stops (group, its, lists) is = inr (refusal, stops, group, its, is group lists)
+group_tells text_of model units root files texts refusal noted (Err error) stops told is = tt
+
+refused-stops : (model : Phase FlatModel) (refusal : Refusal) → StopsBut IsMemory model (Refused refusal) → Stops model (Refused refusal)
+refused-stops model refusal (inl stops) = stops
+refused-stops model refusal (inr memory) = let none : Refused refusal ≡ Memory = memory in cc
+
+-- the same, where the model is tested and refused
+pub tested_tells : {T E : Type 0} (text_of : T → List ℕ) (model : Phase FlatModel) (units : Phase (List (List FileUnit))) (root : Root) (files texts : List (List ℕ)) (tested : Result FlatModel Status) (refusal : Refusal) (noted : Noted) (result : Result T E)
     → tested ≡ Err (Refused refusal) → Meets model tested → IfErr tested (OnRefusal (ListsFiles units root noted)) → IfOk result (λ text. (group : List Refusal) → Lists group noted → text_of text ≡ refusals_text files texts refusal group)
     → IfOk result (λ text. TellsRefusals model units root files texts (text_of text))
-group_tells text_of model units root files texts tested refusal noted result is meets told gives =
-    told_of result (stopped (subst (λ answer. Meets model answer) is meets)) (subst (λ answer. IfErr answer (OnRefusal (ListsFiles units root noted))) is told) gives
-  where
-    stopped : StopsBut IsMemory model (Refused refusal) → Stops model (Refused refusal)
-    stopped (inl stops) = stops
-    stopped (inr memory) = let none : Refused refusal ≡ Memory = memory in cc
-
-    told_of : (answer : Result T E) → Stops model (Refused refusal) → ListsFiles units root noted refusal → IfOk answer (λ text. (group : List Refusal) → Lists group noted → text_of text ≡ refusals_text files texts refusal group)
-        → IfOk answer (λ text. TellsRefusals model units root files texts (text_of text))
-    told_of (Ok text) stops (group, own, lists) gives = inr (refusal, stops, group, own, gives group lists)
-    told_of (Err error) stops own gives = tt
+tested_tells text_of model units root files texts tested refusal noted result is meets told gives =
+    let stops : StopsBut IsMemory model (Refused refusal) = subst (λ (answer : Result FlatModel Status). Meets model answer) is meets in
+    let lists : OnRefusal (ListsFiles units root noted) (Refused refusal) = subst (λ (answer : Result FlatModel Status). IfErr answer (OnRefusal (ListsFiles units root noted))) is told in
+    group_tells text_of model units root files texts refusal noted result (refused-stops model refusal stops) lists gives

@@ -1,7 +1,6 @@
-use Rattle.std.proofs.Common.{◌≡◌, Err}
-use Rattle.phases.specs.declared.status.Status.TheVariants.{Refused}
+use Rattle.std.proofs.Common.{Err, ap, ◌∙◌}
 use Rattle.fta_run.specs.Due.{model_of_texts, units_of}
-use Rattle.fta_run.proofs.Refusals.{group_tells}
+use Rattle.fta_run.proofs.Refusals.{tested_tells}
 use Rattle.fta_run.proofs.refused.refusals_text.Goals as goal
 
 pub returns-in-Err-Refused : goal.returns-in-Err-Refused
@@ -10,5 +9,4 @@ returns-in-Err-Refused c =
     let texts = c.args.texts.now in
     let tested = c.told_model-tested.result in
     let refusal = c.in-Err-Refused.refusal in
-    let is : tested ≡ Err (Refused refusal) = cc (c.in-Err-Refused.is, c.in-Err-Refused.field-0-is, c.in-Err-Refused.refusal-is) in
-    group_tells (λ text. text.items) (model_of_texts root texts) (units_of texts) root c.args.files.now texts tested refusal c.told_model-tested.new.refusals c.group_text.result is c.told_model-tested.ensures.made c.told_model-tested.ensures.told c.group_text.ensures
+    tested_tells (λ text. text.items) (model_of_texts root texts) (units_of texts) root c.args.files.now texts tested refusal c.told_model-tested.new.refusals c.group_text.result (c.in-Err-Refused.is ∙ ap Err c.in-Err-Refused.field-0-is) c.told_model-tested.ensures.made c.told_model-tested.ensures.told c.group_text.ensures
