@@ -1,0 +1,5 @@
+mod Noting
+mod Loops
+mod Knowing
+mod Firsts
+mod Examples

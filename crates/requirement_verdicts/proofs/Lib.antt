@@ -1,0 +1,4 @@
+mod Cutting
+mod Growing
+mod OneVerdict
+mod Staling
