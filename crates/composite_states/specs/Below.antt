@@ -1,5 +1,6 @@
 -- What the named parts of a composite state mean (EMV2: composite error behavior).
-use Rattle.std.specs.Prelude.{ℕ, true, cond, List, [], ◌∷◌, ◌++◌, Option, Some, None, is_none, option_and_then}
+use Rattle.std.specs.Prelude.{ℕ, true, cond, not, List, [], ◌∷◌, ◌++◌, filter, length, map, Option, Some, None, is_none, option_and_then}
+use Rattle.plain_values.specs.Numbered.{numbers_below}
 use Rattle.aadl_syntax.specs.declared.error_model.Atom.{Atom}
 use Rattle.plain_values.specs.declared.spot.Spot.{Spot}
 use Rattle.plain_values.specs.declared.refusal.Code.TheVariants.{UnknownState, UnknownSubcomponent}
@@ -7,12 +8,14 @@ use Rattle.plain_values.specs.declared.refusal.Refusal.{Refusal}
 use Rattle.plain_values.specs.Refusal.{refused_so}
 use Rattle.package_index.specs.Names.{front, last}
 use Rattle.error_libraries.specs.Libraries.{Table}
+use Rattle.error_libraries.specs.Search.{is_number_in}
 use Rattle.propagation_points.specs.Settings.{Setting, refusals_in}
-use Rattle.propagation_points.specs.States.{Sort, held_by, sort_refusals, sort_named}
+use Rattle.propagation_points.specs.declared.held.Held.{Held}
+use Rattle.propagation_points.specs.States.{Sort, all_variants, held_by, held_numbers, sort_refusals, sort_named}
 use Rattle.propagation_points.specs.Uses.{atom_use}
 use Rattle.error_conditions.specs.declared.cause.Cause.{Cause}
 use Rattle.error_conditions.specs.declared.cause.Cause.TheVariants.{Any, State}
-use Rattle.error_conditions.specs.Conditions.{held_cause, no_error_refusals, point_meaning}
+use Rattle.error_conditions.specs.Conditions.{Pair, always, has_no_error, held_cause, may_fail, no_error_refusals, pair, point_meaning}
 
 -- The states of the component to which names of subcomponents lead, if they lead to one.
 abbrev pub StatesAt : Type 0
@@ -37,14 +40,28 @@ state_at states_at names = state_in names (below_at states_at (front names))
 abbrev pub variant_cause : List (List ℕ) → ℕ → Cause
 variant_cause path number = State (record { path = path; state = number })
 
--- it is in what a set selects of this state; without such a state it is never true
-abbrev pub state_cause : Table → Setting → Atom → Option Sort → Cause
-state_cause table setting atom None = Any []
-state_cause table setting atom (Some state) = held_cause (variant_cause (front atom.names)) (held_by table setting.scope state atom.set)
+-- those of these variants that are not selected
+abbrev pub others_in : List ℕ → List ℕ → List ℕ
+others_in held numbers = filter (λ number. not (is_number_in held number)) numbers
+
+-- The component below to which names lead, whose states have so many variants, is in what is selected; and else in another of
+-- them. It is always in one of its states.
+abbrev pub state_pair : List (List ℕ) → ℕ → Held → Pair
+state_pair path count held = pair (held_cause (variant_cause path) held) (Any (map (variant_cause path) (others_in (held_numbers held) (numbers_below count))))
+
+-- how many variants the states of a component have, if there is the component
+abbrev pub variant_count : Option (List Sort) → ℕ
+variant_count None = 0
+variant_count (Some states) = length (all_variants states)
+
+-- what it means that such a component is in what a set selects of this state; without such a state it never is
+abbrev pub state_meaning : Table → Setting → Atom → ℕ → Option Sort → Pair
+state_meaning table setting atom count None = may_fail (Any [])
+state_meaning table setting atom count (Some state) = state_pair (front atom.names) count (held_by table setting.scope state atom.set)
 
 -- the meaning of a named part that names a state of a component below
-abbrev pub state_named : StatesAt → Table → Setting → Atom → Cause
-state_named states_at table setting atom = state_cause table setting atom (state_at states_at atom.names)
+abbrev pub state_named : StatesAt → Table → Setting → Atom → Pair
+state_named states_at table setting atom = state_meaning table setting atom (variant_count (below_at states_at (front atom.names))) (state_at states_at atom.names)
 
 -- N13 where there is no such component below, N11 where it has no such state, both at the first name
 abbrev pub unknown_refusals : List (List ℕ) → Spot → Option (List Sort) → List Refusal
@@ -58,12 +75,19 @@ state_named_refusals states_at table setting atom =
 
 -- ---- named parts
 
--- What a named part of a composite state means: after `in` a point of the component itself, else a state of a component below.
-abbrev pub composite_meaning : StatesAt → Setting → Table → Atom → Cause
-composite_meaning states_at setting table atom = cond atom.inward (point_meaning table setting atom) (state_named states_at table setting atom)
+-- what a named part means whatever `noerror` says: after `in` a point of the component itself, else a state of a component below
+abbrev pub point_or_state : StatesAt → Setting → Table → Atom → Pair
+point_or_state states_at setting table atom = cond atom.inward (may_fail (point_meaning table setting atom)) (state_named states_at table setting atom)
 
--- The refusals of a named part of a composite state: P6 at a `noerror` of its set; of a point N9 and N10; of a state N13, N11
--- and N10.
+-- What a named part of a composite state means: a point or a state. That no error is there may always be so, and may always fail.
+abbrev pub composite_meaning : StatesAt → Setting → Table → Atom → Pair
+composite_meaning states_at setting table atom = cond (has_no_error atom.set) (may_fail always) (point_or_state states_at setting table atom)
+
+-- the refusals of a named part whatever `noerror` says
+abbrev pub point_or_state_refusals : StatesAt → Setting → Table → Atom → List Refusal
+point_or_state_refusals states_at setting table atom = cond atom.inward (refusals_in table setting (atom_use atom)) (state_named_refusals states_at table setting atom)
+
+-- The refusals of a named part of a composite state: by the first profile P6 at a `noerror` of its set; of a point N9 and N10; of a
+-- state N13, N11 and N10.
 abbrev pub composite_refusals : StatesAt → Setting → Table → Atom → List Refusal
-composite_refusals states_at setting table atom =
-    no_error_refusals atom.set ++ cond atom.inward (refusals_in table setting (atom_use atom)) (state_named_refusals states_at table setting atom)
+composite_refusals states_at setting table atom = no_error_refusals table.profile atom.set ++ point_or_state_refusals states_at setting table atom

@@ -1,20 +1,24 @@
-ghost use Rattle.std.specs.Prelude.{◌≡◌, IfOk, OnOk, Some, is_none, map, option_copied};
+ghost use Rattle.std.specs.Prelude.{◌≡◌, ◌++◌, [], ◌∷◌, IfOk, OnOk, Some, cond, is_none, map, option_copied};
 ghost use Rattle.noted_refusals.specs.inner.Noted.{noting};
 ghost use Rattle.package_index.specs.Names.{front};
 ghost use Rattle.plain_values.specs.declared.refusal.Code.TheVariants.{UnknownState};
 ghost use Rattle.plain_values.specs.Refusal.{refused_so};
-ghost use Rattle.composite_states.specs.Below.{below_at, state_at, state_in, state_named, state_named_refusals, unknown_refusals, variant_cause};
-ghost use Rattle.error_conditions.specs.Conditions.{held_cause};
+ghost use Rattle.composite_states.specs.Below.{below_at, others_in, point_or_state, point_or_state_refusals, state_at, state_in, state_named, state_named_refusals, state_pair, unknown_refusals, variant_cause, variant_count};
+ghost use Rattle.plain_values.specs.Numbered.{numbers_below};
+ghost use Rattle.error_libraries.specs.Search.{is_number_in};
+ghost use Rattle.error_conditions.specs.Conditions.{Pair, always, at_side, held_cause, may_fail};
 ghost use Rattle.error_conditions.specs.declared.cause.Cause.TheVariants.{Any};
 
 use aadl_syntax::{Atom, Identifier};
-use error_conditions::{Atoms, Cause, StateBelow, note_no_errors, point_meaning};
+use error_conditions::{
+    Atoms, Cause, Side, StateBelow, always, has_no_error, may_fail, note_no_errors, point_meaning,
+};
 use error_types::Reading;
 use noted_refusals::Refusals;
 use package_index::Words;
 use plain_values::{Code, List, Mem, Spot};
 use propagation_points::{Held, Setting, Sort, Sorts};
-use std::alloc::Global;
+use std::alloc::{AllocError, Global};
 use std::marker::Model;
 
 /// The states of the components below a component.
@@ -60,38 +64,131 @@ impl<'s, 'a, B: StatesBelow<'a>> Atoms for CompositePlace<'s, 'a, B> {
     fn meaning<'t>(
         &self,
         alloc: Global,
+        side: Side,
         reading: &mut Reading<'_, 't>,
         atom: &'t Atom,
     ) -> Mem<Cause> {
-        note_no_errors(&mut reading.refusals, &atom.set);
-        if atom.inward {
-            return point_meaning(alloc, &self.setting, reading, atom);
-        }
-        state_named(alloc, reading, &self.setting, self.below, atom)
+        note_no_errors(&mut reading.refusals, reading.types.profile(), &atom.set);
+        let cause = point_or_state(alloc, side, reading, &self.setting, self.below, atom)?;
+        let no_error = has_no_error(&atom.set);
+        Ok(or_no_error(alloc, side, no_error, cause))
     }
 }
 
-/// The meaning of a named part that names a state of a component below. Its refusals are noted.
-#[tactic(auto, using(noted_refusals::proofs::Noting::noted_more))]
-fn state_named<'a, 't, B: StatesBelow<'a>>(
+/// A side of what may always hold and may always fail where this is so, and else means this.
+fn or_no_error(alloc: Global, side: Side, is_so: bool, cause: Cause) -> Cause
+    ensures { (meaning : Pair) → cause ≡ at_side side meaning → result ≡ at_side side (cond is_so (may_fail always) meaning) }
+{
+    if is_so {
+        return may_fail(alloc, side, always(alloc));
+    }
+    cause
+}
+
+/// A side of the meaning of a named part, whatever `noerror` says. Its refusals are noted.
+fn point_or_state<'a, 't, B: StatesBelow<'a>>(
     alloc: Global,
+    side: Side,
     reading: &mut Reading<'_, 't>,
     setting: &Setting,
     below: &B,
     atom: &'t Atom,
 ) -> Mem<Cause>
     ensures kept { reading.new.types ≡ reading.old.types }
-    ensures meaning { IfOk result (λ cause. cause ≡ state_named (B.states_at below.now) reading.old.types setting.now atom.now) }
+    ensures meaning { IfOk result (λ cause. cause ≡ at_side side (point_or_state (B.states_at below.now) setting.now reading.old.types atom.now)) }
+    ensures noted { OnOk result (reading.new.refusals ≡ noting reading.old.refusals (point_or_state_refusals (B.states_at below.now) setting.now reading.old.types atom.now)) }
+{
+    if atom.inward {
+        let cause = point_meaning(alloc, setting, reading, atom)?;
+        return Ok(may_fail(alloc, side, cause));
+    }
+    state_named(alloc, side, reading, setting, below, atom)
+}
+
+/// A side of the meaning of a named part that names a state of a component below. Its refusals are noted.
+#[tactic(auto, using(noted_refusals::proofs::Noting::noted_more))]
+fn state_named<'a, 't, B: StatesBelow<'a>>(
+    alloc: Global,
+    side: Side,
+    reading: &mut Reading<'_, 't>,
+    setting: &Setting,
+    below: &B,
+    atom: &'t Atom,
+) -> Mem<Cause>
+    ensures kept { reading.new.types ≡ reading.old.types }
+    ensures meaning { IfOk result (λ cause. cause ≡ at_side side (state_named (B.states_at below.now) reading.old.types setting.now atom.now)) }
     ensures noted { OnOk result (reading.new.refusals ≡ noting reading.old.refusals (state_named_refusals (B.states_at below.now) reading.old.types setting.now atom.now)) }
 {
     let names = atom.names.items();
     match known_state(below, names, atom.spot, &mut reading.refusals) {
         Some(state) => {
             let held = setting.held(alloc, reading, state, &atom.set)?;
-            held_cause(alloc, path_of(names), held)
+            let count = variant_count(below_at(below, path_of(names)))?;
+            state_pair(alloc, side, path_of(names), count, held)
         }
-        None => Ok(Cause::Any(List::new(alloc))),
+        None => Ok(may_fail(alloc, side, Cause::Any(List::new(alloc)))),
     }
+}
+
+/// How many variants the states of a component have, if there is the component; want of memory where a number has no room for
+/// that.
+fn variant_count(states: Option<&Sorts>) -> Mem<u32>
+    ensures { IfOk result (λ count. count ≡ variant_count (option_copied states.entry)) }
+{
+    let count = match states {
+        Some(states) => states.variants().len(),
+        None => 0,
+    };
+    if count > 4_294_967_295 {
+        return Err(AllocError);
+    }
+    Ok(count as u32)
+}
+
+/// A side of what it means that the component below to which names lead, whose states have so many variants, is in what is selected.
+fn state_pair(alloc: Global, side: Side, path: &[Identifier], count: u32, held: Held) -> Mem<Cause>
+    ensures { IfOk result (λ cause. cause ≡ at_side side (state_pair path.now count held)) }
+{
+    match side {
+        Side::Holds => held_cause(alloc, path, held),
+        Side::Fails => {
+            let held = held.numbers(alloc)?;
+            in_others(alloc, path, count, held.items())
+        }
+    }
+}
+
+/// That the component below to which names lead, whose states have so many variants, is in one that is not among these.
+fn in_others(alloc: Global, path: &[Identifier], count: u32, held: &[u32]) -> Mem<Cause>
+    ensures { IfOk result (λ cause. cause ≡ Any (map (variant_cause path.now) (others_in held.now (numbers_below count)))) }
+{
+    let mut parts = List::new(alloc);
+    for number in 0..count {
+        add_other(alloc, &mut parts, path, number, held)?;
+    }
+    Ok(Cause::Any(parts))
+}
+
+/// Adds that it is in the variant of a number, unless that is among these.
+fn add_other(
+    alloc: Global,
+    parts: &mut List<Cause>,
+    path: &[Identifier],
+    number: u32,
+    held: &[u32],
+) -> Mem<()>
+    ensures { OnOk result (parts.new ≡ parts.old ++ map (variant_cause path.now) (others_in held.now (number ∷ []))) }
+{
+    if is_number_in(held, number) {
+        return Ok(());
+    }
+    parts.push(variant_cause(alloc, path, number)?)
+}
+
+fn is_number_in(numbers: &[u32], number: u32) -> bool
+    ensures { result ≡ is_number_in numbers.now number }
+{
+    numbers.iter().any(|other| *other == number)
 }
 
 /// The state that names mean. N13 or N11 is noted where they mean none.

@@ -4,8 +4,10 @@
 
 mod below;
 mod clauses;
+mod laws;
 mod meaning;
 
 pub use below::StatesBelow;
 pub use clauses::clauses_of;
+pub use laws::covers_state;
 pub use meaning::ClauseMeaning;

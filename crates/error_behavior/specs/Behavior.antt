@@ -4,6 +4,7 @@ use Rattle.aadl_syntax.specs.declared.error_model.EventDecl.{EventDecl}
 use Rattle.aadl_syntax.specs.declared.error_model.MachineDecl.{MachineDecl}
 use Rattle.aadl_syntax.specs.declared.error_model.Outgoing.{Outgoing}
 use Rattle.aadl_syntax.specs.declared.error_model.Transition.{Transition}
+use Rattle.profiles.specs.declared.profile.Profile.{Profile}
 use Rattle.plain_values.specs.declared.refusal.Code.TheVariants.{MachineExtends, Mapping}
 use Rattle.plain_values.specs.declared.refusal.Refusal.{Refusal}
 use Rattle.component_extension.specs.declared.effective.Effective.{Effective}
@@ -59,7 +60,7 @@ clause_emissions table words texts outgoing = flat_map (λ scoped. emission_of (
 -- the behavior with these words and texts
 abbrev pub behavior_with : Table → Vocabulary → Texts → Option Machine → Effective → ErrorBehavior
 behavior_with table words texts machine effective = record {
-  events = words.events;
+  events = words.events.sorts;
   steps = machine_steps table words texts machine ++ clause_steps table words texts effective.behavior.transitions;
   emissions = clause_emissions table words texts effective.behavior.outgoing;
 }
@@ -73,18 +74,18 @@ behavior_of table points machine effective = behavior_with table (vocabulary_of 
 
 -- the refusals of a declared machine but for its transitions: P12 where it extends another, P11 where it uses transformations,
 -- and those of its events
-abbrev pub decl_refusals : MachineDecl → List Refusal
-decl_refusals decl =
-    refused_there MachineExtends decl.extends ++ (refused_there Mapping decl.transforms ++ flat_map event_refusals decl.events)
+abbrev pub decl_refusals : Profile → MachineDecl → List Refusal
+decl_refusals profile decl =
+    refused_there MachineExtends decl.extends ++ (refused_there Mapping decl.transforms ++ flat_map (event_refusals profile) decl.events)
 
 -- the refusals of a machine, if there is one: those of its declaration and of its transitions
 abbrev pub machine_refusals : Table → Vocabulary → Texts → Option Machine → List Refusal
 machine_refusals table words texts None = []
-machine_refusals table words texts (Some machine) = decl_refusals machine.item ++ flat_map (transition_refusals (machine_place words texts) table) machine.item.transitions
+machine_refusals table words texts (Some machine) = decl_refusals table.profile machine.item ++ flat_map (transition_refusals (machine_place words texts) table) machine.item.transitions
 
 -- the refusals of events of clauses
-abbrev pub clause_event_refusals : List (Scoped EventDecl) → List Refusal
-clause_event_refusals events = flat_map (λ scoped. event_refusals scoped.item) events
+abbrev pub clause_event_refusals : Profile → List (Scoped EventDecl) → List Refusal
+clause_event_refusals profile events = flat_map (λ scoped. event_refusals profile scoped.item) events
 
 -- the refusals of transitions of clauses
 abbrev pub clause_transition_refusals : Table → Vocabulary → Texts → List (Scoped Transition) → List Refusal
@@ -97,7 +98,7 @@ clause_outgoing_refusals table words texts outgoing = flat_map (λ scoped. outgo
 -- the refusals with these words and texts, but for those of outgoing conditions
 abbrev pub step_refusals : Table → Vocabulary → Texts → Option Machine → Effective → List Refusal
 step_refusals table words texts machine effective =
-    machine_refusals table words texts machine ++ (clause_event_refusals effective.behavior.events ++ clause_transition_refusals table words texts effective.behavior.transitions)
+    machine_refusals table words texts machine ++ (clause_event_refusals table.profile effective.behavior.events ++ clause_transition_refusals table words texts effective.behavior.transitions)
 
 -- the refusals with these words and texts
 abbrev pub refusals_with : Table → Vocabulary → Texts → Option Machine → Effective → List Refusal

@@ -11,7 +11,7 @@ use Rattle.propagation_points.specs.Settings.{Setting, refusals_in, held_in, rea
 use Rattle.propagation_points.specs.States.{held_numbers}
 use Rattle.propagation_points.specs.Uses.{point_use}
 use Rattle.error_conditions.specs.declared.cause.Cause.{Cause}
-use Rattle.error_conditions.specs.Conditions.{cause_of, condition_refusals}
+use Rattle.error_conditions.specs.Conditions.{condition_refusals, pair_of}
 use Rattle.error_behavior.specs.declared.steps.Emission.{Emission}
 use Rattle.error_behavior.specs.declared.steps.Origin.{Origin}
 use Rattle.error_behavior.specs.declared.steps.Origin.TheVariants.{Always, From}
@@ -44,7 +44,7 @@ targets_of table setting targets = flat_map (target_numbers table setting) targe
 abbrev pub step_from : TriggerPlace → Table → Transition → Origin → Step
 step_from place table transition origin = record {
   origin = origin;
-  trigger = cause_of (trigger_meaning place table) transition.condition;
+  trigger = (pair_of (trigger_meaning place table) transition.condition).holds;
   targets = targets_of table place.setting transition.targets;
 }
 
@@ -56,18 +56,18 @@ step_of place table transition = option_to_list (option_map (step_from place tab
 abbrev pub transition_refusals : TriggerPlace → Table → Transition → List Refusal
 transition_refusals place table transition =
     origin_refusals table place.setting transition.source.state
-    ++ (condition_refusals (trigger_refusals place table) transition.condition ++ flat_map (state_refusals_in table place.setting) transition.targets)
+    ++ (condition_refusals table.profile (trigger_refusals place table) transition.condition ++ flat_map (state_refusals_in table place.setting) transition.targets)
 
 -- ---- outgoing conditions
 
--- the meaning of a trigger, if there is one: brackets may be empty
+-- when a trigger may hold, if there is one: brackets may be empty
 abbrev pub trigger_of : TriggerPlace → Table → Option Condition → Option Cause
-trigger_of place table condition = option_map (cause_of (trigger_meaning place table)) condition
+trigger_of place table condition = option_map (λ condition. (pair_of (trigger_meaning place table) condition).holds) condition
 
 -- the refusals of a trigger, if there is one
 abbrev pub perhaps_refusals : TriggerPlace → Table → Option Condition → List Refusal
 perhaps_refusals place table None = []
-perhaps_refusals place table (Some condition) = condition_refusals (trigger_refusals place table) condition
+perhaps_refusals place table (Some condition) = condition_refusals table.profile (trigger_refusals place table) condition
 
 -- The emission of an outgoing condition: on its trigger, if it has one, from its source the types of its set come out of its
 -- point.

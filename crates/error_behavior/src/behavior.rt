@@ -16,10 +16,11 @@ use error_machines::UsedMachine;
 use error_types::{Reading, TypeTable};
 use noted_refusals::Refusals;
 use plain_values::{Code, List, Mem};
+use profiles::Profile;
 use propagation_points::{Points, Sorts, scopes_of};
 use std::alloc::Global;
 
-/// The error behavior of a component: the names of its events, which are numbered by their places, from 0; its steps, those of
+/// The error behavior of a component: its events, whose variants are numbered by their places, from 0; its steps, those of
 /// its machine first; and its emissions.
 #[derive(Drop)]
 pub struct ErrorBehavior<'a> {
@@ -37,10 +38,11 @@ pub struct Texts {
 
 /// The error behavior of a component that uses this machine, if it uses one. The names are those of its states.
 ///
-/// The refusals are noted: P12 where the machine extends another, P11 where it uses transformations, P8 at each recover or
+/// The refusals are noted: P12 where the machine extends another, P11 where it uses transformations, by the first profile P8 at each recover or
 /// repair event, N11 at a state that is none, N12 at a name of a trigger that is
 /// neither an event nor a point with an inward side, N9 at a point that is none, N10 at a set with a type that is not declared
-/// for its side, its state or its event, P5 at each `orless`, and P6 at each `noerror` in a condition.
+/// for its side, its state or its event, and by the first profile P5 at each `orless` and
+/// P6 at each `noerror` in a condition.
 pub fn behavior_of<'a>(
     alloc: Global,
     effective: &Effective<'a>,
@@ -59,7 +61,7 @@ pub fn behavior_of<'a>(
     let words = Vocabulary::new(points, states, &events);
     let (steps, emissions) = meanings(alloc, reading, &words, &texts, machine, effective)?;
     Ok(ErrorBehavior {
-        events,
+        events: events.sorts,
         steps,
         emissions,
     })
@@ -132,7 +134,12 @@ fn steps_of<'s, 'a>(
     ensures noted { OnOk result (reading.new.refusals ≡ noting reading.old.refusals (step_refusals reading.old.types words.now texts.now machine.now effective.now)) }
 {
     let mut steps = machine_steps(alloc, reading, words, texts, machine)?;
-    note_clause_events(&mut reading.refusals, effective.behavior.events.items());
+    let profile = reading.types.profile();
+    note_clause_events(
+        &mut reading.refusals,
+        profile,
+        effective.behavior.events.items(),
+    );
     let transitions = effective.behavior.transitions.items();
     add_clause_steps(alloc, &mut steps, reading, words, texts, transitions)?;
     Ok(steps)
@@ -153,7 +160,11 @@ fn machine_steps<'s, 'a>(
 {
     match machine {
         Some(machine) => {
-            note_machine(&mut reading.refusals, machine.decl());
+            note_machine(
+                &mut reading.refusals,
+                reading.types.profile(),
+                machine.decl(),
+            );
             let place = words.place(machine_scope(texts));
             steps_at(alloc, reading, &place, machine.decl().transitions.items())
         }
@@ -178,12 +189,12 @@ pub(crate) fn clause_scope(texts: &Texts, number: usize) -> Option<&Scope>
 
 /// Notes the refusals of a declared machine, but for its transitions.
 #[tactic(auto, using(noted_refusals::proofs::Noting::noted_more))]
-fn note_machine(refusals: &mut Refusals, decl: &MachineDecl)
-    ensures { refusals.new ≡ noting refusals.old (decl_refusals decl.now) }
+fn note_machine(refusals: &mut Refusals, profile: Profile, decl: &MachineDecl)
+    ensures { refusals.new ≡ noting refusals.old (decl_refusals profile decl.now) }
 {
     refusals.note_at(Code::MachineExtends, decl.extends);
     refusals.note_at(Code::Mapping, decl.transforms);
-    note_events(refusals, decl.events.items());
+    note_events(refusals, profile, decl.events.items());
 }
 
 /// The steps of transitions that stand in one place. Their refusals are noted.

@@ -1,16 +1,17 @@
-ghost use Rattle.std.specs.Prelude.{◌≡◌, [], IfOk, flat_map, fold, map, option_copied, option_map};
+ghost use Rattle.std.specs.Prelude.{◌≡◌, ◌++◌, [], ◌∷◌, IfOk, None, flat_map, fold, map, option_copied, option_map};
 ghost use Rattle.noted_refusals.specs.inner.Noted.{noting};
 ghost use Rattle.error_behavior.specs.Behavior.{clause_event_refusals, texts_of};
-ghost use Rattle.error_machines.specs.States.{clause_event, event_at, event_refusals, events_of, is_recovery, keep_event, machine_events, machine_scope};
+ghost use Rattle.error_machines.specs.States.{clause_event, event_at, event_refusals, event_types, events_of, is_free, is_recovery, keep_event, keep_event_at, machine_events, machine_scope, no_events};
 
 use crate::behavior::{Texts, clause_scope, machine_scope};
 use aadl_syntax::{EventDecl, EventKind};
 use component_extension::{Effective, InClause};
 use error_libraries::Scope;
-use error_machines::UsedMachine;
+use error_machines::{Events, UsedMachine};
 use error_types::TypeTable;
 use noted_refusals::Refusals;
-use plain_values::{Code, Mem};
+use plain_values::{Code, List, Mem};
+use profiles::Profile;
 use propagation_points::{Sorts, declared_by};
 use std::alloc::Global;
 
@@ -21,7 +22,7 @@ pub(crate) fn events_of<'a>(
     machine: &Option<UsedMachine<'a>>,
     effective: &Effective<'a>,
     texts: &Texts,
-) -> Mem<Sorts<'a>>
+) -> Mem<Events<'a>>
     requires { texts.now ≡ texts_of types.old machine.now effective.now }
     ensures kept { types.new ≡ types.old }
     ensures events { IfOk result (λ events. events ≡ events_of types.old machine.now effective.now) }
@@ -41,14 +42,14 @@ fn machine_events<'a>(
     types: &mut TypeTable<'_, 'a>,
     machine: &Option<UsedMachine<'a>>,
     scope: Option<&Scope>,
-) -> Mem<Sorts<'a>>
+) -> Mem<Events<'a>>
     requires { option_copied scope ≡ option_map (machine_scope types.old) machine.now }
     ensures kept { types.new ≡ types.old }
-    ensures events { IfOk result (λ events. events ≡ fold (keep_event types.old) [] (machine_events types.old machine.now)) }
+    ensures events { IfOk result (λ events. events ≡ fold (keep_event types.old) no_events (machine_events types.old machine.now)) }
 {
     match machine {
         Some(machine) => events_in(alloc, types, machine.decl().events.items(), scope),
-        None => Ok(Sorts::new(alloc)),
+        None => Ok(no_events(alloc)),
     }
 }
 
@@ -57,11 +58,11 @@ fn events_in<'a>(
     types: &mut TypeTable<'_, 'a>,
     decls: &'a [EventDecl],
     scope: Option<&Scope>,
-) -> Mem<Sorts<'a>>
+) -> Mem<Events<'a>>
     ensures kept { types.new ≡ types.old }
-    ensures events { IfOk result (λ events. events ≡ fold (keep_event types.old) [] (map (event_at (option_copied scope.entry)) decls.now)) }
+    ensures events { IfOk result (λ events. events ≡ fold (keep_event types.old) no_events (map (event_at (option_copied scope.entry)) decls.now)) }
 {
-    let mut events = Sorts::new(alloc);
+    let mut events = no_events(alloc);
     for decl in decls {
         events = with_event(alloc, types, events, decl, scope)?;
     }
@@ -71,10 +72,10 @@ fn events_in<'a>(
 fn with_clauses<'a>(
     alloc: Global,
     types: &mut TypeTable<'_, 'a>,
-    before: Sorts<'a>,
+    before: Events<'a>,
     decls: &[InClause<'a, EventDecl>],
     texts: &Texts,
-) -> Mem<Sorts<'a>>
+) -> Mem<Events<'a>>
     ensures kept { types.new ≡ types.old }
     ensures events { IfOk result (λ events. events ≡ fold (keep_event types.old) before.entry (map (clause_event texts.now.clauses) decls.now)) }
 {
@@ -86,43 +87,88 @@ fn with_clauses<'a>(
     Ok(events)
 }
 
+fn no_events<'a>(alloc: Global) -> Events<'a>
+    ensures { result ≡ no_events }
+{
+    Events {
+        sorts: Sorts::new(alloc),
+        free: List::new(alloc),
+    }
+}
+
+/// The events with one more at the end, unless one has its name.
 fn with_event<'a>(
     alloc: Global,
     types: &mut TypeTable<'_, 'a>,
-    events: Sorts<'a>,
+    events: Events<'a>,
     decl: &'a EventDecl,
     scope: Option<&Scope>,
-) -> Mem<Sorts<'a>>
+) -> Mem<Events<'a>>
     ensures kept { types.new ≡ types.old }
     ensures events { IfOk result (λ more. more ≡ keep_event types.old events.entry (event_at (option_copied scope.entry) decl.now)) }
 {
-    let own = declared_by(alloc, types, scope, &decl.set)?;
-    events.with(&decl.name, own)
+    let mark = is_free(types.profile(), decl.kind);
+    let own = event_types(alloc, types, decl, scope)?;
+    if events.sorts.place(decl.name.text()).is_some() {
+        return Ok(events);
+    }
+    let Events { sorts, mut free } = events;
+    free.push(mark)?;
+    let sorts = sorts.with(&decl.name, own)?;
+    Ok(Events { sorts, free })
 }
 
-/// Notes the refusals of events that a machine declares: P8.
-pub(crate) fn note_events(refusals: &mut Refusals, decls: &[EventDecl])
-    ensures { refusals.new ≡ noting refusals.old (flat_map event_refusals decls.now) }
+/// The types that are declared with an event. What is free has no variant.
+fn event_types<'a>(
+    alloc: Global,
+    types: &mut TypeTable<'_, 'a>,
+    decl: &'a EventDecl,
+    scope: Option<&Scope>,
+) -> Mem<Option<List<u32>>>
+    ensures kept { types.new ≡ types.old }
+    ensures types { IfOk result (λ found. found ≡ event_types types.old (event_at (option_copied scope.entry) decl.now)) }
+{
+    if is_free(types.profile(), decl.kind) {
+        return Ok(Some(List::new(alloc)));
+    }
+    declared_by(alloc, types, scope, &decl.set)
+}
+
+/// Whether an event of this kind is free by a profile.
+fn is_free(profile: Profile, kind: EventKind) -> bool
+    ensures { result ≡ is_free profile kind }
+{
+    !profile.is_first() && is_recovery(kind)
+}
+
+/// Notes the refusals of events that a machine declares: by the first profile P8.
+pub(crate) fn note_events(refusals: &mut Refusals, profile: Profile, decls: &[EventDecl])
+    ensures { refusals.new ≡ noting refusals.old (flat_map (event_refusals profile) decls.now) }
 {
     for decl in decls {
-        note_event(refusals, decl);
+        note_event(refusals, profile, decl);
     }
 }
 
 /// Notes the refusals of events that clauses declare.
-pub(crate) fn note_clause_events(refusals: &mut Refusals, events: &[InClause<'_, EventDecl>])
-    ensures { refusals.new ≡ noting refusals.old (clause_event_refusals events.now) }
+pub(crate) fn note_clause_events(
+    refusals: &mut Refusals,
+    profile: Profile,
+    events: &[InClause<'_, EventDecl>],
+)
+    ensures { refusals.new ≡ noting refusals.old (clause_event_refusals profile events.now) }
 {
     for event in events {
-        note_event(refusals, event.item());
+        note_event(refusals, profile, event.item());
     }
 }
 
 #[tactic(auto, using(noted_refusals::proofs::Noting::noted_more))]
-fn note_event(refusals: &mut Refusals, decl: &EventDecl)
-    ensures { refusals.new ≡ noting refusals.old (event_refusals decl.now) }
+fn note_event(refusals: &mut Refusals, profile: Profile, decl: &EventDecl)
+    ensures { refusals.new ≡ noting refusals.old (event_refusals profile decl.now) }
 {
-    refusals.note_if(is_recovery(decl.kind), Code::Recovery, decl.spot);
+    let refused = profile.is_first() && is_recovery(decl.kind);
+    refusals.note_if(refused, Code::Recovery, decl.spot);
 }
 
 fn is_recovery(kind: EventKind) -> bool

@@ -3,13 +3,12 @@ ghost use Rattle.noted_refusals.specs.inner.Noted.{noting};
 ghost use Rattle.std.specs.Option.{option_map_or};
 ghost use Rattle.propagation_points.specs.Settings.{state_refusals_in};
 ghost use Rattle.propagation_points.specs.States.{held_numbers};
-ghost use Rattle.error_conditions.specs.Conditions.{cause_of};
 ghost use Rattle.error_behavior.specs.Steps.{emission_of, origin_refusals, origin_of, outgoing_refusals, perhaps_refusals, step_of, targets_of, transition_refusals, trigger_of};
 
 use crate::steps::{Emission, Origin, Step};
 use crate::triggers::TriggerPlace;
 use aadl_syntax::{Condition, Outgoing, StateRef, Transition};
-use error_conditions::{Cause, cause_of};
+use error_conditions::{Cause, Side, cause_of};
 use error_types::Reading;
 use plain_values::{List, Mem};
 use propagation_points::{Held, PointUse, ReachedPoint, Setting};
@@ -104,7 +103,7 @@ fn step_of<'a>(
     ensures noted { OnOk result (reading.new.refusals ≡ noting reading.old.refusals (transition_refusals place.now reading.old.types transition.now)) }
 {
     let origin = origin_of(alloc, reading, &place.setting, &transition.source.state)?;
-    let trigger = cause_of(alloc, place, reading, &transition.condition)?;
+    let trigger = cause_of(alloc, place, Side::Holds, reading, &transition.condition)?;
     let targets = targets_of(alloc, reading, &place.setting, transition.targets.items())?;
     Ok(step_from(origin, trigger, targets))
 }
@@ -122,7 +121,7 @@ fn step_from(origin: Option<Origin>, trigger: Cause, targets: List<u32>) -> Opti
     }
 }
 
-/// The meaning of a trigger, if there is one. Its refusals are noted.
+/// When a trigger may hold, if there is one. Its refusals are noted.
 fn trigger_of<'a>(
     alloc: Global,
     reading: &mut Reading<'_, 'a>,
@@ -134,7 +133,7 @@ fn trigger_of<'a>(
     ensures noted { OnOk result (reading.new.refusals ≡ noting reading.old.refusals (perhaps_refusals place.now reading.old.types condition.now)) }
 {
     match condition {
-        Some(condition) => Ok(Some(cause_of(alloc, place, reading, condition)?)),
+        Some(condition) => Ok(Some(cause_of(alloc, place, Side::Holds, reading, condition)?)),
         None => Ok(None),
     }
 }

@@ -1,10 +1,14 @@
-ghost use Rattle.std.specs.Prelude.{◌≡◌, IfOk, OnOk, option_copied};
+ghost use Rattle.std.specs.Prelude.{◌≡◌, IfOk, OnOk, false, option_copied, slice_index_or};
 ghost use Rattle.noted_refusals.specs.inner.Noted.{noting};
-ghost use Rattle.error_behavior.specs.Triggers.{event_named, event_or_point, event_or_point_refusals, trigger_refusals, trigger_meaning};
+ghost use Rattle.error_behavior.specs.Triggers.{event_named, event_or_point, event_or_point_refusals, event_place, names_free, trigger_refusals, trigger_meaning};
 
 use aadl_syntax::Atom;
-use error_conditions::{Atoms, Cause, event_cause, note_no_errors, point_meaning};
+use error_conditions::{
+    Atoms, Cause, Side, event_cause, has_no_error, may_fail, note_no_errors, or_always,
+    point_meaning,
+};
 use error_libraries::Scope;
+use error_machines::Events;
 use error_types::Reading;
 use plain_values::Mem;
 use propagation_points::{Points, Setting, Sort, Sorts, only_name};
@@ -16,7 +20,7 @@ use std::marker::Model;
 #[derive(Drop)]
 pub(crate) struct TriggerPlace<'s, 'a> {
     pub(crate) setting: Setting<'s, 'a>,
-    pub(crate) events: &'s Sorts<'a>,
+    pub(crate) events: &'s Events<'a>,
 }
 
 /// What the triggers of a component may name: its points, its states and its events.
@@ -24,7 +28,7 @@ pub(crate) struct TriggerPlace<'s, 'a> {
 pub(crate) struct Vocabulary<'s, 'a> {
     points: &'s Points<'a>,
     states: &'s Sorts<'a>,
-    events: &'s Sorts<'a>,
+    events: &'s Events<'a>,
 }
 
 impl<'s, 'a> Model for Vocabulary<'s, 'a> {
@@ -46,7 +50,7 @@ impl<'s, 'a> Vocabulary<'s, 'a> {
     pub(crate) fn new(
         points: &'s Points<'a>,
         states: &'s Sorts<'a>,
-        events: &'s Sorts<'a>,
+        events: &'s Events<'a>,
     ) -> Vocabulary<'s, 'a>
         ensures { result ≡ record { points = points.now; states = states.now; events = events.now } }
     {
@@ -83,12 +87,45 @@ impl<'s, 'a> Model for TriggerPlace<'s, 'a> {
 impl<'s, 'a> TriggerPlace<'s, 'a> {
     /// The event that a named part names, if it names one.
     fn event(&self, atom: &Atom) -> Option<&'s Sort<'a>>
-        ensures { option_copied result ≡ event_named self.now.events atom.now }
+        ensures { option_copied result ≡ event_named self.now.events.sorts atom.now }
     {
         if atom.inward {
             return None;
         }
-        self.events.find(only_name(atom.names.items())?.text())
+        self.events
+            .sorts
+            .find(only_name(atom.names.items())?.text())
+    }
+
+    /// The place of the event that a named part names, if it names one.
+    fn event_place(&self, atom: &Atom) -> Option<u32>
+        ensures { result ≡ event_place self.now.events.sorts atom.now }
+    {
+        if atom.inward {
+            return None;
+        }
+        self.events
+            .sorts
+            .place(only_name(atom.names.items())?.text())
+    }
+
+    /// Whether a named part names an event that is free.
+    fn names_free(&self, atom: &Atom) -> bool
+        ensures { result ≡ names_free self.now.events atom.now }
+    {
+        match self.event_place(atom) {
+            Some(place) => is_marked(self.events.free.items(), place),
+            None => false,
+        }
+    }
+}
+
+fn is_marked(marks: &[bool], place: u32) -> bool
+    ensures { result ≡ slice_index_or marks.now place false }
+{
+    match marks.get(place as usize) {
+        Some(mark) => *mark,
+        None => false,
     }
 }
 
@@ -101,30 +138,35 @@ impl<'s, 'a> Atoms for TriggerPlace<'s, 'a> {
     fn meaning<'t>(
         &self,
         alloc: Global,
+        side: Side,
         reading: &mut Reading<'_, 't>,
         atom: &'t Atom,
     ) -> Mem<Cause> {
-        note_no_errors(&mut reading.refusals, &atom.set);
-        event_or_point(alloc, &self.setting, reading, atom, self.event(atom))
+        note_no_errors(&mut reading.refusals, reading.types.profile(), &atom.set);
+        let free = self.names_free(atom);
+        let cause = event_or_point(alloc, &self.setting, reading, atom, free, self.event(atom))?;
+        let holds = or_always(alloc, has_no_error(&atom.set), cause);
+        Ok(may_fail(alloc, side, holds))
     }
 }
 
-/// The meaning of a named part that names this event, or else a point. Its refusals are noted.
+/// When a named part may hold that names this event, which may be free, or else a point. Its refusals are noted.
 fn event_or_point<'a>(
     alloc: Global,
     setting: &Setting,
     reading: &mut Reading<'_, 'a>,
     atom: &'a Atom,
+    free: bool,
     event: Option<&Sort>,
 ) -> Mem<Cause>
     ensures kept { reading.new.types ≡ reading.old.types }
-    ensures meaning { IfOk result (λ cause. cause ≡ event_or_point reading.old.types setting.now atom.now (option_copied event.entry)) }
+    ensures meaning { IfOk result (λ cause. cause ≡ event_or_point reading.old.types setting.now atom.now free (option_copied event.entry)) }
     ensures noted { OnOk result (reading.new.refusals ≡ noting reading.old.refusals (event_or_point_refusals reading.old.types setting.now atom.now (option_copied event.entry))) }
 {
     match event {
         Some(event) => {
             let held = setting.held(alloc, reading, event, &atom.set)?;
-            event_cause(alloc, held)
+            Ok(or_always(alloc, free, event_cause(alloc, held)?))
         }
         None => point_meaning(alloc, setting, reading, atom),
     }

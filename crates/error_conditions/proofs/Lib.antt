@@ -1,1 +1,5 @@
 pub mod ConditionLaws
+pub mod Covering
+mod Examples
+mod First
+mod Telling

@@ -9,6 +9,7 @@ use Rattle.std.proofs.lemmas.Slice.Eq.{bytes_eq-Decides}
 use Rattle.aadl_syntax.specs.Form.{Byte, One, Perhaps, ◌followed_by◌, is_letter, is_letter_or_digit}
 use Rattle.plain_values.specs.Order.{IsClear}
 use Rattle.aadl_syntax.specs.inner.Token.{IsIdentifier}
+use Rattle.profiles.specs.declared.profile.Profile.{Profile}
 use Rattle.aadl_syntax.specs.declared.core_model.PackageUnit.{PackageUnit}
 use Rattle.aadl_syntax.specs.declared.error_model.TypeItem.{TypeItem}
 use Rattle.plain_values.specs.declared.refusal.Code.TheVariants.{DuplicateUnit}
@@ -129,7 +130,7 @@ module _ (each : Bool) where
 -- ---- names of types
 
 -- where the type of a number stands, and what it is called
-record Stands (packages : List PackageUnit) (number : ℕ) (id : ItemId) : Type 0 where
+record Stands (profile : Profile) (packages : List PackageUnit) (number : ℕ) (id : ItemId) : Type 0 where
   library : Library
   item : TypeItem
   unit : PackageUnit
@@ -137,10 +138,10 @@ record Stands (packages : List PackageUnit) (number : ℕ) (id : ItemId) : Type 
   holds : slice_get library.items id.item ≡ Some item
   so : is_counted false library.items id.item item ≡ true
   home : slice_get packages id.«package» ≡ Some unit
-  is : name_of (table_of packages) number ≡ Some (record { library = unit.name; name = item.name })
+  is : name_of (table_of profile packages) number ≡ Some (record { library = unit.name; name = item.name })
 
-stands : (packages : List PackageUnit) (number : ℕ) (id : ItemId) → slice_get (table_of packages).types number ≡ Some id → Stands packages number id
-stands packages number id at =
+stands : (profile : Profile) (packages : List PackageUnit) (number : ℕ) (id : ItemId) → slice_get (table_of profile packages).types number ≡ Some id → Stands profile packages number id
+stands profile packages number id at =
     let (library, item, has, holds, so) = type-at false (libraries_of packages) number id at in
     let (unit, home, made) = single (λ n unit. library_of packages n unit) 0 packages id.«package» library has in
     let there : item_at (libraries_of packages) id ≡ Some item = ap (option_and_then (λ l. slice_get l.items id.item)) has ∙ holds in
@@ -153,16 +154,16 @@ stands packages number id at =
       so = so;
       home = home;
       is =
-          ap (option_and_then (item_name (table_of packages))) at
+          ap (option_and_then (item_name (table_of profile packages))) at
           ∙ (λ i. option_and_then (λ u. option_map (λ t. record { library = u.name; name = t.name }) (there i)) (home i));
     }
 
 -- what has a name is a type
-pub named-all : (packages : List PackageUnit) (number : ℕ) → IsSome (name_of (table_of packages) number) ↔ (number < length (table_of packages).types)
-named-all packages number =
-    elim (slice_get_cases (table_of packages).types number).1 [
-      | inl here ↦ (let (id, within, at, is) = here in (λ some. within, λ less. subst IsSome (sym (stands packages number id at).is) refl))
-      | inr past ↦ (let (beyond, none) = past in (λ some. absurd (false≢true (subst IsSome (ap (option_and_then (item_name (table_of packages))) none) some)), λ less. absurd (omega (arith, beyond, less))))
+pub named-all : (profile : Profile) (packages : List PackageUnit) (number : ℕ) → IsSome (name_of (table_of profile packages) number) ↔ (number < length (table_of profile packages).types)
+named-all profile packages number =
+    elim (slice_get_cases (table_of profile packages).types number).1 [
+      | inl here ↦ (let (id, within, at, is) = here in (λ some. within, λ less. subst IsSome (sym (stands profile packages number id at).is) refl))
+      | inr past ↦ (let (beyond, none) = past in (λ some. absurd (false≢true (subst IsSome (ap (option_and_then (item_name (table_of profile packages))) none) some)), λ less. absurd (omega (arith, beyond, less))))
     ]
 
 -- ---- packages
@@ -171,7 +172,7 @@ same-names : (names : List (List ℕ)) → is_same_name names names ≡ true
 same-names [] = refl
 same-names (name ∷ names) = and_from _ _ ((bytes_eq-Decides name name).1 refl) (same-names names)
 
-module _ (packages : List PackageUnit) where
+module _ (profile : Profile) (packages : List PackageUnit) where
   second : (p q : ℕ) (earlier later : PackageUnit) → p < q → slice_get packages p ≡ Some earlier → slice_get packages q ≡ Some later → later.name ≡ earlier.name → IsSecondPackage packages (refusal DuplicateUnit (place_of later.spot))
   second p q earlier later before a b same =
       let within = slice_get_within packages q later b in
@@ -205,7 +206,7 @@ module _ (packages : List PackageUnit) where
   first-place : (items : List TypeItem) (place : ℕ) (item : TypeItem) → is_counted false items place item ≡ true → position (is_type_named item.name) items ≡ Some place
   first-place items place item so = placed (position (is_type_named item.name) items) place (and_parts (is_type item.kind) (is_place (position (is_type_named item.name) items) place) so).1
 
-  one-type : IsClear (IsDuplicate packages) → (a b : ℕ) (x y : ItemId) (s : Stands packages a x) (t : Stands packages b y) → s.unit.name ≡ t.unit.name → s.item.name ≡ t.item.name → x ≡ y
+  one-type : IsClear (IsDuplicate packages) → (a b : ℕ) (x y : ItemId) (s : Stands profile packages a x) (t : Stands profile packages b y) → s.unit.name ≡ t.unit.name → s.item.name ≡ t.item.name → x ≡ y
   one-type clear a b x y s t home name =
       let p : x.«package» ≡ y.«package» = one-package clear x.«package» y.«package» s.unit t.unit s.home t.home home in
       let l : s.library ≡ t.library = same_Some s.library t.library (sym s.has ∙ ap (slice_get (libraries_of packages)) p ∙ t.has) in
@@ -214,18 +215,18 @@ module _ (packages : List PackageUnit) where
       λ k. record { «package» = p k; item = i k }
 
   -- one name, one number
-  names-once : IsClear (IsDuplicate packages) → (a b : ℕ) (name other : TypeName) → name_of (table_of packages) a ≡ Some name → name_of (table_of packages) b ≡ Some other → name ≡ other → a ≡ b
+  names-once : IsClear (IsDuplicate packages) → (a b : ℕ) (name other : TypeName) → name_of (table_of profile packages) a ≡ Some name → name_of (table_of profile packages) b ≡ Some other → name ≡ other → a ≡ b
   names-once clear a b name other is its same =
-      option_and_then_some (item_name (table_of packages)) (slice_get (table_of packages).types a) name is
+      option_and_then_some (item_name (table_of profile packages)) (slice_get (table_of profile packages).types a) name is
       (λ x at _.
-      option_and_then_some (item_name (table_of packages)) (slice_get (table_of packages).types b) other its
+      option_and_then_some (item_name (table_of profile packages)) (slice_get (table_of profile packages).types b) other its
       (λ y there _.
-      let s = stands packages a x at in
-      let t = stands packages b y there in
+      let s = stands profile packages a x at in
+      let t = stands profile packages b y there in
       let one : record { library = s.unit.name; name = s.item.name } ≡ record { library = t.unit.name; name = t.item.name } =
       same_Some _ _ (sym s.is ∙ is ∙ ap Some same ∙ sym its ∙ t.is) in
       let id = one-type clear a b x y s t (ap (λ n. n.library) one) (ap (λ n. n.name) one) in
-      types-once false (libraries_of packages) a b y (subst (λ z. slice_get (table_of packages).types a ≡ Some z) id at) there))
+      types-once false (libraries_of packages) a b y (subst (λ z. slice_get (table_of profile packages).types a ≡ Some z) id at) there))
 
 -- ---- texts
 
@@ -291,13 +292,13 @@ alike (name ∷ names) (more ∷ others) last other p q l o e =
     let both = alike names others last other p.1 q.1 l o rest in
     (λ i. first.0 i ∷ both.0 i, both.1)
 
-pub print-apart : (packages : List PackageUnit) → PrintApart packages
-print-apart packages clear a b name other is its form its_form same =
+pub print-apart : (profile : Profile) (packages : List PackageUnit) → PrintApart profile packages
+print-apart profile packages clear a b name other is its form its_form same =
     let both = alike name.library other.library name.name other.name form.library its_form.library form.name its_form.name same in
-    names-once packages clear a b name other is its (λ i. record { library = both.0 i; name = both.1 i })
+    names-once profile packages clear a b name other is its (λ i. record { library = both.0 i; name = both.1 i })
 
 -- the name that a table has for a number
-pub known-by-number : (table : Table) (number : ℕ) (found : Option TypeName) → table ≡ table_of table.packages → found ≡ name_of table number → IsSome found ↔ (number < length table.types)
+pub known-by-number : (table : Table) (number : ℕ) (found : Option TypeName) → table ≡ table_of table.profile table.packages → found ≡ name_of table number → IsSome found ↔ (number < length table.types)
 known-by-number table number found made is =
     subst (λ o. IsSome o ↔ (number < length table.types)) (sym is)
-    (subst (λ t. IsSome (name_of t number) ↔ (number < length t.types)) (sym made) (named-all table.packages number))
+    (subst (λ t. IsSome (name_of t number) ↔ (number < length t.types)) (sym made) (named-all table.profile table.packages number))

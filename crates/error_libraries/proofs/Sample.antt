@@ -8,6 +8,7 @@ use Rattle.aadl_syntax.specs.declared.error_model.TypeKind.TheVariants.{Alias, P
 use Rattle.aadl_syntax.specs.declared.error_model.TypeSet.{TypeSet}
 use Rattle.aadl_syntax.specs.declared.place.Ref.{Ref}
 use Rattle.plain_values.specs.declared.spot.Spot.{Spot}
+use Rattle.profiles.specs.declared.profile.Profile.TheVariants.{First}
 use Rattle.error_libraries.specs.Libraries.{Table, table_of}
 
 -- ---- parts of a text
@@ -64,4 +65,4 @@ abbrev pub packages : List PackageUnit
 packages = library_unit ∷ device_unit ∷ []
 
 abbrev pub table : Table
-table = table_of packages
+table = table_of First packages

@@ -3,6 +3,7 @@ use Rattle.std.specs.Prelude.{◌≡◌, ℕ, ◌<◌, Bool, true, false, cond, 
 use Rattle.std.specs.List.{list_any}
 use Rattle.plain_values.specs.Name.{is_same_text}
 use Rattle.plain_values.specs.Order.{least}
+use Rattle.profiles.specs.declared.profile.Profile.{Profile}
 use Rattle.aadl_syntax.specs.declared.core_model.PackageUnit.{PackageUnit}
 use Rattle.aadl_syntax.specs.declared.error_model.TypeItem.{TypeItem}
 use Rattle.aadl_syntax.specs.declared.error_model.TypeKind.{TypeKind}
@@ -146,15 +147,16 @@ declared_types libraries = types_by true libraries
 
 -- ---- the table
 
--- What is known of the types of all packages.
+-- What is known of the types of all packages, and the profile by which they are read.
 pub record Table : Type 0 where
+  pub profile : Profile
   pub packages : List PackageUnit
   pub libraries : List Library
   pub types : List ItemId
 
--- what the packages declare
-abbrev pub table_of : List PackageUnit → Table
-table_of packages = record { packages = packages; libraries = libraries_of packages; types = types_of (libraries_of packages) }
+-- what the packages declare, read by this profile
+abbrev pub table_of : Profile → List PackageUnit → Table
+table_of profile packages = record { profile = profile; packages = packages; libraries = libraries_of packages; types = types_of (libraries_of packages) }
 
 -- the number of a type
 abbrev pub number_of : Table → ItemId → Option ℕ

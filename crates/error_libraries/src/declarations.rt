@@ -16,6 +16,7 @@ use crate::type_name::TypeName;
 use aadl_syntax::{PackageUnit, Ref, TypeItem};
 use package_index::{Index, Words};
 use plain_values::{Code, FirstRefusal, List, Mem, Refusal, Spot};
+use profiles::Profile;
 use std::alloc::Global;
 use std::collections::HashMap;
 use std::marker::Model;
@@ -27,9 +28,10 @@ struct Declared<'t, 'a> {
     libraries: &'t [Library<'a>],
 }
 
-/// What the libraries of all packages declare. Contracts see the packages, the libraries and the types.
+/// What the libraries of all packages declare. Contracts see the profile, the packages, the libraries and the types.
 #[derive(Drop)]
 pub struct Declarations<'i, 'a> {
+    profile: Profile,
     index: &'i Index<'a>,
     libraries: List<Library<'a>>,
     types: List<ItemId>,
@@ -52,23 +54,24 @@ impl<'i, 'a> Model for Declarations<'i, 'a> {
 
     ghost coded = { Prim.hlevel (codes, condition.the_row.coded) };
 
-    ghost view = { λ d. record { packages = d.index.now; libraries = d.libraries; types = d.types } };
+    ghost view = { λ d. record { profile = d.profile; packages = d.index.now; libraries = d.libraries; types = d.types } };
 
     ghost invariant = { λ d. Knows has_number d.types (get same_pair d.numbers)
         × (d.nowhere ≡ record { «package» = 0; libraries = [] })
-        × (record { packages = d.index.now; libraries = d.libraries; types = d.types } ≡ table_of d.index.now)
+        × (record { profile = d.profile; packages = d.index.now; libraries = d.libraries; types = d.types } ≡ table_of d.profile d.index.now)
         × AreFound d.libraries (get same_search d.known) };
 }
 
 impl<'i, 'a> Declarations<'i, 'a> {
-    /// What the packages of an index declare.
-    pub fn of(alloc: Global, index: &'i Index<'a>) -> Mem<Declarations<'i, 'a>>
-        ensures { IfOk result (λ made. made ≡ table_of index.now) }
+    /// What the packages of an index declare, read by this profile.
+    pub fn of(alloc: Global, profile: Profile, index: &'i Index<'a>) -> Mem<Declarations<'i, 'a>>
+        ensures { IfOk result (λ made. made ≡ table_of profile index.now) }
     {
         let libraries = libraries_of(alloc, index)?;
         let types = types_by(alloc, false, libraries.items())?;
         let numbers = numbers_of(alloc, types.items())?;
         Ok(Declarations {
+            profile,
             index,
             libraries,
             types,
@@ -79,6 +82,13 @@ impl<'i, 'a> Declarations<'i, 'a> {
             },
             known: HashMap::new(alloc),
         })
+    }
+
+    /// The profile by which they are read.
+    pub fn profile(&self) -> Profile
+        ensures { result ≡ self.now.profile }
+    {
+        self.profile
     }
 
     /// The types, in order.
@@ -92,7 +102,7 @@ impl<'i, 'a> Declarations<'i, 'a> {
     /// The item of the type of a number.
     pub fn type_id(&self, number: u32) -> Option<ItemId>
         ensures item { result ≡ slice_get self.now.types number }
-        ensures made { self.now ≡ table_of self.now.packages }
+        ensures made { self.now ≡ table_of self.now.profile self.now.packages }
     {
         self.types.items().get(number as usize).copied()
     }

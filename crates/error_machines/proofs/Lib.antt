@@ -1,1 +1,3 @@
 pub mod StateLaws
+mod Examples
+mod FirstLaws

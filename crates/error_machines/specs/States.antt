@@ -1,5 +1,7 @@
 -- The states and the events of a component (EMV2: error behavior states and events).
-use Rattle.std.specs.Prelude.{ℕ, Bool, true, false, List, [], ◌∷◌, ◌++◌, fold, map, slice_get, Option, Some, None}
+use Rattle.std.specs.Prelude.{ℕ, Bool, true, false, ◌&&◌, not, List, [], ◌∷◌, ◌++◌, cond, fold, map, slice_get, Option, Some, None}
+use Rattle.profiles.specs.declared.profile.Profile.{Profile}
+use Rattle.profiles.specs.Profiles.{is_first}
 use Rattle.aadl_syntax.specs.declared.error_model.EventDecl.{EventDecl}
 use Rattle.aadl_syntax.specs.declared.error_model.EventKind.{EventKind}
 use Rattle.aadl_syntax.specs.declared.error_model.EventKind.TheVariants.{Error, Recover, Repair}
@@ -14,6 +16,7 @@ use Rattle.error_libraries.specs.Libraries.{Table}
 use Rattle.error_types.specs.Types.{text_scope}
 use Rattle.propagation_points.specs.Points.{scopes_of}
 use Rattle.propagation_points.specs.States.{Sort, declared_by, keep_sort, place_of_sort, variant_types}
+use Rattle.error_machines.specs.declared.states.Events.{Events}
 use Rattle.error_machines.specs.declared.states.States.{States}
 use Rattle.error_machines.specs.Machines.{Machine}
 
@@ -73,20 +76,39 @@ clause_event scopes scoped = event_at (slice_get scopes scoped.scope) scoped.ite
 abbrev pub clause_events : Table → Effective → List EventAt
 clause_events table effective = map (clause_event (scopes_of table.packages effective.clauses)) effective.behavior.events
 
--- the events with one more at the end
-abbrev pub keep_event : Table → List Sort → EventAt → List Sort
-keep_event table events event = keep_sort events event.decl.name (declared_by table event.scope event.decl.set)
-
--- The events of a component, in order: those of its machine, then those of its clauses. Of two of one name the first counts.
-abbrev pub events_of : Table → Option Machine → Effective → List Sort
-events_of table machine effective = fold (keep_event table) [] (machine_events table machine ++ clause_events table effective)
-
 -- whether an event takes a component back to an earlier state
 abbrev pub is_recovery : EventKind → Bool
 is_recovery Error = false
 is_recovery Recover = true
 is_recovery Repair = true
 
--- the refusal of an event: P8 where it is a recover or a repair event
-abbrev pub event_refusals : EventDecl → List Refusal
-event_refusals event = refused_so (is_recovery event.kind) Recovery event.spot
+-- Whether an event may happen at any time and costs nothing, so that it is no basic event: by the second profile a recover or a
+-- repair event.
+abbrev pub is_free : Profile → EventKind → Bool
+is_free profile kind = not (is_first profile) && is_recovery kind
+
+-- the types that are declared with an event; what is free has no variant
+abbrev pub event_types : Table → EventAt → Option (List ℕ)
+event_types table event = cond (is_free table.profile event.decl.kind) (Some []) (declared_by table event.scope event.decl.set)
+
+-- no events
+abbrev pub no_events : Events
+no_events = record { sorts = []; free = [] }
+
+-- the events with one more at the end, of this name and with these types, unless one has its name and this place
+abbrev pub keep_event_at : Option ℕ → Events → List ℕ → Option (List ℕ) → Bool → Events
+keep_event_at (Some place) events name types free = events
+keep_event_at None events name types free = record { sorts = keep_sort events.sorts name types; free = events.free ++ free ∷ [] }
+
+-- The events with one more at the end. Of two events of one name the first counts, whatever its kind.
+abbrev pub keep_event : Table → Events → EventAt → Events
+keep_event table events event =
+    keep_event_at (place_of_sort events.sorts event.decl.name) events event.decl.name (event_types table event) (is_free table.profile event.decl.kind)
+
+-- The events of a component, in order: those of its machine, then those of its clauses; and which of them are free.
+abbrev pub events_of : Table → Option Machine → Effective → Events
+events_of table machine effective = fold (keep_event table) no_events (machine_events table machine ++ clause_events table effective)
+
+-- the refusal of an event: by the first profile P8 where it is a recover or a repair event
+abbrev pub event_refusals : Profile → EventDecl → List Refusal
+event_refusals profile event = refused_so (is_first profile && is_recovery event.kind) Recovery event.spot

@@ -19,6 +19,13 @@ pub struct States<'a> {
     pub always: List<bool>,
 }
 
+/// The events of a component, in order, each name once; and which of them are free: they may happen at any time and have no variant.
+#[derive(Drop)]
+pub struct Events<'a> {
+    pub sorts: Sorts<'a>,
+    pub free: List<bool>,
+}
+
 /// The states of a component that uses this machine, if it uses one.
 pub fn states_of<'a>(
     alloc: Global,

@@ -53,17 +53,17 @@ with-least table effective machine below =
     ∙ ap (option_or (least first)) (least-or second (or_group third last) ∙ ap (option_or (least second)) (least-or third last))
 
 -- the same for a component of a classifier
-pub group-is : (table : Table) (ids : List ClassifierId) (id : ClassifierId) → group_with table (effective_of table.packages id) (kind_machine table.packages id) (states_below table.packages ids (Some id)) ≡ model_group table ids id
+pub group-is : (table : Table) (ids : List ClassifierId) (id : ClassifierId) → group_with table (effective_of table.packages id) (kind_machine table.packages id) (states_below table.profile table.packages ids (Some id)) ≡ model_group table ids id
 unfolding model_group
 group-is table ids id = refl
 
-refusal-is : (table : Table) (ids : List ClassifierId) (id : ClassifierId) → refusal_with table (effective_of table.packages id) (kind_machine table.packages id) (states_below table.packages ids (Some id)) ≡ model_refusal table ids id
+refusal-is : (table : Table) (ids : List ClassifierId) (id : ClassifierId) → refusal_with table (effective_of table.packages id) (kind_machine table.packages id) (states_below table.profile table.packages ids (Some id)) ≡ model_refusal table ids id
 unfolding model_refusal
 refusal-is table ids id = refl
 
 model-least : (table : Table) (ids : List ClassifierId) (id : ClassifierId) → least (model_group table ids id) ≡ model_refusal table ids id
 model-least table ids id =
-    ap least (sym (group-is table ids id)) ∙ with-least table (effective_of table.packages id) (kind_machine table.packages id) (states_below table.packages ids (Some id)) ∙ refusal-is table ids id
+    ap least (sym (group-is table ids id)) ∙ with-least table (effective_of table.packages id) (kind_machine table.packages id) (states_below table.profile table.packages ids (Some id)) ∙ refusal-is table ids id
 
 all-least : (table : Table) (ids xs : List ClassifierId) → least (first_group (map (model_group table ids) xs)) ≡ first_of (map (model_refusal table ids) xs)
 all-least table ids [] = refl

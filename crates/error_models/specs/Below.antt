@@ -1,6 +1,7 @@
 -- The machines and the states of the components of an instance (AS5506: subcomponents; EMV2: `use behavior`).
 use Rattle.std.specs.Prelude.{ℕ, List, [], ◌∷◌, find, Option, Some, None, option_map, option_and_then, Result, Ok, Err}
 use Rattle.plain_values.specs.Name.{is_same_text}
+use Rattle.profiles.specs.declared.profile.Profile.{Profile}
 use Rattle.aadl_syntax.specs.declared.core_model.PackageUnit.{PackageUnit}
 use Rattle.plain_values.specs.declared.refusal.Refusal.{Refusal}
 use Rattle.package_index.specs.declared.id.ClassifierId.{ClassifierId}
@@ -32,8 +33,8 @@ unfoldable pub kind_machine : List PackageUnit → ClassifierId → Option Machi
 kind_machine packages id = machine_of packages (effective_of packages id)
 
 -- The states of a component of this classifier.
-abbrev pub kind_states : List PackageUnit → ClassifierId → States
-kind_states packages id = states_of (table_of packages) (kind_machine packages id)
+abbrev pub kind_states : Profile → List PackageUnit → ClassifierId → States
+kind_states profile packages id = states_of (table_of profile packages) (kind_machine packages id)
 
 -- ---- components below
 
@@ -69,10 +70,10 @@ classifier_below packages kinds classifier [] = Some classifier
 classifier_below packages kinds classifier (name ∷ names) = option_and_then (λ below. classifier_below packages kinds below names) (step_below packages kinds classifier name)
 
 -- the states of a component of this classifier: without one it has none
-abbrev pub states_named : List PackageUnit → List ClassifierId → Option ClassifierId → Option (List Sort)
-states_named packages kinds None = Some []
-states_named packages kinds (Some id) = option_map (λ kind. (kind_states packages kind).sorts) (kind_among kinds id)
+abbrev pub states_named : Profile → List PackageUnit → List ClassifierId → Option ClassifierId → Option (List Sort)
+states_named profile packages kinds None = Some []
+states_named profile packages kinds (Some id) = option_map (λ kind. (kind_states profile packages kind).sorts) (kind_among kinds id)
 
 -- The states of the components below a component of this classifier.
-abbrev pub states_below : List PackageUnit → List ClassifierId → Option ClassifierId → StatesAt
-states_below packages kinds classifier names = option_and_then (states_named packages kinds) (classifier_below packages kinds classifier names)
+abbrev pub states_below : Profile → List PackageUnit → List ClassifierId → Option ClassifierId → StatesAt
+states_below profile packages kinds classifier names = option_and_then (states_named profile packages kinds) (classifier_below packages kinds classifier names)

@@ -35,4 +35,4 @@ model_with table effective machine below = record {
 -- The error model of a component of this classifier, in an instance of these kinds of components.
 unfoldable pub model_of : Table → List ClassifierId → ClassifierId → ErrorModel
 model_of table kinds id =
-    model_with table (effective_of table.packages id) (kind_machine table.packages id) (states_below table.packages kinds (Some id))
+    model_with table (effective_of table.packages id) (kind_machine table.packages id) (states_below table.profile table.packages kinds (Some id))

@@ -66,7 +66,7 @@ refusal_with table effective machine below =
 -- the same for a component of this classifier
 unfoldable pub model_refusal : Table → List ClassifierId → ClassifierId → Option Refusal
 model_refusal table kinds id =
-    refusal_with table (effective_of table.packages id) (kind_machine table.packages id) (states_below table.packages kinds (Some id))
+    refusal_with table (effective_of table.packages id) (kind_machine table.packages id) (states_below table.profile table.packages kinds (Some id))
 
 -- The refusal of the error models: that of the first component that has one.
 abbrev pub models_refusal : Table → List ClassifierId → Option Refusal
@@ -84,7 +84,7 @@ group_with table effective machine below =
 -- the same for a component of this classifier
 unfoldable pub model_group : Table → List ClassifierId → ClassifierId → List Refusal
 model_group table kinds id =
-    group_with table (effective_of table.packages id) (kind_machine table.packages id) (states_below table.packages kinds (Some id))
+    group_with table (effective_of table.packages id) (kind_machine table.packages id) (states_below table.profile table.packages kinds (Some id))
 
 -- The group of the error models: that of the first component of which anything is refused.
 abbrev pub models_group : Table → List ClassifierId → List Refusal

@@ -38,7 +38,7 @@ pub fn models_of<'a>(
     reading: &mut Reading<'_, 'a>,
 ) -> Answer<List<ErrorModel<'a>>>
     requires machines { machines.now ≡ map (kind_machine instance.now.packages) instance.now.kinds }
-    requires table { reading.old.types ≡ table_of instance.now.packages }
+    requires table { reading.old.types ≡ table_of reading.old.types.profile instance.now.packages }
     ensures kept { reading.new.types ≡ reading.old.types }
     ensures models { IfOk result (λ models. models ≡ map (model_of reading.old.types instance.now.kinds) instance.now.kinds) }
     ensures accepted { OnOk result (models_refusal reading.old.types instance.now.kinds ≡ None) }
@@ -67,10 +67,10 @@ fn model_of<'a>(
     below: &BelowKind<'_, '_, '_, 'a>,
 ) -> Answer<ErrorModel<'a>>
     ensures kept { reading.new.types ≡ reading.old.types }
-    ensures model { IfOk result (λ model. model ≡ model_with reading.old.types effective.now machine.now (states_below below.now.tree.packages below.now.tree.kinds (Some below.now.classifier))) }
-    ensures accepted { OnOk result (refusal_with reading.old.types effective.now machine.now (states_below below.now.tree.packages below.now.tree.kinds (Some below.now.classifier)) ≡ None) }
-    ensures refused { IfErr result (StopsAt (refusal_with reading.old.types effective.now machine.now (states_below below.now.tree.packages below.now.tree.kinds (Some below.now.classifier)))) }
-    ensures told { IfErr result (TellsFirst (group_with reading.old.types effective.now machine.now (states_below below.now.tree.packages below.now.tree.kinds (Some below.now.classifier))) reading.new.refusals) }
+    ensures model { IfOk result (λ model. model ≡ model_with reading.old.types effective.now machine.now (states_below below.now.tree.profile below.now.tree.packages below.now.tree.kinds (Some below.now.classifier))) }
+    ensures accepted { OnOk result (refusal_with reading.old.types effective.now machine.now (states_below below.now.tree.profile below.now.tree.packages below.now.tree.kinds (Some below.now.classifier)) ≡ None) }
+    ensures refused { IfErr result (StopsAt (refusal_with reading.old.types effective.now machine.now (states_below below.now.tree.profile below.now.tree.packages below.now.tree.kinds (Some below.now.classifier)))) }
+    ensures told { IfErr result (TellsFirst (group_with reading.old.types effective.now machine.now (states_below below.now.tree.profile below.now.tree.packages below.now.tree.kinds (Some below.now.classifier))) reading.new.refusals) }
 {
     let points = points(alloc, effective, reading)?;
     let states = states_of(alloc, &mut reading.types, machine)?;
@@ -163,10 +163,10 @@ fn composites<'a>(
     below: &BelowKind<'_, '_, '_, 'a>,
 ) -> Answer<List<ClauseMeaning>>
     ensures kept { reading.new.types ≡ reading.old.types }
-    ensures clauses { IfOk result (λ clauses. clauses ≡ clauses_of (states_below below.now.tree.packages below.now.tree.kinds (Some below.now.classifier)) reading.old.types points.now states.now effective.now) }
-    ensures accepted { OnOk result (least (composite_clause_refusals (states_below below.now.tree.packages below.now.tree.kinds (Some below.now.classifier)) reading.old.types points.now states.now effective.now) ≡ None) }
-    ensures refused { IfErr result (StopsAt (least (composite_clause_refusals (states_below below.now.tree.packages below.now.tree.kinds (Some below.now.classifier)) reading.old.types points.now states.now effective.now))) }
-    ensures told { IfErr result (Tells (composite_clause_refusals (states_below below.now.tree.packages below.now.tree.kinds (Some below.now.classifier)) reading.old.types points.now states.now effective.now) reading.new.refusals) }
+    ensures clauses { IfOk result (λ clauses. clauses ≡ clauses_of (states_below below.now.tree.profile below.now.tree.packages below.now.tree.kinds (Some below.now.classifier)) reading.old.types points.now states.now effective.now) }
+    ensures accepted { OnOk result (least (composite_clause_refusals (states_below below.now.tree.profile below.now.tree.packages below.now.tree.kinds (Some below.now.classifier)) reading.old.types points.now states.now effective.now) ≡ None) }
+    ensures refused { IfErr result (StopsAt (least (composite_clause_refusals (states_below below.now.tree.profile below.now.tree.packages below.now.tree.kinds (Some below.now.classifier)) reading.old.types points.now states.now effective.now))) }
+    ensures told { IfErr result (Tells (composite_clause_refusals (states_below below.now.tree.profile below.now.tree.packages below.now.tree.kinds (Some below.now.classifier)) reading.old.types points.now states.now effective.now) reading.new.refusals) }
 {
     reading.refusals.clear();
     let clauses = clauses_of(alloc, effective, reading, points, states, below)?;

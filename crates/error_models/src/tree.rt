@@ -12,13 +12,16 @@ use error_types::TypeTable;
 use instantiator::{Instance, Kind, Part, parts_of};
 use package_index::ClassifierId;
 use plain_values::{List, Mem};
+use profiles::Profile;
 use propagation_points::Sorts;
 use std::alloc::Global;
 use std::marker::Model;
 
-/// The kinds of an instance, with their subcomponents and states. Contracts see the kinds, and the packages in which they stand.
+/// The kinds of an instance, with their subcomponents and states. Contracts see the kinds, the packages in which they stand, and the
+/// profile by which these are read.
 #[derive(Drop)]
 pub(crate) struct Tree<'t, 'i, 'a> {
+    profile: Profile,
     instance: &'t Instance<'i, 'a>,
     parts: List<List<Part<'a>>>,
     states: List<States<'a>>,
@@ -37,9 +40,9 @@ impl<'t, 'i, 'a> Model for Tree<'t, 'i, 'a> {
     ghost use Rattle.std.specs.Prelude.{◌≡◌, []};
     ghost use Rattle.error_models.specs.inner.Trees.{IsTree};
 
-    ghost view = { λ t. record { packages = t.instance.now.packages; kinds = t.instance.now.kinds } };
+    ghost view = { λ t. record { profile = t.profile; packages = t.instance.now.packages; kinds = t.instance.now.kinds } };
 
-    ghost invariant = { λ t. IsTree t.instance.now.packages t.instance.now.kinds t.parts t.states × (t.nothing ≡ []) };
+    ghost invariant = { λ t. IsTree t.profile t.instance.now.packages t.instance.now.kinds t.parts t.states × (t.nothing ≡ []) };
 }
 
 impl<'t, 'i, 'a> Tree<'t, 'i, 'a> {
@@ -51,13 +54,15 @@ impl<'t, 'i, 'a> Tree<'t, 'i, 'a> {
         types: &mut TypeTable<'_, 'a>,
     ) -> Mem<Tree<'t, 'i, 'a>>
         requires machines { machines.now ≡ map (kind_machine instance.now.packages) instance.now.kinds }
-        requires table { types.old ≡ table_of instance.now.packages }
+        requires table { types.old ≡ table_of types.old.profile instance.now.packages }
         ensures kept { types.new ≡ types.old }
-        ensures tree { IfOk result (λ tree. tree ≡ record { packages = instance.now.packages; kinds = instance.now.kinds }) }
+        ensures tree { IfOk result (λ tree. tree ≡ record { profile = types.old.profile; packages = instance.now.packages; kinds = instance.now.kinds }) }
     {
+        let profile = types.profile();
         let parts = all_parts(alloc, instance)?;
         let states = all_states(alloc, machines, types)?;
         Ok(Tree {
+            profile,
             instance,
             parts,
             states,
@@ -120,7 +125,7 @@ impl<'t, 'i, 'a> Tree<'t, 'i, 'a> {
 
     /// The states of a component of a classifier.
     fn states_named(&self, classifier: Option<ClassifierId>) -> Option<&Sorts<'a>>
-        ensures { option_copied result ≡ states_named self.now.packages self.now.kinds classifier }
+        ensures { option_copied result ≡ states_named self.now.profile self.now.packages self.now.kinds classifier }
     {
         match classifier {
             Some(id) => self.kind_states(id),
@@ -129,7 +134,7 @@ impl<'t, 'i, 'a> Tree<'t, 'i, 'a> {
     }
 
     fn kind_states(&self, id: ClassifierId) -> Option<&Sorts<'a>>
-        ensures { option_copied result ≡ option_map (λ kind. (kind_states self.now.packages kind).sorts) (kind_among self.now.kinds id) }
+        ensures { option_copied result ≡ option_map (λ kind. (kind_states self.now.profile self.now.packages kind).sorts) (kind_among self.now.kinds id) }
     {
         let states = self.states.items().get(self.number(id)?)?;
         Some(&states.sorts)
@@ -223,7 +228,7 @@ impl<'b, 't, 'i, 'a> StatesBelow<'a> for BelowKind<'b, 't, 'i, 'a> {
     ghost use Rattle.std.specs.Prelude.{Some};
     ghost use Rattle.error_models.specs.Below.{states_below};
 
-    ghost states_at = { λ below. states_below below.tree.packages below.tree.kinds (Some below.classifier) };
+    ghost states_at = { λ below. states_below below.tree.profile below.tree.packages below.tree.kinds (Some below.classifier) };
 
     fn states_at(&self, path: &[Identifier]) -> Option<&Sorts<'a>> {
         let below = self.tree.classifier_below(self.classifier, path)?;

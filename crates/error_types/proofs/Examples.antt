@@ -5,6 +5,7 @@ use Rattle.aadl_syntax.specs.declared.error_model.TypeKind.TheVariants.{Alias, P
 use Rattle.plain_values.specs.declared.refusal.Code.TheVariants.{CyclicType, UnknownType}
 use Rattle.plain_values.specs.Refusal.{place_of, refusal}
 use Rattle.error_libraries.specs.declared.scope.Scope.{Scope}
+use Rattle.profiles.specs.declared.profile.Profile.TheVariants.{First}
 use Rattle.error_libraries.specs.Libraries.{Table, table_of}
 use Rattle.error_libraries.specs.Search.{searched}
 use Rattle.error_types.specs.Types.{denoted, is_below, is_below_in, text_scope, type_named}
@@ -60,7 +61,7 @@ abbrev in_library : Scope
 in_library = record { «package» = 0; libraries = 0 ∷ [] }
 
 abbrev table_with : List TypeItem → Table
-table_with items = table_of (library_with (codes "l") items ∷ [])
+table_with items = table_of First (library_with (codes "l") items ∷ [])
 
 -- types that extend each other: N8 at the name that leads back
 abbrev circle : List TypeItem

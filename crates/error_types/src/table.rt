@@ -16,6 +16,7 @@ use error_libraries::{Declarations, Library, Scope, TypeName, add_named, note_un
 use noted_refusals::Refusals;
 use package_index::Index;
 use plain_values::{Answer, Code, FirstRefusal, List, Mem, Refusal, Stop};
+use profiles::Profile;
 use std::alloc::Global;
 use std::marker::Model;
 
@@ -42,15 +43,15 @@ impl<'i, 'a> Model for TypeTable<'i, 'a> {
 }
 
 impl<'i, 'a> TypeTable<'i, 'a> {
-    /// The types of all libraries of the index.
+    /// The types of all libraries of the index, read by this profile.
     ///
     /// M8 where more than 1,024 types are declared.
-    pub fn new(alloc: Global, index: &'i Index<'a>) -> Answer<TypeTable<'i, 'a>>
-        ensures table { IfOk result (λ table. table ≡ table_of index.now) }
+    pub fn new(alloc: Global, profile: Profile, index: &'i Index<'a>) -> Answer<TypeTable<'i, 'a>>
+        ensures table { IfOk result (λ table. table ≡ table_of profile index.now) }
         ensures accepted { OnOk result (length (declared_types (libraries_of index.now)) ≤ greatest_types) }
         ensures refused { IfErr result (StopsAtFirst (HasTooManyTypes index.now)) }
     {
-        let mut declarations = Declarations::of(alloc, index)?;
+        let mut declarations = Declarations::of(alloc, profile, index)?;
         count_declared(alloc, declarations.libraries())?;
         let bases = bases_of(alloc, &mut declarations)?;
         let memory = memory_of(alloc, &declarations, bases.items())?;
@@ -58,6 +59,13 @@ impl<'i, 'a> TypeTable<'i, 'a> {
             declarations,
             memory,
         })
+    }
+
+    /// The profile by which they are read.
+    pub fn profile(&self) -> Profile
+        ensures { result ≡ self.now.profile }
+    {
+        self.declarations.profile()
     }
 
     /// Where a clause or a machine of a package, which uses the types of these libraries, looks for a bare name.

@@ -9,6 +9,7 @@ use Rattle.std.proofs.lemmas.List.{get_or-map}
 use Rattle.std.proofs.lemmas.List.Elements.{All-contains, All-from_recursion, All-map}
 use Rattle.std.proofs.lemmas.List.Quantifiers.{position-Some}
 use Rattle.std.proofs.lemmas.Slice.Eq.{bytes_eq-Decides}
+use Rattle.profiles.specs.declared.profile.Profile.{Profile}
 use Rattle.aadl_syntax.specs.declared.core_model.PackageUnit.{PackageUnit}
 use Rattle.aadl_syntax.specs.declared.error_model.EventDecl.{EventDecl}
 use Rattle.aadl_syntax.specs.declared.error_model.Flow.{Flow}
@@ -39,7 +40,8 @@ use Rattle.error_flows.specs.declared.meaning.FlowMeaning.{FlowMeaning}
 use Rattle.error_flows.specs.declared.meaning.FlowMeaning.TheVariants as flow
 use Rattle.error_flows.specs.Flows.{flow_meaning, flows_of, path_meaning, source_meaning}
 use Rattle.error_machines.specs.Machines.{Machine}
-use Rattle.error_machines.specs.States.{EventAt, clause_event, event_at, events_of as sorts_of_events, keep_event, machine_scope}
+use Rattle.error_machines.specs.declared.states.Events.{Events}
+use Rattle.error_machines.specs.States.{EventAt, clause_event, event_at, event_types, events_of as sorts_of_events, is_free, keep_event, keep_event_at, machine_scope, no_events}
 use Rattle.error_machines.specs.States as behavior
 use Rattle.instantiator.specs.Effectives.{effective_of}
 use Rattle.instantiator.specs.Whole.{classifier_at, kind_number, kind_place}
@@ -109,11 +111,16 @@ module _ (Named : List ℕ → Type 0) where
   sort-kept None sorts one is each = each-append (λ (sort : Sort). Named sort.name) sorts (one ∷ []) each (is, tt)
 
   -- the events have the names of those that are declared
-  sorts-named : (table : Table) (events : List EventAt) (sorts : List Sort) → AllByRecursion (λ event. Named event.decl.name) events → AllByRecursion (λ sort. Named sort.name) sorts → AllByRecursion (λ sort. Named sort.name) (fold (keep_event table) sorts events)
-  sorts-named table [] sorts names each = each
-  sorts-named table (event ∷ events) sorts names each =
-      sorts-named table events (keep_event table sorts event) names.1
-      (sort-kept (place_of_sort sorts event.decl.name) sorts (record { name = event.decl.name; first = length (all_variants sorts); types = declared_by table event.scope event.decl.set }) names.0 each)
+  event-named : (place : Option ℕ) (events : Events) (name : List ℕ) (types : Option (List ℕ)) (free : Bool) → Named name → AllByRecursion (λ sort. Named sort.name) events.sorts → AllByRecursion (λ sort. Named sort.name) (keep_event_at place events name types free).sorts
+  event-named (Some number) events name types free is each = each
+  event-named None events name types free is each =
+      sort-kept (place_of_sort events.sorts name) events.sorts (record { name = name; first = length (all_variants events.sorts); types = types }) is each
+
+  sorts-named : (table : Table) (events : List EventAt) (kept : Events) → AllByRecursion (λ event. Named event.decl.name) events → AllByRecursion (λ sort. Named sort.name) kept.sorts → AllByRecursion (λ sort. Named sort.name) (fold (keep_event table) kept events).sorts
+  sorts-named table [] kept names each = each
+  sorts-named table (event ∷ events) kept names each =
+      sorts-named table events (keep_event table kept event) names.1
+      (event-named (place_of_sort kept.sorts event.decl.name) kept event.decl.name (event_types table event) (is_free table.profile event.decl.kind) names.0 each)
 
   -- a variant has the name of its event
   variants-named : (sorts : List Sort) → AllByRecursion (λ sort. Named sort.name) sorts → AllByRecursion (λ variant. Named variant.name) (all_variants sorts)
@@ -291,9 +298,9 @@ module _ (table : Table) (machine : Option Machine) (effective : Effective) wher
       (each-back (λ (declaration : Declaration). IsEventNamed declaration.name) (map event_declaration (machine_events machine)) (map clause_declaration effective.behavior.events) (spots-each all_events)))
 
   -- each error event of a component has the name of a declaration
-  events-named : AllByRecursion (λ sort. IsEventNamed sort.name) (sorts_of_events table machine effective)
+  events-named : AllByRecursion (λ sort. IsEventNamed sort.name) (sorts_of_events table machine effective).sorts
   events-named =
-      sorts-named IsEventNamed table (behavior.machine_events table machine ++ behavior.clause_events table effective) []
+      sorts-named IsEventNamed table (behavior.machine_events table machine ++ behavior.clause_events table effective) no_events
       (each-append (λ (event : EventAt). IsEventNamed event.decl.name) (behavior.machine_events table machine) (behavior.clause_events table effective) (of-machine machine own-named) of-clauses) tt
 
 -- those of its flows have the names of its sources without a state
@@ -371,5 +378,5 @@ origins-placed assembly events own among =
     (λ i d within. All-contains (λ (event : EventKey). IsPlaced (origin_of assembly event)) (events_of assembly) (get_or events i d) (all-placed assembly own) (among i d within))
 
 -- the same of the model of a root
-pub root-placed : (packages : List PackageUnit) (root : ClassifierId) → EachIsPlaced packages root
-root-placed packages root = all-placed (assembly_of packages root) (record { packages = refl; models = refl })
+pub root-placed : (profile : Profile) (packages : List PackageUnit) (root : ClassifierId) → EachIsPlaced profile packages root
+root-placed profile packages root = all-placed (assembly_of profile packages root) (record { packages = refl; models = refl })

@@ -5,6 +5,7 @@ use Rattle.std.proofs.lemmas.List.{get_or-map}
 use Rattle.std.proofs.lemmas.List.Elements.{All-from_recursion}
 use lib.ListN.{length-map}
 use Rattle.plain_values.specs.Order.{IsClear}
+use Rattle.profiles.specs.declared.profile.Profile.{Profile}
 use Rattle.aadl_syntax.specs.declared.core_model.PackageUnit.{PackageUnit}
 use Rattle.package_index.specs.declared.id.ClassifierId.{ClassifierId}
 use Rattle.package_index.specs.Duplicates.{IsDuplicate}
@@ -45,12 +46,12 @@ differ-mapped f (x ∷ xs) differ = λ i j d lt within same.
     let fits : j < length (x ∷ xs) = omega (arith, length-map (x ∷ xs) f, within) in
     differ i j x lt fits (sym (get_or-map f (x ∷ xs) i x d (omega (arith, lt, fits))) ∙ same ∙ get_or-map f (x ∷ xs) j x d fits)
 
-pub root-system : (packages : List PackageUnit) (root : ClassifierId) → IsClear (IsDuplicate packages) → AreNamed (assembly_of packages root) → IsSystem (system_of (assembly_of packages root))
-root-system packages root clear named =
-    let assembly : Assembly = assembly_of packages root in
-    let numbered : Numbered = numbered_of (assembly_of packages root) in
+pub root-system : (profile : Profile) (packages : List PackageUnit) (root : ClassifierId) → IsClear (IsDuplicate packages) → AreNamed (assembly_of profile packages root) → IsSystem (system_of (assembly_of profile packages root))
+root-system profile packages root clear named =
+    let assembly : Assembly = assembly_of profile packages root in
+    let numbered : Numbered = numbered_of (assembly_of profile packages root) in
     record {
       ranged = All-from_recursion _ _ (each-ranged numbered numbered.facts);
-      facts_named = subst NamesDiffer (sym (mapped (fact_info numbered) (λ fact. fact.name) numbered.facts)) (differ-mapped (fact_name assembly) numbered.facts (root-facts-differ packages root clear named));
-      events_named = subst NamesDiffer (sym (mapped (event_info assembly) (λ event. event.name) numbered.events)) (differ-mapped (event_name assembly) numbered.events (root-events-differ packages root clear named));
+      facts_named = subst NamesDiffer (sym (mapped (fact_info numbered) (λ fact. fact.name) numbered.facts)) (differ-mapped (fact_name assembly) numbered.facts (root-facts-differ profile packages root clear named));
+      events_named = subst NamesDiffer (sym (mapped (event_info assembly) (λ event. event.name) numbered.events)) (differ-mapped (event_name assembly) numbered.events (root-events-differ profile packages root clear named));
     }

@@ -9,6 +9,7 @@ use Rattle.fault_system.specs.Systems.{IsSystem, System}
 use Rattle.fta_words.specs.declared.command.Paging.{Paging}
 use Rattle.model_phases.specs.Named.{IsPlainSystem}
 use Rattle.model_phases.proofs.Decided.{model_decided, origins_decided, review_decided}
+use Rattle.profiles.specs.declared.profile.Profile.TheVariants.{First}
 use Rattle.model_phases.specs.Phases.{assembled, flat_phase, origins_phase, review_phase}
 use Rattle.model_facts.specs.Assembly.{Assembly}
 use Rattle.aadl_syntax.specs.declared.core_model.PackageUnit.{PackageUnit}
@@ -86,7 +87,7 @@ units_decided texts = (
 )
 
 -- what is made of a model in files has one end at most, where what is made of one in packages has
-made_decided : {A : Type 0} (next : Assembly → Phase A) → ((packages : List PackageUnit) (id : ClassifierId) → IsDecided IsSameStatus (assembled next packages id)) → (root : Root) (texts : List (List ℕ)) → IsDecided IsSameStatus (made_of_texts next root texts)
+made_decided : {A : Type 0} (next : Assembly → Phase A) → ((packages : List PackageUnit) (id : ClassifierId) → IsDecided IsSameStatus (assembled next First packages id)) → (root : Root) (texts : List (List ℕ)) → IsDecided IsSameStatus (made_of_texts next root texts)
 made_decided next last root texts = (
   units_decided texts,
   λ files have. (
@@ -96,7 +97,7 @@ made_decided next last root texts = (
 )
 
 texts_model_decided : (root : Root) (texts : List (List ℕ)) → IsDecided IsSameStatus (model_of_texts root texts)
-texts_model_decided = made_decided flat_phase (model_decided IsSameStatus itself)
+texts_model_decided = made_decided flat_phase (model_decided IsSameStatus itself First)
 
 plain_cuts_decided : (target : List ℕ) (paging : Paging) (tokens : Bool) (key : List ℕ) (system : System) → IsPlainSystem system → IsDecided IsSameStatus (cuts_text target paging tokens key system)
 plain_cuts_decided target paging tokens key system plain = cuts_decided IsSameStatus itself target paging tokens key system plain.is_system (token_names system plain)
@@ -212,8 +213,8 @@ text_decided kind.Why voices asked texts short keeps = (texts_model_decided aske
 text_decided kind.Confirm voices asked texts short keeps = confirmed_decided asked.root asked.target asked.options.set texts short
 text_decided kind.Targets voices asked texts short keeps =
     (texts_model_decided asked.root texts, λ model at. decided_accepts IsSameStatus (TellsOrders model.system (asked_targets (is_set asked.options (codes "all")) model)) (one-text model.system (asked_targets (is_set asked.options (codes "all")) model)))
-text_decided kind.Events voices asked texts short keeps = (made_decided origins_phase (origins_decided IsSameStatus itself) asked.root texts, λ model at. tt)
-text_decided kind.Review voices asked texts short keeps = (made_decided review_phase (review_decided IsSameStatus itself) asked.root texts, λ reviewed at. tt)
+text_decided kind.Events voices asked texts short keeps = (made_decided origins_phase (origins_decided IsSameStatus itself First) asked.root texts, λ model at. tt)
+text_decided kind.Review voices asked texts short keeps = (made_decided review_phase (review_decided IsSameStatus itself First) asked.root texts, λ reviewed at. tt)
 text_decided kind.Place voices asked texts short keeps = tt
 text_decided kind.Manifest voices asked texts short keeps = (texts_model_decided asked.root texts, λ model at. tt)
 text_decided kind.Refusals voices asked texts short keeps = absurd keeps

@@ -16,6 +16,7 @@ use Rattle.fault_system.specs.Systems.{System, event_name}
 use Rattle.fault_system.specs.Truth.{set_of}
 use Rattle.package_index.specs.Lookup.{packages_of}
 use Rattle.model_phases.proofs.Decided.{IsARefusal, model_stops, origins_stop, review_stop}
+use Rattle.profiles.specs.declared.profile.Profile.TheVariants.{First}
 use Rattle.model_phases.specs.Phases.{assembled, flat_phase, origins_phase, review_phase}
 use Rattle.model_facts.specs.Assembly.{Assembly}
 use Rattle.aadl_syntax.specs.declared.core_model.PackageUnit.{PackageUnit}
@@ -193,7 +194,7 @@ limits_stop texts = (refusal_is (IsFirst (HasTooLong texts)), λ _ short. (refus
 texts_stop : (contents : List ℕ → Option (List ℕ)) (files : List (List ℕ)) → StopsOnly IsARefusal (texts_of contents files)
 texts_stop contents files = (refusal_is (IsFirst (NamesTooMany files)), λ _ few. ((λ s none. absurd none), λ texts are. limits_stop texts))
 
-made_stops : {A : Type 0} (next : Assembly → Phase A) → ((packages : List PackageUnit) (id : ClassifierId) → StopsOnly IsARefusal (assembled next packages id)) → (root : Root) (texts : List (List ℕ)) → StopsOnly IsARefusal (made_of_texts next root texts)
+made_stops : {A : Type 0} (next : Assembly → Phase A) → ((packages : List PackageUnit) (id : ClassifierId) → StopsOnly IsARefusal (assembled next First packages id)) → (root : Root) (texts : List (List ℕ)) → StopsOnly IsARefusal (made_of_texts next root texts)
 made_stops next last root texts = (
   (refusal_is (IsFirst (LacksTokens texts)), λ tokens are. refusal_is (LacksUnits texts tokens)),
   λ files have. (
@@ -203,7 +204,7 @@ made_stops next last root texts = (
 )
 
 texts_model_stops : (root : Root) (texts : List (List ℕ)) → StopsOnly IsARefusal (model_of_texts root texts)
-texts_model_stops = made_stops flat_phase model_stops
+texts_model_stops = made_stops flat_phase (model_stops First)
 
 make_stop : (number : ℕ) (text : Bool) → StopsOnly IsARefusal (make_text number text)
 make_stop number true = tt
@@ -231,8 +232,8 @@ text_stops kind.Why voices asked texts =
     (refusals (model_of_texts asked.root texts) (texts_model_stops asked.root texts), λ model at. refusals (why_text asked.target asked.options.set model.system) (why_stop asked.target asked.options.set model.system))
 text_stops kind.Confirm voices asked texts = refusals (confirmed_in asked.root asked.target asked.options.set texts) (confirmed_stop asked.root asked.target asked.options.set texts)
 text_stops kind.Targets voices asked texts = (refusals (model_of_texts asked.root texts) (texts_model_stops asked.root texts), λ model at status none. absurd none)
-text_stops kind.Events voices asked texts = (refusals (made_of_texts origins_phase asked.root texts) (made_stops origins_phase origins_stop asked.root texts), λ model at. tt)
-text_stops kind.Review voices asked texts = (refusals (made_of_texts review_phase asked.root texts) (made_stops review_phase review_stop asked.root texts), λ model at. tt)
+text_stops kind.Events voices asked texts = (refusals (made_of_texts origins_phase asked.root texts) (made_stops origins_phase (origins_stop First) asked.root texts), λ model at. tt)
+text_stops kind.Review voices asked texts = (refusals (made_of_texts review_phase asked.root texts) (made_stops review_phase (review_stop First) asked.root texts), λ model at. tt)
 text_stops kind.Place voices asked texts = tt
 text_stops kind.Manifest voices asked texts = (refusals (model_of_texts asked.root texts) (texts_model_stops asked.root texts), λ model at. tt)
 text_stops kind.Refusals voices asked texts = λ status none. absurd none

@@ -20,6 +20,7 @@ use Rattle.fta_words.specs.declared.command.Form.{Form}
 use Rattle.fta_words.specs.declared.command.Options.{Options}
 use Rattle.fta_words.specs.declared.command.Paging.{Paging}
 use Rattle.model_facts.specs.Assembly.{Assembly}
+use Rattle.profiles.specs.declared.profile.Profile.TheVariants.{First}
 use Rattle.model_phases.specs.Phases.{assembled, flat_phase, origins_phase, review_phase}
 use Rattle.model_phases.specs.declared.events.EventModel.{EventModel}
 use Rattle.event_lines.specs.Text.{events_text as text_of_events}
@@ -75,7 +76,7 @@ abbrev pub made_of_units : {A : Type 0} → (Assembly → Phase A) → Root → 
 made_of_units next root files = do
   _ ← tests (HasDuplicate files)
   id ← computes (root_named files root)
-  assembled next (packages_of files) id
+  assembled next First (packages_of files) id
 
 -- the same of files of these texts
 abbrev pub made_of_texts : {A : Type 0} → (Assembly → Phase A) → Root → List (List ℕ) → Phase A

@@ -11,13 +11,14 @@ use Rattle.phases.specs.declared.status.Status.TheVariants.{Refused}
 use Rattle.package_index.specs.declared.id.ClassifierId.{ClassifierId}
 use Rattle.package_index.specs.Duplicates.{duplicates}
 use Rattle.package_index.specs.Lookup.{packages_of}
+use Rattle.profiles.specs.declared.profile.Profile.TheVariants.{First}
 use Rattle.model_phases.specs.Groups.{root_group}
 use Rattle.model_phases.specs.declared.flat.FlatModel.{FlatModel}
 use Rattle.fta_run.specs.Model.{root_named}
 
 -- the group of the model of a root, where its name means a classifier of these packages
 abbrev pub named_group : List PackageUnit → Result ClassifierId Refusal → List Refusal
-named_group packages (Ok id) = root_group packages id
+named_group packages (Ok id) = root_group First packages id
 named_group packages (Err refusal) = []
 
 -- The group of these files: what is declared again in them (N1), and else that of the model of the root. It is empty where nothing is

@@ -19,6 +19,7 @@ use noted_refusals::Refusals;
 use package_index::{ClassifierId, Index};
 use phases::Status;
 use plain_values::{List, Name, Root};
+use profiles::Profile;
 use std::alloc::Global;
 
 /// What is made of the model of the root in files of these texts.
@@ -80,7 +81,7 @@ fn model_of_units<M: FromAssembly>(
 {
     let index = Index::new(alloc, files.items(), refusals)?;
     let id = told_root(&index, root, refusals)?;
-    assembled(alloc, &index, id, refusals)
+    assembled(alloc, Profile::First, &index, id, refusals)
 }
 
 /// The classifier that a root names. Its refusal is noted, in place of what was noted before.

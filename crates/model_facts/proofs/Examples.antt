@@ -1,6 +1,7 @@
 -- A model of a root and two devices, where the first sends to the second; its facts, its events and their names.
 use Rattle.std.proofs.Common.{ℕ, true, false, List, [], ◌∷◌, ◌≡◌, codes, Some, None, refl}
 use Rattle.package_index.specs.declared.id.ClassifierId.{ClassifierId}
+use Rattle.profiles.specs.declared.profile.Profile.TheVariants.{First}
 use Rattle.error_libraries.specs.Libraries.{table_of}
 use Rattle.error_libraries.proofs.Sample.{library_unit}
 use Rattle.propagation_points.specs.declared.held.Held.TheVariants as held
@@ -51,7 +52,7 @@ model = record {
     components = at_path [] (id 1) ∷ at_path (codes "a" ∷ []) (id 0) ∷ at_path (codes "b" ∷ []) (id 0) ∷ record { path = codes "c" ∷ []; classifier = None } ∷ [];
     kinds = id 1 ∷ id 0 ∷ [];
   };
-  types = table_of (library_unit ∷ []);
+  types = table_of First (library_unit ∷ []);
   models = root_model ∷ device_model ∷ [];
   links = link 1 1 true 2 0 false ∷ [];
 }

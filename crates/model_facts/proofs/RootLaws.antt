@@ -4,6 +4,7 @@ use Rattle.std.specs.List.{AllByRecursion}
 use Rattle.std.specs.Option.{option_map_or}
 use Rattle.std.proofs.lemmas.Bool.{false≢true}
 use Rattle.plain_values.specs.Order.{IsClear}
+use Rattle.profiles.specs.declared.profile.Profile.{Profile}
 use Rattle.aadl_syntax.specs.declared.core_model.PackageUnit.{PackageUnit}
 use Rattle.package_index.specs.declared.id.ClassifierId.{ClassifierId}
 use Rattle.package_index.specs.Duplicates.{IsDuplicate}
@@ -37,34 +38,34 @@ model-named assembly named n = kind-so IsNamed none-named assembly.models named.
 
 -- ---- the model of a root
 
-module _ (packages : List PackageUnit) (root : ClassifierId) where
+module _ (profile : Profile) (packages : List PackageUnit) (root : ClassifierId) where
   abbrev assembly : Assembly
-  assembly = assembly_of packages root
+  assembly = assembly_of profile packages root
 
   model-at-shaped : (n : ℕ) → IsShaped (length assembly.types.types) (model_at assembly n)
   model-at-shaped n =
       kind-so (IsShaped (length assembly.types.types)) (none-shaped (length assembly.types.types)) assembly.models
-      (each-map (IsShaped (length assembly.types.types)) (model_of (table_of packages) assembly.instance.kinds) assembly.instance.kinds
-      (each-all (λ id. IsShaped (length assembly.types.types) (model_of (table_of packages) assembly.instance.kinds id)) (model-shaped (table_of packages) assembly.instance.kinds) assembly.instance.kinds))
+      (each-map (IsShaped (length assembly.types.types)) (model_of (table_of profile packages) assembly.instance.kinds) assembly.instance.kinds
+      (each-all (λ id. IsShaped (length assembly.types.types) (model_of (table_of profile packages) assembly.instance.kinds id)) (model-shaped (table_of profile packages) assembly.instance.kinds) assembly.instance.kinds))
       (kind_number assembly.instance.kinds (classifier_at assembly.instance n))
 
   some-name : (found : Option TypeName) → IsSome found → (name : TypeName) × (found ≡ Some name)
   some-name None there = absurd (false≢true there)
   some-name (Some name) there = (name, refl)
 
-  prints : IsClear (IsDuplicate packages) → AreNamed assembly → PrintsApart (table_of packages)
+  prints : IsClear (IsDuplicate packages) → AreNamed assembly → PrintsApart (table_of profile packages)
   prints clear named a b less within same =
-      let first = some-name (name_of (table_of packages) a) ((named-all packages a).1 (omega (arith, less, within))) in
-      let second = some-name (name_of (table_of packages) b) ((named-all packages b).1 within) in
+      let first = some-name (name_of (table_of profile packages) a) ((named-all profile packages a).1 (omega (arith, less, within))) in
+      let second = some-name (name_of (table_of profile packages) b) ((named-all profile packages b).1 within) in
       let texts : printed first.0 ≡ printed second.0 =
       sym (ap (λ found. option_map_or printed found []) first.1) ∙ same ∙ ap (λ found. option_map_or printed found []) second.1 in
-      let one = print-apart packages clear a b first.0 second.0 first.1 second.1 (named.types a first.0 first.1) (named.types b second.0 second.1) texts in
+      let one = print-apart profile packages clear a b first.0 second.0 first.1 second.1 (named.types a first.0 first.1) (named.types b second.0 second.1) texts in
       omega (arith, one, less)
 
-  pub root-facts-differ : FactNamesDiffer packages root
+  pub root-facts-differ : FactNamesDiffer profile packages root
   root-facts-differ clear named =
       fact-names-differ assembly named (paths-differ packages root) (prints clear named) model-at-shaped (model-named assembly named) (universe_of assembly)
       (rising-filter (is_number_in (declared_numbers assembly.models)) (length assembly.types.types))
 
-  pub root-events-differ : EventNamesDiffer packages root
+  pub root-events-differ : EventNamesDiffer profile packages root
   root-events-differ clear named = event-names-differ assembly named (paths-differ packages root) (prints clear named) model-at-shaped (model-named assembly named)

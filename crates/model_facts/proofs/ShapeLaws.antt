@@ -42,7 +42,8 @@ use Rattle.error_flows.specs.declared.meaning.FlowMeaning.TheVariants.{Event, St
 use Rattle.error_flows.specs.Flows.{flow_meaning, path_meaning, source_meaning}
 use Rattle.error_machines.specs.declared.states.States.{States}
 use Rattle.error_machines.specs.Machines.{Machine}
-use Rattle.error_machines.specs.States.{EventAt, events_of, keep_event, keep_state, no_states, states_of}
+use Rattle.error_machines.specs.declared.states.Events.{Events}
+use Rattle.error_machines.specs.States.{EventAt, event_types, events_of, is_free, keep_event, keep_event_at, keep_state, no_events, no_states, states_of}
 use Rattle.error_machines.specs.States as behavior
 use Rattle.instantiator.specs.Effectives.{chain_or_none, effective_of}
 use Rattle.instantiator.proofs.Apart.{Apart, AllPairs-from_Apart, Apart-from_AllPairs, apart-append, apart-flat_map, apart-map, apart-unmap, each-all, each-append, each-map, each-weaker}
@@ -190,12 +191,29 @@ states-apart table (Some machine) =
     variants-apart (length table.types) (states_of table (Some machine)).sorts
     (fold-keeps (λ (states : States). AreSorts (length table.types) states.sorts) (keep_state table scope) (state-kept table scope) machine.item.states no_states (no-sorts (length table.types)))
 
-events-apart : (table : Table) (machine : Option Machine) (effective : Effective) → Apart (VariantsDiffer (length table.types)) (all_variants (events_of table machine effective))
+-- what is free has no types
+event-rise : (table : Table) (event : EventAt) → TypesRise (length table.types) (event_types table event)
+event-rise table event = by (is_free table.profile event.decl.kind)
+  where
+    by : (free : Bool) → TypesRise (length table.types) (cond free (Some []) (declared_by table event.scope event.decl.set))
+    by true = record { each = tt; apart = tt }
+    by false = declared-rise table event.scope event.decl.set
+
+event-kept : (table : Table) (events : Events) (event : EventAt) → AreSorts (length table.types) events.sorts → AreSorts (length table.types) (keep_event table events event).sorts
+event-kept table events event are = by (place_of_sort events.sorts event.decl.name) refl
+  where
+    own : Option (List ℕ)
+    own = event_types table event
+
+    by : (place : Option ℕ) → place_of_sort events.sorts event.decl.name ≡ place → AreSorts (length table.types) (keep_event_at place events event.decl.name own (is_free table.profile event.decl.kind)).sorts
+    by (Some number) is = are
+    by None is = sorts-kept (length table.types) events.sorts event.decl.name own (event-rise table event) are
+
+events-apart : (table : Table) (machine : Option Machine) (effective : Effective) → Apart (VariantsDiffer (length table.types)) (all_variants (events_of table machine effective).sorts)
 events-apart table machine effective =
-    variants-apart (length table.types) (events_of table machine effective)
-    (fold-keeps (AreSorts (length table.types)) (keep_event table)
-    (λ events (event : EventAt) are. sorts-kept (length table.types) events event.decl.name (declared_by table event.scope event.decl.set) (declared-rise table event.scope event.decl.set) are)
-    (behavior.machine_events table machine ++ behavior.clause_events table effective) [] (no-sorts (length table.types)))
+    variants-apart (length table.types) (events_of table machine effective).sorts
+    (fold-keeps (λ (events : Events). AreSorts (length table.types) events.sorts) (keep_event table) (event-kept table)
+    (behavior.machine_events table machine ++ behavior.clause_events table effective) no_events (no-sorts (length table.types)))
 
 -- ---- points
 

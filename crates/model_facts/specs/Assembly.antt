@@ -1,5 +1,6 @@
 -- A model put together: the components of an instance, the error model of each, and the links between them.
 use Rattle.std.specs.Prelude.{ℕ, false, List, [], ◌++◌, map, filter, flat_map, length, slice_get, slice_index_or, Option, Some, None, option_map}
+use Rattle.profiles.specs.declared.profile.Profile.{Profile}
 use Rattle.aadl_syntax.specs.declared.core_model.PackageUnit.{PackageUnit}
 use Rattle.package_index.specs.declared.id.ClassifierId.{ClassifierId}
 use Rattle.error_libraries.specs.Libraries.{Table, table_of}
@@ -35,9 +36,9 @@ with_links instance types models = record { instance = instance; types = types; 
 abbrev pub of_instance : Instance → Table → Assembly
 of_instance instance types = with_links instance types (map (model_of types instance.kinds) instance.kinds)
 
--- The model of a root, put together.
-abbrev pub assembly_of : List PackageUnit → ClassifierId → Assembly
-assembly_of packages root = of_instance (instance_of packages root) (table_of packages)
+-- The model of a root, read by a profile and put together.
+abbrev pub assembly_of : Profile → List PackageUnit → ClassifierId → Assembly
+assembly_of profile packages root = of_instance (instance_of packages root) (table_of profile packages)
 
 -- ---- the error model of a component
 

@@ -1,5 +1,6 @@
 -- A model has one end at most, and stops with refusals alone.
 use Rattle.std.proofs.Common.{◌≡◌, List, Contains, sym, ◌∙◌}
+use Rattle.profiles.specs.declared.profile.Profile.{Profile}
 use Rattle.aadl_syntax.specs.declared.core_model.PackageUnit.{PackageUnit}
 use Rattle.plain_values.specs.declared.refusal.Refusal.{Refusal}
 use Rattle.plain_values.specs.Order.{IsFirst}
@@ -32,38 +33,38 @@ module _ (Same : Status → Status → Type 0) (itself : (status : Status) → S
     λ _ right. decided_tests Same itself (IsIt (models_refusal types kinds)),
   )
 
-  kinds_decided : (instance : Instance) → IsDecided Same (kind_tests instance)
-  kinds_decided instance = (
+  kinds_decided : (profile : Profile) (instance : Instance) → IsDecided Same (kind_tests profile instance)
+  kinds_decided profile instance = (
     decided_tests Same itself (IsIt (machines_refusal instance.packages instance.kinds)),
-    λ _ found. (decided_tests Same itself (HasTooManyTypes instance.packages), λ _ few. content_decided (table_of instance.packages) instance.kinds),
+    λ _ found. (decided_tests Same itself (HasTooManyTypes instance.packages), λ _ few. content_decided (table_of profile instance.packages) instance.kinds),
   )
 
   flat_decided : (assembly : Assembly) → IsDecided Same (flat_phase assembly)
   flat_decided assembly = decided_accepts Same (IsFlat assembly) (λ a b one other. one.model_is ∙ sym other.model_is)
 
   -- what is made of a model has one end at most, where what comes last has
-  pub assembled_decided : {A : Type 0} (next : Assembly → Phase A) → ((assembly : Assembly) → IsDecided Same (next assembly)) → (packages : List PackageUnit) (root : ClassifierId) → IsDecided Same (assembled next packages root)
-  assembled_decided next last packages root = (
+  pub assembled_decided : {A : Type 0} (next : Assembly → Phase A) → ((assembly : Assembly) → IsDecided Same (next assembly)) → (profile : Profile) (packages : List PackageUnit) (root : ClassifierId) → IsDecided Same (assembled next profile packages root)
+  assembled_decided next last profile packages root = (
     decided_tests Same itself (IsIt (instance_refusal packages root)),
     λ _ made. (
-      kinds_decided (instance_of packages root),
+      kinds_decided profile (instance_of packages root),
       λ _ right. (
-        decided_tests Same itself (IsIt (links_refusal (instance_of packages root) (points_in (assembly_of packages root).models))),
-        λ _ linked. (decided_tests Same itself (IsIt (size_refusal (assembly_of packages root))), λ _ small. last (assembly_of packages root)),
+        decided_tests Same itself (IsIt (links_refusal (instance_of packages root) (points_in (assembly_of profile packages root).models))),
+        λ _ linked. (decided_tests Same itself (IsIt (size_refusal (assembly_of profile packages root))), λ _ small. last (assembly_of profile packages root)),
       ),
     ),
   )
 
   -- the model of a root has one end at most
-  pub model_decided : (packages : List PackageUnit) (root : ClassifierId) → IsDecided Same (assembled flat_phase packages root)
+  pub model_decided : (profile : Profile) (packages : List PackageUnit) (root : ClassifierId) → IsDecided Same (assembled flat_phase profile packages root)
   model_decided = assembled_decided flat_phase flat_decided
 
   -- and so has its review
-  pub review_decided : (packages : List PackageUnit) (root : ClassifierId) → IsDecided Same (assembled review_phase packages root)
+  pub review_decided : (profile : Profile) (packages : List PackageUnit) (root : ClassifierId) → IsDecided Same (assembled review_phase profile packages root)
   review_decided = assembled_decided review_phase (λ assembly. decided_accepts Same (λ (reviewed : ReviewedModel). IsReview assembly reviewed.text) (λ a b one other. (λ i. record { text = one_review assembly a.text b.text one other i })))
 
   -- and so has it with the origins of its events
-  pub origins_decided : (packages : List PackageUnit) (root : ClassifierId) → IsDecided Same (assembled origins_phase packages root)
+  pub origins_decided : (profile : Profile) (packages : List PackageUnit) (root : ClassifierId) → IsDecided Same (assembled origins_phase profile packages root)
   origins_decided = assembled_decided origins_phase (λ assembly. (flat_decided assembly, λ model at. tt))
 
 -- ---- refusals alone
@@ -78,36 +79,36 @@ first_is Stands status is = (is.0, is.2)
 content_stops : (types : Table) (kinds : List ClassifierId) → StopsOnly IsARefusal (content_tests types kinds)
 content_stops types kinds = (first_is (Contains (all_set_refusals types kinds)), λ _ right. first_is (IsIt (models_refusal types kinds)))
 
-kinds_stop : (instance : Instance) → StopsOnly IsARefusal (kind_tests instance)
-kinds_stop instance = (
+kinds_stop : (profile : Profile) (instance : Instance) → StopsOnly IsARefusal (kind_tests profile instance)
+kinds_stop profile instance = (
   first_is (IsIt (machines_refusal instance.packages instance.kinds)),
-  λ _ found. (first_is (HasTooManyTypes instance.packages), λ _ few. content_stops (table_of instance.packages) instance.kinds),
+  λ _ found. (first_is (HasTooManyTypes instance.packages), λ _ few. content_stops (table_of profile instance.packages) instance.kinds),
 )
 
 flat_stops : (assembly : Assembly) → StopsOnly IsARefusal (flat_phase assembly)
 flat_stops assembly = λ s none. absurd none
 
 -- what is made of a model stops with a refusal alone, where what comes last does
-pub assembled_stops : {A : Type 0} (next : Assembly → Phase A) → ((assembly : Assembly) → StopsOnly IsARefusal (next assembly)) → (packages : List PackageUnit) (root : ClassifierId) → StopsOnly IsARefusal (assembled next packages root)
-assembled_stops next last packages root = (
+pub assembled_stops : {A : Type 0} (next : Assembly → Phase A) → ((assembly : Assembly) → StopsOnly IsARefusal (next assembly)) → (profile : Profile) (packages : List PackageUnit) (root : ClassifierId) → StopsOnly IsARefusal (assembled next profile packages root)
+assembled_stops next last profile packages root = (
   first_is (IsIt (instance_refusal packages root)),
   λ _ made. (
-    kinds_stop (instance_of packages root),
+    kinds_stop profile (instance_of packages root),
     λ _ right. (
-      first_is (IsIt (links_refusal (instance_of packages root) (points_in (assembly_of packages root).models))),
-      λ _ linked. (first_is (IsIt (size_refusal (assembly_of packages root))), λ _ small. last (assembly_of packages root)),
+      first_is (IsIt (links_refusal (instance_of packages root) (points_in (assembly_of profile packages root).models))),
+      λ _ linked. (first_is (IsIt (size_refusal (assembly_of profile packages root))), λ _ small. last (assembly_of profile packages root)),
     ),
   ),
 )
 
 -- the model of a root stops with a refusal alone
-pub model_stops : (packages : List PackageUnit) (root : ClassifierId) → StopsOnly IsARefusal (assembled flat_phase packages root)
+pub model_stops : (profile : Profile) (packages : List PackageUnit) (root : ClassifierId) → StopsOnly IsARefusal (assembled flat_phase profile packages root)
 model_stops = assembled_stops flat_phase flat_stops
 
 -- and so does it with the origins of its events
-pub origins_stop : (packages : List PackageUnit) (root : ClassifierId) → StopsOnly IsARefusal (assembled origins_phase packages root)
+pub origins_stop : (profile : Profile) (packages : List PackageUnit) (root : ClassifierId) → StopsOnly IsARefusal (assembled origins_phase profile packages root)
 origins_stop = assembled_stops origins_phase (λ assembly. (flat_stops assembly, λ model at. tt))
 
 -- and so does its review
-pub review_stop : (packages : List PackageUnit) (root : ClassifierId) → StopsOnly IsARefusal (assembled review_phase packages root)
+pub review_stop : (profile : Profile) (packages : List PackageUnit) (root : ClassifierId) → StopsOnly IsARefusal (assembled review_phase profile packages root)
 review_stop = assembled_stops review_phase (λ assembly. (λ s none. absurd none))

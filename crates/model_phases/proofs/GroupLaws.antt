@@ -1,6 +1,7 @@
 -- Where the tests of a model pass, its groups are empty, and what is told of one of them where those before it are.
 use Rattle.std.proofs.Common.{ℕ, ◌≡◌, ◌<◌, ◌⊎◌, inl, inr, Bool, true, false, cond, nat_lt, Contains, List, [], ◌∷◌, length, MatchOption, Option, None, Some, option_to_list, refl, sym, ap, subst, ◌∙◌, arith}
 use Rattle.std.proofs.lemmas.Bool.Decides.{nat_tests}
+use Rattle.profiles.specs.declared.profile.Profile.{Profile}
 use Rattle.aadl_syntax.specs.declared.core_model.PackageUnit.{PackageUnit}
 use Rattle.plain_values.specs.declared.refusal.Code.TheVariants.{TooManyTypes}
 use Rattle.plain_values.specs.declared.refusal.Refusal.{Refusal}
@@ -61,9 +62,9 @@ machines-clear instance pass = ap option_to_list (clear-one (machines_refusal in
 pub types-clear : (packages : List PackageUnit) → Passes (tests (HasTooManyTypes packages)) (tt {0}) → types_group packages ≡ []
 types-clear packages pass = types-by packages (nat_lt greatest_types (length (declared_types (libraries_of packages)))) refl pass.passed
 
-pub kinds-clear : (instance : Instance) → Passes (kind_tests instance) (tt {0}) → kinds_group instance ≡ []
-kinds-clear instance pass =
-    let types = table_of instance.packages in
+pub kinds-clear : (profile : Profile) (instance : Instance) → Passes (kind_tests profile instance) (tt {0}) → kinds_group profile instance ≡ []
+kinds-clear profile instance pass =
+    let types = table_of profile instance.packages in
     let machines = ap option_to_list (clear-one (machines_refusal instance.packages instance.kinds) pass.passed.1) in
     let few = types-by instance.packages (nat_lt greatest_types (length (declared_types (libraries_of instance.packages)))) refl pass.passed.2.1 in
     let sets = clear-group (all_set_refusals types instance.kinds) pass.passed.2.2.1 in

@@ -1,5 +1,6 @@
 -- The phases of a model: what is refused of a root in packages, in order, and else its system.
 use Rattle.std.specs.Prelude.{◌≡◌, List, length, map, Contains}
+use Rattle.profiles.specs.declared.profile.Profile.{Profile}
 use Rattle.aadl_syntax.specs.declared.core_model.PackageUnit.{PackageUnit}
 use Rattle.phases.specs.Phases.{Phase, accepts, tests, yields, ◌>>=◌}
 use Rattle.package_index.specs.declared.id.ClassifierId.{ClassifierId}
@@ -30,11 +31,11 @@ content_tests types kinds = do
 
 -- what is tested of the kinds of components of an instance: each uses a machine that there is (N2, N15), there are not too many
 -- error types (M8), and their error models are right
-abbrev pub kind_tests : Instance → Phase (Unit {0})
-kind_tests instance = do
+abbrev pub kind_tests : Profile → Instance → Phase (Unit {0})
+kind_tests profile instance = do
   _ ← tests (IsIt (machines_refusal instance.packages instance.kinds))
   _ ← tests (HasTooManyTypes instance.packages)
-  content_tests (table_of instance.packages) instance.kinds
+  content_tests (table_of profile instance.packages) instance.kinds
 
 -- a model as a system: how many components it has, what holds in it, which of its facts are effects of failures, and the rates of its
 -- events
@@ -63,12 +64,12 @@ sized next assembly = do
 
 -- What a further phase makes of the model of a root in packages: its components are right (M4, M5, N2 to N6, P1 to P3), then their
 -- error models, then its links (M14, N14, P3, P9), then its size, and then comes the phase.
-abbrev pub assembled : {A : Type 0} → (Assembly → Phase A) → List PackageUnit → ClassifierId → Phase A
-assembled next packages root = do
+abbrev pub assembled : {A : Type 0} → (Assembly → Phase A) → Profile → List PackageUnit → ClassifierId → Phase A
+assembled next profile packages root = do
   _ ← tests (IsIt (instance_refusal packages root))
-  _ ← kind_tests (instance_of packages root)
-  _ ← tests (IsIt (links_refusal (instance_of packages root) (points_in (assembly_of packages root).models)))
-  sized next (assembly_of packages root)
+  _ ← kind_tests profile (instance_of packages root)
+  _ ← tests (IsIt (links_refusal (instance_of packages root) (points_in (assembly_of profile packages root).models)))
+  sized next (assembly_of profile packages root)
 
 -- a model as a system, and of which kind each of its events is, and where it is declared
 abbrev pub with_origins : Assembly → FlatModel → EventModel

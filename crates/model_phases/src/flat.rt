@@ -23,6 +23,7 @@ use noted_refusals::Refusals;
 use package_index::{ClassifierId, Index};
 use phases::Status;
 use plain_values::{List, Stop};
+use profiles::Profile;
 use propagation_links::{Link, links_of};
 use property_reader::Rate;
 use std::alloc::Global;
@@ -73,7 +74,7 @@ impl FromAssembly for FlatModel {
     }
 }
 
-/// The model of a root in the packages of an index, put together, and what is made of it.
+/// The model of a root in the packages of an index, read by this profile and put together, and what is made of it.
 ///
 /// It is tested phase by phase, and the first that refuses decides: its components (M4, M5, N2 to N6, P1 to P3), their machines
 /// (N2, N15), the error types (M8), the written sets that are used (N2, N7, N8, P4), the error models (N9 to N13, P3, P5
@@ -81,15 +82,16 @@ impl FromAssembly for FlatModel {
 /// is none gives the conservative rate. The refusals of the group that refuses are noted, in place of what was noted before.
 pub fn assembled<M: FromAssembly>(
     alloc: Global,
+    profile: Profile,
     index: &Index,
     root: ClassifierId,
     refusals: &mut Refusals,
 ) -> Result<M, Status>
-    ensures made { Meets (assembled M.phase index.now root) result }
-    ensures told { IfErr result (ToldOf (root_group index.now root) refusals.new) }
+    ensures made { Meets (assembled M.phase profile index.now root) result }
+    ensures told { IfErr result (ToldOf (root_group profile index.now root) refusals.new) }
 {
     let instance = instance_at(alloc, index, root, refusals)?;
-    let kinds = kinds_of(alloc, &instance, refusals)?;
+    let kinds = kinds_of(alloc, profile, &instance, refusals)?;
     let links = links_between(alloc, &instance, &kinds, refusals)?;
     noted_made(alloc, &instance, &kinds, &links, refusals)
 }

@@ -18,6 +18,7 @@ use instantiator::Instance;
 use noted_refusals::Refusals;
 use phases::Status;
 use plain_values::List;
+use profiles::Profile;
 use std::alloc::Global;
 
 /// The error types of the packages of an instance, and the error model of each of its kinds, in order.
@@ -27,19 +28,20 @@ pub(crate) struct Kinds<'i, 'a> {
     pub models: List<ErrorModel<'a>>,
 }
 
-/// The error models of the kinds of an instance.
+/// The error models of the kinds of an instance, read by this profile.
 pub(crate) fn kinds_of<'i, 'a>(
     alloc: Global,
+    profile: Profile,
     instance: &Instance<'i, 'a>,
     refusals: &mut Refusals,
 ) -> Result<Kinds<'i, 'a>, Status>
-    ensures tested { MeetsTests (kind_tests instance.now) result }
-    ensures told { IfErr result (ToldFirst (kinds_group instance.now) refusals.new) }
-    ensures types { IfOk result (λ kinds. kinds.types ≡ table_of instance.now.packages) }
-    ensures models { IfOk result (λ kinds. kinds.models ≡ map (model_of (table_of instance.now.packages) instance.now.kinds) instance.now.kinds) }
+    ensures tested { MeetsTests (kind_tests profile instance.now) result }
+    ensures told { IfErr result (ToldFirst (kinds_group profile instance.now) refusals.new) }
+    ensures types { IfOk result (λ kinds. kinds.types ≡ table_of profile instance.now.packages) }
+    ensures models { IfOk result (λ kinds. kinds.models ≡ map (model_of (table_of profile instance.now.packages) instance.now.kinds) instance.now.kinds) }
 {
     let machines = machines_in(alloc, instance, refusals)?;
-    let mut reading = reading_of(alloc, instance, refusals)?;
+    let mut reading = reading_of(alloc, profile, instance, refusals)?;
     let models = noted_models(alloc, instance, &machines, &mut reading, refusals)?;
     Ok(Kinds {
         types: reading.types,
@@ -63,14 +65,15 @@ fn machines_in<'a>(
 /// A reading with the error types of the packages of an instance, which takes over what is noted.
 fn reading_of<'i, 'a>(
     alloc: Global,
+    profile: Profile,
     instance: &Instance<'i, 'a>,
     refusals: &mut Refusals,
 ) -> Result<Reading<'i, 'a>, Status>
     ensures tested { MeetsTests (tests (HasTooManyTypes instance.now.packages)) result }
     ensures told { IfErr result (ToldOf [] refusals.new) }
-    ensures types { IfOk result (λ reading. reading.types ≡ table_of instance.now.packages) }
+    ensures types { IfOk result (λ reading. reading.types ≡ table_of profile instance.now.packages) }
 {
-    let types = types_of(alloc, instance, refusals)?;
+    let types = types_of(alloc, profile, instance, refusals)?;
     let noted = std::mem::replace(refusals, Refusals::new(alloc));
     Ok(Reading::new(types, noted))
 }
@@ -78,14 +81,15 @@ fn reading_of<'i, 'a>(
 /// The error types of the packages of an instance. Their refusal is noted.
 fn types_of<'i, 'a>(
     alloc: Global,
+    profile: Profile,
     instance: &Instance<'i, 'a>,
     refusals: &mut Refusals,
 ) -> Result<TypeTable<'i, 'a>, Status>
     ensures tested { MeetsTests (tests (HasTooManyTypes instance.now.packages)) result }
     ensures told { IfErr result (ToldOf [] refusals.new) }
-    ensures types { IfOk result (λ types. types ≡ table_of instance.now.packages) }
+    ensures types { IfOk result (λ types. types ≡ table_of profile instance.now.packages) }
 {
-    match TypeTable::new(alloc, instance.index()) {
+    match TypeTable::new(alloc, profile, instance.index()) {
         Ok(types) => Ok(types),
         Err(stop) => Err(Status::from(refusals.only(stop))),
     }
@@ -100,7 +104,7 @@ fn noted_models<'a>(
     refusals: &mut Refusals,
 ) -> Result<List<ErrorModel<'a>>, Status>
     requires machines { machines.now ≡ map (kind_machine instance.now.packages) instance.now.kinds }
-    requires table { reading.old.types ≡ table_of instance.now.packages }
+    requires table { reading.old.types ≡ table_of reading.old.types.profile instance.now.packages }
     ensures tested { MeetsTests (content_tests reading.old.types instance.now.kinds) result }
     ensures told { IfErr result (ToldFirst (or_group (all_set_refusals reading.old.types instance.now.kinds) (models_group reading.old.types instance.now.kinds)) refusals.new) }
     ensures kept { reading.new.types ≡ reading.old.types }
@@ -119,7 +123,7 @@ fn models_with<'a>(
     reading: &mut Reading<'_, 'a>,
 ) -> Result<List<ErrorModel<'a>>, Status>
     requires machines { machines.now ≡ map (kind_machine instance.now.packages) instance.now.kinds }
-    requires table { reading.old.types ≡ table_of instance.now.packages }
+    requires table { reading.old.types ≡ table_of reading.old.types.profile instance.now.packages }
     ensures tested { MeetsTests (content_tests reading.old.types instance.now.kinds) result }
     ensures told { IfErr result (ToldFirst (or_group (all_set_refusals reading.old.types instance.now.kinds) (models_group reading.old.types instance.now.kinds)) reading.new.refusals) }
     ensures kept { reading.new.types ≡ reading.old.types }

@@ -2,6 +2,7 @@
 use Rattle.std.specs.Prelude.{◌≡◌, ℕ, Bool, ◌&&◌, List, [], nat_eq, Option, Some}
 use denote.Ref.{Bor}
 use Rattle.aadl_syntax.specs.declared.core_model.PackageUnit.{PackageUnit}
+use Rattle.profiles.specs.declared.profile.Profile.TheVariants.{First}
 use Rattle.package_index.specs.inner.Tables.{same_text}
 use Rattle.error_libraries.specs.declared.known.Found.{Found}
 use Rattle.error_libraries.specs.Libraries.{Library, Table}
@@ -24,6 +25,6 @@ pub record IsFound (libraries : List Library) (key : SearchKey) (found : Found) 
 abbrev pub AreFound : List Library → (SearchKey → Option Found) → Type 0
 AreFound libraries known = (key : SearchKey) (found : Found) → known key ≡ Some found → IsFound libraries key found
 
--- these packages and libraries, and no types, by which no name is looked up
+-- these packages and libraries, and no types, by which no name is looked up, nor by the profile
 abbrev pub of_libraries : List PackageUnit → List Library → Table
-of_libraries packages libraries = record { packages = packages; libraries = libraries; types = [] }
+of_libraries packages libraries = record { profile = First; packages = packages; libraries = libraries; types = [] }

@@ -1,5 +1,6 @@
 -- That the declaration of each event of a model has a place; no clause of `run` reaches it.
 use Rattle.std.specs.Prelude.{◌≡◌, List, map, All, Contains, IsSome}
+use Rattle.profiles.specs.declared.profile.Profile.{Profile}
 use Rattle.aadl_syntax.specs.declared.core_model.PackageUnit.{PackageUnit}
 use Rattle.package_index.specs.declared.id.ClassifierId.{ClassifierId}
 use Rattle.error_models.specs.Models.{model_of}
@@ -23,5 +24,5 @@ abbrev pub ArePlaced : Assembly → List EventKey → List EventOrigin → Type 
 ArePlaced assembly events origins = HasModelsOfKinds assembly → All (Contains (events_of assembly)) events → All IsPlaced origins
 
 -- The declaration of each event of the model of a root has a place.
-abbrev pub EachIsPlaced : List PackageUnit → ClassifierId → Type 0
-EachIsPlaced packages root = All (λ event. IsPlaced (origin_of (assembly_of packages root) event)) (events_of (assembly_of packages root))
+abbrev pub EachIsPlaced : Profile → List PackageUnit → ClassifierId → Type 0
+EachIsPlaced profile packages root = All (λ event. IsPlaced (origin_of (assembly_of profile packages root) event)) (events_of (assembly_of profile packages root))

@@ -3,6 +3,7 @@ use Rattle.std.specs.Prelude.{◌≡◌, ℕ, List, Some}
 use Rattle.std.specs.List.{AllByRecursion}
 use Rattle.plain_values.specs.Order.{IsClear}
 use Rattle.aadl_syntax.specs.inner.Token.{IsIdentifier}
+use Rattle.profiles.specs.declared.profile.Profile.{Profile}
 use Rattle.aadl_syntax.specs.declared.core_model.PackageUnit.{PackageUnit}
 use Rattle.package_index.specs.declared.id.ClassifierId.{ClassifierId}
 use Rattle.package_index.specs.Duplicates.{IsDuplicate}
@@ -45,13 +46,13 @@ pub record AreNamed (assembly : Assembly) : Type 0 where
 -- ---- names differ
 
 -- No two facts of the model of a root have one name, where nothing is declared twice and all names are identifiers.
-abbrev pub FactNamesDiffer : List PackageUnit → ClassifierId → Type 0
-FactNamesDiffer packages root =
-    IsClear (IsDuplicate packages) → AreNamed (assembly_of packages root) → NamesDiffer (fact_name (assembly_of packages root)) (facts_of (assembly_of packages root) (universe_of (assembly_of packages root)))
+abbrev pub FactNamesDiffer : Profile → List PackageUnit → ClassifierId → Type 0
+FactNamesDiffer profile packages root =
+    IsClear (IsDuplicate packages) → AreNamed (assembly_of profile packages root) → NamesDiffer (fact_name (assembly_of profile packages root)) (facts_of (assembly_of profile packages root) (universe_of (assembly_of profile packages root)))
 
 -- No two events of the model of a root have one name, where nothing is declared twice and all names are identifiers.
-abbrev pub EventNamesDiffer : List PackageUnit → ClassifierId → Type 0
-EventNamesDiffer packages root = IsClear (IsDuplicate packages) → AreNamed (assembly_of packages root) → NamesDiffer (event_name (assembly_of packages root)) (events_of (assembly_of packages root))
+abbrev pub EventNamesDiffer : Profile → List PackageUnit → ClassifierId → Type 0
+EventNamesDiffer profile packages root = IsClear (IsDuplicate packages) → AreNamed (assembly_of profile packages root) → NamesDiffer (event_name (assembly_of profile packages root)) (events_of (assembly_of profile packages root))
 
 -- ---- names are plain
 

@@ -11,6 +11,5 @@ returns-clause-noted g c =
     let effective = c.args.effective.now in
     let scopes : c.items-2.result.now ≡ scopes_of table.packages effective.clauses = c.items-2.ensures.items ∙ c.in_ok-scopes.ensures ∙ ap (scopes_of table.packages) c.items.ensures.items in
     let all =
-    ap (λ texts. refusals_in below table c.args.points.now c.args.states.now texts c.items-composites.result.now) scopes
-    ∙ ap (refusals_in below table c.args.points.now c.args.states.now (scopes_of table.packages effective.clauses)) c.items-composites.ensures.items in
+    (λ i. refusals_in below table c.args.points.now c.args.states.now (scopes i) (c.items-3.ensures.items i)) in
     subst (λ faults. OnOk c.clauses_in.result (c.clauses_in.new.reading.refusals ≡ noting c.args.reading.now.refusals faults)) all c.clauses_in.ensures.noted

@@ -10,4 +10,4 @@ pub returns : goal.returns
 returns c =
     let decl = c.args.decl.now in
     noted-three c.args.refusals.now c.note_at.new.self c.note_at-2.new.self (refused_there MachineExtends decl.extends) (refused_there Mapping decl.transforms) c.note_at.ensures c.note_at-2.ensures
-    c.note_events.new.refusals (flat_map event_refusals decl.events) (c.note_events.ensures ∙ ap (λ events. noting c.note_at-2.new.self (flat_map event_refusals events)) c.items.ensures.items)
+    c.note_events.new.refusals (flat_map (event_refusals c.args.profile) decl.events) (c.note_events.ensures ∙ ap (λ events. noting c.note_at-2.new.self (flat_map (event_refusals c.args.profile) events)) c.items.ensures.items)

@@ -4,4 +4,4 @@ use Rattle.error_machines.specs.States.{event_refusals}
 use Rattle.error_behavior.proofs.events.note_clause_events.Given as goal
 
 abbrev pub invariant-loop-event : goal.invariant-loop-event
-invariant-loop-event l = noting l.refusals (flat_map (λ scoped. event_refusals scoped.item) (drop l.event-index l.events)) ≡ noting l.fn.refusals (flat_map (λ scoped. event_refusals scoped.item) l.events)
+invariant-loop-event l = noting l.refusals (flat_map (λ scoped. event_refusals l.profile scoped.item) (drop l.event-index l.events)) ≡ noting l.fn.refusals (flat_map (λ scoped. event_refusals l.profile scoped.item) l.events)

@@ -25,13 +25,13 @@ use Rattle.error_models.proofs.GroupLaws.{group-end, group-is, group-step, group
 use Rattle.error_models.proofs.KindLaws.{made-at}
 use Rattle.error_models.proofs.models.models_of.Goals as goal
 
-model-is : (table : Table) (ids : List ClassifierId) (id : ClassifierId) → model_with table (effective_of table.packages id) (kind_machine table.packages id) (states_below table.packages ids (Some id)) ≡ model_of table ids id
+model-is : (table : Table) (ids : List ClassifierId) (id : ClassifierId) → model_with table (effective_of table.packages id) (kind_machine table.packages id) (states_below table.profile table.packages ids (Some id)) ≡ model_of table ids id
 unfolding model_of
 model-is table ids id = refl
 
 -- the kind of a number, as it is tested
 module _ (table types : Table) (packages : List PackageUnit) (ids : List ClassifierId) (kinds : List Kind) (machines : List (Option Machine)) (tree : Tree) (i : ℕ) (one : Kind) (machine : Option Machine) (within : i < length kinds)
-    (all : kinds ≡ map (kind_of packages) ids) (used : machines ≡ map (kind_machine packages) ids) (same : table.packages ≡ packages) (kept : types ≡ table) (is_tree : tree ≡ record { packages = packages; kinds = ids })
+    (all : kinds ≡ map (kind_of packages) ids) (used : machines ≡ map (kind_machine packages) ids) (same : table.packages ≡ packages) (kept : types ≡ table) (is_tree : tree ≡ record { profile = table.profile; packages = packages; kinds = ids })
     (here : one ≡ get_or kinds i one) (its : machine ≡ get_or machines i machine) where
   abbrev id : ClassifierId
   id = get_or ids i one.classifier
@@ -48,26 +48,26 @@ module _ (table types : Table) (packages : List PackageUnit) (ids : List Classif
   own : machine ≡ kind_machine packages id
   own = made-at (kind_machine packages) ids machines i one.classifier machine used inside its
 
-  model : model_with types one.effective machine (states_below tree.packages tree.kinds (Some one.classifier)) ≡ model_of table ids id
+  model : model_with types one.effective machine (states_below tree.profile tree.packages tree.kinds (Some one.classifier)) ≡ model_of table ids id
   model =
-      (λ k. model_with (kept k) (kind k).effective (own k) (states_below (is_tree k).packages (is_tree k).kinds (Some (kind k).classifier)))
-      ∙ (λ k. model_with table (effective_of (sym same k) id) (kind_machine (sym same k) id) (states_below (sym same k) ids (Some id))) ∙ model-is table ids id
+      (λ k. model_with (kept k) (kind k).effective (own k) (states_below (is_tree k).profile (is_tree k).packages (is_tree k).kinds (Some (kind k).classifier)))
+      ∙ (λ k. model_with table (effective_of (sym same k) id) (kind_machine (sym same k) id) (states_below table.profile (sym same k) ids (Some id))) ∙ model-is table ids id
 
-  group : group_with types one.effective machine (states_below tree.packages tree.kinds (Some one.classifier)) ≡ model_group table ids id
+  group : group_with types one.effective machine (states_below tree.profile tree.packages tree.kinds (Some one.classifier)) ≡ model_group table ids id
   group =
-      (λ k. group_with (kept k) (kind k).effective (own k) (states_below (is_tree k).packages (is_tree k).kinds (Some (kind k).classifier)))
-      ∙ (λ k. group_with table (effective_of (sym same k) id) (kind_machine (sym same k) id) (states_below (sym same k) ids (Some id))) ∙ group-is table ids id
+      (λ k. group_with (kept k) (kind k).effective (own k) (states_below (is_tree k).profile (is_tree k).packages (is_tree k).kinds (Some (kind k).classifier)))
+      ∙ (λ k. group_with table (effective_of (sym same k) id) (kind_machine (sym same k) id) (states_below table.profile (sym same k) ids (Some id))) ∙ group-is table ids id
 
   -- what is told of its group is told of the first group of all kinds
   told-all : (goal : List Refusal) (noted : Noted) (stop : Stop) → first_group (map (model_group table ids) (drop i ids)) ≡ goal
-      → TellsFirst (group_with types one.effective machine (states_below tree.packages tree.kinds (Some one.classifier))) noted stop → TellsFirst goal noted stop
+      → TellsFirst (group_with types one.effective machine (states_below tree.profile tree.packages tree.kinds (Some one.classifier))) noted stop → TellsFirst goal noted stop
   told-all goal noted stop left told = group-stop (model_group table ids) ids i id goal inside id-is left noted stop (subst (λ its. TellsFirst its noted stop) group told)
 
   -- a kind of which nothing is refused
-  none-more : (goal : List Refusal) → first_group (map (model_group table ids) (drop i ids)) ≡ goal → refusal_with types one.effective machine (states_below tree.packages tree.kinds (Some one.classifier)) ≡ None → first_group (map (model_group table ids) (drop (i + 1) ids)) ≡ goal
+  none-more : (goal : List Refusal) → first_group (map (model_group table ids) (drop i ids)) ≡ goal → refusal_with types one.effective machine (states_below tree.profile tree.packages tree.kinds (Some one.classifier)) ≡ None → first_group (map (model_group table ids) (drop (i + 1) ids)) ≡ goal
   none-more goal left none =
-      let its = group_with types one.effective machine (states_below tree.packages tree.kinds (Some one.classifier)) in
-      let empty = none-in its (with-least types one.effective machine (states_below tree.packages tree.kinds (Some one.classifier)) ∙ none) in
+      let its = group_with types one.effective machine (states_below tree.profile tree.packages tree.kinds (Some one.classifier)) in
+      let empty = none-in its (with-least types one.effective machine (states_below tree.profile tree.packages tree.kinds (Some one.classifier)) ∙ none) in
       group-step (model_group table ids) ids i id goal inside id-is left (sym group ∙ empty)
 
 pub returns-in_err-model-clause-told : goal.returns-in_err-model-clause-told

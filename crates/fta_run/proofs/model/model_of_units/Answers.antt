@@ -8,6 +8,7 @@ use Rattle.phases.proofs.Steps.{◌beyond◌, ends, exits, not_computed}
 use Rattle.phases.specs.inner.Stopped.{status_of}
 use Rattle.package_index.specs.Lookup.{packages_of}
 use Rattle.package_index.specs.Duplicates.{duplicates}
+use Rattle.profiles.specs.declared.profile.Profile.TheVariants.{First}
 use Rattle.model_phases.specs.Groups.{root_group}
 use Rattle.model_phases.proofs.ToldLaws.{First, FirstOf, answer-told, end-told, stop-told}
 use Rattle.fta_run.specs.Due.{made_of_units}
@@ -69,7 +70,7 @@ returns-clause-told g c =
     let named = root_is files c.items.result.now c.in_ok-index.index root _ c.in_ok-index.ensures.packages c.items.ensures.items refl ∙ c.in_ok-id.ensures.found in
     let none : duplicates (packages_of files) ≡ [] =
     ap (λ (all : List (List FileUnit)). duplicates (packages_of all)) (sym c.items.ensures.items) ∙ none_again (packages_of c.items.result.now) c.in_ok-index.ensures.accepted in
-    let same : root_group c.in_ok-index.index id ≡ units_group root files =
-    ap (λ (packages : List PackageUnit). root_group packages id) are ∙ sym (λ i. or_group (none i) (named_group (packages_of files) (named i))) in
-    answer-told (FirstOf (root_group c.in_ok-index.index id) noted) (FirstOf (units_group root files) noted) c.assembled.result
+    let same : root_group First c.in_ok-index.index id ≡ units_group root files =
+    ap (λ (packages : List PackageUnit). root_group First packages id) are ∙ sym (λ i. or_group (none i) (named_group (packages_of files) (named i))) in
+    answer-told (FirstOf (root_group First c.in_ok-index.index id) noted) (FirstOf (units_group root files) noted) c.assembled.result
     (λ refusal told. subst (λ group. FirstOf group noted refusal) same told) c.assembled.ensures.told

@@ -19,7 +19,7 @@ pub returns-in_err-models-clause-tested : goal.returns-in_err-models-clause-test
 returns-in_err-models-clause-tested c =
     let kinds = c.args.instance.now.kinds in
     let status = c.in_err-models.field-0.0 in
-    tests_stop (kind_tests c.args.instance.now) status c.from_residual-in_err-models.result c.from_residual-in_err-models.ensures.1
+    tests_stop (kind_tests c.args.profile c.args.instance.now) status c.from_residual-in_err-models.result c.from_residual-in_err-models.ensures.1
     (c.in_ok-machines.ensures.tested beyond c.in_ok-reading.ensures.tested
     beyond subst (λ (types : Table). StopsBut IsMemory (content_tests types kinds) status) c.in_ok-reading.ensures.types c.in_err-models.ensures.tested)
 
@@ -33,19 +33,19 @@ pub returns-in_err-machines-clause-told : goal.returns-in_err-machines-clause-to
 returns-in_err-machines-clause-told c =
     let instance = c.args.instance.now in
     let machines = option_to_list (machines_refusal instance.packages instance.kinds) in
-    let rest = or_group (types_group instance.packages) (content_group instance) in
+    let rest = or_group (types_group instance.packages) (content_group c.args.profile instance) in
     let noted = c.machines_in.new.refusals in
-    end-told (First machines noted) (First (kinds_group instance) noted) c.in_err-machines.field-0.0 c.from_residual.result (λ refusal told. told-here machines rest noted (Refused refusal) told) c.from_residual.ensures.1 c.in_err-machines.ensures.told
+    end-told (First machines noted) (First (kinds_group c.args.profile instance) noted) c.in_err-machines.field-0.0 c.from_residual.result (λ refusal told. told-here machines rest noted (Refused refusal) told) c.from_residual.ensures.1 c.in_err-machines.ensures.told
 
 pub returns-in_err-reading-clause-told : goal.returns-in_err-reading-clause-told
 returns-in_err-reading-clause-told c =
     let instance = c.args.instance.now in
     let machines = option_to_list (machines_refusal instance.packages instance.kinds) in
     let types = types_group instance.packages in
-    let content = content_group instance in
+    let content = content_group c.args.profile instance in
     let noted = c.reading_of.new.refusals in
     let end = c.in_err-reading.field-0.0 in
-    end-told (First types noted) (First (kinds_group instance) noted) end c.from_residual-in_err-reading.result
+    end-told (First types noted) (First (kinds_group c.args.profile instance) noted) end c.from_residual-in_err-reading.result
     (λ refusal told. told-next machines (or_group types content) noted (Refused refusal) (machines-clear instance c.in_ok-machines.ensures.tested) (told-here types content noted (Refused refusal) told))
     c.from_residual-in_err-reading.ensures.1 (types-told instance.packages noted end c.in_err-reading.ensures.tested c.in_err-reading.ensures.told)
 
@@ -54,10 +54,10 @@ returns-in_err-models-clause-told c =
     let instance = c.args.instance.now in
     let machines = option_to_list (machines_refusal instance.packages instance.kinds) in
     let types = types_group instance.packages in
-    let content = content_group instance in
+    let content = content_group c.args.profile instance in
     let noted = c.noted_models.new.refusals in
     let group_in : Table → List Refusal = λ table. or_group (all_set_refusals table instance.kinds) (models_group table instance.kinds) in
-    end-told (First (group_in c.in_ok-reading.reading.types) noted) (First (kinds_group instance) noted) c.in_err-models.field-0.0 c.from_residual-in_err-models.result
+    end-told (First (group_in c.in_ok-reading.reading.types) noted) (First (kinds_group c.args.profile instance) noted) c.in_err-models.field-0.0 c.from_residual-in_err-models.result
     (λ refusal told. told-next machines (or_group types content) noted (Refused refusal) (machines-clear instance c.in_ok-machines.ensures.tested)
     (told-next types content noted (Refused refusal) (types-clear instance.packages c.in_ok-reading.ensures.tested) (subst (λ (table : Table). First (group_in table) noted refusal) c.in_ok-reading.ensures.types told)))
     c.from_residual-in_err-models.ensures.1 c.in_err-models.ensures.told
