@@ -53,14 +53,23 @@ pub struct Decl {
     pub properties: List<TokenList>,
 }
 
-/// A binding of components to a processor or to a memory, as a `properties` section states it: to each of some components,
-/// of each of some others. All are paths from the component that states it.
+/// A binding, as a `properties` section states it: to each of some components, of each of some others, or of each of some
+/// connections. All are paths from the component that states it.
 #[derive(Drop)]
 pub struct Binding {
-    /// Whether it binds to a memory, and not to a processor.
-    pub memory: bool,
+    pub kind: BindingKind,
     pub references: List<List<Identifier>>,
     pub targets: List<List<Identifier>>,
+}
+
+/// The kind of a binding, by its property: of components to processors, of components to memories, of connections to what they
+/// run on, or of functions to what performs them.
+#[derive(Clone, Copy, PartialEq, Eq)]
+pub enum BindingKind {
+    Processor,
+    Memory,
+    Connection,
+    Function,
 }
 
 /// A feature of a component type.

@@ -1,7 +1,9 @@
--- Bindings of components to processors and to memories (AADL: the properties Actual_Processor_Binding and
--- Actual_Memory_Binding).
-use Rattle.std.specs.Prelude.{ℕ, Bool, true, false, suc, List, [], ◌∷◌, codes, flat_map, length, Option, None, Some, option_to_list}
+-- Bindings of components, connections and functions (AADL: the properties Actual_Processor_Binding, Actual_Memory_Binding,
+-- Actual_Connection_Binding and Actual_Function_Binding).
+use Rattle.std.specs.Prelude.{ℕ, suc, List, [], ◌∷◌, codes, flat_map, length, Option, None, Some, option_to_list}
 use Rattle.aadl_syntax.specs.declared.core_model.Binding.{Binding}
+use Rattle.aadl_syntax.specs.declared.core_model.BindingKind.{BindingKind}
+use Rattle.aadl_syntax.specs.declared.core_model.BindingKind.TheVariants.{Connection, Function, Memory, Processor}
 use Rattle.aadl_syntax.specs.declared.token.Token.{Token}
 use Rattle.grammar_rules.specs.Parts.{parts_after}
 use Rattle.grammar_rules.specs.Rules.{Rule, chooses, ends, gives, ◌>>=◌}
@@ -71,18 +73,26 @@ references = chooses (is_sign (codes "(") ∷ []) reference_list
 
 -- ---- bindings
 
--- ( "actual_memory_binding" | "actual_processor_binding" ): whether it is of a memory
-unfoldable pub binding_word : Rule Bool
+-- the words of the four properties, and the kind of each
+unfoldable pub binding_word : Rule BindingKind
 binding_word = chooses (is_word (codes "actual_memory_binding") ∷ [])
     (do
       _ ← word (codes "actual_memory_binding")
-      gives true)
+      gives Memory)
+    (chooses (is_word (codes "actual_connection_binding") ∷ [])
+    (do
+      _ ← word (codes "actual_connection_binding")
+      gives Connection)
+    (chooses (is_word (codes "actual_function_binding") ∷ [])
+    (do
+      _ ← word (codes "actual_function_binding")
+      gives Function)
     (do
       _ ← word (codes "actual_processor_binding")
-      gives false)
+      gives Processor)))
 
 -- [ "deployment_properties" "::" ] and that word
-unfoldable pub binding_name : Rule Bool
+unfoldable pub binding_name : Rule BindingKind
 binding_name = chooses (is_word (codes "deployment_properties") ∷ [])
     (do
       _ ← word (codes "deployment_properties")
@@ -101,7 +111,7 @@ binding_end = chooses (is_word (codes "in") ∷ [])
 -- binding-name "=>" references "applies" "to" targets [ "in" tail ] ";", and nothing behind it
 unfoldable pub binding : Rule Binding
 binding = do
-  memory ← binding_name
+  kind ← binding_name
   _ ← sign (codes "=>")
   its_references ← references
   _ ← word (codes "applies")
@@ -109,7 +119,7 @@ binding = do
   its_targets ← targets
   _ ← binding_end
   _ ← ends
-  gives (record { memory = memory; references = its_references; targets = its_targets })
+  gives (record { kind = kind; references = its_references; targets = its_targets })
 
 -- the binding of a reading, if there is one
 abbrev pub binding_read : Outcome Binding → Option Binding

@@ -3,7 +3,7 @@ ghost use Rattle.grammar_rules.specs.inner.Reader.{Gives};
 ghost use Rattle.bindings.specs.Bindings.{binding, binding_name, binding_word, binding_end, bindings_in, dotted_name, further_path, further_reference, path, piece_binding, reference, reference_list, references, targets};
 
 use crate::piece::section_pieces;
-use aadl_syntax::{Binding, Identifier, TokenList};
+use aadl_syntax::{Binding, BindingKind, Identifier, TokenList};
 use grammar_rules::{Parts, ReadError, Reader, tail_end};
 use plain_values::{List, Mem};
 use std::alloc::{AllocError, Global};
@@ -34,7 +34,7 @@ fn piece_binding(alloc: Global, piece: &TokenList) -> Mem<Option<Binding>>
 fn binding(reader: &mut Reader) -> Result<Binding, ReadError>
     ensures { Gives result binding reader.old reader.new }
 {
-    let memory = binding_name(reader)?;
+    let kind = binding_name(reader)?;
     reader.sign(b"=>")?;
     let references = references(reader)?;
     reader.word(b"applies")?;
@@ -43,14 +43,14 @@ fn binding(reader: &mut Reader) -> Result<Binding, ReadError>
     binding_end(reader)?;
     reader.end()?;
     Ok(Binding {
-        memory,
+        kind,
         references,
         targets,
     })
 }
 
 #[tactic(auto, unfolding(crate::specs::Bindings::binding_name))]
-fn binding_name(reader: &mut Reader) -> Result<bool, ReadError>
+fn binding_name(reader: &mut Reader) -> Result<BindingKind, ReadError>
     ensures { Gives result binding_name reader.old reader.new }
 {
     if reader.word_at(0, b"deployment_properties") {
@@ -61,17 +61,25 @@ fn binding_name(reader: &mut Reader) -> Result<bool, ReadError>
     binding_word(reader)
 }
 
-/// Reads the name of a binding, and says whether it is one of a memory.
+/// Reads the property of a binding.
 #[tactic(auto, unfolding(crate::specs::Bindings::binding_word))]
-fn binding_word(reader: &mut Reader) -> Result<bool, ReadError>
+fn binding_word(reader: &mut Reader) -> Result<BindingKind, ReadError>
     ensures { Gives result binding_word reader.old reader.new }
 {
     if reader.word_at(0, b"actual_memory_binding") {
         reader.word(b"actual_memory_binding")?;
-        return Ok(true);
+        return Ok(BindingKind::Memory);
+    }
+    if reader.word_at(0, b"actual_connection_binding") {
+        reader.word(b"actual_connection_binding")?;
+        return Ok(BindingKind::Connection);
+    }
+    if reader.word_at(0, b"actual_function_binding") {
+        reader.word(b"actual_function_binding")?;
+        return Ok(BindingKind::Function);
     }
     reader.word(b"actual_processor_binding")?;
-    Ok(false)
+    Ok(BindingKind::Processor)
 }
 
 #[tactic(auto, unfolding(crate::specs::Bindings::binding_end))]

@@ -1,4 +1,4 @@
-//! Bindings of components to processors and to memories, as `properties` sections state them.
+//! Bindings of components, connections and functions, as `properties` sections state them.
 #![tactic(auto)]
 
 mod binding;
