@@ -73,23 +73,31 @@ references = chooses (is_sign (codes "(") ∷ []) reference_list
 
 -- ---- bindings
 
--- the words of the four properties, and the kind of each
+-- ( "actual_connection_binding" | "actual_function_binding" )
+unfoldable pub abstract_word : Rule BindingKind
+abstract_word = chooses (is_word (codes "actual_connection_binding") ∷ [])
+    (do
+      _ ← word (codes "actual_connection_binding")
+      gives Connection)
+    (do
+      _ ← word (codes "actual_function_binding")
+      gives Function)
+
+-- ( "actual_processor_binding" | abstract-word )
+unfoldable pub other_word : Rule BindingKind
+other_word = chooses (is_word (codes "actual_processor_binding") ∷ [])
+    (do
+      _ ← word (codes "actual_processor_binding")
+      gives Processor)
+    abstract_word
+
+-- ( "actual_memory_binding" | other-word ): the property, and so the kind of the binding
 unfoldable pub binding_word : Rule BindingKind
 binding_word = chooses (is_word (codes "actual_memory_binding") ∷ [])
     (do
       _ ← word (codes "actual_memory_binding")
       gives Memory)
-    (chooses (is_word (codes "actual_connection_binding") ∷ [])
-    (do
-      _ ← word (codes "actual_connection_binding")
-      gives Connection)
-    (chooses (is_word (codes "actual_function_binding") ∷ [])
-    (do
-      _ ← word (codes "actual_function_binding")
-      gives Function)
-    (do
-      _ ← word (codes "actual_processor_binding")
-      gives Processor)))
+    other_word
 
 -- [ "deployment_properties" "::" ] and that word
 unfoldable pub binding_name : Rule BindingKind

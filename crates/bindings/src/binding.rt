@@ -1,6 +1,6 @@
 ghost use Rattle.std.specs.Prelude.{◌≡◌, ◌++◌, [], ◌∷◌, IfOk, OnOk};
 ghost use Rattle.grammar_rules.specs.inner.Reader.{Gives};
-ghost use Rattle.bindings.specs.Bindings.{binding, binding_name, binding_word, binding_end, bindings_in, dotted_name, further_path, further_reference, path, piece_binding, reference, reference_list, references, targets};
+ghost use Rattle.bindings.specs.Bindings.{binding, binding_name, abstract_word, binding_word, binding_end, bindings_in, dotted_name, further_path, further_reference, other_word, path, piece_binding, reference, reference_list, references, targets};
 
 use crate::piece::section_pieces;
 use aadl_syntax::{Binding, BindingKind, Identifier, TokenList};
@@ -70,16 +70,32 @@ fn binding_word(reader: &mut Reader) -> Result<BindingKind, ReadError>
         reader.word(b"actual_memory_binding")?;
         return Ok(BindingKind::Memory);
     }
+    other_word(reader)
+}
+
+/// Reads the property of a binding that is none to a memory.
+#[tactic(auto, unfolding(crate::specs::Bindings::other_word))]
+fn other_word(reader: &mut Reader) -> Result<BindingKind, ReadError>
+    ensures { Gives result other_word reader.old reader.new }
+{
+    if reader.word_at(0, b"actual_processor_binding") {
+        reader.word(b"actual_processor_binding")?;
+        return Ok(BindingKind::Processor);
+    }
+    abstract_word(reader)
+}
+
+/// Reads the property of a binding of connections or functions.
+#[tactic(auto, unfolding(crate::specs::Bindings::abstract_word))]
+fn abstract_word(reader: &mut Reader) -> Result<BindingKind, ReadError>
+    ensures { Gives result abstract_word reader.old reader.new }
+{
     if reader.word_at(0, b"actual_connection_binding") {
         reader.word(b"actual_connection_binding")?;
         return Ok(BindingKind::Connection);
     }
-    if reader.word_at(0, b"actual_function_binding") {
-        reader.word(b"actual_function_binding")?;
-        return Ok(BindingKind::Function);
-    }
-    reader.word(b"actual_processor_binding")?;
-    Ok(BindingKind::Processor)
+    reader.word(b"actual_function_binding")?;
+    Ok(BindingKind::Function)
 }
 
 #[tactic(auto, unfolding(crate::specs::Bindings::binding_end))]
