@@ -29,6 +29,11 @@ _aadl_fta() {
   fi
   # Behind an option with a value stands that, which can be completed only where it is one of some names.
   case $cur in
+    --profile=*)
+      _aadl_fta_names "${cur#*=}" '1 2'
+      [[ $COMP_WORDBREAKS == *=* ]] || COMPREPLY=("${COMPREPLY[@]/#/${cur%%=*}=}")
+      return
+      ;;
     --format=*)
       _aadl_fta_names "${cur#*=}" 'galileo mef dot'
       [[ $COMP_WORDBREAKS == *=* ]] || COMPREPLY=("${COMPREPLY[@]/#/${cur%%=*}=}")
@@ -49,14 +54,13 @@ _aadl_fta() {
       [[ $COMP_WORDBREAKS == *=* ]] || COMPREPLY=("${COMPREPLY[@]/#/${cur%%=*}=}")
       return
       ;;
-    --profile=*)
-      _aadl_fta_names "${cur#*=}" '1 2'
-      [[ $COMP_WORDBREAKS == *=* ]] || COMPREPLY=("${COMPREPLY[@]/#/${cur%%=*}=}")
-      return
-      ;;
     --*=*) return ;;
   esac
   case $prev in
+    --profile)
+      _aadl_fta_names "$cur" '1 2'
+      return
+      ;;
     --format)
       _aadl_fta_names "$cur" 'galileo mef dot'
       return
@@ -73,25 +77,21 @@ _aadl_fta() {
       _aadl_fta_names "$cur" 'orders uses singles'
       return
       ;;
-    --profile)
-      _aadl_fta_names "$cur" '1 2'
-      return
-      ;;
     --limit | --after | --max-order | --set | --hours) return ;;
   esac
   # The options of the command, and the number of its first word that is a file.
   case ${words[1]} in
-    check | events | review | manifest | refusals) files_from=3 ;;
-    cuts) options='--limit --after --max-order --tokens' files_from=4 ;;
-    tree) options='--format --gates --unrated' files_from=4 ;;
-    fmea | targets) options='--all' files_from=3 ;;
-    report) options='--reports --max-order' files_from=4 ;;
+    check | events | review | manifest | refusals) options='--profile' files_from=3 ;;
+    cuts) options='--limit --after --max-order --tokens --profile' files_from=4 ;;
+    tree) options='--format --gates --unrated --profile' files_from=4 ;;
+    fmea | targets) options='--all --profile' files_from=3 ;;
+    report) options='--reports --max-order --profile' files_from=4 ;;
     make) options='--text' ;;
     galileo) options='--profile --paths --limit --max-order --format --gates' files_from=2 ;;
-    paths) options='--limit --after --max-order' files_from=4 ;;
-    why | confirm) options='--set' files_from=4 ;;
+    paths) options='--limit --after --max-order --profile' files_from=4 ;;
+    why | confirm) options='--set --profile' files_from=4 ;;
     place) [ "$cword" -eq 2 ] && files_from=2 ;;
-    probability) options='--hours --events' files_from=4 ;;
+    probability) options='--hours --events --profile' files_from=4 ;;
     help)
       [ "$cword" -eq 2 ] && COMPREPLY=($(compgen -W "$commands" -- "$cur"))
       return

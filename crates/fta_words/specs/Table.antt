@@ -74,7 +74,7 @@ gate_choices = map (λ name. name.now) GATES
 abbrev pub unrated_choices : List (List ℕ)
 unrated_choices = map (λ name. name.now) UNRATED
 
--- by which profile a text may be read
+-- by which profile a model, or a tree in a file, may be read
 abbrev pub profile_choices : List (List ℕ)
 profile_choices = map (λ name. name.now) PROFILES
 

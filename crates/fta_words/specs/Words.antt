@@ -173,7 +173,7 @@ abbrev pub IsChoice : List (List ℕ) → Option (List ℕ) → List ℕ → Typ
 IsChoice words None chosen = chosen ≡ []
 IsChoice words (Some word) chosen = (is_among words word ≡ true) × (chosen ≡ word)
 
--- What options say of how a tree is read and written: each says one of its words.
+-- What options say of how a model or a tree is read, and a tree is written: each says one of its words.
 pub record SayForm (kind : Kind) (given : List Given) (form : Form) : Type 0 where
   pub format : IsChoice (formats_of kind) (value_of (codes "format") given) form.format
   pub gates : IsChoice gate_choices (value_of (codes "gates") given) form.gates

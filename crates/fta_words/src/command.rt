@@ -45,7 +45,7 @@ pub struct Options {
     pub set: Name,
     /// How many hours, as the words have them.
     pub hours: Option<Name>,
-    /// How a tree is read and written.
+    /// How a model or a tree is read, and a tree is written.
     pub form: Form,
     /// The places of the chosen reports, which rise; none where the command has no reports.
     pub chosen: List<u32>,
@@ -68,7 +68,7 @@ impl Options {
     }
 }
 
-/// How a tree is read and written, each by the word that is given; empty where none is.
+/// How a model or a tree is read, and a tree is written, each by the word that is given; empty where none is.
 #[derive(Drop)]
 pub struct Form {
     /// The format of its text: `galileo`, `mef` or `dot`.
@@ -77,7 +77,7 @@ pub struct Form {
     pub gates: Name,
     /// What is done with an event without a rate: `1` or `refuse`.
     pub unrated: Name,
-    /// By which profile it is read: `1` or `2`.
+    /// By which profile the model, or the tree in a file, is read: `1` or `2`.
     pub profile: Name,
 }
 

@@ -72,7 +72,7 @@ pub const GATES: [&'static [u8]; 2] = [b"written", b"merged"];
 /// What is done with an event without a rate: its probability is 1, or the tree is refused.
 pub const UNRATED: [&'static [u8]; 2] = [b"1", b"refuse"];
 
-/// The profiles by which a text may be read.
+/// The profiles by which a model, or a tree in a file, may be read.
 pub const PROFILES: [&'static [u8]; 2] = [b"1", b"2"];
 
 /// The codes of refusals, in lower case.
@@ -91,10 +91,10 @@ pub const ROWS: [CommandRow; 20] = [
         name: b"check",
         shape: Shape::Model,
         flags: &[],
-        valued: &[],
+        valued: &[b"profile"],
         required: &[],
         usage: b"check ROOT FILE..",
-        optional: b"",
+        optional: b" [--profile 1|2]",
         about: b"the numbers of components, facts and events of a model",
     },
     Row {
@@ -102,10 +102,10 @@ pub const ROWS: [CommandRow; 20] = [
         name: b"cuts",
         shape: Shape::Target,
         flags: &[b"tokens"],
-        valued: &[b"limit", b"after", b"max-order"],
+        valued: &[b"limit", b"after", b"max-order", b"profile"],
         required: &[],
         usage: b"cuts ROOT TARGET FILE..",
-        optional: b" [--limit N] [--after TOKEN] [--max-order N] [--tokens]",
+        optional: b" [--limit N] [--after TOKEN] [--max-order N] [--tokens] [--profile 1|2]",
         about: b"the minimal cut sets of a target, or a page of them",
     },
     Row {
@@ -113,10 +113,10 @@ pub const ROWS: [CommandRow; 20] = [
         name: b"tree",
         shape: Shape::Target,
         flags: &[],
-        valued: &[b"format", b"gates", b"unrated"],
+        valued: &[b"format", b"gates", b"unrated", b"profile"],
         required: &[],
         usage: b"tree ROOT TARGET FILE..",
-        optional: b" [--format galileo|mef|dot] [--gates written|merged] [--unrated 1|refuse]",
+        optional: b" [--format galileo|mef|dot] [--gates written|merged] [--unrated 1|refuse] [--profile 1|2]",
         about: b"the static fault tree of a target as Galileo text, Open-PSA text or a picture",
     },
     Row {
@@ -124,10 +124,10 @@ pub const ROWS: [CommandRow; 20] = [
         name: b"fmea",
         shape: Shape::Model,
         flags: &[b"all"],
-        valued: &[],
+        valued: &[b"profile"],
         required: &[],
         usage: b"fmea ROOT FILE..",
-        optional: b" [--all]",
+        optional: b" [--all] [--profile 1|2]",
         about: b"the table of the effects that each event reaches alone",
     },
     Row {
@@ -135,10 +135,10 @@ pub const ROWS: [CommandRow; 20] = [
         name: b"report",
         shape: Shape::Target,
         flags: &[],
-        valued: &[b"reports", b"max-order"],
+        valued: &[b"reports", b"max-order", b"profile"],
         required: &[],
         usage: b"report ROOT TARGET FILE..",
-        optional: b" [--reports NAMES] [--max-order N]",
+        optional: b" [--reports NAMES] [--max-order N] [--profile 1|2]",
         about: b"what reports count in the minimal cut sets of a target",
     },
     Row {
@@ -168,10 +168,10 @@ pub const ROWS: [CommandRow; 20] = [
         name: b"paths",
         shape: Shape::Target,
         flags: &[],
-        valued: &[b"limit", b"after", b"max-order"],
+        valued: &[b"limit", b"after", b"max-order", b"profile"],
         required: &[],
         usage: b"paths ROOT TARGET FILE..",
-        optional: b" [--limit N] [--after TOKEN] [--max-order N]",
+        optional: b" [--limit N] [--after TOKEN] [--max-order N] [--profile 1|2]",
         about: b"the minimal path sets of a target, or a page of them",
     },
     Row {
@@ -179,10 +179,10 @@ pub const ROWS: [CommandRow; 20] = [
         name: b"why",
         shape: Shape::Target,
         flags: &[],
-        valued: &[b"set"],
+        valued: &[b"set", b"profile"],
         required: &[b"set"],
         usage: b"why ROOT TARGET FILE.. --set TOKEN",
-        optional: b"",
+        optional: b" [--profile 1|2]",
         about: b"why a target holds under a set of events",
     },
     Row {
@@ -190,10 +190,10 @@ pub const ROWS: [CommandRow; 20] = [
         name: b"confirm",
         shape: Shape::Derivation,
         flags: &[],
-        valued: &[b"set"],
+        valued: &[b"set", b"profile"],
         required: &[b"set"],
         usage: b"confirm ROOT TARGET DERIVATION FILE.. --set TOKEN",
-        optional: b"",
+        optional: b" [--profile 1|2]",
         about: b"that a text shows that",
     },
     Row {
@@ -201,10 +201,10 @@ pub const ROWS: [CommandRow; 20] = [
         name: b"targets",
         shape: Shape::Model,
         flags: &[b"all"],
-        valued: &[],
+        valued: &[b"profile"],
         required: &[],
         usage: b"targets ROOT FILE..",
-        optional: b" [--all]",
+        optional: b" [--all] [--profile 1|2]",
         about: b"the facts that may be asked as targets",
     },
     Row {
@@ -212,10 +212,10 @@ pub const ROWS: [CommandRow; 20] = [
         name: b"events",
         shape: Shape::Model,
         flags: &[],
-        valued: &[],
+        valued: &[b"profile"],
         required: &[],
         usage: b"events ROOT FILE..",
-        optional: b"",
+        optional: b" [--profile 1|2]",
         about: b"the basic events, with their kinds, rates and places",
     },
     Row {
@@ -223,10 +223,10 @@ pub const ROWS: [CommandRow; 20] = [
         name: b"review",
         shape: Shape::Model,
         flags: &[],
-        valued: &[],
+        valued: &[b"profile"],
         required: &[],
         usage: b"review ROOT FILE..",
-        optional: b"",
+        optional: b" [--profile 1|2]",
         about: b"what stands in a model without effect, and where its errors stop",
     },
     Row {
@@ -245,10 +245,10 @@ pub const ROWS: [CommandRow; 20] = [
         name: b"manifest",
         shape: Shape::Model,
         flags: &[],
-        valued: &[],
+        valued: &[b"profile"],
         required: &[],
         usage: b"manifest ROOT FILE..",
-        optional: b"",
+        optional: b" [--profile 1|2]",
         about: b"of which program and which files a result is, to be kept beside it",
     },
     Row {
@@ -256,10 +256,10 @@ pub const ROWS: [CommandRow; 20] = [
         name: b"refusals",
         shape: Shape::Model,
         flags: &[],
-        valued: &[],
+        valued: &[b"profile"],
         required: &[],
         usage: b"refusals ROOT FILE..",
-        optional: b"",
+        optional: b" [--profile 1|2]",
         about: b"all that is refused of a model at once, a line each with its line and column",
     },
     Row {
@@ -267,10 +267,10 @@ pub const ROWS: [CommandRow; 20] = [
         name: b"probability",
         shape: Shape::Target,
         flags: &[b"events"],
-        valued: &[b"hours"],
+        valued: &[b"hours", b"profile"],
         required: &[],
         usage: b"probability ROOT TARGET FILE..",
-        optional: b" [--hours T] [--events]",
+        optional: b" [--hours T] [--events] [--profile 1|2]",
         about: b"how probable a target is at least and at most, by the rates of its events",
     },
     Row {
@@ -304,7 +304,7 @@ pub const ROWS: [CommandRow; 20] = [
         required: &[],
         usage: b"version",
         optional: b"",
-        about: b"the versions of the program, of its profile, and of what its commands write",
+        about: b"the versions of the program, of its profiles, and of what its commands write",
     },
 ];
 

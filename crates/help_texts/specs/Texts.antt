@@ -45,7 +45,7 @@ help_text (Some kind) = codes "aadl_fta " ++ usage_of kind ++ optional_of kind +
 abbrev pub program_text : List ℕ
 program_text = PROGRAM.now
 
--- what `version` writes: the version of the program, and that of the profile
+-- what `version` writes: the version of the program, and its profiles
 abbrev pub version_text : List ℕ
 version_text = VERSIONS.now
 

@@ -6,6 +6,8 @@ pub const CHECK: &[u8] =
     classifier from which the system is made, Package::System.impl, and the files are all texts whose\n\
     packages it uses, 64 at most.\n\
     \n\
+    --profile 1|2  the first, or the second, which also reads recovery, noerror, orless and more bindings\n\
+    \n\
     Example, in the folder of the repository:\n\
     ./aadl_fta check Acs::Control.dual examples/attitude_control.aadl\n";
 
@@ -19,6 +21,7 @@ pub const CUTS: &[u8] =
     --after TOKEN  only sets behind that of this text, the second word of a line\n\
     --max-order N  only sets of at most N events\n\
     --tokens       a last line more has a token for --after, which names the input\n\
+    --profile 1|2  the first, or the second, which also reads recovery, noerror, orless and more bindings\n\
     \n\
     Example, in the folder of the repository:\n\
     ./aadl_fta cuts Acs::Control.dual 'root/out:torque{errors::serviceomission}' examples/attitude_control.aadl\n";
@@ -31,6 +34,7 @@ pub const TREE: &[u8] =
     --format galileo|mef|dot  Galileo text, the Open-PSA Model Exchange Format, or a picture for Graphviz\n\
     --gates written|merged    gates as the formulas have them, or equal ones and those of one input merged\n\
     --unrated 1|refuse        an event without a rate has the probability 1, or is refused\n\
+    --profile 1|2             the first, or the second, which also reads recovery, noerror, orless and more bindings\n\
     \n\
     Example, in the folder of the repository:\n\
     ./aadl_fta tree Acs::Control.dual 'root/out:torque{errors::serviceomission}' examples/attitude_control.aadl\n";
@@ -41,6 +45,7 @@ pub const FMEA: &[u8] =
     the effect is reached. Effects are the states of the root that are not initial, and what leaves it.\n\
     \n\
     --all          the effects of all components\n\
+    --profile 1|2  the first, or the second, which also reads recovery, noerror, orless and more bindings\n\
     \n\
     Example, in the folder of the repository:\n\
     ./aadl_fta fmea Acs::Control.dual examples/attitude_control.aadl\n";
@@ -52,6 +57,7 @@ pub const REPORT: &[u8] =
     \n\
     --reports NAMES  only these, with + between them: orders, uses, singles\n\
     --max-order N    only sets of at most N events\n\
+    --profile 1|2    the first, or the second, which also reads recovery, noerror, orless and more bindings\n\
     \n\
     Example, in the folder of the repository:\n\
     ./aadl_fta report Acs::Control.dual 'root/out:torque{errors::serviceomission}' examples/attitude_control.aadl --reports orders+singles\n";
@@ -90,6 +96,7 @@ pub const PATHS: &[u8] =
     --limit N      at most N sets\n\
     --after TOKEN  only sets behind that of this text, the second word of a line\n\
     --max-order N  only sets of at most N events\n\
+    --profile 1|2  the first, or the second, which also reads recovery, noerror, orless and more bindings\n\
     \n\
     Example, in the folder of the repository:\n\
     ./aadl_fta paths Acs::Control.dual 'root/out:torque{errors::serviceomission}' examples/attitude_control.aadl\n";
@@ -100,6 +107,7 @@ pub const WHY: &[u8] =
     and the earlier steps from which it follows.\n\
     \n\
     --set TOKEN    the set, as in a line of cuts: root.a/e+root.b/e, or none\n\
+    --profile 1|2  the first, or the second, which also reads recovery, noerror, orless and more bindings\n\
     \n\
     Example, in the folder of the repository:\n\
     ./aadl_fta why Acs::Control.dual 'root/out:torque{errors::serviceomission}' examples/attitude_control.aadl --set root.v/failure\n";
@@ -110,6 +118,7 @@ pub const CONFIRM: &[u8] =
     holds under a set of events, whoever wrote it. The other files are those of the model.\n\
     \n\
     --set TOKEN    the set, as in a line of cuts: root.a/e+root.b/e, or none\n\
+    --profile 1|2  the first, or the second, which also reads recovery, noerror, orless and more bindings\n\
     \n\
     Example, in the folder of the repository:\n\
     ./aadl_fta why Acs::Control.dual 'root/out:torque{errors::serviceomission}' examples/attitude_control.aadl --set root.v/failure > why.txt\n\
@@ -122,6 +131,7 @@ pub const TARGETS: &[u8] =
     first minimal cut set, or large where it depends on too much. The last line is end.\n\
     \n\
     --all          all facts\n\
+    --profile 1|2  the first, or the second, which also reads recovery, noerror, orless and more bindings\n\
     \n\
     Example, in the folder of the repository:\n\
     ./aadl_fta targets Acs::Control.dual examples/attitude_control.aadl\n";
@@ -130,6 +140,8 @@ pub const TARGETS: &[u8] =
 pub const EVENTS: &[u8] =
     b"Lists the basic events of a model, each with its kind (error, source or external), its rate, and the place\n\
     of its declaration, FILE:BYTE. The last line is end.\n\
+    \n\
+    --profile 1|2  the first, or the second, which also reads recovery, noerror, orless and more bindings\n\
     \n\
     Example, in the folder of the repository:\n\
     ./aadl_fta events Acs::Control.dual examples/attitude_control.aadl\n";
@@ -140,6 +152,8 @@ pub const REVIEW: &[u8] =
     hides, types that a receiver does not declare, errors that nothing looks at, events that no effect depends\n\
     on, and what never comes about. No line says that the model is wrong; each may be a slip. The last line is\n\
     end.\n\
+    \n\
+    --profile 1|2  the first, or the second, which also reads recovery, noerror, orless and more bindings\n\
     \n\
     Example, in the folder of the repository:\n\
     ./aadl_fta review Acs::Control.dual examples/attitude_control.aadl\n";
@@ -158,6 +172,8 @@ pub const MANIFEST: &[u8] =
     version of the program, the root, the numbers of components, facts and events, and the SHA-256 of each\n\
     file with its name, as sha256sum -c reads it. Keep these lines beside the tables of the model.\n\
     \n\
+    --profile 1|2  the first, or the second, which also reads recovery, noerror, orless and more bindings\n\
+    \n\
     Example, in the folder of the repository:\n\
     ./aadl_fta manifest Acs::Control.dual examples/attitude_control.aadl\n";
 
@@ -170,6 +186,8 @@ pub const REFUSALS: &[u8] =
     comes end, or more where the part has 1024 refusals or more. Where nothing is refused, end stands alone.\n\
     Mend them, and ask again: what stands behind them was not looked at. The exit status is 0 also where\n\
     something is refused; ask check for the verdict.\n\
+    \n\
+    --profile 1|2  the first, or the second, which also reads recovery, noerror, orless and more bindings\n\
     \n\
     Example, in the folder of the repository:\n\
     ./aadl_fta refusals Acs::Control.dual examples/attitude_control.aadl\n";
@@ -184,6 +202,7 @@ pub const PROBABILITY: &[u8] =
     \n\
     --hours T      the hours in which an event with a failure rate may occur; it has no probability without\n\
     --events       of each event also the two numbers where it never occurs and where it always does\n\
+    --profile 1|2  the first, or the second, which also reads recovery, noerror, orless and more bindings\n\
     \n\
     Example, in the folder of the repository:\n\
     ./aadl_fta probability Acs::Control.dual 'root/out:torque{errors::serviceomission}' examples/attitude_control.aadl --hours 1000\n";
@@ -208,7 +227,7 @@ pub const HELP: &[u8] =
 
 /// Of `version`.
 pub const VERSION: &[u8] =
-    b"Writes the version of the program, that of its profile (the texts that it accepts, and what they mean), and\n\
+    b"Writes the version of the program, its profiles (the texts that it accepts, and what they mean), and\n\
     that of the format of what each command writes: it rises where a line has another form or a kind of line\n\
     is new. --version and -V write the same.\n\
     \n\
@@ -222,7 +241,8 @@ pub const STATUSES: &[u8] =
 /// The program and its version.
 pub const PROGRAM: &[u8] = b"aadl_fta 0.1.0";
 
-/// The version of the program, that of its profile, and those of the formats of what its commands write.
+/// The version of the program, its profiles, and the versions of the formats of what its commands write.
 pub const VERSIONS: &[u8] = b"aadl_fta 0.1.0\n\
     profile 1\n\
-    formats: check 1 cuts 1 tree 1 mef 1 dot 1 fmea 1 report 1 make 1 galileo 1 paths 1 why 1 confirm 1 targets 1 events 1 review 2 place 1 manifest 1 refusals 1 probability 1\n";
+    profile 2\n\
+    formats: check 1 cuts 1 tree 1 mef 1 dot 1 fmea 1 report 1 make 1 galileo 1 paths 1 why 1 confirm 1 targets 1 events 1 review 2 place 1 manifest 2 refusals 1 probability 1\n";

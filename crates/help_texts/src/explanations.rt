@@ -144,28 +144,30 @@ pub const EXPLANATIONS: [&'static [u8]; 59] = [
     \n\
     A condition k orless (..).\n\
     \n\
-    Instead: say what must fail: ormore, and, or. More events never cause less here, so \"at most\" has no\n\
-    meaning.\n",
+    Instead: ask with --profile 2, which reads it (docs/PROFILE2.md). Under the first profile say what\n\
+    must fail: ormore, and, or. More events never cause less here, so \"at most\" has no meaning.\n",
     b"P6 NoErrorCondition\n\
     \n\
     noerror in a set of a condition.\n\
     \n\
-    Instead: leave that part out: that nothing comes is no cause. What may happen beside it stays\n\
-    caused.\n",
+    Instead: ask with --profile 2, which reads it (docs/PROFILE2.md). Under the first profile leave that\n\
+    part out: that nothing comes is no cause. What may happen beside it stays caused.\n",
     b"P7 Others\n\
     \n\
     A composite clause [others]-> s to a state that is not initial.\n\
     \n\
-    Instead: let others lead to the initial state, and write the conditions of the failed states out.\n",
+    Instead: ask with --profile 2, which reads it (docs/PROFILE2.md). Under the first profile let others\n\
+    lead to the initial state, and write the conditions of the failed states out.\n",
     b"P8 Recovery\n\
     \n\
     A recover or repair event in a machine or a component.\n\
     \n\
-    Instead: leave the event out, and look where its transitions lead. Nothing recovers in this meaning,\n\
-    so one back to an initial state changes no cut set: leave it out too. One that leads to another\n\
-    failed state has to stay, or what that state causes is in no listing: keep it with a condition that\n\
-    always holds, Corrupt -[0 ormore (SEU)]-> SafeMode;. Where the recovery may fail to come and is to\n\
-    be counted, declare it as an error event, and it stands in the sets.\n",
+    Instead: ask with --profile 2, which reads it (docs/PROFILE2.md). Under the first profile leave the\n\
+    event out, and look where its transitions lead. Nothing recovers in this meaning, so one back to an\n\
+    initial state changes no cut set: leave it out too. One that leads to another failed state has to\n\
+    stay, or what that state causes is in no listing: keep it with a condition that always holds,\n\
+    Corrupt -[0 ormore (SEU)]-> SafeMode;. Where the recovery may fail to come and is to be counted,\n\
+    declare it as an error event, and it stands in the sets.\n",
     b"P9 ConnectionError\n\
     \n\
     A block connection error.\n\

@@ -26,7 +26,7 @@ pub fn program_text() -> &'static [u8]
     texts::PROGRAM
 }
 
-/// What `version` writes: the version of the program, and that of its profile.
+/// What `version` writes: the version of the program, and its profiles.
 pub fn version_text() -> &'static [u8]
     ensures { result.now ≡ version_text }
 {

@@ -4,6 +4,8 @@ use Rattle.std.specs.List.{flat_map}
 use Rattle.hex.specs.Hex.{encode_lower}
 use Rattle.sha2.specs.Sha256.{sha256}
 use Rattle.plain_values.specs.declared.name.Root.{Root}
+use Rattle.profiles.specs.declared.profile.Profile.{Profile}
+use Rattle.profiles.specs.declared.profile.Profile.TheVariants.{First, Second}
 use Rattle.page_tokens.specs.Forms.{begins_new}
 
 -- a text and a line feed
@@ -37,13 +39,18 @@ file_text file = line (decimal (length file)) ++ file
 abbrev pub files_text : List (List ℕ) → List ℕ
 files_text files = line (decimal (length files)) ++ flat_map file_text files
 
--- what a page is asked of: the root, the target, the greatest number of events of a set, and the files
-abbrev pub key_text : Root → List ℕ → Option ℕ → List (List ℕ) → List ℕ
-key_text root target max_order files = line (root_text root) ++ line target ++ line (order_text max_order) ++ files_text files
+-- the profile by which a model is read, in a line of its own, where it is not the first
+abbrev pub profile_text : Profile → List ℕ
+profile_text First = []
+profile_text Second = line (codes "profile 2")
+
+-- what a page is asked of: the profile, the root, the target, the greatest number of events of a set, and the files
+abbrev pub key_text : Profile → Root → List ℕ → Option ℕ → List (List ℕ) → List ℕ
+key_text profile root target max_order files = profile_text profile ++ line (root_text root) ++ line target ++ line (order_text max_order) ++ files_text files
 
 -- the digits of its key: its SHA-256 in lower-case hexadecimal digits
-abbrev pub key_digits : Root → List ℕ → Option ℕ → List (List ℕ) → List ℕ
-key_digits root target max_order files = encode_lower (sha256 (key_text root target max_order files))
+abbrev pub key_digits : Profile → Root → List ℕ → Option ℕ → List (List ℕ) → List ℕ
+key_digits profile root target max_order files = encode_lower (sha256 (key_text profile root target max_order files))
 
 -- whether the digits are asked for: for the last line of a page, or by a token of the second version
 abbrev pub asks_digits : Bool → Option (List ℕ) → Bool
@@ -51,5 +58,5 @@ asks_digits tokens None = tokens
 asks_digits tokens (Some text) = tokens || begins_new text
 
 -- the digits where they are asked for; where they are not, no answer depends on them, and they are zeros
-abbrev pub asked_digits : Bool → Option (List ℕ) → Root → List ℕ → Option ℕ → List (List ℕ) → List ℕ
-asked_digits tokens after root target max_order files = if asks_digits tokens after then key_digits root target max_order files else replicate 64 48
+abbrev pub asked_digits : Bool → Option (List ℕ) → Profile → Root → List ℕ → Option ℕ → List (List ℕ) → List ℕ
+asked_digits tokens after profile root target max_order files = if asks_digits tokens after then key_digits profile root target max_order files else replicate 64 48

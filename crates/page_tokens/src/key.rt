@@ -3,19 +3,28 @@
 ghost use Rattle.std.specs.Prelude.{◌≡◌, ◌++◌, ◌∷◌, List, ℕ, decimal};
 ghost use Rattle.std.specs.List.{flat_map};
 ghost use Rattle.hex.specs.Hex.{encode_lower};
-ghost use Rattle.page_tokens.specs.Keys.{asked_digits, asks_digits, dotted, file_text, files_text, joined, key_digits, line, order_text, root_text};
+ghost use Rattle.page_tokens.specs.Keys.{asked_digits, asks_digits, dotted, file_text, files_text, joined, key_digits, line, order_text, profile_text, root_text};
 
 use crate::token::begins_new;
 use itoa::Buffer;
 use plain_values::{Name, Root};
+use profiles::Profile;
 use sha2::{Digest, Sha256};
 
-/// The digits of the key of what a page is asked of: the SHA-256 of the folded root and target, of the greatest number of events of
-/// a set, and of the bytes of the files in their order, in 64 lower-case hexadecimal digits. It takes no memory.
-pub fn page_digest(root: &Root, target: &Name, max_order: Option<u32>, files: &[Name]) -> [u8; 64]
-    ensures { result ≡ key_digits root.now target.now max_order files.now }
+/// The digits of the key of what a page is asked of: the SHA-256 of the profile where it is not the first, of the folded root and target,
+/// of the greatest number of events of a set, and of the bytes of the files in their order, in 64 lower-case hexadecimal digits. It
+/// takes no memory.
+pub fn page_digest(
+    profile: Profile,
+    root: &Root,
+    target: &Name,
+    max_order: Option<u32>,
+    files: &[Name],
+) -> [u8; 64]
+    ensures { result ≡ key_digits profile root.now target.now max_order files.now }
 {
     let mut hasher = Sha256::new();
+    feed_profile(&mut hasher, profile);
     feed_root(&mut hasher, root);
     feed_line(&mut hasher, target.items());
     feed_order(&mut hasher, max_order);
@@ -27,15 +36,16 @@ pub fn page_digest(root: &Root, target: &Name, max_order: Option<u32>, files: &[
 pub fn asked_digest(
     tokens: bool,
     after: &Option<Name>,
+    profile: Profile,
     root: &Root,
     target: &Name,
     max_order: Option<u32>,
     files: &[Name],
 ) -> [u8; 64]
-    ensures { result ≡ asked_digits tokens after.now root.now target.now max_order files.now }
+    ensures { result ≡ asked_digits tokens after.now profile root.now target.now max_order files.now }
 {
     if asks_digits(tokens, after) {
-        page_digest(root, target, max_order, files)
+        page_digest(profile, root, target, max_order, files)
     } else {
         [b'0'; 64]
     }
@@ -70,6 +80,15 @@ fn feed_line<D: Digest>(hasher: &mut D, text: &[u8])
 {
     feed(hasher, text);
     feed(hasher, b"\n");
+}
+
+fn feed_profile<D: Digest>(hasher: &mut D, profile: Profile)
+    ensures { (m : List ℕ) → D.holds hasher.old m → D.holds hasher.new (m ++ profile_text profile) }
+{
+    match profile {
+        Profile::First => feed(hasher, b""),
+        Profile::Second => feed_line(hasher, b"profile 2"),
+    }
 }
 
 fn feed_root<D: Digest>(hasher: &mut D, root: &Root)
