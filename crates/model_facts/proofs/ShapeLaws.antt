@@ -1,5 +1,5 @@
 -- The shape of error models: names that differ, and types that rise.
-use Rattle.std.proofs.Common.{ℕ, ◌≡◌, ◌≢◌, ◌<◌, ◌⊎◌, inl, inr, Bool, true, false, ◌&&◌, List, [], ◌∷◌, ◌++◌, map, flat_map, find, fold, length, get_or, position, slice_get, Option, Some, None, is_some, option_and_then, option_map, option_to_list, refl, sym, ap, ◌∙◌, subst}
+use Rattle.std.proofs.Common.{ℕ, ◌≡◌, ◌≢◌, ◌<◌, ◌⊎◌, inl, inr, Bool, true, false, ◌&&◌, cond, List, [], ◌∷◌, ◌++◌, map, flat_map, find, fold, length, get_or, position, slice_get, Option, Some, None, is_some, option_and_then, option_map, option_to_list, refl, sym, ap, ◌∙◌, subst}
 use Rattle.std.specs.Cmp.{first_so}
 use Rattle.std.specs.List.{AllByRecursion, list_any}
 use Rattle.std.proofs.lemmas.Bool.{false≢true}
