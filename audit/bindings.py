@@ -1,8 +1,9 @@
-"""Bindings to processors and memories (docs/PROFILE.md, "Bindings")."""
+"""Bindings to processors and memories (docs/PROFILE.md, "Bindings"), and those of profile 2."""
 
 from text import CLOSING, OPENING
 
 KINDS = ("processor", "memory")
+MORE_KINDS = KINDS + ("function", "connection")
 
 
 def pieces(tokens):
@@ -56,7 +57,7 @@ class Piece:
         """The kind, the references and the targets."""
         if self.is_next("deployment_properties"):
             self.take("deployment_properties", "::")
-        kind = next((kind for kind in KINDS if self.is_next(f"actual_{kind}_binding")), None)
+        kind = next((kind for kind in MORE_KINDS if self.is_next(f"actual_{kind}_binding")), None)
         self.at += 1
         self.take("=>")
         if self.is_next("("):
@@ -105,16 +106,29 @@ def bindings_of(part):
     return found
 
 
-def counting_binding(part, kind):
-    """The binding of a kind that counts for a component: its owner and its references."""
-    path, owner, found = (), part, None
-    while owner.parent:
+def counting_binding(part, kind, path=()):
+    """The binding of a kind that counts for a component, or for what a path leads to from
+    there: its owner and its references. The outermost owner counts, and its last one."""
+    owner, found = part, None
+    while owner:
+        for its_kind, references, targets in owner.bindings:
+            if its_kind == kind and path and path in targets:
+                found = (owner, references)
         path = (owner.path.rsplit(".", 1)[-1],) + path
         owner = owner.parent
-        for its_kind, references, targets in owner.bindings:
-            if its_kind == kind and path in targets:
-                found = (path, owner, references)
-    return found and found[1:]
+    return found
+
+
+def referenced(below, binding):
+    """The components to which the references of a binding lead, in order."""
+    owner, references = binding or (None, [])
+    return [other for other in (below(owner, path) for path in references) if other]
+
+
+def both_ways(part, word, other):
+    """The links between a component and one that it is bound to."""
+    yield (other, "bindings", "out"), (part, word, "in")
+    yield (part, word, "out"), (other, "bindings", "in")
 
 
 def binding_links(parts, below):
@@ -122,10 +136,37 @@ def binding_links(parts, below):
     for part in parts:
         part.bindings = bindings_of(part)
     for part in parts:
+        part.counts = {kind: counting_binding(part, kind) for kind in MORE_KINDS}
         for kind in KINDS:
-            owner, references = counting_binding(part, kind) or (None, [])
-            for path in references:
-                other = below(owner, path)
-                if other:
-                    yield (other, "bindings", "out"), (part, kind, "in")
-                    yield (part, kind, "out"), (other, "bindings", "in")
+            for other in referenced(below, part.counts[kind]):
+                yield from both_ways(part, kind, other)
+
+
+# What the second profile has behind these
+
+
+def more_binding_links(parts, below):
+    """The links of bindings that hold for what is inside, of functions, and of connections."""
+    for part in parts:
+        for kind in KINDS:
+            if not part.counts[kind]:
+                for other in referenced(below, nearest_around(part, kind)):
+                    yield from both_ways(part, kind, other)
+    for part in parts:
+        for other in referenced(below, part.counts["function"]):
+            yield from both_ways(part, "binding", other)
+    for part in parts:
+        for name, directions in part.given:
+            for bus in referenced(below, counting_binding(part, "connection", (name,))):
+                for start, goal in directions:
+                    yield (bus, "bindings", "out"), goal
+                    yield (bus, "bindings", "out"), (goal[0], "connection", "in")
+                    yield start, (bus, "bindings", "in")
+
+
+def nearest_around(part, kind):
+    """What counts for the nearest component around one for which a binding counts."""
+    part = part.parent
+    while part and not part.counts[kind]:
+        part = part.parent
+    return part and part.counts[kind]

@@ -2,15 +2,19 @@
 
 A fact is (number of its component, "state" / "in" / "out", name, type or None). A formula is
 ("fact", fact), ("event", event), ("and", parts), ("or", parts) or ("atleast", k, parts).
+
+What a condition means is a pair of formulas, where it may hold and where it may fail
+(docs/PROFILE2.md). By the first profile the second one is not asked for.
 """
 
-from bindings import binding_links
+from bindings import binding_links, more_binding_links
 from errors import POINT_WORDS
 from model import find_machine, gather
 from text import WORDS, Node, Refusal, first, written
 
 MAX_FACTS, MAX_EVENTS = 262144, 4096
 TRUE = ("and", [])
+ALWAYS = (TRUE, TRUE)
 
 
 def sets_of_condition(condition):
@@ -32,11 +36,24 @@ def sets_of_item(item):
     return [each for each in found if each]
 
 
+def counted(condition, holds, fails):
+    """The pair of a condition over the sides of its parts (docs/PROFILE2.md, the table)."""
+    if condition.kind == "and":
+        return (("and", holds), ("or", fails))
+    if condition.kind == "or":
+        return (("or", holds), ("and", fails))
+    least, count = condition.least, len(holds)
+    if condition.kind == "ormore":
+        return (("atleast", least, holds), ("atleast", max(0, count + 1 - least), fails))
+    return (("atleast", max(0, count - least), fails), ("atleast", least + 1, holds))
+
+
 class Facts:
     """The facts and events of an instance, and the formula of each fact."""
 
-    def __init__(self, instance, names, types):
+    def __init__(self, instance, names, types, profile=1):
         self.parts, self.names, self.types = instance.components, names, types
+        self.profile = profile
         self.denote_sets()
         for part in self.parts:
             self.read_points(part, [])
@@ -135,25 +152,27 @@ class Facts:
         """States, events, transitions and outgoing conditions of a component."""
         machine = part.machine or Node(faults=[], states=[], events=[], transitions=[])
         faults += [Refusal(code, place) for code, place in machine.faults]
-        part.states, part.error_events, part.reasons = {}, {}, {}
+        part.states, part.error_events, part.reasons, part.free = {}, {}, {}, set()
         for state in machine.states:
             state.types = state.set and state.set.numbers
             part.states.setdefault(state.name, state)
         for event in machine.events + [item for item, _ in part.events]:
-            if event.kind != "error":
+            if event.kind != "error" and self.profile == 1:
                 faults.append(Refusal("P8", event.place))
+            if event.kind != "error" and event.name not in part.error_events:
+                part.free.add(event.name)
             part.error_events.setdefault(event.name, event.set and event.set.numbers)
             part.places.setdefault(("error", event.name), event.place)
         for item in machine.transitions + [item for item, _ in part.transitions]:
             formula = ("and", [self.holds(part, item.source, faults),
-                               self.condition(part, item.condition, False, faults)])
+                               self.condition(part, item.condition, False, faults)[0]])
             for goal in item.goals:
                 for fact in self.states(part, goal, faults):
                     part.reasons.setdefault(fact, []).append(formula)
         part.outgoing_reasons = {}
         for item, _ in part.outgoing:
             formula = ("and", [self.holds(part, item.source, faults),
-                               self.condition(part, item.condition, False, faults)])
+                               self.condition(part, item.condition, False, faults)[0]])
             for number in self.select(part, item.point, item.set, "out", faults):
                 key = (part.number, "out", item.point[0].text, number)
                 part.outgoing_reasons.setdefault(key, []).append(formula)
@@ -165,35 +184,42 @@ class Facts:
         return ("or", [("fact", fact) for fact in self.states(part, source, faults)])
 
     def condition(self, part, condition, composite, faults):
-        """The formula of a condition; `composite` where names are states below."""
+        """Where a condition may hold and where it may fail; `composite` where names are states
+        below."""
         if condition is None:
-            return TRUE
+            return (TRUE, ("or", []))
         if condition.kind != "name":
-            parts = [self.condition(part, each, composite, faults) for each in condition.parts]
-            if condition.kind == "orless":
+            pairs = [self.condition(part, each, composite, faults) for each in condition.parts]
+            if condition.kind == "orless" and self.profile == 1:
                 faults.append(Refusal("P5", condition.place))
-            if condition.kind in ("and", "or"):
-                return (condition.kind, parts)
-            return ("atleast", condition.least, parts)
+            return counted(condition, [pair[0] for pair in pairs], [pair[1] for pair in pairs])
+        no_error = False
         for term in condition.set.terms if condition.set else []:
             if term.kind == "noerror":
-                faults.append(Refusal("P6", term.place))
+                no_error = True
+                if self.profile == 1:
+                    faults.append(Refusal("P6", term.place))
         if composite and not condition.inward:
-            return self.state_below(part, condition, faults)
-        return self.trigger(part, condition, faults)
+            pair = self.state_below(part, condition, faults)
+        else:
+            pair = self.trigger(part, condition, faults)
+        return ALWAYS if no_error else pair
 
     def trigger(self, part, condition, faults):
-        """The formula of an event, or of a point with an inward side."""
+        """The pair of an event, or of a point with an inward side."""
         point, name = condition.point, condition.point[0].text
         if not condition.inward:
             if len(point) == 1 and name in part.error_events:
                 types = self.typed(part.error_events[name], condition.set, faults)
-                return ("or", [("event", (part.number, "error", name, t)) for t in types])
+                if name in part.free:
+                    return ALWAYS
+                events = [("event", (part.number, "error", name, t)) for t in types]
+                return (("or", events), TRUE)
             if len(point) > 1 or self.side(part, name, "in") is None:
                 faults.append(Refusal("N12", point[0].place))
-                return TRUE
+                return ALWAYS
         types = self.select(part, point, condition.set, "in", faults)
-        return ("or", [("fact", (part.number, "in", name, number)) for number in types])
+        return (("or", [("fact", (part.number, "in", name, number)) for number in types]), TRUE)
 
     # Flows and composite states
 
@@ -237,14 +263,22 @@ class Facts:
         return part
 
     def state_below(self, part, condition, faults):
-        """The formula of a state of a component below, in a composite clause."""
+        """The pair of a state of a component below, in a composite clause."""
         names, place = written(condition.point), condition.point[0].place
         other = self.below(part, names[:-1]) if len(names) > 1 else None
         if other is None:
             faults.append(Refusal("N13", place))
-            return TRUE
+            return ALWAYS
         use = Node(name=names[-1], place=place, set=condition.set)
-        return ("or", [("fact", fact) for fact in self.states_of(other, use, faults)])
+        meant = self.states_of(other, use, faults)
+        others = [fact for fact in self.all_states(other) if fact not in meant]
+        return (("or", [("fact", fact) for fact in meant]),
+                ("or", [("fact", fact) for fact in others]))
+
+    def all_states(self, part):
+        """The facts of all states of a component, once `states_of` has looked at it."""
+        return [(part.number, "state", state.name, number) for state in part.states.values()
+                for number in self.typed(state.types, None, [])]
 
     def states_of(self, part, use, faults):
         """As `states`, of a component whose machine may not be read yet."""
@@ -259,16 +293,22 @@ class Facts:
         """The composite clauses, in place of transitions where there is one."""
         if part.composites:
             part.reasons = {}
+        read = []
         for item, _ in part.composites:
             facts = self.states(part, item.goal, faults)
             if item.condition is None:
                 state = part.states.get(item.goal.name)
-                if state and not state.initial:
+                if state and not state.initial and self.profile == 1:
                     faults.append(Refusal("P7", item.place))
+                read.append((facts, None))
+            else:
+                read.append((facts, self.condition(part, item.condition, True, faults)))
+        others = ("and", [pair[1] for _, pair in read if pair])
+        for facts, pair in read:
+            if pair is None and self.profile == 1:
                 continue
-            formula = self.condition(part, item.condition, True, faults)
             for fact in facts:
-                part.reasons.setdefault(fact, []).append(formula)
+                part.reasons.setdefault(fact, []).append(pair[0] if pair else others)
 
     # Links
 
@@ -276,10 +316,12 @@ class Facts:
         """Phase 14: which sides lead into which side; and what each written one gives."""
         self.incoming, self.links, self.given = {}, [], []
         for part in self.parts:
-            faults, written_ones = [], []
+            faults, written_ones, part.given = [], [], []
             for member in part.members:
                 if member.kind == "connections":
-                    written_ones.append((member.name, *self.connection(part, member, faults)))
+                    one = self.connection(part, member, faults)
+                    written_ones.append((member.name, *one))
+                    part.given.append((member.name, one[1]))
             for path, _ in part.paths:
                 ends = [self.path_end(part, end, faults) for end in path.ends]
                 written_ones.append((path.name, ends, [ends]))
@@ -287,10 +329,16 @@ class Facts:
                 faults += [Refusal(code, place) for code, place in clause.connection_faults]
             first(faults)
             for name, ends, pairs in written_ones:
-                joined = [self.link(part, start, goal) for start, goal in pairs]
+                joined = [self.join(start, goal) for start, goal in self.linked(part, pairs)]
                 self.given.append((part, name, ends, any(joined)))
         for start, goal in binding_links(self.parts, self.below):
             self.join(start, goal)
+        self.first_links = list(self.links)
+        if self.profile == 2:
+            for part in self.parts:
+                part.given = [(name, list(self.linked(part, pairs))) for name, pairs in part.given]
+            for start, goal in more_binding_links(self.parts, self.below):
+                self.join(start, goal)
 
     def connection(self, part, member, faults):
         """What the ends of a connection mean, and the pairs of ends that it links."""
@@ -335,13 +383,12 @@ class Facts:
         faults.append(Refusal("N14", end.place))
         return None
 
-    def link(self, part, start, goal):
-        """The link between two ends that are written in a component; does it stand?"""
-        if not (start and goal):
-            return False
-        (start_part, start_point), (goal_part, goal_point) = start, goal
-        return self.join((start_part, start_point, "in" if start_part is part else "out"),
-                         (goal_part, goal_point, "out" if goal_part is part else "in"))
+    def linked(self, part, pairs):
+        """The sides that these pairs of ends, written in a component, mean."""
+        for start, goal in pairs:
+            if start and goal:
+                yield ((*start, "in" if start[0] is part else "out"),
+                       (*goal, "out" if goal[0] is part else "in"))
 
     def join(self, start, goal):
         """A link from side to side; it has no effect where one of them is not there."""
@@ -364,8 +411,9 @@ class Facts:
                     reasons = ("or", part.reasons.get(fact, []))
                     self.formulas[fact] = TRUE if state.initial else reasons
             for name, types in part.error_events.items():
-                self.events += [(part.number, "error", name, number)
-                                for number in self.typed(types, None, [])]
+                if name not in part.free:
+                    self.events += [(part.number, "error", name, number)
+                                    for number in self.typed(types, None, [])]
             self.events += [(part.number, "source", flow.name, None) for flow, _ in part.flows
                             if flow.kind == "source" and not flow.state]
             for point in part.sides:
