@@ -10,6 +10,7 @@ use Rattle.system_answers.specs.Derivations.{accepted_text}
 use Rattle.system_answers.specs.Targets.{IsFactNamed}
 use Rattle.system_answers.specs.Voices.{Voice}
 use Rattle.system_answers.proofs.Derived.{accepted-holds, why-confirmed}
+use Rattle.fta_run.specs.Forms.{profile_of}
 use Rattle.fta_run.specs.Due.{model_of_texts, other_texts, request_text, texts_of}
 use Rattle.fta_run.specs.Files.{too_long_from}
 use Rattle.fta_run.specs.inner.Files.{StandsBefore, ask}
@@ -49,14 +50,14 @@ confirms-why contents voices asked files file lines why before =
     let read = why.passed.1 in
     let model = why.passed.2.0 in
     let at = why.passed.2.1 in
-    let its : Passes (model_of_texts asked.root texts) model = record { passed = at } in
-    let plain = plain_model asked.root texts model at in
+    let its : Passes (model_of_texts (profile_of asked.options.form) asked.root texts) model = record { passed = at } in
+    let plain = plain_model (profile_of asked.options.form) asked.root texts model at in
     let confirmed = why-confirmed model.system asked.target asked.options.set lines plain.system.is_system (record { passed = why.passed.2.2 }) in
     (confirmed.0, record { passed = (lines ∷ texts, more_texts contents files texts file lines read before, (model, its, confirmed.1.passed)) })
 
 pub holds-where-confirmed : (contents : List ℕ → Option (List ℕ)) (voices : List Voice) (asked : Request) (files : List (List ℕ)) (answer : List ℕ)
     → Passes (request_text contents voices (ask Confirm files asked)) answer
-    → (texts : List (List ℕ)) × (model : FlatModel) × Passes (texts_of contents files) texts × Passes (model_of_texts asked.root (other_texts texts)) model
+    → (texts : List (List ℕ)) × (model : FlatModel) × Passes (texts_of contents files) texts × Passes (model_of_texts (profile_of asked.options.form) asked.root (other_texts texts)) model
     × ((number : ℕ) × (events : List ℕ) × IsFactNamed model.system asked.target number × IsSetOfText model.system asked.options.set events × Holds model.system (set_of events) number)
 holds-where-confirmed contents voices asked files answer confirmed =
     let texts = confirmed.passed.0 in

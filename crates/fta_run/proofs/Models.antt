@@ -25,7 +25,7 @@ use Rattle.phases.specs.declared.status.Status.TheVariants as status
 use Rattle.phases.specs.inner.Meets.{StopsBut}
 use Rattle.phases.proofs.Steps.{computed, ends, meets_later, not_computed}
 use Rattle.model_facts.specs.Assembly.{Assembly}
-use Rattle.profiles.specs.declared.profile.Profile.TheVariants.{First}
+use Rattle.profiles.specs.declared.profile.Profile.{Profile}
 use Rattle.model_phases.specs.Phases.{assembled}
 use Rattle.fta_run.specs.Due.{made_of_units}
 use Rattle.fta_run.specs.Model.{HasDuplicate, root_named}
@@ -33,11 +33,11 @@ use Rattle.fta_run.specs.Model.{HasDuplicate, root_named}
 -- ---- the root
 
 -- the index of the files is refused
-pub index_stop : {A : Type 0} (next : Assembly → Phase A) (files its : List (List FileUnit)) (root : Root) (why : Stop) → its ≡ files → StopsAtFirst (IsDuplicate (packages_of its)) why
-    → Stops (made_of_units next root files) (status_of why) ⊎ IsMemory (status_of why)
-index_stop next files its root (stop.Refused refusal) same first =
+pub index_stop : {A : Type 0} (next : Assembly → Phase A) (profile : Profile) (files its : List (List FileUnit)) (root : Root) (why : Stop) → its ≡ files → StopsAtFirst (IsDuplicate (packages_of its)) why
+    → Stops (made_of_units next profile root files) (status_of why) ⊎ IsMemory (status_of why)
+index_stop next profile files its root (stop.Refused refusal) same first =
     inl (record { stopped = inl (refusal, subst (λ fs. IsFirst (HasDuplicate fs) refusal) same first, refl) })
-index_stop next files its root stop.Memory same first = inr refl
+index_stop next profile files its root stop.Memory same first = inr refl
 
 -- nothing is declared again
 pub no_duplicate : (files its : List (List FileUnit)) → its ≡ files → IsClear (IsDuplicate (packages_of its)) → Passes (tests (HasDuplicate files)) (tt {0})
@@ -63,17 +63,17 @@ pub none_again : (packages : List PackageUnit) → IsClear (IsDuplicate packages
 none_again packages clear = clear-group (duplicates packages) (λ refusal there. clear refusal (is_duplicate packages refusal there))
 
 -- the root names nothing
-pub root_stop : {A : Type 0} (next : Assembly → Phase A) (files its : List (List FileUnit)) (packages : List PackageUnit) (root : Root) (end : Status) → packages ≡ packages_of its → its ≡ files
-    → ((refusal : Refusal) × (refused_at Words (look_classifier packages None root.names root.item) ≡ Err refusal) × (end ≡ status.Refused refusal)) → StopsBut IsMemory (chains (computes (root_named files root)) (assembled next First (packages_of files))) end
-root_stop next files its packages root end are same (refusal, found, is) =
-    subst (StopsBut IsMemory (chains (computes (root_named files root)) (assembled next First (packages_of files)))) (sym is) (ends (not_computed (root_is files its packages root _ are same refl ∙ found)))
+pub root_stop : {A : Type 0} (next : Assembly → Phase A) (profile : Profile) (files its : List (List FileUnit)) (packages : List PackageUnit) (root : Root) (end : Status) → packages ≡ packages_of its → its ≡ files
+    → ((refusal : Refusal) × (refused_at Words (look_classifier packages None root.names root.item) ≡ Err refusal) × (end ≡ status.Refused refusal)) → StopsBut IsMemory (chains (computes (root_named files root)) (assembled next profile (packages_of files))) end
+root_stop next profile files its packages root end are same (refusal, found, is) =
+    subst (StopsBut IsMemory (chains (computes (root_named files root)) (assembled next profile (packages_of files)))) (sym is) (ends (not_computed (root_is files its packages root _ are same refl ∙ found)))
 
 -- what is made of the model of the root in the index of the files
-pub model_in : {A : Type 0} (next : Assembly → Phase A) (files its : List (List FileUnit)) (packages : List PackageUnit) (root : Root) (id : ClassifierId) (result : Result A Status) → packages ≡ packages_of its → its ≡ files
-    → IsClear (IsDuplicate (packages_of its)) → root_named files root ≡ Ok id → Meets (assembled next First packages id) result → Meets (made_of_units next root files) result
-model_in next files its packages root id result are same clear named met =
-    let whole : Meets (assembled next First (packages_of files) id) result = subst (λ (ps : List PackageUnit). Meets (assembled next First ps id) result) (are ∙ ap packages_of same) met in
-    let behind : Meets (chains (computes (root_named files root)) (assembled next First (packages_of files))) result =
-    meets_later IsMemory (λ model. model) (computes (root_named files root)) (assembled next First (packages_of files)) id result (λ s memory. memory) (computed named) whole
+pub model_in : {A : Type 0} (next : Assembly → Phase A) (profile : Profile) (files its : List (List FileUnit)) (packages : List PackageUnit) (root : Root) (id : ClassifierId) (result : Result A Status) → packages ≡ packages_of its → its ≡ files
+    → IsClear (IsDuplicate (packages_of its)) → root_named files root ≡ Ok id → Meets (assembled next profile packages id) result → Meets (made_of_units next profile root files) result
+model_in next profile files its packages root id result are same clear named met =
+    let whole : Meets (assembled next profile (packages_of files) id) result = subst (λ (ps : List PackageUnit). Meets (assembled next profile ps id) result) (are ∙ ap packages_of same) met in
+    let behind : Meets (chains (computes (root_named files root)) (assembled next profile (packages_of files))) result =
+    meets_later IsMemory (λ model. model) (computes (root_named files root)) (assembled next profile (packages_of files)) id result (λ s memory. memory) (computed named) whole
     in
-    meets_later IsMemory (λ model. model) (tests (HasDuplicate files)) (λ _. chains (computes (root_named files root)) (assembled next First (packages_of files))) (tt {0}) result (λ s memory. memory) (no_duplicate files its same clear) behind
+    meets_later IsMemory (λ model. model) (tests (HasDuplicate files)) (λ _. chains (computes (root_named files root)) (assembled next profile (packages_of files))) (tt {0}) result (λ s memory. memory) (no_duplicate files its same clear) behind

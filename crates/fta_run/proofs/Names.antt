@@ -20,6 +20,7 @@ use Rattle.phases.specs.declared.status.Status.{Status}
 use Rattle.model_facts.specs.Laws.{IsPlain, Lacks}
 use Rattle.model_phases.specs.Named.{IsPlainModel, IsPlainSystem}
 use Rattle.model_phases.specs.declared.flat.FlatModel.{FlatModel}
+use Rattle.profiles.specs.declared.profile.Profile.{Profile}
 use Rattle.fta_run.specs.Due.{model_of_texts}
 
 -- a byte that a text lacks is not in it
@@ -120,9 +121,9 @@ pub event_line_names : (system : System) → IsPlainSystem system → AreLineNam
 event_line_names system plain = λ n within. line_name_at (λ (event : EventInfo). event.name) system.events n (recursion_from_All (λ (event : EventInfo). IsPlain event.name) system.events plain.event_names) within
 
 -- the model of a root is plain
-pub plain_model : (root : Root) (texts : List (List ℕ)) (model : FlatModel) → Passed (model_of_texts root texts) model → IsPlainModel model
-plain_model root texts model at = at.2.2.2.2.2.2.2.plain
+pub plain_model : (profile : Profile) (root : Root) (texts : List (List ℕ)) (model : FlatModel) → Passed (model_of_texts profile root texts) model → IsPlainModel model
+plain_model profile root texts model at = at.2.2.2.2.2.2.2.plain
 
-pub plain_texts : (root : Root) (texts : List (List ℕ)) (result : Result FlatModel Status) → Meets (model_of_texts root texts) result → IfOk result IsPlainModel
-plain_texts root texts (Ok model) passes = plain_model root texts model passes.passed
-plain_texts root texts (Err status) end = tt
+pub plain_texts : (profile : Profile) (root : Root) (texts : List (List ℕ)) (result : Result FlatModel Status) → Meets (model_of_texts profile root texts) result → IfOk result IsPlainModel
+plain_texts profile root texts (Ok model) passes = plain_model profile root texts model passes.passed
+plain_texts profile root texts (Err status) end = tt

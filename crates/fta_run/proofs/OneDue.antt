@@ -9,6 +9,7 @@ use Rattle.fault_system.specs.Systems.{IsSystem, System}
 use Rattle.fta_words.specs.declared.command.Paging.{Paging}
 use Rattle.model_phases.specs.Named.{IsPlainSystem}
 use Rattle.model_phases.proofs.Decided.{model_decided, origins_decided, review_decided}
+use Rattle.profiles.specs.declared.profile.Profile.{Profile}
 use Rattle.profiles.specs.declared.profile.Profile.TheVariants.{First}
 use Rattle.model_phases.specs.Phases.{assembled, flat_phase, origins_phase, review_phase}
 use Rattle.model_facts.specs.Assembly.{Assembly}
@@ -35,11 +36,11 @@ use Rattle.system_answers.specs.declared.form.TreeForm.{TreeForm}
 use Rattle.system_answers.proofs.Derived.{confirm_decided, why_decided}
 use Rattle.system_answers.proofs.Decided.{cuts_decided, drawn_decided, galileo_paths_text_decided, galileo_text_decided, listing_decided, named_tree_decided, paths_decided, rated_decided, report_decided, slice_decided, target_decided, tree_decided, tree_for_decided}
 use Rattle.page_tokens.specs.Keys.{asked_digits}
-use Rattle.fta_run.specs.Due.{confirmed_in, cuts_in, due, first_text, galileo_in, made_of_texts, made_root, made_target, make_text, model_of_texts, other_texts, request_text, sets_of_tree, sized_text, text_for, texts_of, units_of, within_limits}
+use Rattle.fta_run.specs.Due.{confirmed_in, cuts_in, due, first_text, galileo_in, made_of_texts, made_root, made_target, make_text, model_of_texts, other_texts, request_text, sets_of_tree, sized_text, text_by, texts_of, units_of, within_limits}
 use Rattle.target_orders.specs.Text.{TellsOrders}
 use Rattle.target_orders.proofs.Said.{one-text}
 use Rattle.fta_run.specs.Effects.{asked_targets}
-use Rattle.fta_run.specs.Forms.{drawn_words, is_drawn, is_merging, is_wide, picture_legend, tree_form, tree_words}
+use Rattle.fta_run.specs.Forms.{drawn_words, is_drawn, is_merging, is_wide, picture_legend, profile_of, tree_form, tree_words}
 use Rattle.galileo_reader.specs.TreeSystems.{system_of, target_of as top_of_tree}
 use Rattle.galileo_reader.proofs.SystemLaws.{tree-system}
 use Rattle.galileo_reader.proofs.TreeTexts.{tree-named}
@@ -87,8 +88,8 @@ units_decided texts = (
 )
 
 -- what is made of a model in files has one end at most, where what is made of one in packages has
-made_decided : {A : Type 0} (next : Assembly → Phase A) → ((packages : List PackageUnit) (id : ClassifierId) → IsDecided IsSameStatus (assembled next First packages id)) → (root : Root) (texts : List (List ℕ)) → IsDecided IsSameStatus (made_of_texts next root texts)
-made_decided next last root texts = (
+made_decided : {A : Type 0} (next : Assembly → Phase A) (profile : Profile) → ((packages : List PackageUnit) (id : ClassifierId) → IsDecided IsSameStatus (assembled next profile packages id)) → (root : Root) (texts : List (List ℕ)) → IsDecided IsSameStatus (made_of_texts next profile root texts)
+made_decided next profile last root texts = (
   units_decided texts,
   λ files have. (
     decided_tests IsSameStatus itself (HasDuplicate files),
@@ -96,18 +97,18 @@ made_decided next last root texts = (
   ),
 )
 
-texts_model_decided : (root : Root) (texts : List (List ℕ)) → IsDecided IsSameStatus (model_of_texts root texts)
-texts_model_decided = made_decided flat_phase (model_decided IsSameStatus itself First)
+texts_model_decided : (profile : Profile) (root : Root) (texts : List (List ℕ)) → IsDecided IsSameStatus (model_of_texts profile root texts)
+texts_model_decided profile = made_decided flat_phase profile (model_decided IsSameStatus itself profile)
 
 plain_cuts_decided : (target : List ℕ) (paging : Paging) (tokens : Bool) (key : List ℕ) (system : System) → IsPlainSystem system → IsDecided IsSameStatus (cuts_text target paging tokens key system)
 plain_cuts_decided target paging tokens key system plain = cuts_decided IsSameStatus itself target paging tokens key system plain.is_system (token_names system plain)
 
-cuts_in_decided : (root : Root) (target : List ℕ) (paging : Paging) (tokens : Bool) (texts : List (List ℕ)) → IsDecided IsSameStatus (cuts_in root target paging tokens texts)
-cuts_in_decided root target paging tokens texts = (
-  texts_model_decided root texts,
+cuts_in_decided : (profile : Profile) (root : Root) (target : List ℕ) (paging : Paging) (tokens : Bool) (texts : List (List ℕ)) → IsDecided IsSameStatus (cuts_in profile root target paging tokens texts)
+cuts_in_decided profile root target paging tokens texts = (
+  texts_model_decided profile root texts,
   λ model at.
-      let plain : IsPlainSystem model.system = (plain_texts root texts (Ok model) (record { passed = at })).system in
-      plain_cuts_decided target paging tokens (asked_digits tokens paging.after root target paging.max_order texts) model.system plain,
+      let plain : IsPlainSystem model.system = (plain_texts profile root texts (Ok model) (record { passed = at })).system in
+      plain_cuts_decided target paging tokens (asked_digits tokens paging.after profile root target paging.max_order texts) model.system plain,
 )
 
 plain_paths_decided : (target : List ℕ) (paging : Paging) (system : System) → IsPlainSystem system → IsDecided IsSameStatus (paths_text target paging system)
@@ -138,11 +139,11 @@ later_decided phase is =
     (λ a refusal passes later. decided.not_both IsSameStatus phase is a (Refused later.0) passes later.1)
     (λ a b x y. same_later x.0 y.0 a b (decided.one_stop IsSameStatus phase is (Refused x.0) (Refused y.0) x.1 y.1) x.2 y.2)
 
-confirmed_decided : (root : Root) (target set : List ℕ) (texts : List (List ℕ)) → length (first_text texts) ≤ 4194304 → IsDecided IsSameStatus (confirmed_in root target set texts)
-confirmed_decided root target set texts short = (
-  later_decided (model_of_texts root (other_texts texts)) (texts_model_decided root (other_texts texts)),
+confirmed_decided : (profile : Profile) (root : Root) (target set : List ℕ) (texts : List (List ℕ)) → length (first_text texts) ≤ 4194304 → IsDecided IsSameStatus (confirmed_in profile root target set texts)
+confirmed_decided profile root target set texts short = (
+  later_decided (model_of_texts profile root (other_texts texts)) (texts_model_decided profile root (other_texts texts)),
   λ model at.
-      let plain : IsPlainSystem model.system = (plain_texts root (other_texts texts) (Ok model) at).system in
+      let plain : IsPlainSystem model.system = (plain_texts profile root (other_texts texts) (Ok model) at).system in
       confirm_decided IsSameStatus itself (first_text texts) model.system plain.is_system (fact_line_names model.system plain) (event_line_names model.system plain) short target set (token_names model.system plain),
 )
 
@@ -152,13 +153,13 @@ sized_decided model =
 
 make_decided : (number : ℕ) (text : Bool) → IsDecided IsSameStatus (make_text number text)
 make_decided number true = tt
-make_decided number false = (limits_decided (made_text number ∷ []), λ texts short. (texts_model_decided made_root texts, λ model at. sized_decided model))
+make_decided number false = (limits_decided (made_text number ∷ []), λ texts short. (texts_model_decided First made_root texts, λ model at. sized_decided model))
 
 -- ---- the text of a tree
 
 -- the form of a tree for which a request asks
-abbrev form_asked : Request → List (List ℕ) → TreeForm
-form_asked asked texts = tree_form asked.options.form (tree_words asked.root asked.target) asked.files texts
+abbrev form_asked : Profile → Request → List (List ℕ) → TreeForm
+form_asked profile asked texts = tree_form asked.options.form (tree_words profile asked.root asked.target) asked.files texts
 
 -- a tree with merged gates may have more texts than one, and all else is decided
 formed_opened : (number : ℕ) (form : TreeForm) (system : System) (rates : List Rate) → IsSystem system → IsDecidedButLast IsSameStatus (formed_tree number form system rates)
@@ -197,64 +198,64 @@ galileo_in_opened false options files texts =
 
 -- ---- what a request asks for
 
-text_decided : (asked_kind : Kind) (voices : List Voice) (asked : Request) (texts : List (List ℕ)) → length (first_text texts) ≤ 4194304 → KeepsGates asked_kind asked → IsDecided IsSameStatus (text_for asked_kind voices asked texts)
-text_decided kind.Check voices asked texts short keeps = (texts_model_decided asked.root texts, λ model at. tt)
-text_decided kind.Cuts voices asked texts short keeps = cuts_in_decided asked.root asked.target asked.options.paging (is_set asked.options (codes "tokens")) texts
-text_decided kind.Tree voices asked texts short keeps =
-    (texts_model_decided asked.root texts, λ model at. tree_decided IsSameStatus itself asked.target (form_asked asked texts) model.system model.rates keeps (plain_model asked.root texts model at).system.is_system)
-text_decided kind.Fmea voices asked texts short keeps = (texts_model_decided asked.root texts, λ model at. tt)
-text_decided kind.Report voices asked texts short keeps =
-    (texts_model_decided asked.root texts, λ model at. report_decided IsSameStatus itself asked.target asked.options.chosen asked.options.paging.max_order voices model.system)
-text_decided kind.Make voices asked texts short keeps = make_decided asked.number (is_set asked.options (codes "text"))
-text_decided kind.Galileo voices asked texts short keeps = galileo_in_decided (is_drawn asked.options.form) asked.options asked.files texts keeps
-text_decided kind.Paths voices asked texts short keeps =
-    (texts_model_decided asked.root texts, λ model at. plain_paths_decided asked.target asked.options.paging model.system (plain_model asked.root texts model at).system)
-text_decided kind.Why voices asked texts short keeps = (texts_model_decided asked.root texts, λ model at. plain_why_decided asked.target asked.options.set model.system (plain_model asked.root texts model at).system)
-text_decided kind.Confirm voices asked texts short keeps = confirmed_decided asked.root asked.target asked.options.set texts short
-text_decided kind.Targets voices asked texts short keeps =
-    (texts_model_decided asked.root texts, λ model at. decided_accepts IsSameStatus (TellsOrders model.system (asked_targets (is_set asked.options (codes "all")) model)) (one-text model.system (asked_targets (is_set asked.options (codes "all")) model)))
-text_decided kind.Events voices asked texts short keeps = (made_decided origins_phase (origins_decided IsSameStatus itself First) asked.root texts, λ model at. tt)
-text_decided kind.Review voices asked texts short keeps = (made_decided review_phase (review_decided IsSameStatus itself First) asked.root texts, λ reviewed at. tt)
-text_decided kind.Place voices asked texts short keeps = tt
-text_decided kind.Manifest voices asked texts short keeps = (texts_model_decided asked.root texts, λ model at. tt)
-text_decided kind.Refusals voices asked texts short keeps = absurd keeps
-text_decided kind.Probability voices asked texts short keeps = absurd keeps
-text_decided kind.Help voices asked texts short keeps = tt
-text_decided kind.Explain voices asked texts short keeps = tt
-text_decided kind.Version voices asked texts short keeps = tt
+text_decided : (profile : Profile) (asked_kind : Kind) (voices : List Voice) (asked : Request) (texts : List (List ℕ)) → length (first_text texts) ≤ 4194304 → KeepsGates asked_kind asked → IsDecided IsSameStatus (text_by profile asked_kind voices asked texts)
+text_decided profile kind.Check voices asked texts short keeps = (texts_model_decided profile asked.root texts, λ model at. tt)
+text_decided profile kind.Cuts voices asked texts short keeps = cuts_in_decided profile asked.root asked.target asked.options.paging (is_set asked.options (codes "tokens")) texts
+text_decided profile kind.Tree voices asked texts short keeps =
+    (texts_model_decided profile asked.root texts, λ model at. tree_decided IsSameStatus itself asked.target (form_asked profile asked texts) model.system model.rates keeps (plain_model profile asked.root texts model at).system.is_system)
+text_decided profile kind.Fmea voices asked texts short keeps = (texts_model_decided profile asked.root texts, λ model at. tt)
+text_decided profile kind.Report voices asked texts short keeps =
+    (texts_model_decided profile asked.root texts, λ model at. report_decided IsSameStatus itself asked.target asked.options.chosen asked.options.paging.max_order voices model.system)
+text_decided profile kind.Make voices asked texts short keeps = make_decided asked.number (is_set asked.options (codes "text"))
+text_decided profile kind.Galileo voices asked texts short keeps = galileo_in_decided (is_drawn asked.options.form) asked.options asked.files texts keeps
+text_decided profile kind.Paths voices asked texts short keeps =
+    (texts_model_decided profile asked.root texts, λ model at. plain_paths_decided asked.target asked.options.paging model.system (plain_model profile asked.root texts model at).system)
+text_decided profile kind.Why voices asked texts short keeps = (texts_model_decided profile asked.root texts, λ model at. plain_why_decided asked.target asked.options.set model.system (plain_model profile asked.root texts model at).system)
+text_decided profile kind.Confirm voices asked texts short keeps = confirmed_decided profile asked.root asked.target asked.options.set texts short
+text_decided profile kind.Targets voices asked texts short keeps =
+    (texts_model_decided profile asked.root texts, λ model at. decided_accepts IsSameStatus (TellsOrders model.system (asked_targets (is_set asked.options (codes "all")) model)) (one-text model.system (asked_targets (is_set asked.options (codes "all")) model)))
+text_decided profile kind.Events voices asked texts short keeps = (made_decided origins_phase profile (origins_decided IsSameStatus itself profile) asked.root texts, λ model at. tt)
+text_decided profile kind.Review voices asked texts short keeps = (made_decided review_phase profile (review_decided IsSameStatus itself profile) asked.root texts, λ reviewed at. tt)
+text_decided profile kind.Place voices asked texts short keeps = tt
+text_decided profile kind.Manifest voices asked texts short keeps = (texts_model_decided profile asked.root texts, λ model at. tt)
+text_decided profile kind.Refusals voices asked texts short keeps = absurd keeps
+text_decided profile kind.Probability voices asked texts short keeps = absurd keeps
+text_decided profile kind.Help voices asked texts short keeps = tt
+text_decided profile kind.Explain voices asked texts short keeps = tt
+text_decided profile kind.Version voices asked texts short keeps = tt
 
 -- the ends of what a request of a kind asks for are alike, also of a tree with merged gates
-text_opened : (asked_kind : Kind) (voices : List Voice) (asked : Request) (texts : List (List ℕ)) → length (first_text texts) ≤ 4194304 → IsDecidedButLast IsSameStatus (text_for asked_kind voices asked texts)
-text_opened kind.Check voices asked texts short = decided_opened (text_for kind.Check voices asked texts) (text_decided kind.Check voices asked texts short tt)
-text_opened kind.Cuts voices asked texts short = decided_opened (text_for kind.Cuts voices asked texts) (text_decided kind.Cuts voices asked texts short tt)
-text_opened kind.Tree voices asked texts short =
-    (texts_model_decided asked.root texts, λ model at. tree_opened asked.target (form_asked asked texts) model.system model.rates (plain_model asked.root texts model at).system.is_system)
-text_opened kind.Fmea voices asked texts short = decided_opened (text_for kind.Fmea voices asked texts) (text_decided kind.Fmea voices asked texts short tt)
-text_opened kind.Report voices asked texts short = decided_opened (text_for kind.Report voices asked texts) (text_decided kind.Report voices asked texts short tt)
-text_opened kind.Make voices asked texts short = decided_opened (text_for kind.Make voices asked texts) (text_decided kind.Make voices asked texts short tt)
-text_opened kind.Galileo voices asked texts short = galileo_in_opened (is_drawn asked.options.form) asked.options asked.files texts
-text_opened kind.Paths voices asked texts short = decided_opened (text_for kind.Paths voices asked texts) (text_decided kind.Paths voices asked texts short tt)
-text_opened kind.Why voices asked texts short = decided_opened (text_for kind.Why voices asked texts) (text_decided kind.Why voices asked texts short tt)
-text_opened kind.Confirm voices asked texts short = decided_opened (text_for kind.Confirm voices asked texts) (text_decided kind.Confirm voices asked texts short tt)
-text_opened kind.Targets voices asked texts short = decided_opened (text_for kind.Targets voices asked texts) (text_decided kind.Targets voices asked texts short tt)
-text_opened kind.Events voices asked texts short = decided_opened (text_for kind.Events voices asked texts) (text_decided kind.Events voices asked texts short tt)
-text_opened kind.Review voices asked texts short = decided_opened (text_for kind.Review voices asked texts) (text_decided kind.Review voices asked texts short tt)
-text_opened kind.Place voices asked texts short = decided_opened (text_for kind.Place voices asked texts) (text_decided kind.Place voices asked texts short tt)
-text_opened kind.Manifest voices asked texts short = decided_opened (text_for kind.Manifest voices asked texts) (text_decided kind.Manifest voices asked texts short tt)
-text_opened kind.Refusals voices asked texts short = (λ text status tells none. none, λ a b none. absurd none)
-text_opened kind.Probability voices asked texts short = (
-  texts_model_decided asked.root texts,
+text_opened : (profile : Profile) (asked_kind : Kind) (voices : List Voice) (asked : Request) (texts : List (List ℕ)) → length (first_text texts) ≤ 4194304 → IsDecidedButLast IsSameStatus (text_by profile asked_kind voices asked texts)
+text_opened profile kind.Check voices asked texts short = decided_opened (text_by profile kind.Check voices asked texts) (text_decided profile kind.Check voices asked texts short tt)
+text_opened profile kind.Cuts voices asked texts short = decided_opened (text_by profile kind.Cuts voices asked texts) (text_decided profile kind.Cuts voices asked texts short tt)
+text_opened profile kind.Tree voices asked texts short =
+    (texts_model_decided profile asked.root texts, λ model at. tree_opened asked.target (form_asked profile asked texts) model.system model.rates (plain_model profile asked.root texts model at).system.is_system)
+text_opened profile kind.Fmea voices asked texts short = decided_opened (text_by profile kind.Fmea voices asked texts) (text_decided profile kind.Fmea voices asked texts short tt)
+text_opened profile kind.Report voices asked texts short = decided_opened (text_by profile kind.Report voices asked texts) (text_decided profile kind.Report voices asked texts short tt)
+text_opened profile kind.Make voices asked texts short = decided_opened (text_by profile kind.Make voices asked texts) (text_decided profile kind.Make voices asked texts short tt)
+text_opened profile kind.Galileo voices asked texts short = galileo_in_opened (is_drawn asked.options.form) asked.options asked.files texts
+text_opened profile kind.Paths voices asked texts short = decided_opened (text_by profile kind.Paths voices asked texts) (text_decided profile kind.Paths voices asked texts short tt)
+text_opened profile kind.Why voices asked texts short = decided_opened (text_by profile kind.Why voices asked texts) (text_decided profile kind.Why voices asked texts short tt)
+text_opened profile kind.Confirm voices asked texts short = decided_opened (text_by profile kind.Confirm voices asked texts) (text_decided profile kind.Confirm voices asked texts short tt)
+text_opened profile kind.Targets voices asked texts short = decided_opened (text_by profile kind.Targets voices asked texts) (text_decided profile kind.Targets voices asked texts short tt)
+text_opened profile kind.Events voices asked texts short = decided_opened (text_by profile kind.Events voices asked texts) (text_decided profile kind.Events voices asked texts short tt)
+text_opened profile kind.Review voices asked texts short = decided_opened (text_by profile kind.Review voices asked texts) (text_decided profile kind.Review voices asked texts short tt)
+text_opened profile kind.Place voices asked texts short = decided_opened (text_by profile kind.Place voices asked texts) (text_decided profile kind.Place voices asked texts short tt)
+text_opened profile kind.Manifest voices asked texts short = decided_opened (text_by profile kind.Manifest voices asked texts) (text_decided profile kind.Manifest voices asked texts short tt)
+text_opened profile kind.Refusals voices asked texts short = (λ text status tells none. none, λ a b none. absurd none)
+text_opened profile kind.Probability voices asked texts short = (
+  texts_model_decided profile asked.root texts,
   λ model at. (
     target_decided IsSameStatus itself asked.target model.system,
     λ number named. (slice_decided IsSameStatus itself number model.system, λ slice served. ((λ text status tells none. none), λ a b none other. absurd none)),
   ),
 )
-text_opened kind.Help voices asked texts short = decided_opened (text_for kind.Help voices asked texts) (text_decided kind.Help voices asked texts short tt)
-text_opened kind.Explain voices asked texts short = decided_opened (text_for kind.Explain voices asked texts) (text_decided kind.Explain voices asked texts short tt)
-text_opened kind.Version voices asked texts short = decided_opened (text_for kind.Version voices asked texts) (text_decided kind.Version voices asked texts short tt)
+text_opened profile kind.Help voices asked texts short = decided_opened (text_by profile kind.Help voices asked texts) (text_decided profile kind.Help voices asked texts short tt)
+text_opened profile kind.Explain voices asked texts short = decided_opened (text_by profile kind.Explain voices asked texts) (text_decided profile kind.Explain voices asked texts short tt)
+text_opened profile kind.Version voices asked texts short = decided_opened (text_by profile kind.Version voices asked texts) (text_decided profile kind.Version voices asked texts short tt)
 
 request_decided : (contents : List ℕ → Option (List ℕ)) (voices : List Voice) (asked : Request) → AllByRecursion (λ file. IsSome (contents file)) asked.files → KeepsGates asked.kind asked → IsDecided IsSameStatus (request_text contents voices asked)
-request_decided contents voices asked told keeps = (texts_decided contents asked.files told, λ texts are. text_decided asked.kind voices asked texts (first_short contents asked.files texts are) keeps)
+request_decided contents voices asked told keeps = (texts_decided contents asked.files told, λ texts are. text_decided (profile_of asked.options.form) asked.kind voices asked texts (first_short contents asked.files texts are) keeps)
 
 due_decided : (words : List (List ℕ)) (contents : List ℕ → Option (List ℕ)) (voices : List Voice) → AllTold words contents voices → AskForOneText words voices → IsDecided IsSameStatus (due words contents voices)
 due_decided words contents voices told one =
@@ -272,7 +273,7 @@ one_output words contents voices told one = decided.one_value IsSameStatus (due 
 due_opened : (words : List (List ℕ)) (contents : List ℕ → Option (List ℕ)) (voices : List Voice) → AllTold words contents voices → IsDecidedButLast IsSameStatus (due words contents voices)
 due_opened words contents voices told = (
   decided_finds IsSameStatus itself (IsRequest (labels voices) words) Usage (one_request (labels voices) words),
-  λ asked is. (texts_decided contents asked.files (told asked is), λ texts are. text_opened asked.kind voices asked texts (first_short contents asked.files texts are)),
+  λ asked is. (texts_decided contents asked.files (told asked is), λ texts are. text_opened (profile_of asked.options.form) asked.kind voices asked texts (first_short contents asked.files texts are)),
 )
 
 pub one_end : (words : List (List ℕ)) (contents : List ℕ → Option (List ℕ)) (voices : List Voice) → AllTold words contents voices → (a b : Result (List ℕ) Status) → IsDue (due words contents voices) a → IsDue (due words contents voices) b → IsLikeEnd IsSameStatus a b

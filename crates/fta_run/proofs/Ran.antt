@@ -16,6 +16,7 @@ use Rattle.fault_system.specs.Systems.{System, event_name}
 use Rattle.fault_system.specs.Truth.{set_of}
 use Rattle.package_index.specs.Lookup.{packages_of}
 use Rattle.model_phases.proofs.Decided.{IsARefusal, model_stops, origins_stop, review_stop}
+use Rattle.profiles.specs.declared.profile.Profile.{Profile}
 use Rattle.profiles.specs.declared.profile.Profile.TheVariants.{First}
 use Rattle.model_phases.specs.Phases.{assembled, flat_phase, origins_phase, review_phase}
 use Rattle.model_facts.specs.Assembly.{Assembly}
@@ -41,8 +42,8 @@ use Rattle.page_tokens.specs.Keys.{asked_digits}
 use Rattle.page_tokens.specs.Starts.{IsStale, LacksStart as LacksBegin}
 use Rattle.path_sets.specs.PathSets.{HasLargePaths}
 use Rattle.system_answers.specs.inner.Ends.{EndsReports}
-use Rattle.fta_run.specs.Due.{confirmed_in, cuts_in, due, first_text, galileo_in, made_of_texts, made_root, made_target, make_text, model_of_texts, other_texts, report_in, request_text, sets_of_tree, sized_text, text_for, texts_of, within_limits}
-use Rattle.fta_run.specs.Forms.{drawn_words, is_drawn, is_merging, is_wide, picture_legend, tree_form, tree_words}
+use Rattle.fta_run.specs.Due.{confirmed_in, cuts_in, due, first_text, galileo_in, made_of_texts, made_root, made_target, make_text, model_of_texts, other_texts, report_in, request_text, sets_of_tree, sized_text, text_by, text_for, texts_of, within_limits}
+use Rattle.fta_run.specs.Forms.{drawn_words, is_drawn, is_merging, is_wide, picture_legend, profile_of, tree_form, tree_words}
 use Rattle.fta_words.specs.declared.command.Options.{Options}
 use Rattle.fta_run.specs.Later.{IsLater}
 use Rattle.system_answers.specs.declared.form.TreeForm.{TreeForm}
@@ -185,8 +186,8 @@ confirm_stop target set bytes system = (
   ),
 )
 
-confirmed_stop : (root : Root) (target set : List ℕ) (texts : List (List ℕ)) → StopsOnly IsARefusal (confirmed_in root target set texts)
-confirmed_stop root target set texts = (refusal_is (IsLater (model_of_texts root (other_texts texts))), λ model at. confirm_stop target set (first_text texts) model.system)
+confirmed_stop : (profile : Profile) (root : Root) (target set : List ℕ) (texts : List (List ℕ)) → StopsOnly IsARefusal (confirmed_in profile root target set texts)
+confirmed_stop profile root target set texts = (refusal_is (IsLater (model_of_texts profile root (other_texts texts))), λ model at. confirm_stop target set (first_text texts) model.system)
 
 limits_stop : (texts : List (List ℕ)) → StopsOnly IsARefusal (within_limits texts)
 limits_stop texts = (refusal_is (IsFirst (HasTooLong texts)), λ _ short. (refusal_is (IsFirst (HasTooMuch texts)), λ _ little. tt))
@@ -194,8 +195,8 @@ limits_stop texts = (refusal_is (IsFirst (HasTooLong texts)), λ _ short. (refus
 texts_stop : (contents : List ℕ → Option (List ℕ)) (files : List (List ℕ)) → StopsOnly IsARefusal (texts_of contents files)
 texts_stop contents files = (refusal_is (IsFirst (NamesTooMany files)), λ _ few. ((λ s none. absurd none), λ texts are. limits_stop texts))
 
-made_stops : {A : Type 0} (next : Assembly → Phase A) → ((packages : List PackageUnit) (id : ClassifierId) → StopsOnly IsARefusal (assembled next First packages id)) → (root : Root) (texts : List (List ℕ)) → StopsOnly IsARefusal (made_of_texts next root texts)
-made_stops next last root texts = (
+made_stops : {A : Type 0} (next : Assembly → Phase A) (profile : Profile) → ((packages : List PackageUnit) (id : ClassifierId) → StopsOnly IsARefusal (assembled next profile packages id)) → (root : Root) (texts : List (List ℕ)) → StopsOnly IsARefusal (made_of_texts next profile root texts)
+made_stops next profile last root texts = (
   (refusal_is (IsFirst (LacksTokens texts)), λ tokens are. refusal_is (LacksUnits texts tokens)),
   λ files have. (
     refusal_is (IsFirst (HasDuplicate files)),
@@ -203,52 +204,52 @@ made_stops next last root texts = (
   ),
 )
 
-texts_model_stops : (root : Root) (texts : List (List ℕ)) → StopsOnly IsARefusal (model_of_texts root texts)
-texts_model_stops = made_stops flat_phase (model_stops First)
+texts_model_stops : (profile : Profile) (root : Root) (texts : List (List ℕ)) → StopsOnly IsARefusal (model_of_texts profile root texts)
+texts_model_stops profile = made_stops flat_phase profile (model_stops profile)
 
 make_stop : (number : ℕ) (text : Bool) → StopsOnly IsARefusal (make_text number text)
 make_stop number true = tt
-make_stop number false = (limits_stop (made_text number ∷ []), λ texts short. (texts_model_stops made_root texts, λ model at. sized_stop model))
+make_stop number false = (limits_stop (made_text number ∷ []), λ texts short. (texts_model_stops First made_root texts, λ model at. sized_stop model))
 
-cuts_in_stop : (root : Root) (target : List ℕ) (paging : Paging) (tokens : Bool) (texts : List (List ℕ)) → StopsOnly IsAnEnd (cuts_in root target paging tokens texts)
-cuts_in_stop root target paging tokens texts =
-    (refusals (model_of_texts root texts) (texts_model_stops root texts), λ model at. cuts_stop target paging tokens (asked_digits tokens paging.after root target paging.max_order texts) model.system)
+cuts_in_stop : (profile : Profile) (root : Root) (target : List ℕ) (paging : Paging) (tokens : Bool) (texts : List (List ℕ)) → StopsOnly IsAnEnd (cuts_in profile root target paging tokens texts)
+cuts_in_stop profile root target paging tokens texts =
+    (refusals (model_of_texts profile root texts) (texts_model_stops profile root texts), λ model at. cuts_stop target paging tokens (asked_digits tokens paging.after profile root target paging.max_order texts) model.system)
 
-text_stops : (asked_kind : Kind) (voices : List Voice) (asked : Request) (texts : List (List ℕ)) → StopsOnly IsAnEnd (text_for asked_kind voices asked texts)
-text_stops kind.Check voices asked texts = (refusals (model_of_texts asked.root texts) (texts_model_stops asked.root texts), λ model at. tt)
-text_stops kind.Cuts voices asked texts = cuts_in_stop asked.root asked.target asked.options.paging (is_set asked.options (codes "tokens")) texts
-text_stops kind.Tree voices asked texts = (refusals (model_of_texts asked.root texts) (texts_model_stops asked.root texts), λ model at. tree_stop asked.target (tree_form asked.options.form (tree_words asked.root asked.target) asked.files texts) model.system model.rates)
-text_stops kind.Fmea voices asked texts = (refusals (model_of_texts asked.root texts) (texts_model_stops asked.root texts), λ model at. tt)
-text_stops kind.Report voices asked texts = (
-  refusals (model_of_texts asked.root texts) (texts_model_stops asked.root texts),
+text_stops : (profile : Profile) (asked_kind : Kind) (voices : List Voice) (asked : Request) (texts : List (List ℕ)) → StopsOnly IsAnEnd (text_by profile asked_kind voices asked texts)
+text_stops profile kind.Check voices asked texts = (refusals (model_of_texts profile asked.root texts) (texts_model_stops profile asked.root texts), λ model at. tt)
+text_stops profile kind.Cuts voices asked texts = cuts_in_stop profile asked.root asked.target asked.options.paging (is_set asked.options (codes "tokens")) texts
+text_stops profile kind.Tree voices asked texts = (refusals (model_of_texts profile asked.root texts) (texts_model_stops profile asked.root texts), λ model at. tree_stop asked.target (tree_form asked.options.form (tree_words profile asked.root asked.target) asked.files texts) model.system model.rates)
+text_stops profile kind.Fmea voices asked texts = (refusals (model_of_texts profile asked.root texts) (texts_model_stops profile asked.root texts), λ model at. tt)
+text_stops profile kind.Report voices asked texts = (
+  refusals (model_of_texts profile asked.root texts) (texts_model_stops profile asked.root texts),
   λ model at.
       refusals (report_text asked.target asked.options.chosen asked.options.paging.max_order voices model.system) (report_stop asked.target asked.options.chosen asked.options.paging.max_order voices model.system),
 )
-text_stops kind.Make voices asked texts = refusals (make_text asked.number (is_set asked.options (codes "text"))) (make_stop asked.number (is_set asked.options (codes "text")))
-text_stops kind.Galileo voices asked texts = galileo_in_stop (is_drawn asked.options.form) asked.options asked.files texts
-text_stops kind.Paths voices asked texts =
-    (refusals (model_of_texts asked.root texts) (texts_model_stops asked.root texts), λ model at. refusals (paths_text asked.target asked.options.paging model.system) (paths_stop asked.target asked.options.paging model.system))
-text_stops kind.Why voices asked texts =
-    (refusals (model_of_texts asked.root texts) (texts_model_stops asked.root texts), λ model at. refusals (why_text asked.target asked.options.set model.system) (why_stop asked.target asked.options.set model.system))
-text_stops kind.Confirm voices asked texts = refusals (confirmed_in asked.root asked.target asked.options.set texts) (confirmed_stop asked.root asked.target asked.options.set texts)
-text_stops kind.Targets voices asked texts = (refusals (model_of_texts asked.root texts) (texts_model_stops asked.root texts), λ model at status none. absurd none)
-text_stops kind.Events voices asked texts = (refusals (made_of_texts origins_phase asked.root texts) (made_stops origins_phase (origins_stop First) asked.root texts), λ model at. tt)
-text_stops kind.Review voices asked texts = (refusals (made_of_texts review_phase asked.root texts) (made_stops review_phase (review_stop First) asked.root texts), λ model at. tt)
-text_stops kind.Place voices asked texts = tt
-text_stops kind.Manifest voices asked texts = (refusals (model_of_texts asked.root texts) (texts_model_stops asked.root texts), λ model at. tt)
-text_stops kind.Refusals voices asked texts = λ status none. absurd none
-text_stops kind.Probability voices asked texts = (
-  refusals (model_of_texts asked.root texts) (texts_model_stops asked.root texts),
+text_stops profile kind.Make voices asked texts = refusals (make_text asked.number (is_set asked.options (codes "text"))) (make_stop asked.number (is_set asked.options (codes "text")))
+text_stops profile kind.Galileo voices asked texts = galileo_in_stop (is_drawn asked.options.form) asked.options asked.files texts
+text_stops profile kind.Paths voices asked texts =
+    (refusals (model_of_texts profile asked.root texts) (texts_model_stops profile asked.root texts), λ model at. refusals (paths_text asked.target asked.options.paging model.system) (paths_stop asked.target asked.options.paging model.system))
+text_stops profile kind.Why voices asked texts =
+    (refusals (model_of_texts profile asked.root texts) (texts_model_stops profile asked.root texts), λ model at. refusals (why_text asked.target asked.options.set model.system) (why_stop asked.target asked.options.set model.system))
+text_stops profile kind.Confirm voices asked texts = refusals (confirmed_in profile asked.root asked.target asked.options.set texts) (confirmed_stop profile asked.root asked.target asked.options.set texts)
+text_stops profile kind.Targets voices asked texts = (refusals (model_of_texts profile asked.root texts) (texts_model_stops profile asked.root texts), λ model at status none. absurd none)
+text_stops profile kind.Events voices asked texts = (refusals (made_of_texts origins_phase profile asked.root texts) (made_stops origins_phase profile (origins_stop profile) asked.root texts), λ model at. tt)
+text_stops profile kind.Review voices asked texts = (refusals (made_of_texts review_phase profile asked.root texts) (made_stops review_phase profile (review_stop profile) asked.root texts), λ model at. tt)
+text_stops profile kind.Place voices asked texts = tt
+text_stops profile kind.Manifest voices asked texts = (refusals (model_of_texts profile asked.root texts) (texts_model_stops profile asked.root texts), λ model at. tt)
+text_stops profile kind.Refusals voices asked texts = λ status none. absurd none
+text_stops profile kind.Probability voices asked texts = (
+  refusals (model_of_texts profile asked.root texts) (texts_model_stops profile asked.root texts),
   λ model at.
       refusals (probability_text asked.target asked.options.hours (is_set asked.options (codes "events")) model.system model.rates)
       (probability_stop asked.target asked.options.hours (is_set asked.options (codes "events")) model.system model.rates),
 )
-text_stops kind.Help voices asked texts = tt
-text_stops kind.Explain voices asked texts = tt
-text_stops kind.Version voices asked texts = tt
+text_stops profile kind.Help voices asked texts = tt
+text_stops profile kind.Explain voices asked texts = tt
+text_stops profile kind.Version voices asked texts = tt
 
 request_stops : (contents : List ℕ → Option (List ℕ)) (voices : List Voice) (asked : Request) → StopsOnly IsAnEnd (request_text contents voices asked)
-request_stops contents voices asked = (refusals (texts_of contents asked.files) (texts_stop contents asked.files), λ texts read. text_stops asked.kind voices asked texts)
+request_stops contents voices asked = (refusals (texts_of contents asked.files) (texts_stop contents asked.files), λ texts read. text_stops (profile_of asked.options.form) asked.kind voices asked texts)
 
 -- Usage without a request; or there is one, and a refusal, a constant target, a stale token or an event without a rate
 abbrev EndsSo : List (List ℕ) → List (List ℕ) → Status → Type 0
@@ -556,11 +557,11 @@ told_later chosen RoseThere first later x s before end =
     ]
 
 -- the chosen reports are the same
-pub told_as : (RoseThere : ℕ → Type 0) (root : Root) (target : List ℕ) (max_order : Option ℕ) (voices : List Voice) (texts : List (List ℕ)) (result : Result Held Status) (a b : List ℕ) → a ≡ b
-    → MeetsBut (EndsReports a RoseThere (report_in root target a max_order voices texts)) held_text (report_in root target a max_order voices texts) result
-    → MeetsBut (EndsReports b RoseThere (report_in root target b max_order voices texts)) held_text (report_in root target b max_order voices texts) result
-told_as RoseThere root target max_order voices texts result a b same met =
-    subst (λ (chosen : List ℕ). MeetsBut (EndsReports chosen RoseThere (report_in root target chosen max_order voices texts)) held_text (report_in root target chosen max_order voices texts) result) same met
+pub told_as : (RoseThere : ℕ → Type 0) (profile : Profile) (root : Root) (target : List ℕ) (max_order : Option ℕ) (voices : List Voice) (texts : List (List ℕ)) (result : Result Held Status) (a b : List ℕ) → a ≡ b
+    → MeetsBut (EndsReports a RoseThere (report_in profile root target a max_order voices texts)) held_text (report_in profile root target a max_order voices texts) result
+    → MeetsBut (EndsReports b RoseThere (report_in profile root target b max_order voices texts)) held_text (report_in profile root target b max_order voices texts) result
+told_as RoseThere profile root target max_order voices texts result a b same met =
+    subst (λ (chosen : List ℕ). MeetsBut (EndsReports chosen RoseThere (report_in profile root target chosen max_order voices texts)) held_text (report_in profile root target chosen max_order voices texts) result) same met
 
 -- more is excused
 pub meets_wider : {A B : Type 0} (Excuse Wider : Status → Type 0) (value : B → A) (phase : Phase A) (result : Result B Status) → ((s : Status) → Excuse s → Wider s) → MeetsBut Excuse value phase result → MeetsBut Wider value phase result

@@ -15,12 +15,13 @@ use Rattle.text_places.specs.Places.{place_text}
 use Rattle.help_texts.specs.Texts.{explain_text, help_text, version_text}
 use Rattle.fmea_rows.specs.Rows.{rows_of}
 use Rattle.fmea_rows.specs.Text.{table_text}
-use Rattle.fta_run.specs.Forms.{drawn_words, is_drawn, is_merging, is_wide, picture_legend, tree_form, tree_words}
+use Rattle.fta_run.specs.Forms.{drawn_words, is_drawn, is_merging, is_wide, picture_legend, profile_of, tree_form, tree_words}
 use Rattle.fta_words.specs.declared.command.Form.{Form}
 use Rattle.fta_words.specs.declared.command.Options.{Options}
 use Rattle.fta_words.specs.declared.command.Paging.{Paging}
 use Rattle.model_facts.specs.Assembly.{Assembly}
-use Rattle.profiles.specs.declared.profile.Profile.TheVariants.{First}
+use Rattle.profiles.specs.declared.profile.Profile.{Profile}
+use Rattle.profiles.specs.declared.profile.Profile.TheVariants.{First, Second}
 use Rattle.model_phases.specs.Phases.{assembled, flat_phase, origins_phase, review_phase}
 use Rattle.model_phases.specs.declared.events.EventModel.{EventModel}
 use Rattle.event_lines.specs.Text.{events_text as text_of_events}
@@ -70,23 +71,23 @@ units_of texts = do
   tokens ← answers (AreTokens texts) (LacksTokens texts)
   rejects (AreUnits tokens) (LacksUnits texts tokens)
 
--- what a further phase makes of the model of the root in these files: nothing is declared again in them, the root names a classifier,
--- and its model is right
-abbrev pub made_of_units : {A : Type 0} → (Assembly → Phase A) → Root → List (List FileUnit) → Phase A
-made_of_units next root files = do
+-- what a further phase makes of the model of the root in these files, read by a profile: nothing is declared again in them, the root
+-- names a classifier, and its model is right
+abbrev pub made_of_units : {A : Type 0} → (Assembly → Phase A) → Profile → Root → List (List FileUnit) → Phase A
+made_of_units next profile root files = do
   _ ← tests (HasDuplicate files)
   id ← computes (root_named files root)
-  assembled next First (packages_of files) id
+  assembled next profile (packages_of files) id
 
 -- the same of files of these texts
-abbrev pub made_of_texts : {A : Type 0} → (Assembly → Phase A) → Root → List (List ℕ) → Phase A
-made_of_texts next root texts = do
+abbrev pub made_of_texts : {A : Type 0} → (Assembly → Phase A) → Profile → Root → List (List ℕ) → Phase A
+made_of_texts next profile root texts = do
   files ← units_of texts
-  made_of_units next root files
+  made_of_units next profile root files
 
--- the model of the root in files of these texts, as a system
-abbrev pub model_of_texts : Root → List (List ℕ) → Phase FlatModel
-model_of_texts root texts = made_of_texts flat_phase root texts
+-- the model of the root in files of these texts, read by a profile, as a system
+abbrev pub model_of_texts : Profile → Root → List (List ℕ) → Phase FlatModel
+model_of_texts profile root texts = made_of_texts flat_phase profile root texts
 
 -- the text of `check`: the numbers of components, of facts and of events
 abbrev pub check_text : FlatModel → Phase (List ℕ)
@@ -131,7 +132,7 @@ sized_text model = do
 abbrev pub made_model_text : List ℕ → Phase (List ℕ)
 made_model_text text = do
   texts ← within_limits (text ∷ [])
-  model ← model_of_texts made_root texts
+  model ← model_of_texts First made_root texts
   sized_text model
 
 -- the text of `make`: what is said of the model that is made of a number, as of a file with its text; or its text
@@ -151,15 +152,15 @@ galileo_in false options files texts = sets_of_tree (is_set options (codes "path
 
 -- the text of `cuts` for the model of the root in files of these texts, with the digits of the key of what it is asked of, where they
 -- are asked for
-abbrev pub cuts_in : Root → List ℕ → Paging → Bool → List (List ℕ) → Phase (List ℕ)
-cuts_in root target paging tokens texts = do
-  model ← model_of_texts root texts
-  cuts_text target paging tokens (asked_digits tokens paging.after root target paging.max_order texts) model.system
+abbrev pub cuts_in : Profile → Root → List ℕ → Paging → Bool → List (List ℕ) → Phase (List ℕ)
+cuts_in profile root target paging tokens texts = do
+  model ← model_of_texts profile root texts
+  cuts_text target paging tokens (asked_digits tokens paging.after profile root target paging.max_order texts) model.system
 
 -- the text of `confirm`: of the derivation in the first of these texts, for the model of the root in the files of the others
-abbrev pub confirmed_in : Root → List ℕ → List ℕ → List (List ℕ) → Phase (List ℕ)
-confirmed_in root target set texts = do
-  model ← in_later_files (model_of_texts root (other_texts texts))
+abbrev pub confirmed_in : Profile → Root → List ℕ → List ℕ → List (List ℕ) → Phase (List ℕ)
+confirmed_in profile root target set texts = do
+  model ← in_later_files (model_of_texts profile root (other_texts texts))
   confirm_text target set (first_text texts) model.system
 
 -- the text of `place`: where a byte stands in the first of these texts, which is that of the first of these files
@@ -168,96 +169,105 @@ place_in files byte texts = yields (place_text (first_name files) (first_text te
 
 -- ---- the texts of commands in files of these texts
 
-abbrev pub check_in : Root → List (List ℕ) → Phase (List ℕ)
-check_in root texts = do
-  model ← model_of_texts root texts
+abbrev pub check_in : Profile → Root → List (List ℕ) → Phase (List ℕ)
+check_in profile root texts = do
+  model ← model_of_texts profile root texts
   check_text model
 
-abbrev pub tree_in : Root → List ℕ → Form → List (List ℕ) → List (List ℕ) → Phase (List ℕ)
-tree_in root target form files texts = do
-  model ← model_of_texts root texts
-  tree_text target (tree_form form (tree_words root target) files texts) model.system model.rates
+abbrev pub tree_in : Profile → Root → List ℕ → Form → List (List ℕ) → List (List ℕ) → Phase (List ℕ)
+tree_in profile root target form files texts = do
+  model ← model_of_texts profile root texts
+  tree_text target (tree_form form (tree_words profile root target) files texts) model.system model.rates
 
-abbrev pub fmea_in : Root → Bool → List (List ℕ) → Phase (List ℕ)
-fmea_in root all texts = do
-  model ← model_of_texts root texts
+abbrev pub fmea_in : Profile → Root → Bool → List (List ℕ) → Phase (List ℕ)
+fmea_in profile root all texts = do
+  model ← model_of_texts profile root texts
   fmea_text all model
 
-abbrev pub report_in : Root → List ℕ → List ℕ → Option ℕ → List Voice → List (List ℕ) → Phase (List ℕ)
-report_in root target chosen max_order voices texts = do
-  model ← model_of_texts root texts
+abbrev pub report_in : Profile → Root → List ℕ → List ℕ → Option ℕ → List Voice → List (List ℕ) → Phase (List ℕ)
+report_in profile root target chosen max_order voices texts = do
+  model ← model_of_texts profile root texts
   report_text target chosen max_order voices model.system
 
-abbrev pub paths_in : Root → List ℕ → Paging → List (List ℕ) → Phase (List ℕ)
-paths_in root target paging texts = do
-  model ← model_of_texts root texts
+abbrev pub paths_in : Profile → Root → List ℕ → Paging → List (List ℕ) → Phase (List ℕ)
+paths_in profile root target paging texts = do
+  model ← model_of_texts profile root texts
   paths_text target paging model.system
 
-abbrev pub why_in : Root → List ℕ → List ℕ → List (List ℕ) → Phase (List ℕ)
-why_in root target set texts = do
-  model ← model_of_texts root texts
+abbrev pub why_in : Profile → Root → List ℕ → List ℕ → List (List ℕ) → Phase (List ℕ)
+why_in profile root target set texts = do
+  model ← model_of_texts profile root texts
   why_text target set model.system
 
-abbrev pub targets_in : Root → Bool → List (List ℕ) → Phase (List ℕ)
-targets_in root all texts = do
-  model ← model_of_texts root texts
+abbrev pub targets_in : Profile → Root → Bool → List (List ℕ) → Phase (List ℕ)
+targets_in profile root all texts = do
+  model ← model_of_texts profile root texts
   targets_text all model
 
-abbrev pub events_in : Root → List (List ℕ) → List (List ℕ) → Phase (List ℕ)
-events_in root files texts = do
-  model ← made_of_texts origins_phase root texts
+abbrev pub events_in : Profile → Root → List (List ℕ) → List (List ℕ) → Phase (List ℕ)
+events_in profile root files texts = do
+  model ← made_of_texts origins_phase profile root texts
   events_text files model
 
-abbrev pub review_in : Root → List (List ℕ) → Phase (List ℕ)
-review_in root texts = do
-  reviewed ← made_of_texts review_phase root texts
+abbrev pub review_in : Profile → Root → List (List ℕ) → Phase (List ℕ)
+review_in profile root texts = do
+  reviewed ← made_of_texts review_phase profile root texts
   yields reviewed.text
 
-abbrev pub probability_in : Root → List ℕ → Option (List ℕ) → Bool → List (List ℕ) → Phase (List ℕ)
-probability_in root target hours asked texts = do
-  model ← model_of_texts root texts
+abbrev pub probability_in : Profile → Root → List ℕ → Option (List ℕ) → Bool → List (List ℕ) → Phase (List ℕ)
+probability_in profile root target hours asked texts = do
+  model ← model_of_texts profile root texts
   probability_text target hours asked model.system model.rates
 
 -- the line of a root
 abbrev pub root_line : Root → List ℕ
 root_line root = codes "root " ++ (root_text root ++ codes "\n")
 
--- the text of `manifest`: the version of the program, the root, what `check` writes, and the digests of the files
-abbrev pub manifest_text : Root → List (List ℕ) → List (List ℕ) → FlatModel → List ℕ
-manifest_text root files texts model =
-    version_text ++ (root_line root ++ (numbers_text model.components (length model.system.facts) (length model.system.events) ++ digest_lines files texts))
+-- the line of a profile that is not the first
+abbrev pub profile_line : Profile → List ℕ
+profile_line First = []
+profile_line Second = codes "by profile 2\n"
 
-abbrev pub manifest_in : Root → List (List ℕ) → List (List ℕ) → Phase (List ℕ)
-manifest_in root files texts = do
-  model ← model_of_texts root texts
-  yields (manifest_text root files texts model)
+-- the text of `manifest`: the version of the program, the root, the profile where it is not the first, what `check` writes, and the digests of the files
+abbrev pub manifest_text : Profile → Root → List (List ℕ) → List (List ℕ) → FlatModel → List ℕ
+manifest_text profile root files texts model =
+    version_text ++ (root_line root ++ (profile_line profile ++ (numbers_text model.components (length model.system.facts) (length model.system.events) ++ digest_lines files texts)))
+
+abbrev pub manifest_in : Profile → Root → List (List ℕ) → List (List ℕ) → Phase (List ℕ)
+manifest_in profile root files texts = do
+  model ← model_of_texts profile root texts
+  yields (manifest_text profile root files texts model)
 
 -- the text of `refusals`
-abbrev pub refusals_in : Root → List (List ℕ) → List (List ℕ) → Phase (List ℕ)
-refusals_in root files texts = accepts (TellsRefusals (model_of_texts root texts) (units_of texts) root files texts)
+abbrev pub refusals_in : Profile → Root → List (List ℕ) → List (List ℕ) → Phase (List ℕ)
+refusals_in profile root files texts = accepts (TellsRefusals (model_of_texts profile root texts) (units_of texts) profile root files texts)
 
--- the text of a command, asked with this request, in files of these texts, where these are the reports
+-- the text of a command, asked with this request, in files of these texts, read by a profile, where these are the reports
+abbrev pub text_by : Profile → Kind → List Voice → Request → List (List ℕ) → Phase (List ℕ)
+text_by profile kind.Check voices asked texts = check_in profile asked.root texts
+text_by profile kind.Cuts voices asked texts = cuts_in profile asked.root asked.target asked.options.paging (is_set asked.options (codes "tokens")) texts
+text_by profile kind.Tree voices asked texts = tree_in profile asked.root asked.target asked.options.form asked.files texts
+text_by profile kind.Fmea voices asked texts = fmea_in profile asked.root (is_set asked.options (codes "all")) texts
+text_by profile kind.Report voices asked texts = report_in profile asked.root asked.target asked.options.chosen asked.options.paging.max_order voices texts
+text_by profile kind.Make voices asked texts = make_text asked.number (is_set asked.options (codes "text"))
+text_by profile kind.Galileo voices asked texts = galileo_in (is_drawn asked.options.form) asked.options asked.files texts
+text_by profile kind.Paths voices asked texts = paths_in profile asked.root asked.target asked.options.paging texts
+text_by profile kind.Why voices asked texts = why_in profile asked.root asked.target asked.options.set texts
+text_by profile kind.Confirm voices asked texts = confirmed_in profile asked.root asked.target asked.options.set texts
+text_by profile kind.Targets voices asked texts = targets_in profile asked.root (is_set asked.options (codes "all")) texts
+text_by profile kind.Events voices asked texts = events_in profile asked.root asked.files texts
+text_by profile kind.Review voices asked texts = review_in profile asked.root texts
+text_by profile kind.Place voices asked texts = place_in asked.files asked.number texts
+text_by profile kind.Manifest voices asked texts = manifest_in profile asked.root asked.files texts
+text_by profile kind.Refusals voices asked texts = refusals_in profile asked.root asked.files texts
+text_by profile kind.Probability voices asked texts = probability_in profile asked.root asked.target asked.options.hours (is_set asked.options (codes "events")) texts
+text_by profile kind.Explain voices asked texts = yields (explain_text asked.target)
+text_by profile kind.Help voices asked texts = yields (help_text asked.of)
+text_by profile kind.Version voices asked texts = yields version_text
+
+-- the same by the profile that the options say
 abbrev pub text_for : Kind → List Voice → Request → List (List ℕ) → Phase (List ℕ)
-text_for kind.Check voices asked texts = check_in asked.root texts
-text_for kind.Cuts voices asked texts = cuts_in asked.root asked.target asked.options.paging (is_set asked.options (codes "tokens")) texts
-text_for kind.Tree voices asked texts = tree_in asked.root asked.target asked.options.form asked.files texts
-text_for kind.Fmea voices asked texts = fmea_in asked.root (is_set asked.options (codes "all")) texts
-text_for kind.Report voices asked texts = report_in asked.root asked.target asked.options.chosen asked.options.paging.max_order voices texts
-text_for kind.Make voices asked texts = make_text asked.number (is_set asked.options (codes "text"))
-text_for kind.Galileo voices asked texts = galileo_in (is_drawn asked.options.form) asked.options asked.files texts
-text_for kind.Paths voices asked texts = paths_in asked.root asked.target asked.options.paging texts
-text_for kind.Why voices asked texts = why_in asked.root asked.target asked.options.set texts
-text_for kind.Confirm voices asked texts = confirmed_in asked.root asked.target asked.options.set texts
-text_for kind.Targets voices asked texts = targets_in asked.root (is_set asked.options (codes "all")) texts
-text_for kind.Events voices asked texts = events_in asked.root asked.files texts
-text_for kind.Review voices asked texts = review_in asked.root texts
-text_for kind.Place voices asked texts = place_in asked.files asked.number texts
-text_for kind.Manifest voices asked texts = manifest_in asked.root asked.files texts
-text_for kind.Refusals voices asked texts = refusals_in asked.root asked.files texts
-text_for kind.Probability voices asked texts = probability_in asked.root asked.target asked.options.hours (is_set asked.options (codes "events")) texts
-text_for kind.Explain voices asked texts = yields (explain_text asked.target)
-text_for kind.Help voices asked texts = yields (help_text asked.of)
-text_for kind.Version voices asked texts = yields version_text
+text_for kind voices asked texts = text_by (profile_of asked.options.form) kind voices asked texts
 
 -- the text of a request, where this is what the files contain, and these are the reports
 abbrev pub request_text : (List ℕ → Option (List ℕ)) → List Voice → Request → Phase (List ℕ)

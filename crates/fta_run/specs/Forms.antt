@@ -3,6 +3,8 @@ use Rattle.std.specs.Prelude.{ℕ, Bool, true, false, if◌then◌else◌, List,
 use Rattle.plain_values.specs.Name.{is_same_text}
 use Rattle.plain_values.specs.declared.name.Root.{Root}
 use Rattle.page_tokens.specs.Keys.{root_text}
+use Rattle.profiles.specs.declared.profile.Profile.{Profile}
+use Rattle.profiles.specs.declared.profile.Profile.TheVariants.{First, Second}
 use Rattle.file_digests.specs.Digests.{digest_texts}
 use Rattle.help_texts.specs.Texts.{program_text}
 use Rattle.fta_words.specs.declared.command.Form.{Form}
@@ -18,9 +20,17 @@ format_named name = if is_same_text name (codes "mef") then Mef else (if is_same
 abbrev pub is_drawn : Form → Bool
 is_drawn form = is_same_text form.format (codes "dot")
 
--- whether a text is read as other tools write it, too
+-- whether the second profile is asked for
+abbrev pub is_second : Form → Bool
+is_second form = is_same_text form.profile (codes "2")
+
+-- the profile by which a model is read: the first, where no other is asked for
+abbrev pub profile_of : Form → Profile
+profile_of form = if is_second form then Second else First
+
+-- whether the text of a tree is read as other tools write it, too
 abbrev pub is_wide : Form → Bool
-is_wide form = is_same_text form.profile (codes "2")
+is_wide form = is_second form
 
 -- whether merged gates are asked for
 abbrev pub is_merging : Form → Bool
@@ -35,9 +45,14 @@ abbrev pub gates_words : Bool → List ℕ
 gates_words false = []
 gates_words true = codes " --gates merged"
 
+-- the words of a profile that is not the first
+abbrev pub profile_words : Profile → List ℕ
+profile_words First = []
+profile_words Second = codes " --profile 2"
+
 -- the words of what is asked of a target
-abbrev pub tree_words : Root → List ℕ → List ℕ
-tree_words root target = codes "tree " ++ (root_text root ++ (32 ∷ target))
+abbrev pub tree_words : Profile → Root → List ℕ → List ℕ
+tree_words profile root target = codes "tree " ++ (root_text root ++ (32 ∷ (target ++ profile_words profile)))
 
 -- the words of what is asked of a tree that is read from a file
 abbrev pub drawn_words : Bool → List ℕ

@@ -12,14 +12,14 @@ ghost use Rattle.model_phases.specs.Named.{IsPlainModel};
 ghost use Rattle.system_answers.specs.inner.Ends.{EndsReports};
 ghost use Rattle.system_answers.specs.Voices.{voices_of};
 ghost use Rattle.fta_run.specs.Answers.{is_by_lines};
-ghost use Rattle.fta_run.specs.Due.{check_in, cuts_in, events_in, first_name, first_text, fmea_in, galileo_in, made_of_texts, manifest_in, model_of_texts, paths_in, place_in, probability_in, refusals_in, report_in, review_in, sets_of_tree, targets_in, text_for, tree_in, why_in};
+ghost use Rattle.fta_run.specs.Due.{check_in, cuts_in, events_in, first_name, first_text, fmea_in, galileo_in, made_of_texts, manifest_in, model_of_texts, paths_in, place_in, probability_in, refusals_in, report_in, review_in, sets_of_tree, targets_in, text_by, text_for, tree_in, why_in};
 ghost use Rattle.fta_run.specs.Forms.{drawn_words, is_drawn, picture_legend};
 ghost use Rattle.fta_run.specs.inner.Ready.{IsByLines, held_text, ready_text};
 ghost use Rattle.system_answers.specs.Texts.{drawn_text};
 
 use crate::confirmed::confirmation;
 use crate::fmea::table_of;
-use crate::forms::{drawn_legend, is_drawn, is_merging, is_wide, tree_form};
+use crate::forms::{drawn_legend, is_drawn, is_merging, is_wide, profile_of, tree_form};
 use crate::input::Texts;
 use crate::made::make;
 use crate::manifest::manifest_text;
@@ -37,6 +37,7 @@ use model_phases::{EventModel, FlatModel, FromAssembly, ReviewedModel};
 use page_tokens::asked_digest;
 use phases::Status;
 use plain_values::{Name, Root, Word};
+use profiles::Profile;
 use std::alloc::Global;
 use system_answers::draw;
 use text_places::place_text;
@@ -53,22 +54,54 @@ pub fn answer_in(
     ensures by_lines { IfOk result (λ ready. IsByLines ready → is_by_lines (request_shown asked.now) ≡ true) }
     ensures reports { AtChosen asked.now.options.chosen (IsKept text label report_faults) reports.old.items reports.new.items }
 {
+    answer_by(
+        alloc,
+        profile_of(&asked.options.form),
+        asked,
+        texts,
+        reports,
+    )
+}
+
+/// The answer on a request whose files have these texts, read by a profile.
+fn answer_by(
+    alloc: Global,
+    profile: Profile,
+    asked: &Request<'_>,
+    texts: Texts,
+    reports: &mut Vec<Box<dyn Report>>,
+) -> Result<Ready, Status>
+    requires chosen { RisesWithin 0 (vec_len reports.old) asked.now.options.chosen }
+    ensures text { let phase = text_by profile asked.now.kind (voices_of label text reports.old.items) (request_shown asked.now) texts in MeetsBut (EndsReports asked.now.options.chosen (λ place. RoseAt report_faults place reports.old.items reports.new.items) phase) ready_text phase result }
+    ensures by_lines { IfOk result (λ ready. IsByLines ready → is_by_lines (request_shown asked.now) ≡ true) }
+    ensures reports { AtChosen asked.now.options.chosen (IsKept text label report_faults) reports.old.items reports.new.items }
+{
     let (root, target, options) = (&asked.root, &asked.target, &asked.options);
     let max_order = options.paging.max_order;
     match asked.kind {
-        Kind::Check => ready_of(check(alloc, root, texts)),
+        Kind::Check => ready_of(check(alloc, profile, root, texts)),
         Kind::Cuts => ready_of(cuts(
             alloc,
+            profile,
             root,
             target,
             &options.paging,
             options.is_set(b"tokens"),
             texts,
         )),
-        Kind::Tree => tree(alloc, root, target, &options.form, asked.files, texts),
-        Kind::Fmea => fmea(alloc, root, options.is_set(b"all"), texts),
+        Kind::Tree => tree(
+            alloc,
+            profile,
+            root,
+            target,
+            &options.form,
+            asked.files,
+            texts,
+        ),
+        Kind::Fmea => fmea(alloc, profile, root, options.is_set(b"all"), texts),
         Kind::Report => ready_of(report(
             alloc,
+            profile,
             root,
             target,
             options.chosen.items(),
@@ -78,17 +111,18 @@ pub fn answer_in(
         )),
         Kind::Make => ready_of(make(alloc, asked.number, options.is_set(b"text"))),
         Kind::Galileo => galileo(alloc, options, asked.files, texts),
-        Kind::Paths => ready_of(paths(alloc, root, target, &options.paging, texts)),
-        Kind::Why => ready_of(why(alloc, root, target, &options.set, texts)),
-        Kind::Confirm => ready_of(confirmation(alloc, root, target, &options.set, texts)),
-        Kind::Targets => ready_of(targets(alloc, root, options.is_set(b"all"), texts)),
-        Kind::Events => ready_of(events(alloc, root, asked.files, texts)),
-        Kind::Review => ready_of(review(alloc, root, texts)),
+        Kind::Paths => ready_of(paths(alloc, profile, root, target, &options.paging, texts)),
+        Kind::Why => ready_of(why(alloc, profile, root, target, &options.set, texts)),
+        Kind::Confirm => ready_of(confirmation(alloc, profile, root, target, &options.set, texts)),
+        Kind::Targets => ready_of(targets(alloc, profile, root, options.is_set(b"all"), texts)),
+        Kind::Events => ready_of(events(alloc, profile, root, asked.files, texts)),
+        Kind::Review => ready_of(review(alloc, profile, root, texts)),
         Kind::Place => ready_of(place(alloc, asked.files, asked.number, texts)),
-        Kind::Manifest => ready_of(manifest(alloc, root, asked.files, texts)),
-        Kind::Refusals => ready_of(refusals(alloc, root, asked.files, texts)),
+        Kind::Manifest => ready_of(manifest(alloc, profile, root, asked.files, texts)),
+        Kind::Refusals => ready_of(refusals(alloc, profile, root, asked.files, texts)),
         Kind::Probability => ready_of(probability(
             alloc,
+            profile,
             root,
             target,
             &options.hours,
@@ -102,25 +136,35 @@ pub fn answer_in(
 }
 
 /// What is made of the model of a root in files of these texts, which are held no longer.
-fn model_in<M: FromAssembly>(alloc: Global, root: &Root, texts: Texts) -> Result<M, Status>
-    ensures { Meets (made_of_texts M.phase root.now texts) result }
+fn model_in<M: FromAssembly>(
+    alloc: Global,
+    profile: Profile,
+    root: &Root,
+    texts: Texts,
+) -> Result<M, Status>
+    ensures { Meets (made_of_texts M.phase profile root.now texts) result }
 {
-    model_of_texts(alloc, root, texts.items())
+    model_of_texts(alloc, profile, root, texts.items())
 }
 
 /// The model of a root in files of these texts, which are held no longer, as a system.
-fn flat_model(alloc: Global, root: &Root, texts: Texts) -> Result<FlatModel, Status>
-    ensures meets { Meets (model_of_texts root.now texts) result }
+fn flat_model(
+    alloc: Global,
+    profile: Profile,
+    root: &Root,
+    texts: Texts,
+) -> Result<FlatModel, Status>
+    ensures meets { Meets (model_of_texts profile root.now texts) result }
     ensures plain { IfOk result IsPlainModel }
 {
-    model_in(alloc, root, texts)
+    model_in(alloc, profile, root, texts)
 }
 
 /// The numbers of the model of a root.
-fn check(alloc: Global, root: &Root, texts: Texts) -> Result<Held, Status>
-    ensures { MeetsBut IsMemory held_text (check_in root.now texts) result }
+fn check(alloc: Global, profile: Profile, root: &Root, texts: Texts) -> Result<Held, Status>
+    ensures { MeetsBut IsMemory held_text (check_in profile root.now texts) result }
 {
-    let model = flat_model(alloc, root, texts)?;
+    let model = flat_model(alloc, profile, root, texts)?;
     let text = numbers_of(alloc, model.components, &model.system)?;
     Ok(Held::Text(text))
 }
@@ -128,17 +172,18 @@ fn check(alloc: Global, root: &Root, texts: Texts) -> Result<Held, Status>
 /// A page of the listing of a target in the model of a root, perhaps with a token in the last line.
 fn cuts(
     alloc: Global,
+    profile: Profile,
     root: &Root,
     target: &Name,
     paging: &Paging,
     tokens: bool,
     texts: Texts,
 ) -> Result<Held, Status>
-    ensures { MeetsBut IsMemory held_text (cuts_in root.now target.now paging.now tokens texts) result }
+    ensures { MeetsBut IsMemory held_text (cuts_in profile root.now target.now paging.now tokens texts) result }
 {
     let (after, most) = (&paging.after, paging.max_order);
-    let key = asked_digest(tokens, after, root, target, most, texts.items());
-    let model = flat_model(alloc, root, texts)?;
+    let key = asked_digest(tokens, after, profile, root, target, most, texts.items());
+    let model = flat_model(alloc, profile, root, texts)?;
     let page = system_answers::cuts(alloc, model.system, target, paging, tokens, &key)?;
     Ok(Held::Page(page))
 }
@@ -146,25 +191,32 @@ fn cuts(
 /// The tree of a target in the model of a root, in the form for which the words ask, of files of these names.
 fn tree(
     alloc: Global,
+    profile: Profile,
     root: &Root,
     target: &Name,
     form: &Form,
     names: &[Word],
     texts: Texts,
 ) -> Result<Ready, Status>
-    ensures { MeetsBut IsMemory ready_text (tree_in root.now target.now form.now names.now texts) result }
+    ensures { MeetsBut IsMemory ready_text (tree_in profile root.now target.now form.now names.now texts) result }
 {
-    let form = tree_form(alloc, form, root, target, names, &texts)?;
-    let model = flat_model(alloc, root, texts)?;
+    let form = tree_form(alloc, form, profile, root, target, names, &texts)?;
+    let model = flat_model(alloc, profile, root, texts)?;
     let text = system_answers::tree(alloc, model.system, model.rates, target, form)?;
     Ok(Ready::Tree(text))
 }
 
 /// The FMEA table of the model of a root.
-fn fmea(alloc: Global, root: &Root, all: bool, texts: Texts) -> Result<Ready, Status>
-    ensures { MeetsBut IsMemory ready_text (fmea_in root.now all texts) result }
+fn fmea(
+    alloc: Global,
+    profile: Profile,
+    root: &Root,
+    all: bool,
+    texts: Texts,
+) -> Result<Ready, Status>
+    ensures { MeetsBut IsMemory ready_text (fmea_in profile root.now all texts) result }
 {
-    let model = flat_model(alloc, root, texts)?;
+    let model = flat_model(alloc, profile, root, texts)?;
     let lines = table_of(alloc, model, all)?;
     Ok(Ready::Table(lines))
 }
@@ -172,6 +224,7 @@ fn fmea(alloc: Global, root: &Root, all: bool, texts: Texts) -> Result<Ready, St
 /// What the chosen reports say of the listing of a target in the model of a root.
 fn report(
     alloc: Global,
+    profile: Profile,
     root: &Root,
     target: &Name,
     chosen: &[u32],
@@ -180,10 +233,10 @@ fn report(
     reports: &mut Vec<Box<dyn Report>>,
 ) -> Result<Held, Status>
     requires { RisesWithin 0 (vec_len reports.old) chosen.now }
-    ensures text { let phase = report_in root.now target.now chosen.now max_order (voices_of label text reports.old.items) texts in MeetsBut (EndsReports chosen.now (λ place. RoseAt report_faults place reports.old.items reports.new.items) phase) held_text phase result }
+    ensures text { let phase = report_in profile root.now target.now chosen.now max_order (voices_of label text reports.old.items) texts in MeetsBut (EndsReports chosen.now (λ place. RoseAt report_faults place reports.old.items reports.new.items) phase) held_text phase result }
     ensures reports { AtChosen chosen.now (IsKept text label report_faults) reports.old.items reports.new.items }
 {
-    let model = flat_model(alloc, root, texts)?;
+    let model = flat_model(alloc, profile, root, texts)?;
     let system = &model.system;
     let text = system_answers::report(alloc, system, target, chosen, max_order, reports)?;
     Ok(Held::Text(text))
@@ -254,67 +307,99 @@ fn tree_page(
 /// A page of the minimal path sets of a target in the model of a root.
 fn paths(
     alloc: Global,
+    profile: Profile,
     root: &Root,
     target: &Name,
     paging: &Paging,
     texts: Texts,
 ) -> Result<Held, Status>
-    ensures { MeetsBut IsMemory held_text (paths_in root.now target.now paging.now texts) result }
+    ensures { MeetsBut IsMemory held_text (paths_in profile root.now target.now paging.now texts) result }
 {
-    let model = flat_model(alloc, root, texts)?;
+    let model = flat_model(alloc, profile, root, texts)?;
     let page = system_answers::paths(alloc, model.system, target, paging)?;
     Ok(Held::Page(page))
 }
 
 /// Why a target holds under a set of events in the model of a root.
-fn why(alloc: Global, root: &Root, target: &Name, set: &Name, texts: Texts) -> Result<Held, Status>
-    ensures { MeetsBut IsMemory held_text (why_in root.now target.now set.now texts) result }
+fn why(
+    alloc: Global,
+    profile: Profile,
+    root: &Root,
+    target: &Name,
+    set: &Name,
+    texts: Texts,
+) -> Result<Held, Status>
+    ensures { MeetsBut IsMemory held_text (why_in profile root.now target.now set.now texts) result }
 {
-    let model = flat_model(alloc, root, texts)?;
+    let model = flat_model(alloc, profile, root, texts)?;
     let text = system_answers::why(alloc, &model.system, target, set)?;
     Ok(Held::Text(text))
 }
 
 /// What it takes to make each target of the model of a root hold: each effect of the root, or each fact.
-fn targets(alloc: Global, root: &Root, all: bool, texts: Texts) -> Result<Held, Status>
-    ensures { MeetsBut IsMemory held_text (targets_in root.now all texts) result }
+fn targets(
+    alloc: Global,
+    profile: Profile,
+    root: &Root,
+    all: bool,
+    texts: Texts,
+) -> Result<Held, Status>
+    ensures { MeetsBut IsMemory held_text (targets_in profile root.now all texts) result }
 {
-    let model = flat_model(alloc, root, texts)?;
+    let model = flat_model(alloc, profile, root, texts)?;
     let text = orders_of(alloc, &model, all)?;
     Ok(Held::Text(text))
 }
 
 /// Each event of the model of a root in files of these names, with its kind, its rate, and where it is declared.
-fn events(alloc: Global, root: &Root, names: &[Word], texts: Texts) -> Result<Held, Status>
-    ensures { MeetsBut IsMemory held_text (events_in root.now names.now texts) result }
+fn events(
+    alloc: Global,
+    profile: Profile,
+    root: &Root,
+    names: &[Word],
+    texts: Texts,
+) -> Result<Held, Status>
+    ensures { MeetsBut IsMemory held_text (events_in profile root.now names.now texts) result }
 {
-    let model: EventModel = model_in(alloc, root, texts)?;
+    let model: EventModel = model_in(alloc, profile, root, texts)?;
     let text = events_text(alloc, names, &model)?;
     Ok(Held::Text(text))
 }
 
 /// What the model of a root leaves without effect, and where its errors stop.
-fn review(alloc: Global, root: &Root, texts: Texts) -> Result<Held, Status>
-    ensures { MeetsBut IsMemory held_text (review_in root.now texts) result }
+fn review(alloc: Global, profile: Profile, root: &Root, texts: Texts) -> Result<Held, Status>
+    ensures { MeetsBut IsMemory held_text (review_in profile root.now texts) result }
 {
-    let reviewed: ReviewedModel = model_in(alloc, root, texts)?;
+    let reviewed: ReviewedModel = model_in(alloc, profile, root, texts)?;
     Ok(Held::Bytes(reviewed.text))
 }
 
 /// Of which program and of which files of these names a result on the model of a root is.
-fn manifest(alloc: Global, root: &Root, names: &[Word], texts: Texts) -> Result<Held, Status>
-    ensures { MeetsBut IsMemory held_text (manifest_in root.now names.now texts) result }
+fn manifest(
+    alloc: Global,
+    profile: Profile,
+    root: &Root,
+    names: &[Word],
+    texts: Texts,
+) -> Result<Held, Status>
+    ensures { MeetsBut IsMemory held_text (manifest_in profile root.now names.now texts) result }
 {
-    let model = model_at(alloc, root, &texts)?;
-    let text = manifest_text(alloc, root, names, texts.items(), &model)?;
+    let model = model_at(alloc, profile, root, &texts)?;
+    let text = manifest_text(alloc, profile, root, names, texts.items(), &model)?;
     Ok(Held::Text(text))
 }
 
 /// What is refused of the model of a root.
-fn refusals(alloc: Global, root: &Root, names: &[Word], texts: Texts) -> Result<Held, Status>
-    ensures { MeetsBut IsMemory held_text (refusals_in root.now names.now texts) result }
+fn refusals(
+    alloc: Global,
+    profile: Profile,
+    root: &Root,
+    names: &[Word],
+    texts: Texts,
+) -> Result<Held, Status>
+    ensures { MeetsBut IsMemory held_text (refusals_in profile root.now names.now texts) result }
 {
-    let text = refusals_text(alloc, root, names, texts.items())?;
+    let text = refusals_text(alloc, profile, root, names, texts.items())?;
     Ok(Held::Text(text))
 }
 
@@ -322,25 +407,31 @@ fn refusals(alloc: Global, root: &Root, names: &[Word], texts: Texts) -> Result<
 /// each event, where it is asked for.
 fn probability(
     alloc: Global,
+    profile: Profile,
     root: &Root,
     target: &Name,
     hours: &Option<Name>,
     asked: bool,
     texts: Texts,
 ) -> Result<Held, Status>
-    ensures { MeetsBut IsMemory held_text (probability_in root.now target.now hours.now asked texts) result }
+    ensures { MeetsBut IsMemory held_text (probability_in profile root.now target.now hours.now asked texts) result }
 {
-    let model = flat_model(alloc, root, texts)?;
+    let model = flat_model(alloc, profile, root, texts)?;
     let (system, rates) = (&model.system, model.rates.items());
     let text = system_answers::probability(alloc, system, rates, target, hours, asked)?;
     Ok(Held::Text(text))
 }
 
 /// The model of a root in files of these texts, which are held on, as a system.
-fn model_at(alloc: Global, root: &Root, texts: &Texts) -> Result<FlatModel, Status>
-    ensures { Meets (model_of_texts root.now texts.now) result }
+fn model_at(
+    alloc: Global,
+    profile: Profile,
+    root: &Root,
+    texts: &Texts,
+) -> Result<FlatModel, Status>
+    ensures { Meets (model_of_texts profile root.now texts.now) result }
 {
-    model_of_texts(alloc, root, texts.items())
+    model_of_texts(alloc, profile, root, texts.items())
 }
 
 /// Where a byte stands in the text of the first file.

@@ -14,6 +14,7 @@ use crate::ready::Held;
 use model_phases::FlatModel;
 use phases::Status;
 use plain_values::{Name, Place, Refusal, Root};
+use profiles::Profile;
 use std::alloc::Global;
 use system_answers::confirmed;
 
@@ -24,26 +25,32 @@ use system_answers::confirmed;
 #[inline(never)]
 pub fn confirmation(
     alloc: Global,
+    profile: Profile,
     root: &Root,
     target: &Name,
     set: &Name,
     texts: Texts,
 ) -> Result<Held, Status>
-    ensures { MeetsBut IsMemory held_text (confirmed_in root.now target.now set.now texts) result }
+    ensures { MeetsBut IsMemory held_text (confirmed_in profile root.now target.now set.now texts) result }
 {
-    let model = later_model(alloc, root, texts.others())?;
+    let model = later_model(alloc, profile, root, texts.others())?;
     let text = confirmed(alloc, &model.system, target, set, texts.first())?;
     Ok(Held::Text(text))
 }
 
 /// The model of the root in files of these texts, each of which has the next number.
-fn later_model(alloc: Global, root: &Root, texts: &[Name]) -> Result<FlatModel, Status>
+fn later_model(
+    alloc: Global,
+    profile: Profile,
+    root: &Root,
+    texts: &[Name],
+) -> Result<FlatModel, Status>
     requires few { length texts.now ≤ most_files }
     requires short { All (λ text. length text ≤ most_bytes) texts.now }
-    ensures meets { Meets (in_later_files (model_of_texts root.now texts.now)) result }
+    ensures meets { Meets (in_later_files (model_of_texts profile root.now texts.now)) result }
     ensures plain { IfOk result IsPlainModel }
 {
-    match model_of_texts(alloc, root, texts) {
+    match model_of_texts(alloc, profile, root, texts) {
         Ok(model) => Ok(model),
         Err(Status::Refused(refusal)) => Err(Status::Refused(later_refusal(refusal))),
         // Beside refusals it ends for want of memory alone.

@@ -12,6 +12,7 @@ use aadl_syntax::Unit;
 use model_phases::FlatModel;
 use phases::Status;
 use plain_values::{Code, List, Name, Refusal, Root};
+use profiles::Profile;
 use std::alloc::Global;
 
 /// The units of the files of these texts, which may be too many or too long.
@@ -22,12 +23,17 @@ pub fn units_read(alloc: Global, texts: &[Name]) -> Result<List<List<Unit>>, Sta
     units_of_texts(alloc, texts)
 }
 
-/// The model of a root in the files of these texts, which may be too many or too long, as a system.
-pub fn model_read(alloc: Global, root: &Root, texts: &[Name]) -> Result<FlatModel, Status>
-    ensures { Meets (model_read root.now texts.now) result }
+/// The model of a root in the files of these texts, which may be too many or too long, read by a profile, as a system.
+pub fn model_read(
+    alloc: Global,
+    profile: Profile,
+    root: &Root,
+    texts: &[Name],
+) -> Result<FlatModel, Status>
+    ensures { Meets (model_read profile root.now texts.now) result }
 {
     check_few(texts)?;
-    model_of_texts(alloc, root, texts)
+    model_of_texts(alloc, profile, root, texts)
 }
 
 /// Refuses texts that are too many, or too long.

@@ -1,7 +1,7 @@
 //! In which form a tree is written, by the words.
 
 ghost use Rattle.std.specs.Prelude.{◌≡◌, ◌∷◌, ◌++◌, IfOk, OnOk};
-ghost use Rattle.fta_run.specs.Forms.{drawn_words, format_named, gates_words, is_drawn, is_merging, is_rated, is_wide, legend_in, picture_legend, tree_form, tree_words};
+ghost use Rattle.fta_run.specs.Forms.{drawn_words, format_named, gates_words, is_drawn, is_merging, is_rated, is_second, is_wide, legend_in, picture_legend, profile_of, profile_words, tree_form, tree_words};
 
 use crate::input::Texts;
 use crate::manifest::push_root;
@@ -9,6 +9,7 @@ use file_digests::add_digests;
 use fta_words::Form;
 use help_texts::program_text;
 use plain_values::{List, Mem, Name, Root, Word, copied, is_same};
+use profiles::Profile;
 use std::alloc::Global;
 use system_answers::{TreeForm, TreeFormat};
 
@@ -16,14 +17,15 @@ use system_answers::{TreeForm, TreeFormat};
 pub fn tree_form(
     alloc: Global,
     form: &Form,
+    profile: Profile,
     root: &Root,
     target: &Name,
     names: &[Word],
     texts: &Texts,
 ) -> Mem<TreeForm>
-    ensures { IfOk result (λ made. made ≡ tree_form form.now (tree_words root.now target.now) names.now texts.now) }
+    ensures { IfOk result (λ made. made ≡ tree_form form.now (tree_words profile root.now target.now) names.now texts.now) }
 {
-    let words = tree_words(alloc, root, target)?;
+    let words = tree_words(alloc, profile, root, target)?;
     form_of(alloc, form, words, names, texts)
 }
 
@@ -61,11 +63,29 @@ fn format_named(name: &[u8]) -> TreeFormat
     TreeFormat::Galileo
 }
 
-/// Whether a text is read as other tools write it, too.
+/// Whether the second profile is asked for.
+fn is_second(form: &Form) -> bool
+    ensures { result ≡ is_second form.now }
+{
+    is_same(form.profile.items(), b"2")
+}
+
+/// The profile by which a model is read: the first, where no other is asked for.
+pub fn profile_of(form: &Form) -> Profile
+    ensures { result ≡ profile_of form.now }
+{
+    if is_second(form) {
+        Profile::Second
+    } else {
+        Profile::First
+    }
+}
+
+/// Whether the text of a tree is read as other tools write it, too.
 pub fn is_wide(form: &Form) -> bool
     ensures { result ≡ is_wide form.now }
 {
-    is_same(form.profile.items(), b"2")
+    is_second(form)
 }
 
 /// Whether merged gates are asked for.
@@ -98,21 +118,32 @@ pub fn drawn_legend(alloc: Global, merged: bool, names: &[Word], texts: &Texts) 
 }
 
 /// The words of what is asked of a target.
-fn tree_words(alloc: Global, root: &Root, target: &Name) -> Mem<Vec<u8>>
-    ensures { IfOk result (λ words. words.items ≡ tree_words root.now target.now) }
+fn tree_words(alloc: Global, profile: Profile, root: &Root, target: &Name) -> Mem<Vec<u8>>
+    ensures { IfOk result (λ words. words.items ≡ tree_words profile root.now target.now) }
 {
     let mut words = Vec::from_slice(alloc, b"tree ")?;
     push_root(&mut words, root)?;
-    push_target(&mut words, target)?;
+    push_target(&mut words, profile, target)?;
     Ok(words)
 }
 
-/// Adds a target behind a blank.
-fn push_target(words: &mut Vec<u8>, target: &Name) -> Mem<()>
-    ensures { OnOk result (words.new.items ≡ words.old.items ++ (32 ∷ target.now)) }
+/// Adds a target behind a blank, and the words of a profile.
+fn push_target(words: &mut Vec<u8>, profile: Profile, target: &Name) -> Mem<()>
+    ensures { OnOk result (words.new.items ≡ words.old.items ++ (32 ∷ (target.now ++ profile_words profile))) }
 {
     words.push(b' ')?;
     words.extend_from_slice(target.items())?;
+    push_profile(words, profile)
+}
+
+/// Adds the words of a profile that is not the first.
+fn push_profile(words: &mut Vec<u8>, profile: Profile) -> Mem<()>
+    ensures { OnOk result (words.new.items ≡ words.old.items ++ profile_words profile) }
+{
+    match profile {
+        Profile::First => {}
+        Profile::Second => words.extend_from_slice(b" --profile 2")?,
+    }
     Ok(())
 }
 

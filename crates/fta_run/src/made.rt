@@ -18,6 +18,7 @@ use model_maker::model_text;
 use model_phases::FlatModel;
 use phases::Status;
 use plain_values::{List, Mem, Name, Root, copied};
+use profiles::Profile;
 use std::alloc::Global;
 use system_answers::{find_slice, find_target, page_writer};
 use zdd_store::Store;
@@ -39,7 +40,7 @@ fn made_model(alloc: Global, text: Name) -> Result<Held, Status>
 {
     let texts = texts_of_one(alloc, text)?;
     let root = made_root(alloc)?;
-    let model = model_of_texts(alloc, &root, texts.items())?;
+    let model = model_of_texts(alloc, Profile::First, &root, texts.items())?;
     sized(alloc, model)
 }
 

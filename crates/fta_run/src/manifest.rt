@@ -4,44 +4,72 @@ ghost use Rattle.std.specs.Prelude.{◌≡◌, ◌++◌, ◌∷◌, IfOk, OnOk};
 ghost use Rattle.std.specs.List.{flat_map};
 ghost use Rattle.page_tokens.specs.Keys.{dotted, joined, root_text};
 ghost use Rattle.file_digests.specs.Digests.{digest_lines};
-ghost use Rattle.fta_run.specs.Due.{manifest_text, root_line};
+ghost use Rattle.fta_run.specs.Due.{manifest_text, profile_line, root_line};
 
 use crate::text::numbers_of;
 use file_digests::push_digests;
 use help_texts::version_text;
 use model_phases::FlatModel;
 use plain_values::{Mem, Name, Root, Word};
+use profiles::Profile;
 use std::alloc::Global;
 
 /// Of which program and of which files, of these names and with these texts, a result on the model of a root is: the version of the
-/// program, the root, the numbers of components, facts and events, and the digest of each file.
+/// program, the root, the profile where it is not the first, the numbers of components, facts and events, and the digest of each file.
 pub fn manifest_text(
     alloc: Global,
+    profile: Profile,
     root: &Root,
     names: &[Word],
     texts: &[Name],
     model: &FlatModel,
 ) -> Mem<Vec<u8>>
-    ensures { IfOk result (λ text. text.items ≡ manifest_text root.now names.now texts.now model.now) }
+    ensures { IfOk result (λ text. text.items ≡ manifest_text profile root.now names.now texts.now model.now) }
 {
     let numbers = numbers_of(alloc, model.components, &model.system)?;
     let mut text = Vec::from_slice(alloc, version_text())?;
-    push_model(&mut text, root, numbers.as_slice(), names, texts)?;
+    push_model(&mut text, profile, root, numbers.as_slice(), names, texts)?;
     Ok(text)
 }
 
-/// Adds the line of a root, the lines of numbers, and the digest of each file.
+/// Adds the line of a root and that of a profile, the lines of numbers, and the digest of each file.
 fn push_model(
     text: &mut Vec<u8>,
+    profile: Profile,
     root: &Root,
     numbers: &[u8],
     names: &[Word],
     texts: &[Name],
 ) -> Mem<()>
-    ensures { OnOk result (text.new.items ≡ text.old.items ++ (root_line root.now ++ (numbers.now ++ digest_lines names.now texts.now))) }
+    ensures { OnOk result (text.new.items ≡ text.old.items ++ (root_line root.now ++ (profile_line profile ++ (numbers.now ++ digest_lines names.now texts.now)))) }
 {
     push_root_line(text, root)?;
+    push_numbers(text, profile, numbers, names, texts)
+}
+
+/// Adds the line of a profile, the lines of numbers, and the digest of each file.
+fn push_numbers(
+    text: &mut Vec<u8>,
+    profile: Profile,
+    numbers: &[u8],
+    names: &[Word],
+    texts: &[Name],
+) -> Mem<()>
+    ensures { OnOk result (text.new.items ≡ text.old.items ++ (profile_line profile ++ (numbers.now ++ digest_lines names.now texts.now))) }
+{
+    push_profile_line(text, profile)?;
     push_files(text, numbers, names, texts)
+}
+
+/// Adds the line of a profile that is not the first.
+fn push_profile_line(text: &mut Vec<u8>, profile: Profile) -> Mem<()>
+    ensures { OnOk result (text.new.items ≡ text.old.items ++ profile_line profile) }
+{
+    match profile {
+        Profile::First => {}
+        Profile::Second => text.extend_from_slice(b"by profile 2\n")?,
+    }
+    Ok(())
 }
 
 /// Adds the lines of numbers, and the digest of each file.

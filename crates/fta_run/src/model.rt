@@ -22,34 +22,36 @@ use plain_values::{List, Name, Root};
 use profiles::Profile;
 use std::alloc::Global;
 
-/// What is made of the model of the root in files of these texts.
+/// What is made of the model of the root in files of these texts, read by a profile.
 pub fn model_of_texts<M: FromAssembly>(
     alloc: Global,
+    profile: Profile,
     root: &Root,
     texts: &[Name],
 ) -> Result<M, Status>
     requires few { length texts.now ≤ most_files }
     requires short { All (λ text. length text ≤ most_bytes) texts.now }
-    ensures { Meets (made_of_texts M.phase root.now texts.now) result }
+    ensures { Meets (made_of_texts M.phase profile root.now texts.now) result }
 {
     let mut refusals = Refusals::new(alloc);
-    told_model(alloc, root, texts, &mut refusals)
+    told_model(alloc, profile, root, texts, &mut refusals)
 }
 
 /// The same; the refusals of the group that refuses are noted, in place of what was noted before.
 pub(crate) fn told_model<M: FromAssembly>(
     alloc: Global,
+    profile: Profile,
     root: &Root,
     texts: &[Name],
     refusals: &mut Refusals,
 ) -> Result<M, Status>
     requires few { length texts.now ≤ most_files }
     requires short { All (λ text. length text ≤ most_bytes) texts.now }
-    ensures made { Meets (made_of_texts M.phase root.now texts.now) result }
-    ensures told { IfErr result (OnRefusal (ListsFiles (units_of texts.now) root.now refusals.new)) }
+    ensures made { Meets (made_of_texts M.phase profile root.now texts.now) result }
+    ensures told { IfErr result (OnRefusal (ListsFiles (units_of texts.now) profile root.now refusals.new)) }
 {
     let files = told_units(alloc, texts, refusals)?;
-    model_of_units(alloc, root, &files, refusals)
+    model_of_units(alloc, profile, root, &files, refusals)
 }
 
 /// The units of each text. A refusal is noted, in place of what was noted before.
@@ -69,19 +71,20 @@ fn told_units(
     }
 }
 
-/// What is made of the model of the root in these files, in which nothing is declared again.
+/// What is made of the model of the root in these files, read by a profile, in which nothing is declared again.
 fn model_of_units<M: FromAssembly>(
     alloc: Global,
+    profile: Profile,
     root: &Root,
     files: &List<List<Unit>>,
     refusals: &mut Refusals,
 ) -> Result<M, Status>
-    ensures made { Meets (made_of_units M.phase root.now files.now) result }
-    ensures told { IfErr result (ToldOf (units_group root.now files.now) refusals.new) }
+    ensures made { Meets (made_of_units M.phase profile root.now files.now) result }
+    ensures told { IfErr result (ToldOf (units_group profile root.now files.now) refusals.new) }
 {
     let index = Index::new(alloc, files.items(), refusals)?;
     let id = told_root(&index, root, refusals)?;
-    assembled(alloc, Profile::First, &index, id, refusals)
+    assembled(alloc, profile, &index, id, refusals)
 }
 
 /// The classifier that a root names. Its refusal is noted, in place of what was noted before.

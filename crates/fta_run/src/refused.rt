@@ -10,22 +10,24 @@ use model_phases::FlatModel;
 use noted_refusals::Refusals;
 use phases::Status;
 use plain_values::{Mem, Name, Root, Word};
+use profiles::Profile;
 use refusal_lines::{MOST_REFUSALS, group_text};
 use std::alloc::{AllocError, Global};
 
 /// What is refused of the model of a root in files of these names and texts: the refusals of the group of which the first is the verdict.
 pub(crate) fn refusals_text(
     alloc: Global,
+    profile: Profile,
     root: &Root,
     files: &[Word],
     texts: &[Name],
 ) -> Mem<Vec<u8>>
     requires few { length texts.now ≤ most_files }
     requires short { All (λ text. length text ≤ most_bytes) texts.now }
-    ensures { IfOk result (λ text. TellsRefusals (model_of_texts root.now texts.now) (units_of texts.now) root.now files.now texts.now text.items) }
+    ensures { IfOk result (λ text. TellsRefusals (model_of_texts profile root.now texts.now) (units_of texts.now) profile root.now files.now texts.now text.items) }
 {
     let mut refusals = Refusals::with_room(alloc, MOST_REFUSALS)?;
-    let tested: Result<FlatModel, Status> = told_model(alloc, root, texts, &mut refusals);
+    let tested: Result<FlatModel, Status> = told_model(alloc, profile, root, texts, &mut refusals);
     match tested {
         Ok(_) => Vec::from_slice(alloc, b"end\n"),
         Err(Status::Refused(refusal)) => group_text(alloc, files, texts, &refusal, &refusals),

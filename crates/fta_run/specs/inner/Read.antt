@@ -3,6 +3,7 @@ use Rattle.std.specs.Prelude.{ℕ, List}
 use Rattle.plain_values.specs.declared.name.Root.{Root}
 use Rattle.aadl_syntax.specs.declared.core_model.Unit.{Unit as FileUnit}
 use Rattle.phases.specs.Phases.{Phase, tests, ◌>>=◌}
+use Rattle.profiles.specs.declared.profile.Profile.{Profile}
 use Rattle.model_phases.specs.declared.flat.FlatModel.{FlatModel}
 use Rattle.fta_run.specs.Due.{model_of_texts, units_of, within_limits}
 use Rattle.fta_run.specs.Files.{NamesTooMany}
@@ -19,8 +20,8 @@ units_read texts = do
   few ← few_texts texts
   units_of few
 
--- the model of the root in the files of such texts, as a system
-abbrev pub model_read : Root → List (List ℕ) → Phase FlatModel
-model_read root texts = do
+-- the model of the root in the files of such texts, read by a profile, as a system
+abbrev pub model_read : Profile → Root → List (List ℕ) → Phase FlatModel
+model_read profile root texts = do
   few ← few_texts texts
-  model_of_texts root few
+  model_of_texts profile root few

@@ -16,7 +16,7 @@ cuts-requires c = model_token_names c.in_ok-model.model c.in_ok-model.ensures.pl
 pub returns-in_err-page : goal.returns-in_err-page
 returns-in_err-page c =
     let paging = c.args.paging.now in
-    let asked = asked_digits c.args.tokens paging.after c.args.root.now c.args.target.now paging.max_order in
+    let asked = asked_digits c.args.tokens paging.after c.args.profile c.args.root.now c.args.target.now paging.max_order in
     let key = c.asked_digest-key.ensures ∙ ap asked c.items.ensures.items in
     let status = c.in_err-page.field-0.0 in
     let its = subst (λ digits. Stops (cuts_text c.args.target.now paging c.args.tokens digits c.in_ok-model.model.system) status ⊎ IsMemory status) key c.in_err-page.ensures in
@@ -25,6 +25,6 @@ returns-in_err-page c =
 pub returns : goal.returns
 returns c =
     let paging = c.args.paging.now in
-    let asked = asked_digits c.args.tokens paging.after c.args.root.now c.args.target.now paging.max_order in
+    let asked = asked_digits c.args.tokens paging.after c.args.profile c.args.root.now c.args.target.now paging.max_order in
     let key = c.asked_digest-key.ensures ∙ ap asked c.items.ensures.items in
     c.in_ok-model.ensures.meets passes subst (λ digits. Passes (cuts_text c.args.target.now paging c.args.tokens digits c.in_ok-model.model.system) c.in_ok-page.page) key c.in_ok-page.ensures

@@ -8,4 +8,4 @@ returns-in_err-model c = exits _ _ _ _ _ c.from_residual.ensures.1 (ends c.in_er
 
 pub returns : goal.returns
 returns c =
-    c.in_ok-model.ensures passes record { passed = c.in_ok-text.ensures ∙ ap (λ (l : List (List ℕ)). manifest_text c.args.root.now c.args.names.now l c.in_ok-model.model) c.items.ensures.items }
+    c.in_ok-model.ensures passes record { passed = c.in_ok-text.ensures ∙ ap (λ (l : List (List ℕ)). manifest_text c.args.profile c.args.root.now c.args.names.now l c.in_ok-model.model) c.items.ensures.items }

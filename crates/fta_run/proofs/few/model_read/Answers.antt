@@ -8,4 +8,4 @@ pub returns-in_err-check_few : goal.returns-in_err-check_few
 returns-in_err-check_few c = exits _ _ _ _ _ c.from_residual.ensures.1 (ends c.in_err-check_few.ensures.tested)
 
 pub returns : goal.returns
-returns c = meets_later IsMemory (λ made. made) (few_texts c.args.texts.now) (model_of_texts c.args.root.now) c.args.texts.now c.model_of_texts.result (λ s memory. memory) c.in_ok-check_few.ensures.tested c.model_of_texts.ensures
+returns c = meets_later IsMemory (λ made. made) (few_texts c.args.texts.now) (model_of_texts c.args.profile c.args.root.now) c.args.texts.now c.model_of_texts.result (λ s memory. memory) c.in_ok-check_few.ensures.tested c.model_of_texts.ensures

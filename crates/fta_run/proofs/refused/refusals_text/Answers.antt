@@ -11,4 +11,4 @@ returns-in-Err-Refused c =
     let tested = c.told_model-tested.result in
     let refusal = c.in-Err-Refused.refusal in
     let same : c.in-Err-Refused.field-0 ≡ Refused refusal = rw c.in-Err-Refused.is at c.in-Err-Refused.field-0-is in
-    tested_tells (λ text. text.items) (model_of_texts root texts) (units_of texts) root c.args.files.now texts tested refusal c.told_model-tested.new.refusals c.group_text.result (c.in-Err-Refused.is ∙ ap Err same) c.told_model-tested.ensures.made c.told_model-tested.ensures.told c.group_text.ensures
+    tested_tells (λ text. text.items) (model_of_texts c.args.profile root texts) (units_of texts) c.args.profile root c.args.files.now texts tested refusal c.told_model-tested.new.refusals c.group_text.result (c.in-Err-Refused.is ∙ ap Err same) c.told_model-tested.ensures.made c.told_model-tested.ensures.told c.group_text.ensures

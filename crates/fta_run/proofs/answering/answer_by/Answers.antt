@@ -3,7 +3,7 @@ use Rattle.system_answers.specs.Voices.{voices_of}
 use Rattle.system_answers.proofs.Reported.{all_kept}
 use Rattle.fta_run.specs.Due.{cuts_in, first_text, fmea_in, make_text, probability_in, sets_of_tree, targets_in}
 use Rattle.fta_run.proofs.Ran.{held_is, meets_set, meets_wider, ready_held, ready_set, ready_told, told_as}
-use Rattle.fta_run.proofs.answering.answer_in.Goals as goal
+use Rattle.fta_run.proofs.answering.answer_by.Goals as goal
 
 pub returns-in-Check-clause-text : goal.returns-in-Check-clause-text
 returns-in-Check-clause-text g c = rw c.in-Check.is (ready_held _ _ c.check.result c.ready_of.result c.ready_of.ensures (λ s memory. inl memory) c.check.ensures)
@@ -17,7 +17,7 @@ returns-in-Check-clause-reports g c = all_kept (λ b. (goal.Report-dyn g (b.vtab
 pub returns-in-Cuts-clause-text : goal.returns-in-Cuts-clause-text
 returns-in-Cuts-clause-text g c =
     let asked = c.args.asked.now in
-    rw c.in-Cuts.is (ready_set _ (λ flag. cuts_in asked.root asked.target asked.options.paging flag c.args.texts) c.is_set.result _ c.cuts.result c.ready_of-in-Cuts.result c.is_set.ensures c.ready_of-in-Cuts.ensures (λ s memory. inl memory) c.cuts.ensures)
+    rw c.in-Cuts.is (ready_set _ (λ flag. cuts_in c.args.profile asked.root asked.target asked.options.paging flag c.args.texts) c.is_set.result _ c.cuts.result c.ready_of-in-Cuts.result c.is_set.ensures c.ready_of-in-Cuts.ensures (λ s memory. inl memory) c.cuts.ensures)
 
 pub returns-in-Cuts-clause-by_lines : goal.returns-in-Cuts-clause-by_lines
 returns-in-Cuts-clause-by_lines g c = held_is _ c.cuts.result c.ready_of-in-Cuts.result c.ready_of-in-Cuts.ensures
@@ -72,7 +72,7 @@ returns-in-Confirm-clause-reports g c = all_kept (λ b. (goal.Report-dyn g (b.vt
 pub returns-in-Targets-clause-text : goal.returns-in-Targets-clause-text
 returns-in-Targets-clause-text g c =
     let asked = c.args.asked.now in
-    rw c.in-Targets.is (ready_set _ (λ flag. targets_in asked.root flag c.args.texts) c.is_set-in-Targets.result _ c.targets.result c.ready_of-in-Targets.result c.is_set-in-Targets.ensures c.ready_of-in-Targets.ensures (λ s memory. inl memory) c.targets.ensures)
+    rw c.in-Targets.is (ready_set _ (λ flag. targets_in c.args.profile asked.root flag c.args.texts) c.is_set-in-Targets.result _ c.targets.result c.ready_of-in-Targets.result c.is_set-in-Targets.ensures c.ready_of-in-Targets.ensures (λ s memory. inl memory) c.targets.ensures)
 
 pub returns-in-Targets-clause-by_lines : goal.returns-in-Targets-clause-by_lines
 returns-in-Targets-clause-by_lines g c = held_is _ c.targets.result c.ready_of-in-Targets.result c.ready_of-in-Targets.ensures
@@ -119,7 +119,7 @@ returns-in-Refusals-clause-reports g c = all_kept (λ b. (goal.Report-dyn g (b.v
 pub returns-in-Probability-clause-text : goal.returns-in-Probability-clause-text
 returns-in-Probability-clause-text g c =
     let asked = c.args.asked.now in
-    rw c.in-Probability.is (ready_set _ (λ flag. probability_in asked.root asked.target asked.options.hours flag c.args.texts) c.is_set-in-Probability.result _ c.probability.result c.ready_of-in-Probability.result c.is_set-in-Probability.ensures c.ready_of-in-Probability.ensures (λ s memory. inl memory) c.probability.ensures)
+    rw c.in-Probability.is (ready_set _ (λ flag. probability_in c.args.profile asked.root asked.target asked.options.hours flag c.args.texts) c.is_set-in-Probability.result _ c.probability.result c.ready_of-in-Probability.result c.is_set-in-Probability.ensures c.ready_of-in-Probability.ensures (λ s memory. inl memory) c.probability.ensures)
 
 pub returns-in-Probability-clause-by_lines : goal.returns-in-Probability-clause-by_lines
 returns-in-Probability-clause-by_lines g c = held_is _ c.probability.result c.ready_of-in-Probability.result c.ready_of-in-Probability.ensures
@@ -154,7 +154,7 @@ returns-in-Tree-clause-reports g c = all_kept (λ b. (goal.Report-dyn g (b.vtabl
 pub returns-in-Fmea-clause-text : goal.returns-in-Fmea-clause-text
 returns-in-Fmea-clause-text g c =
     let asked = c.args.asked.now in
-    rw c.in-Fmea.is (meets_set _ _ (λ flag. fmea_in asked.root flag c.args.texts) c.is_set-in-Fmea.result _ c.fmea.result c.is_set-in-Fmea.ensures (λ s memory. inl memory) c.fmea.ensures)
+    rw c.in-Fmea.is (meets_set _ _ (λ flag. fmea_in c.args.profile asked.root flag c.args.texts) c.is_set-in-Fmea.result _ c.fmea.result c.is_set-in-Fmea.ensures (λ s memory. inl memory) c.fmea.ensures)
 
 pub returns-in-Fmea-clause-reports : goal.returns-in-Fmea-clause-reports
 returns-in-Fmea-clause-reports g c = all_kept (λ b. (goal.Report-dyn g (b.vtable, b.value)).text b.value) (λ b. (goal.Report-dyn g (b.vtable, b.value)).label b.value) (λ b. (goal.Report-dyn g (b.vtable, b.value)).report_faults b.value) _ c.args.reports.now.items
@@ -170,7 +170,7 @@ returns-in-Report-clause-text g c =
     let asked = c.args.asked.now in
     let voices = voices_of (λ b. (goal.Report-dyn g (b.vtable, b.value)).label b.value) (λ b. (goal.Report-dyn g (b.vtable, b.value)).text b.value) c.args.reports.now.items in
     rw c.in-Report.is (ready_told _ _ c.report.result c.ready_of-in-Report.result c.ready_of-in-Report.ensures
-    (told_as _ asked.root asked.target asked.options.paging.max_order voices c.args.texts c.report.result c.items.result.now asked.options.chosen c.items.ensures.items c.report.ensures.text))
+    (told_as _ c.args.profile asked.root asked.target asked.options.paging.max_order voices c.args.texts c.report.result c.items.result.now asked.options.chosen c.items.ensures.items c.report.ensures.text))
 
 pub returns-in-Report-clause-by_lines : goal.returns-in-Report-clause-by_lines
 returns-in-Report-clause-by_lines g c = held_is _ c.report.result c.ready_of-in-Report.result c.ready_of-in-Report.ensures
