@@ -1,3 +1,2 @@
 mod Choices
-mod Ended
 mod Fronts

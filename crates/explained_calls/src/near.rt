@@ -6,6 +6,7 @@ ghost use Rattle.package_index.specs.Lookup.{package_of};
 ghost use Rattle.page_tokens.specs.Keys.{dotted, joined};
 ghost use Rattle.near_names.specs.inner.Near.{near_text};
 ghost use Rattle.fta_words.specs.inner.Shown.{request_shown};
+ghost use Rattle.fta_run.specs.Forms.{profile_of};
 ghost use Rattle.fta_run.specs.inner.Read.{model_read, units_read};
 ghost use Rattle.explained_calls.specs.inner.Texts.{IsNear, IsNearAt, IsNearOf, IsToldOf, classifier_name, classifier_names, model_texts, name_at, names_in, near_events, near_facts, near_roots, package_before, token_of};
 
@@ -115,9 +116,9 @@ fn near_root(alloc: Global, call: &[Word], texts: &[Name]) -> Mem<Vec<u8>>
 
 /// The lines of the facts that are nearest to the target of a call.
 fn near_target(alloc: Global, asked: &Request<'_>, texts: &[Name]) -> Mem<Vec<u8>>
-    ensures { IfOk result (λ near. IsToldOf (model_read asked.now.root texts.now) (near_facts asked.now.target) near.items) }
+    ensures { IfOk result (λ near. IsToldOf (model_read (profile_of asked.now.options.form) asked.now.root texts.now) (near_facts asked.now.target) near.items) }
 {
-    match model_read(alloc, &asked.root, texts) {
+    match model_read(alloc, &asked.options.form, &asked.root, texts) {
         Ok(model) => near_facts(alloc, asked.target.items(), &model),
         Err(Status::Memory) => Err(AllocError),
         Err(_) => Ok(Vec::new(alloc)),
@@ -126,10 +127,10 @@ fn near_target(alloc: Global, asked: &Request<'_>, texts: &[Name]) -> Mem<Vec<u8
 
 /// The lines of the events that are nearest to the text of a set.
 fn near_token(alloc: Global, asked: &Request<'_>, texts: &[Name]) -> Mem<Vec<u8>>
-    ensures { IfOk result (λ near. IsToldOf (model_read asked.now.root texts.now) (near_events (token_of asked.now.options)) near.items) }
+    ensures { IfOk result (λ near. IsToldOf (model_read (profile_of asked.now.options.form) asked.now.root texts.now) (near_events (token_of asked.now.options)) near.items) }
 {
     let token = token_of(alloc, &asked.options)?;
-    match model_read(alloc, &asked.root, texts) {
+    match model_read(alloc, &asked.options.form, &asked.root, texts) {
         Ok(model) => near_events(alloc, token.as_slice(), &model),
         Err(Status::Memory) => Err(AllocError),
         Err(_) => Ok(Vec::new(alloc)),

@@ -3,11 +3,11 @@
 ghost use Rattle.std.specs.Prelude.{◌≡◌, ◌++◌, Some, OnOk, codes};
 ghost use Rattle.near_names.specs.inner.Near.{near_line};
 ghost use Rattle.fta_words.specs.Table.{shape_of};
-ghost use Rattle.help_texts.specs.inner.Usage.{behind_dash, name_in};
+ghost use Rattle.help_texts.specs.inner.Usage.{name_in};
 ghost use Rattle.explained_calls.specs.inner.Unplaced.{has_dashes, has_no_value, has_sign, is_full, is_known, is_written, known_text, no_place, one_less, option_place, places_of, places_text, room_behind, room_of, stands_again, topic_of, topic_text, unplaced, wants_value, word_place};
 
 use fta_words::{Kind, flags_of, is_among, is_option, kind_named, valued_of};
-use help_texts::{before_sign, push_usage};
+use help_texts::{name_in, push_usage};
 use plain_values::{Mem, Word, is_same};
 use std::alloc::Global;
 
@@ -256,21 +256,4 @@ pub(crate) fn has_sign(sign: u8, text: &[u8]) -> bool
     ensures { result ≡ has_sign sign text.now }
 {
     text.iter().any(|byte| *byte == sign)
-}
-
-/// The name that a word has which begins with `-`.
-fn name_in(word: &[u8]) -> &[u8]
-    ensures { result.now ≡ name_in word.now }
-{
-    before_sign(b'=', behind_dash(behind_dash(word)))
-}
-
-/// A text without a first `-`.
-fn behind_dash(text: &[u8]) -> &[u8]
-    ensures { result.now ≡ behind_dash text.now }
-{
-    match text.split_first() {
-        Some((byte, rest)) if *byte == b'-' => rest,
-        _ => text,
-    }
 }

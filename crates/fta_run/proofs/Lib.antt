@@ -7,7 +7,7 @@ mod Grammars
 mod Models
 mod OneDue
 mod Ran
-mod Read
+pub mod Read
 mod Chosen
 mod Below
 mod DerivationLaws

@@ -563,6 +563,10 @@ pub told_as : (RoseThere : ℕ → Type 0) (profile : Profile) (root : Root) (ta
 told_as RoseThere profile root target max_order voices texts result a b same met =
     subst (λ (chosen : List ℕ). MeetsBut (EndsReports chosen RoseThere (report_in profile root target chosen max_order voices texts)) held_text (report_in profile root target chosen max_order voices texts) result) same met
 
+-- the profile is the same
+pub by_profile : (Excuse : Phase (List ℕ) → Status → Type 0) (phase : Profile → Phase (List ℕ)) (result : Result Ready Status) (a b : Profile) → a ≡ b → MeetsBut (Excuse (phase a)) ready_text (phase a) result → MeetsBut (Excuse (phase b)) ready_text (phase b) result
+by_profile Excuse phase result a b same met = subst (λ profile. MeetsBut (Excuse (phase profile)) ready_text (phase profile) result) same met
+
 -- more is excused
 pub meets_wider : {A B : Type 0} (Excuse Wider : Status → Type 0) (value : B → A) (phase : Phase A) (result : Result B Status) → ((s : Status) → Excuse s → Wider s) → MeetsBut Excuse value phase result → MeetsBut Wider value phase result
 meets_wider Excuse Wider value phase (Ok x) wider met = met

@@ -4,15 +4,17 @@ ghost use Rattle.std.specs.Prelude.{◌≤◌, All, IfOk, length};
 ghost use Rattle.phases.specs.inner.Meets.{IsMemory, Meets, MeetsBut};
 ghost use Rattle.fta_run.specs.Due.{within_limits};
 ghost use Rattle.fta_run.specs.Files.{most_bytes, most_files};
+ghost use Rattle.fta_run.specs.Forms.{profile_of};
 ghost use Rattle.fta_run.specs.inner.Read.{few_texts, model_read, units_read};
 
+use crate::forms::profile_of;
 use crate::input::{MOST_FILES, check_each, check_total, units_of_texts};
 use crate::model::model_of_texts;
 use aadl_syntax::Unit;
+use fta_words::Form;
 use model_phases::FlatModel;
 use phases::Status;
 use plain_values::{Code, List, Name, Refusal, Root};
-use profiles::Profile;
 use std::alloc::Global;
 
 /// The units of the files of these texts, which may be too many or too long.
@@ -23,17 +25,17 @@ pub fn units_read(alloc: Global, texts: &[Name]) -> Result<List<List<Unit>>, Sta
     units_of_texts(alloc, texts)
 }
 
-/// The model of a root in the files of these texts, which may be too many or too long, read by a profile, as a system.
+/// The model of a root in the files of these texts, which may be too many or too long, read by the profile that options say, as a system.
 pub fn model_read(
     alloc: Global,
-    profile: Profile,
+    form: &Form,
     root: &Root,
     texts: &[Name],
 ) -> Result<FlatModel, Status>
-    ensures { Meets (model_read profile root.now texts.now) result }
+    ensures { Meets (model_read (profile_of form.now) root.now texts.now) result }
 {
     check_few(texts)?;
-    model_of_texts(alloc, profile, root, texts)
+    model_of_texts(alloc, profile_of(form), root, texts)
 }
 
 /// Refuses texts that are too many, or too long.

@@ -9,4 +9,4 @@ mod usage;
 
 pub use explained::{codes_are_explained, explain_text};
 pub use texts::{help_text, program_text, version_text};
-pub use usage::{before_sign, push_usage};
+pub use usage::{before_sign, name_in, push_usage};

@@ -110,7 +110,7 @@ fn options_of(alloc: Global, kind: Kind) -> Mem<Vec<&'static [u8]>>
 }
 
 /// The name that a word has which begins with `-`.
-fn name_in(word: &[u8]) -> &[u8]
+pub fn name_in(word: &[u8]) -> &[u8]
     ensures { result.now ≡ name_in word.now }
 {
     before_sign(b'=', behind_dash(behind_dash(word)))

@@ -30,6 +30,7 @@ use Rattle.fta_words.specs.declared.kind.Kind.TheVariants as kind
 use Rattle.model_phases.specs.declared.flat.FlatModel.{FlatModel}
 use Rattle.fta_run.specs.Line.{status_line}
 use Rattle.fta_run.specs.Words.{IsRequest, Request}
+use Rattle.fta_run.specs.Forms.{profile_of}
 use Rattle.fta_run.specs.inner.Read.{model_read, units_read}
 use Rattle.explained_calls.specs.inner.Unplaced.{has_sign, places_text}
 
@@ -151,8 +152,8 @@ IsToldOf {A} phase tell text = ((value : A) × Passes phase value × (text ≡ t
 abbrev pub IsNearOf : List (List ℕ) → Request → List (List ℕ) → Code → List ℕ → Type 0
 IsNearOf call asked texts UnknownPackage near = IsToldOf (units_read (model_texts asked.kind texts)) (near_roots call) near
 IsNearOf call asked texts UnknownClassifier near = IsToldOf (units_read (model_texts asked.kind texts)) (near_roots call) near
-IsNearOf call asked texts UnknownTarget near = IsToldOf (model_read asked.root (model_texts asked.kind texts)) (near_facts asked.target) near
-IsNearOf call asked texts BadToken near = IsToldOf (model_read asked.root (model_texts asked.kind texts)) (near_events (token_of asked.options)) near
+IsNearOf call asked texts UnknownTarget near = IsToldOf (model_read (profile_of asked.options.form) asked.root (model_texts asked.kind texts)) (near_facts asked.target) near
+IsNearOf call asked texts BadToken near = IsToldOf (model_read (profile_of asked.options.form) asked.root (model_texts asked.kind texts)) (near_events (token_of asked.options)) near
 IsNearOf call asked texts _ near = near ≡ []
 
 -- The same of a refusal at a byte of a file, where this name stands.

@@ -5,7 +5,7 @@ use Rattle.cut_reports.specs.Feeding.{RoseAt}
 use Rattle.fta_outside.specs.Outside.{Took, TookPrefix}
 use Rattle.fta_run.specs.Line.{status_line}
 use Rattle.fta_run.specs.Words.{file_words}
-use Rattle.explained_calls.proofs.Ended.{none_failed}
+use Rattle.fta_run.proofs.Read.{none_failed}
 use Rattle.explained_calls.proofs.call.explain.Goals as goal
 
 pub returns-in-Ok-clause-told : goal.returns-in-Ok-clause-told
