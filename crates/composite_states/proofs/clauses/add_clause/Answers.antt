@@ -19,11 +19,11 @@ returns-clause-noted g c =
     let setting : c.place.inside.setting ≡ place.setting = ap (λ p. p.setting) c.place.view_is in
     let same : c.condition_of.new.reading.types ≡ table = c.in_ok-condition.ensures.kept in
     let initial = c.args.around.now.states.now.initial in
-    let profile : c.profile.result ≡ table.profile = c.profile.ensures ∙ ap (λ types. types.profile) (c.in_ok-held.ensures.kept ∙ same) in
+    let profile : c.profile-profile.result ≡ table.profile = c.profile-profile.ensures ∙ ap (λ types. types.profile) (c.in_ok-held.ensures.kept ∙ same) in
     let noted = noted-three c.args.reading.now.refusals c.condition_of.new.reading.refusals c.refer.new.reading.refusals (perhaps_refusals below place.setting table composite.condition) (state_refusals_in table place.setting composite.target)
     c.in_ok-condition.ensures.noted
     (c.in_ok-held.ensures.noted ∙ (λ i. noting c.condition_of.new.reading.refusals (state_refusals_in (same i) (setting i) composite.target)))
     c.note_others.new.refusals (others_refusals table.profile place.setting.states initial composite)
     (c.note_others.ensures
-    ∙ (λ i. noting c.refer.new.reading.refusals (refused_so (is_first (profile i) && (is_none composite.condition && is_not_initial (c.items.ensures.items i) ((c.place-target.ensures ∙ ap (λ each. place_of_sort each.states composite.target.name) setting) i))) Others composite.spot))) in
+    ∙ (λ i. noting c.refer.new.reading.refusals (refused_so (is_first (profile i) && (is_none composite.condition && is_not_initial (c.items-initial.ensures.items i) ((c.place-target.ensures ∙ ap (λ each. place_of_sort each.states composite.target.name) setting) i))) Others composite.spot))) in
     on_ok_weaker _ (λ _. noted) c.add_meaning.ensures
