@@ -10,7 +10,7 @@ returns-clause-noted c =
     let words = c.args.words.now in
     let texts = c.args.texts.now in
     let behavior = c.args.effective.now.behavior in
-    let same : c.profile.result ≡ table.profile = c.profile.ensures ∙ ap (λ types. types.profile) c.in_ok-steps.ensures.kept in
+    let same : c.profile-profile.result ≡ table.profile = c.profile-profile.ensures ∙ ap (λ types. types.profile) c.in_ok-steps.ensures.kept in
     noted-three c.args.reading.now.refusals c.machine_steps.new.reading.refusals c.note_clause_events.new.refusals (machine_refusals table words texts c.args.machine.now) (clause_event_refusals table.profile behavior.events) c.in_ok-steps.ensures.noted
     (c.note_clause_events.ensures ∙ (λ i. noting c.machine_steps.new.reading.refusals (clause_event_refusals (same i) (c.items.ensures.items i))))
     c.add_clause_steps.new.reading.refusals (clause_transition_refusals table words texts behavior.transitions)

@@ -12,7 +12,7 @@ invariant_of-result c =
         parts = c.in_ok-parts.ensures;
         states =
             c.in_ok-states.ensures.states ∙ (λ i. map (states_of (c.requires.table i)) (c.requires.machines i)) ∙ maps (kind_machine packages) (states_of (table_of c.args.types.now.profile packages)) c.args.instance.now.kinds
-            ∙ ap (λ profile. map (kind_states profile packages) c.args.instance.now.kinds) (sym c.profile.ensures);
+            ∙ ap (λ profile. map (kind_states profile packages) c.args.instance.now.kinds) (sym c.profile-profile.ensures);
       },
       c.new.ensures,
     )
