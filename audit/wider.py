@@ -2,6 +2,10 @@
 
 A model of a seed has both parts, one of them, or none; then it is plain, and means the same by
 both profiles. Most names are right, and a few models have a wrong one.
+
+Each text can be written another way that means the same: `K orless (..)` as
+`0 orless (K+1 ormore (..))`, a condition as `0 orless (0 orless (..))`, and `others` as
+`0 orless` of the conditions of the other clauses.
 """
 
 import random
@@ -34,10 +38,10 @@ class Part:
 class Wider:
     """Writes one model."""
 
-    def __init__(self, seed):
-        self.random = random.Random(f"wider {seed}")
+    def __init__(self, seed, another=False):
+        self.random, self.another = random.Random(f"wider {seed}"), another
         self.pick = self.random.choice
-        self.conditions = seed % 4 in (0, 2)
+        self.conditions = has_conditions(seed)
         self.bindings = seed % 4 in (1, 2)
         self.wrong = self.pick([0] * 7 + [0.03])
         self.machines, self.leaves, self.systems = [], [], []
@@ -50,6 +54,13 @@ class Wider:
 
     def condition(self, triggers, depth=0):
         """A condition over triggers, which are functions that write one."""
+        text = self.condition_text(triggers, depth)
+        if self.another and self.conditions and depth == 0:
+            return f"0 orless (0 orless ({text}))"
+        return text
+
+    def condition_text(self, triggers, depth):
+        """The text of a condition at a depth."""
         roll = self.random.random()
         if depth > 2 or roll < 0.4:
             return self.pick(triggers)()
@@ -61,6 +72,8 @@ class Wider:
             return "(" + " or ".join(parts) + ")"
         least = self.pick([0, 1, 1, 2, 2, len(parts), len(parts) + 1])
         word = "orless" if self.conditions and self.maybe(0.5) else "ormore"
+        if self.another and word == "orless":
+            return f"0 orless ({least + 1} ormore ({', '.join(parts)}))"
         return f"{least} {word} ({', '.join(parts)})"
 
     def set(self, declared, is_open=False):
@@ -306,15 +319,18 @@ class Wider:
             return ""
         triggers += [lambda t=each: "in " + t().removeprefix("in ")
                      for each in self.point_triggers(part)] * self.maybe(0.3)
-        text = ""
+        labels = self.pick([["", "", "", ""], ["", "", "k: ", "l: "]])
+        clauses, conditions = [], []
         for _ in range(self.random.randint(1, 3)):
-            label = self.pick(["", "", "k: ", "l: "])
-            text += f"{label}[{self.condition(triggers)}]-> {self.state(part.machine)};\n"
+            conditions.append(self.condition(triggers))
+            clauses.append(f"{self.pick(labels)}[{conditions[-1]}]-> {self.state(part.machine)};\n")
+        others = "others"
+        if self.another and self.conditions and "k: " not in labels:
+            others = f"0 orless ({' or '.join(f'({each})' for each in conditions)})"
         for _ in range(self.pick([0, 1, 1, 2]) if self.conditions else self.pick([0, 0, 1])):
             goal = self.state(part.machine) if self.conditions else "ok"
-            clause = f"[others]-> {goal};\n"
-            text = clause + text if self.maybe(0.3) else text + clause
-        return f"composite error behavior states\n{text}end composite;\n"
+            clauses.insert(0 if self.maybe(0.3) else len(clauses), f"[{others}]-> {goal};\n")
+        return f"composite error behavior states\n{''.join(clauses)}end composite;\n"
 
     # Bindings
 
@@ -370,11 +386,16 @@ def below(part, depth):
     return found
 
 
+def has_conditions(seed):
+    """Has the model of a seed conditions that are new?"""
+    return seed % 4 in (0, 2)
+
+
 def is_plain(seed):
     """Has the model of a seed none of the forms that are new?"""
     return seed % 4 == 3
 
 
-def model(seed):
-    """The text and the root of the model of a seed."""
-    return Wider(seed).model()
+def model(seed, another=False):
+    """The text and the root of the model of a seed, perhaps written another way."""
+    return Wider(seed, another).model()
