@@ -30,7 +30,7 @@ points_in models = map (λ model. model.points) models
 
 -- an instance with these models and its links
 abbrev pub with_links : Instance → Table → List ErrorModel → Assembly
-with_links instance types models = record { instance = instance; types = types; models = models; links = links_of instance (points_in models) }
+with_links instance types models = record { instance = instance; types = types; models = models; links = links_of types.profile instance (points_in models) }
 
 -- an instance with its models and its links
 abbrev pub of_instance : Instance → Table → Assembly

@@ -49,7 +49,7 @@ module _ (Same : Status → Status → Type 0) (itself : (status : Status) → S
     λ _ made. (
       kinds_decided profile (instance_of packages root),
       λ _ right. (
-        decided_tests Same itself (IsIt (links_refusal (instance_of packages root) (points_in (assembly_of profile packages root).models))),
+        decided_tests Same itself (IsIt (links_refusal profile (instance_of packages root) (points_in (assembly_of profile packages root).models))),
         λ _ linked. (decided_tests Same itself (IsIt (size_refusal (assembly_of profile packages root))), λ _ small. last (assembly_of profile packages root)),
       ),
     ),
@@ -95,7 +95,7 @@ assembled_stops next last profile packages root = (
   λ _ made. (
     kinds_stop profile (instance_of packages root),
     λ _ right. (
-      first_is (IsIt (links_refusal (instance_of packages root) (points_in (assembly_of profile packages root).models))),
+      first_is (IsIt (links_refusal profile (instance_of packages root) (points_in (assembly_of profile packages root).models))),
       λ _ linked. (first_is (IsIt (size_refusal (assembly_of profile packages root))), λ _ small. last (assembly_of profile packages root)),
     ),
   ),

@@ -71,10 +71,10 @@ kinds-clear profile instance pass =
     let models = none-in (models_group types instance.kinds) (models-least types instance.kinds ∙ clear-one (models_refusal types instance.kinds) pass.passed.2.2.2) in
     λ i. or_group (machines i) (or_group (few i) (or_group (sets i) (models i)))
 
-pub links-clear : (instance : Instance) (points : List (List Point)) → Passes (tests (IsIt (links_refusal instance points))) (tt {0}) → links_group instance points ≡ []
-links-clear instance points pass =
+pub links-clear : (profile : Profile) (instance : Instance) (points : List (List Point)) → Passes (tests (IsIt (links_refusal profile instance points))) (tt {0}) → links_group profile instance points ≡ []
+links-clear profile instance points pass =
     let pointed : Pointed = record { instance = instance; points = points } in
-    none-in (links_group instance points) (links-least pointed ∙ clear-one (links_refusal instance points) pass.passed)
+    none-in (links_group profile instance points) (links-least profile pointed ∙ clear-one (links_refusal profile instance points) pass.passed)
 
 -- ---- a refusal alone
 

@@ -32,4 +32,4 @@ kinds_group profile instance =
 abbrev pub root_group : Profile → List PackageUnit → ClassifierId → List Refusal
 root_group profile packages root =
     or_group (instance_group packages root)
-    (or_group (kinds_group profile (instance_of packages root)) (links_group (instance_of packages root) (points_in (assembly_of profile packages root).models)))
+    (or_group (kinds_group profile (instance_of packages root)) (links_group profile (instance_of packages root) (points_in (assembly_of profile packages root).models)))

@@ -68,7 +68,7 @@ abbrev pub assembled : {A : Type 0} → (Assembly → Phase A) → Profile → L
 assembled next profile packages root = do
   _ ← tests (IsIt (instance_refusal packages root))
   _ ← kind_tests profile (instance_of packages root)
-  _ ← tests (IsIt (links_refusal (instance_of packages root) (points_in (assembly_of profile packages root).models)))
+  _ ← tests (IsIt (links_refusal profile (instance_of packages root) (points_in (assembly_of profile packages root).models)))
   sized next (assembly_of profile packages root)
 
 -- a model as a system, and of which kind each of its events is, and where it is declared

@@ -92,7 +92,7 @@ pub fn assembled<M: FromAssembly>(
 {
     let instance = instance_at(alloc, index, root, refusals)?;
     let kinds = kinds_of(alloc, profile, &instance, refusals)?;
-    let links = links_between(alloc, &instance, &kinds, refusals)?;
+    let links = links_between(alloc, profile, &instance, &kinds, refusals)?;
     noted_made(alloc, &instance, &kinds, &links, refusals)
 }
 
@@ -110,19 +110,20 @@ fn instance_at<'i, 'a>(
     Ok(Instance::of(alloc, index, root, refusals)?)
 }
 
-/// The links of an instance whose kinds have these error models.
+/// The links of an instance whose kinds have these error models, under a profile.
 fn links_between<'a>(
     alloc: Global,
+    profile: Profile,
     instance: &Instance<'_, 'a>,
     kinds: &Kinds<'_, 'a>,
     refusals: &mut Refusals,
 ) -> Result<List<Link>, Status>
-    ensures tested { MeetsTests (tests (IsIt (links_refusal instance.now (points_in kinds.now.models)))) result }
-    ensures told { IfErr result (ToldFirst (links_group instance.now (points_in kinds.now.models)) refusals.new) }
-    ensures links { IfOk result (λ links. links ≡ links_of instance.now (points_in kinds.now.models)) }
+    ensures tested { MeetsTests (tests (IsIt (links_refusal profile instance.now (points_in kinds.now.models)))) result }
+    ensures told { IfErr result (ToldFirst (links_group profile instance.now (points_in kinds.now.models)) refusals.new) }
+    ensures links { IfOk result (λ links. links ≡ links_of profile instance.now (points_in kinds.now.models)) }
 {
     let points = points_of_models(alloc, kinds.models.items())?;
-    Ok(links_of(alloc, instance, points.items(), refusals)?)
+    Ok(links_of(alloc, profile, instance, points.items(), refusals)?)
 }
 
 /// What is made of an instance whose kinds have these error models, and which has these links. A refusal is noted, in place of what was

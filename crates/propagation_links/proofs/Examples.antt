@@ -8,10 +8,11 @@ use Rattle.plain_values.specs.declared.refusal.Code.TheVariants.{ConnectionError
 use Rattle.plain_values.specs.declared.refusal.Place.TheVariants.{At}
 use Rattle.plain_values.specs.declared.refusal.Refusal.{Refusal}
 use Rattle.plain_values.specs.Refusal.{refusal}
-use Rattle.bindings.specs.Bindings.{binding, binding_end, binding_name, binding_word, dotted_name, path, reference, references, targets}
+use Rattle.bindings.specs.Bindings.{abstract_word, binding, binding_end, binding_name, binding_word, other_word, dotted_name, path, reference, references, targets}
 use Rattle.component_extension.specs.Chain.{chain_from}
 use Rattle.grammar_rules.specs.Spans.{closes, is_even, opens}
 use Rattle.grammar_rules.specs.Tokens.{identifier, is_identifier, is_kind, is_sign, is_word, sign, word}
+use Rattle.profiles.specs.declared.profile.Profile.TheVariants.{First, Second}
 use Rattle.propagation_points.specs.declared.side.Side.TheVariants.{Absent, Declared}
 use Rattle.propagation_points.specs.Points.{Point}
 use Rattle.instantiator.specs.Components.{preorder}
@@ -28,11 +29,11 @@ use Rattle.propagation_links.proofs.Sample.{binding_section, bound_instance, bou
 abbrev device_points : List (List Point)
 device_points = [] ∷ (point_of (codes "i") (Declared (0 ∷ [])) Absent ∷ point_of (codes "o") Absent (Declared (0 ∷ [])) ∷ []) ∷ []
 
-both_ways : links_of (instance_of two_devices (id 2)) device_points ≡ link 1 1 true 2 0 false ∷ link 2 1 true 1 0 false ∷ []
+both_ways : links_of First (instance_of two_devices (id 2)) device_points ≡ link 1 1 true 2 0 false ∷ link 2 1 true 1 0 false ∷ []
 unfolding preorder effective_of chain_from
 both_ways = refl
 
-both_ways_accepted : links_refusal (instance_of two_devices (id 2)) device_points ≡ None
+both_ways_accepted : links_refusal First (instance_of two_devices (id 2)) device_points ≡ None
 unfolding preorder effective_of chain_from
 both_ways_accepted = refl
 
@@ -42,10 +43,10 @@ abbrev connection : ConnectionKind → List (List ℕ) → Bool → List (List �
 connection kind from both to = connection_of (codes "c") kind (end_at 20 from) (end_at 30 to) both
 
 abbrev links_with : Connection → List Link
-links_with c = links_of (instance_with (c ∷ []) (clause_of [])) points
+links_with c = links_of First (instance_with (c ∷ []) (clause_of [])) points
 
 abbrev refusal_with : Connection → Option Refusal
-refusal_with c = links_refusal (instance_with (c ∷ []) (clause_of [])) points
+refusal_with c = links_refusal First (instance_with (c ∷ []) (clause_of [])) points
 
 -- from the own point in, down to the device
 down : links_with (connection Plain (codes "p" ∷ []) false (codes "d" ∷ codes "i" ∷ [])) ≡ link 0 0 false 1 0 false ∷ []
@@ -119,7 +120,7 @@ three_names = refl
 -- ---- user paths
 
 abbrev path_links_with : UserPath → List Link
-path_links_with its = links_of (instance_with [] (clause_of (its ∷ []))) points
+path_links_with its = links_of First (instance_with [] (clause_of (its ∷ []))) points
 
 -- a user's path goes down as far as its names, and up to a user's point
 deep : path_links_with (path_of 40 (codes "k") (codes "w" ∷ codes "d" ∷ codes "o" ∷ []) (codes "u" ∷ [])) ≡ link 3 1 true 0 2 true ∷ []
@@ -130,12 +131,12 @@ from_user_point : path_links_with (path_of 40 (codes "k") (codes "u" ∷ []) (co
 unfolding preorder effective_of chain_from
 from_user_point = refl
 
-unknown_path : links_refusal (instance_with [] (clause_of (path_of 40 (codes "k") (codes "w" ∷ codes "d" ∷ []) (codes "u" ∷ []) ∷ []))) points ≡ Some (refusal UnknownEnd (At 0 40))
+unknown_path : links_refusal First (instance_with [] (clause_of (path_of 40 (codes "k") (codes "w" ∷ codes "d" ∷ []) (codes "u" ∷ []) ∷ []))) points ≡ Some (refusal UnknownEnd (At 0 40))
 unfolding preorder effective_of chain_from
 unknown_path = refl
 
 -- P9 at a block of connection errors
-connection_error : links_refusal (instance_with [] (record (clause_of []) { connection_errors = spot 50 ∷ [] })) points ≡ Some (refusal ConnectionError (At 0 50))
+connection_error : links_refusal First (instance_with [] (record (clause_of []) { connection_errors = spot 50 ∷ [] })) points ≡ Some (refusal ConnectionError (At 0 50))
 unfolding preorder effective_of chain_from
 connection_error = refl
 
@@ -148,16 +149,16 @@ abbrev w_d : List (List ℕ)
 w_d = codes "w" ∷ codes "d" ∷ []
 
 -- a component and its processor, both ways
-inner_alone : links_of (bound_instance [] (binding_section d d ∷ [])) bound_points ≡ link 3 0 true 3 1 false ∷ link 3 1 true 3 0 false ∷ []
-unfolding preorder effective_of chain_from binding binding_name binding_word binding_end references reference path dotted_name targets word sign identifier is_word is_sign is_identifier is_even opens closes is_kind
+inner_alone : links_of First (bound_instance [] (binding_section d d ∷ [])) bound_points ≡ link 3 0 true 3 1 false ∷ link 3 1 true 3 0 false ∷ []
+unfolding preorder effective_of chain_from binding binding_name binding_word other_word abstract_word binding_end references reference path dotted_name targets word sign identifier is_word is_sign is_identifier is_even opens closes is_kind
 inner_alone = refl
 
 -- the outermost component that binds it counts
-outer_counts : links_of (bound_instance (binding_section d w_d ∷ []) (binding_section d d ∷ [])) bound_points ≡ link 1 0 true 3 1 false ∷ link 3 1 true 1 0 false ∷ []
-unfolding preorder effective_of chain_from binding binding_name binding_word binding_end references reference path dotted_name targets word sign identifier is_word is_sign is_identifier is_even opens closes is_kind
+outer_counts : links_of First (bound_instance (binding_section d w_d ∷ []) (binding_section d d ∷ [])) bound_points ≡ link 1 0 true 3 1 false ∷ link 3 1 true 1 0 false ∷ []
+unfolding preorder effective_of chain_from binding binding_name binding_word other_word abstract_word binding_end references reference path dotted_name targets word sign identifier is_word is_sign is_identifier is_even opens closes is_kind
 outer_counts = refl
 
 -- and there the last, also where it leads nowhere
-last_counts : links_of (bound_instance (binding_section d w_d ∷ binding_section (codes "z" ∷ []) w_d ∷ []) (binding_section d d ∷ [])) bound_points ≡ []
-unfolding preorder effective_of chain_from binding binding_name binding_word binding_end references reference path dotted_name targets word sign identifier is_word is_sign is_identifier is_even opens closes is_kind
+last_counts : links_of First (bound_instance (binding_section d w_d ∷ binding_section (codes "z" ∷ []) w_d ∷ []) (binding_section d d ∷ [])) bound_points ≡ []
+unfolding preorder effective_of chain_from binding binding_name binding_word other_word abstract_word binding_end references reference path dotted_name targets word sign identifier is_word is_sign is_identifier is_even opens closes is_kind
 last_counts = refl

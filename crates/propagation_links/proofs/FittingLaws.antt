@@ -5,6 +5,7 @@ use Rattle.std.proofs.lemmas.List.{take_more}
 use Rattle.std.proofs.lemmas.List.Elements.{filter-append}
 use denote.Ref.{Bor}
 use Rattle.aadl_syntax.specs.declared.core_model.Binding.{Binding}
+use Rattle.aadl_syntax.specs.declared.core_model.BindingKind.{BindingKind}
 use Rattle.package_index.specs.Names.{is_same_name}
 use Rattle.package_index.specs.inner.Names.{names_of}
 use Rattle.package_index.specs.declared.words.Words.{Words}
@@ -27,8 +28,8 @@ last-more p xs x = ap (last_or None) (filter-append p xs (x ∷ [])) ∙ by (p x
     by true = last_or-snoc None (filter p xs) x
     by false = ap (last_or None) (append-nil (filter p xs))
 
-pub knows-more : (memory : Bool) (xs : List Binding) (x : Binding) (old new : Words → Option (Bor Binding)) → KnowsBindings memory xs old → AddsBinding memory old new x → KnowsBindings memory (xs ++ x ∷ []) new
-knows-more memory xs x old new knows adds = λ words. adds words ∙ ap (cond (binds memory (names_of words) x) (Some x)) (knows words) ∙ sym (last-more (binds memory (names_of words)) xs x)
+pub knows-more : (kind : BindingKind) (xs : List Binding) (x : Binding) (old new : Words → Option (Bor Binding)) → KnowsBindings kind xs old → AddsBinding kind old new x → KnowsBindings kind (xs ++ x ∷ []) new
+knows-more kind xs x old new knows adds = λ words. adds words ∙ ap (cond (binds kind (names_of words) x) (Some x)) (knows words) ∙ sym (last-more (binds kind (names_of words)) xs x)
 
 -- ---- targets
 
@@ -48,8 +49,8 @@ put-more old now new before after target x more had puts =
     let same : List (List ℕ) → Bool = λ one. is_same_name one (names_of words) in
     puts words ∙ ap (cond (same target) (Some x)) (had words) ∙ cond-or (list_any same before) (same target) (Some x) (held (old words)) ∙ ap (λ b. cond b (Some x) (held (old words))) (sym (more same))
 
-pub put-all : (memory : Bool) (old new : Words → Option (Bor Binding)) (targets : List (List (List ℕ))) (x : Binding) → targets ≡ x.targets → true ≡ is_of memory x → HasPut old new targets x → AddsBinding memory old new x
-put-all memory old new targets x are is had = λ words. had words ∙ (λ i. cond (is i && list_any (λ target. is_same_name target (names_of words)) (are i)) (Some x) (held (old words)))
+pub put-all : (kind : BindingKind) (old new : Words → Option (Bor Binding)) (targets : List (List (List ℕ))) (x : Binding) → targets ≡ x.targets → true ≡ is_of kind x → HasPut old new targets x → AddsBinding kind old new x
+put-all kind old new targets x are is had = λ words. had words ∙ (λ i. cond (is i && list_any (λ target. is_same_name target (names_of words)) (are i)) (Some x) (held (old words)))
 
 -- one target
 held-cond : (b : Bool) (x : Bor Binding) (other : Option (Bor Binding)) → held (cond b (Some x) other) ≡ cond b (Some x.now) (held other)

@@ -1,6 +1,8 @@
 -- Each link leads from a side that is there to a side that is there.
-use Rattle.std.proofs.Common.{ℕ, ◌+◌, ◌≡◌, Bool, true, false, cond, ◌&&◌, ◌||◌, List, [], ◌∷◌, flat_map, codes, Option, Some, None, refl}
+use Rattle.std.proofs.Common.{ℕ, ◌+◌, ◌≡◌, Bool, true, false, cond, ◌&&◌, ◌||◌, List, [], ◌∷◌, ◌++◌, flat_map, codes, Option, Some, None, refl, sym, ap}
+use Rattle.std.proofs.lemmas.List.{append-nil}
 use Rattle.std.specs.List.{AllByRecursion}
+use Rattle.aadl_syntax.specs.declared.core_model.BindingKind.{BindingKind}
 use Rattle.aadl_syntax.specs.declared.core_model.Connection.{Connection}
 use Rattle.aadl_syntax.specs.declared.core_model.Ends.{Ends}
 use Rattle.aadl_syntax.specs.declared.error_model.UserPath.{UserPath}
@@ -8,6 +10,8 @@ use Rattle.plain_values.specs.Numbered.{numbered_from}
 use Rattle.component_extension.specs.declared.effective.Effective.{Effective}
 use Rattle.component_extension.specs.Items.{Scoped}
 use Rattle.component_extension.specs.Members.{Member}
+use Rattle.profiles.specs.declared.profile.Profile.{Profile}
+use Rattle.profiles.specs.declared.profile.Profile.TheVariants.{First, Second}
 use Rattle.propagation_points.specs.Points.{Point}
 use Rattle.instantiator.specs.Components.{component_below}
 use Rattle.instantiator.specs.declared.path.Component.{Component}
@@ -17,11 +21,11 @@ use Rattle.propagation_links.specs.declared.bound.BoundTo.{BoundTo}
 use Rattle.propagation_links.specs.declared.ends.FoundEnd.{FoundEnd}
 use Rattle.propagation_links.specs.declared.link.Link.{Link}
 use Rattle.propagation_links.specs.declared.link.PointAt.{PointAt}
-use Rattle.propagation_links.specs.Bound.{all_bounds}
+use Rattle.propagation_links.specs.Bound.{all_bounds, all_carried, all_functions, all_inherited}
 use Rattle.propagation_links.specs.Ends.{Pointed, connection_end, is_access, is_there, path_end, point_of}
-use Rattle.propagation_links.specs.Links.{all_links, bound_links, bound_word, component_links, connected, connection_links, ends_of, from_side, is_apart, link_between, link_of, links_at_ends, links_both, links_in, path_links, stated_links, target_links, to_side}
-use Rattle.propagation_links.specs.inner.Links.{AllJoinSides, JoinsSides}
-use Rattle.propagation_links.specs.Stated.{Stated}
+use Rattle.propagation_links.specs.Links.{all_links, bound_links, bound_word, carried_between, carried_ends, carried_links, carried_one_way, carrier_links, component_links, connected, connection_links, connection_point, ends_of, extra_links, from_side, is_apart, link_between, link_of, links_at_ends, links_both, links_in, links_under, only_second, path_links, stated_links, target_links, to_side}
+use Rattle.propagation_links.specs.inner.Links.{AllJoinSides, JoinsSides, OnlyAddsLinks}
+use Rattle.propagation_links.specs.Stated.{Carried, Stated}
 
 module _ (pointed : Pointed) where
   abbrev Join : List Link → Type 0
@@ -68,27 +72,79 @@ module _ (pointed : Pointed) where
   join-numbered (component ∷ components) number =
       each-append (JoinsSides pointed) (component_links pointed number component) (numbered_from (component_links pointed) (number + 1) components) (join-in number (effective_in pointed.instance number)) (join-numbered components (number + 1))
 
-  join-target : (memory : Bool) (number : ℕ) (target : Option ℕ) → Join (target_links pointed memory number target)
-  join-target memory number None = tt
-  join-target memory number (Some target) = join-both true (point_of pointed false target (codes "bindings")) (point_of pointed false number (bound_word memory))
+  join-target : (kind : BindingKind) (number : ℕ) (target : Option ℕ) → Join (target_links pointed kind number target)
+  join-target kind number None = tt
+  join-target kind number (Some target) = join-both true (point_of pointed false target (codes "bindings")) (point_of pointed false number (bound_word kind))
 
-  join-stated : (memory : Bool) (number : ℕ) (stated : Option Stated) → Join (stated_links pointed memory number stated)
-  join-stated memory number None = tt
-  join-stated memory number (Some stated) =
-      let links : List (List ℕ) → List Link = λ reference. target_links pointed memory number (component_below pointed.instance.components stated.component reference) in
+  join-stated : (kind : BindingKind) (number : ℕ) (stated : Option Stated) → Join (stated_links pointed kind number stated)
+  join-stated kind number None = tt
+  join-stated kind number (Some stated) =
+      let links : List (List ℕ) → List Link = λ reference. target_links pointed kind number (component_below pointed.instance.components stated.component reference) in
       each-flat_map (JoinsSides pointed) links stated.binding.references
-      (each-all (λ (reference : List (List ℕ)). Join (links reference)) (λ reference. join-target memory number (component_below pointed.instance.components stated.component reference)) stated.binding.references)
+      (each-all (λ (reference : List (List ℕ)). Join (links reference)) (λ reference. join-target kind number (component_below pointed.instance.components stated.component reference)) stated.binding.references)
 
-  join-bound : (bound : BoundTo) → Join (bound_links pointed bound)
-  join-bound bound =
-      each-append (JoinsSides pointed) (stated_links pointed false bound.component bound.processor) (stated_links pointed true bound.component bound.memory) (join-stated false bound.component bound.processor)
-      (join-stated true bound.component bound.memory)
+  join-bounds : (bounds : List BoundTo) → Join (flat_map (bound_links pointed) bounds)
+  join-bounds bounds = each-flat_map (JoinsSides pointed) (bound_links pointed) bounds (each-all (λ (bound : BoundTo). Join (bound_links pointed bound)) (λ bound. join-stated bound.kind bound.component bound.stated) bounds)
+
+  -- ---- connections and what carries them
+
+  join-one-way : (carrier : ℕ) (from to : Option FoundEnd) → Join (carried_one_way pointed carrier from to)
+  join-one-way carrier from to =
+      let bindings = point_of pointed false carrier (codes "bindings") in
+      each-append (JoinsSides pointed) (link_of pointed bindings to) (link_of pointed bindings (connection_point pointed to) ++ link_of pointed from bindings) (join-of bindings to)
+      (each-append (JoinsSides pointed) (link_of pointed bindings (connection_point pointed to)) (link_of pointed from bindings) (join-of bindings (connection_point pointed to)) (join-of from bindings))
+
+  join-carrier : (both : Bool) (from to : Option FoundEnd) (carrier : Option ℕ) → Join (carrier_links pointed both from to carrier)
+  join-carrier both from to None = tt
+  join-carrier true from to (Some carrier) =
+      each-append (JoinsSides pointed) (carried_one_way pointed carrier from to) (carried_one_way pointed carrier to from) (join-one-way carrier from to) (join-one-way carrier to from)
+  join-carrier false from to (Some carrier) = each-append (JoinsSides pointed) (carried_one_way pointed carrier from to) [] (join-one-way carrier from to) tt
+
+  join-carriers : (stated : Stated) (both : Bool) (from to : Option FoundEnd) → Join (carried_between pointed stated both from to)
+  join-carriers stated both from to =
+      let links : List (List ℕ) → List Link = λ reference. carrier_links pointed both from to (component_below pointed.instance.components stated.component reference) in
+      each-flat_map (JoinsSides pointed) links stated.binding.references
+      (each-all (λ (reference : List (List ℕ)). Join (links reference)) (λ reference. join-carrier both from to (component_below pointed.instance.components stated.component reference)) stated.binding.references)
+
+  join-carried-ends : (stated : Stated) (number : ℕ) (access : Bool) (ends : Option Ends) → Join (carried_ends pointed stated number access ends)
+  join-carried-ends stated number access None = tt
+  join-carried-ends stated number access (Some ends) =
+      let from = connection_end pointed number access ends.from.names in
+      let to = connection_end pointed number access ends.to.names in
+      join-apart (is_apart ends) (carried_between pointed stated (ends.both || access) from to) (join-carriers stated (ends.both || access) from to)
+
+  join-carried : (carried : List Carried) → Join (flat_map (carried_links pointed) carried)
+  join-carried carried =
+      each-flat_map (JoinsSides pointed) (carried_links pointed) carried
+      (each-all (λ (one : Carried). Join (carried_links pointed one)) (λ one. join-carried-ends one.stated one.component (is_access one.connection.nearest.item.kind) (ends_of one.connection)) carried)
+
+  -- ---- all links
 
   join-all : Join (all_links pointed)
   join-all =
       let bounds = all_bounds pointed.instance in
-      each-append (JoinsSides pointed) (connected pointed) (flat_map (bound_links pointed) bounds) (join-numbered pointed.instance.components 0)
-      (each-flat_map (JoinsSides pointed) (bound_links pointed) bounds (each-all (λ (bound : BoundTo). Join (bound_links pointed bound)) join-bound bounds))
+      each-append (JoinsSides pointed) (connected pointed) (flat_map (bound_links pointed) bounds) (join-numbered pointed.instance.components 0) (join-bounds bounds)
 
-pub all-join : (instance : Instance) (points : List (List Point)) → AllJoinSides instance points
-all-join instance points = join-all (record { instance = instance; points = points })
+  join-extra : Join (extra_links pointed)
+  join-extra =
+      let inherited = all_inherited pointed.instance in
+      let functions = all_functions pointed.instance in
+      let carried = all_carried pointed.instance in
+      each-append (JoinsSides pointed) (flat_map (bound_links pointed) inherited) (flat_map (bound_links pointed) functions ++ flat_map (carried_links pointed) carried) (join-bounds inherited)
+      (each-append (JoinsSides pointed) (flat_map (bound_links pointed) functions) (flat_map (carried_links pointed) carried) (join-bounds functions) (join-carried carried))
+
+  join-second : (profile : Profile) → Join (only_second profile (extra_links pointed))
+  join-second First = tt
+  join-second Second = join-extra
+
+  join-under : (profile : Profile) → Join (links_under profile pointed)
+  join-under profile = each-append (JoinsSides pointed) (all_links pointed) (only_second profile (extra_links pointed)) join-all (join-second profile)
+
+pub all-join : (profile : Profile) (instance : Instance) (points : List (List Point)) → AllJoinSides profile instance points
+all-join profile instance points = join-under (record { instance = instance; points = points }) profile
+
+-- the second profile adds links behind those of the first
+pub only-adds : (instance : Instance) (points : List (List Point)) → OnlyAddsLinks instance points
+only-adds instance points =
+    let pointed : Pointed = record { instance = instance; points = points } in
+    ap (λ links. links ++ extra_links pointed) (sym (append-nil (all_links pointed)))

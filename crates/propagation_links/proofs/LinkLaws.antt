@@ -1,5 +1,5 @@
 -- Links and refusals, component after component.
-use Rattle.std.proofs.Common.{ℕ, ◌+◌, ◌≡◌, ◌<◌, ◌≤◌, List, [], ◌∷◌, ◌++◌, length, get_or, slice_get, sum, take, drop, flat_map, Option, Some, None, option_map, option_to_list, refl, sym, ap, ◌∙◌, subst}
+use Rattle.std.proofs.Common.{ℕ, ◌+◌, ◌≡◌, ◌<◌, ◌≤◌, List, [], ◌∷◌, ◌++◌, length, get_or, slice_get, sum, map, take, drop, flat_map, Option, Some, None, option_map, option_to_list, refl, sym, ap, ◌∙◌, subst}
 use Rattle.std.specs.Option.{option_or}
 use Rattle.std.proofs.lemmas.List.Sums.{sum_by_push}
 use Rattle.std.proofs.lemmas.List.{append_assoc, append-nil, get_or_default, take-append-drop, take_all}
@@ -11,6 +11,8 @@ use Rattle.plain_values.specs.Order.{least}
 use Rattle.noted_refusals.specs.Groups.{first_group, or_group}
 use Rattle.noted_refusals.specs.inner.Noted.{Noted, TellsFirst, alone}
 use Rattle.noted_refusals.proofs.Laws.{least-one, least-or, none-in, or-assoc, told-alone, told-here, told-next}
+use Rattle.profiles.specs.declared.profile.Profile.{Profile}
+use Rattle.profiles.specs.declared.profile.Profile.TheVariants.{First, Second}
 use Rattle.package_index.specs.declared.id.ClassifierId.{ClassifierId}
 use Rattle.plain_values.specs.Numbered.{numbered_from}
 use Rattle.package_index.proofs.Loops.{numbered-more}
@@ -18,14 +20,15 @@ use Rattle.component_extension.specs.declared.effective.Effective.{Effective}
 use Rattle.instantiator.specs.declared.path.Component.{Component}
 use Rattle.instantiator.specs.Effectives.{effective_at, effective_of, no_effective}
 use Rattle.plain_values.specs.inner.Stops.{StopsAt}
-use Rattle.instantiator.specs.Whole.{classifier_at, effective_in}
+use Rattle.instantiator.specs.Whole.{Instance, classifier_at, effective_in}
 use Rattle.propagation_links.specs.declared.bound.BoundTo.{BoundTo}
 use Rattle.propagation_links.specs.declared.link.Link.{Link}
-use Rattle.propagation_links.specs.Bound.{all_bounds}
+use Rattle.propagation_links.specs.declared.further.Further.{Further}
+use Rattle.propagation_links.specs.Bound.{all_bounds, all_carried, all_functions, all_inherited}
 use Rattle.propagation_links.specs.Ends.{Pointed}
-use Rattle.propagation_links.specs.Links.{all_links, bound_links, component_links, connected, links_in}
-use Rattle.propagation_links.specs.Refused.{component_fault, component_groups, faults_group, first_fault, limit_refusal, refusals_in}
-use Rattle.propagation_links.specs.inner.Steps.{Linked}
+use Rattle.propagation_links.specs.Links.{all_links, bound_links, carried_links, component_links, connected, extra_links, links_in, links_under, only_second}
+use Rattle.propagation_links.specs.Refused.{component_fault, component_groups, count_bound, count_carried, count_further, faults_group, first_fault, limit_refusal, refusals_in}
+use Rattle.propagation_links.specs.inner.Steps.{IsFurther, Linked}
 
 -- ---- the effective classifier of a component
 
@@ -128,43 +131,72 @@ pub accepted-all : (pointed : Pointed) (i : ℕ) → length pointed.instance.com
 accepted-all pointed i past none =
     sym (faults-least pointed) ∙ ap least (ap (λ all. first_group (numbered_from (component_groups pointed) 0 all)) (sym (take_all i pointed.instance.components past)) ∙ none)
 
+-- ---- what the second profile alone has
+
+extra-by : (profile : Profile) (pointed : Pointed)
+    → (flat_map (bound_links pointed) (only_second profile (all_inherited pointed.instance))
+    ++ (flat_map (bound_links pointed) (only_second profile (all_functions pointed.instance)) ++ flat_map (carried_links pointed) (only_second profile (all_carried pointed.instance))))
+    ≡ only_second profile (extra_links pointed)
+extra-by First pointed = refl
+extra-by Second pointed = refl
+
+further-by : (profile : Profile) (instance : Instance)
+    → (sum (map count_bound (only_second profile (all_inherited instance))) + (sum (map count_bound (only_second profile (all_functions instance))) + sum (map count_carried (only_second profile (all_carried instance)))))
+    ≡ count_further profile instance
+further-by First instance = refl
+further-by Second instance = refl
+
+-- the references of the further bindings
+pub further-counted : (profile : Profile) (instance : Instance) (further : Further) (count : ℕ) → IsFurther profile instance further
+    → count ≡ sum (map count_bound further.inherited) + (sum (map count_bound further.functions) + sum (map count_carried further.carried)) → count ≡ count_further profile instance
+further-counted profile instance further count has is =
+    is ∙ (λ i. sum (map count_bound (has.inherited i)) + (sum (map count_bound (has.functions i)) + sum (map count_carried (has.carried i)))) ∙ further-by profile instance
+
 -- ---- the limit, and then the components
 
-module _ (pointed made : Pointed) (same : made ≡ pointed) where
+module _ (profile : Profile) (pointed made : Pointed) (same : made ≡ pointed) where
   -- where there are too many, that is the refusal
-  pub limit-stops : (stop : Stop) → StopsAt (limit_refusal made) stop → StopsAt (option_or (limit_refusal pointed) (first_fault pointed)) stop
+  pub limit-stops : (stop : Stop) → StopsAt (limit_refusal profile made) stop → StopsAt (option_or (limit_refusal profile pointed) (first_fault pointed)) stop
   limit-stops Memory over = tt
-  limit-stops (Refused refusal) over = ap (λ o. option_or o (first_fault pointed)) (ap limit_refusal (sym same) ∙ over)
+  limit-stops (Refused refusal) over = ap (λ o. option_or o (first_fault pointed)) (ap (limit_refusal profile) (sym same) ∙ over)
 
-  within-limit : limit_refusal made ≡ None → first_fault made ≡ option_or (limit_refusal pointed) (first_fault pointed)
-  within-limit none = ap first_fault same ∙ ap (λ o. option_or o (first_fault pointed)) (sym (ap limit_refusal (sym same) ∙ none))
+  within-limit : limit_refusal profile made ≡ None → first_fault made ≡ option_or (limit_refusal profile pointed) (first_fault pointed)
+  within-limit none = ap first_fault same ∙ ap (λ o. option_or o (first_fault pointed)) (sym (ap (limit_refusal profile) (sym same) ∙ none))
 
   -- and else that of the components
-  pub component-stops : (stop : Stop) → limit_refusal made ≡ None → StopsAt (first_fault made) stop → StopsAt (option_or (limit_refusal pointed) (first_fault pointed)) stop
+  pub component-stops : (stop : Stop) → limit_refusal profile made ≡ None → StopsAt (first_fault made) stop → StopsAt (option_or (limit_refusal profile pointed) (first_fault pointed)) stop
   component-stops Memory none is = tt
   component-stops (Refused refusal) none is = sym (within-limit none) ∙ is
 
   -- what is told of the limit
-  pub limit-told : (noted : Noted) (stop : Stop) → StopsAt (limit_refusal made) stop → TellsFirst (alone stop) noted stop → TellsFirst (or_group (option_to_list (limit_refusal pointed)) (faults_group pointed)) noted stop
+  pub limit-told : (noted : Noted) (stop : Stop) → StopsAt (limit_refusal profile made) stop → TellsFirst (alone stop) noted stop → TellsFirst (or_group (option_to_list (limit_refusal profile pointed)) (faults_group pointed)) noted stop
   limit-told noted stop over told =
-      told-here (option_to_list (limit_refusal pointed)) (faults_group pointed) noted stop
-      (told-alone (limit_refusal pointed) noted stop (subst (λ (its : Pointed). StopsAt (limit_refusal its) stop) same over) told)
+      told-here (option_to_list (limit_refusal profile pointed)) (faults_group pointed) noted stop
+      (told-alone (limit_refusal profile pointed) noted stop (subst (λ (its : Pointed). StopsAt (limit_refusal profile its) stop) same over) told)
 
   -- and else of the components
-  pub component-told : (noted : Noted) (stop : Stop) → limit_refusal made ≡ None → TellsFirst (faults_group made) noted stop → TellsFirst (or_group (option_to_list (limit_refusal pointed)) (faults_group pointed)) noted stop
+  pub component-told : (noted : Noted) (stop : Stop) → limit_refusal profile made ≡ None → TellsFirst (faults_group made) noted stop → TellsFirst (or_group (option_to_list (limit_refusal profile pointed)) (faults_group pointed)) noted stop
   component-told noted stop none told =
-      told-next (option_to_list (limit_refusal pointed)) (faults_group pointed) noted stop (ap option_to_list (ap limit_refusal (sym same) ∙ none))
+      told-next (option_to_list (limit_refusal profile pointed)) (faults_group pointed) noted stop (ap option_to_list (ap (limit_refusal profile) (sym same) ∙ none))
       (subst (λ (its : Pointed). TellsFirst (faults_group its) noted stop) same told)
 
-  pub all-accepted : limit_refusal made ≡ None → first_fault made ≡ None → option_or (limit_refusal pointed) (first_fault pointed) ≡ None
+  pub all-accepted : limit_refusal profile made ≡ None → first_fault made ≡ None → option_or (limit_refusal profile pointed) (first_fault pointed) ≡ None
   all-accepted none nothing = sym (within-limit none) ∙ nothing
 
   -- the links of connections and paths, and those of bindings behind them
-  pub all-linked : (links after : List Link) (bounds : List BoundTo) → links ≡ connected made → bounds ≡ all_bounds pointed.instance → after ≡ links ++ flat_map (bound_links made) bounds → after ≡ all_links pointed
-  all-linked links after bounds are is more = let first : links ≡ connected pointed = are ∙ ap connected same in more ∙ (λ i. first i ++ flat_map (bound_links (same i)) (is i))
+  pub all-linked : (links between after : List Link) (bounds : List BoundTo) (further : Further) → links ≡ connected made → bounds ≡ all_bounds pointed.instance → IsFurther profile pointed.instance further
+      → between ≡ links ++ flat_map (bound_links made) bounds
+      → after ≡ between ++ (flat_map (bound_links made) further.inherited ++ (flat_map (bound_links made) further.functions ++ flat_map (carried_links made) further.carried))
+      → after ≡ links_under profile pointed
+  all-linked links between after bounds further are is has more last =
+      let first : links ≡ connected pointed = are ∙ ap connected same in
+      let two : between ≡ all_links pointed = more ∙ (λ i. first i ++ flat_map (bound_links (same i)) (is i)) in
+      let three : (flat_map (bound_links made) further.inherited ++ (flat_map (bound_links made) further.functions ++ flat_map (carried_links made) further.carried)) ≡ only_second profile (extra_links pointed) =
+      (λ i. flat_map (bound_links (same i)) (has.inherited i) ++ (flat_map (bound_links (same i)) (has.functions i) ++ flat_map (carried_links (same i)) (has.carried i))) ∙ extra-by profile pointed in
+      last ∙ (λ i. two i ++ three i)
 
 -- the first refusal of the links is that of their group
-pub links-least : (pointed : Pointed) → least (or_group (option_to_list (limit_refusal pointed)) (faults_group pointed)) ≡ option_or (limit_refusal pointed) (first_fault pointed)
-links-least pointed =
-    least-or (option_to_list (limit_refusal pointed)) (faults_group pointed)
-    ∙ (λ i. option_or (least-one (limit_refusal pointed) i) (faults-least pointed i))
+pub links-least : (profile : Profile) (pointed : Pointed) → least (or_group (option_to_list (limit_refusal profile pointed)) (faults_group pointed)) ≡ option_or (limit_refusal profile pointed) (first_fault pointed)
+links-least profile pointed =
+    least-or (option_to_list (limit_refusal profile pointed)) (faults_group pointed)
+    ∙ (λ i. option_or (least-one (limit_refusal profile pointed) i) (faults-least pointed i))

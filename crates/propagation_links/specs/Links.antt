@@ -2,10 +2,14 @@
 -- and paths).
 use Rattle.std.specs.Prelude.{ℕ, Bool, true, false, cond, ◌&&◌, ◌||◌, not, List, [], ◌∷◌, ◌++◌, flat_map, codes, Option, Some, None, option_and_then}
 use Rattle.plain_values.specs.Name.{is_same_text}
+use Rattle.aadl_syntax.specs.declared.core_model.BindingKind.{BindingKind}
+use Rattle.aadl_syntax.specs.declared.core_model.BindingKind.TheVariants.{Connection as OfConnection, Function, Memory, Processor}
 use Rattle.aadl_syntax.specs.declared.core_model.Connection.{Connection}
 use Rattle.aadl_syntax.specs.declared.core_model.Ends.{Ends}
 use Rattle.aadl_syntax.specs.declared.error_model.UserPath.{UserPath}
 use Rattle.plain_values.specs.Numbered.{numbered_from}
+use Rattle.profiles.specs.declared.profile.Profile.{Profile}
+use Rattle.profiles.specs.declared.profile.Profile.TheVariants.{First, Second}
 use Rattle.component_extension.specs.declared.effective.Effective.{Effective}
 use Rattle.component_extension.specs.Items.{Scoped}
 use Rattle.component_extension.specs.Members.{Member}
@@ -17,9 +21,9 @@ use Rattle.propagation_links.specs.declared.bound.BoundTo.{BoundTo}
 use Rattle.propagation_links.specs.declared.link.Link.{Link}
 use Rattle.propagation_links.specs.declared.link.PointAt.{PointAt}
 use Rattle.propagation_links.specs.declared.ends.FoundEnd.{FoundEnd}
-use Rattle.propagation_links.specs.Bound.{all_bounds}
+use Rattle.propagation_links.specs.Bound.{all_bounds, all_carried, all_functions, all_inherited}
 use Rattle.propagation_links.specs.Ends.{Pointed, connection_end, is_access, is_there, path_end, point_of}
-use Rattle.propagation_links.specs.Stated.{Stated}
+use Rattle.propagation_links.specs.Stated.{Carried, Stated}
 
 -- ---- one link
 
@@ -97,33 +101,88 @@ connected pointed = numbered_from (component_links pointed) 0 pointed.instance.c
 -- ---- bindings
 
 -- the point of a component that is bound: errors of what it is bound to come in there
-abbrev pub bound_word : Bool → List ℕ
-bound_word true = codes "memory"
-bound_word false = codes "processor"
+abbrev pub bound_word : BindingKind → List ℕ
+bound_word Processor = codes "processor"
+bound_word Memory = codes "memory"
+bound_word OfConnection = codes "connection"
+bound_word Function = codes "binding"
 
 -- The links of the component of a number and one to which it is bound, if there is one: from the point `bindings` of that to its own
 -- point of the word, and then the other way.
-abbrev pub target_links : Pointed → Bool → ℕ → Option ℕ → List Link
-target_links pointed memory number None = []
-target_links pointed memory number (Some target) = links_both pointed true (point_of pointed false target (codes "bindings")) (point_of pointed false number (bound_word memory))
+abbrev pub target_links : Pointed → BindingKind → ℕ → Option ℕ → List Link
+target_links pointed kind number None = []
+target_links pointed kind number (Some target) = links_both pointed true (point_of pointed false target (codes "bindings")) (point_of pointed false number (bound_word kind))
 
 -- The links of the component of a number by the binding that counts for it, if there is one: those of each reference in order, which is
 -- a path from the component that states the binding. A path that leads nowhere gives none.
-abbrev pub stated_links : Pointed → Bool → ℕ → Option Stated → List Link
-stated_links pointed memory number None = []
-stated_links pointed memory number (Some stated) =
-    flat_map (λ reference. target_links pointed memory number (component_below pointed.instance.components stated.component reference)) stated.binding.references
+abbrev pub stated_links : Pointed → BindingKind → ℕ → Option Stated → List Link
+stated_links pointed kind number None = []
+stated_links pointed kind number (Some stated) =
+    flat_map (λ reference. target_links pointed kind number (component_below pointed.instance.components stated.component reference)) stated.binding.references
 
--- the links of a component by its bindings, first that to a processor and then that to a memory
+-- the links of a component by its binding of a kind
 abbrev pub bound_links : Pointed → BoundTo → List Link
-bound_links pointed bound = stated_links pointed false bound.component bound.processor ++ stated_links pointed true bound.component bound.memory
+bound_links pointed bound = stated_links pointed bound.kind bound.component bound.stated
+
+-- ---- bindings of connections
+
+-- the point `connection` of the component at an end, if that is found
+abbrev pub connection_point : Pointed → Option FoundEnd → Option FoundEnd
+connection_point pointed None = None
+connection_point pointed (Some end) = point_of pointed false end.component (codes "connection")
+
+-- The links of one direction of a connection and the component that carries it: what goes out at the point `bindings` of that comes
+-- to the to-end, and then to the point `connection` of the component at the to-end; and what leaves the from-end comes in at `bindings`.
+abbrev pub carried_one_way : Pointed → ℕ → Option FoundEnd → Option FoundEnd → List Link
+carried_one_way pointed carrier from to =
+    link_of pointed (point_of pointed false carrier (codes "bindings")) to
+    ++ (link_of pointed (point_of pointed false carrier (codes "bindings")) (connection_point pointed to) ++ link_of pointed from (point_of pointed false carrier (codes "bindings")))
+
+-- the links of a connection and a component that carries it, if there is one: those of the written direction, and then of the other
+-- where the connection goes both ways
+abbrev pub carrier_links : Pointed → Bool → Option FoundEnd → Option FoundEnd → Option ℕ → List Link
+carrier_links pointed both from to None = []
+carrier_links pointed both from to (Some carrier) = carried_one_way pointed carrier from to ++ cond both (carried_one_way pointed carrier to from) []
+
+-- the links of a connection with these ends and each component to which the references of a binding lead
+abbrev pub carried_between : Pointed → Stated → Bool → Option FoundEnd → Option FoundEnd → List Link
+carried_between pointed stated both from to =
+    flat_map (λ reference. carrier_links pointed both from to (component_below pointed.instance.components stated.component reference)) stated.binding.references
+
+-- The links of the ends that a bound connection of the component of a number has, if it has any. Connections of accesses go both ways;
+-- one with an end at a processor or in the component's own text has none.
+abbrev pub carried_ends : Pointed → Stated → ℕ → Bool → Option Ends → List Link
+carried_ends pointed stated number access None = []
+carried_ends pointed stated number access (Some ends) =
+    cond (is_apart ends) []
+    (carried_between pointed stated (ends.both || access) (connection_end pointed number access ends.from.names) (connection_end pointed number access ends.to.names))
+
+-- the links of a connection by the binding that counts for it
+abbrev pub carried_links : Pointed → Carried → List Link
+carried_links pointed carried = carried_ends pointed carried.stated carried.component (is_access carried.connection.nearest.item.kind) (ends_of carried.connection)
 
 -- ---- all links of an instance
 
--- The links of the connections and paths of all components, and behind them those of their bindings.
+-- The links of the connections and paths of all components, and behind them those of their bindings to processors and memories.
 abbrev pub all_links : Pointed → List Link
 all_links pointed = connected pointed ++ flat_map (bound_links pointed) (all_bounds pointed.instance)
 
--- The links of an instance with these points, a list for each of its kinds.
-abbrev pub links_of : Instance → List (List Point) → List Link
-links_of instance points = all_links (record { instance = instance; points = points })
+-- The links of the second profile alone: those of what holds for what is inside, then those of functions, and then those of connections
+-- and what carries them.
+abbrev pub extra_links : Pointed → List Link
+extra_links pointed =
+    flat_map (bound_links pointed) (all_inherited pointed.instance)
+    ++ (flat_map (bound_links pointed) (all_functions pointed.instance) ++ flat_map (carried_links pointed) (all_carried pointed.instance))
+
+-- what the second profile alone has
+abbrev pub only_second : {A : Type 0} → Profile → List A → List A
+only_second First items = []
+only_second Second items = items
+
+-- the links of an instance with its points, under a profile
+abbrev pub links_under : Profile → Pointed → List Link
+links_under profile pointed = all_links pointed ++ only_second profile (extra_links pointed)
+
+-- The links of an instance with these points, a list for each of its kinds, under a profile.
+abbrev pub links_of : Profile → Instance → List (List Point) → List Link
+links_of profile instance points = links_under profile (record { instance = instance; points = points })

@@ -13,6 +13,8 @@ use Rattle.plain_values.specs.Refusal.{refused_so}
 use Rattle.noted_refusals.specs.Groups.{first_group, or_group}
 use Rattle.package_index.specs.Names.{front, last}
 use Rattle.plain_values.specs.Numbered.{numbered_from}
+use Rattle.profiles.specs.declared.profile.Profile.{Profile}
+use Rattle.profiles.specs.declared.profile.Profile.TheVariants.{First, Second}
 use Rattle.component_extension.specs.declared.effective.Effective.{Effective}
 use Rattle.component_extension.specs.Items.{Scoped}
 use Rattle.component_extension.specs.Members.{Member}
@@ -22,10 +24,10 @@ use Rattle.instantiator.specs.Components.{component_below}
 use Rattle.plain_values.specs.Refusal.{over_limit}
 use Rattle.instantiator.specs.Whole.{Instance, effective_in}
 use Rattle.propagation_links.specs.declared.bound.BoundTo.{BoundTo}
-use Rattle.propagation_links.specs.Bound.{all_bounds}
+use Rattle.propagation_links.specs.Bound.{all_bounds, all_carried, all_functions, all_inherited}
 use Rattle.propagation_links.specs.Ends.{Pointed, is_access, is_called_as_word, is_point_word, is_subcomponent, points_at}
 use Rattle.propagation_links.specs.Links.{ends_of, is_apart}
-use Rattle.propagation_links.specs.Stated.{Stated}
+use Rattle.propagation_links.specs.Stated.{Carried, Stated}
 
 -- ---- ends
 
@@ -88,33 +90,47 @@ abbrev pub count_in : Effective → ℕ
 count_in effective = length effective.members.connections + length effective.propagations.user_paths
 
 -- how many connections and user paths all components have, also those without effect
-abbrev pub count_links : Pointed → ℕ
-count_links pointed = sum (numbered_from (λ number component. count_in (effective_in pointed.instance number) ∷ []) 0 pointed.instance.components)
+abbrev pub count_links : Instance → ℕ
+count_links instance = sum (numbered_from (λ number component. count_in (effective_in instance number) ∷ []) 0 instance.components)
 
 -- how many references the binding has that counts, if there is one
 abbrev pub count_stated : Option Stated → ℕ
 count_stated None = 0
 count_stated (Some stated) = length stated.binding.references
 
--- how many references the bindings of a component have that count, also those that lead nowhere
+-- how many references the binding of a component has that counts, also those that lead nowhere
 abbrev pub count_bound : BoundTo → ℕ
-count_bound bound = count_stated bound.processor + count_stated bound.memory
+count_bound bound = count_stated bound.stated
+
+-- how many references the binding of a connection has that counts, also those that lead nowhere
+abbrev pub count_carried : Carried → ℕ
+count_carried carried = length carried.stated.binding.references
+
+-- how many references the bindings have that count under the second profile alone
+abbrev pub count_extra : Instance → ℕ
+count_extra instance = sum (map count_bound (all_inherited instance)) + (sum (map count_bound (all_functions instance)) + sum (map count_carried (all_carried instance)))
+
+-- of these what a profile counts
+abbrev pub count_further : Profile → Instance → ℕ
+count_further First instance = 0
+count_further Second instance = count_extra instance
 
 -- how many connections and user paths all components have, and references of the bindings that count
-abbrev pub count_all : Pointed → ℕ
-count_all pointed = count_links pointed + sum (map count_bound (all_bounds pointed.instance))
+abbrev pub count_all : Profile → Pointed → ℕ
+count_all profile pointed = count_links pointed.instance + (sum (map count_bound (all_bounds pointed.instance)) + count_further profile pointed.instance)
 
 -- the refusal of the first component that has one
 abbrev pub first_fault : Pointed → Option Refusal
 first_fault pointed = slice_get (numbered_from (component_fault pointed) 0 pointed.instance.components) 0
 
 -- M14 where there are more than 1,048,576 connections, user paths and references of bindings
-abbrev pub limit_refusal : Pointed → Option Refusal
-limit_refusal pointed = over_limit (nat_le 1048577 (count_all pointed)) TooManyLinks Words
+abbrev pub limit_refusal : Profile → Pointed → Option Refusal
+limit_refusal profile pointed = over_limit (nat_le 1048577 (count_all profile pointed)) TooManyLinks Words
 
--- The refusal of the links of an instance with these points: M14, and else that of the first component that has one.
-abbrev pub links_refusal : Instance → List (List Point) → Option Refusal
-links_refusal instance points = let pointed : Pointed = record { instance = instance; points = points } in option_or (limit_refusal pointed) (first_fault pointed)
+-- The refusal of the links of an instance with these points, under a profile: M14, and else that of the first component that has one.
+abbrev pub links_refusal : Profile → Instance → List (List Point) → Option Refusal
+links_refusal profile instance points =
+    let pointed : Pointed = record { instance = instance; points = points } in option_or (limit_refusal profile pointed) (first_fault pointed)
 
 -- ---- groups
 
@@ -126,6 +142,8 @@ component_groups pointed number component = refusals_in pointed number (effectiv
 abbrev pub faults_group : Pointed → List Refusal
 faults_group pointed = first_group (numbered_from (component_groups pointed) 0 pointed.instance.components)
 
--- The group of the links of an instance with these points: M14 alone, and else that of the first component of which anything is refused.
-abbrev pub links_group : Instance → List (List Point) → List Refusal
-links_group instance points = let pointed : Pointed = record { instance = instance; points = points } in or_group (option_to_list (limit_refusal pointed)) (faults_group pointed)
+-- The group of the links of an instance with these points, under a profile: M14 alone, and else that of the first component of which
+-- anything is refused.
+abbrev pub links_group : Profile → Instance → List (List Point) → List Refusal
+links_group profile instance points =
+    let pointed : Pointed = record { instance = instance; points = points } in or_group (option_to_list (limit_refusal profile pointed)) (faults_group pointed)

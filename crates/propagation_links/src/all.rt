@@ -3,7 +3,7 @@ ghost use Rattle.plain_values.specs.inner.Stops.{StopsAt};
 ghost use Rattle.propagation_links.specs.Bound.{all_bounds};
 ghost use Rattle.propagation_links.specs.Links.{links_of};
 ghost use Rattle.propagation_links.specs.Refused.{count_in, count_links, faults_group, first_fault, limit_refusal, links_group, links_refusal, refusals_in};
-ghost use Rattle.propagation_links.specs.inner.Steps.{Linked, AllLinked};
+ghost use Rattle.propagation_links.specs.inner.Steps.{AllLinked, AreFew, IsFurther, Linked};
 ghost use Rattle.instantiator.specs.Whole.{effective_in};
 ghost use Rattle.plain_values.specs.Order.{least};
 ghost use Rattle.noted_refusals.specs.inner.Noted.{TellsFirst, alone};
@@ -11,18 +11,21 @@ ghost use Rattle.noted_refusals.specs.inner.Noted.{TellsFirst, alone};
 use crate::bound::{BoundTo, bounds_of};
 use crate::bound_links::{add_all_bound, count_references};
 use crate::counted::count_in;
+use crate::further::Further;
 use crate::link::Link;
 use crate::links::add_links;
 use crate::pointed::Pointed;
 use crate::refused::note_faults;
+use crate::tables::BindingTables;
 use component_extension::Effective;
 use instantiator::Instance;
 use noted_refusals::Refusals;
 use plain_values::{Answer, Code, List, Place, Refusal, Stop};
+use profiles::Profile;
 use propagation_points::Points;
 use std::alloc::Global;
 
-/// The links of an instance, where `points` has the points of each of its kinds, in order.
+/// The links of an instance under a profile, where `points` has the points of each of its kinds, in order.
 ///
 /// For each component in order, its connections and then its user paths are taken, each in order; each gives the link
 /// between its ends in the written direction, and a connection that goes both ways or is of an access then the other. A
@@ -34,25 +37,36 @@ use std::alloc::Global;
 /// binding. Each of its references in order that leads to a component gives the link from the point `bindings` of that to
 /// the point `processor` or `memory` of the bound one, and then the one from there to `bindings`.
 ///
+/// Under the second profile there are more behind these. A component for which no binding to a processor or to a memory counts takes
+/// the one that counts for the nearest component around it. Then, for each component, the binding of its function that counts for it
+/// gives the links between `bindings` and its point `binding`. Then, for each connection for which a binding of connections counts,
+/// each component that carries it, and each direction, there is the link from `bindings` to the to-end, from `bindings` to the point
+/// `connection` of the component at the to-end, and from the from-end to `bindings`.
+///
 /// M14 where all components have more than 1,048,576 connections, user paths and references of bindings that count. Else the
 /// first component decides of which anything is refused, and of that the first by place: N14 at an end that means nothing, P3
 /// at an end of a connection with three names or more, P9 at each block of connection errors.
 pub fn links_of<'a>(
     alloc: Global,
+    profile: Profile,
     instance: &Instance<'_, 'a>,
     points: &[&Points<'a>],
     refusals: &mut Refusals,
 ) -> Answer<List<Link>>
-    ensures links { IfOk result (λ links. links ≡ links_of instance.now (map (λ points. points.now) points.now)) }
-    ensures accepted { OnOk result (links_refusal instance.now (map (λ points. points.now) points.now) ≡ None) }
-    ensures refused { IfErr result (StopsAt (links_refusal instance.now (map (λ points. points.now) points.now))) }
-    ensures told { IfErr result (TellsFirst (links_group instance.now (map (λ points. points.now) points.now)) refusals.new) }
+    ensures links { IfOk result (λ links. links ≡ links_of profile instance.now (map (λ points. points.now) points.now)) }
+    ensures accepted { OnOk result (links_refusal profile instance.now (map (λ points. points.now) points.now) ≡ None) }
+    ensures refused { IfErr result (StopsAt (links_refusal profile instance.now (map (λ points. points.now) points.now))) }
+    ensures told { IfErr result (TellsFirst (links_group profile instance.now (map (λ points. points.now) points.now)) refusals.new) }
 {
     let pointed = Pointed::new(instance, points);
-    let bounds = bounds_of(alloc, instance)?;
-    test_limit(&pointed, bounds.items(), refusals)?;
+    test_links(profile, &pointed, refusals)?;
+    let tables = BindingTables::of(alloc, instance)?;
+    let bounds = bounds_of(alloc, &tables)?;
+    let further = Further::of(alloc, profile, &tables)?;
+    test_limit(profile, &pointed, bounds.items(), &further, refusals)?;
     let mut links = connected(alloc, &pointed, refusals)?;
     add_all_bound(&mut links, &pointed, bounds.items())?;
+    further.add_links(&mut links, &pointed)?;
     Ok(links)
 }
 
@@ -101,32 +115,70 @@ fn add_effective<'a>(
     Ok(())
 }
 
-/// Refuses where all components have too many connections, user paths and references of these bindings, and notes that.
-fn test_limit(pointed: &Pointed, bounds: &[BoundTo], refusals: &mut Refusals) -> Answer<()>
-    requires bounds { bounds.now ≡ all_bounds pointed.now.instance }
-    requires few { length bounds.now ≤ 4096 }
-    ensures limit { MatchResult result (λ _. limit_refusal pointed.now ≡ None) (StopsAt (limit_refusal pointed.now)) }
+/// Refuses where all components have too many connections and user paths alone, and notes that.
+fn test_links(profile: Profile, pointed: &Pointed, refusals: &mut Refusals) -> Answer<()>
+    ensures few { OnOk result (count_links pointed.now.instance ≤ 1048576) }
+    ensures limit { IfErr result (StopsAt (limit_refusal profile pointed.now)) }
     ensures told { IfErr result (λ stop. TellsFirst (alone stop) refusals.new stop) }
 {
-    match within_limit(pointed, bounds) {
+    match within_links(profile, pointed) {
+        Ok(()) => Ok(()),
+        Err(refusal) => Err(refusals.only(Stop::Refused(refusal))),
+    }
+}
+
+/// Refuses where all components have too many connections and user paths alone.
+fn within_links(profile: Profile, pointed: &Pointed) -> Result<(), Refusal>
+    ensures { MatchResult result (λ _. count_links pointed.now.instance ≤ 1048576) (λ refusal. limit_refusal profile pointed.now ≡ Some refusal) }
+{
+    Refusal::over_limit(
+        count_links(pointed) > 1_048_576,
+        Code::TooManyLinks,
+        Place::Words,
+    )
+}
+
+/// Refuses where all components have too many connections, user paths and references of these bindings, and notes that.
+fn test_limit(
+    profile: Profile,
+    pointed: &Pointed,
+    bounds: &[BoundTo],
+    further: &Further,
+    refusals: &mut Refusals,
+) -> Answer<()>
+    requires bounds { bounds.now ≡ all_bounds pointed.now.instance }
+    requires few { length bounds.now ≤ 8192 }
+    requires further { IsFurther profile pointed.now.instance further.now }
+    requires few_further { AreFew further.now }
+    ensures limit { MatchResult result (λ _. limit_refusal profile pointed.now ≡ None) (StopsAt (limit_refusal profile pointed.now)) }
+    ensures told { IfErr result (λ stop. TellsFirst (alone stop) refusals.new stop) }
+{
+    match within_limit(profile, pointed, bounds, further) {
         Ok(()) => Ok(()),
         Err(refusal) => Err(refusals.only(Stop::Refused(refusal))),
     }
 }
 
 /// Refuses where all components have too many connections, user paths and references of these bindings.
-fn within_limit(pointed: &Pointed, bounds: &[BoundTo]) -> Result<(), Refusal>
+fn within_limit(
+    profile: Profile,
+    pointed: &Pointed,
+    bounds: &[BoundTo],
+    further: &Further,
+) -> Result<(), Refusal>
     requires bounds { bounds.now ≡ all_bounds pointed.now.instance }
-    requires few { length bounds.now ≤ 4096 }
-    ensures { MatchResult result (λ _. limit_refusal pointed.now ≡ None) (λ refusal. limit_refusal pointed.now ≡ Some refusal) }
+    requires few { length bounds.now ≤ 8192 }
+    requires further { IsFurther profile pointed.now.instance further.now }
+    requires few_further { AreFew further.now }
+    ensures { MatchResult result (λ _. limit_refusal profile pointed.now ≡ None) (λ refusal. limit_refusal profile pointed.now ≡ Some refusal) }
 {
-    let count = count_links(pointed) + count_references(bounds);
+    let count = count_links(pointed) + (count_references(bounds) + further.count());
     Refusal::over_limit(count > 1_048_576, Code::TooManyLinks, Place::Words)
 }
 
 /// How many connections and user paths all components have.
 fn count_links(pointed: &Pointed) -> usize
-    ensures count { result ≡ count_links pointed.now }
+    ensures count { result ≡ count_links pointed.now.instance }
     ensures few { result < 2 ^ 46 }
 {
     let mut count = 0;

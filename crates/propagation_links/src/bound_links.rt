@@ -7,7 +7,7 @@ use crate::bound::{BoundTo, StatedBinding};
 use crate::link::Link;
 use crate::links::add_both;
 use crate::pointed::Pointed;
-use aadl_syntax::Identifier;
+use aadl_syntax::{BindingKind, Identifier};
 use plain_values::{List, Mem};
 
 /// Adds the links of components by the bindings that count for them.
@@ -27,24 +27,23 @@ pub(crate) fn add_all_bound(
 fn add_bound(links: &mut List<Link>, pointed: &Pointed, bound: &BoundTo) -> Mem<()>
     ensures { OnOk result (links.new ≡ links.old ++ bound_links pointed.now bound.now) }
 {
-    add_stated(links, pointed, false, bound.component, &bound.processor)?;
-    add_stated(links, pointed, true, bound.component, &bound.memory)
+    add_stated(links, pointed, bound.kind, bound.component, &bound.stated)
 }
 
 fn add_stated(
     links: &mut List<Link>,
     pointed: &Pointed,
-    memory: bool,
+    kind: BindingKind,
     number: u32,
     stated: &Option<StatedBinding>,
 ) -> Mem<()>
-    ensures { OnOk result (links.new ≡ links.old ++ stated_links pointed.now memory number stated.now) }
+    ensures { OnOk result (links.new ≡ links.old ++ stated_links pointed.now kind number stated.now) }
 {
     match stated {
         Some(stated) => add_references(
             links,
             pointed,
-            memory,
+            kind,
             number,
             stated.component(),
             stated.references(),
@@ -57,16 +56,16 @@ fn add_stated(
 fn add_references(
     links: &mut List<Link>,
     pointed: &Pointed,
-    memory: bool,
+    kind: BindingKind,
     number: u32,
     from: u32,
     references: &[List<Identifier>],
 ) -> Mem<()>
-    ensures { OnOk result (links.new ≡ links.old ++ flat_map (λ reference. target_links pointed.now memory number (component_below pointed.now.instance.components from reference)) references.now) }
+    ensures { OnOk result (links.new ≡ links.old ++ flat_map (λ reference. target_links pointed.now kind number (component_below pointed.now.instance.components from reference)) references.now) }
 {
     for reference in references {
         let target = pointed.instance().find_below(from, reference.items());
-        add_target(links, pointed, memory, number, target)?;
+        add_target(links, pointed, kind, number, target)?;
     }
     Ok(())
 }
@@ -75,31 +74,36 @@ fn add_references(
 fn add_target(
     links: &mut List<Link>,
     pointed: &Pointed,
-    memory: bool,
+    kind: BindingKind,
     number: u32,
     target: Option<u32>,
 ) -> Mem<()>
-    ensures { OnOk result (links.new ≡ links.old ++ target_links pointed.now memory number target) }
+    ensures { OnOk result (links.new ≡ links.old ++ target_links pointed.now kind number target) }
 {
     match target {
         Some(target) => {
             let from = pointed.point_of(false, target, b"bindings");
-            let to = pointed.point_of(false, number, bound_word(memory));
+            let to = pointed.point_of(false, number, bound_word(kind));
             add_both(links, pointed, true, from, to)
         }
         None => Ok(()),
     }
 }
 
-fn bound_word(memory: bool) -> &'static [u8]
-    ensures { result.now ≡ bound_word memory }
+fn bound_word(kind: BindingKind) -> &'static [u8]
+    ensures { result.now ≡ bound_word kind }
 {
-    if memory { b"memory" } else { b"processor" }
+    match kind {
+        BindingKind::Processor => b"processor",
+        BindingKind::Memory => b"memory",
+        BindingKind::Connection => b"connection",
+        BindingKind::Function => b"binding",
+    }
 }
 
 /// How many references the bindings have that count for components.
 pub(crate) fn count_references(bounds: &[BoundTo]) -> usize
-    requires { length bounds.now ≤ 4096 }
+    requires { length bounds.now ≤ 8192 }
     ensures count { result ≡ sum (map count_bound bounds.now) }
     ensures few { result < 2 ^ 46 }
 {
@@ -112,9 +116,9 @@ pub(crate) fn count_references(bounds: &[BoundTo]) -> usize
 
 fn count_bound(bound: &BoundTo) -> usize
     ensures count { result ≡ count_bound bound.now }
-    ensures few { result < 2 ^ 33 }
+    ensures few { result < 2 ^ 32 }
 {
-    count_stated(&bound.processor) + count_stated(&bound.memory)
+    count_stated(&bound.stated)
 }
 
 fn count_stated(stated: &Option<StatedBinding>) -> usize

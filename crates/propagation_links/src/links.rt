@@ -126,7 +126,8 @@ pub(crate) fn add_both(
     Ok(())
 }
 
-fn add_link(
+/// Adds the link between two ends, if both are found.
+pub(crate) fn add_link(
     links: &mut List<Link>,
     pointed: &Pointed,
     from: Option<FoundEnd>,

@@ -1,10 +1,14 @@
 -- What the steps of gathering links owe each other.
-use Rattle.std.specs.Prelude.{◌≡◌, ℕ, List, ◌++◌, None}
+use Rattle.std.specs.Prelude.{◌≡◌, ◌≤◌, ℕ, List, ◌++◌, length, None}
 use Rattle.plain_values.specs.Order.{least}
+use Rattle.profiles.specs.declared.profile.Profile.{Profile}
 use Rattle.component_extension.specs.declared.effective.Effective.{Effective}
+use Rattle.instantiator.specs.Whole.{Instance}
+use Rattle.propagation_links.specs.declared.further.Further.{Further}
 use Rattle.propagation_links.specs.declared.link.Link.{Link}
+use Rattle.propagation_links.specs.Bound.{all_carried, all_functions, all_inherited}
 use Rattle.propagation_links.specs.Ends.{Pointed}
-use Rattle.propagation_links.specs.Links.{connected, links_in}
+use Rattle.propagation_links.specs.Links.{connected, links_in, only_second}
 use Rattle.propagation_links.specs.Refused.{refusals_in, first_fault}
 
 -- The links of a component are added, of which nothing is refused.
@@ -16,3 +20,15 @@ pub record Linked (pointed : Pointed) (number : ℕ) (effective : Effective) (be
 pub record AllLinked (pointed : Pointed) (links : List Link) : Type 0 where
   pub are : links ≡ connected pointed
   pub accepted : first_fault pointed ≡ None
+
+-- These are the bindings that count under the second profile alone, and nothing under the first.
+pub record IsFurther (profile : Profile) (instance : Instance) (further : Further) : Type 0 where
+  pub inherited : further.inherited ≡ only_second profile (all_inherited instance)
+  pub functions : further.functions ≡ only_second profile (all_functions instance)
+  pub carried : further.carried ≡ only_second profile (all_carried instance)
+
+-- There are at most two for each component, and one for each connection.
+pub record AreFew (further : Further) : Type 0 where
+  pub inherited : length further.inherited ≤ 8192
+  pub functions : length further.functions ≤ 8192
+  pub carried : length further.carried ≤ 1048576

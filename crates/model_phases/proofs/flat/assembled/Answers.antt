@@ -46,7 +46,7 @@ returns-in_err-instance-clause-told g c =
     let root = c.args.root in
     let components = instance_group packages root in
     let kinds = kinds_group profile (instance_of packages root) in
-    let links = links_group (instance_of packages root) (points_in (assembly_of profile packages root).models) in
+    let links = links_group profile (instance_of packages root) (points_in (assembly_of profile packages root).models) in
     let all = root_group profile packages root in
     let noted = c.instance_at.new.refusals in
     end-told (First components noted) (FirstOf all noted) c.in_err-instance.field-0.0 c.from_residual.result
@@ -59,7 +59,7 @@ returns-in_err-kinds-clause-told g c =
     let root = c.args.root in
     let components = instance_group packages root in
     let kinds = kinds_group profile (instance_of packages root) in
-    let links = links_group (instance_of packages root) (points_in (assembly_of profile packages root).models) in
+    let links = links_group profile (instance_of packages root) (points_in (assembly_of profile packages root).models) in
     let all = root_group profile packages root in
     let noted = c.kinds_of.new.refusals in
     let instance = c.in_ok-instance.instance in
@@ -76,13 +76,13 @@ returns-in_err-links-clause-told g c =
     let root = c.args.root in
     let components = instance_group packages root in
     let kinds = kinds_group profile (instance_of packages root) in
-    let links = links_group (instance_of packages root) (points_in (assembly_of profile packages root).models) in
+    let links = links_group profile (instance_of packages root) (points_in (assembly_of profile packages root).models) in
     let all = root_group profile packages root in
     let noted = c.links_between.new.refusals in
     let instance = c.in_ok-instance.instance in
     let models = c.in_ok-kinds.kinds.models in
     let made = c.in_ok-instance.ensures.instance in
-    end-told (First (links_group instance (points_in models)) noted) (FirstOf all noted) c.in_err-links.field-0.0 c.from_residual-in_err-links.result
+    end-told (First (links_group profile instance (points_in models)) noted) (FirstOf all noted) c.in_err-links.field-0.0 c.from_residual-in_err-links.result
     (λ refusal told. told-here all (refusal ∷ []) noted (Refused refusal)
     (told-next components (or_group kinds links) noted (Refused refusal) (instance-clear packages root c.in_ok-instance.ensures.tested)
     (told-next kinds links noted (Refused refusal) (kinds-clear profile (instance_of packages root) (kinds_pass profile packages root instance made c.in_ok-kinds.ensures.tested))
@@ -96,7 +96,7 @@ returns-clause-told g c =
     let root = c.args.root in
     let components = instance_group packages root in
     let kinds = kinds_group profile (instance_of packages root) in
-    let links = links_group (instance_of packages root) (points_in (assembly_of profile packages root).models) in
+    let links = links_group profile (instance_of packages root) (points_in (assembly_of profile packages root).models) in
     let all = root_group profile packages root in
     let noted = c.noted_made.new.refusals in
     let instance = c.in_ok-instance.instance in
@@ -105,6 +105,6 @@ returns-clause-told g c =
     let none = instance-clear packages root c.in_ok-instance.ensures.tested in
     let kinds_none = kinds-clear profile (instance_of packages root) (kinds_pass profile packages root instance made c.in_ok-kinds.ensures.tested) in
     let links_none =
-    links-clear (instance_of packages root) (points_in (assembly_of profile packages root).models) (links_pass profile packages root instance models made c.in_ok-kinds.ensures.models c.in_ok-links.ensures.tested) in
+    links-clear profile (instance_of packages root) (points_in (assembly_of profile packages root).models) (links_pass profile packages root instance models made c.in_ok-kinds.ensures.models c.in_ok-links.ensures.tested) in
     let empty : all ≡ [] = λ i. or_group (none i) (or_group (kinds_none i) (links_none i)) in
     answer-told (FirstOf [] noted) (FirstOf all noted) c.noted_made.result (λ refusal told. told-next all (refusal ∷ []) noted (Refused refusal) empty told) c.noted_made.ensures.told

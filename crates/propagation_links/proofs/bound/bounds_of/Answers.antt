@@ -1,28 +1,34 @@
-use Rattle.std.proofs.Common.{◌<◌, ◌≤◌, ap, ◌∙◌, length, arith}
+use Rattle.std.proofs.Common.{ℕ, ◌<◌, ◌≤◌, List, [], ◌∷◌, None, refl, ap, ◌∙◌, length, arith}
+use Rattle.instantiator.specs.declared.path.Component.{Component}
 use Rattle.instantiator.specs.Whole.{Instance}
-use Rattle.propagation_links.specs.Bound.{bound_in}
-use Rattle.propagation_links.proofs.BoundLaws.{all-bounds, all-long, bounds-more}
+use Rattle.propagation_links.specs.declared.bound.BoundTo.{BoundTo}
+use Rattle.propagation_links.specs.Bound.{bounds_in}
+use Rattle.propagation_links.proofs.BoundLaws.{all-rows, rows-more, two-each}
 use Rattle.propagation_links.proofs.bound.bounds_of.Goals as goal
+
+abbrev give_in : Instance → ℕ → Component → List BoundTo
+give_in instance = λ number component. bounds_in instance number
 
 pub loop-number-preserved : goal.loop-number-preserved
 loop-number-preserved c =
-    let instance = c.args.instance.now in
-    let long = ap length c.components-number-end.ensures.components in
+    let instance = c.args.tables.now in
+    let give = give_in instance in
+    let long = ap length (c.components-number-end.ensures.components ∙ ap (λ (its : Instance). its.components) c.instance.ensures) in
     let within : c.loop-number.number < length instance.components = omega (arith, long, c.loop-number-test.true) in
-    let bound = c.in_ok-bound.ensures ∙ ap (λ (its : Instance). bound_in its c.loop-number.number) c.in_ok-tables.ensures in
-    bounds-more instance c.loop-number.number within c.loop-number.bounds c.push.new.self c.in_ok-bound.bound c.loop-number.invariant bound c.in_ok-push.ensures.ok
+    rows-more instance give c.loop-number.number within c.loop-number.bounds c.add_bounds.new.bounds (give c.loop-number.number (record { path = []; classifier = None })) c.loop-number.invariant c.in_ok-add_bounds.ensures (λ component. refl)
 
 pub returns-clause-bounds : goal.returns-clause-bounds
 returns-clause-bounds c =
-    let instance = c.args.instance.now in
-    let long = ap length c.components-number-end.ensures.components in
+    let instance = c.args.tables.now in
+    let long = ap length (c.components-number-end.ensures.components ∙ ap (λ (its : Instance). its.components) c.instance.ensures) in
     let past : length instance.components ≤ c.loop-number.number = omega (arith, long, c.loop-number-test.false) in
-    all-bounds instance c.loop-number.number past c.loop-number.bounds c.loop-number.invariant
+    all-rows instance (give_in instance) c.loop-number.number past c.loop-number.bounds c.loop-number.invariant
 
 pub returns-clause-few : goal.returns-clause-few
 returns-clause-few c =
-    let instance = c.args.instance.now in
-    let long = ap length c.components-number-end.ensures.components in
+    let instance = c.args.tables.now in
+    let long = ap length (c.components-number-end.ensures.components ∙ ap (λ (its : Instance). its.components) c.instance.ensures) in
     let past : length instance.components ≤ c.loop-number.number = omega (arith, long, c.loop-number-test.false) in
-    let all = ap length (all-bounds instance c.loop-number.number past c.loop-number.bounds c.loop-number.invariant) in
-    omega (arith, all, all-long instance, c.components-number-end.ensures.few)
+    let all = ap length (all-rows instance (give_in instance) c.loop-number.number past c.loop-number.bounds c.loop-number.invariant) in
+    let same = ap (λ (its : Instance). length its.components) c.instance.ensures in
+    omega (arith, all, long, same, two-each instance (give_in instance) (λ number component. omega arith), c.components-number-end.ensures.few)

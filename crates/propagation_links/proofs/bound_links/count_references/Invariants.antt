@@ -6,5 +6,5 @@ abbrev pub invariant-loop-bound : goal.invariant-loop-bound
 invariant-loop-bound l = record {
   within : l.bound-index ≤ length l.bounds;
   count : l.count ≡ sum (map count_bound (take l.bound-index l.bounds));
-  few : l.count ≤ l.bound-index * 2 ^ 33;
+  few : l.count ≤ l.bound-index * 2 ^ 32;
 }

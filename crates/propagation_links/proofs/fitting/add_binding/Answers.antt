@@ -19,5 +19,5 @@ loop-target-preserved c =
 pub returns : goal.returns
 returns c =
     let targets = c.items-target-items.result.now in
-    put-all c.args.memory (get same_words c.args.fitting.now) (get same_words c.loop-target.fitting) targets c.args.binding.now c.items-target-items.ensures.items (sym c.if-not-is_of.false ∙ c.is_of.ensures)
+    put-all c.args.kind (get same_words c.args.fitting.now) (get same_words c.loop-target.fitting) targets c.args.binding.now c.items-target-items.ensures.items (sym c.if-not-is_of.false ∙ c.is_of.ensures)
     (subst (λ all. HasPut (get same_words c.args.fitting.now) (get same_words c.loop-target.fitting) all c.args.binding.now) (take_all c.loop-target.target-index targets c.loop-target-test.false) c.loop-target.invariant)

@@ -11,8 +11,8 @@ loop-binding-preserved c =
     let list = c.args.list.now in
     let k = c.loop-binding.binding-index in
     let one = c.binding-item.result in
-    subst (λ xs. KnowsBindings c.args.memory xs (get same_words c.add_binding.new.fitting)) (sym (front-more list k one c.loop-binding-test.true c.binding-item.is))
-    (knows-more c.args.memory _ one (get same_words c.loop-binding.fitting) (get same_words c.add_binding.new.fitting) c.loop-binding.invariant c.in_ok-add_binding.ensures)
+    subst (λ xs. KnowsBindings c.args.kind xs (get same_words c.add_binding.new.fitting)) (sym (front-more list k one c.loop-binding-test.true c.binding-item.is))
+    (knows-more c.args.kind _ one (get same_words c.loop-binding.fitting) (get same_words c.add_binding.new.fitting) c.loop-binding.invariant c.in_ok-add_binding.ensures)
 
 pub returns : goal.returns
-returns c = subst (λ xs. KnowsBindings c.args.memory xs (get same_words c.loop-binding.fitting)) (take_all c.loop-binding.binding-index c.args.list.now c.loop-binding-test.false) c.loop-binding.invariant
+returns c = subst (λ xs. KnowsBindings c.args.kind xs (get same_words c.loop-binding.fitting)) (take_all c.loop-binding.binding-index c.args.list.now c.loop-binding-test.false) c.loop-binding.invariant

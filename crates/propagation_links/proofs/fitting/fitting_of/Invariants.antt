@@ -5,4 +5,4 @@ use Rattle.propagation_links.specs.inner.Tables.{KnowsBindings}
 use Rattle.propagation_links.proofs.fitting.fitting_of.Given as goal
 
 abbrev pub invariant-loop-binding : goal.invariant-loop-binding
-invariant-loop-binding l = KnowsBindings l.memory (take l.binding-index l.list) (get same_words l.fitting)
+invariant-loop-binding l = KnowsBindings l.kind (take l.binding-index l.list) (get same_words l.fitting)

@@ -4,7 +4,7 @@ use Rattle.aadl_syntax.specs.declared.core_model.Binding.{Binding}
 use Rattle.instantiator.specs.declared.kinds.Kind.{Kind}
 use Rattle.propagation_links.specs.inner.Tables.{kind_bindings}
 use Rattle.propagation_links.proofs.BoundLaws.{kinds-mapped}
-use Rattle.propagation_links.proofs.bound.kinds_of.Goals as goal
+use Rattle.propagation_links.proofs.tables.kinds_of.Goals as goal
 
 pub returns : goal.returns
 returns c =

@@ -1,5 +1,5 @@
 use Rattle.std.proofs.Common.{◌≡◌, map, take}
-use Rattle.propagation_links.proofs.bound.names_of.Given as goal
+use Rattle.propagation_links.proofs.tables.names_of.Given as goal
 
 abbrev pub invariant-loop-name : goal.invariant-loop-name
 invariant-loop-name l = l.names ≡ map (λ name. name.now) (take l.name-index l.fn.path)

@@ -1,0 +1,35 @@
+use Rattle.std.proofs.Common.{ℕ, ◌<◌, ◌≤◌, List, [], ◌∷◌, None, refl, ap, ◌∙◌, length, arith}
+use Rattle.aadl_syntax.specs.declared.core_model.BindingKind.TheVariants.{Memory, Processor}
+use Rattle.instantiator.specs.declared.path.Component.{Component}
+use Rattle.instantiator.specs.Whole.{Instance}
+use Rattle.propagation_links.specs.declared.bound.BoundTo.{BoundTo}
+use Rattle.propagation_links.specs.Bound.{inherited_in}
+use Rattle.propagation_links.proofs.BoundLaws.{all-rows, rows-more, two-each}
+use Rattle.propagation_links.proofs.bound.inherited_of.Goals as goal
+
+abbrev give_in : Instance → ℕ → Component → List BoundTo
+give_in instance = λ number component. inherited_in instance Processor number ∷ inherited_in instance Memory number ∷ []
+
+pub loop-number-preserved : goal.loop-number-preserved
+loop-number-preserved c =
+    let instance = c.args.tables.now in
+    let give = give_in instance in
+    let long = ap length (c.components-number-end.ensures.components ∙ ap (λ (its : Instance). its.components) c.instance.ensures) in
+    let within : c.loop-number.number < length instance.components = omega (arith, long, c.loop-number-test.true) in
+    rows-more instance give c.loop-number.number within c.loop-number.inherited c.add_inherited.new.inherited (give c.loop-number.number (record { path = []; classifier = None })) c.loop-number.invariant c.in_ok-add_inherited.ensures (λ component. refl)
+
+pub returns-clause-inherited : goal.returns-clause-inherited
+returns-clause-inherited c =
+    let instance = c.args.tables.now in
+    let long = ap length (c.components-number-end.ensures.components ∙ ap (λ (its : Instance). its.components) c.instance.ensures) in
+    let past : length instance.components ≤ c.loop-number.number = omega (arith, long, c.loop-number-test.false) in
+    all-rows instance (give_in instance) c.loop-number.number past c.loop-number.inherited c.loop-number.invariant
+
+pub returns-clause-few : goal.returns-clause-few
+returns-clause-few c =
+    let instance = c.args.tables.now in
+    let long = ap length (c.components-number-end.ensures.components ∙ ap (λ (its : Instance). its.components) c.instance.ensures) in
+    let past : length instance.components ≤ c.loop-number.number = omega (arith, long, c.loop-number-test.false) in
+    let all = ap length (all-rows instance (give_in instance) c.loop-number.number past c.loop-number.inherited c.loop-number.invariant) in
+    let same = ap (λ (its : Instance). length its.components) c.instance.ensures in
+    omega (arith, all, long, same, two-each instance (give_in instance) (λ number component. omega arith), c.components-number-end.ensures.few)
