@@ -80,7 +80,7 @@ why_line =
           ((λ same. absurd (omega (arith, same)), ascii_text (codes "P::S") refl), ((λ same. absurd (omega (arith, same)), ascii_text (codes "T") refl), ((λ same. absurd (omega (arith, same)), ascii_text (codes "f") refl), tt)));
       options =
           record {
-            allowed = ((first_of (codes "set") [], (λ same. absurd (omega (arith, same)), ascii_text (codes "E") refl)), tt);
+            allowed = ((first_of (codes "set") (codes "profile" ∷ []), (λ same. absurd (omega (arith, same)), ascii_text (codes "E") refl)), tt);
             once = (tt, tt);
           };
       required = (refl, tt);

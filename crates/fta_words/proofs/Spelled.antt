@@ -150,19 +150,6 @@ pub none_given : (flags valued words : List (List ℕ)) → NoneStandsFirst flag
 none_given flags valued words none [] same allowed = refl
 none_given flags valued words none (option ∷ others) same allowed = absurd (none option.name option.spelling (option_words others) same allowed.0)
 
--- the name is that of no flag, and the next word is no value
-pub none_apart : (flags valued : List (List ℕ)) (name value : List ℕ) (rest : List (List ℕ))
-    → ((front back : List ℕ) → name ≡ front ++ (61 ∷ back) → ⊥) → (Contains flags name → ⊥)
-    → (Contains valued name → IsPlainWord value → ⊥) → NoneStandsFirst flags valued ((45 ∷ 45 ∷ name) ∷ value ∷ rest)
-none_apart flags valued name value rest no_sign no_flag none n Alone later same allowed =
-    let is = name_is name n (value ∷ rest) later same in no_flag (subst (Contains flags) (sym is.0) allowed)
-none_apart flags valued name value rest no_sign no_flag none n (Attached v) later same allowed =
-    let is = name_is name (n ++ (61 ∷ v)) (value ∷ rest) later same in no_sign n v is.0
-none_apart flags valued name value rest no_sign no_flag none n (Apart v) later same allowed =
-    let is = name_is name n (value ∷ rest) (v ∷ later) same in
-    let its : value ≡ v = cc (is.1) in
-    none (subst (Contains valued) (sym is.0) allowed.0) (subst IsPlainWord (sym its) allowed.1)
-
 -- the name is followed by `=` and a text that is no value
 pub none_attached : (flags valued : List (List ℕ)) → AreApart flags valued → (name value : List ℕ) (rest : List (List ℕ))
     → ((front back : List ℕ) → name ++ (61 ∷ value) ≡ front ++ (61 ∷ back) → length name ≤ length front)
