@@ -70,15 +70,43 @@ class Wider:
             return "(" + " and ".join(parts) + ")"
         if roll < 0.75:
             return "(" + " or ".join(parts) + ")"
-        least = self.pick([0, 1, 1, 2, 2, len(parts), len(parts) + 1])
-        word = "orless" if self.conditions and self.maybe(0.5) else "ormore"
+        least = self.pick([0, 1, 1, 2, 2, len(parts), len(parts), len(parts) + 1])
+        return self.count(least, parts, 0.15)
+
+    def count(self, least, parts, chance=0.5):
+        """The text of a count of parts."""
+        word = "orless" if self.conditions and self.maybe(chance) else "ormore"
         if self.another and word == "orless":
             return f"0 orless ({least + 1} ormore ({', '.join(parts)}))"
         return f"{least} {word} ({', '.join(parts)})"
 
+    def count_of_parts(self, names):
+        """A count of states of parts, most often so that what fails or holds is not trivial."""
+        chosen = self.random.sample(names, min(len(names), self.random.randint(2, 4)))
+        forms = ["{below} orless ({oks})", "0 orless ({least} ormore ({oks}))",
+                 "0 orless ({below} orless ({bads}))", "{least} ormore ({bads})",
+                 "0 orless ({ok} and {oks})", "0 orless ({ok} or {oks})",
+                 "1 ormore ({bad}, {below} orless ({oks}))", "{ok} and {below} orless ({oks})"]
+        if self.maybe(0.3):
+            forms = ["{least} ormore ({oks})", "{below} orless ({bads})", "0 orless ({ok} or {bad})",
+                     "1 orless ({least} ormore ({oks}), {ok})", "{ok} and {oks}"]
+        form = self.pick(forms)
+        one, rest = chosen[0], chosen[1:]
+        lists = {f"{state}s": ", ".join(f"{name}.{state}" for name in rest)
+                 for state in ("ok", "bad")}
+        for word in ("and", "or"):
+            if word + " {oks}" in form:
+                lists["oks"] = lists["oks"].replace(", ", f" {word} ")
+        least = self.random.randint(0 if self.maybe(0.1) else 1, len(rest))
+        text = form.format(least=least, below=max(0, least - 1), ok=f"{one}.ok",
+                           bad=f"{one}.bad", **lists)
+        if self.another:
+            return f"0 orless (0 orless ({text}))"
+        return text
+
     def set(self, declared, is_open=False):
         """The text of a set within a declared one, or none; `noerror` where that is new."""
-        if self.conditions and self.maybe(0.2):
+        if self.conditions and self.maybe(0.07):
             if is_open or declared in ("{a, c}", "{s}"):
                 return self.pick(NO_ERROR)
             return self.pick(NO_ERROR[:3] if declared == "{a}" else NO_ERROR[:1])
@@ -109,7 +137,7 @@ class Wider:
         """Declarations of events, and what is known of them."""
         text, known = "", []
         for name in names:
-            if self.conditions and self.maybe(0.4):
+            if self.conditions and self.maybe(0.5 if name == "back" else 0.07):
                 text += self.pick(FREE).replace("back", name) + "\n"
                 known.append((name, None))
                 continue
@@ -120,7 +148,7 @@ class Wider:
 
     def state(self, machine, source=False):
         """A used state."""
-        if source and self.maybe(0.1):
+        if source and self.maybe(0.05):
             return "all"
         name, declared = self.pick(machine["states"])
         if declared and self.maybe(0.4):
@@ -133,7 +161,8 @@ class Wider:
         for _ in range(self.random.randint(1, most)):
             goal = self.state(machine)
             if self.maybe(0.1):
-                goal = f"({goal} with 0.5, {self.pick(['same state', self.state(machine)])} with others)"
+                other = self.pick(["same state", self.state(machine)])
+                goal = f"({goal} with 0.5, {other} with others)"
             label = self.pick(["", "", "", "t: "])
             text += (f"{label}{self.state(machine, True)} -[{self.condition(triggers)}]-> "
                      f"{goal};\n")
@@ -153,7 +182,8 @@ class Wider:
         text = f"error behavior m{number} use types p;\nevents {events}states\n"
         for name, its in states:
             text += f"{name}: {initial if name == 'ok' else ''}state {its or ''};\n"
-        text += "transitions\n" + self.transitions(machine, self.event_triggers(known), 4)
+        text += "transitions\n" + ("ok -[e0]-> bad;\n" if self.maybe(0.8) else "")
+        text += self.transitions(machine, self.event_triggers(known), 3)
         self.machines.append(machine)
         return text + "end behavior;\n"
 
@@ -247,7 +277,8 @@ class Wider:
         """A device, a thread, or what others are bound to."""
         resource = self.bindings and (number == 1 or number and self.maybe(0.35))
         word = self.pick(RESOURCES if resource else ("device", "thread", "abstract"))
-        part = Part(word, f"c{number}", self.pick(self.machines + [None]))
+        part = Part(word, f"c{number}",
+                    self.pick(self.machines * (2 if self.conditions else 1) + [None]))
         features, text = self.ports(part, not resource)
         if resource:
             text += self.words(part, {"bindings": 0.9, "processor": 0.25, "connection": 0.25})
@@ -262,7 +293,8 @@ class Wider:
 
     def system(self, number, last):
         """A type and an implementation, and sometimes another one that extends it."""
-        part = Part("system", f"t{number}", self.pick(self.machines + [None]))
+        part = Part("system", f"t{number}",
+                    self.pick(self.machines * (3 if self.conditions else 1) + [None]))
         features, text = self.ports(part, True)
         if self.bindings:
             text += self.words(part, {"processor": 0.15, "bindings": 0.15, "connection": 0.2})
@@ -315,22 +347,30 @@ class Wider:
         triggers = [lambda n=f"{path}.{state}", d=types: n + self.set(d)
                     for path, child in below(part, 2) if child.machine
                     for state, types in child.machine["states"]]
-        if not triggers or not part.machine or self.maybe(0.25):
+        if not triggers or not part.machine or self.maybe(0.1 if self.conditions else 0.25):
             return ""
         triggers += [lambda t=each: "in " + t().removeprefix("in ")
                      for each in self.point_triggers(part)] * self.maybe(0.3)
         labels = self.pick([["", "", "", ""], ["", "", "k: ", "l: "]])
         clauses, conditions = [], []
-        for _ in range(self.random.randint(1, 3)):
-            conditions.append(self.condition(triggers))
-            clauses.append(f"{self.pick(labels)}[{conditions[-1]}]-> {self.state(part.machine)};\n")
+        names = [path for path, child in below(part, 2) if child.machine]
+        counts = len(names) > 1 and self.conditions and self.maybe(0.75)
+        for _ in range(self.pick([1, 1, 2, 3])):
+            conditions.append(self.count_of_parts(names) if counts and self.maybe(0.85)
+                              else self.condition(triggers))
+            clauses.append(f"{self.pick(labels)}[{conditions[-1]}]-> {self.goal(part)};\n")
         others = "others"
         if self.another and self.conditions and "k: " not in labels:
             others = f"0 orless ({' or '.join(f'({each})' for each in conditions)})"
         for _ in range(self.pick([0, 1, 1, 2]) if self.conditions else self.pick([0, 0, 1])):
-            goal = self.state(part.machine) if self.conditions else "ok"
+            goal = self.goal(part) if self.conditions else "ok"
             clauses.insert(0 if self.maybe(0.3) else len(clauses), f"[{others}]-> {goal};\n")
         return f"composite error behavior states\n{''.join(clauses)}end composite;\n"
+
+    def goal(self, part):
+        """The state to which a clause leads, most often not the initial one."""
+        goal = self.state(part.machine)
+        return self.state(part.machine) if goal == "ok" and self.maybe(0.7) else goal
 
     # Bindings
 
