@@ -14,7 +14,7 @@ import sys
 
 MODEL = "examples/attitude_control.aadl"
 ROOT, TARGET = "Acs::Control.dual", "root/out:torque{errors::serviceomission}"
-TREE = "usage aadl_fta tree ROOT TARGET FILE.. [--format galileo|mef|dot] [--gates written|merged] [--unrated 1|refuse]"
+TREE = "usage aadl_fta tree ROOT TARGET FILE.. [--format galileo|mef|dot] [--gates written|merged] [--unrated 1|refuse] [--profile 1|2]"
 
 # the words of a call, its exit status, and lines that must be among those of `explain`
 CALLS = [
@@ -23,18 +23,18 @@ CALLS = [
     (["reviews", ROOT, MODEL], 1, ["no command reviews", "near review"]),
     (["cutsets", ROOT, TARGET, MODEL], 1, ["no command cutsets"]),
     ([MODEL], 1, ["no command " + MODEL]),
-    (["cuts", TARGET, ROOT, MODEL], 1, ["usage aadl_fta cuts ROOT TARGET FILE.. [--limit N] [--after TOKEN] [--max-order N] [--tokens]"]),
-    (["cuts", ROOT, MODEL], 1, ["usage aadl_fta cuts ROOT TARGET FILE.. [--limit N] [--after TOKEN] [--max-order N] [--tokens]"]),
-    (["check", MODEL], 1, ["usage aadl_fta check ROOT FILE.."]),
+    (["cuts", TARGET, ROOT, MODEL], 1, ["usage aadl_fta cuts ROOT TARGET FILE.. [--limit N] [--after TOKEN] [--max-order N] [--tokens] [--profile 1|2]"]),
+    (["cuts", ROOT, MODEL], 1, ["usage aadl_fta cuts ROOT TARGET FILE.. [--limit N] [--after TOKEN] [--max-order N] [--tokens] [--profile 1|2]"]),
+    (["check", MODEL], 1, ["usage aadl_fta check ROOT FILE.. [--profile 1|2]"]),
     (["cuts", ROOT, TARGET, MODEL, "--maxorder", "1"], 1, ["no option --maxorder", "near --max-order"]),
-    (["cuts", ROOT, TARGET, MODEL, "--max-order"], 1, ["usage aadl_fta cuts ROOT TARGET FILE.. [--limit N] [--after TOKEN] [--max-order N] [--tokens]"]),
-    (["cuts", ROOT, TARGET, MODEL, "--limit=ten"], 1, ["usage aadl_fta cuts ROOT TARGET FILE.. [--limit N] [--after TOKEN] [--max-order N] [--tokens]"]),
-    (["cuts", "--limit", "1", ROOT, TARGET, MODEL], 1, ["usage aadl_fta cuts ROOT TARGET FILE.. [--limit N] [--after TOKEN] [--max-order N] [--tokens]"]),
+    (["cuts", ROOT, TARGET, MODEL, "--max-order"], 1, ["usage aadl_fta cuts ROOT TARGET FILE.. [--limit N] [--after TOKEN] [--max-order N] [--tokens] [--profile 1|2]"]),
+    (["cuts", ROOT, TARGET, MODEL, "--limit=ten"], 1, ["usage aadl_fta cuts ROOT TARGET FILE.. [--limit N] [--after TOKEN] [--max-order N] [--tokens] [--profile 1|2]"]),
+    (["cuts", "--limit", "1", ROOT, TARGET, MODEL], 1, ["usage aadl_fta cuts ROOT TARGET FILE.. [--limit N] [--after TOKEN] [--max-order N] [--tokens] [--profile 1|2]"]),
     (["tree", ROOT, TARGET, MODEL, "--limit", "1"], 1, ["no option --limit", TREE]),
     (["tree", ROOT, TARGET, MODEL, "--format", "svg"], 1, [TREE]),
     (["tree", ROOT, TARGET, MODEL, "--unrated", "refuse"], 2, ["aadl_fta: R1 UnratedEvent root.v/failure"]),
-    (["fmea", ROOT, MODEL, "-all"], 1, ["usage aadl_fta fmea ROOT FILE.. [--all]"]),
-    (["why", ROOT, TARGET, MODEL], 1, ["usage aadl_fta why ROOT TARGET FILE.. --set TOKEN"]),
+    (["fmea", ROOT, MODEL, "-all"], 1, ["usage aadl_fta fmea ROOT FILE.. [--all] [--profile 1|2]"]),
+    (["why", ROOT, TARGET, MODEL], 1, ["usage aadl_fta why ROOT TARGET FILE.. --set TOKEN [--profile 1|2]"]),
     (["report", ROOT, TARGET, MODEL, "--report=orders"], 1, ["no option --report=orders", "near --reports"]),
     (["explain", "T99"], 0, []),
     (["check", "Asc::Control.dual", MODEL], 2, ["aadl_fta: N2 UnknownPackage", "ROOT Asc::Control.dual", "near acs::control.dual"]),
