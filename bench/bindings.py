@@ -4,7 +4,7 @@
     python3 bindings.py --tool PROGRAM [--times N]
 
 Each model is made in two forms: without bindings, and with them. The first column is the form without by the first profile, the next ones are that with bindings by
-the first and by the second, and the last is the second profile over the form without: it is to be near 1. Seconds are those of the processor, the least of N runs.
+the first and by the second, and the last are the second over the form without, and over the first with the same text: both are to be near 1. Seconds are those of the processor, the least of N runs.
 The exit status is 1 where a listing by the second profile has not the event that only a binding brings there.
 """
 
@@ -40,7 +40,7 @@ def one_bus(count, bound):
     """A row of parts, all of whose connections are bound to one bus."""
     parts = "".join(f"d{n}: device d;\n" for n in range(count))
     wires = "".join(f"c{n}: port d{n}.o -> d{n + 1}.i;\n" for n in range(count - 1))
-    last = f"out: port d{count - 1}.o -> o;\n"
+    last = f"z: port d{count - 1}.o -> o;\n"
     targets = ", ".join(f"c{n}" for n in range(count - 1))
     properties = f"properties Actual_Connection_Binding => (reference (b)) applies to {targets};\n" if bound else ""
     return model(
@@ -109,7 +109,7 @@ def main():
     asked = parser.parse_args()
     tool = os.path.abspath(asked.tool)
     wrong = 0
-    print(f"{'model':24} {'command':6} {'plain':>8} {'first':>8} {'second':>8} {'ratio':>6}")
+    print(f"{'model':24} {'command':6} {'plain':>8} {'first':>8} {'second':>8} {'/plain':>7} {'/first':>7}")
     with tempfile.TemporaryDirectory() as folder:
         for name, make, size, event in MODELS:
             plain, bound = Path(folder) / "plain.aadl", Path(folder) / "bound.aadl"
@@ -121,7 +121,7 @@ def main():
                 _, without = least(tool, [command, "p::s.i", *target, str(plain), *more], asked.times)
                 _, first = least(tool, [command, "p::s.i", *target, str(bound), *more], asked.times)
                 done, second = least(tool, [command, "p::s.i", *target, str(bound), *more, "--profile", "2"], asked.times)
-                print(f"{name:24} {command:6} {without:8.2f} {first:8.2f} {second:8.2f} {second / max(without, 0.01):6.2f}")
+                print(f"{name:24} {command:6} {without:8.2f} {first:8.2f} {second:8.2f} {second / max(without, 0.005):7.2f} {second / max(first, 0.005):7.2f}")
                 if done.returncode or (command == "cuts" and f"1 {event}\n" not in done.stdout):
                     wrong += 1
                     print(f"WRONG {name}: {done.stderr.strip()} {done.stdout[:200]!r}")
