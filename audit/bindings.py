@@ -151,7 +151,8 @@ def more_binding_links(parts, below):
         for kind in KINDS:
             if not part.counts[kind]:
                 for other in referenced(below, nearest_around(part, kind)):
-                    yield from both_ways(part, kind, other)
+                    if other is not part:
+                        yield from both_ways(part, kind, other)
     for part in parts:
         for other in referenced(below, part.counts["function"]):
             yield from both_ways(part, "binding", other)

@@ -23,7 +23,7 @@ use Rattle.propagation_links.specs.declared.link.Link.{Link}
 use Rattle.propagation_links.specs.declared.link.PointAt.{PointAt}
 use Rattle.propagation_links.specs.Bound.{all_bounds, all_carried, all_functions, all_inherited}
 use Rattle.propagation_links.specs.Ends.{Pointed, connection_end, is_access, is_there, path_end, point_of}
-use Rattle.propagation_links.specs.Links.{all_links, bound_links, bound_word, carried_between, carried_ends, carried_links, carried_one_way, carrier_links, component_links, connected, connection_links, connection_point, ends_of, extra_links, from_side, is_apart, link_between, link_of, links_at_ends, links_both, links_in, links_under, only_second, path_links, stated_links, target_links, to_side}
+use Rattle.propagation_links.specs.Links.{all_links, bound_links, bound_word, carried_between, carried_ends, carried_links, carried_one_way, carrier_links, component_links, connected, connection_links, connection_point, ends_of, extra_links, from_side, is_apart, is_left_out, link_between, link_of, links_at_ends, links_both, links_in, links_under, only_second, path_links, stated_links, target_links, to_side}
 use Rattle.propagation_links.specs.inner.Links.{AllJoinSides, JoinsSides, OnlyAddsLinks}
 use Rattle.propagation_links.specs.Stated.{Carried, Stated}
 
@@ -72,19 +72,22 @@ module _ (pointed : Pointed) where
   join-numbered (component ∷ components) number =
       each-append (JoinsSides pointed) (component_links pointed number component) (numbered_from (component_links pointed) (number + 1) components) (join-in number (effective_in pointed.instance number)) (join-numbered components (number + 1))
 
-  join-target : (kind : BindingKind) (number : ℕ) (target : Option ℕ) → Join (target_links pointed kind number target)
-  join-target kind number None = tt
-  join-target kind number (Some target) = join-both true (point_of pointed false target (codes "bindings")) (point_of pointed false number (bound_word kind))
+  join-target : (itself : Bool) (kind : BindingKind) (number : ℕ) (target : Option ℕ) → Join (target_links pointed itself kind number target)
+  join-target itself kind number None = tt
+  join-target itself kind number (Some target) =
+      let from = point_of pointed false target (codes "bindings") in
+      let to = point_of pointed false number (bound_word kind) in
+      join-apart (is_left_out itself number target) (links_both pointed true from to) (join-both true from to)
 
-  join-stated : (kind : BindingKind) (number : ℕ) (stated : Option Stated) → Join (stated_links pointed kind number stated)
-  join-stated kind number None = tt
-  join-stated kind number (Some stated) =
-      let links : List (List ℕ) → List Link = λ reference. target_links pointed kind number (component_below pointed.instance.components stated.component reference) in
+  join-stated : (itself : Bool) (kind : BindingKind) (number : ℕ) (stated : Option Stated) → Join (stated_links pointed itself kind number stated)
+  join-stated itself kind number None = tt
+  join-stated itself kind number (Some stated) =
+      let links : List (List ℕ) → List Link = λ reference. target_links pointed itself kind number (component_below pointed.instance.components stated.component reference) in
       each-flat_map (JoinsSides pointed) links stated.binding.references
-      (each-all (λ (reference : List (List ℕ)). Join (links reference)) (λ reference. join-target kind number (component_below pointed.instance.components stated.component reference)) stated.binding.references)
+      (each-all (λ (reference : List (List ℕ)). Join (links reference)) (λ reference. join-target itself kind number (component_below pointed.instance.components stated.component reference)) stated.binding.references)
 
-  join-bounds : (bounds : List BoundTo) → Join (flat_map (bound_links pointed) bounds)
-  join-bounds bounds = each-flat_map (JoinsSides pointed) (bound_links pointed) bounds (each-all (λ (bound : BoundTo). Join (bound_links pointed bound)) (λ bound. join-stated bound.kind bound.component bound.stated) bounds)
+  join-bounds : (itself : Bool) (bounds : List BoundTo) → Join (flat_map (bound_links pointed itself) bounds)
+  join-bounds itself bounds = each-flat_map (JoinsSides pointed) (bound_links pointed itself) bounds (each-all (λ (bound : BoundTo). Join (bound_links pointed itself bound)) (λ bound. join-stated itself bound.kind bound.component bound.stated) bounds)
 
   -- ---- connections and what carries them
 
@@ -123,15 +126,15 @@ module _ (pointed : Pointed) where
   join-all : Join (all_links pointed)
   join-all =
       let bounds = all_bounds pointed.instance in
-      each-append (JoinsSides pointed) (connected pointed) (flat_map (bound_links pointed) bounds) (join-numbered pointed.instance.components 0) (join-bounds bounds)
+      each-append (JoinsSides pointed) (connected pointed) (flat_map (bound_links pointed true) bounds) (join-numbered pointed.instance.components 0) (join-bounds true bounds)
 
   join-extra : Join (extra_links pointed)
   join-extra =
       let inherited = all_inherited pointed.instance in
       let functions = all_functions pointed.instance in
       let carried = all_carried pointed.instance in
-      each-append (JoinsSides pointed) (flat_map (bound_links pointed) inherited) (flat_map (bound_links pointed) functions ++ flat_map (carried_links pointed) carried) (join-bounds inherited)
-      (each-append (JoinsSides pointed) (flat_map (bound_links pointed) functions) (flat_map (carried_links pointed) carried) (join-bounds functions) (join-carried carried))
+      each-append (JoinsSides pointed) (flat_map (bound_links pointed false) inherited) (flat_map (bound_links pointed true) functions ++ flat_map (carried_links pointed) carried) (join-bounds false inherited)
+      (each-append (JoinsSides pointed) (flat_map (bound_links pointed true) functions) (flat_map (carried_links pointed) carried) (join-bounds true functions) (join-carried carried))
 
   join-second : (profile : Profile) → Join (only_second profile (extra_links pointed))
   join-second First = tt

@@ -1,5 +1,5 @@
 -- Links and refusals, component after component.
-use Rattle.std.proofs.Common.{ℕ, ◌+◌, ◌≡◌, ◌<◌, ◌≤◌, List, [], ◌∷◌, ◌++◌, length, get_or, slice_get, sum, map, take, drop, flat_map, Option, Some, None, option_map, option_to_list, refl, sym, ap, ◌∙◌, subst}
+use Rattle.std.proofs.Common.{ℕ, ◌+◌, ◌≡◌, ◌<◌, ◌≤◌, List, [], ◌∷◌, ◌++◌, length, get_or, slice_get, sum, map, take, drop, flat_map, Option, Some, None, option_map, option_to_list, refl, sym, ap, ◌∙◌, subst, false, true}
 use Rattle.std.specs.Option.{option_or}
 use Rattle.std.proofs.lemmas.List.Sums.{sum_by_push}
 use Rattle.std.proofs.lemmas.List.{append_assoc, append-nil, get_or_default, take-append-drop, take_all}
@@ -134,8 +134,8 @@ accepted-all pointed i past none =
 -- ---- what the second profile alone has
 
 extra-by : (profile : Profile) (pointed : Pointed)
-    → (flat_map (bound_links pointed) (only_second profile (all_inherited pointed.instance))
-    ++ (flat_map (bound_links pointed) (only_second profile (all_functions pointed.instance)) ++ flat_map (carried_links pointed) (only_second profile (all_carried pointed.instance))))
+    → (flat_map (bound_links pointed false) (only_second profile (all_inherited pointed.instance))
+    ++ (flat_map (bound_links pointed true) (only_second profile (all_functions pointed.instance)) ++ flat_map (carried_links pointed) (only_second profile (all_carried pointed.instance))))
     ≡ only_second profile (extra_links pointed)
 extra-by First pointed = refl
 extra-by Second pointed = refl
@@ -185,14 +185,14 @@ module _ (profile : Profile) (pointed made : Pointed) (same : made ≡ pointed) 
 
   -- the links of connections and paths, and those of bindings behind them
   pub all-linked : (links between after : List Link) (bounds : List BoundTo) (further : Further) → links ≡ connected made → bounds ≡ all_bounds pointed.instance → IsFurther profile pointed.instance further
-      → between ≡ links ++ flat_map (bound_links made) bounds
-      → after ≡ between ++ (flat_map (bound_links made) further.inherited ++ (flat_map (bound_links made) further.functions ++ flat_map (carried_links made) further.carried))
+      → between ≡ links ++ flat_map (bound_links made true) bounds
+      → after ≡ between ++ (flat_map (bound_links made false) further.inherited ++ (flat_map (bound_links made true) further.functions ++ flat_map (carried_links made) further.carried))
       → after ≡ links_under profile pointed
   all-linked links between after bounds further are is has more last =
       let first : links ≡ connected pointed = are ∙ ap connected same in
-      let two : between ≡ all_links pointed = more ∙ (λ i. first i ++ flat_map (bound_links (same i)) (is i)) in
-      let three : (flat_map (bound_links made) further.inherited ++ (flat_map (bound_links made) further.functions ++ flat_map (carried_links made) further.carried)) ≡ only_second profile (extra_links pointed) =
-      (λ i. flat_map (bound_links (same i)) (has.inherited i) ++ (flat_map (bound_links (same i)) (has.functions i) ++ flat_map (carried_links (same i)) (has.carried i))) ∙ extra-by profile pointed in
+      let two : between ≡ all_links pointed = more ∙ (λ i. first i ++ flat_map (bound_links (same i) true) (is i)) in
+      let three : (flat_map (bound_links made false) further.inherited ++ (flat_map (bound_links made true) further.functions ++ flat_map (carried_links made) further.carried)) ≡ only_second profile (extra_links pointed) =
+      (λ i. flat_map (bound_links (same i) false) (has.inherited i) ++ (flat_map (bound_links (same i) true) (has.functions i) ++ flat_map (carried_links (same i)) (has.carried i))) ∙ extra-by profile pointed in
       last ∙ (λ i. two i ++ three i)
 
 -- the first refusal of the links is that of their group

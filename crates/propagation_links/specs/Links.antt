@@ -1,6 +1,6 @@
 -- The links of an instance: from which side of which point errors propagate to which (EMV2: propagation along connections
 -- and paths).
-use Rattle.std.specs.Prelude.{ℕ, Bool, true, false, cond, ◌&&◌, ◌||◌, not, List, [], ◌∷◌, ◌++◌, flat_map, codes, Option, Some, None, option_and_then}
+use Rattle.std.specs.Prelude.{ℕ, Bool, true, false, cond, ◌&&◌, ◌||◌, not, List, [], ◌∷◌, ◌++◌, flat_map, codes, Option, Some, None, option_and_then, nat_eq}
 use Rattle.plain_values.specs.Name.{is_same_text}
 use Rattle.aadl_syntax.specs.declared.core_model.BindingKind.{BindingKind}
 use Rattle.aadl_syntax.specs.declared.core_model.BindingKind.TheVariants.{Connection as OfConnection, Function, Memory, Processor}
@@ -107,22 +107,27 @@ bound_word Memory = codes "memory"
 bound_word OfConnection = codes "connection"
 bound_word Function = codes "binding"
 
--- The links of the component of a number and one to which it is bound, if there is one: from the point `bindings` of that to its own
--- point of the word, and then the other way.
-abbrev pub target_links : Pointed → BindingKind → ℕ → Option ℕ → List Link
-target_links pointed kind number None = []
-target_links pointed kind number (Some target) = links_both pointed true (point_of pointed false target (codes "bindings")) (point_of pointed false number (bound_word kind))
+-- whether the component of a number is the one to which it is bound, where none may be bound to itself
+abbrev pub is_left_out : Bool → ℕ → ℕ → Bool
+is_left_out itself number target = not itself && nat_eq target number
+
+-- The links of the component of a number and one to which it is bound, if there is one, and where it may be itself: from the point
+-- `bindings` of that to its own point of the word, and then the other way.
+abbrev pub target_links : Pointed → Bool → BindingKind → ℕ → Option ℕ → List Link
+target_links pointed itself kind number None = []
+target_links pointed itself kind number (Some target) =
+    cond (is_left_out itself number target) [] (links_both pointed true (point_of pointed false target (codes "bindings")) (point_of pointed false number (bound_word kind)))
 
 -- The links of the component of a number by the binding that counts for it, if there is one: those of each reference in order, which is
 -- a path from the component that states the binding. A path that leads nowhere gives none.
-abbrev pub stated_links : Pointed → BindingKind → ℕ → Option Stated → List Link
-stated_links pointed kind number None = []
-stated_links pointed kind number (Some stated) =
-    flat_map (λ reference. target_links pointed kind number (component_below pointed.instance.components stated.component reference)) stated.binding.references
+abbrev pub stated_links : Pointed → Bool → BindingKind → ℕ → Option Stated → List Link
+stated_links pointed itself kind number None = []
+stated_links pointed itself kind number (Some stated) =
+    flat_map (λ reference. target_links pointed itself kind number (component_below pointed.instance.components stated.component reference)) stated.binding.references
 
 -- the links of a component by its binding of a kind
-abbrev pub bound_links : Pointed → BoundTo → List Link
-bound_links pointed bound = stated_links pointed bound.kind bound.component bound.stated
+abbrev pub bound_links : Pointed → Bool → BoundTo → List Link
+bound_links pointed itself bound = stated_links pointed itself bound.kind bound.component bound.stated
 
 -- ---- bindings of connections
 
@@ -165,14 +170,14 @@ carried_links pointed carried = carried_ends pointed carried.stated carried.comp
 
 -- The links of the connections and paths of all components, and behind them those of their bindings to processors and memories.
 abbrev pub all_links : Pointed → List Link
-all_links pointed = connected pointed ++ flat_map (bound_links pointed) (all_bounds pointed.instance)
+all_links pointed = connected pointed ++ flat_map (bound_links pointed true) (all_bounds pointed.instance)
 
--- The links of the second profile alone: those of what holds for what is inside, then those of functions, and then those of connections
+-- The links of the second profile alone: those of what holds for what is inside, by which nothing is bound to itself, then those of functions, and then those of connections
 -- and what carries them.
 abbrev pub extra_links : Pointed → List Link
 extra_links pointed =
-    flat_map (bound_links pointed) (all_inherited pointed.instance)
-    ++ (flat_map (bound_links pointed) (all_functions pointed.instance) ++ flat_map (carried_links pointed) (all_carried pointed.instance))
+    flat_map (bound_links pointed false) (all_inherited pointed.instance)
+    ++ (flat_map (bound_links pointed true) (all_functions pointed.instance) ++ flat_map (carried_links pointed) (all_carried pointed.instance))
 
 -- what the second profile alone has
 abbrev pub only_second : {A : Type 0} → Profile → List A → List A

@@ -38,7 +38,7 @@ use std::alloc::Global;
 /// the point `processor` or `memory` of the bound one, and then the one from there to `bindings`.
 ///
 /// Under the second profile there are more behind these. A component for which no binding to a processor or to a memory counts takes
-/// the one that counts for the nearest component around it. Then, for each component, the binding of its function that counts for it
+/// the one that counts for the nearest component around it, by which it is not bound to itself. Then, for each component, the binding of its function that counts for it
 /// gives the links between `bindings` and its point `binding`. Then, for each connection for which a binding of connections counts,
 /// each component that carries it, and each direction, there is the link from `bindings` to the to-end, from `bindings` to the point
 /// `connection` of the component at the to-end, and from the from-end to `bindings`.
@@ -65,7 +65,7 @@ pub fn links_of<'a>(
     let further = Further::of(alloc, profile, &tables)?;
     test_limit(profile, &pointed, bounds.items(), &further, refusals)?;
     let mut links = connected(alloc, &pointed, refusals)?;
-    add_all_bound(&mut links, &pointed, bounds.items())?;
+    add_all_bound(&mut links, &pointed, true, bounds.items())?;
     further.add_links(&mut links, &pointed)?;
     Ok(links)
 }

@@ -1,4 +1,4 @@
-ghost use Rattle.std.specs.Prelude.{◌≡◌, ◌≤◌, ◌<◌, ◌+◌, ◌^◌, ◌++◌, IfOk, OnOk, flat_map, map, sum};
+ghost use Rattle.std.specs.Prelude.{◌≡◌, ◌≤◌, ◌<◌, ◌+◌, ◌^◌, ◌++◌, IfOk, OnOk, false, flat_map, map, sum, true};
 ghost use Rattle.profiles.specs.declared.profile.Profile.TheVariants.{First, Second};
 ghost use Rattle.propagation_links.specs.Links.{bound_links, carried_links};
 ghost use Rattle.propagation_links.specs.Refused.{count_bound, count_carried, count_links};
@@ -68,10 +68,10 @@ impl<'r> Further<'r> {
 
     /// Adds the links of these bindings.
     pub(crate) fn add_links(&self, links: &mut List<Link>, pointed: &Pointed) -> Mem<()>
-        ensures { OnOk result (links.new ≡ links.old ++ (flat_map (bound_links pointed.now) self.now.inherited ++ (flat_map (bound_links pointed.now) self.now.functions ++ flat_map (carried_links pointed.now) self.now.carried))) }
+        ensures { OnOk result (links.new ≡ links.old ++ (flat_map (bound_links pointed.now false) self.now.inherited ++ (flat_map (bound_links pointed.now true) self.now.functions ++ flat_map (carried_links pointed.now) self.now.carried))) }
     {
-        add_all_bound(links, pointed, self.inherited.items())?;
-        add_all_bound(links, pointed, self.functions.items())?;
+        add_all_bound(links, pointed, false, self.inherited.items())?;
+        add_all_bound(links, pointed, true, self.functions.items())?;
         add_all_carried(links, pointed, self.carried.items())
     }
 
