@@ -1,6 +1,7 @@
 -- Classifiers: component types, implementations and feature group types, with their sections.
 use Rattle.std.specs.Prelude.{ℕ, List, [], ◌∷◌, ◌++◌, Option, Some, None, codes}
 use Rattle.plain_values.specs.declared.spot.Spot.{Spot}
+use Rattle.aadl_syntax.specs.declared.core_model.Category.{Category}
 use Rattle.aadl_syntax.specs.declared.core_model.Decl.{Decl}
 use Rattle.aadl_parser.specs.declared.names.Classifier.{Classifier}
 use Rattle.grammar_rules.specs.Rules.{Rule, gives, chooses, gathers, ◌>>=◌}
@@ -126,15 +127,15 @@ extension = do
 unfoldable pub optional_extension : Rule Classifier
 optional_extension = chooses (is_word (codes "extends") ∷ []) extension (gives (record { reference = None; binds = None }))
 
--- a classifier of this name, item and place, with what it extends, and without sections
-abbrev pub bare_decl : List ℕ → Option (List ℕ) → Spot → Classifier → Decl
-bare_decl name item at extended = record { name = name; item = item; spot = at; extends = extended.reference; binds = extended.binds; prototypes = None; features = []; subcomponents = []; connections = []; clauses = []; properties = [] }
+-- a classifier of this category, name, item and place, with what it extends, and without sections
+abbrev pub bare_decl : Category → List ℕ → Option (List ℕ) → Spot → Classifier → Decl
+bare_decl of name item at extended = record { category = of; name = name; item = item; spot = at; extends = extended.reference; binds = extended.binds; prototypes = None; features = []; subcomponents = []; connections = []; clauses = []; properties = [] }
 
--- [ ext ] { section }, of the classifier of this name, item and place
-unfoldable pub decl_of : List ℕ → Option (List ℕ) → Spot → Rule Decl
-decl_of name item at = do
+-- [ ext ] { section }, of the classifier of this category, name, item and place
+unfoldable pub decl_of : Category → List ℕ → Option (List ℕ) → Spot → Rule Decl
+decl_of of name item at = do
   extended ← optional_extension
-  sections (bare_decl name item at extended)
+  sections (bare_decl of name item at extended)
 
 -- "end" ID ";"
 unfoldable pub type_end : Rule (Unit {0})
@@ -143,12 +144,12 @@ type_end = do
   _ ← core_name
   sign (codes ";")
 
--- ID [ ext ] { section } "end" ID ";"
-unfoldable pub component_type : Rule Decl
-component_type = do
+-- ID [ ext ] { section } "end" ID ";", of this category
+unfoldable pub component_type : Category → Rule Decl
+component_type of = do
   at ← spot
   name ← core_name
-  decl ← decl_of name None at
+  decl ← decl_of of name None at
   _ ← type_end
   gives decl
 
@@ -160,22 +161,22 @@ implementation_end = do
   _ ← dotted_name
   sign (codes ";")
 
--- "implementation" ID "." ID [ ext ] { section } "end" ID "." ID ";"
-unfoldable pub implementation : Rule Decl
-implementation = do
+-- "implementation" ID "." ID [ ext ] { section } "end" ID "." ID ";", of this category
+unfoldable pub implementation : Category → Rule Decl
+implementation of = do
   _ ← word (codes "implementation")
   at ← spot
   name ← core_name
   item ← dotted_name
-  decl ← decl_of name (Some item) at
+  decl ← decl_of of name (Some item) at
   _ ← implementation_end
   gives decl
 
 -- category ID [ ext ] { section } "end" ID ";" | category "implementation" ID "." ID [ ext ] { section } "end" ID "." ID ";"
 unfoldable pub classifier : Rule Decl
 classifier = do
-  _ ← category
-  chooses (is_word (codes "implementation") ∷ []) implementation component_type
+  of ← category
+  chooses (is_word (codes "implementation") ∷ []) (implementation of) (component_type of)
 
 -- "feature" "group" ID to-end "end" ID ";": a feature group type has no value
 unfoldable pub group_type : Rule (Unit {0})

@@ -9,9 +9,9 @@ use Rattle.aadl_syntax.specs.declared.core_model.Ends.{Ends}
 use Rattle.grammar_rules.specs.Rules.{Rule, gives, chooses, ◌>>=◌}
 use Rattle.grammar_rules.specs.Parts.{parts_after}
 use Rattle.grammar_rules.specs.Tokens.{spot, word, sign, one_of, is_word, is_sign, is_one_of}
-use Rattle.grammar_rules.specs.Spans.{tail_end}
 use Rattle.aadl_parser.specs.Words.{is_name, begins_end, processor_words}
 use Rattle.aadl_parser.specs.Names.{core_name, dotted_name}
+use Rattle.aadl_parser.specs.Runs.{kept_tail}
 use Rattle.aadl_parser.specs.Features.{refinement, accessed}
 
 -- "feature" [ "group" ]
@@ -88,8 +88,8 @@ unfoldable pub connection_of : List ℕ → Spot → Bool → Rule Connection
 connection_of name at refined = do
   its_kind ← connection_kind
   its_ends ← ends_of refined
-  _ ← tail_end
-  gives (record { name = name; spot = at; refined = refined; kind = its_kind; ends = its_ends })
+  tail ← kept_tail
+  gives (record { name = name; spot = at; refined = refined; kind = its_kind; ends = its_ends; tail = tail })
 
 -- conn = ID ":" [ "refined" "to" ] ckind [ end ("->" | "<->") end ] tail ";"
 unfoldable pub connection : Rule Connection

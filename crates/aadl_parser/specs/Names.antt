@@ -1,10 +1,11 @@
 -- Names and references of core text.
 use Rattle.std.specs.Prelude.{ℕ, ◌-◌, List, [], ◌∷◌, length, Option, Some, None, codes, get_or}
+use Rattle.aadl_syntax.specs.declared.core_model.Category.{Category}
 use Rattle.aadl_syntax.specs.declared.place.Ref.{Ref}
 use Rattle.grammar_rules.specs.Rules.{Rule, gives, chooses, ◌>>=◌}
 use Rattle.grammar_rules.specs.Parts.{parts_after}
-use Rattle.grammar_rules.specs.Tokens.{spot, word, sign, identifier, is_sign, is_word}
-use Rattle.aadl_parser.specs.Words.{core_words, category_words, is_name, any_of, optional_word, either_word}
+use Rattle.grammar_rules.specs.Tokens.{spot, word, sign, identifier, one_of, is_sign, is_one_of}
+use Rattle.aadl_parser.specs.Words.{core_words, category_words, grouped_words, group_words, virtual_words, platform_words, is_name}
 
 -- ID
 unfoldable pub core_name : Rule (List ℕ)
@@ -73,21 +74,36 @@ with_packages = do
   _ ← parts_after [] (is_sign (codes ",") ∷ []) further_names
   sign (codes ";")
 
--- this word, and [ "group" ]
-unfoldable pub grouped_category : List ℕ → Rule (Unit {0})
-grouped_category first = do
-  _ ← word first
-  optional_word (codes "group")
+-- [ "group" ]
+unfoldable pub optional_group : Rule (Option (List ℕ))
+optional_group = chooses (is_one_of group_words ∷ [])
+    (do
+      second ← one_of group_words
+      gives (Some second))
+    (gives None)
+
+-- ( "subprogram" | "thread" ) [ "group" ]
+unfoldable pub grouped_category : Rule Category
+grouped_category = do
+  first ← one_of grouped_words
+  second ← optional_group
+  gives (record { word = first; second = second })
 
 -- "virtual" ( "processor" | "bus" )
-unfoldable pub virtual_category : Rule (Unit {0})
+unfoldable pub virtual_category : Rule Category
 virtual_category = do
-  _ ← word (codes "virtual")
-  either_word (codes "processor") (codes "bus")
+  first ← one_of virtual_words
+  second ← one_of platform_words
+  gives (record { word = first; second = Some second })
+
+-- "abstract" | "data" | "process" | "memory" | "processor" | "bus" | "device" | "system"
+unfoldable pub single_category : Rule Category
+single_category = do
+  first ← one_of category_words
+  gives (record { word = first; second = None })
 
 -- category = "abstract" | "data" | "subprogram" [ "group" ] | "thread" [ "group" ] | "process" | "memory" | "processor"
 --          | "virtual" ( "processor" | "bus" ) | "bus" | "device" | "system"
-unfoldable pub category : Rule (Unit {0})
-category = chooses (is_word (codes "subprogram") ∷ []) (grouped_category (codes "subprogram"))
-    (chooses (is_word (codes "thread") ∷ []) (grouped_category (codes "thread"))
-    (chooses (is_word (codes "virtual") ∷ []) virtual_category (any_of category_words)))
+unfoldable pub category : Rule Category
+category = chooses (is_one_of grouped_words ∷ []) grouped_category
+    (chooses (is_one_of virtual_words ∷ []) virtual_category single_category)

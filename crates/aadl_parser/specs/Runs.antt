@@ -1,9 +1,9 @@
 -- Runs of tokens that are read past, and the places that are noted in them.
-use Rattle.std.specs.Prelude.{Bool, true, ◌&&◌, ◌||◌, [], ◌∷◌, Option, Some, None, codes}
+use Rattle.std.specs.Prelude.{Bool, true, ◌&&◌, ◌||◌, List, [], ◌∷◌, Option, Some, None, codes}
 use Rattle.aadl_syntax.specs.declared.token.Token.{Token}
 use Rattle.plain_values.specs.declared.spot.Spot.{Spot}
 use Rattle.grammar_rules.specs.Rules.{Rule, gives, chooses, ◌>>=◌}
-use Rattle.grammar_rules.specs.Spans.{until, closes, ends_balanced, tail_end}
+use Rattle.grammar_rules.specs.Spans.{until, closes, ends_balanced, ends_tail, tail_end}
 use Rattle.grammar_rules.specs.Tokens.{spot, word, sign, is_word, is_sign, is_one_of}
 use Rattle.aadl_parser.specs.Words.{ending_words}
 
@@ -34,13 +34,25 @@ array_place = chooses (is_sign (codes "[") ∷ [])
       gives (Some at))
     (gives None)
 
+-- the rest of a tail, from the first `[` at depth 0 in it, and its ";": the place of this `[`, if there is one
+unfoldable pub tail_rest : Rule (Option Spot)
+tail_rest = do
+  array ← array_place
+  _ ← tail_end
+  gives array
+
 -- tail ";", and the place of the first `[` at depth 0 in it
 unfoldable pub array_tail : Rule (Option Spot)
 array_tail = do
   _ ← until ends_front
-  array ← array_place
-  _ ← tail_end
-  gives array
+  tail_rest
+
+-- tail ";", whose tokens are kept
+unfoldable pub kept_tail : Rule (List Token)
+kept_tail = do
+  tokens ← until ends_tail
+  _ ← sign (codes ";")
+  gives tokens
 
 -- the place of a `(`, if it is the next token
 unfoldable pub bindings_place : Rule (Option Spot)

@@ -5,10 +5,11 @@ use Rattle.aadl_syntax.specs.declared.core_model.Subcomponent.{Subcomponent}
 use Rattle.aadl_parser.specs.declared.names.Classifier.{Classifier}
 use Rattle.grammar_rules.specs.Rules.{Rule, gives, chooses, ◌>>=◌}
 use Rattle.grammar_rules.specs.Parts.{parts_after}
+use Rattle.grammar_rules.specs.Spans.{until}
 use Rattle.grammar_rules.specs.Tokens.{spot, word, sign, is_word}
 use Rattle.aadl_parser.specs.Words.{is_name}
 use Rattle.aadl_parser.specs.Names.{core_name, reference, category}
-use Rattle.aadl_parser.specs.Runs.{array_tail, bindings_place}
+use Rattle.aadl_parser.specs.Runs.{ends_front, tail_rest, bindings_place}
 use Rattle.aadl_parser.specs.Features.{refinement}
 
 -- [ ref ], and the place of a `(` right after it: bindings of prototypes, which belong to the tail
@@ -25,8 +26,9 @@ unfoldable pub subcomponent_of : List ℕ → Spot → Bool → Rule Subcomponen
 subcomponent_of name at refined = do
   _ ← category
   classifier ← optional_classifier
-  array ← array_tail
-  gives (record { name = name; spot = at; refined = refined; classifier = classifier.reference; array = array; binds = classifier.binds })
+  tail ← until ends_front
+  array ← tail_rest
+  gives (record { name = name; spot = at; refined = refined; classifier = classifier.reference; array = array; binds = classifier.binds; tail = tail })
 
 -- subcomp = ID ":" [ "refined" "to" ] category [ ref ] tail ";"
 unfoldable pub subcomponent : Rule Subcomponent

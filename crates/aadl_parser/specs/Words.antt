@@ -19,6 +19,22 @@ declaration_words = codes "with" ∷ codes "renames" ∷ codes "feature" ∷ cod
 unfoldable pub category_words : List (List ℕ)
 category_words = codes "abstract" ∷ codes "data" ∷ codes "process" ∷ codes "memory" ∷ codes "processor" ∷ codes "bus" ∷ codes "device" ∷ codes "system" ∷ []
 
+-- the words behind which a category may have `group`
+unfoldable pub grouped_words : List (List ℕ)
+grouped_words = codes "subprogram" ∷ codes "thread" ∷ []
+
+-- the word of a category that may follow these
+unfoldable pub group_words : List (List ℕ)
+group_words = codes "group" ∷ []
+
+-- the first word of a category that has always two
+unfoldable pub virtual_words : List (List ℕ)
+virtual_words = codes "virtual" ∷ []
+
+-- the words of a category that follow `virtual`
+unfoldable pub platform_words : List (List ℕ)
+platform_words = codes "processor" ∷ codes "bus" ∷ []
+
 -- the first words of the sections of a classifier
 unfoldable pub section_words : List (List ℕ)
 section_words = codes "features" ∷ codes "subcomponents" ∷ codes "connections" ∷ codes "prototypes" ∷ codes "flows" ∷ codes "modes" ∷ codes "calls" ∷ codes "properties" ∷ codes "requires" ∷ codes "internal" ∷ codes "processor" ∷ codes "annex" ∷ []

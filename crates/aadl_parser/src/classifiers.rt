@@ -16,7 +16,7 @@ use crate::names::{Classifier, category, dotted_name, reference};
 use crate::runs::{bindings, past, section_tokens};
 use crate::subcomponents::subcomponents_after;
 use crate::words::{core_name, ending_at, inner_at, inner_word, section_at, skipped_word};
-use aadl_syntax::{Decl, Identifier};
+use aadl_syntax::{Category, Decl, Identifier};
 use grammar_rules::{Gathered, ReadError, Reader, ToEnd, spot};
 use plain_values::{List, Spot};
 use std::alloc::Global;
@@ -204,14 +204,16 @@ fn optional_extension(reader: &mut Reader) -> Result<Classifier, ReadError>
 
 fn bare_decl(
     alloc: Global,
+    category: Category,
     name: Identifier,
     item: Option<Identifier>,
     spot: Spot,
     extended: Classifier,
 ) -> Decl
-    ensures { result ≡ bare_decl name item spot extended }
+    ensures { result ≡ bare_decl category name item spot extended }
 {
     Decl {
+        category,
         name,
         item,
         spot,
@@ -229,14 +231,15 @@ fn bare_decl(
 #[tactic(auto, unfolding(crate::specs::Classifiers::decl_of))]
 fn decl_of(
     reader: &mut Reader,
+    category: Category,
     name: Identifier,
     item: Option<Identifier>,
     spot: Spot,
 ) -> Result<Decl, ReadError>
-    ensures { Gives result (decl_of name item spot) reader.old reader.new }
+    ensures { Gives result (decl_of category name item spot) reader.old reader.new }
 {
     let extended = optional_extension(reader)?;
-    let mut decl = bare_decl(reader.alloc(), name, item, spot, extended);
+    let mut decl = bare_decl(reader.alloc(), category, name, item, spot, extended);
     sections(reader, &mut decl)?;
     Ok(decl)
 }
@@ -252,12 +255,12 @@ pub(crate) fn type_end(reader: &mut Reader) -> Result<(), ReadError>
 }
 
 #[tactic(auto, unfolding(crate::specs::Classifiers::component_type))]
-fn component_type(reader: &mut Reader) -> Result<Decl, ReadError>
-    ensures { Gives result component_type reader.old reader.new }
+fn component_type(reader: &mut Reader, category: Category) -> Result<Decl, ReadError>
+    ensures { Gives result (component_type category) reader.old reader.new }
 {
     let spot = spot(reader)?;
     let name = core_name(reader)?;
-    let decl = decl_of(reader, name, None, spot)?;
+    let decl = decl_of(reader, category, name, None, spot)?;
     type_end(reader)?;
     Ok(decl)
 }
@@ -273,14 +276,14 @@ fn implementation_end(reader: &mut Reader) -> Result<(), ReadError>
 }
 
 #[tactic(auto, unfolding(crate::specs::Classifiers::implementation))]
-fn implementation(reader: &mut Reader) -> Result<Decl, ReadError>
-    ensures { Gives result implementation reader.old reader.new }
+fn implementation(reader: &mut Reader, category: Category) -> Result<Decl, ReadError>
+    ensures { Gives result (implementation category) reader.old reader.new }
 {
     reader.word(b"implementation")?;
     let spot = spot(reader)?;
     let name = core_name(reader)?;
     let item = dotted_name(reader)?;
-    let decl = decl_of(reader, name, Some(item), spot)?;
+    let decl = decl_of(reader, category, name, Some(item), spot)?;
     implementation_end(reader)?;
     Ok(decl)
 }
@@ -290,11 +293,11 @@ fn implementation(reader: &mut Reader) -> Result<Decl, ReadError>
 pub(crate) fn classifier(reader: &mut Reader) -> Result<Decl, ReadError>
     ensures { Gives result classifier reader.old reader.new }
 {
-    category(reader)?;
+    let category = category(reader)?;
     if reader.word_at(0, b"implementation") {
-        return implementation(reader);
+        return implementation(reader, category);
     }
-    component_type(reader)
+    component_type(reader, category)
 }
 
 /// Goes past a feature group type.

@@ -9,9 +9,10 @@ ghost use Rattle.aadl_parser.specs.inner.Takes.{connection-takes};
 
 use crate::features::{accessed, refinement};
 use crate::names::DottedNames;
+use crate::runs::kept_tail;
 use crate::words::{core_name, end_at, name_at, processor_at, processor_name};
 use aadl_syntax::{Connection, ConnectionKind, End, Ends, Identifier};
-use grammar_rules::{Parts, ReadError, Reader, spot, tail_end};
+use grammar_rules::{Parts, ReadError, Reader, spot};
 use plain_values::{List, Spot};
 
 #[tactic(auto, unfolding(crate::specs::Connections::feature_connection))]
@@ -129,13 +130,14 @@ fn connection_of(
 {
     let kind = connection_kind(reader)?;
     let ends = ends_of(reader, refined)?;
-    tail_end(reader)?;
+    let tail = kept_tail(reader)?;
     Ok(Connection {
         name,
         spot,
         refined,
         kind,
         ends,
+        tail,
     })
 }
 

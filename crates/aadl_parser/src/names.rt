@@ -2,11 +2,14 @@ ghost use Rattle.std.specs.Prelude.{◌≡◌, ◌<◌, [], ◌∷◌, codes, If
 ghost use Rattle.grammar_rules.specs.inner.Reader.{Gives, given};
 ghost use Rattle.grammar_rules.specs.Tokens.{is_sign};
 ghost use Rattle.aadl_parser.specs.Words.{is_name};
-ghost use Rattle.aadl_parser.specs.Names.{further_name, names_after, names, two_names, last_name, dotted_name, optional_item, reference, further_names, with_packages, grouped_category, virtual_category, category};
+ghost use Rattle.aadl_parser.specs.Names.{further_name, names_after, names, two_names, last_name, dotted_name, optional_item, reference, further_names, with_packages, optional_group, grouped_category, virtual_category, single_category, category};
 ghost use Rattle.aadl_parser.specs.inner.Takes.{further_name-takes, further_names-takes, dotted_name-takes};
 
-use crate::words::{category_word, core_name, either_word, name_at, optional_word};
-use aadl_syntax::{Identifier, Ref};
+use crate::words::{
+    category_word, core_name, group_at, group_word, grouped_at, grouped_word, name_at, platform_word,
+    virtual_at, virtual_word,
+};
+use aadl_syntax::{Category, Identifier, Ref};
 use grammar_rules::{Parts, ReadError, Reader, spot};
 use plain_values::{List, Mem, Spot};
 use std::alloc::Global;
@@ -115,37 +118,57 @@ pub(crate) fn with_packages(reader: &mut Reader) -> Result<(), ReadError>
     reader.sign(b";")
 }
 
-#[tactic(auto, unfolding(crate::specs::Names::grouped_category))]
-fn grouped_category(reader: &mut Reader, first: &[u8]) -> Result<(), ReadError>
-    ensures { Gives result (grouped_category first.now) reader.old reader.new }
+#[tactic(auto, unfolding(crate::specs::Names::optional_group))]
+fn optional_group(reader: &mut Reader) -> Result<Option<Identifier>, ReadError>
+    ensures { Gives result optional_group reader.old reader.new }
 {
-    reader.word(first)?;
-    optional_word(reader, b"group")
+    if group_at(reader) {
+        return Ok(Some(group_word(reader)?));
+    }
+    Ok(None)
+}
+
+#[tactic(auto, unfolding(crate::specs::Names::grouped_category))]
+fn grouped_category(reader: &mut Reader) -> Result<Category, ReadError>
+    ensures { Gives result grouped_category reader.old reader.new }
+{
+    let word = grouped_word(reader)?;
+    let second = optional_group(reader)?;
+    Ok(Category { word, second })
 }
 
 #[tactic(auto, unfolding(crate::specs::Names::virtual_category))]
-fn virtual_category(reader: &mut Reader) -> Result<(), ReadError>
+fn virtual_category(reader: &mut Reader) -> Result<Category, ReadError>
     ensures { Gives result virtual_category reader.old reader.new }
 {
-    reader.word(b"virtual")?;
-    either_word(reader, b"processor", b"bus")
+    let word = virtual_word(reader)?;
+    let second = platform_word(reader)?;
+    Ok(Category {
+        word,
+        second: Some(second),
+    })
+}
+
+#[tactic(auto, unfolding(crate::specs::Names::single_category))]
+fn single_category(reader: &mut Reader) -> Result<Category, ReadError>
+    ensures { Gives result single_category reader.old reader.new }
+{
+    let word = category_word(reader)?;
+    Ok(Category { word, second: None })
 }
 
 /// Reads the category of a component.
 #[tactic(auto, unfolding(crate::specs::Names::category))]
-pub(crate) fn category(reader: &mut Reader) -> Result<(), ReadError>
+pub(crate) fn category(reader: &mut Reader) -> Result<Category, ReadError>
     ensures { Gives result category reader.old reader.new }
 {
-    if reader.word_at(0, b"subprogram") {
-        return grouped_category(reader, b"subprogram");
+    if grouped_at(reader) {
+        return grouped_category(reader);
     }
-    if reader.word_at(0, b"thread") {
-        return grouped_category(reader, b"thread");
-    }
-    if reader.word_at(0, b"virtual") {
+    if virtual_at(reader) {
         return virtual_category(reader);
     }
-    category_word(reader)
+    single_category(reader)
 }
 
 // Names after the first.

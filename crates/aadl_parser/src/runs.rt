@@ -2,12 +2,12 @@ ghost use Rattle.std.specs.Prelude.{◌≡◌, ◌||◌};
 ghost use Rattle.std.specs.Option.{option_map};
 ghost use Rattle.aadl_syntax.specs.inner.Token.{shown};
 ghost use Rattle.grammar_rules.specs.inner.Reader.{Gives};
-ghost use Rattle.grammar_rules.specs.Spans.{until};
-ghost use Rattle.aadl_parser.specs.Runs.{begins_item, ends_past, past, array_place, array_tail, bindings_place, parenthesised, bindings, in_modes};
+ghost use Rattle.grammar_rules.specs.Spans.{until, ends_tail};
+ghost use Rattle.aadl_parser.specs.Runs.{begins_item, ends_past, past, array_place, ends_front, tail_rest, array_tail, kept_tail, bindings_place, parenthesised, bindings, in_modes};
 
 use crate::words::is_ending;
 use aadl_syntax::{TokenList, TokenRef};
-use grammar_rules::{Balanced, ReadError, Reader, Span, closes, is_sign, spot, tail_end};
+use grammar_rules::{Balanced, ReadError, Reader, Span, Tail, closes, is_sign, spot, tail_end};
 use plain_values::Spot;
 
 // The tokens of a section that are read past.
@@ -74,15 +74,48 @@ fn array_place(reader: &mut Reader) -> Result<Option<Spot>, ReadError>
     Ok(None)
 }
 
+/// Copies the tokens of a tail before its first `[` outside of brackets, or before its semicolon.
+pub(crate) fn tail_front(reader: &mut Reader) -> Result<TokenList, ReadError>
+    ensures { Gives result (until ends_front) reader.old reader.new }
+{
+    let tokens = reader.until::<Front>()?;
+    Ok(tokens.copied(reader.alloc())?)
+}
+
+/// Reads the rest of a tail, up to its semicolon, and gives the place of the `[` with which it begins.
+#[tactic(auto, unfolding(crate::specs::Runs::tail_rest))]
+pub(crate) fn tail_rest(reader: &mut Reader) -> Result<Option<Spot>, ReadError>
+    ensures { Gives result tail_rest reader.old reader.new }
+{
+    let array = array_place(reader)?;
+    tail_end(reader)?;
+    Ok(array)
+}
+
 /// Reads the rest of a member, up to its semicolon, and gives the place of the first `[` outside of brackets.
 #[tactic(auto, unfolding(crate::specs::Runs::array_tail))]
 pub(crate) fn array_tail(reader: &mut Reader) -> Result<Option<Spot>, ReadError>
     ensures { Gives result array_tail reader.old reader.new }
 {
     reader.until::<Front>()?;
-    let array = array_place(reader)?;
-    tail_end(reader)?;
-    Ok(array)
+    tail_rest(reader)
+}
+
+/// Reads the rest of a member, up to its semicolon, and copies its tokens.
+#[tactic(auto, unfolding(crate::specs::Runs::kept_tail))]
+pub(crate) fn kept_tail(reader: &mut Reader) -> Result<TokenList, ReadError>
+    ensures { Gives result kept_tail reader.old reader.new }
+{
+    let tokens = tail_tokens(reader)?;
+    reader.sign(b";")?;
+    Ok(tokens)
+}
+
+fn tail_tokens(reader: &mut Reader) -> Result<TokenList, ReadError>
+    ensures { Gives result (until ends_tail) reader.old reader.new }
+{
+    let tokens = reader.until::<Tail>()?;
+    Ok(tokens.copied(reader.alloc())?)
 }
 
 /// The place of a `(`, if it is the next token.

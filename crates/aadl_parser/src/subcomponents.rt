@@ -6,7 +6,7 @@ ghost use Rattle.aadl_parser.specs.inner.Takes.{subcomponent-takes};
 
 use crate::features::refinement;
 use crate::names::{Classifier, category, reference};
-use crate::runs::{array_tail, bindings_place};
+use crate::runs::{bindings_place, tail_front, tail_rest};
 use crate::words::{core_name, name_at};
 use aadl_syntax::{Identifier, Subcomponent};
 use grammar_rules::{Parts, ReadError, Reader, spot};
@@ -41,7 +41,8 @@ fn subcomponent_of(
 {
     category(reader)?;
     let classifier = optional_classifier(reader)?;
-    let array = array_tail(reader)?;
+    let tail = tail_front(reader)?;
+    let array = tail_rest(reader)?;
     Ok(Subcomponent {
         name,
         spot,
@@ -49,6 +50,7 @@ fn subcomponent_of(
         classifier: classifier.reference,
         array,
         binds: classifier.binds,
+        tail,
     })
 }
 

@@ -2,7 +2,7 @@ ghost use Rattle.std.specs.Prelude.{◌≡◌, [], ◌∷◌, map};
 ghost use Rattle.grammar_rules.specs.inner.Reader.{Gives, Begins};
 ghost use Rattle.aadl_syntax.specs.inner.Token.{shown};
 ghost use Rattle.grammar_rules.specs.Tokens.{is_one_of, one_of};
-ghost use Rattle.aadl_parser.specs.Words.{unit_words, declaration_words, category_words, section_words, skipped_words, inner_words, ending_words, direction_words, processor_words, is_name, begins_declaration, begins_end, any_of, optional_word, either_word};
+ghost use Rattle.aadl_parser.specs.Words.{unit_words, declaration_words, category_words, grouped_words, group_words, virtual_words, platform_words, section_words, skipped_words, inner_words, ending_words, direction_words, processor_words, is_name, begins_declaration, begins_end, any_of, optional_word, either_word};
 ghost use Rattle.aadl_parser.specs.Names.{core_name};
 
 use aadl_syntax::{Identifier, TokenRef};
@@ -92,6 +92,18 @@ const CATEGORY_WORDS: [&[u8]; 8] = [
     b"system",
 ];
 
+/// The words behind which a category may have `group`.
+const GROUPED_WORDS: [&[u8]; 2] = [b"subprogram", b"thread"];
+
+/// The word of a category that may follow these.
+const GROUP_WORDS: [&[u8]; 1] = [b"group"];
+
+/// The first word of a category that has always two.
+const VIRTUAL_WORDS: [&[u8]; 1] = [b"virtual"];
+
+/// The words of a category that follow `virtual`.
+const PLATFORM_WORDS: [&[u8]; 2] = [b"processor", b"bus"];
+
 /// The first words of the sections of a classifier.
 const SECTION_WORDS: [&[u8]; 12] = [
     b"features",
@@ -169,6 +181,30 @@ pub(crate) fn declaration_at(reader: &mut Reader) -> bool
     name_at(reader, 0) || declaration_word_at(reader)
 }
 
+/// Whether the next token is a word behind which a category may have `group`.
+#[tactic(auto, unfolding(crate::specs::Words::grouped_words))]
+pub(crate) fn grouped_at(reader: &mut Reader) -> bool
+    ensures { Begins result 0 (is_one_of grouped_words ∷ []) reader.old reader.new }
+{
+    reader.one_of_at(0, &GROUPED_WORDS)
+}
+
+/// Whether the next token is the word `group`.
+#[tactic(auto, unfolding(crate::specs::Words::group_words))]
+pub(crate) fn group_at(reader: &mut Reader) -> bool
+    ensures { Begins result 0 (is_one_of group_words ∷ []) reader.old reader.new }
+{
+    reader.one_of_at(0, &GROUP_WORDS)
+}
+
+/// Whether the next token is the word `virtual`.
+#[tactic(auto, unfolding(crate::specs::Words::virtual_words))]
+pub(crate) fn virtual_at(reader: &mut Reader) -> bool
+    ensures { Begins result 0 (is_one_of virtual_words ∷ []) reader.old reader.new }
+{
+    reader.one_of_at(0, &VIRTUAL_WORDS)
+}
+
 /// Whether the next token begins a section.
 #[tactic(auto, unfolding(crate::specs::Words::section_words))]
 pub(crate) fn section_at(reader: &mut Reader) -> bool
@@ -243,10 +279,42 @@ pub(crate) fn processor_name(reader: &mut Reader) -> Result<Identifier, ReadErro
 
 /// Reads a category of one word.
 #[tactic(auto, unfolding(crate::specs::Words::category_words))]
-pub(crate) fn category_word(reader: &mut Reader) -> Result<(), ReadError>
-    ensures { Gives result (any_of category_words) reader.old reader.new }
+pub(crate) fn category_word(reader: &mut Reader) -> Result<Identifier, ReadError>
+    ensures { Gives result (one_of category_words) reader.old reader.new }
 {
-    any_of(reader, &CATEGORY_WORDS)
+    reader.one_of(&CATEGORY_WORDS)
+}
+
+/// Reads a word behind which a category may have `group`.
+#[tactic(auto, unfolding(crate::specs::Words::grouped_words))]
+pub(crate) fn grouped_word(reader: &mut Reader) -> Result<Identifier, ReadError>
+    ensures { Gives result (one_of grouped_words) reader.old reader.new }
+{
+    reader.one_of(&GROUPED_WORDS)
+}
+
+/// Reads the word `group`.
+#[tactic(auto, unfolding(crate::specs::Words::group_words))]
+pub(crate) fn group_word(reader: &mut Reader) -> Result<Identifier, ReadError>
+    ensures { Gives result (one_of group_words) reader.old reader.new }
+{
+    reader.one_of(&GROUP_WORDS)
+}
+
+/// Reads the word `virtual`.
+#[tactic(auto, unfolding(crate::specs::Words::virtual_words))]
+pub(crate) fn virtual_word(reader: &mut Reader) -> Result<Identifier, ReadError>
+    ensures { Gives result (one_of virtual_words) reader.old reader.new }
+{
+    reader.one_of(&VIRTUAL_WORDS)
+}
+
+/// Reads a word of a category that follows `virtual`.
+#[tactic(auto, unfolding(crate::specs::Words::platform_words))]
+pub(crate) fn platform_word(reader: &mut Reader) -> Result<Identifier, ReadError>
+    ensures { Gives result (one_of platform_words) reader.old reader.new }
+{
+    reader.one_of(&PLATFORM_WORDS)
 }
 
 /// Reads the word of a section that is read past.

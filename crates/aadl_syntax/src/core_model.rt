@@ -33,9 +33,17 @@ pub struct Alias {
     pub spot: Spot,
 }
 
+/// The category of a component, as it is written (AS5506): one word, or two, as `virtual` `bus` and `thread` `group`.
+#[derive(Drop)]
+pub struct Category {
+    pub word: Identifier,
+    pub second: Option<Identifier>,
+}
+
 /// A classifier: a component type, or an implementation, which has an item.
 #[derive(Drop)]
 pub struct Decl {
+    pub category: Category,
     pub name: Identifier,
     /// The identifier after the dot of an implementation.
     pub item: Option<Identifier>,
@@ -106,6 +114,9 @@ pub struct Subcomponent {
     pub array: Option<Spot>,
     /// Where bindings of prototypes follow its classifier: their `(`.
     pub binds: Option<Spot>,
+    /// What stands behind its classifier, before its semicolon or the `[` of an array: bindings of prototypes, properties in braces
+    /// and the modes that it is in.
+    pub tail: TokenList,
 }
 
 /// A connection of an implementation.
@@ -118,6 +129,8 @@ pub struct Connection {
     pub kind: ConnectionKind,
     /// Its ends, which a refinement may leave out.
     pub ends: Option<Ends>,
+    /// What stands behind its ends, before its semicolon: properties in braces and the modes that it is in.
+    pub tail: TokenList,
 }
 
 /// The kind of a connection: of ports, parameters or features, of an access, or of feature groups.

@@ -12,8 +12,8 @@ mod token_slice;
 mod tokens;
 
 pub use core_model::{
-    Alias, Binding, BindingKind, Connection, ConnectionKind, Decl, Ends, Feature, FeatureKind,
-    PackageUnit, Subcomponent, Unit,
+    Alias, Binding, BindingKind, Category, Connection, ConnectionKind, Decl, Ends, Feature,
+    FeatureKind, PackageUnit, Subcomponent, Unit,
 };
 pub use error_model::{
     Association, Atom, Composite, Condition, Emv2Clause, Emv2Library, EventDecl, EventKind, Flow,

@@ -29,6 +29,7 @@ name_at at name item = record { names = name ∷ []; item = item; spot = spot at
 
 abbrev decl_at : ℕ → List ℕ → Option (List ℕ) → Option Ref → Decl
 decl_at at name item extends = record {
+  category = record { word = codes "device"; second = None };
   name = name;
   item = item;
   spot = spot at;
@@ -49,10 +50,10 @@ abbrev id : ℕ → ClassifierId
 id decl = record { «package» = 0; decl = decl }
 
 abbrev subcomponent_at : ℕ → List ℕ → Bool → Option Ref → Subcomponent
-subcomponent_at at name refined classifier = record { name = name; spot = spot at; refined = refined; classifier = classifier; array = None; binds = None }
+subcomponent_at at name refined classifier = record { name = name; spot = spot at; refined = refined; classifier = classifier; array = None; binds = None; tail = [] }
 
 abbrev connection_at : ℕ → List ℕ → Connection
-connection_at at name = record { name = name; spot = spot at; refined = false; kind = Plain; ends = None }
+connection_at at name = record { name = name; spot = spot at; refined = false; kind = Plain; ends = None; tail = [] }
 
 abbrev event_at : ℕ → List ℕ → EventDecl
 event_at at name = record { name = name; spot = spot at; kind = Error; set = None }

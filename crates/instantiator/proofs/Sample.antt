@@ -25,6 +25,7 @@ name_at at name item = record { names = name ∷ []; item = item; spot = spot at
 
 abbrev pub decl_at : ℕ → List ℕ → Option (List ℕ) → Option Ref → Decl
 decl_at at name item extends = record {
+  category = record { word = codes "device"; second = None };
   name = name;
   item = item;
   spot = spot at;
@@ -45,13 +46,13 @@ abbrev pub feature_of : List ℕ → FeatureKind → Feature
 feature_of name kind = record { name = name; spot = spot 0; refined = false; kind = kind; array = None }
 
 abbrev pub subcomponent_at : ℕ → List ℕ → Bool → Option Ref → Subcomponent
-subcomponent_at at name refined classifier = record { name = name; spot = spot at; refined = refined; classifier = classifier; array = None; binds = None }
+subcomponent_at at name refined classifier = record { name = name; spot = spot at; refined = refined; classifier = classifier; array = None; binds = None; tail = [] }
 
 abbrev pub end_at : ℕ → List (List ℕ) → End
 end_at at names = record { names = names; spot = spot at }
 
 abbrev pub connection_of : List ℕ → ConnectionKind → End → End → Bool → Connection
-connection_of name kind from to both = record { name = name; spot = spot 0; refined = false; kind = kind; ends = Some (record { from = from; to = to; both = both }) }
+connection_of name kind from to both = record { name = name; spot = spot 0; refined = false; kind = kind; ends = Some (record { from = from; to = to; both = both }); tail = [] }
 
 abbrev pub id : ℕ → ClassifierId
 id decl = record { «package» = 0; decl = decl }

@@ -16,6 +16,7 @@ spot at = record { file = 0; at = at }
 
 abbrev type_at : ℕ → List ℕ → Decl
 type_at at name = record {
+  category = record { word = codes "device"; second = None };
   name = name;
   item = None;
   spot = spot at;

@@ -51,6 +51,7 @@ clause_of points user_points flows = record {
 -- a device with these features and this clause
 abbrev pub device_of : List ℕ → List Feature → Emv2Clause → Decl
 device_of name features clause = record {
+  category = record { word = codes "device"; second = None };
   name = name;
   item = None;
   spot = spot 0;

@@ -3,9 +3,9 @@ use Rattle.std.specs.Prelude.{ℕ, List}
 use Rattle.aadl_syntax.specs.declared.core_model.Decl.{Decl}
 use Rattle.aadl_syntax.specs.declared.core_model.PackageUnit.{PackageUnit}
 use Rattle.grammar_rules.specs.inner.Parts.{TakesTokens}
-use Rattle.grammar_rules.proofs.Takes.{takes_takes, takes_first, takes_after, takes_either, word_takes, sign_takes, identifier_takes}
+use Rattle.grammar_rules.proofs.Takes.{takes_takes, takes_first, takes_after, takes_either, word_takes, sign_takes, identifier_takes, one_of_takes}
 use Rattle.aadl_parser.specs.Words.{any_of}
-use Rattle.aadl_parser.specs.Names.{core_name, further_name, further_names, dotted_name, with_packages, category, grouped_category, virtual_category}
+use Rattle.aadl_parser.specs.Names.{core_name, further_name, further_names, dotted_name, with_packages, category, grouped_category, virtual_category, single_category}
 use Rattle.aadl_parser.specs.Features.{feature, features_after}
 use Rattle.aadl_parser.specs.Subcomponents.{subcomponent, subcomponents_after}
 use Rattle.aadl_parser.specs.Connections.{connection, connections_after}
@@ -52,8 +52,8 @@ unfolding section features_section features_after subcomponents_section subcompo
 section-takes decl = takes_either _ (takes_first (takes_first (word_takes _))) (takes_either _ (takes_first (takes_first (word_takes _))) (takes_either _ (takes_first (takes_first (word_takes _))) (other_section-takes decl)))
 
 category-takes : TakesTokens category
-unfolding category grouped_category virtual_category
-category-takes = takes_either _ (takes_first (word_takes _)) (takes_either _ (takes_first (word_takes _)) (takes_either _ (takes_first (word_takes _)) (any_of-takes _)))
+unfolding category grouped_category virtual_category single_category
+category-takes = takes_either _ (takes_first (one_of_takes _)) (takes_either _ (takes_first (one_of_takes _)) (takes_first (one_of_takes _)))
 
 other_declaration-takes : (whole : PackageUnit) → TakesTokens (other_declaration whole)
 unfolding other_declaration group_part group_type annex_part library_annex classifier_part classifier
