@@ -1,6 +1,6 @@
 -- Bindings of components, connections and functions (AADL: the properties Actual_Processor_Binding, Actual_Memory_Binding,
 -- Actual_Connection_Binding and Actual_Function_Binding).
-use Rattle.std.specs.Prelude.{ℕ, suc, List, [], ◌∷◌, codes, flat_map, length, Option, None, Some, option_to_list}
+use Rattle.std.specs.Prelude.{ℕ, suc, Bool, true, false, List, [], ◌∷◌, codes, flat_map, length, map, Option, None, Some, option_map, option_to_list}
 use Rattle.aadl_syntax.specs.declared.core_model.Binding.{Binding}
 use Rattle.aadl_syntax.specs.declared.core_model.BindingKind.{BindingKind}
 use Rattle.aadl_syntax.specs.declared.core_model.BindingKind.TheVariants.{Connection, Function, Memory, Processor}
@@ -10,7 +10,7 @@ use Rattle.grammar_rules.specs.Rules.{Rule, chooses, ends, gives, ◌>>=◌}
 use Rattle.grammar_rules.specs.Running.{Outcome, read, dead, run}
 use Rattle.grammar_rules.specs.Spans.{tail_end}
 use Rattle.grammar_rules.specs.Tokens.{identifier, is_sign, is_word, sign, word}
-use Rattle.bindings.specs.Pieces.{section_pieces}
+use Rattle.bindings.specs.Pieces.{behind_brace, section_pieces}
 
 -- ---- paths of components
 
@@ -116,15 +116,29 @@ binding_end = chooses (is_word (codes "in") ∷ [])
       tail_end)
     (sign (codes ";"))
 
--- binding-name "=>" references "applies" "to" targets [ "in" tail ] ";", and nothing behind it
-unfoldable pub binding : Rule Binding
-binding = do
+-- "applies" "to" targets
+unfoldable pub applied_targets : Rule (List (List (List ℕ)))
+applied_targets = do
+  _ ← word (codes "applies")
+  _ ← word (codes "to")
+  targets
+
+-- [ applied-targets ]: where they are left out, the empty path is the target
+unfoldable pub perhaps_targets : Rule (List (List (List ℕ)))
+perhaps_targets = chooses (is_word (codes "applies") ∷ []) applied_targets (gives ([] ∷ []))
+
+-- the targets of a binding, which may be left out in braces alone
+unfoldable pub binding_targets : Bool → Rule (List (List (List ℕ)))
+binding_targets true = perhaps_targets
+binding_targets false = applied_targets
+
+-- binding-name "=>" references binding-targets [ "in" tail ] ";", and nothing behind it
+unfoldable pub binding : Bool → Rule Binding
+binding braced = do
   kind ← binding_name
   _ ← sign (codes "=>")
   its_references ← references
-  _ ← word (codes "applies")
-  _ ← word (codes "to")
-  its_targets ← targets
+  its_targets ← binding_targets braced
   _ ← binding_end
   _ ← ends
   gives (record { kind = kind; references = its_references; targets = its_targets })
@@ -134,10 +148,25 @@ abbrev pub binding_read : Outcome Binding → Option Binding
 binding_read (read its rest unseen) = Some its
 binding_read (dead unseen) = None
 
--- The binding as which a piece reads, if it reads so.
-abbrev pub piece_binding : List Token → Option Binding
-piece_binding tokens = binding_read (run 0 binding tokens (suc (length tokens)))
+-- The binding as which a piece of a section, or of what stands in braces, reads, if it reads so.
+abbrev pub piece_binding : Bool → List Token → Option Binding
+piece_binding braced tokens = binding_read (run 0 (binding braced) tokens (suc (length tokens)))
 
 -- The bindings that a `properties` section of a classifier states, in their order; its other pieces say nothing.
 abbrev pub bindings_in : List Token → List Binding
-bindings_in tokens = flat_map (λ piece. option_to_list (piece_binding piece)) (section_pieces tokens)
+bindings_in tokens = flat_map (λ piece. option_to_list (piece_binding false piece)) (section_pieces tokens)
+
+-- ---- braces
+
+-- a binding as it is stated around the member of this name, behind which it stands: its targets are in that, or that itself
+abbrev pub around : List ℕ → Binding → Binding
+around name binding = record { kind = binding.kind; references = binding.references; targets = map (λ target. name ∷ target) binding.targets }
+
+-- the binding of a piece that stands in braces behind the member of this name, if it reads as one
+abbrev pub braced_binding : List ℕ → List Token → Option Binding
+braced_binding name piece = option_map (around name) (piece_binding true piece)
+
+-- The bindings that stand in braces among the tokens behind a subcomponent or a connection of this name, in their order, as bindings of
+-- the classifier that declares it; the other pieces there say nothing.
+abbrev pub braced_bindings : List ℕ → List Token → List Binding
+braced_bindings name tokens = flat_map (λ piece. option_to_list (braced_binding name piece)) (section_pieces (behind_brace tokens))

@@ -18,3 +18,8 @@ pieces_after passed (token ∷ tokens) =
 -- The pieces of the tokens of a section, one after the other. What stands behind the last semicolon of this sort is none.
 abbrev pub section_pieces : List Token → List (List Token)
 section_pieces tokens = pieces_after [] tokens
+
+-- What stands behind the first opening brace of these tokens; nothing where there is none.
+abbrev pub behind_brace : List Token → List Token
+behind_brace [] = []
+behind_brace (token ∷ tokens) = if is_sign (codes "{") token then tokens else behind_brace tokens

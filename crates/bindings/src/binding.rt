@@ -1,9 +1,9 @@
-ghost use Rattle.std.specs.Prelude.{◌≡◌, ◌++◌, [], ◌∷◌, IfOk, OnOk};
+ghost use Rattle.std.specs.Prelude.{◌≡◌, ◌++◌, [], ◌∷◌, IfOk, OnOk, false, true};
 ghost use Rattle.grammar_rules.specs.inner.Reader.{Gives};
-ghost use Rattle.bindings.specs.Bindings.{binding, binding_name, abstract_word, binding_word, binding_end, bindings_in, dotted_name, further_path, further_reference, other_word, path, piece_binding, reference, reference_list, references, targets};
+ghost use Rattle.bindings.specs.Bindings.{applied_targets, binding, binding_name, binding_targets, abstract_word, binding_word, binding_end, bindings_in, dotted_name, further_path, further_reference, other_word, path, perhaps_targets, piece_binding, reference, reference_list, references, targets};
 
 use crate::piece::section_pieces;
-use aadl_syntax::{Binding, BindingKind, Identifier, TokenList};
+use aadl_syntax::{Binding, BindingKind, Identifier, TokenList, TokenSlice};
 use grammar_rules::{Parts, ReadError, Reader, tail_end};
 use plain_values::{List, Mem};
 use std::alloc::{AllocError, Global};
@@ -12,18 +12,18 @@ use std::alloc::{AllocError, Global};
 pub fn add_bindings(alloc: Global, tokens: &TokenList, bindings: &mut List<Binding>) -> Mem<()>
     ensures { OnOk result (bindings.new ≡ bindings.old ++ bindings_in tokens.now) }
 {
-    for piece in section_pieces(alloc, tokens)?.items() {
-        bindings.push_some(piece_binding(alloc, piece)?)?;
+    for piece in section_pieces(alloc, TokenSlice::of(tokens))?.items() {
+        bindings.push_some(piece_binding(alloc, false, piece)?)?;
     }
     Ok(())
 }
 
-/// The binding as which a piece reads, if it reads so.
-fn piece_binding(alloc: Global, piece: &TokenList) -> Mem<Option<Binding>>
-    ensures { IfOk result (λ binding. binding ≡ piece_binding piece.now) }
+/// The binding as which a piece of a section, or of what stands in braces, reads, if it reads so.
+pub(crate) fn piece_binding(alloc: Global, braced: bool, piece: &TokenList) -> Mem<Option<Binding>>
+    ensures { IfOk result (λ binding. binding ≡ piece_binding braced piece.now) }
 {
     let mut reader = Reader::new(alloc, 0, piece);
-    match binding(&mut reader) {
+    match binding(&mut reader, braced) {
         Ok(binding) => Ok(Some(binding)),
         Err(ReadError::Refused) => Ok(None),
         Err(ReadError::Memory) => Err(AllocError),
@@ -31,15 +31,13 @@ fn piece_binding(alloc: Global, piece: &TokenList) -> Mem<Option<Binding>>
 }
 
 #[tactic(auto, unfolding(crate::specs::Bindings::binding))]
-fn binding(reader: &mut Reader) -> Result<Binding, ReadError>
-    ensures { Gives result binding reader.old reader.new }
+fn binding(reader: &mut Reader, braced: bool) -> Result<Binding, ReadError>
+    ensures { Gives result (binding braced) reader.old reader.new }
 {
     let kind = binding_name(reader)?;
     reader.sign(b"=>")?;
     let references = references(reader)?;
-    reader.word(b"applies")?;
-    reader.word(b"to")?;
-    let targets = targets(reader)?;
+    let targets = binding_targets(reader, braced)?;
     binding_end(reader)?;
     reader.end()?;
     Ok(Binding {
@@ -47,6 +45,39 @@ fn binding(reader: &mut Reader) -> Result<Binding, ReadError>
         references,
         targets,
     })
+}
+
+/// Reads the targets of a binding, which may be left out in braces alone.
+#[tactic(auto, unfolding(crate::specs::Bindings::binding_targets))]
+fn binding_targets(reader: &mut Reader, braced: bool) -> Result<List<List<Identifier>>, ReadError>
+    ensures { Gives result (binding_targets braced) reader.old reader.new }
+{
+    if braced {
+        return perhaps_targets(reader);
+    }
+    applied_targets(reader)
+}
+
+/// Reads targets; where they are left out, the empty path is the target.
+#[tactic(auto, unfolding(crate::specs::Bindings::perhaps_targets))]
+fn perhaps_targets(reader: &mut Reader) -> Result<List<List<Identifier>>, ReadError>
+    ensures { Gives result perhaps_targets reader.old reader.new }
+{
+    if reader.word_at(0, b"applies") {
+        return applied_targets(reader);
+    }
+    let mut targets = List::new(reader.alloc());
+    targets.push(List::new(reader.alloc()))?;
+    Ok(targets)
+}
+
+#[tactic(auto, unfolding(crate::specs::Bindings::applied_targets))]
+fn applied_targets(reader: &mut Reader) -> Result<List<List<Identifier>>, ReadError>
+    ensures { Gives result applied_targets reader.old reader.new }
+{
+    reader.word(b"applies")?;
+    reader.word(b"to")?;
+    targets(reader)
 }
 
 #[tactic(auto, unfolding(crate::specs::Bindings::binding_name))]

@@ -2,18 +2,32 @@ ghost use Rattle.std.specs.Prelude.{◌≡◌, ◌<◌, ◌≤◌, ◌&&◌, [],
 ghost use Rattle.aadl_syntax.specs.inner.Token.{shown};
 ghost use Rattle.grammar_rules.specs.Spans.{opens};
 ghost use Rattle.grammar_rules.specs.Tokens.{is_sign};
-ghost use Rattle.bindings.specs.Pieces.{section_pieces};
+ghost use Rattle.bindings.specs.Pieces.{behind_brace, section_pieces};
 
 use aadl_syntax::{TokenKind, TokenList, TokenRef, TokenSlice};
 use grammar_rules::{closes, is_sign};
 use plain_values::{List, Mem};
 use std::alloc::Global;
 
-/// The pieces of a section, each with the semicolon that ends it.
-pub(crate) fn section_pieces(alloc: Global, tokens: &TokenList) -> Mem<List<TokenList>>
-    ensures { IfOk result (λ pieces. pieces ≡ section_pieces tokens.now) }
+/// What stands behind the first opening brace of these tokens; nothing where there is none.
+pub(crate) fn behind_brace(tokens: &TokenList) -> TokenSlice<'_>
+    ensures { result ≡ behind_brace tokens.now }
 {
     let mut left = TokenSlice::of(tokens);
+    while let Some(token) = left.get(0) {
+        left = left.rest(1);
+        if is_sign(&token, b"{") {
+            return left;
+        }
+    }
+    left
+}
+
+/// The pieces of a section, each with the semicolon that ends it.
+pub(crate) fn section_pieces(alloc: Global, tokens: TokenSlice) -> Mem<List<TokenList>>
+    ensures { IfOk result (λ pieces. pieces ≡ section_pieces tokens.entry) }
+{
+    let mut left = tokens;
     let mut pieces = List::new(alloc);
     while let Some(count) = first_piece(&left) {
         pieces.push(left.front(count).copied(alloc)?)?;
