@@ -19,7 +19,7 @@ pub fn add_bindings(alloc: Global, tokens: &TokenList, bindings: &mut List<Bindi
 }
 
 /// The binding as which a piece of a section, or of what stands in braces, reads, if it reads so.
-pub(crate) fn piece_binding(alloc: Global, braced: bool, piece: &TokenList) -> Mem<Option<Binding>>
+pub fn piece_binding(alloc: Global, braced: bool, piece: &TokenList) -> Mem<Option<Binding>>
     ensures { IfOk result (λ binding. binding ≡ piece_binding braced piece.now) }
 {
     let mut reader = Reader::new(alloc, 0, piece);

@@ -6,6 +6,7 @@ mod braces;
 mod laws;
 mod piece;
 
-pub use binding::add_bindings;
+pub use binding::{add_bindings, piece_binding};
 pub use braces::add_braced;
 pub use laws::{binding_reads, pieces_are_all};
+pub use piece::{behind_brace, section_pieces};

@@ -10,7 +10,7 @@ use plain_values::{List, Mem};
 use std::alloc::Global;
 
 /// What stands behind the first opening brace of these tokens; nothing where there is none.
-pub(crate) fn behind_brace(tokens: &TokenList) -> TokenSlice<'_>
+pub fn behind_brace(tokens: &TokenList) -> TokenSlice<'_>
     ensures { result ≡ behind_brace tokens.now }
 {
     let mut left = TokenSlice::of(tokens);
@@ -24,7 +24,7 @@ pub(crate) fn behind_brace(tokens: &TokenList) -> TokenSlice<'_>
 }
 
 /// The pieces of a section, each with the semicolon that ends it.
-pub(crate) fn section_pieces(alloc: Global, tokens: TokenSlice) -> Mem<List<TokenList>>
+pub fn section_pieces(alloc: Global, tokens: TokenSlice) -> Mem<List<TokenList>>
     ensures { IfOk result (λ pieces. pieces ≡ section_pieces tokens.entry) }
 {
     let mut left = tokens;
