@@ -18,7 +18,7 @@ use Rattle.model_facts.specs.declared.keys.FactKind.TheVariants.{State}
 use Rattle.fault_system.specs.Systems.{event_name, fact_name}
 use Rattle.model_review.specs.Seen.{Seen}
 use Rattle.model_review.specs.declared.finding.Finding.{Finding}
-use Rattle.model_review.specs.declared.finding.Finding.TheVariants.{Dry, GoesNowhere, HiddenLink, HiddenPath, HiddenSource, HiddenTransitions, InLoop, InModes, Never, NeverState, NoEffect, NoLink, NoSingle, NoSource, NotDeclared, Open, StopsHere, TypeRoot, UnreachedEvent, UnreadBinding, UnusedEvent, UnusedState}
+use Rattle.model_review.specs.declared.finding.Finding.TheVariants.{Dry, GoesNowhere, HiddenLink, HiddenPath, HiddenSource, HiddenTransitions, InLoop, InModes, Never, NeverState, NoEffect, NoLink, NoSingle, NoSource, NotDeclared, Open, StopsHere, StrayRate, TypeRoot, UnreachedEvent, UnreadBinding, UnusedEvent, UnusedState}
 use Rattle.model_review.specs.declared.finding.TypesAt.{TypesAt}
 
 -- ---- sides
@@ -82,6 +82,15 @@ unlinked_text assembly one = behind assembly one.component (unlinked_name (effec
 
 -- ---- parts
 
+-- names, each behind a dot
+abbrev pub further_names : List (List ℕ) → List ℕ
+further_names others = flat_map (λ name. codes "." ++ name) others
+
+-- names, with a dot between each two
+abbrev pub dotted : List (List ℕ) → List ℕ
+dotted [] = []
+dotted (name ∷ others) = name ++ further_names others
+
 -- a part of a component, behind the component's name: `root.a/c1`
 abbrev pub part_text : Assembly → Part → List ℕ
 part_text assembly part = behind assembly part.component part.name
@@ -106,6 +115,7 @@ finding_text seen (NeverState state) = codes "never " ++ its_fact_name seen.numb
 finding_text seen (UnusedState owner state) = codes "unused-state " ++ its_fact_name seen.numbered.assembly (fact_in owner (State state))
 finding_text seen (InModes part) = codes "in-modes " ++ part_text seen.numbered.assembly part
 finding_text seen (UnreadBinding part) = codes "unread-binding " ++ (path_text (path_at seen.numbered.assembly part.component) ++ (codes " " ++ part.name))
+finding_text seen (StrayRate rate) = codes "unused-rate " ++ (path_text (path_at seen.numbered.assembly rate.component) ++ (codes " " ++ dotted rate.target))
 finding_text seen (TypeRoot name) = codes "type-root root " ++ name
 finding_text seen (InLoop loop) = codes "loop " ++ (decimal loop.size ++ (codes " " ++ fact_name seen.system loop.first))
 finding_text seen (UnusedEvent event) = codes "unused-event " ++ event_name seen.system event

@@ -1,5 +1,6 @@
 ghost use Rattle.std.specs.Prelude.{◌≡◌, ◌++◌, ◌∷◌, ◌==◌, [], OnOk, cond, length};
 
+use event_rates::UnusedRate;
 use plain_values::{List, Mem, Name};
 use propagation_links::{PointAt, Unlinked};
 use system_review::Loop;
@@ -56,6 +57,8 @@ pub enum Finding {
     InModes(Part),
     /// A binding is not read.
     UnreadBinding(Part),
+    /// A rate is said of no event.
+    StrayRate(UnusedRate),
     /// The root is a component type, and has no parts: an implementation of it is not looked at.
     TypeRoot(Name),
     /// Facts depend on one another.

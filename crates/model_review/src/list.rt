@@ -5,7 +5,7 @@ ghost use Rattle.plain_values.specs.Rising.{RisesWithin};
 ghost use Rattle.model_facts.specs.Assembly.{model_at};
 ghost use Rattle.model_review.specs.Findings.{dry_sides, hidden_flows, hidden_link, model_findings, never_out, never_states, no_links, no_sources, nowhere_out, of_components, open_ends, stops_of, text_findings, unused_states};
 ghost use Rattle.model_review.specs.Told.{AreFindings};
-ghost use Rattle.model_review.specs.declared.finding.Finding.TheVariants.{InModes, NoLink, TypeRoot, UnreadBinding};
+ghost use Rattle.model_review.specs.declared.finding.Finding.TheVariants.{InModes, NoLink, StrayRate, TypeRoot, UnreadBinding};
 
 use crate::ends::{DrySides, Linked, NoSources, OpenEnds};
 use crate::finding::Finding;
@@ -16,6 +16,7 @@ use crate::states::{HiddenTransitions, NeverInState, UnusedStates};
 use crate::told::add_told;
 use crate::view::View;
 use crate::walks::{AtPoints, AtStates, add_of_component, add_of_components, add_of_links};
+use event_rates::{UnusedRate, unused_rates};
 use model_facts::points_of_models;
 use plain_values::{List, Mem, Name, copied};
 use propagation_links::{Unlinked, find_unlinked};
@@ -122,7 +123,8 @@ fn add_unlinked(found: &mut List<Finding>, unlinked: &[Unlinked]) -> Mem<()>
     Ok(())
 }
 
-/// Adds what stands in modes, the bindings that are not read, and the implementations of a root that is a component type.
+/// Adds what stands in modes, the bindings that are not read, the rates that are said of no event, and the implementations of a root that is a
+/// component type.
 fn add_text(alloc: Global, found: &mut List<Finding>, view: &View) -> Mem<()>
     ensures { OnOk result (found.new ≡ found.old ++ text_findings view.now) }
 {
@@ -131,9 +133,11 @@ fn add_text(alloc: Global, found: &mut List<Finding>, view: &View) -> Mem<()>
     let unread = What::Unread(assembly.types().profile());
     let modal_parts = unread_parts(alloc, What::InModes, instance)?;
     let bindings = unread_parts(alloc, unread, instance)?;
+    let rates = unused_rates(alloc, instance, view.system().event_infos())?;
     let implementations = root_implementations(alloc, instance)?;
     add_modal(alloc, found, modal_parts.items())?;
     add_unread(alloc, found, bindings.items())?;
+    add_rates(alloc, found, rates.items())?;
     add_implementations(alloc, found, implementations.items())
 }
 
@@ -151,6 +155,15 @@ fn add_unread(alloc: Global, found: &mut List<Finding>, parts: &[Part]) -> Mem<(
 {
     for part in parts {
         found.push(Finding::UnreadBinding(part.again(alloc)?))?;
+    }
+    Ok(())
+}
+
+fn add_rates(alloc: Global, found: &mut List<Finding>, rates: &[UnusedRate]) -> Mem<()>
+    ensures { OnOk result (found.new ≡ found.old ++ map StrayRate rates.now) }
+{
+    for rate in rates {
+        found.push(Finding::StrayRate(rate.again(alloc)?))?;
     }
     Ok(())
 }
