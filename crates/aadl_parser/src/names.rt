@@ -6,8 +6,8 @@ ghost use Rattle.aadl_parser.specs.Names.{further_name, names_after, names, two_
 ghost use Rattle.aadl_parser.specs.inner.Takes.{further_name-takes, further_names-takes, dotted_name-takes};
 
 use crate::words::{
-    category_word, core_name, group_at, group_word, grouped_at, grouped_word, name_at, platform_word,
-    virtual_at, virtual_word,
+    category_word, core_name, group_at, group_word, grouped_at, grouped_word, name_at,
+    platform_word, virtual_at, virtual_word,
 };
 use aadl_syntax::{Category, Identifier, Ref};
 use grammar_rules::{Parts, ReadError, Reader, spot};

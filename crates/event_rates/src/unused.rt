@@ -158,7 +158,13 @@ fn unused_in(
     let path = tables.path(number);
     let mut targets = List::new(alloc);
     add_among(&mut targets, alloc, names, path, tables.clause_list(number))?;
-    add_among(&mut targets, alloc, names, path, tables.machine_list(number))?;
+    add_among(
+        &mut targets,
+        alloc,
+        names,
+        path,
+        tables.machine_list(number),
+    )?;
     Ok(targets)
 }
 
