@@ -57,13 +57,13 @@ property_name = do
   first ← identifier []
   chooses (is_sign (codes "::") ∷ []) name_behind (gives first)
 
--- the name of a reading
-abbrev pub name_read : Outcome (List ℕ) → List ℕ
-name_read (read name rest unseen) = name
-name_read (dead unseen) = []
+-- the name of a reading, if there is one
+abbrev pub name_read : Outcome (List ℕ) → Option (List ℕ)
+name_read (read name rest unseen) = Some name
+name_read (dead unseen) = None
 
--- the name of the property of a piece; no name where it begins with none
-abbrev pub name_of : List Token → List ℕ
+-- the name of the property of a piece, if it begins with one
+abbrev pub name_of : List Token → Option (List ℕ)
 name_of piece = name_read (run 0 property_name piece (suc (length piece)))
 
 -- whether a property is a binding by its name: it ends in `_binding`
@@ -89,9 +89,14 @@ abbrev pub is_told : What → Bool → List Token → Bool
 is_told InModes braced piece = has_modes piece
 is_told (Unread profile) braced piece = not (reads profile braced (piece_binding braced piece))
 
+-- the name of a piece whose property has this name, if it has one, where it is told of a binding
+abbrev pub told_named : What → Bool → List Token → Option (List ℕ) → List (List ℕ)
+told_named what braced piece None = []
+told_named what braced piece (Some name) = cond (is_binding_name name && is_told what braced piece) (name ∷ []) []
+
 -- the name of a piece that is told of a binding
 abbrev pub told_piece : What → Bool → List Token → List (List ℕ)
-told_piece what braced piece = cond (is_binding_name (name_of piece) && is_told what braced piece) (name_of piece ∷ []) []
+told_piece what braced piece = told_named what braced piece (name_of piece)
 
 -- the names of those of a `properties` section
 abbrev pub told_section : What → List Token → List (List ℕ)

@@ -1,6 +1,6 @@
 //! The pieces of sections and of what stands in braces that are told.
 
-ghost use Rattle.std.specs.Prelude.{◌≡◌, ◌++◌, [], IfOk, MatchOption, OnOk};
+ghost use Rattle.std.specs.Prelude.{◌≡◌, ◌++◌, ◌∷◌, ◌&&◌, [], IfOk, OnOk, cond};
 ghost use Rattle.grammar_rules.specs.inner.Reader.{Gives};
 ghost use Rattle.unread_parts.specs.Unread.{is_binding_name, is_of_components, is_told, name_behind, name_of, property_name, reads, told_braces, told_piece, told_section};
 
@@ -53,17 +53,33 @@ fn add_piece(
 ) -> Mem<()>
     ensures { OnOk result (names.new ≡ names.old ++ told_piece what braced piece.now) }
 {
-    if let Some(name) = name_of(alloc, piece)? {
-        if is_binding_name(name.text()) && is_told(alloc, what, braced, piece)? {
-            names.push(name)?;
-        }
+    match name_of(alloc, piece)? {
+        Some(name) => add_named(names, alloc, what, braced, piece, name),
+        None => Ok(()),
+    }
+}
+
+/// Adds the name of a piece whose property has it, where it is told of a binding.
+fn add_named(
+    names: &mut List<Identifier>,
+    alloc: Global,
+    what: What,
+    braced: bool,
+    piece: &TokenList,
+    name: Identifier,
+) -> Mem<()>
+    ensures { OnOk result (names.new ≡ names.old ++ cond (is_binding_name name && is_told what braced piece.now) (name ∷ []) []) }
+{
+    if is_binding_name(name.text()) {
+        let told = is_told(alloc, what, braced, piece)?;
+        names.push_if(name, told)?;
     }
     Ok(())
 }
 
 /// The name of the property of a piece, if it begins with one.
 fn name_of(alloc: Global, piece: &TokenList) -> Mem<Option<Identifier>>
-    ensures { IfOk result (λ name. MatchOption name (name_of piece.now ≡ []) (λ text. text ≡ name_of piece.now)) }
+    ensures { IfOk result (λ name. name ≡ name_of piece.now) }
 {
     let mut reader = Reader::new(alloc, 0, piece);
     match property_name(&mut reader) {
