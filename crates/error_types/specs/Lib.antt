@@ -1,3 +1,4 @@
 pub mod Walk
 pub mod Types
+pub mod NoError
 pub mod inner

@@ -6,6 +6,7 @@ mod endings;
 mod hierarchy;
 mod memory;
 mod needs;
+mod noerror;
 mod reach;
 mod reading;
 mod row;

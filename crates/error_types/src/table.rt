@@ -5,12 +5,14 @@ ghost use Rattle.plain_values.specs.inner.Stops.{StopsAtFirst};
 ghost use Rattle.error_libraries.specs.Libraries.{HasTooManyTypes, declared_types, greatest_types, libraries_of, table_of, unknown_libraries};
 ghost use Rattle.error_libraries.specs.inner.Libraries.{IsOver};
 ghost use Rattle.error_libraries.specs.Printed.{name_of};
+ghost use Rattle.error_types.specs.NoError.{has_no_error};
 ghost use Rattle.error_types.specs.Types.{denoted, text_scope};
 ghost use Rattle.error_types.specs.Walk.{set_first};
 
 use crate::denoted::{denoted, memory_of};
 use crate::hierarchy::bases_of;
 use crate::memory::Memory;
+use crate::noerror::any_has_no_error;
 use aadl_syntax::{Ref, TypeSet};
 use error_libraries::{Declarations, Library, Scope, TypeName, add_named, note_unknown, types_by};
 use noted_refusals::Refusals;
@@ -108,6 +110,21 @@ impl<'i, 'a> TypeTable<'i, 'a> {
             set.terms.items(),
             first,
         )
+    }
+
+    /// Whether a written set has `noerror` in a text, by itself or by a set that it names.
+    pub fn has_no_error(&mut self, alloc: Global, scope: &Scope, set: &'a TypeSet) -> Mem<bool>
+        ensures kept { self.new ≡ self.old }
+        ensures so { IfOk result (λ so. so ≡ has_no_error self.old scope.now set.now) }
+    {
+        any_has_no_error(alloc, &mut self.declarations, scope, set.terms.items())
+    }
+
+    /// How many types there are.
+    pub fn count(&self) -> u32
+        ensures { result ≡ length self.now.types }
+    {
+        self.declarations.types().len() as u32
     }
 
     /// The name by which the type of a number prints; none where the number is of no type.

@@ -52,11 +52,19 @@ impl<'a> Model for Trip<'a> {
         × (length t.below.items < 2 ^ 32) };
 }
 
+/// The items that were followed on a walk through an item, the types that are met, and its first refusal.
+#[derive(Drop)]
+pub(crate) struct Walked {
+    pub(crate) followed: Vec<ItemId>,
+    pub(crate) types: Vec<u32>,
+    pub(crate) first: FirstRefusal,
+}
+
 /// Where a walk is once an item was followed to its end: at the item that led to it, or at its own end.
 #[derive(Drop)]
 pub(crate) enum Back<'a> {
     On(Trip<'a>),
-    Out(Vec<u32>, FirstRefusal),
+    Out(Walked),
 }
 
 impl<'a> Trip<'a> {
@@ -153,12 +161,16 @@ impl<'a> Trip<'a> {
             types,
             first,
         } = self;
-        let Some(next) = below.pop() else {
-            return Ok(Back::Out(types, first));
-        };
         let item = top.item;
-        marks.insert((item.package, item.item), false)?;
         followed.push(item)?;
+        let Some(next) = below.pop() else {
+            return Ok(Back::Out(Walked {
+                followed,
+                types,
+                first,
+            }));
+        };
+        marks.insert((item.package, item.item), false)?;
         Ok(Back::On(Trip {
             top: next,
             below,

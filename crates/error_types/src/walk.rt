@@ -6,24 +6,17 @@ ghost use Rattle.error_types.specs.inner.Trip.{arrival, items_on, walk_left, wit
 ghost use Rattle.error_types.specs.Walk.{is_set_item, needs_of, number_met, of_item, product_of_term, products_of, walk_from};
 
 use crate::needs::{Need, Needs, NextName};
-use crate::trip::{Back, Trip, push_number};
+use crate::trip::{Back, Trip, Walked, push_number};
 use aadl_syntax::{Term, TypeItem, TypeKind};
 use error_libraries::{Declarations, ItemId};
 use plain_values::{Code, FirstRefusal, Mem, Refusal};
 use std::alloc::{AllocError, Global};
 
-/// Where a walk is after a step: on its way, or at its end, with the types that it met and its first refusal.
+/// Where a walk is after a step: on its way, or at its end.
 #[derive(Drop)]
 pub(crate) enum Stage<'a> {
     Next(Trip<'a>),
-    Ended(Vec<u32>, FirstRefusal),
-}
-
-/// The types that are met on a walk through an item, and its first refusal.
-#[derive(Drop)]
-pub(crate) struct Walked {
-    pub(crate) types: Vec<u32>,
-    pub(crate) first: FirstRefusal,
+    Ended(Walked),
 }
 
 /// The walk through an item; `through` tells whether it goes on from a type to the one that this extends.
@@ -34,6 +27,7 @@ pub(crate) fn walk_from<'a>(
     id: ItemId,
 ) -> Mem<Walked>
     ensures kept { declarations.new ≡ declarations.old }
+    ensures followed { IfOk result (λ walked. walked.followed.items ≡ (walk_from through declarations.old id).followed) }
     ensures types { IfOk result (λ walked. walked.types.items ≡ (walk_from through declarations.old id).types) }
     ensures first { IfOk result (λ walked. walked.first ≡ (walk_from through declarations.old id).first) }
 {
@@ -41,7 +35,7 @@ pub(crate) fn walk_from<'a>(
     for _ in 0..u64::MAX {
         match onward(alloc, through, declarations, trip)? {
             Stage::Next(next) => trip = next,
-            Stage::Ended(types, first) => return Ok(Walked { types, first }),
+            Stage::Ended(walked) => return Ok(walked),
         }
     }
     Err(AllocError)
@@ -86,7 +80,7 @@ fn back<'a>(through: bool, declarations: &Declarations<'_, 'a>, trip: Trip<'a>) 
 {
     match trip.leave()? {
         Back::On(next) => Ok(Stage::Next(next)),
-        Back::Out(types, first) => Ok(Stage::Ended(types, first)),
+        Back::Out(walked) => Ok(Stage::Ended(walked)),
     }
 }
 
