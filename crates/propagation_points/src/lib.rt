@@ -17,6 +17,6 @@ pub use open_point::only_name;
 pub use point::Point;
 pub use points::{Points, points_of};
 pub use setting::Setting;
-pub use side::{Reach, Side};
+pub use side::{Reach, Side, is_number_in};
 pub use states::{Sort, Sorts, Variant, declared_by};
 pub use uses::{PointUse, ReachedPoint, reached};

@@ -53,6 +53,13 @@ impl<'s, 'a> Setting<'s, 'a> {
         }
     }
 
+    /// The text in which its items are read, if there is one.
+    pub fn scope(&self) -> Option<&'s Scope>
+        ensures { option_copied result ≡ self.now.scope }
+    {
+        self.scope
+    }
+
     /// The setting of the items of a clause, which has this number among the texts.
     pub fn of_clause(
         points: &'s Points<'a>,

@@ -73,7 +73,8 @@ fn has_at(numbers: &[u32], place: usize, number: u32) -> bool
     is_number_in(numbers, number)
 }
 
-fn is_number_in(numbers: &[u32], number: u32) -> bool
+/// Whether a number is one of these.
+pub fn is_number_in(numbers: &[u32], number: u32) -> bool
     ensures { result ≡ is_number_in numbers.now number }
 {
     for other in numbers {
