@@ -8,7 +8,7 @@ use Rattle.plain_values.specs.declared.refusal.Code.TheVariants.{ConnectionError
 use Rattle.plain_values.specs.declared.refusal.Place.TheVariants.{At}
 use Rattle.plain_values.specs.declared.refusal.Refusal.{Refusal}
 use Rattle.plain_values.specs.Refusal.{refusal}
-use Rattle.bindings.specs.Bindings.{abstract_word, binding, binding_end, binding_name, binding_word, other_word, dotted_name, path, reference, references, targets}
+use Rattle.bindings.specs.Bindings.{abstract_word, binding, binding_end, binding_name, binding_word, applied_targets, binding_targets, other_word, dotted_name, path, reference, references, targets}
 use Rattle.component_extension.specs.Chain.{chain_from}
 use Rattle.grammar_rules.specs.Spans.{closes, is_even, opens}
 use Rattle.grammar_rules.specs.Tokens.{identifier, is_identifier, is_kind, is_sign, is_word, sign, word}
@@ -150,15 +150,15 @@ w_d = codes "w" ∷ codes "d" ∷ []
 
 -- a component and its processor, both ways
 inner_alone : links_of First (bound_instance [] (binding_section d d ∷ [])) bound_points ≡ link 3 0 true 3 1 false ∷ link 3 1 true 3 0 false ∷ []
-unfolding preorder effective_of chain_from binding binding_name binding_word other_word abstract_word binding_end references reference path dotted_name targets word sign identifier is_word is_sign is_identifier is_even opens closes is_kind
+unfolding preorder effective_of chain_from binding binding_name binding_word other_word abstract_word binding_end references reference path dotted_name targets binding_targets applied_targets word sign identifier is_word is_sign is_identifier is_even opens closes is_kind
 inner_alone = refl
 
 -- the outermost component that binds it counts
 outer_counts : links_of First (bound_instance (binding_section d w_d ∷ []) (binding_section d d ∷ [])) bound_points ≡ link 1 0 true 3 1 false ∷ link 3 1 true 1 0 false ∷ []
-unfolding preorder effective_of chain_from binding binding_name binding_word other_word abstract_word binding_end references reference path dotted_name targets word sign identifier is_word is_sign is_identifier is_even opens closes is_kind
+unfolding preorder effective_of chain_from binding binding_name binding_word other_word abstract_word binding_end references reference path dotted_name targets binding_targets applied_targets word sign identifier is_word is_sign is_identifier is_even opens closes is_kind
 outer_counts = refl
 
 -- and there the last, also where it leads nowhere
 last_counts : links_of First (bound_instance (binding_section d w_d ∷ binding_section (codes "z" ∷ []) w_d ∷ []) (binding_section d d ∷ [])) bound_points ≡ []
-unfolding preorder effective_of chain_from binding binding_name binding_word other_word abstract_word binding_end references reference path dotted_name targets word sign identifier is_word is_sign is_identifier is_even opens closes is_kind
+unfolding preorder effective_of chain_from binding binding_name binding_word other_word abstract_word binding_end references reference path dotted_name targets binding_targets applied_targets word sign identifier is_word is_sign is_identifier is_even opens closes is_kind
 last_counts = refl
