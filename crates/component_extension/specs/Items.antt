@@ -1,13 +1,14 @@
 -- The error model items of a classifier (EMV2: subclauses along `extends`).
-use Rattle.std.specs.Prelude.{ℕ, List, [], ◌∷◌, map, flat_map, fold, reverse, Option, Some, None, option_map, option_to_list, Result, Ok, Err}
+use Rattle.std.specs.Prelude.{ℕ, List, [], ◌∷◌, ◌++◌, map, flat_map, fold, reverse, Option, Some, None, option_map, option_to_list, Result, Ok, Err}
 use Rattle.aadl_syntax.specs.declared.core_model.Binding.{Binding}
+use Rattle.aadl_syntax.specs.declared.core_model.Decl.{Decl}
 use Rattle.aadl_syntax.specs.declared.core_model.PackageUnit.{PackageUnit}
 use Rattle.aadl_syntax.specs.declared.error_model.Emv2Clause.{Emv2Clause}
 use Rattle.aadl_syntax.specs.declared.error_model.PointItem.{PointItem}
 use Rattle.aadl_syntax.specs.declared.place.Ref.{Ref}
 use Rattle.plain_values.specs.declared.spot.Spot.{Spot}
 use Rattle.plain_values.specs.declared.refusal.Refusal.{Refusal}
-use Rattle.bindings.specs.Bindings.{bindings_in}
+use Rattle.bindings.specs.Bindings.{bindings_in, braced_bindings}
 use Rattle.package_index.specs.declared.id.ClassifierId.{ClassifierId}
 use Rattle.package_index.specs.Lookup.{decl_of}
 use Rattle.plain_values.specs.Numbered.{numbered_from}
@@ -78,6 +79,17 @@ spots_of spots clauses = flat_map (λ clause. spots clause.item) clauses
 -- The bindings of a chain, from the farthest classifier to the nearest, each in the order of its text.
 abbrev pub bindings_along : List Class → List Binding
 bindings_along classes = flat_map (λ class. flat_map bindings_in class.item.properties) classes
+
+-- the bindings that stand in braces behind the members of a declaration: its subcomponents, and then its connections
+abbrev pub braced_in : Decl → List Binding
+braced_in decl =
+    flat_map (λ subcomponent. braced_bindings subcomponent.name subcomponent.tail) decl.subcomponents
+    ++ flat_map (λ connection. braced_bindings connection.name connection.tail) decl.connections
+
+-- The bindings that stand in braces behind the members of a chain, from the farthest classifier to the nearest: those of a refinement stand
+-- behind those of what it refines.
+abbrev pub braced_along : List Class → List Binding
+braced_along classes = flat_map (λ class. braced_in class.item) classes
 
 -- ---- refusals
 

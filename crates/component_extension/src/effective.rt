@@ -7,7 +7,7 @@ ghost use Rattle.component_extension.specs.inner.Effective.{AreMembers, IsEffect
 ghost use Rattle.component_extension.specs.Items.{classifier_refusals};
 ghost use Rattle.component_extension.specs.Members.{refusals_of, marks_along, member_refusals, members_along};
 
-use crate::bound::bindings_along;
+use crate::bound::{bindings_along, braced_along};
 use crate::chain::chain_of;
 use crate::classifier::{Classifier, classifiers_of};
 use crate::declaration::PlainName;
@@ -47,8 +47,10 @@ pub struct Effective<'a> {
     pub propagations: Propagations<'a>,
     pub behavior: Behavior<'a>,
     pub others: OtherItems<'a>,
-    /// From the farthest classifier to the nearest.
+    /// Those of `properties` sections, from the farthest classifier to the nearest.
     pub bindings: List<Binding>,
+    /// Those in braces behind subcomponents and connections, from the farthest classifier to the nearest.
+    pub braced: List<Binding>,
 }
 
 impl<'a> Effective<'a> {
@@ -70,6 +72,7 @@ impl<'a> Effective<'a> {
         let chain = noted_chain(alloc, index, id, refusals)?;
         let classifiers = classifiers_of(alloc, index, chain.items())?;
         let bindings = bindings_along(alloc, classifiers.items())?;
+        let braced = braced_along(alloc, classifiers.items())?;
         let members = effective_members(alloc, classifiers.items(), refusals)?;
         let clauses = List::of(clauses_of(alloc, classifiers.items())?)?;
         let machine = machine_of(clauses.items());
@@ -85,6 +88,7 @@ impl<'a> Effective<'a> {
             behavior,
             others,
             bindings,
+            braced,
         })
     }
 }

@@ -15,7 +15,7 @@ mod members;
 mod names;
 mod rows;
 
-pub use bound::bindings_along;
+pub use bound::{bindings_along, braced_along};
 pub use chain::chain_of;
 pub use classifier::{Classifier, classifiers_of};
 pub use declaration::Declaration;

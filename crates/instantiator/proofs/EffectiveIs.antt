@@ -45,6 +45,7 @@ module _ (packages : List PackageUnit) (id : ClassifierId) (made : Effective) (i
         behavior = all_behavior i;
         others = all_others i;
         bindings = is.bindings i;
+        braced = is.braced i;
       }
 
   pub effective-is : made ≡ effective_of packages id

@@ -9,7 +9,7 @@ use Rattle.component_extension.specs.declared.effective.Members.{Members}
 use Rattle.component_extension.specs.declared.error_model.Behavior.{Behavior}
 use Rattle.component_extension.specs.declared.error_model.OtherItems.{OtherItems}
 use Rattle.component_extension.specs.declared.error_model.Propagations.{Propagations}
-use Rattle.component_extension.specs.Items.{Clause, bindings_along, classes_of, clauses_of, gathered, machine_of, perhaps_named, point_key, spots_of}
+use Rattle.component_extension.specs.Items.{Clause, bindings_along, braced_along, classes_of, clauses_of, gathered, machine_of, perhaps_named, point_key, spots_of}
 use Rattle.component_extension.specs.Members.{Class, connections, features, members_along, subcomponents}
 use Rattle.component_extension.specs.Rows.{named}
 
@@ -58,6 +58,7 @@ effective_with chain classes clauses = record {
   behavior = behavior_of clauses;
   others = other_items_of clauses;
   bindings = bindings_along classes;
+  braced = braced_along classes;
 }
 
 -- the effective classifier of a chain
@@ -84,6 +85,7 @@ no_effective = record {
   behavior = record { events = []; transitions = []; outgoing = []; composites = [] };
   others = record { associations = []; mappings = []; connection_errors = [] };
   bindings = [];
+  braced = [];
 }
 
 -- The effective classifier of a component: that of its classifier, and nothing at all where it has none.

@@ -137,6 +137,13 @@ impl<'i, 'a> Instance<'i, 'a> {
         self.steps().below(component, names)
     }
 
+    /// The number of the component of a path.
+    pub fn find(&self, path: &[&Identifier]) -> Option<u32>
+        ensures { result ≡ component_below self.now.components 0 (map (λ name. name.now) path.now) }
+    {
+        self.steps().below(0, path)
+    }
+
     fn steps(&self) -> Steps<'_, 'a>
         ensures components { result ≡ self.now.components }
         ensures differ { PathsDiffer self.now.components }

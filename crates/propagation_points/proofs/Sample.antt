@@ -89,6 +89,7 @@ effective_in classes = record {
   behavior = record { events = []; transitions = []; outgoing = []; composites = [] };
   others = record { associations = []; mappings = []; connection_errors = [] };
   bindings = [];
+  braced = [];
 }
 
 abbrev pub effective_of : Decl → Effective

@@ -8,7 +8,7 @@ use Rattle.component_extension.specs.declared.effective.Members.{Members}
 use Rattle.component_extension.specs.declared.error_model.Behavior.{Behavior}
 use Rattle.component_extension.specs.declared.error_model.OtherItems.{OtherItems}
 use Rattle.component_extension.specs.declared.error_model.Propagations.{Propagations}
-use Rattle.component_extension.specs.Items.{Clause, bindings_along, classes_of, clauses_of, gathered, machine_of, perhaps_named, point_key, spots_of}
+use Rattle.component_extension.specs.Items.{Clause, bindings_along, braced_along, classes_of, clauses_of, gathered, machine_of, perhaps_named, point_key, spots_of}
 use Rattle.component_extension.specs.Members.{Class, connections, features, members_along, subcomponents}
 use Rattle.component_extension.specs.Rows.{named}
 
@@ -48,3 +48,4 @@ pub record IsEffective (packages : List PackageUnit) (id : ClassifierId) (made :
   pub behavior : IsBehavior made.clauses made.behavior
   pub others : AreOtherItems made.clauses made.others
   pub bindings : made.bindings ≡ bindings_along (classes_of packages made.chain)
+  pub braced : made.braced ≡ braced_along (classes_of packages made.chain)
