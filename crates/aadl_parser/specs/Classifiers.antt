@@ -144,14 +144,19 @@ type_end = do
   _ ← core_name
   sign (codes ";")
 
+-- [ ext ] { section } "end" ID ";", of the component type of this category, name and place
+unfoldable pub type_body : Category → List ℕ → Spot → Rule Decl
+type_body of name at = do
+  decl ← decl_of of name None at
+  _ ← type_end
+  gives decl
+
 -- ID [ ext ] { section } "end" ID ";", of this category
 unfoldable pub component_type : Category → Rule Decl
 component_type of = do
   at ← spot
   name ← core_name
-  decl ← decl_of of name None at
-  _ ← type_end
-  gives decl
+  type_body of name at
 
 -- "end" ID "." ID ";"
 unfoldable pub implementation_end : Rule (Unit {0})
@@ -161,6 +166,13 @@ implementation_end = do
   _ ← dotted_name
   sign (codes ";")
 
+-- [ ext ] { section } "end" ID "." ID ";", of the implementation of this category, name, item and place
+unfoldable pub implementation_body : Category → List ℕ → List ℕ → Spot → Rule Decl
+implementation_body of name item at = do
+  decl ← decl_of of name (Some item) at
+  _ ← implementation_end
+  gives decl
+
 -- "implementation" ID "." ID [ ext ] { section } "end" ID "." ID ";", of this category
 unfoldable pub implementation : Category → Rule Decl
 implementation of = do
@@ -168,9 +180,7 @@ implementation of = do
   at ← spot
   name ← core_name
   item ← dotted_name
-  decl ← decl_of of name (Some item) at
-  _ ← implementation_end
-  gives decl
+  implementation_body of name item at
 
 -- category ID [ ext ] { section } "end" ID ";" | category "implementation" ID "." ID [ ext ] { section } "end" ID "." ID ";"
 unfoldable pub classifier : Rule Decl

@@ -5,8 +5,8 @@ ghost use Rattle.aadl_parser.specs.Words.{section_words};
 ghost use Rattle.aadl_parser.specs.Classifiers.{features_section, subcomponents_section, connections_section, annex_section, prototypes_at};
 ghost use Rattle.aadl_parser.specs.Classifiers.{prototypes, first_place, prototypes_section, properties_section, required_modes};
 ghost use Rattle.aadl_parser.specs.Classifiers.{inner_features, skipped, skipped_part, skipped_section, other_section, section, sections};
-ghost use Rattle.aadl_parser.specs.Classifiers.{extension, optional_extension, bare_decl, decl_of, type_end, component_type};
-ghost use Rattle.aadl_parser.specs.Classifiers.{implementation_end, implementation, classifier, group_type};
+ghost use Rattle.aadl_parser.specs.Classifiers.{extension, optional_extension, bare_decl, decl_of, type_end, type_body, component_type};
+ghost use Rattle.aadl_parser.specs.Classifiers.{implementation_end, implementation_body, implementation, classifier, group_type};
 ghost use Rattle.aadl_parser.specs.inner.Takes.{section-takes};
 
 use crate::annexes::clause_annex;
@@ -254,15 +254,27 @@ pub(crate) fn type_end(reader: &mut Reader) -> Result<(), ReadError>
     reader.sign(b";")
 }
 
+#[tactic(auto, unfolding(crate::specs::Classifiers::type_body))]
+fn type_body(
+    reader: &mut Reader,
+    category: Category,
+    name: Identifier,
+    spot: Spot,
+) -> Result<Decl, ReadError>
+    ensures { Gives result (type_body category name spot) reader.old reader.new }
+{
+    let decl = decl_of(reader, category, name, None, spot)?;
+    type_end(reader)?;
+    Ok(decl)
+}
+
 #[tactic(auto, unfolding(crate::specs::Classifiers::component_type))]
 fn component_type(reader: &mut Reader, category: Category) -> Result<Decl, ReadError>
     ensures { Gives result (component_type category) reader.old reader.new }
 {
     let spot = spot(reader)?;
     let name = core_name(reader)?;
-    let decl = decl_of(reader, category, name, None, spot)?;
-    type_end(reader)?;
-    Ok(decl)
+    type_body(reader, category, name, spot)
 }
 
 #[tactic(auto, unfolding(crate::specs::Classifiers::implementation_end))]
@@ -275,6 +287,21 @@ fn implementation_end(reader: &mut Reader) -> Result<(), ReadError>
     reader.sign(b";")
 }
 
+#[tactic(auto, unfolding(crate::specs::Classifiers::implementation_body))]
+fn implementation_body(
+    reader: &mut Reader,
+    category: Category,
+    name: Identifier,
+    item: Identifier,
+    spot: Spot,
+) -> Result<Decl, ReadError>
+    ensures { Gives result (implementation_body category name item spot) reader.old reader.new }
+{
+    let decl = decl_of(reader, category, name, Some(item), spot)?;
+    implementation_end(reader)?;
+    Ok(decl)
+}
+
 #[tactic(auto, unfolding(crate::specs::Classifiers::implementation))]
 fn implementation(reader: &mut Reader, category: Category) -> Result<Decl, ReadError>
     ensures { Gives result (implementation category) reader.old reader.new }
@@ -283,9 +310,7 @@ fn implementation(reader: &mut Reader, category: Category) -> Result<Decl, ReadE
     let spot = spot(reader)?;
     let name = core_name(reader)?;
     let item = dotted_name(reader)?;
-    let decl = decl_of(reader, category, name, Some(item), spot)?;
-    implementation_end(reader)?;
-    Ok(decl)
+    implementation_body(reader, category, name, item, spot)
 }
 
 /// Reads a component type or an implementation.
