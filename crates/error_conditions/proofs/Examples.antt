@@ -1,5 +1,5 @@
 -- Worked rows: where conditions may hold and may fail.
-use Rattle.std.proofs.Common.{ℕ, ◌≡◌, Bool, true, false, List, [], ◌∷◌, Some, None, refl}
+use Rattle.std.proofs.Common.{ℕ, ◌≡◌, Bool, true, false, List, [], ◌∷◌, Option, Some, None, refl}
 use Rattle.aadl_syntax.specs.declared.error_model.Atom.{Atom}
 use Rattle.aadl_syntax.specs.declared.error_model.Condition.TheOpen as condition
 use Rattle.aadl_syntax.specs.declared.error_model.Term.TheVariants.{NoError, Product}
@@ -7,8 +7,12 @@ use Rattle.aadl_syntax.specs.declared.error_model.TypeSet.{TypeSet}
 use Rattle.plain_values.specs.declared.refusal.Code.TheVariants.{OrLess}
 use Rattle.plain_values.specs.declared.spot.Spot.{Spot}
 use Rattle.plain_values.specs.Refusal.{place_of, refusal}
+use Rattle.profiles.specs.declared.profile.Profile.{Profile}
 use Rattle.profiles.specs.declared.profile.Profile.TheVariants.{First, Second}
-use Rattle.error_conditions.specs.Conditions.{Pair, always, has_no_error, may_fail, no_error_refusals, pair, pair_step, refusals_step}
+use Rattle.error_libraries.specs.declared.scope.Scope.{Scope}
+use Rattle.error_libraries.specs.Libraries.{Table}
+use Rattle.propagation_points.specs.declared.side.Reach.TheVariants.{Only, Whole}
+use Rattle.error_conditions.specs.Conditions.{Pair, always, may_fail, no_error_refusals, pair, pair_step, refusals_step, rest_of, says_no_error}
 use Rattle.error_conditions.specs.declared.cause.Cause.TheVariants.{All, Any, AtLeast, Event}
 use Rattle.error_conditions.specs.inner.Strict.{strict_step}
 
@@ -77,11 +81,24 @@ second-accepts = refl
 abbrev set : TypeSet
 set = record { terms = Product spot ∷ NoError spot ∷ []; spot = spot }
 
-has-it : has_no_error (Some set) ≡ true
+abbrev table : Profile → Table
+table profile = record { profile = profile; packages = []; libraries = []; types = [] }
+
+abbrev text : Option Scope
+text = Some (record { «package» = 0; libraries = [] })
+
+has-it : says_no_error (table Second) text (Some set) ≡ true
 has-it = refl
 
-has-none : has_no_error None ≡ false
+has-none : says_no_error (table Second) text None ≡ false
 has-none = refl
+
+first-has-none : says_no_error (table First) text (Some set) ≡ false
+first-has-none = refl
+
+-- what means no type leaves the whole side
+whole-rest : rest_of (table Second) (Only []) ≡ Whole
+whole-rest = refl
 
 second-takes-it : no_error_refusals Second (Some set) ≡ []
 second-takes-it = refl

@@ -1,6 +1,5 @@
 -- What a condition means, from what its named parts mean (EMV2: error conditions): where it may hold, and where it may fail.
-use Rattle.std.specs.Prelude.{ℕ, ◌+◌, ◌-◌, Bool, true, false, List, [], ◌++◌, flat_map, length, map, Option, Some, None}
-use Rattle.std.specs.List.{list_any}
+use Rattle.std.specs.Prelude.{ℕ, ◌+◌, ◌-◌, Bool, true, false, cond, ◌&&◌, not, nat_eq, List, [], ◌∷◌, ◌++◌, filter, flat_map, length, map, Option, Some, None, option_map}
 use Rattle.profiles.specs.declared.profile.Profile.{Profile}
 use Rattle.profiles.specs.Profiles.{is_first}
 use Rattle.aadl_syntax.specs.declared.error_model.Atom.{Atom}
@@ -13,16 +12,20 @@ use Rattle.aadl_syntax.specs.declared.error_model.TypeSet.{TypeSet}
 use Rattle.plain_values.specs.declared.refusal.Code.TheVariants.{NoErrorCondition, OrLess}
 use Rattle.plain_values.specs.declared.refusal.Refusal.{Refusal}
 use Rattle.plain_values.specs.Refusal.{refused_so}
+use Rattle.plain_values.specs.Numbered.{numbers_below}
+use Rattle.error_libraries.specs.declared.scope.Scope.{Scope}
 use Rattle.error_libraries.specs.Libraries.{Table}
+use Rattle.error_libraries.specs.Search.{is_number_in}
+use Rattle.error_types.specs.NoError.{has_no_error}
 use Rattle.propagation_points.specs.declared.held.Held.{Held}
 use Rattle.propagation_points.specs.declared.held.Held.TheVariants as held
+use Rattle.propagation_points.specs.declared.side.Reach.{Reach}
+use Rattle.propagation_points.specs.declared.side.Reach.TheVariants.{Whole, Only}
 use Rattle.propagation_points.specs.declared.uses.ReachedPoint.{ReachedPoint}
 use Rattle.propagation_points.specs.Settings.{Setting, reached_in}
 use Rattle.propagation_points.specs.Uses.{atom_use}
 use Rattle.error_conditions.specs.declared.cause.Cause.{Cause}
 use Rattle.error_conditions.specs.declared.cause.Cause.TheVariants.{Point, All, Any, AtLeast}
-use Rattle.error_conditions.specs.declared.side.Side.{Side}
-use Rattle.error_conditions.specs.declared.side.Side.TheVariants.{Holds, Fails}
 
 -- ---- two sides
 
@@ -34,16 +37,6 @@ pub record Pair : Type 0 where
 -- what may hold by one cause, and may fail by another
 abbrev pub pair : Cause → Cause → Pair
 pair holds fails = record { holds = holds; fails = fails }
-
--- the cause of a side
-abbrev pub at_side : Side → Pair → Cause
-at_side Holds pair = pair.holds
-at_side Fails pair = pair.fails
-
--- the other side
-abbrev pub other_side : Side → Side
-other_side Holds = Fails
-other_side Fails = Holds
 
 -- what is always so
 abbrev pub always : Cause
@@ -95,20 +88,30 @@ abbrev pub point_cause : Option ReachedPoint → Cause
 point_cause None = Any []
 point_cause (Some reached) = Point reached
 
--- the meaning of a named part that names a point: one of the types that are reached there comes in
-abbrev pub point_meaning : Table → Setting → Atom → Cause
-point_meaning table setting atom = point_cause (reached_in table setting (atom_use atom))
+-- Whether a name with this set behind it says in a text that no error may be there: by the second profile, where the set has `noerror`.
+abbrev pub says_no_error : Table → Option Scope → Option TypeSet → Bool
+says_no_error table None set = false
+says_no_error table (Some scope) None = false
+says_no_error table (Some scope) (Some set) = not (is_first table.profile) && has_no_error table scope set
 
--- whether a term is `noerror`
-abbrev pub is_no_error : Term → Bool
-is_no_error (NoError spot) = true
-is_no_error (One name) = false
-is_no_error (Product spot) = false
+-- the types of a side that this does not mean; what means none of them leaves the whole side
+abbrev pub rest_of : Table → Reach → Reach
+rest_of table Whole = Only []
+rest_of table (Only types) = cond (nat_eq (length types) 0) Whole (Only (filter (λ number. not (is_number_in types number)) (numbers_below (length table.types))))
 
--- whether a set behind a name has `noerror`
-abbrev pub has_no_error : Option TypeSet → Bool
-has_no_error None = false
-has_no_error (Some set) = list_any is_no_error set.terms
+-- the same of a point
+abbrev pub rest_at : Table → ReachedPoint → ReachedPoint
+rest_at table reached = record { point = reached.point; types = rest_of table reached.types }
+
+-- What it means that this is reached, perhaps or no error at all: one of the types comes in, and an error may always stay away. That
+-- no error comes in may always be so, and fails where a type comes in that is not meant.
+abbrev pub point_pair : Table → Bool → Option ReachedPoint → Pair
+point_pair table false reached = may_fail (point_cause reached)
+point_pair table true reached = pair always (point_cause (option_map (rest_at table) reached))
+
+-- the meaning of a named part that names a point
+abbrev pub point_meaning : Table → Setting → Atom → Pair
+point_meaning table setting atom = point_pair table (says_no_error table setting.scope atom.set) (reached_in table setting (atom_use atom))
 
 -- by the first profile P6 at a term `noerror`
 abbrev pub no_error_at : Profile → Term → List Refusal

@@ -1,2 +1,3 @@
 pub mod First
+pub mod Sides
 pub mod Strict

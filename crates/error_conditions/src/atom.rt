@@ -1,19 +1,22 @@
-ghost use Rattle.std.specs.Prelude.{◌≡◌, IfOk, OnOk, cond, flat_map, map};
-ghost use Rattle.std.specs.List.{list_any};
+ghost use Rattle.std.specs.Prelude.{◌≡◌, IfOk, OnOk, cond, filter, flat_map, map, not, option_copied, option_map};
 ghost use Rattle.noted_refusals.specs.inner.Noted.{noting};
 ghost use Rattle.propagation_points.specs.Settings.{refusals_in};
 ghost use Rattle.propagation_points.specs.Uses.{atom_use};
-ghost use Rattle.error_conditions.specs.Conditions.{always, at_side, has_no_error, held_cause, is_no_error, may_fail, no_error_at, no_error_refusals, point_cause, point_meaning};
+ghost use Rattle.plain_values.specs.Numbered.{numbers_below};
+ghost use Rattle.error_libraries.specs.Search.{is_number_in};
+ghost use Rattle.error_conditions.specs.Conditions.{always, held_cause, may_fail, no_error_at, no_error_refusals, point_cause, point_meaning, point_pair, rest_at, rest_of, says_no_error};
+ghost use Rattle.error_conditions.specs.inner.Sides.{at_side};
 ghost use Rattle.error_conditions.specs.declared.cause.Cause.TheVariants.{Any, Event};
 
 use crate::cause::Cause;
 use crate::side::Side;
 use aadl_syntax::{Atom, Term, TypeSet};
-use error_types::Reading;
+use error_libraries::Scope;
+use error_types::{Reading, TypeTable};
 use noted_refusals::Refusals;
 use plain_values::{Code, List, Mem};
 use profiles::Profile;
-use propagation_points::{Held, PointUse, ReachedPoint, Setting};
+use propagation_points::{Held, PointUse, Reach, ReachedPoint, Setting, is_number_in};
 use std::alloc::Global;
 
 /// What is always so.
@@ -43,42 +46,107 @@ pub fn or_always(alloc: Global, is_so: bool, cause: Cause) -> Cause
     cause
 }
 
-/// Whether a set behind a name has `noerror`.
-pub fn has_no_error(set: &Option<TypeSet>) -> bool
-    ensures { result ≡ has_no_error set.now }
+/// Whether a name with this set behind it says in a text that no error may be there.
+pub fn says_no_error<'a>(
+    alloc: Global,
+    types: &mut TypeTable<'_, 'a>,
+    scope: Option<&Scope>,
+    set: &'a Option<TypeSet>,
+) -> Mem<bool>
+    ensures kept { types.new ≡ types.old }
+    ensures so { IfOk result (λ so. so ≡ says_no_error types.old (option_copied scope.entry) set.now) }
 {
-    match set {
-        Some(set) => any_no_error(set.terms.items()),
-        None => false,
+    let Some(scope) = scope else {
+        return Ok(false);
+    };
+    let Some(set) = set else {
+        return Ok(false);
+    };
+    if types.profile().is_first() {
+        return Ok(false);
     }
+    types.has_no_error(alloc, scope, set)
 }
 
-fn any_no_error(terms: &[Term]) -> bool
-    ensures { result ≡ list_any is_no_error terms.now }
-{
-    terms.iter().any(|term| is_no_error(term))
-}
-
-fn is_no_error(term: &Term) -> bool
-    ensures { result ≡ is_no_error term.now }
-{
-    matches!(term, Term::NoError(_))
-}
-
-/// The meaning of a named part that names a point: one of the types that are reached there comes in. Its refusals are noted.
+/// A side of the meaning of a named part that names a point: one of the types that are reached there comes in, or perhaps none at
+/// all. Its refusals are noted.
 pub fn point_meaning<'a>(
     alloc: Global,
+    side: Side,
     setting: &Setting,
     reading: &mut Reading<'_, 'a>,
     atom: &'a Atom,
 ) -> Mem<Cause>
     ensures kept { reading.new.types ≡ reading.old.types }
-    ensures meaning { IfOk result (λ cause. cause ≡ point_meaning reading.old.types setting.now atom.now) }
+    ensures meaning { IfOk result (λ cause. cause ≡ at_side side (point_meaning reading.old.types setting.now atom.now)) }
     ensures noted { OnOk result (reading.new.refusals ≡ noting reading.old.refusals (refusals_in reading.old.types setting.now (atom_use atom.now))) }
 {
+    let no_error = says_no_error(alloc, &mut reading.types, setting.scope(), &atom.set)?;
     let used = PointUse::of_atom(atom);
     let reached = setting.reached(alloc, reading, &used)?;
-    Ok(point_cause(alloc, reached))
+    point_pair(alloc, &reading.types, side, no_error, reached)
+}
+
+/// A side of what it means that this is reached, perhaps or no error at all.
+fn point_pair(
+    alloc: Global,
+    types: &TypeTable<'_, '_>,
+    side: Side,
+    no_error: bool,
+    reached: Option<ReachedPoint>,
+) -> Mem<Cause>
+    ensures { IfOk result (λ cause. cause ≡ at_side side (point_pair types.now no_error reached)) }
+{
+    if !no_error {
+        return Ok(may_fail(alloc, side, point_cause(alloc, reached)));
+    }
+    match side {
+        Side::Holds => Ok(always(alloc)),
+        Side::Fails => Ok(point_cause(alloc, rest_at(alloc, types, reached)?)),
+    }
+}
+
+/// The types at the point that this does not mean.
+fn rest_at(
+    alloc: Global,
+    types: &TypeTable<'_, '_>,
+    reached: Option<ReachedPoint>,
+) -> Mem<Option<ReachedPoint>>
+    ensures { IfOk result (λ rest. rest ≡ option_map (rest_at types.now) reached) }
+{
+    match reached {
+        Some(reached) => Ok(Some(ReachedPoint {
+            point: reached.point,
+            types: rest_of(alloc, types, &reached.types)?,
+        })),
+        None => Ok(None),
+    }
+}
+
+/// The types of a side that this does not mean.
+fn rest_of(alloc: Global, types: &TypeTable<'_, '_>, meant: &Reach) -> Mem<Reach>
+    ensures { IfOk result (λ rest. rest ≡ rest_of types.now meant.now) }
+{
+    match meant {
+        Reach::Whole => Ok(Reach::Only(List::new(alloc))),
+        Reach::Only(meant) => {
+            if meant.items().len() == 0 {
+                return Ok(Reach::Whole);
+            }
+            Ok(Reach::Only(others(alloc, types.count(), meant.items())?))
+        }
+    }
+}
+
+/// The numbers below a count that are none of these, rising.
+fn others(alloc: Global, count: u32, meant: &[u32]) -> Mem<List<u32>>
+    ensures { IfOk result (λ others. others ≡ filter (λ number. not (is_number_in meant.now number)) (numbers_below count)) }
+{
+    let mut others = List::new(alloc);
+    for number in 0..count {
+        others.push_if(number, !is_number_in(meant, number))?;
+    }
+    Ok(others)
 }
 
 fn point_cause(alloc: Global, reached: Option<ReachedPoint>) -> Cause

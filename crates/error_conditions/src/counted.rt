@@ -1,5 +1,6 @@
 ghost use Rattle.std.specs.Prelude.{◌+◌, ◌-◌, ◌≡◌, IfOk, List as Items, length, map};
-ghost use Rattle.error_conditions.specs.Conditions.{Pair, at_side, fails_of, holds_of, other_side, pair};
+ghost use Rattle.error_conditions.specs.Conditions.{Pair, fails_of, holds_of, pair};
+ghost use Rattle.error_conditions.specs.inner.Sides.{at_side, other_side};
 ghost use Rattle.error_conditions.specs.declared.cause.Cause.TheVariants.{All, Any, AtLeast};
 
 use crate::cause::Cause;

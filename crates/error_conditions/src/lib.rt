@@ -10,10 +10,10 @@ mod side;
 mod walk;
 
 pub use atom::{
-    always, event_cause, has_no_error, may_fail, note_no_errors, or_always, point_meaning,
+    always, event_cause, may_fail, note_no_errors, or_always, point_meaning, says_no_error,
 };
 pub use cause::{Cause, StateBelow};
 pub use counted::all_of;
-pub use laws::{covers_named, first_profile, tells_named};
+pub use laws::{covers_named, covers_no_error, first_profile, tells_named, tells_no_error};
 pub use side::Side;
 pub use walk::{Atoms, cause_of};

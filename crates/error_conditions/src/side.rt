@@ -1,5 +1,5 @@
 ghost use Rattle.std.specs.Prelude.{◌≡◌};
-ghost use Rattle.error_conditions.specs.Conditions.{other_side};
+ghost use Rattle.error_conditions.specs.inner.Sides.{other_side};
 
 /// A side of the meaning of a condition: where it may hold, or where it may fail.
 #[derive(Clone, Copy)]

@@ -1,6 +1,7 @@
 ghost use Rattle.std.specs.Prelude.{◌≡◌, IfOk, OnOk, flat_map, map};
 ghost use Rattle.noted_refusals.specs.inner.Noted.{noting};
-ghost use Rattle.error_conditions.specs.Conditions.{at_side, condition_refusals, pair_of};
+ghost use Rattle.error_conditions.specs.Conditions.{condition_refusals, pair_of};
+ghost use Rattle.error_conditions.specs.inner.Sides.{at_side};
 
 use crate::cause::Cause;
 use crate::counted::{all_of, any_of, at_least, at_most};
@@ -17,7 +18,8 @@ pub trait Atoms {
     ghost use Rattle.aadl_syntax.specs.declared.error_model.Atom.{Atom as Named};
     ghost use Rattle.plain_values.specs.declared.refusal.Refusal.{Refusal};
     ghost use Rattle.error_libraries.specs.Libraries.{Table};
-    ghost use Rattle.error_conditions.specs.Conditions.{Pair, at_side};
+    ghost use Rattle.error_conditions.specs.Conditions.{Pair};
+    ghost use Rattle.error_conditions.specs.inner.Sides.{at_side};
 
     ghost meaning: { Self → Table → Named → Pair };
 

@@ -1,11 +1,15 @@
 -- The strict reading of a condition, in which a named part that is not true is false, and what is lost of it.
-use Rattle.std.specs.Prelude.{ℕ, ◌+◌, ◌≡◌, Bool, true, false, List, [], ◌∷◌, nat_le, not, if◌then◌else◌}
+use Rattle.std.specs.Prelude.{ℕ, ◌+◌, ◌≡◌, Bool, true, false, ◌&&◌, ◌||◌, List, [], ◌∷◌, length, nat_le, not, if◌then◌else◌}
 use Rattle.std.specs.List.{list_all, list_any}
 use Rattle.aadl_syntax.specs.declared.error_model.Atom.{Atom}
 use Rattle.aadl_syntax.specs.declared.error_model.Condition.{Condition, fold-Condition}
 use Rattle.aadl_syntax.specs.declared.error_model.Condition.TheOpen.{Condition-F}
 use Rattle.aadl_syntax.specs.declared.error_model.Condition.TheOpen as condition
+use Rattle.plain_values.specs.Numbered.{numbers_below}
+use Rattle.error_libraries.specs.Libraries.{Table}
+use Rattle.propagation_points.specs.declared.side.Reach.TheVariants.{Whole}
 use Rattle.propagation_points.specs.declared.uses.ReachedPoint.{ReachedPoint}
+use Rattle.propagation_points.specs.Uses.{covers}
 use Rattle.error_conditions.specs.Conditions.{Pair}
 use Rattle.error_conditions.specs.declared.cause.Cause.{Cause, fold-Cause}
 use Rattle.error_conditions.specs.declared.cause.Cause.TheOpen.{Cause-F}
@@ -51,6 +55,20 @@ truth_step world (cause.AtLeast least parts) = nat_le least (count_true parts)
 -- whether a cause is true
 abbrev pub truth : World → Cause → Bool
 truth world = fold-Cause Bool (truth_step world)
+
+-- ---- what comes in
+
+-- whether one of the types that are reached at a point comes in, where these types come in at these points
+abbrev pub comes_in : Table → (ℕ → ℕ → Bool) → ReachedPoint → Bool
+comes_in table comes reached = list_any (λ type. covers reached.types type && comes reached.point type) (numbers_below (length table.types))
+
+-- whether a type comes in there that is not meant
+abbrev pub other_comes_in : Table → (ℕ → ℕ → Bool) → ReachedPoint → Bool
+other_comes_in table comes reached = list_any (λ type. not (covers reached.types type) && comes reached.point type) (numbers_below (length table.types))
+
+-- Whether a name with `noerror` is true in the strict reading: one of its types comes in, or none at all.
+abbrev pub is_quiet : Table → (ℕ → ℕ → Bool) → ReachedPoint → Bool
+is_quiet table comes reached = comes_in table comes reached || not (comes_in table comes (record { point = reached.point; types = Whole }))
 
 -- ---- what is not lost
 

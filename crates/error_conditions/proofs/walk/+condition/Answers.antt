@@ -5,7 +5,8 @@ use Rattle.profiles.specs.Profiles.{is_first}
 use Rattle.plain_values.specs.declared.refusal.Code.TheVariants.{OrLess}
 use Rattle.plain_values.specs.Refusal.{refused_so}
 use Rattle.noted_refusals.proofs.Loops.{noting-more}
-use Rattle.error_conditions.specs.Conditions.{at_side, condition_refusals, pair_of}
+use Rattle.error_conditions.specs.Conditions.{condition_refusals, pair_of}
+use Rattle.error_conditions.specs.inner.Sides.{at_side}
 use Rattle.error_conditions.proofs.ConditionLaws.{faults-All, faults-Any, faults-AtLeast, faults-AtMost, map-map-more}
 use Rattle.error_conditions.proofs.walk.+condition.Goals as goal
 

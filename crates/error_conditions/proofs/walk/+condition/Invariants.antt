@@ -1,6 +1,7 @@
 use Rattle.std.proofs.Common.{◌≡◌, drop, flat_map, map, take}
 use Rattle.noted_refusals.specs.inner.Noted.{noting}
-use Rattle.error_conditions.specs.Conditions.{at_side, condition_refusals, pair_of}
+use Rattle.error_conditions.specs.Conditions.{condition_refusals, pair_of}
+use Rattle.error_conditions.specs.inner.Sides.{at_side}
 use Rattle.error_conditions.proofs.walk.+condition.Given as goal
 
 abbrev pub invariant-causes_of-loop-part : goal.invariant-causes_of-loop-part
