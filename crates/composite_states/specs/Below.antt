@@ -15,7 +15,7 @@ use Rattle.propagation_points.specs.States.{Sort, all_variants, held_by, held_nu
 use Rattle.propagation_points.specs.Uses.{atom_use}
 use Rattle.error_conditions.specs.declared.cause.Cause.{Cause}
 use Rattle.error_conditions.specs.declared.cause.Cause.TheVariants.{Any, State}
-use Rattle.error_conditions.specs.Conditions.{Pair, always, has_no_error, held_cause, may_fail, no_error_refusals, pair, point_meaning}
+use Rattle.error_conditions.specs.Conditions.{Pair, always, held_cause, may_fail, no_error_refusals, pair, point_meaning, says_no_error}
 
 -- The states of the component to which names of subcomponents lead, if they lead to one.
 abbrev pub StatesAt : Type 0
@@ -75,15 +75,15 @@ state_named_refusals states_at table setting atom =
 
 -- ---- named parts
 
--- what a named part means whatever `noerror` says: after `in` a point of the component itself, else a state of a component below
-abbrev pub point_or_state : StatesAt → Setting → Table → Atom → Pair
-point_or_state states_at setting table atom = cond atom.inward (may_fail (point_meaning table setting atom)) (state_named states_at table setting atom)
+-- the meaning of a named part that names a state: that no error is there may always be so, and may always fail
+abbrev pub state_or_none : StatesAt → Table → Setting → Atom → Pair
+state_or_none states_at table setting atom = cond (says_no_error table setting.scope atom.set) (may_fail always) (state_named states_at table setting atom)
 
--- What a named part of a composite state means: a point or a state. That no error is there may always be so, and may always fail.
+-- What a named part of a composite state means: after `in` a point of the component itself, else a state of a component below.
 abbrev pub composite_meaning : StatesAt → Setting → Table → Atom → Pair
-composite_meaning states_at setting table atom = cond (has_no_error atom.set) (may_fail always) (point_or_state states_at setting table atom)
+composite_meaning states_at setting table atom = cond atom.inward (point_meaning table setting atom) (state_or_none states_at table setting atom)
 
--- the refusals of a named part whatever `noerror` says
+-- the refusals of a named part but for P6
 abbrev pub point_or_state_refusals : StatesAt → Setting → Table → Atom → List Refusal
 point_or_state_refusals states_at setting table atom = cond atom.inward (refusals_in table setting (atom_use atom)) (state_named_refusals states_at table setting atom)
 

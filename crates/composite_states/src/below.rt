@@ -3,21 +3,21 @@ ghost use Rattle.noted_refusals.specs.inner.Noted.{noting};
 ghost use Rattle.package_index.specs.Names.{front};
 ghost use Rattle.plain_values.specs.declared.refusal.Code.TheVariants.{UnknownState};
 ghost use Rattle.plain_values.specs.Refusal.{refused_so};
-ghost use Rattle.composite_states.specs.Below.{below_at, others_in, point_or_state, point_or_state_refusals, state_at, state_in, state_named, state_named_refusals, state_pair, unknown_refusals, variant_cause, variant_count};
+ghost use Rattle.composite_states.specs.Below.{below_at, others_in, state_at, state_in, state_named, state_named_refusals, state_or_none, state_pair, unknown_refusals, variant_cause, variant_count};
 ghost use Rattle.plain_values.specs.Numbered.{numbers_below};
-ghost use Rattle.error_libraries.specs.Search.{is_number_in};
-ghost use Rattle.error_conditions.specs.Conditions.{Pair, always, at_side, held_cause, may_fail};
+ghost use Rattle.error_conditions.specs.Conditions.{Pair, always, held_cause, may_fail};
+ghost use Rattle.error_conditions.specs.inner.Sides.{at_side};
 ghost use Rattle.error_conditions.specs.declared.cause.Cause.TheVariants.{Any};
 
 use aadl_syntax::{Atom, Identifier};
 use error_conditions::{
-    Atoms, Cause, Side, StateBelow, always, has_no_error, may_fail, note_no_errors, point_meaning,
+    Atoms, Cause, Side, StateBelow, always, may_fail, note_no_errors, point_meaning, says_no_error,
 };
 use error_types::Reading;
 use noted_refusals::Refusals;
 use package_index::Words;
 use plain_values::{Code, List, Mem, Spot};
-use propagation_points::{Held, Setting, Sort, Sorts};
+use propagation_points::{Held, Setting, Sort, Sorts, is_number_in};
 use std::alloc::{AllocError, Global};
 use std::marker::Model;
 
@@ -69,10 +69,29 @@ impl<'s, 'a, B: StatesBelow<'a>> Atoms for CompositePlace<'s, 'a, B> {
         atom: &'t Atom,
     ) -> Mem<Cause> {
         note_no_errors(&mut reading.refusals, reading.types.profile(), &atom.set);
-        let cause = point_or_state(alloc, side, reading, &self.setting, self.below, atom)?;
-        let no_error = has_no_error(&atom.set);
-        Ok(or_no_error(alloc, side, no_error, cause))
+        if atom.inward {
+            return point_meaning(alloc, side, &self.setting, reading, atom);
+        }
+        state_or_none(alloc, side, reading, &self.setting, self.below, atom)
     }
+}
+
+/// A side of the meaning of a named part that names a state of a component below, or that no error is there. Its refusals are noted.
+fn state_or_none<'a, 't, B: StatesBelow<'a>>(
+    alloc: Global,
+    side: Side,
+    reading: &mut Reading<'_, 't>,
+    setting: &Setting,
+    below: &B,
+    atom: &'t Atom,
+) -> Mem<Cause>
+    ensures kept { reading.new.types ≡ reading.old.types }
+    ensures meaning { IfOk result (λ cause. cause ≡ at_side side (state_or_none (B.states_at below.now) reading.old.types setting.now atom.now)) }
+    ensures noted { OnOk result (reading.new.refusals ≡ noting reading.old.refusals (state_named_refusals (B.states_at below.now) reading.old.types setting.now atom.now)) }
+{
+    let no_error = says_no_error(alloc, &mut reading.types, setting.scope(), &atom.set)?;
+    let cause = state_named(alloc, side, reading, setting, below, atom)?;
+    Ok(or_no_error(alloc, side, no_error, cause))
 }
 
 /// A side of what may always hold and may always fail where this is so, and else means this.
@@ -83,26 +102,6 @@ fn or_no_error(alloc: Global, side: Side, is_so: bool, cause: Cause) -> Cause
         return may_fail(alloc, side, always(alloc));
     }
     cause
-}
-
-/// A side of the meaning of a named part, whatever `noerror` says. Its refusals are noted.
-fn point_or_state<'a, 't, B: StatesBelow<'a>>(
-    alloc: Global,
-    side: Side,
-    reading: &mut Reading<'_, 't>,
-    setting: &Setting,
-    below: &B,
-    atom: &'t Atom,
-) -> Mem<Cause>
-    ensures kept { reading.new.types ≡ reading.old.types }
-    ensures meaning { IfOk result (λ cause. cause ≡ at_side side (point_or_state (B.states_at below.now) setting.now reading.old.types atom.now)) }
-    ensures noted { OnOk result (reading.new.refusals ≡ noting reading.old.refusals (point_or_state_refusals (B.states_at below.now) setting.now reading.old.types atom.now)) }
-{
-    if atom.inward {
-        let cause = point_meaning(alloc, setting, reading, atom)?;
-        return Ok(may_fail(alloc, side, cause));
-    }
-    state_named(alloc, side, reading, setting, below, atom)
 }
 
 /// A side of the meaning of a named part that names a state of a component below. Its refusals are noted.
@@ -183,12 +182,6 @@ fn add_other(
         return Ok(());
     }
     parts.push(variant_cause(alloc, path, number)?)
-}
-
-fn is_number_in(numbers: &[u32], number: u32) -> bool
-    ensures { result ≡ is_number_in numbers.now number }
-{
-    numbers.iter().any(|other| *other == number)
 }
 
 /// The state that names mean. N13 or N11 is noted where they mean none.

@@ -1,5 +1,5 @@
 -- What the named parts of a trigger mean (EMV2: error conditions over events and propagations).
-use Rattle.std.specs.Prelude.{ℕ, Bool, false, cond, List, ◌++◌, slice_index_or, Option, Some, None, option_and_then}
+use Rattle.std.specs.Prelude.{ℕ, Bool, false, cond, ◌||◌, List, ◌++◌, slice_index_or, Option, Some, None, option_and_then}
 use Rattle.std.specs.Option.{option_map_or}
 use Rattle.aadl_syntax.specs.declared.error_model.Atom.{Atom}
 use Rattle.plain_values.specs.declared.refusal.Refusal.{Refusal}
@@ -10,9 +10,8 @@ use Rattle.propagation_points.specs.Points.{Point}
 use Rattle.propagation_points.specs.Settings.{Setting, refusals_in}
 use Rattle.propagation_points.specs.States.{Sort, held_by, place_of_sort, sort_refusals, sort_named}
 use Rattle.propagation_points.specs.Uses.{atom_use}
-use Rattle.error_conditions.specs.declared.cause.Cause.{Cause}
 use Rattle.error_conditions.specs.declared.cause.Cause.TheVariants.{Event}
-use Rattle.error_conditions.specs.Conditions.{Pair, always, has_no_error, held_cause, may_fail, no_error_refusals, point_meaning}
+use Rattle.error_conditions.specs.Conditions.{Pair, always, held_cause, may_fail, no_error_refusals, point_meaning, says_no_error}
 use Rattle.error_machines.specs.declared.states.Events.{Events}
 
 -- Where a trigger stands: the points and the states of the component, the text in which it is read, and the component's events.
@@ -42,20 +41,16 @@ event_place events atom = cond atom.inward None (option_and_then (place_of_sort 
 abbrev pub names_free : Events → Atom → Bool
 names_free events atom = option_map_or (λ place. slice_index_or events.free place false) (event_place events.sorts atom) false
 
--- when a named part may hold, where it names this event, which may be free, or else a point
-abbrev pub event_or_point : Table → Setting → Atom → Bool → Option Sort → Cause
-event_or_point table setting atom free (Some event) = cond free always (held_cause Event (held_by table setting.scope event atom.set))
+-- What a named part of a trigger means that names this event, which may be free, or else a point: the event happens, and may always
+-- stay away, or something comes in at the point. A free event may happen at any time, and an event without an error too.
+abbrev pub event_or_point : Table → Setting → Atom → Bool → Option Sort → Pair
+event_or_point table setting atom free (Some event) =
+    may_fail (cond (free || says_no_error table setting.scope atom.set) always (held_cause Event (held_by table setting.scope event atom.set)))
 event_or_point table setting atom free None = point_meaning table setting atom
 
--- When a named part of a trigger may hold: an event of the component happens, or else something comes in at a point. A free event
--- may happen at any time, and that no error is there may always be so.
-abbrev pub trigger_cause : TriggerPlace → Table → Atom → Cause
-trigger_cause place table atom =
-    cond (has_no_error atom.set) always (event_or_point table place.setting atom (names_free place.events atom) (event_named place.events.sorts atom))
-
--- What a named part of a trigger means: it may hold so, and may always fail.
+-- What a named part of a trigger means.
 abbrev pub trigger_meaning : TriggerPlace → Table → Atom → Pair
-trigger_meaning place table atom = may_fail (trigger_cause place table atom)
+trigger_meaning place table atom = event_or_point table place.setting atom (names_free place.events atom) (event_named place.events.sorts atom)
 
 -- the refusals of a named part that names this event, or else a point
 abbrev pub event_or_point_refusals : Table → Setting → Atom → Option Sort → List Refusal

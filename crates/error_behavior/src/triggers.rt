@@ -1,11 +1,12 @@
-ghost use Rattle.std.specs.Prelude.{◌≡◌, IfOk, OnOk, false, option_copied, slice_index_or};
+ghost use Rattle.std.specs.Prelude.{◌≡◌, IfOk, OnOk, Some, false, option_copied, slice_index_or};
 ghost use Rattle.noted_refusals.specs.inner.Noted.{noting};
+ghost use Rattle.error_conditions.specs.inner.Sides.{at_side};
 ghost use Rattle.error_behavior.specs.Triggers.{event_named, event_or_point, event_or_point_refusals, event_place, names_free, trigger_refusals, trigger_meaning};
 
 use aadl_syntax::Atom;
 use error_conditions::{
-    Atoms, Cause, Side, event_cause, has_no_error, may_fail, note_no_errors, or_always,
-    point_meaning,
+    Atoms, Cause, Side, event_cause, may_fail, note_no_errors, or_always, point_meaning,
+    says_no_error,
 };
 use error_libraries::Scope;
 use error_machines::Events;
@@ -144,15 +145,22 @@ impl<'s, 'a> Atoms for TriggerPlace<'s, 'a> {
     ) -> Mem<Cause> {
         note_no_errors(&mut reading.refusals, reading.types.profile(), &atom.set);
         let free = self.names_free(atom);
-        let cause = event_or_point(alloc, &self.setting, reading, atom, free, self.event(atom))?;
-        let holds = or_always(alloc, has_no_error(&atom.set), cause);
-        Ok(may_fail(alloc, side, holds))
+        event_or_point(
+            alloc,
+            side,
+            &self.setting,
+            reading,
+            atom,
+            free,
+            self.event(atom),
+        )
     }
 }
 
-/// When a named part may hold that names this event, which may be free, or else a point. Its refusals are noted.
+/// A side of the meaning of a named part that names this event, which may be free, or else a point. Its refusals are noted.
 fn event_or_point<'a>(
     alloc: Global,
+    side: Side,
     setting: &Setting,
     reading: &mut Reading<'_, 'a>,
     atom: &'a Atom,
@@ -160,14 +168,31 @@ fn event_or_point<'a>(
     event: Option<&Sort>,
 ) -> Mem<Cause>
     ensures kept { reading.new.types ≡ reading.old.types }
-    ensures meaning { IfOk result (λ cause. cause ≡ event_or_point reading.old.types setting.now atom.now free (option_copied event.entry)) }
+    ensures meaning { IfOk result (λ cause. cause ≡ at_side side (event_or_point reading.old.types setting.now atom.now free (option_copied event.entry))) }
     ensures noted { OnOk result (reading.new.refusals ≡ noting reading.old.refusals (event_or_point_refusals reading.old.types setting.now atom.now (option_copied event.entry))) }
 {
     match event {
-        Some(event) => {
-            let held = setting.held(alloc, reading, event, &atom.set)?;
-            Ok(or_always(alloc, free, event_cause(alloc, held)?))
-        }
-        None => point_meaning(alloc, setting, reading, atom),
+        Some(event) => event_meaning(alloc, side, setting, reading, atom, free, event),
+        None => point_meaning(alloc, side, setting, reading, atom),
     }
+}
+
+/// The same of one that names an event.
+fn event_meaning<'a>(
+    alloc: Global,
+    side: Side,
+    setting: &Setting,
+    reading: &mut Reading<'_, 'a>,
+    atom: &'a Atom,
+    free: bool,
+    event: &Sort,
+) -> Mem<Cause>
+    ensures kept { reading.new.types ≡ reading.old.types }
+    ensures meaning { IfOk result (λ cause. cause ≡ at_side side (event_or_point reading.old.types setting.now atom.now free (Some event.now))) }
+    ensures noted { OnOk result (reading.new.refusals ≡ noting reading.old.refusals (event_or_point_refusals reading.old.types setting.now atom.now (Some event.now))) }
+{
+    let no_error = says_no_error(alloc, &mut reading.types, setting.scope(), &atom.set)?;
+    let held = setting.held(alloc, reading, event, &atom.set)?;
+    let cause = or_always(alloc, free || no_error, event_cause(alloc, held)?);
+    Ok(may_fail(alloc, side, cause))
 }
