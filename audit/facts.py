@@ -84,6 +84,7 @@ class Facts:
                 for each in sets_of_item(item):
                     if not hasattr(each, "numbers"):
                         each.numbers = self.types.denoted(each, text)
+                        each.quiet = self.types.quiet(each, text)
         first(self.types.faults)
 
     # Points and sides
@@ -193,25 +194,22 @@ class Facts:
             if condition.kind == "orless" and self.profile == 1:
                 faults.append(Refusal("P5", condition.place))
             return counted(condition, [pair[0] for pair in pairs], [pair[1] for pair in pairs])
-        no_error = False
         for term in condition.set.terms if condition.set else []:
-            if term.kind == "noerror":
-                no_error = True
-                if self.profile == 1:
-                    faults.append(Refusal("P6", term.place))
+            if term.kind == "noerror" and self.profile == 1:
+                faults.append(Refusal("P6", term.place))
+        no_error = self.profile == 2 and condition.set is not None and condition.set.quiet
         if composite and not condition.inward:
             pair = self.state_below(part, condition, faults)
-        else:
-            pair = self.trigger(part, condition, faults)
-        return ALWAYS if no_error else pair
+            return ALWAYS if no_error else pair
+        return self.trigger(part, condition, no_error, faults)
 
-    def trigger(self, part, condition, faults):
+    def trigger(self, part, condition, no_error, faults):
         """The pair of an event, or of a point with an inward side."""
         point, name = condition.point, condition.point[0].text
         if not condition.inward:
             if len(point) == 1 and name in part.error_events:
                 types = self.typed(part.error_events[name], condition.set, faults)
-                if name in part.free:
+                if name in part.free or no_error:
                     return ALWAYS
                 events = [("event", (part.number, "error", name, t)) for t in types]
                 return (("or", events), TRUE)
@@ -219,6 +217,11 @@ class Facts:
                 faults.append(Refusal("N12", point[0].place))
                 return ALWAYS
         types = self.select(part, point, condition.set, "in", faults)
+        if no_error:
+            others = [number for number in self.side(part, name, "in") or []
+                      if number not in types]
+            return (TRUE, ("or", [("fact", (part.number, "in", name, number))
+                                  for number in others]))
         return (("or", [("fact", (part.number, "in", name, number)) for number in types]), TRUE)
 
     # Flows and composite states

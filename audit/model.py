@@ -313,6 +313,24 @@ class Types:
             self.faults = told
         return sorted(number for number, above in self.above.items() if above & named)
 
+    def quiet(self, types, text):
+        """Whether a written set has `noerror`, by itself or through the sets that it names."""
+        told, seen = list(self.faults), []
+        found = any(self.quiet_term(term, text, False, seen) for term in types.terms)
+        self.faults = told
+        return found
+
+    def quiet_term(self, term, text, in_library, seen):
+        """Whether a term is `noerror`, or names a set that has it."""
+        if term.kind != "names":
+            return term.kind == "noerror"
+        item = self.look_up(term.names, text, text.package, in_library)
+        if item is None or item in seen or item.kind == "type":
+            return False
+        seen.append(item)
+        terms = item.set.terms if item.kind == "set" else [Node(kind="names", names=item.names)]
+        return any(self.quiet_term(inner, item.library, True, seen) for inner in terms)
+
     def name_term(self, term, text, in_library, named, seen):
         """Add the numbers of the types that a term names, by itself or through items."""
         if term.kind != "names":

@@ -150,7 +150,7 @@ class Run:
     def name_is_true(self, part, condition, composite):
         """Is a name true now?"""
         names, facts = [token.text for token in condition.point], self.facts
-        no_error = condition.set and any(term.kind == "noerror" for term in condition.set.terms)
+        no_error = condition.set and condition.set.quiet
         if composite and not condition.inward:
             other = facts.below(part, names[:-1])
             meant = facts.typed(other.states[names[-1]].types, condition.set, [])
