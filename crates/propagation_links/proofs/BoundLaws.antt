@@ -1,12 +1,12 @@
 -- Laws of what components are bound to.
-use Rattle.std.proofs.Common.{ℕ, zero, suc, ◌+◌, ◌-◌, ◌*◌, ◌≡◌, ◌≢◌, ◌<◌, ◌≤◌, Bool, true, false, cond, ◌&&◌, ◌||◌, List, [], ◌∷◌, ◌++◌, filter, flat_map, length, get_or, map, sum, take, Option, Some, None, option_map, refl, sym, ap, ◌∙◌, subst, arith, length-append}
+use Rattle.std.proofs.Common.{ℕ, zero, suc, ◌+◌, ◌-◌, ◌*◌, ◌≡◌, ◌<◌, ◌≤◌, Bool, true, false, cond, ◌&&◌, ◌||◌, List, [], ◌∷◌, ◌++◌, filter, flat_map, length, get_or, map, sum, take, Option, Some, None, option_map, refl, sym, ap, ◌∙◌, subst, arith, length-append}
 use Rattle.std.specs.List.{last_or, list_any}
 use Rattle.std.specs.Option.{option_or}
 use Rattle.std.proofs.lemmas.List.{get_or_default, map-append, take_all}
 use Rattle.std.proofs.lemmas.List.Sums.{sum_by-cons, sum_by_push}
 use Rattle.aadl_syntax.specs.declared.core_model.Binding.{Binding}
 use Rattle.aadl_syntax.specs.declared.core_model.BindingKind.{BindingKind}
-use Rattle.aadl_syntax.specs.declared.core_model.BindingKind.TheVariants.{Connection as OfConnection}
+use Rattle.aadl_syntax.specs.declared.core_model.BindingKind.TheVariants.{Connection as OfConnection, Memory, Processor}
 use Rattle.aadl_syntax.specs.declared.core_model.Connection.{Connection}
 use Rattle.aadl_syntax.specs.declared.core_model.PackageUnit.{PackageUnit}
 use Rattle.component_extension.specs.Members.{Member}
@@ -18,12 +18,13 @@ use Rattle.instantiator.specs.declared.kinds.Kind.{Kind}
 use Rattle.instantiator.specs.declared.path.Component.{Component}
 use Rattle.instantiator.specs.inner.Tables.{kind_of}
 use Rattle.instantiator.specs.Components.{component_below}
+use Rattle.profiles.specs.declared.profile.Profile.TheVariants.{Second}
 use Rattle.instantiator.specs.Whole.{Instance, effective_in}
 use Rattle.propagation_links.specs.declared.bound.BoundTo.{BoundTo}
-use Rattle.propagation_links.specs.Bound.{all_carried, binds, carried_by, carried_in, carried_with, counting, counting_along, is_of, nearest, path_in, stated_in}
+use Rattle.propagation_links.specs.Bound.{all_carried, all_held_in, bindings_by, binds, carried_by, carried_in, carried_with, counting, counting_along, held_in, is_guest_in, is_of, nearest, path_in, said, stated_among, stated_in}
 use Rattle.propagation_links.specs.Refused.{count_bound, count_carried, count_in, count_links}
 use Rattle.propagation_links.specs.Stated.{Carried, Stated}
-use Rattle.propagation_links.specs.inner.Tables.{any_along, any_in}
+use Rattle.propagation_links.specs.inner.Tables.{any_along, any_by, any_in}
 use Rattle.propagation_links.proofs.FittingLaws.{front-more}
 
 -- what is made of kinds is made of their classifiers
@@ -44,14 +45,26 @@ module _ {Row : Type 0} (instance : Instance) (give : ℕ → Component → List
   pub all-rows : (i : ℕ) → length instance.components ≤ i → (rows : List Row) → rows ≡ numbered_from give 0 (take i instance.components) → rows ≡ numbered_from give 0 instance.components
   all-rows i past rows are = are ∙ ap (numbered_from give 0) (take_all i instance.components past)
 
-  -- at most two for each component
-  two-from : ((number : ℕ) (component : Component) → length (give number component) ≤ 2) → (components : List Component) (number : ℕ) → length (numbered_from give number components) ≤ length components * 2
-  two-from two [] number = omega arith
-  two-from two (component ∷ components) number =
-      omega (arith, two number component, two-from two components (number + 1), length-append (give number component) (numbered_from give (number + 1) components))
+  -- at most so many for each component
+  few-from-number : (most : ℕ) → ((number : ℕ) (component : Component) → length (give number component) ≤ most) → (components : List Component) (number : ℕ) → length (numbered_from give number components) ≤ length components * most
+  few-from-number most few [] number = omega arith
+  few-from-number most few (component ∷ components) number =
+      more (length (give number component)) (length (numbered_from give (number + 1) components)) (length components) (few number component) (few-from-number most few components (number + 1))
+      (length-append (give number component) (numbered_from give (number + 1) components))
+    where
+      more : (one rest count : ℕ) → one ≤ most → rest ≤ count * most → {whole : ℕ} → whole ≡ one + rest → whole ≤ suc count * most
+      more one rest count a b is = grind arith
 
-  pub two-each : ((number : ℕ) (component : Component) → length (give number component) ≤ 2) → length (numbered_from give 0 instance.components) ≤ length instance.components * 2
-  two-each two = two-from two instance.components 0
+  pub each-few : (most : ℕ) → ((number : ℕ) (component : Component) → length (give number component) ≤ most) → length (numbered_from give 0 instance.components) ≤ length instance.components * most
+  each-few most few = few-from-number most few instance.components 0
+
+-- at most three hold for a component
+pub held-few : (instance : Instance) (number : ℕ) → length (all_held_in instance number) ≤ 3
+held-few instance number = by (is_guest_in instance OfConnection (Some number))
+  where
+    by : (guest : Bool) → length (held_in instance Processor number ∷ held_in instance Memory number ∷ cond guest (held_in instance OfConnection number ∷ []) []) ≤ 3
+    by true = omega arith
+    by false = omega arith
 
 -- ---- connections for which a binding counts
 
@@ -69,7 +82,7 @@ module _ (instance : Instance) where
   one-for number (connection ∷ connections) =
       omega (
         arith,
-        one-each number connection (counting instance OfConnection (path_in instance number ++ connection.nearest.item.name ∷ [])),
+        one-each number connection (counting Second instance OfConnection (path_in instance number ++ connection.nearest.item.name ∷ [])),
         one-for number connections,
         length-append (carried_by instance number connection) (flat_map (carried_by instance number) connections),
       )
@@ -111,19 +124,25 @@ module _ (instance : Instance) where
       ap (λ b. cond (b && list_any (λ target. is_same_name target names) binding.targets) (binding ∷ filter (binds OfConnection names) bindings) (filter (binds OfConnection names) bindings)) apart.0
       ∙ none-of names bindings apart.1
 
-  none-in : (number : ℕ) (names : List (List ℕ)) → any_in instance number ≡ false → stated_in instance OfConnection number names ≡ None
-  none-in number names none = ap (λ found. option_map (λ binding. record { component = number; binding = binding }) (last_or None found)) (none-of names (effective_in instance number).bindings none)
+  none-by : (braced : Bool) (number : ℕ) (names : List (List ℕ)) → any_by braced instance number ≡ false → stated_among braced instance OfConnection number names ≡ None
+  none-by braced number names none =
+      ap (λ found. option_map (λ binding. record { component = number; references = binding.references; further = braced }) (last_or None found)) (none-of names (bindings_by braced (effective_in instance number)) none)
 
-  none-along : (component : Option ℕ) (path : List (List ℕ)) (name : List ℕ) → any_along instance component path ≡ false → counting_along instance OfConnection component (path ++ name ∷ []) ≡ None
+  none-in : (number : ℕ) (names : List (List ℕ)) → any_in instance number ≡ false → stated_in Second instance OfConnection number names ≡ None
+  none-in number names none =
+      let both = or-false (any_by false instance number) (any_by true instance number) none in
+      λ i. option_or (none-by false number names both.0 i) (none-by true number names both.1 i)
+
+  none-along : (component : Option ℕ) (path : List (List ℕ)) (name : List ℕ) → any_along instance component path ≡ false → counting_along Second instance OfConnection component (path ++ name ∷ []) ≡ None
   none-along None path name none = refl
-  none-along (Some number) [] name none = ap (λ o. option_or o (counting_along instance OfConnection (component_below instance.components number (name ∷ [])) [])) (none-in number (name ∷ []) none) ∙ past (component_below instance.components number (name ∷ []))
+  none-along (Some number) [] name none = ap (λ o. option_or o (counting_along Second instance OfConnection (component_below instance.components number (name ∷ [])) [])) (none-in number (name ∷ []) none) ∙ past (component_below instance.components number (name ∷ []))
     where
-      past : (component : Option ℕ) → counting_along instance OfConnection component [] ≡ None
+      past : (component : Option ℕ) → counting_along Second instance OfConnection component [] ≡ None
       past None = refl
       past (Some number) = refl
   none-along (Some number) (first ∷ path) name none =
       let here = or-false (any_in instance number) (any_along instance (component_below instance.components number (first ∷ [])) path) none in
-      ap (λ o. option_or o (counting_along instance OfConnection (component_below instance.components number (first ∷ [])) (path ++ name ∷ []))) (none-in number (first ∷ path ++ name ∷ []) here.0)
+      ap (λ o. option_or o (counting_along Second instance OfConnection (component_below instance.components number (first ∷ [])) (path ++ name ∷ []))) (none-in number (first ∷ path ++ name ∷ []) here.0)
       ∙ none-along (component_below instance.components number (first ∷ [])) path name here.1
 
   pub none-carried : (number : ℕ) → any_along instance (Some 0) (path_in instance number) ≡ false → (connections : List (Member Connection)) → flat_map (carried_by instance number) connections ≡ []
@@ -135,7 +154,7 @@ module _ (instance : Instance) where
 -- ---- what holds because it counts for a component around
 
 -- the next component around
-pub nearest-is : (instance : Instance) (kind : BindingKind) (path : List (List ℕ)) (count : ℕ) (own : Option Stated) → 0 < count → own ≡ counting instance kind (take count path)
+pub nearest-is : (instance : Instance) (kind : BindingKind) (path : List (List ℕ)) (count : ℕ) (own : Option Stated) → 0 < count → own ≡ said instance kind (take count path)
     → nearest instance kind path count ≡ option_or own (nearest instance kind path (count - 1))
 nearest-is instance kind path zero own some is = absurd (omega arith)
 nearest-is instance kind path (suc count) own some is =

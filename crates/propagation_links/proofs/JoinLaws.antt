@@ -21,7 +21,7 @@ use Rattle.propagation_links.specs.declared.bound.BoundTo.{BoundTo}
 use Rattle.propagation_links.specs.declared.ends.FoundEnd.{FoundEnd}
 use Rattle.propagation_links.specs.declared.link.Link.{Link}
 use Rattle.propagation_links.specs.declared.link.PointAt.{PointAt}
-use Rattle.propagation_links.specs.Bound.{all_bounds, all_carried, all_functions, all_inherited}
+use Rattle.propagation_links.specs.Bound.{all_bounds, all_carried, all_functions, all_held}
 use Rattle.propagation_links.specs.Ends.{Pointed, connection_end, is_access, is_there, path_end, point_of}
 use Rattle.propagation_links.specs.Links.{all_links, bound_links, bound_word, carried_between, carried_ends, carried_links, carried_one_way, carrier_links, component_links, connected, connection_links, connection_point, ends_of, extra_links, from_side, is_apart, is_left_out, link_between, link_of, links_at_ends, links_both, links_in, links_under, only_second, path_links, stated_links, target_links, to_side}
 use Rattle.propagation_links.specs.inner.Links.{AllJoinSides, JoinsSides, OnlyAddsLinks}
@@ -83,8 +83,8 @@ module _ (pointed : Pointed) where
   join-stated itself kind number None = tt
   join-stated itself kind number (Some stated) =
       let links : List (List ℕ) → List Link = λ reference. target_links pointed itself kind number (component_below pointed.instance.components stated.component reference) in
-      each-flat_map (JoinsSides pointed) links stated.binding.references
-      (each-all (λ (reference : List (List ℕ)). Join (links reference)) (λ reference. join-target itself kind number (component_below pointed.instance.components stated.component reference)) stated.binding.references)
+      each-flat_map (JoinsSides pointed) links stated.references
+      (each-all (λ (reference : List (List ℕ)). Join (links reference)) (λ reference. join-target itself kind number (component_below pointed.instance.components stated.component reference)) stated.references)
 
   join-bounds : (itself : Bool) (bounds : List BoundTo) → Join (flat_map (bound_links pointed itself) bounds)
   join-bounds itself bounds = each-flat_map (JoinsSides pointed) (bound_links pointed itself) bounds (each-all (λ (bound : BoundTo). Join (bound_links pointed itself bound)) (λ bound. join-stated itself bound.kind bound.component bound.stated) bounds)
@@ -106,8 +106,8 @@ module _ (pointed : Pointed) where
   join-carriers : (stated : Stated) (both : Bool) (from to : Option FoundEnd) → Join (carried_between pointed stated both from to)
   join-carriers stated both from to =
       let links : List (List ℕ) → List Link = λ reference. carrier_links pointed both from to (component_below pointed.instance.components stated.component reference) in
-      each-flat_map (JoinsSides pointed) links stated.binding.references
-      (each-all (λ (reference : List (List ℕ)). Join (links reference)) (λ reference. join-carrier both from to (component_below pointed.instance.components stated.component reference)) stated.binding.references)
+      each-flat_map (JoinsSides pointed) links stated.references
+      (each-all (λ (reference : List (List ℕ)). Join (links reference)) (λ reference. join-carrier both from to (component_below pointed.instance.components stated.component reference)) stated.references)
 
   join-carried-ends : (stated : Stated) (number : ℕ) (access : Bool) (ends : Option Ends) → Join (carried_ends pointed stated number access ends)
   join-carried-ends stated number access None = tt
@@ -130,10 +130,10 @@ module _ (pointed : Pointed) where
 
   join-extra : Join (extra_links pointed)
   join-extra =
-      let inherited = all_inherited pointed.instance in
+      let held = all_held pointed.instance in
       let functions = all_functions pointed.instance in
       let carried = all_carried pointed.instance in
-      each-append (JoinsSides pointed) (flat_map (bound_links pointed false) inherited) (flat_map (bound_links pointed true) functions ++ flat_map (carried_links pointed) carried) (join-bounds false inherited)
+      each-append (JoinsSides pointed) (flat_map (bound_links pointed false) held) (flat_map (bound_links pointed true) functions ++ flat_map (carried_links pointed) carried) (join-bounds false held)
       (each-append (JoinsSides pointed) (flat_map (bound_links pointed true) functions) (flat_map (carried_links pointed) carried) (join-bounds true functions) (join-carried carried))
 
   join-second : (profile : Profile) → Join (only_second profile (extra_links pointed))

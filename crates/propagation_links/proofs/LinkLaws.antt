@@ -24,7 +24,7 @@ use Rattle.instantiator.specs.Whole.{Instance, classifier_at, effective_in}
 use Rattle.propagation_links.specs.declared.bound.BoundTo.{BoundTo}
 use Rattle.propagation_links.specs.declared.link.Link.{Link}
 use Rattle.propagation_links.specs.declared.further.Further.{Further}
-use Rattle.propagation_links.specs.Bound.{all_bounds, all_carried, all_functions, all_inherited}
+use Rattle.propagation_links.specs.Bound.{all_bounds, all_carried, all_functions, all_held}
 use Rattle.propagation_links.specs.Ends.{Pointed}
 use Rattle.propagation_links.specs.Links.{all_links, bound_links, carried_links, component_links, connected, extra_links, links_in, links_under, only_second}
 use Rattle.propagation_links.specs.Refused.{component_fault, component_groups, count_bound, count_carried, count_further, faults_group, first_fault, limit_refusal, refusals_in}
@@ -134,23 +134,23 @@ accepted-all pointed i past none =
 -- ---- what the second profile alone has
 
 extra-by : (profile : Profile) (pointed : Pointed)
-    → (flat_map (bound_links pointed false) (only_second profile (all_inherited pointed.instance))
+    → (flat_map (bound_links pointed false) (only_second profile (all_held pointed.instance))
     ++ (flat_map (bound_links pointed true) (only_second profile (all_functions pointed.instance)) ++ flat_map (carried_links pointed) (only_second profile (all_carried pointed.instance))))
     ≡ only_second profile (extra_links pointed)
 extra-by First pointed = refl
 extra-by Second pointed = refl
 
 further-by : (profile : Profile) (instance : Instance)
-    → (sum (map count_bound (only_second profile (all_inherited instance))) + (sum (map count_bound (only_second profile (all_functions instance))) + sum (map count_carried (only_second profile (all_carried instance)))))
+    → (sum (map count_bound (only_second profile (all_held instance))) + (sum (map count_bound (only_second profile (all_functions instance))) + sum (map count_carried (only_second profile (all_carried instance)))))
     ≡ count_further profile instance
 further-by First instance = refl
 further-by Second instance = refl
 
 -- the references of the further bindings
 pub further-counted : (profile : Profile) (instance : Instance) (further : Further) (count : ℕ) → IsFurther profile instance further
-    → count ≡ sum (map count_bound further.inherited) + (sum (map count_bound further.functions) + sum (map count_carried further.carried)) → count ≡ count_further profile instance
+    → count ≡ sum (map count_bound further.held) + (sum (map count_bound further.functions) + sum (map count_carried further.carried)) → count ≡ count_further profile instance
 further-counted profile instance further count has is =
-    is ∙ (λ i. sum (map count_bound (has.inherited i)) + (sum (map count_bound (has.functions i)) + sum (map count_carried (has.carried i)))) ∙ further-by profile instance
+    is ∙ (λ i. sum (map count_bound (has.held i)) + (sum (map count_bound (has.functions i)) + sum (map count_carried (has.carried i)))) ∙ further-by profile instance
 
 -- ---- the limit, and then the components
 
@@ -186,13 +186,13 @@ module _ (profile : Profile) (pointed made : Pointed) (same : made ≡ pointed) 
   -- the links of connections and paths, and those of bindings behind them
   pub all-linked : (links between after : List Link) (bounds : List BoundTo) (further : Further) → links ≡ connected made → bounds ≡ all_bounds pointed.instance → IsFurther profile pointed.instance further
       → between ≡ links ++ flat_map (bound_links made true) bounds
-      → after ≡ between ++ (flat_map (bound_links made false) further.inherited ++ (flat_map (bound_links made true) further.functions ++ flat_map (carried_links made) further.carried))
+      → after ≡ between ++ (flat_map (bound_links made false) further.held ++ (flat_map (bound_links made true) further.functions ++ flat_map (carried_links made) further.carried))
       → after ≡ links_under profile pointed
   all-linked links between after bounds further are is has more last =
       let first : links ≡ connected pointed = are ∙ ap connected same in
       let two : between ≡ all_links pointed = more ∙ (λ i. first i ++ flat_map (bound_links (same i) true) (is i)) in
-      let three : (flat_map (bound_links made false) further.inherited ++ (flat_map (bound_links made true) further.functions ++ flat_map (carried_links made) further.carried)) ≡ only_second profile (extra_links pointed) =
-      (λ i. flat_map (bound_links (same i) false) (has.inherited i) ++ (flat_map (bound_links (same i) true) (has.functions i) ++ flat_map (carried_links (same i)) (has.carried i))) ∙ extra-by profile pointed in
+      let three : (flat_map (bound_links made false) further.held ++ (flat_map (bound_links made true) further.functions ++ flat_map (carried_links made) further.carried)) ≡ only_second profile (extra_links pointed) =
+      (λ i. flat_map (bound_links (same i) false) (has.held i) ++ (flat_map (bound_links (same i) true) (has.functions i) ++ flat_map (carried_links (same i)) (has.carried i))) ∙ extra-by profile pointed in
       last ∙ (λ i. two i ++ three i)
 
 -- the first refusal of the links is that of their group

@@ -21,7 +21,7 @@ use Rattle.propagation_links.specs.declared.bound.BoundTo.{BoundTo}
 use Rattle.propagation_links.specs.declared.link.Link.{Link}
 use Rattle.propagation_links.specs.declared.link.PointAt.{PointAt}
 use Rattle.propagation_links.specs.declared.ends.FoundEnd.{FoundEnd}
-use Rattle.propagation_links.specs.Bound.{all_bounds, all_carried, all_functions, all_inherited}
+use Rattle.propagation_links.specs.Bound.{all_bounds, all_carried, all_functions, all_held}
 use Rattle.propagation_links.specs.Ends.{Pointed, connection_end, is_access, is_there, path_end, point_of}
 use Rattle.propagation_links.specs.Stated.{Carried, Stated}
 
@@ -123,7 +123,7 @@ target_links pointed itself kind number (Some target) =
 abbrev pub stated_links : Pointed → Bool → BindingKind → ℕ → Option Stated → List Link
 stated_links pointed itself kind number None = []
 stated_links pointed itself kind number (Some stated) =
-    flat_map (λ reference. target_links pointed itself kind number (component_below pointed.instance.components stated.component reference)) stated.binding.references
+    flat_map (λ reference. target_links pointed itself kind number (component_below pointed.instance.components stated.component reference)) stated.references
 
 -- the links of a component by its binding of a kind
 abbrev pub bound_links : Pointed → Bool → BoundTo → List Link
@@ -152,7 +152,7 @@ carrier_links pointed both from to (Some carrier) = carried_one_way pointed carr
 -- the links of a connection with these ends and each component to which the references of a binding lead
 abbrev pub carried_between : Pointed → Stated → Bool → Option FoundEnd → Option FoundEnd → List Link
 carried_between pointed stated both from to =
-    flat_map (λ reference. carrier_links pointed both from to (component_below pointed.instance.components stated.component reference)) stated.binding.references
+    flat_map (λ reference. carrier_links pointed both from to (component_below pointed.instance.components stated.component reference)) stated.references
 
 -- The links of the ends that a bound connection of the component of a number has, if it has any. Connections of accesses go both ways;
 -- one with an end at a processor or in the component's own text has none.
@@ -172,11 +172,11 @@ carried_links pointed carried = carried_ends pointed carried.stated carried.comp
 abbrev pub all_links : Pointed → List Link
 all_links pointed = connected pointed ++ flat_map (bound_links pointed true) (all_bounds pointed.instance)
 
--- The links of the second profile alone: those of what holds for what is inside, by which nothing is bound to itself, then those of functions, and then those of connections
--- and what carries them.
+-- The links of the second profile alone: those of what holds by braces, by what is around and for what is virtual, by which nothing is bound
+-- to itself, then those of functions, and then those of connections and what carries them.
 abbrev pub extra_links : Pointed → List Link
 extra_links pointed =
-    flat_map (bound_links pointed false) (all_inherited pointed.instance)
+    flat_map (bound_links pointed false) (all_held pointed.instance)
     ++ (flat_map (bound_links pointed true) (all_functions pointed.instance) ++ flat_map (carried_links pointed) (all_carried pointed.instance))
 
 -- what the second profile alone has

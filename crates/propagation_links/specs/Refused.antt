@@ -24,7 +24,7 @@ use Rattle.instantiator.specs.Components.{component_below}
 use Rattle.plain_values.specs.Refusal.{over_limit}
 use Rattle.instantiator.specs.Whole.{Instance, effective_in}
 use Rattle.propagation_links.specs.declared.bound.BoundTo.{BoundTo}
-use Rattle.propagation_links.specs.Bound.{all_bounds, all_carried, all_functions, all_inherited}
+use Rattle.propagation_links.specs.Bound.{all_bounds, all_carried, all_functions, all_held}
 use Rattle.propagation_links.specs.Ends.{Pointed, is_access, is_called_as_word, is_point_word, is_subcomponent, points_at}
 use Rattle.propagation_links.specs.Links.{ends_of, is_apart}
 use Rattle.propagation_links.specs.Stated.{Carried, Stated}
@@ -96,7 +96,7 @@ count_links instance = sum (numbered_from (λ number component. count_in (effect
 -- how many references the binding has that counts, if there is one
 abbrev pub count_stated : Option Stated → ℕ
 count_stated None = 0
-count_stated (Some stated) = length stated.binding.references
+count_stated (Some stated) = length stated.references
 
 -- how many references the binding of a component has that counts, also those that lead nowhere
 abbrev pub count_bound : BoundTo → ℕ
@@ -104,11 +104,11 @@ count_bound bound = count_stated bound.stated
 
 -- how many references the binding of a connection has that counts, also those that lead nowhere
 abbrev pub count_carried : Carried → ℕ
-count_carried carried = length carried.stated.binding.references
+count_carried carried = length carried.stated.references
 
 -- how many references the bindings have that count under the second profile alone
 abbrev pub count_extra : Instance → ℕ
-count_extra instance = sum (map count_bound (all_inherited instance)) + (sum (map count_bound (all_functions instance)) + sum (map count_carried (all_carried instance)))
+count_extra instance = sum (map count_bound (all_held instance)) + (sum (map count_bound (all_functions instance)) + sum (map count_carried (all_carried instance)))
 
 -- of these what a profile counts
 abbrev pub count_further : Profile → Instance → ℕ

@@ -1,13 +1,14 @@
--- A binding, and where it is stated.
-use Rattle.std.specs.Prelude.{ℕ}
-use Rattle.aadl_syntax.specs.declared.core_model.Binding.{Binding}
+-- What is bound to what by a binding, and where that is stated.
+use Rattle.std.specs.Prelude.{ℕ, Bool, List}
 use Rattle.aadl_syntax.specs.declared.core_model.Connection.{Connection}
 use Rattle.component_extension.specs.Members.{Member}
 
--- A binding, and the number of the component that states it: its paths begin there.
+-- The references of a binding, and the number of the component that states it: these paths begin there. `further` says that the first profile
+-- does not read it: it stands in braces, or is none that is written.
 pub record Stated : Type 0 where
   pub component : ℕ
-  pub binding : Binding
+  pub references : List (List (List ℕ))
+  pub further : Bool
 
 -- A connection of the component of a number, and the binding that counts for it.
 pub record Carried : Type 0 where

@@ -1,4 +1,4 @@
-ghost use Rattle.std.specs.Prelude.{◌≡◌, ◌<◌, ◌≤◌, ◌^◌, length, None, Some, IfOk, IfErr, OnOk, MatchResult, map};
+ghost use Rattle.std.specs.Prelude.{◌≡◌, ◌<◌, ◌≤◌, ◌^◌, ◌∷◌, [], length, None, Some, IfOk, IfErr, OnOk, MatchResult, map};
 ghost use Rattle.plain_values.specs.inner.Stops.{StopsAt};
 ghost use Rattle.propagation_links.specs.Bound.{all_bounds};
 ghost use Rattle.propagation_links.specs.Links.{links_of};
@@ -17,10 +17,11 @@ use crate::links::add_links;
 use crate::pointed::Pointed;
 use crate::refused::note_faults;
 use crate::tables::BindingTables;
+use aadl_syntax::Identifier;
 use component_extension::Effective;
 use instantiator::Instance;
 use noted_refusals::Refusals;
-use plain_values::{Answer, Code, List, Place, Refusal, Stop};
+use plain_values::{Answer, Code, List, Mem, Place, Refusal, Stop};
 use profiles::Profile;
 use propagation_points::Points;
 use std::alloc::Global;
@@ -37,8 +38,11 @@ use std::alloc::Global;
 /// binding. Each of its references in order that leads to a component gives the link from the point `bindings` of that to
 /// the point `processor` or `memory` of the bound one, and then the one from there to `bindings`.
 ///
-/// Under the second profile there are more behind these. A component for which no binding to a processor or to a memory counts takes
-/// the one that counts for the nearest component around it, by which it is not bound to itself. Then, for each component, the binding of its function that counts for it
+/// Under the second profile there are more behind these. Bindings in braces behind a subcomponent or a connection count too, each before
+/// those of the sections of its component; a component for which no binding to a processor or to a memory counts takes the one that
+/// counts for the nearest component around it; a virtual processor is bound to the processor in which it stands, unless a binding counts for
+/// it; and a virtual bus, as a connection is, by its point `connection`, or else to the bus or processor in which it stands. By none of
+/// these a component is bound to itself. Then, for each component, the binding of its function that counts for it
 /// gives the links between `bindings` and its point `binding`. Then, for each connection for which a binding of connections counts,
 /// each component that carries it, and each direction, there is the link from `bindings` to the to-end, from `bindings` to the point
 /// `connection` of the component at the to-end, and from the from-end to `bindings`.
@@ -60,7 +64,8 @@ pub fn links_of<'a>(
 {
     let pointed = Pointed::new(instance, points);
     test_links(profile, &pointed, refusals)?;
-    let tables = BindingTables::of(alloc, instance)?;
+    let itself = itself(alloc)?;
+    let tables = BindingTables::of(alloc, instance, &itself)?;
     let bounds = bounds_of(alloc, &tables)?;
     let further = Further::of(alloc, profile, &tables)?;
     test_limit(profile, &pointed, bounds.items(), &further, refusals)?;
@@ -68,6 +73,15 @@ pub fn links_of<'a>(
     add_all_bound(&mut links, &pointed, true, bounds.items())?;
     further.add_links(&mut links, &pointed)?;
     Ok(links)
+}
+
+/// A list of the empty path alone.
+fn itself(alloc: Global) -> Mem<List<List<Identifier>>>
+    ensures { IfOk result (λ paths. paths ≡ [] ∷ []) }
+{
+    let mut paths = List::new(alloc);
+    paths.push(List::new(alloc))?;
+    Ok(paths)
 }
 
 /// The links of the connections and paths of all components.

@@ -1,18 +1,19 @@
-ghost use Rattle.std.specs.Prelude.{◌≡◌, ◌≤◌, ◌<◌, ◌^◌, ◌∷◌, ◌++◌, [], length, IfOk, OnOk};
-ghost use Rattle.aadl_syntax.specs.declared.core_model.BindingKind.TheVariants.{Memory, Processor};
-ghost use Rattle.propagation_links.specs.Bound.{all_bounds, all_functions, all_inherited, bounds_in, inherited_in};
+ghost use Rattle.std.specs.Prelude.{◌≡◌, ◌≤◌, ◌<◌, ◌^◌, ◌++◌, length, IfOk, OnOk};
+ghost use Rattle.propagation_links.specs.Bound.{all_bounds, all_functions, all_held, all_held_in, bounds_in, held_as_bus};
 
 use crate::tables::BindingTables;
-use aadl_syntax::{Binding, BindingKind, Identifier};
+use aadl_syntax::{BindingKind, Identifier};
 use plain_values::{List, Mem};
+use profiles::Profile;
 use std::alloc::Global;
 use std::marker::Model;
 
-/// A binding, and the number of the component that states it: its paths begin there.
+/// The references of a binding, and the number of the component that states it: these paths begin there.
 #[derive(Drop)]
 pub(crate) struct StatedBinding<'r> {
     component: u32,
-    binding: &'r Binding,
+    references: &'r List<List<Identifier>>,
+    further: bool,
 }
 
 impl<'r> Model for StatedBinding<'r> {
@@ -20,14 +21,23 @@ impl<'r> Model for StatedBinding<'r> {
 
     ghost Value = { Stated };
 
-    ghost view = { λ s. record { component = s.component; binding = s.binding.now } };
+    ghost view = { λ s. record { component = s.component; references = s.references.now; further = s.further } };
 }
 
 impl<'r> StatedBinding<'r> {
-    pub(crate) fn new(component: u32, binding: &'r Binding) -> StatedBinding<'r>
-        ensures { result ≡ record { component = component; binding = binding.now } }
+    /// What the component of a number states; `further` where the first profile does not read it.
+    pub(crate) fn new(
+        component: u32,
+        references: &'r List<List<Identifier>>,
+        further: bool,
+    ) -> StatedBinding<'r>
+        ensures { result ≡ record { component = component; references = references.now; further = further } }
     {
-        StatedBinding { component, binding }
+        StatedBinding {
+            component,
+            references,
+            further,
+        }
     }
 
     /// The number of the component.
@@ -39,10 +49,17 @@ impl<'r> StatedBinding<'r> {
 
     /// The references of the binding.
     pub(crate) fn references(&self) -> &'r [List<Identifier>]
-        ensures references { result.now ≡ self.now.binding.references }
-        ensures few { length self.now.binding.references < 2 ^ 32 }
+        ensures references { result.now ≡ self.now.references }
+        ensures few { length self.now.references < 2 ^ 32 }
     {
-        self.binding.references.items()
+        self.references.items()
+    }
+
+    /// Whether the first profile does not read it.
+    pub(crate) fn is_further(&self) -> bool
+        ensures { result ≡ self.now.further }
+    {
+        self.further
     }
 }
 
@@ -75,37 +92,54 @@ fn add_bounds<'r>(
 ) -> Mem<()>
     ensures { OnOk result (bounds.new ≡ bounds.old ++ bounds_in tables.now number) }
 {
-    let processor = tables.bound_in(alloc, BindingKind::Processor, number)?;
+    let processor = tables.bound_in(alloc, Profile::First, BindingKind::Processor, number)?;
     bounds.push(processor)?;
-    let memory = tables.bound_in(alloc, BindingKind::Memory, number)?;
+    let memory = tables.bound_in(alloc, Profile::First, BindingKind::Memory, number)?;
     bounds.push(memory)
 }
 
-/// What holds for each component of an instance because it counts for the nearest around it, in order: first a processor and then a
-/// memory.
-pub(crate) fn inherited_of<'r>(alloc: Global, tables: &BindingTables<'r>) -> Mem<List<BoundTo<'r>>>
-    ensures inherited { IfOk result (λ inherited. inherited ≡ all_inherited tables.now) }
-    ensures few { IfOk result (λ inherited. length inherited ≤ 8192) }
+/// What holds for each component of an instance by the second profile alone, in order: a processor, a memory, and of a virtual bus what
+/// carries it.
+pub(crate) fn held_of<'r>(alloc: Global, tables: &BindingTables<'r>) -> Mem<List<BoundTo<'r>>>
+    ensures held { IfOk result (λ held. held ≡ all_held tables.now) }
+    ensures few { IfOk result (λ held. length held ≤ 12288) }
 {
-    let mut inherited = List::new(alloc);
+    let mut held = List::new(alloc);
     for number in 0..tables.instance().components().len() {
-        add_inherited(&mut inherited, alloc, tables, number as u32)?;
+        add_held(&mut held, alloc, tables, number as u32)?;
     }
-    Ok(inherited)
+    Ok(held)
 }
 
-fn add_inherited<'r>(
-    inherited: &mut List<BoundTo<'r>>,
+fn add_held<'r>(
+    held: &mut List<BoundTo<'r>>,
     alloc: Global,
     tables: &BindingTables<'r>,
     number: u32,
 ) -> Mem<()>
-    ensures { OnOk result (inherited.new ≡ inherited.old ++ inherited_in tables.now Processor number ∷ inherited_in tables.now Memory number ∷ []) }
+    ensures { OnOk result (held.new ≡ held.old ++ all_held_in tables.now number) }
 {
-    let processor = tables.inherited_in(alloc, BindingKind::Processor, number)?;
-    inherited.push(processor)?;
-    let memory = tables.inherited_in(alloc, BindingKind::Memory, number)?;
-    inherited.push(memory)
+    let processor = tables.held_in(alloc, BindingKind::Processor, number)?;
+    held.push(processor)?;
+    let memory = tables.held_in(alloc, BindingKind::Memory, number)?;
+    held.push(memory)?;
+    add_as_bus(held, alloc, tables, number)
+}
+
+/// Adds what carries the component of a number, if it is a virtual bus.
+fn add_as_bus<'r>(
+    held: &mut List<BoundTo<'r>>,
+    alloc: Global,
+    tables: &BindingTables<'r>,
+    number: u32,
+) -> Mem<()>
+    ensures { OnOk result (held.new ≡ held.old ++ held_as_bus tables.now number) }
+{
+    if tables.is_virtual_bus(number) {
+        held.push(tables.held_in(alloc, BindingKind::Connection, number)?)
+    } else {
+        Ok(())
+    }
 }
 
 /// What performs the function of each component of an instance, in order.
@@ -115,7 +149,8 @@ pub(crate) fn functions_of<'r>(alloc: Global, tables: &BindingTables<'r>) -> Mem
 {
     let mut functions = List::new(alloc);
     for number in 0..tables.instance().components().len() {
-        let function = tables.bound_in(alloc, BindingKind::Function, number as u32)?;
+        let second = Profile::Second;
+        let function = tables.bound_in(alloc, second, BindingKind::Function, number as u32)?;
         functions.push(function)?;
     }
     Ok(functions)

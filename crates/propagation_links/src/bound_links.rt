@@ -151,7 +151,7 @@ fn bound_word(kind: BindingKind) -> &'static [u8]
 
 /// How many references the bindings have that count for components.
 pub(crate) fn count_references(bounds: &[BoundTo]) -> usize
-    requires { length bounds.now ≤ 8192 }
+    requires { length bounds.now ≤ 12288 }
     ensures count { result ≡ sum (map count_bound bounds.now) }
     ensures few { result < 2 ^ 46 }
 {

@@ -4,7 +4,7 @@ ghost use Rattle.propagation_links.specs.Links.{bound_links, carried_links};
 ghost use Rattle.propagation_links.specs.Refused.{count_bound, count_carried, count_links};
 ghost use Rattle.propagation_links.specs.inner.Steps.{AreFew, IsFurther};
 
-use crate::bound::{BoundTo, functions_of, inherited_of};
+use crate::bound::{BoundTo, functions_of, held_of};
 use crate::bound_links::{add_all_bound, count_references};
 use crate::carried::{CarriedConnection, carried_of, count_all_carried};
 use crate::carried_links::add_all_carried;
@@ -15,10 +15,11 @@ use plain_values::{List, Mem};
 use profiles::Profile;
 use std::alloc::Global;
 
-/// The bindings that count under the second profile alone: of what is inside of something bound, of functions, and of connections.
+/// The bindings that count under the second profile alone: those of processors, memories and virtual buses that the first does not read,
+/// those of functions, and those of connections.
 #[derive(Drop)]
 pub(crate) struct Further<'r> {
-    inherited: List<BoundTo<'r>>,
+    held: List<BoundTo<'r>>,
     functions: List<BoundTo<'r>>,
     carried: List<CarriedConnection<'r>>,
 }
@@ -45,7 +46,7 @@ impl<'r> Further<'r> {
         ensures few { AreFew result }
     {
         Further {
-            inherited: List::new(alloc),
+            held: List::new(alloc),
             functions: List::new(alloc),
             carried: List::new(alloc),
         }
@@ -56,11 +57,11 @@ impl<'r> Further<'r> {
         ensures are { IfOk result (IsFurther Second tables.now) }
         ensures few { IfOk result AreFew }
     {
-        let inherited = inherited_of(alloc, tables)?;
+        let held = held_of(alloc, tables)?;
         let functions = functions_of(alloc, tables)?;
         let carried = carried_of(alloc, tables)?;
         Ok(Further {
-            inherited,
+            held,
             functions,
             carried,
         })
@@ -68,9 +69,9 @@ impl<'r> Further<'r> {
 
     /// Adds the links of these bindings.
     pub(crate) fn add_links(&self, links: &mut List<Link>, pointed: &Pointed) -> Mem<()>
-        ensures { OnOk result (links.new ≡ links.old ++ (flat_map (bound_links pointed.now false) self.now.inherited ++ (flat_map (bound_links pointed.now true) self.now.functions ++ flat_map (carried_links pointed.now) self.now.carried))) }
+        ensures { OnOk result (links.new ≡ links.old ++ (flat_map (bound_links pointed.now false) self.now.held ++ (flat_map (bound_links pointed.now true) self.now.functions ++ flat_map (carried_links pointed.now) self.now.carried))) }
     {
-        add_all_bound(links, pointed, false, self.inherited.items())?;
+        add_all_bound(links, pointed, false, self.held.items())?;
         add_all_bound(links, pointed, true, self.functions.items())?;
         add_all_carried(links, pointed, self.carried.items())
     }
@@ -78,11 +79,11 @@ impl<'r> Further<'r> {
     /// How many references they have.
     pub(crate) fn count(&self) -> usize
         requires { AreFew self.now }
-        ensures count { result ≡ sum (map count_bound self.now.inherited) + (sum (map count_bound self.now.functions) + sum (map count_carried self.now.carried)) }
+        ensures count { result ≡ sum (map count_bound self.now.held) + (sum (map count_bound self.now.functions) + sum (map count_carried self.now.carried)) }
         ensures few { result < 2 ^ 53 }
     {
         let of_functions = count_references(self.functions.items());
         let of_connections = count_all_carried(self.carried.items());
-        count_references(self.inherited.items()) + (of_functions + of_connections)
+        count_references(self.held.items()) + (of_functions + of_connections)
     }
 }

@@ -6,6 +6,7 @@ mod bound;
 mod bound_links;
 mod carried;
 mod carried_links;
+mod category;
 mod counted;
 mod ends;
 mod fitting;

@@ -6,7 +6,7 @@ use Rattle.component_extension.specs.declared.effective.Effective.{Effective}
 use Rattle.instantiator.specs.Whole.{Instance}
 use Rattle.propagation_links.specs.declared.further.Further.{Further}
 use Rattle.propagation_links.specs.declared.link.Link.{Link}
-use Rattle.propagation_links.specs.Bound.{all_carried, all_functions, all_inherited}
+use Rattle.propagation_links.specs.Bound.{all_carried, all_functions, all_held}
 use Rattle.propagation_links.specs.Ends.{Pointed}
 use Rattle.propagation_links.specs.Links.{connected, links_in, only_second}
 use Rattle.propagation_links.specs.Refused.{refusals_in, first_fault}
@@ -23,12 +23,12 @@ pub record AllLinked (pointed : Pointed) (links : List Link) : Type 0 where
 
 -- These are the bindings that count under the second profile alone, and nothing under the first.
 pub record IsFurther (profile : Profile) (instance : Instance) (further : Further) : Type 0 where
-  pub inherited : further.inherited ≡ only_second profile (all_inherited instance)
+  pub held : further.held ≡ only_second profile (all_held instance)
   pub functions : further.functions ≡ only_second profile (all_functions instance)
   pub carried : further.carried ≡ only_second profile (all_carried instance)
 
--- There are at most two for each component, and one for each connection.
+-- There are at most three and one for each component, and one for each connection.
 pub record AreFew (further : Further) : Type 0 where
-  pub inherited : length further.inherited ≤ 8192
+  pub held : length further.held ≤ 12288
   pub functions : length further.functions ≤ 8192
   pub carried : length further.carried ≤ 1048576

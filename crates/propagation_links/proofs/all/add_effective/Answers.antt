@@ -1,4 +1,4 @@
-use Rattle.std.proofs.Common.{None, Some, Err, IfErr, ap, subst, sym, ◌∙◌}
+use Rattle.std.proofs.Common.{None, Err, IfErr, ap, subst, sym, ◌∙◌}
 use Rattle.std.specs.Prelude.{MatchResult}
 use Rattle.std.proofs.lemmas.Result.{err_from_is_err_and}
 use Rattle.plain_values.specs.Order.{least}

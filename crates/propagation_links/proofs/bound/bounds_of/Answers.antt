@@ -1,9 +1,9 @@
-use Rattle.std.proofs.Common.{ℕ, ◌<◌, ◌≤◌, List, [], ◌∷◌, None, refl, ap, ◌∙◌, length, arith}
+use Rattle.std.proofs.Common.{ℕ, ◌<◌, ◌≤◌, List, [], None, refl, ap, ◌∙◌, length, arith}
 use Rattle.instantiator.specs.declared.path.Component.{Component}
 use Rattle.instantiator.specs.Whole.{Instance}
 use Rattle.propagation_links.specs.declared.bound.BoundTo.{BoundTo}
 use Rattle.propagation_links.specs.Bound.{bounds_in}
-use Rattle.propagation_links.proofs.BoundLaws.{all-rows, rows-more, two-each}
+use Rattle.propagation_links.proofs.BoundLaws.{all-rows, each-few, rows-more}
 use Rattle.propagation_links.proofs.bound.bounds_of.Goals as goal
 
 abbrev give_in : Instance → ℕ → Component → List BoundTo
@@ -31,4 +31,4 @@ returns-clause-few c =
     let past : length instance.components ≤ c.loop-number.number = omega (arith, long, c.loop-number-test.false) in
     let all = ap length (all-rows instance (give_in instance) c.loop-number.number past c.loop-number.bounds c.loop-number.invariant) in
     let same = ap (λ (its : Instance). length its.components) c.instance.ensures in
-    omega (arith, all, long, same, two-each instance (give_in instance) (λ number component. omega arith), c.components-number-end.ensures.few)
+    omega (arith, all, long, same, each-few instance (give_in instance) 2 (λ number component. omega arith), c.components-number-end.ensures.few)

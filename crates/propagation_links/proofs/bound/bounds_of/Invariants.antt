@@ -1,4 +1,4 @@
-use Rattle.std.proofs.Common.{◌≡◌, ◌∷◌, [], take}
+use Rattle.std.proofs.Common.{◌≡◌, take}
 use Rattle.plain_values.specs.Numbered.{numbered_from}
 use Rattle.propagation_links.specs.Bound.{bounds_in}
 use Rattle.propagation_links.proofs.bound.bounds_of.Given as goal

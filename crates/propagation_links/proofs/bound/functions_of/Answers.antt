@@ -1,14 +1,15 @@
-use Rattle.std.proofs.Common.{ℕ, ◌<◌, ◌≤◌, List, [], ◌∷◌, None, refl, ap, ◌∙◌, length, arith}
+use Rattle.std.proofs.Common.{ℕ, ◌<◌, ◌≤◌, List, [], ◌∷◌, ap, ◌∙◌, length, arith}
 use Rattle.aadl_syntax.specs.declared.core_model.BindingKind.TheVariants.{Function}
+use Rattle.profiles.specs.declared.profile.Profile.TheVariants.{Second}
 use Rattle.instantiator.specs.declared.path.Component.{Component}
 use Rattle.instantiator.specs.Whole.{Instance}
 use Rattle.propagation_links.specs.declared.bound.BoundTo.{BoundTo}
 use Rattle.propagation_links.specs.Bound.{bound_in}
-use Rattle.propagation_links.proofs.BoundLaws.{all-rows, rows-more, two-each}
+use Rattle.propagation_links.proofs.BoundLaws.{all-rows, each-few, rows-more}
 use Rattle.propagation_links.proofs.bound.functions_of.Goals as goal
 
 abbrev give_in : Instance → ℕ → Component → List BoundTo
-give_in instance = λ number component. bound_in instance Function number ∷ []
+give_in instance = λ number component. bound_in Second instance Function number ∷ []
 
 pub loop-number-preserved : goal.loop-number-preserved
 loop-number-preserved c =
@@ -33,4 +34,4 @@ returns-clause-few c =
     let past : length instance.components ≤ c.loop-number.number = omega (arith, long, c.loop-number-test.false) in
     let all = ap length (all-rows instance (give_in instance) c.loop-number.number past c.loop-number.functions c.loop-number.invariant) in
     let same = ap (λ (its : Instance). length its.components) c.instance.ensures in
-    omega (arith, all, long, same, two-each instance (give_in instance) (λ number component. omega arith), c.components-number-end.ensures.few)
+    omega (arith, all, long, same, each-few instance (give_in instance) 2 (λ number component. omega arith), c.components-number-end.ensures.few)

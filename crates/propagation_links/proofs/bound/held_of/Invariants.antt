@@ -1,8 +1,7 @@
-use Rattle.std.proofs.Common.{◌≡◌, ◌∷◌, [], take}
-use Rattle.aadl_syntax.specs.declared.core_model.BindingKind.TheVariants.{Memory, Processor}
+use Rattle.std.proofs.Common.{◌≡◌, take}
 use Rattle.plain_values.specs.Numbered.{numbered_from}
-use Rattle.propagation_links.specs.Bound.{inherited_in}
-use Rattle.propagation_links.proofs.bound.inherited_of.Given as goal
+use Rattle.propagation_links.specs.Bound.{all_held_in}
+use Rattle.propagation_links.proofs.bound.held_of.Given as goal
 
 abbrev pub invariant-loop-number : goal.invariant-loop-number
-invariant-loop-number l = l.inherited ≡ numbered_from (λ number component. inherited_in l.fn.tables Processor number ∷ inherited_in l.fn.tables Memory number ∷ []) 0 (take l.number l.fn.tables.components)
+invariant-loop-number l = l.held ≡ numbered_from (λ number component. all_held_in l.fn.tables number) 0 (take l.number l.fn.tables.components)
