@@ -53,8 +53,8 @@ class Piece:
         self.take(")")
         return path
 
-    def binding(self):
-        """The kind, the references and the targets."""
+    def binding(self, braced=False):
+        """The kind, the references and the targets, which may be left out in braces."""
         if self.is_next("deployment_properties"):
             self.take("deployment_properties", "::")
         kind = next((kind for kind in MORE_KINDS if self.is_next(f"actual_{kind}_binding")), None)
@@ -69,15 +69,20 @@ class Piece:
             self.take(")")
         else:
             references = [self.reference()]
+        targets = [()] if braced and not self.is_next("applies") else self.targets()
+        self.end()
+        if not kind:
+            raise ValueError
+        return (kind, references, targets)
+
+    def targets(self):
+        """`applies to` and paths."""
         self.take("applies", "to")
         targets = [self.path()]
         while self.is_next(","):
             self.take(",")
             targets.append(self.path())
-        self.end()
-        if not kind:
-            raise ValueError
-        return (kind, references, targets)
+        return targets
 
     def end(self):
         """`[ in .. ] ;` with balanced tokens."""
@@ -106,14 +111,16 @@ def bindings_of(part):
     return found
 
 
-def counting_binding(part, kind, path=()):
+def counting_binding(part, kind, path=(), among=("bindings",)):
     """The binding of a kind that counts for a component, or for what a path leads to from
-    there: its owner and its references. The outermost owner counts, and its last one."""
+    there: its owner, its references and the list in which it stands. The outermost owner
+    counts, and its last one."""
     owner, found = part, None
     while owner:
-        for its_kind, references, targets in owner.bindings:
-            if its_kind == kind and path and path in targets:
-                found = (owner, references)
+        for name in among:
+            for its_kind, references, targets in getattr(owner, name):
+                if its_kind == kind and path and path in targets:
+                    found = (owner, references, name)
         path = (owner.path.rsplit(".", 1)[-1],) + path
         owner = owner.parent
     return found
@@ -121,7 +128,7 @@ def counting_binding(part, kind, path=()):
 
 def referenced(below, binding):
     """The components to which the references of a binding lead, in order."""
-    owner, references = binding or (None, [])
+    owner, references, _ = binding or (None, [], "")
     return [other for other in (below(owner, path) for path in references) if other]
 
 
@@ -136,38 +143,75 @@ def binding_links(parts, below):
     for part in parts:
         part.bindings = bindings_of(part)
     for part in parts:
-        part.counts = {kind: counting_binding(part, kind) for kind in MORE_KINDS}
         for kind in KINDS:
-            for other in referenced(below, part.counts[kind]):
+            for other in referenced(below, counting_binding(part, kind)):
                 yield from both_ways(part, kind, other)
 
 
 # What the second profile has behind these
 
+BOTH = ("braced", "bindings")   # those in braces come before those of sections
+HOSTS = {"processor": ("processor",), "connection": ("bus", "processor")}
+GUESTS = {"processor": ("virtual", "processor"), "connection": ("virtual", "bus")}
+
+
+def braced_of(part):
+    """The bindings in braces behind the members of a component, from the farthest
+    classifier to the nearest, as bindings of the component."""
+    found = []
+    for classifier in reversed(part.chain):
+        for member in classifier.members:
+            texts = [token.text for token in member.tail]
+            if member.kind == "features" or "{" not in texts:
+                continue
+            for piece in pieces(member.tail[texts.index("{") + 1:]):
+                try:
+                    kind, references, targets = Piece(piece).binding(braced=True)
+                except ValueError:
+                    continue
+                found.append((kind, references, [(member.name,) + path for path in targets]))
+    return found
+
+
+def category(part):
+    """The words of the category of a component's classifier, if it has one."""
+    return part.chain[0].category if part and part.chain else ()
+
+
+def said(part, kind):
+    """The binding that counts for a component, or that it has as it stands in its host."""
+    found = counting_binding(part, kind, (), BOTH)
+    if not found and category(part) == GUESTS.get(kind, "none"):
+        around = category(part.parent)
+        if around and around[-1] in HOSTS[kind] and around[:-1] in ((), ("virtual",)):
+            found = (part.parent, [()], "standing")
+    return found
+
 
 def more_binding_links(parts, below):
-    """The links of bindings that hold for what is inside, of functions, and of connections."""
+    """The links of bindings in braces, of those that hold for what is inside, of what is
+    virtual, of functions, and of connections."""
     for part in parts:
-        for kind in KINDS:
-            if not part.counts[kind]:
-                for other in referenced(below, nearest_around(part, kind)):
-                    if other is not part:
-                        yield from both_ways(part, kind, other)
+        part.braced = braced_of(part)
     for part in parts:
-        for other in referenced(below, part.counts["function"]):
+        buses = ("connection",) if category(part) == GUESTS["connection"] else ()
+        for kind in KINDS + buses:
+            binding = counting_binding(part, kind, (), BOTH)
+            if binding and kind in KINDS and binding[2] == "bindings":
+                continue
+            around = part
+            while around.parent and not binding:
+                binding, around = said(around, kind), around.parent
+            for other in referenced(below, binding):
+                if other is not part:
+                    yield from both_ways(part, kind, other)
+    for part in parts:
+        for other in referenced(below, counting_binding(part, "function", (), BOTH)):
             yield from both_ways(part, "binding", other)
     for part in parts:
         for name, directions in part.given:
-            for bus in referenced(below, counting_binding(part, "connection", (name,))):
+            for bus in referenced(below, counting_binding(part, "connection", (name,), BOTH)):
                 for start, goal in directions:
                     yield (bus, "bindings", "out"), goal
                     yield (bus, "bindings", "out"), (goal[0], "connection", "in")
                     yield start, (bus, "bindings", "in")
-
-
-def nearest_around(part, kind):
-    """What counts for the nearest component around one for which a binding counts."""
-    part = part.parent
-    while part and not part.counts[kind]:
-        part = part.parent
-    return part and part.counts[kind]

@@ -106,12 +106,13 @@ class CoreReader(Reader):
         self.expect(";")
 
     def category(self):
-        """A category of one word or two."""
-        word = self.one_of(*CATEGORIES).text
+        """A category of one word or two, and these words."""
+        word, second = self.one_of(*CATEGORIES).text, None
         if word == "virtual":
-            self.one_of("processor", "bus")
+            second = self.one_of("processor", "bus")
         elif word in ("subprogram", "thread"):
-            self.accept("group")
+            second = self.accept("group")
+        return (word, second.text) if second else (word,)
 
     def annex(self):
         """The tokens of an annex of EMV2, or None; behind the word `annex`."""
@@ -136,7 +137,7 @@ class CoreReader(Reader):
 
     def classifier(self):
         """A type or an implementation."""
-        self.category()
+        category = self.category()
         implementation = self.accept("implementation")
         name, item = self.name(), ""
         if implementation:
@@ -144,7 +145,7 @@ class CoreReader(Reader):
             item = self.name().text
         found = Node(name=name.text, item=item, place=name.place, extends=None,
                      bindings_place=None, prototypes_place=None, members=[], clauses=[],
-                     properties=[])
+                     properties=[], category=category)
         if self.accept("extends"):
             found.extends = self.reference()
             bracket = self.accept("(")
@@ -214,12 +215,14 @@ class CoreReader(Reader):
         if refined:
             self.expect("to")
         member = Node(kind=kind, name=name.text, place=name.place, refined=refined,
-                      array=None, group=False)
+                      array=None, group=False, tail=[])
         read(member)
         depth = 0
         for token in self.balanced(";"):
             if depth == 0 and token.text == "[" and not member.array:
                 member.array = token.place
+            if not member.array:
+                member.tail.append(token)
             depth += (token.text in OPENING)
             depth -= (token.text in CLOSING)
         self.expect(";")

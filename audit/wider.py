@@ -293,36 +293,52 @@ class Wider:
 
     def system(self, number, last):
         """A type and an implementation, and sometimes another one that extends it."""
-        part = Part("system", f"t{number}",
+        word = self.pick(["system"] * 6 + list(RESOURCES)) if self.bindings else "system"
+        part = Part(word, f"t{number}",
                     self.pick(self.machines * (3 if self.conditions else 1) + [None]))
         features, text = self.ports(part, True)
         if self.bindings:
             text += self.words(part, {"processor": 0.15, "bindings": 0.15, "connection": 0.2})
-        found = f"system {part.name}\nfeatures {features}"
+        found = f"{word} {part.name}\nfeatures {features}"
         if text:
             found += (f"annex EMV2 {{** use types p; error propagations\n{text}"
                       "end propagations; **};\n")
         found += f"end {part.name};\n"
         kinds = self.leaves + self.systems * (2 if last else 1)
-        parts = ""
         for index in range(self.random.randint(2, 4)):
-            child = self.pick(kinds)
-            part.children[f"x{index}"] = child
-            item = ".i" if child in self.systems else ""
-            parts += f"x{index}: {child.word} {child.name}{item};\n"
+            part.children[f"x{index}"] = self.pick(kinds)
         links = self.connections(part)
-        found += f"system implementation {part.name}.i\nsubcomponents {parts}"
+        parts = "".join(self.part(part, name, child) for name, child in part.children.items())
+        found += f"{word} implementation {part.name}.i\nsubcomponents {parts}"
         found += f"connections {links}" if links else ""
         found += self.properties(part)
         found += self.clause(part, "", self.composite(part))
         found += f"end {part.name}.i;\n"
         self.systems.append(part)
         if last and self.bindings and self.maybe(0.3):
+            refined = ""
+            if self.maybe(0.5):
+                name, child = self.pick(list(part.children.items()))
+                refined = "subcomponents " + self.part(part, name, child, "refined to ")
             more = self.properties(part)
-            found += (f"system implementation {part.name}.j extends {part.name}.i\n{more}"
-                      f"end {part.name}.j;\n")
+            found += (f"{word} implementation {part.name}.j extends {part.name}.i\n{refined}"
+                      f"{more}end {part.name}.j;\n")
             return found, f"p::{part.name}.j"
         return found, f"p::{part.name}.i"
+
+    def part(self, part, name, child, refined=""):
+        """A subcomponent, perhaps with bindings in braces."""
+        item = ".i" if child in self.systems else ""
+        targets = [path for path, _ in below(child, 2)] + child.connections
+        braces = self.braces(part, targets) if self.maybe(0.3) else ""
+        return f"{name}: {refined}{child.word} {child.name}{item}{braces};\n"
+
+    def braces(self, part, targets):
+        """Bindings in braces behind a subcomponent or a connection."""
+        if not self.bindings:
+            return ""
+        found = "".join(self.binding(part, targets) for _ in range(self.pick([1, 1, 2])))
+        return f" {{ {found}}}" + self.pick([""] * 4 + [" in modes (m)"])
 
     def connections(self, part):
         """Connections to most inward points of parts, and to own points."""
@@ -339,7 +355,8 @@ class Wider:
                 sign = "<->" if self.maybe(0.15) else "->"
                 word = "bus access" if goal.endswith("net") or self.maybe(0.05) else "port"
                 part.connections.append(f"k{number}")
-                text += f"k{number}: {word} {start} {sign} {goal};\n"
+                braces = self.braces(part, []) if self.maybe(0.2) else ""
+                text += f"k{number}: {word} {start} {sign} {goal}{braces};\n"
         return text
 
     def composite(self, part):
@@ -381,8 +398,9 @@ class Wider:
         return "properties\n" + "".join(
             self.binding(part) for _ in range(self.random.randint(2, 6)))
 
-    def binding(self, part):
-        """One binding, seldom of a form that has no effect."""
+    def binding(self, part, within=None):
+        """One binding, seldom of a form that has no effect; in braces with targets within what
+        stands before them."""
         inside = below(part, 3)
         paths = [path for path, _ in inside]
         resources = [path for path, child in inside if child.word in RESOURCES] or paths
@@ -392,6 +410,7 @@ class Wider:
         targets = paths
         if kind == "connection":
             targets = [name for name in part.connections]
+            targets += [path for path, child in inside if child.word == "virtual bus"]
             targets += [f"{path}.{name}" for path, child in inside for name in child.connections]
             targets = targets if self.maybe(0.9) and targets else paths + ["k9"]
         name = self.pick(["", "", "Deployment_Properties::"]) + f"Actual_{kind}_Binding"
@@ -399,6 +418,10 @@ class Wider:
         sign = "=>" if self.maybe(0.96) else "+=>"
         applies = self.pick([" applies to"] * 20 + [" in modes (m) applies to"])
         behind = self.pick([""] * 12 + [" in modes (m)", " in binding (x0)"])
+        if within is not None:
+            if not within or self.maybe(0.6):
+                return f"{name} {sign} {form}{behind};\n"
+            targets = within
         chosen = ", ".join(self.pick(targets) for _ in range(self.pick([1, 1, 2])))
         return f"{name} {sign} {form}{applies} {chosen}{behind};\n"
 
