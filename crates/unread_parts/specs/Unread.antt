@@ -5,6 +5,7 @@ use Rattle.aadl_syntax.specs.declared.core_model.Binding.{Binding}
 use Rattle.aadl_syntax.specs.declared.core_model.BindingKind.{BindingKind}
 use Rattle.aadl_syntax.specs.declared.core_model.BindingKind.TheVariants.{Connection as OfConnection, Function, Memory, Processor}
 use Rattle.aadl_syntax.specs.declared.core_model.Connection.{Connection}
+use Rattle.aadl_syntax.specs.declared.core_model.Decl.{Decl}
 use Rattle.aadl_syntax.specs.declared.core_model.PackageUnit.{PackageUnit}
 use Rattle.aadl_syntax.specs.declared.core_model.Subcomponent.{Subcomponent}
 use Rattle.aadl_syntax.specs.declared.token.Token.{Token}
@@ -106,12 +107,15 @@ told_section what tokens = flat_map (told_piece what false) (section_pieces toke
 abbrev pub told_braces : What → List Token → List (List ℕ)
 told_braces what tokens = flat_map (told_piece what true) (section_pieces (behind_brace tokens))
 
--- the names of those of a classifier: of its sections, and in braces behind its subcomponents and its connections
+-- the names of those in braces behind the subcomponents of a classifier, and then behind its connections
+abbrev pub told_behind : What → Decl → List (List ℕ)
+told_behind what decl =
+    flat_map (λ subcomponent. told_braces what subcomponent.tail) decl.subcomponents
+    ++ flat_map (λ connection. told_braces what connection.tail) decl.connections
+
+-- the names of those of a classifier: of its sections, and in braces behind its members
 abbrev pub told_bindings : What → Class → List (List ℕ)
-told_bindings what class =
-    flat_map (told_section what) class.item.properties
-    ++ (flat_map (λ subcomponent. told_braces what subcomponent.tail) class.item.subcomponents
-    ++ flat_map (λ connection. told_braces what connection.tail) class.item.connections)
+told_bindings what class = flat_map (told_section what) class.item.properties ++ told_behind what class.item
 
 -- ---- members
 

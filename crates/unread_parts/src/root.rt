@@ -44,21 +44,35 @@ fn implementations_in(alloc: Global, unit: &PackageUnit, decl: &Decl) -> Mem<Lis
 {
     match decl.item {
         Some(_) => Ok(List::new(alloc)),
-        None => implementing(alloc, unit, decl.name.text()),
+        None => implementing(alloc, unit, decl.name.text(), unit.decls.items()),
     }
 }
 
-/// The names of the implementations of the type of a name.
-fn implementing(alloc: Global, unit: &PackageUnit, name: &[u8]) -> Mem<List<Name>>
-    ensures { IfOk result (λ names. names ≡ flat_map (implementing unit.now name.now) unit.now.decls) }
+/// The names of the implementations among classifiers of a package of the type of a name.
+fn implementing(alloc: Global, unit: &PackageUnit, name: &[u8], decls: &[Decl]) -> Mem<List<Name>>
+    ensures { IfOk result (λ names. names ≡ flat_map (implementing unit.now name.now) decls.now) }
 {
     let mut names = List::new(alloc);
-    for decl in unit.decls.items() {
-        if is_same(decl.name.text(), name) {
-            add_name(&mut names, alloc, unit, decl)?;
-        }
+    for decl in decls {
+        add_implementing(&mut names, alloc, unit, name, decl)?;
     }
     Ok(names)
+}
+
+/// Adds the name of a classifier of a package, if it is an implementation of the type of a name.
+fn add_implementing(
+    names: &mut List<Name>,
+    alloc: Global,
+    unit: &PackageUnit,
+    name: &[u8],
+    decl: &Decl,
+) -> Mem<()>
+    ensures { OnOk result (names.new ≡ names.old ++ implementing unit.now name.now decl.now) }
+{
+    if is_same(decl.name.text(), name) {
+        return add_name(names, alloc, unit, decl);
+    }
+    Ok(())
 }
 
 /// Adds the name of a classifier of a package, if it is an implementation.

@@ -2,11 +2,11 @@
 
 ghost use Rattle.std.specs.Prelude.{◌≡◌, ◌++◌, IfOk, OnOk, flat_map};
 ghost use Rattle.instantiator.specs.Whole.{effective_in};
-ghost use Rattle.unread_parts.specs.Unread.{has_modes, modal_connection, modal_subcomponent, parts_at, told_bindings, told_braces, told_members, told_names, told_section, unread_parts};
+ghost use Rattle.unread_parts.specs.Unread.{has_modes, modal_connection, modal_subcomponent, parts_at, told_behind, told_bindings, told_braces, told_members, told_names, told_section, unread_parts};
 
 use crate::modes::has_modes;
 use crate::pieces::{add_braces, add_section};
-use aadl_syntax::{Connection, Identifier, Subcomponent, TokenList};
+use aadl_syntax::{Connection, Decl, Identifier, Subcomponent, TokenList};
 use component_extension::{Classifier, Effective, Inherited, classifiers_of};
 use instantiator::Instance;
 use package_index::Index;
@@ -163,6 +163,13 @@ fn add_bindings(
 {
     let decl = classifier.item();
     add_sections(names, alloc, what, decl.properties.items())?;
+    add_behind(names, alloc, what, decl)
+}
+
+/// Adds those in braces behind the subcomponents of a classifier, and then behind its connections.
+fn add_behind(names: &mut List<Identifier>, alloc: Global, what: What, decl: &Decl) -> Mem<()>
+    ensures { OnOk result (names.new ≡ names.old ++ told_behind what decl.now) }
+{
     add_behind_subcomponents(names, alloc, what, decl.subcomponents.items())?;
     add_behind_connections(names, alloc, what, decl.connections.items())
 }
