@@ -1,7 +1,6 @@
 -- Two readings, one after the other.
-use Rattle.std.proofs.Common.{Result, Ok, Err, ap, sym, ◌∙◌, subst}
+use Rattle.std.proofs.Common.{Result, Ok, sym, ◌∙◌, subst}
 use Rattle.grammar_rules.specs.declared.reader.ReadError.{ReadError}
-use Rattle.grammar_rules.specs.declared.reader.ReadError.TheVariants.{Refused, Memory}
 use Rattle.grammar_rules.specs.declared.reader.Reader.{Reader}
 use Rattle.grammar_rules.specs.Rules.{Rule, joins}
 use Rattle.grammar_rules.specs.Running.{Outcome, run, followed}
@@ -14,11 +13,3 @@ joined {A} {B} {first} {next} {old} {middle} {new} {x} {result} gave rest = reco
   answer = subst (λ (o : Outcome A). Answers result (followed o (λ v left unseen. run old.file (next v) left unseen)) new.tokens new.unseen) (sym gave.answer)
       (subst (λ f. Answers result (run f (next x) middle.tokens middle.unseen) new.tokens new.unseen) gave.same_file rest.answer);
 }
-
--- A refusal of the first of two readings is one of both.
-pub refused-first : {A B : Type 0} {first : Rule A} {next : A → Rule B} {old new : Reader} (error : ReadError) → Gives {A = A} (Err error) first old new → Gives {A = B} (Err error) (joins first next) old new
-refused-first {A} {B} {first} {next} {old} {new} Refused gave = record {
-  same_file = gave.same_file;
-  answer = ap (λ (o : Outcome A). followed o (λ v left unseen. run old.file (next v) left unseen)) gave.answer;
-}
-refused-first Memory gave = record { same_file = gave.same_file; answer = tt }

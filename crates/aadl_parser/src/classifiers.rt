@@ -264,8 +264,10 @@ fn type_body(
     ensures { Gives result (type_body category name spot) reader.old reader.new }
 {
     let decl = decl_of(reader, category, name, None, spot)?;
-    type_end(reader)?;
-    Ok(decl)
+    match type_end(reader) {
+        Ok(()) => Ok(decl),
+        Err(error) => Err(error),
+    }
 }
 
 #[tactic(auto, unfolding(crate::specs::Classifiers::component_type))]
@@ -298,8 +300,10 @@ fn implementation_body(
     ensures { Gives result (implementation_body category name item spot) reader.old reader.new }
 {
     let decl = decl_of(reader, category, name, Some(item), spot)?;
-    implementation_end(reader)?;
-    Ok(decl)
+    match implementation_end(reader) {
+        Ok(()) => Ok(decl),
+        Err(error) => Err(error),
+    }
 }
 
 #[tactic(auto, unfolding(crate::specs::Classifiers::implementation))]
