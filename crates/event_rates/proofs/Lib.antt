@@ -1,2 +1,2 @@
 mod FittingLaws
-mod Unused
+mod UnusedLaws

@@ -107,11 +107,17 @@ told_section what tokens = flat_map (told_piece what false) (section_pieces toke
 abbrev pub told_braces : What → List Token → List (List ℕ)
 told_braces what tokens = flat_map (told_piece what true) (section_pieces (behind_brace tokens))
 
+-- the names of those in braces behind subcomponents
+unfoldable pub told_subcomponents : What → List Subcomponent → List (List ℕ)
+told_subcomponents what subcomponents = flat_map (λ subcomponent. told_braces what subcomponent.tail) subcomponents
+
+-- the names of those in braces behind connections
+unfoldable pub told_connections : What → List Connection → List (List ℕ)
+told_connections what connections = flat_map (λ connection. told_braces what connection.tail) connections
+
 -- the names of those in braces behind the subcomponents of a classifier, and then behind its connections
 abbrev pub told_behind : What → Decl → List (List ℕ)
-told_behind what decl =
-    flat_map (λ subcomponent. told_braces what subcomponent.tail) decl.subcomponents
-    ++ flat_map (λ connection. told_braces what connection.tail) decl.connections
+told_behind what decl = told_subcomponents what decl.subcomponents ++ told_connections what decl.connections
 
 -- the names of those of a classifier: of its sections, and in braces behind its members
 abbrev pub told_bindings : What → Class → List (List ℕ)

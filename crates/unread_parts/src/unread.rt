@@ -2,7 +2,7 @@
 
 ghost use Rattle.std.specs.Prelude.{◌≡◌, ◌++◌, IfOk, OnOk, flat_map};
 ghost use Rattle.instantiator.specs.Whole.{effective_in};
-ghost use Rattle.unread_parts.specs.Unread.{has_modes, modal_connection, modal_subcomponent, parts_at, told_behind, told_bindings, told_braces, told_members, told_names, told_section, unread_parts};
+ghost use Rattle.unread_parts.specs.Unread.{has_modes, modal_connection, modal_subcomponent, parts_at, told_behind, told_bindings, told_braces, told_connections, told_members, told_names, told_section, told_subcomponents, unread_parts};
 
 use crate::modes::has_modes;
 use crate::pieces::{add_braces, add_section};
@@ -188,13 +188,14 @@ fn add_sections(
     Ok(())
 }
 
+#[tactic(auto, unfolding(crate::specs::Unread::told_subcomponents))]
 fn add_behind_subcomponents(
     names: &mut List<Identifier>,
     alloc: Global,
     what: What,
     subcomponents: &[Subcomponent],
 ) -> Mem<()>
-    ensures { OnOk result (names.new ≡ names.old ++ flat_map (λ subcomponent. told_braces what subcomponent.tail) subcomponents.now) }
+    ensures { OnOk result (names.new ≡ names.old ++ told_subcomponents what subcomponents.now) }
 {
     for subcomponent in subcomponents {
         add_braces(names, alloc, what, &subcomponent.tail)?;
@@ -202,13 +203,14 @@ fn add_behind_subcomponents(
     Ok(())
 }
 
+#[tactic(auto, unfolding(crate::specs::Unread::told_connections))]
 fn add_behind_connections(
     names: &mut List<Identifier>,
     alloc: Global,
     what: What,
     connections: &[Connection],
 ) -> Mem<()>
-    ensures { OnOk result (names.new ≡ names.old ++ flat_map (λ connection. told_braces what connection.tail) connections.now) }
+    ensures { OnOk result (names.new ≡ names.old ++ told_connections what connections.now) }
 {
     for connection in connections {
         add_braces(names, alloc, what, &connection.tail)?;

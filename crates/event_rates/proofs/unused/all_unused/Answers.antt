@@ -3,7 +3,7 @@ use Rattle.std.proofs.lemmas.List.{take_all}
 use Rattle.plain_values.specs.Numbered.{numbered_from}
 use Rattle.instantiator.specs.Whole.{Instance}
 use Rattle.event_rates.specs.Unused.{unused_at}
-use Rattle.event_rates.proofs.Unused.{unused-more}
+use Rattle.event_rates.proofs.UnusedLaws.{unused-more}
 use Rattle.event_rates.proofs.unused.all_unused.Goals as goal
 
 pub loop-number-preserved : goal.loop-number-preserved
