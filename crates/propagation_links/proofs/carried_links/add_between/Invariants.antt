@@ -6,4 +6,4 @@ use Rattle.propagation_links.proofs.carried_links.add_between.Given as goal
 abbrev pub invariant-loop-reference : goal.invariant-loop-reference
 invariant-loop-reference l =
     l.links ≡ l.fn.links
-    ++ flat_map (λ reference. carrier_links l.pointed l.both l.from l.to (component_below l.pointed.instance.components l.stated.component reference)) (take l.reference-index l.fn.stated.binding.references)
+    ++ flat_map (λ reference. carrier_links l.pointed l.both l.from l.to (component_below l.pointed.instance.components l.stated.component reference)) (take l.reference-index l.fn.stated.references)
