@@ -69,24 +69,12 @@ impl<'r> Tables<'r> {
         self.instance
     }
 
-    /// The associations of the clauses of a component.
-    pub(crate) fn clause_list(&self, component: u32) -> &[&'r Association]
-        ensures { map (λ association. association.now) result.now ≡ clause_associations (effective_in self.now component) }
+    /// The associations of the clauses of a component, if it has a classifier.
+    pub(crate) fn clauses_of(&self, component: u32) -> Option<&AssociationTable<'r>>
+        ensures { unwrap_or (option_copied result) [] ≡ clause_associations (effective_in self.now component) }
     {
-        match self.kind(component) {
-            Some(kind) => kind.clauses.list(),
-            None => &[],
-        }
-    }
-
-    /// The associations of the machine of a component.
-    pub(crate) fn machine_list(&self, component: u32) -> &[&'r Association]
-        ensures { map (λ association. association.now) result.now ≡ machine_associations (machine_of self.now.packages (effective_in self.now component)) }
-    {
-        match self.machine_of(component) {
-            Some(table) => table.list(),
-            None => &[],
-        }
+        let kind = self.kind(component)?;
+        Some(&kind.clauses)
     }
 
     /// The last association of the clauses of a component that fits these names.
@@ -104,7 +92,7 @@ impl<'r> Tables<'r> {
     }
 
     /// The associations of the machine of a component, if it has one.
-    fn machine_of(&self, component: u32) -> Option<&AssociationTable<'r>>
+    pub(crate) fn machine_of(&self, component: u32) -> Option<&AssociationTable<'r>>
         ensures { unwrap_or (option_copied result) [] ≡ machine_associations (machine_of self.now.packages (effective_in self.now component)) }
     {
         let id = self.kind(component)?.machine?;

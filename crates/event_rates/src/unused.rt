@@ -1,12 +1,12 @@
 //! The rates that are said of no event.
 
-ghost use Rattle.std.specs.Prelude.{◌≡◌, ◌++◌, ◌∷◌, [], IfOk, OnOk, cond, filter, map, not};
+ghost use Rattle.std.specs.Prelude.{◌≡◌, ◌++◌, ◌∷◌, [], IfOk, OnOk, cond, filter, map, not, option_copied, unwrap_or};
 ghost use Rattle.plain_values.specs.Numbered.{numbered_from};
 ghost use Rattle.event_rates.specs.Unused.{is_one_of, rates_at, unused_among, unused_at, unused_in, unused_rates, unused_targets, whole_names};
 
 use crate::kinds::Tables;
 use crate::rates::names_of;
-use crate::table::is_distribution;
+use crate::table::{AssociationTable, is_distribution};
 use aadl_syntax::{Association, Identifier};
 use fault_system::EventInfo;
 use instantiator::Instance;
@@ -157,15 +157,25 @@ fn unused_in(
 {
     let path = tables.path(number);
     let mut targets = List::new(alloc);
-    add_among(&mut targets, alloc, names, path, tables.clause_list(number))?;
-    add_among(
-        &mut targets,
-        alloc,
-        names,
-        path,
-        tables.machine_list(number),
-    )?;
+    add_of(&mut targets, alloc, names, path, tables.clauses_of(number))?;
+    add_of(&mut targets, alloc, names, path, tables.machine_of(number))?;
     Ok(targets)
+}
+
+/// Adds those of a table, if there is one.
+fn add_of(
+    targets: &mut List<List<Name>>,
+    alloc: Global,
+    names: &EventNames,
+    path: &[&Identifier],
+    table: Option<&AssociationTable>,
+) -> Mem<()>
+    ensures { OnOk result (targets.new ≡ targets.old ++ unused_among names.now (map (λ name. name.now) path.now) (unwrap_or (option_copied table.entry) [])) }
+{
+    match table {
+        Some(table) => add_among(targets, alloc, names, path, table.list()),
+        None => Ok(()),
+    }
 }
 
 /// Adds the targets of some associations that name no event, from the component of this path on.
