@@ -1,2 +1,1 @@
 mod FittingLaws
-mod UnusedLaws

@@ -1,3 +1,2 @@
 pub mod Associations
-pub mod Unused
 pub mod inner
