@@ -1,1 +1,2 @@
 mod FittingLaws
+mod UnusedLaws

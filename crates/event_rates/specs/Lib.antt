@@ -1,2 +1,3 @@
 pub mod Associations
+pub mod Unused
 pub mod inner

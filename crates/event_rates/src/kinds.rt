@@ -1,4 +1,4 @@
-ghost use Rattle.std.specs.Prelude.{◌≡◌, IfOk, map, option_copied, option_map};
+ghost use Rattle.std.specs.Prelude.{◌≡◌, [], IfOk, map, option_copied, option_map, unwrap_or};
 ghost use Rattle.aadl_syntax.specs.declared.error_model.MachineDecl.{MachineDecl as AnyMachine};
 ghost use Rattle.error_machines.specs.Machines.{find_machine, machine_at};
 ghost use Rattle.error_models.specs.Below.{machine_of};
@@ -69,6 +69,14 @@ impl<'r> Tables<'r> {
         self.instance
     }
 
+    /// The associations of the clauses of a component, if it has a classifier.
+    pub(crate) fn clauses_of(&self, component: u32) -> Option<&AssociationTable<'r>>
+        ensures { unwrap_or (option_copied result) [] ≡ clause_associations (effective_in self.now component) }
+    {
+        let kind = self.kind(component)?;
+        Some(&kind.clauses)
+    }
+
     /// The last association of the clauses of a component that fits these names.
     pub(crate) fn of_clauses(&self, component: u32, names: &[Name]) -> Option<&'r Association>
         ensures { option_copied result ≡ last_fitting names.now (clause_associations (effective_in self.now component)) }
@@ -80,8 +88,15 @@ impl<'r> Tables<'r> {
     pub(crate) fn of_machine(&self, component: u32, names: &[Name]) -> Option<&'r Association>
         ensures { option_copied result ≡ last_fitting names.now (machine_associations (machine_of self.now.packages (effective_in self.now component))) }
     {
+        self.machine_of(component)?.last_fitting(names)
+    }
+
+    /// The associations of the machine of a component, if it has one.
+    pub(crate) fn machine_of(&self, component: u32) -> Option<&AssociationTable<'r>>
+        ensures { unwrap_or (option_copied result) [] ≡ machine_associations (machine_of self.now.packages (effective_in self.now component)) }
+    {
         let id = self.kind(component)?.machine?;
-        self.machine(id)?.last_fitting(names)
+        self.machine(id)
     }
 
     /// What is known of the kind of a component, if it has one.

@@ -78,7 +78,7 @@ impl<'r> Tables<'r> {
     }
 
     /// The names of the path of a component.
-    fn path(&self, component: u32) -> &'r [&'r Identifier]
+    pub(crate) fn path(&self, component: u32) -> &'r [&'r Identifier]
         ensures { map (λ name. name.now) result.now ≡ path_in self.now component }
     {
         match self.instance().components().get(component as usize) {
@@ -89,7 +89,7 @@ impl<'r> Tables<'r> {
 }
 
 /// A path, and then a key.
-fn names_of(alloc: Global, path: &[&Identifier], key: &[Name]) -> Mem<List<Name>>
+pub(crate) fn names_of(alloc: Global, path: &[&Identifier], key: &[Name]) -> Mem<List<Name>>
     ensures { IfOk result (λ names. names ≡ map (λ name. name.now) path.now ++ key.now) }
 {
     let mut names = List::new(alloc);

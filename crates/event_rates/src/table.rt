@@ -44,6 +44,13 @@ impl<'a> AssociationTable<'a> {
         Ok(AssociationTable { list, fitting })
     }
 
+    /// The associations.
+    pub(crate) fn list(&self) -> &[&'a Association]
+        ensures { map (λ association. association.now) result.now ≡ self.now }
+    {
+        self.list.items()
+    }
+
     /// The last of the associations that fits these names.
     pub(crate) fn last_fitting(&self, names: &[Name]) -> Option<&'a Association>
         ensures { option_copied result ≡ last_fitting names.now self.now }
@@ -88,7 +95,7 @@ fn put<'a>(
 }
 
 /// Whether a property is that of rates: `OccurrenceDistribution`, bare or of EMV2.
-fn is_distribution(name: &[Identifier]) -> bool
+pub(crate) fn is_distribution(name: &[Identifier]) -> bool
     ensures { result ≡ is_distribution name.now }
 {
     match name.split_first() {

@@ -19,6 +19,10 @@ use Rattle.error_flows.specs.declared.meaning.FlowMeaning.TheVariants as flow
 use Rattle.error_behavior.specs.declared.steps.Step.{Step}
 use Rattle.error_models.specs.declared.model.ErrorModel.{ErrorModel}
 use Rattle.instantiator.specs.Whole.{effective_in}
+use Rattle.event_rates.specs.Unused.{unused_rates}
+use Rattle.unread_parts.specs.Root.{root_implementations}
+use Rattle.unread_parts.specs.Unread.{unread_parts}
+use Rattle.unread_parts.specs.declared.unread.What.TheVariants as what
 use Rattle.propagation_links.specs.Unlinked.{unlinked_of}
 use Rattle.propagation_links.specs.declared.link.Link.{Link}
 use Rattle.propagation_links.specs.declared.link.PointAt.{PointAt}
@@ -27,7 +31,7 @@ use Rattle.model_facts.specs.Facts.{inward_of, is_linked, outward_of}
 use Rattle.fact_formulas.specs.Formulas.{end_of}
 use Rattle.model_review.specs.Seen.{Seen, declared_for, is_lost_event, is_lost_fact, is_used, may_come, number_at, side_in, source_number, state_number, states_of, stops, types_in}
 use Rattle.model_review.specs.declared.finding.Finding.{Finding}
-use Rattle.model_review.specs.declared.finding.Finding.TheVariants.{Dry, GoesNowhere, HiddenLink, HiddenPath, HiddenSource, HiddenTransitions, Never, NeverState, NoLink, NoSource, NotDeclared, Open, StopsHere, UnusedState}
+use Rattle.model_review.specs.declared.finding.Finding.TheVariants.{Dry, GoesNowhere, HiddenLink, HiddenPath, HiddenSource, HiddenTransitions, InModes, Never, NeverState, NoLink, NoSource, NotDeclared, Open, StopsHere, StrayRate, TypeRoot, UnreadBinding, UnusedState}
 use Rattle.model_review.specs.declared.finding.TypesAt.{TypesAt}
 
 -- types at a side
@@ -288,10 +292,21 @@ unused_state seen owner model state = cond (is_unused_state seen owner model sta
 abbrev pub unused_states : Seen → ℕ → ErrorModel → List Finding
 unused_states seen owner model = flat_map (unused_state seen owner model) (numbers_below (length (all_variants model.states.sorts)))
 
+-- ---- text that is not looked at
+
+-- What is told of the text: what stands in modes, the bindings that the profile of the model does not read, the rates that are said of no event,
+-- and the implementations of a root that is a component type.
+abbrev pub text_findings : Seen → List Finding
+text_findings seen =
+    map InModes (unread_parts what.InModes seen.numbered.assembly.instance)
+    ++ (map UnreadBinding (unread_parts (what.Unread seen.numbered.assembly.types.profile) seen.numbered.assembly.instance)
+    ++ (map StrayRate (unused_rates seen.numbered.assembly.instance seen.system.events)
+    ++ map TypeRoot (root_implementations seen.numbered.assembly.instance)))
+
 -- ---- in order
 
 -- What is told of a model but for its loops and its events, in this order: what is hidden, where errors stop, what never comes
--- about, and states that nothing looks at.
+-- about, states that nothing looks at, and text that is not looked at.
 abbrev pub model_findings : Seen → List Finding
 model_findings seen =
     of_components seen (hidden_flows false seen)
@@ -307,4 +322,5 @@ model_findings seen =
     ++ (of_components seen (no_sources seen)
     ++ (of_components seen (never_out seen)
     ++ (never_states seen (model_at seen.numbered.assembly 0)
-    ++ of_components seen (unused_states seen)))))))))))))
+    ++ (of_components seen (unused_states seen)
+    ++ text_findings seen)))))))))))))

@@ -10,6 +10,7 @@ use Rattle.error_libraries.specs.Libraries.{Table}
 use Rattle.instantiator.specs.Whole.{effective_in}
 use Rattle.propagation_links.specs.declared.link.PointAt.{PointAt}
 use Rattle.propagation_links.specs.declared.unlinked.Unlinked.{Unlinked}
+use Rattle.unread_parts.specs.declared.unread.Part.{Part}
 use Rattle.model_facts.specs.Assembly.{Assembly, model_at}
 use Rattle.model_facts.specs.Facts.{fact_in}
 use Rattle.model_facts.specs.Names.{behind, fact_name as its_fact_name, path_at, path_text, point_name, type_text}
@@ -17,7 +18,7 @@ use Rattle.model_facts.specs.declared.keys.FactKind.TheVariants.{State}
 use Rattle.fault_system.specs.Systems.{event_name, fact_name}
 use Rattle.model_review.specs.Seen.{Seen}
 use Rattle.model_review.specs.declared.finding.Finding.{Finding}
-use Rattle.model_review.specs.declared.finding.Finding.TheVariants.{Dry, GoesNowhere, HiddenLink, HiddenPath, HiddenSource, HiddenTransitions, InLoop, Never, NeverState, NoEffect, NoLink, NoSingle, NoSource, NotDeclared, Open, StopsHere, UnreachedEvent, UnusedEvent, UnusedState}
+use Rattle.model_review.specs.declared.finding.Finding.TheVariants.{Dry, GoesNowhere, HiddenLink, HiddenPath, HiddenSource, HiddenTransitions, InLoop, InModes, Never, NeverState, NoEffect, NoLink, NoSingle, NoSource, NotDeclared, Open, StopsHere, StrayRate, TypeRoot, UnreachedEvent, UnreadBinding, UnusedEvent, UnusedState}
 use Rattle.model_review.specs.declared.finding.TypesAt.{TypesAt}
 
 -- ---- sides
@@ -79,6 +80,21 @@ unlinked_name effective one = cond one.is_path (user_path_name effective one.num
 abbrev pub unlinked_text : Assembly → Unlinked → List ℕ
 unlinked_text assembly one = behind assembly one.component (unlinked_name (effective_in assembly.instance one.component) one)
 
+-- ---- parts
+
+-- names, each behind a dot
+abbrev pub further_names : List (List ℕ) → List ℕ
+further_names others = flat_map (λ name. codes "." ++ name) others
+
+-- names, with a dot between each two
+abbrev pub dotted : List (List ℕ) → List ℕ
+dotted [] = []
+dotted (name ∷ others) = name ++ further_names others
+
+-- a part of a component, behind the component's name: `root.a/c1`
+abbrev pub part_text : Assembly → Part → List ℕ
+part_text assembly part = behind assembly part.component part.name
+
 -- ---- lines
 
 -- what a line says
@@ -97,6 +113,10 @@ finding_text seen (NoSource side) = codes "no-source " ++ side_text seen.numbere
 finding_text seen (Never at) = codes "never " ++ types_text seen.numbered.assembly at
 finding_text seen (NeverState state) = codes "never " ++ its_fact_name seen.numbered.assembly (fact_in 0 (State state))
 finding_text seen (UnusedState owner state) = codes "unused-state " ++ its_fact_name seen.numbered.assembly (fact_in owner (State state))
+finding_text seen (InModes part) = codes "in-modes " ++ part_text seen.numbered.assembly part
+finding_text seen (UnreadBinding part) = codes "unread-binding " ++ (path_text (path_at seen.numbered.assembly part.component) ++ (codes " " ++ part.name))
+finding_text seen (StrayRate rate) = codes "unused-rate " ++ (path_text (path_at seen.numbered.assembly rate.component) ++ (codes " " ++ dotted rate.target))
+finding_text seen (TypeRoot name) = codes "type-root root " ++ name
 finding_text seen (InLoop loop) = codes "loop " ++ (decimal loop.size ++ (codes " " ++ fact_name seen.system loop.first))
 finding_text seen (UnusedEvent event) = codes "unused-event " ++ event_name seen.system event
 finding_text seen (NoSingle event) = codes "no-single " ++ event_name seen.system event

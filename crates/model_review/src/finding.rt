@@ -1,8 +1,10 @@
 ghost use Rattle.std.specs.Prelude.{◌≡◌, ◌++◌, ◌∷◌, ◌==◌, [], OnOk, cond, length};
 
-use plain_values::{List, Mem};
+use event_rates::UnusedRate;
+use plain_values::{List, Mem, Name};
 use propagation_links::{PointAt, Unlinked};
 use system_review::Loop;
+use unread_parts::Part;
 
 /// Types at a side of a point, by their numbers.
 #[derive(Drop)]
@@ -51,6 +53,14 @@ pub enum Finding {
     NeverState(u32),
     /// A component other than the root may be in this state, and nothing looks at it.
     UnusedState(u32, u32),
+    /// A subcomponent, a connection or a binding stands in modes, which are not looked at.
+    InModes(Part),
+    /// A binding is not read.
+    UnreadBinding(Part),
+    /// A rate is said of no event.
+    StrayRate(UnusedRate),
+    /// The root is a component type, and has no parts: an implementation of it is not looked at.
+    TypeRoot(Name),
     /// Facts depend on one another.
     InLoop(Loop),
     /// An error event occurs in no formula.

@@ -8,13 +8,14 @@ ghost use Rattle.model_facts.specs.Assembly.{model_at};
 ghost use Rattle.model_facts.specs.Facts.{fact_in};
 ghost use Rattle.model_facts.specs.Names.{behind, fact_name as its_fact_name, path_at, path_text, point_name, type_text};
 ghost use Rattle.model_facts.specs.declared.keys.FactKind.TheVariants.{State};
-ghost use Rattle.model_review.specs.Lines.{connection_name, direction, finding_line, finding_text, flow_at, flow_text, further_types, is_no_sink, review_text, side_text, type_list, types_text, unlinked_name, unlinked_text, user_path_name};
+ghost use Rattle.model_review.specs.Lines.{connection_name, direction, dotted, finding_line, finding_text, flow_at, flow_text, further_names, further_types, is_no_sink, part_text, review_text, side_text, type_list, types_text, unlinked_name, unlinked_text, user_path_name};
 
 use crate::finding::{Finding, TypesAt};
 use crate::view::View;
 use aadl_syntax::{Flow, FlowKind, Identifier};
 use component_extension::{Effective, InClause};
 use error_types::TypeTable;
+use event_rates::UnusedRate;
 use fault_system::FaultSystem;
 use itoa::Buffer;
 use model_facts::{Assembly, FactKey, FactKind, fact_name};
@@ -23,6 +24,7 @@ use propagation_links::{PointAt, Unlinked};
 use propagation_points::Point;
 use std::alloc::Global;
 use system_review::Loop;
+use unread_parts::Part;
 
 /// The text of these findings of a model.
 pub(crate) fn text_of(alloc: Global, view: &View, findings: &[Finding]) -> Mem<Name>
@@ -77,6 +79,10 @@ fn push_text(alloc: Global, text: &mut Vec<u8>, view: &View, finding: &Finding) 
         Finding::UnusedState(owner, state) => {
             push_state(alloc, text, b"unused-state ", assembly, *owner, *state)
         }
+        Finding::InModes(part) => push_in_modes(text, assembly, part),
+        Finding::UnreadBinding(part) => push_unread(text, assembly, part),
+        Finding::StrayRate(rate) => push_rate(text, assembly, rate),
+        Finding::TypeRoot(name) => push_two(text, b"type-root root ", name.items()),
         Finding::InLoop(one) => push_loop(text, view.system(), *one),
         Finding::UnusedEvent(event) => push_event(text, b"unused-event ", view.system(), *event),
         Finding::NoSingle(event) => push_event(text, b"no-single ", view.system(), *event),
@@ -354,6 +360,64 @@ fn is_no_sink(kind: &FlowKind) -> bool
         FlowKind::Sink(_, _) => false,
         FlowKind::Path(_, _, _, _, _) => true,
     }
+}
+
+// ---- text that is not looked at
+
+/// Adds that a part of a component stands in modes.
+fn push_in_modes(text: &mut Vec<u8>, assembly: &Assembly, part: &Part) -> Mem<()>
+    ensures { OnOk result (text.new.items ≡ text.old.items ++ (codes "in-modes " ++ part_text assembly.now part.now)) }
+{
+    text.extend_from_slice(b"in-modes ")?;
+    push_own(text, assembly, part.component, part.name.text())
+}
+
+/// Adds that a binding of a component is not read.
+fn push_unread(text: &mut Vec<u8>, assembly: &Assembly, part: &Part) -> Mem<()>
+    ensures { OnOk result (text.new.items ≡ text.old.items ++ (codes "unread-binding " ++ (path_text (path_at assembly.now part.now.component) ++ (codes " " ++ part.now.name)))) }
+{
+    text.extend_from_slice(b"unread-binding ")?;
+    push_path(text, assembly, part.component)?;
+    push_two(text, b" ", part.name.text())
+}
+
+/// Adds that a rate is said of no event.
+fn push_rate(text: &mut Vec<u8>, assembly: &Assembly, rate: &UnusedRate) -> Mem<()>
+    ensures { OnOk result (text.new.items ≡ text.old.items ++ (codes "unused-rate " ++ (path_text (path_at assembly.now rate.now.component) ++ (codes " " ++ dotted rate.now.target)))) }
+{
+    text.extend_from_slice(b"unused-rate ")?;
+    push_path(text, assembly, rate.component)?;
+    push_target(text, rate.target.items())
+}
+
+/// Adds a blank, and names with a dot between each two.
+fn push_target(text: &mut Vec<u8>, names: &[Name]) -> Mem<()>
+    ensures { OnOk result (text.new.items ≡ text.old.items ++ (codes " " ++ dotted names.now)) }
+{
+    text.extend_from_slice(b" ")?;
+    push_dotted(text, names)
+}
+
+fn push_dotted(text: &mut Vec<u8>, names: &[Name]) -> Mem<()>
+    ensures { OnOk result (text.new.items ≡ text.old.items ++ dotted names.now) }
+{
+    match names.split_first() {
+        Some((first, others)) => {
+            text.extend_from_slice(first.items())?;
+            push_further_names(text, others)
+        }
+        None => Ok(()),
+    }
+}
+
+/// Adds names, each behind a dot.
+fn push_further_names(text: &mut Vec<u8>, names: &[Name]) -> Mem<()>
+    ensures { OnOk result (text.new.items ≡ text.old.items ++ further_names names.now) }
+{
+    for name in names {
+        push_two(text, b".", name.items())?;
+    }
+    Ok(())
 }
 
 // ---- connections and user paths

@@ -3,9 +3,13 @@
 ghost use Rattle.std.specs.Prelude.{◌≡◌, ◌++◌, IfOk, OnOk, false, flat_map, length, map, true};
 ghost use Rattle.plain_values.specs.Rising.{RisesWithin};
 ghost use Rattle.model_facts.specs.Assembly.{model_at};
-ghost use Rattle.model_review.specs.Findings.{dry_sides, hidden_flows, hidden_link, model_findings, never_out, never_states, no_links, no_sources, nowhere_out, of_components, open_ends, stops_of, unused_states};
+ghost use Rattle.model_review.specs.Findings.{dry_sides, hidden_flows, hidden_link, model_findings, never_out, never_states, no_links, no_sources, nowhere_out, of_components, open_ends, stops_of, text_findings, unused_states};
+ghost use Rattle.event_rates.specs.Unused.{unused_rates};
+ghost use Rattle.unread_parts.specs.Root.{root_implementations};
+ghost use Rattle.unread_parts.specs.Unread.{unread_parts};
+ghost use Rattle.unread_parts.specs.declared.unread.What.TheVariants as what;
 ghost use Rattle.model_review.specs.Told.{AreFindings};
-ghost use Rattle.model_review.specs.declared.finding.Finding.TheVariants.{NoLink};
+ghost use Rattle.model_review.specs.declared.finding.Finding.TheVariants.{InModes, NoLink, StrayRate, TypeRoot, UnreadBinding};
 
 use crate::ends::{DrySides, Linked, NoSources, OpenEnds};
 use crate::finding::Finding;
@@ -16,10 +20,12 @@ use crate::states::{HiddenTransitions, NeverInState, UnusedStates};
 use crate::told::add_told;
 use crate::view::View;
 use crate::walks::{AtPoints, AtStates, add_of_component, add_of_components, add_of_links};
+use event_rates::{UnusedRate, unused_rates};
 use model_facts::points_of_models;
-use plain_values::{List, Mem};
+use plain_values::{List, Mem, Name, copied};
 use propagation_links::{Unlinked, find_unlinked};
 use std::alloc::Global;
+use unread_parts::{Part, What, root_implementations, unread_parts};
 
 /// What is told of a model, in order.
 pub(crate) fn findings(alloc: Global, view: &View) -> Mem<List<Finding>>
@@ -55,7 +61,8 @@ fn add_hidden(alloc: Global, found: &mut List<Finding>, view: &View) -> Mem<()>
     add_of_links(alloc, found, view, &HiddenLinks)
 }
 
-/// Adds where errors stop, where they lead nowhere, where they come from outside, what never comes about, and states that nothing looks at.
+/// Adds where errors stop, where they lead nowhere, where they come from outside, what never comes about, and states and text that nothing
+/// looks at.
 fn add_ends(alloc: Global, found: &mut List<Finding>, view: &View) -> Mem<()>
     ensures { OnOk result (found.new ≡ found.old
         ++ (of_components view.now (stops_of view.now)
@@ -66,14 +73,16 @@ fn add_ends(alloc: Global, found: &mut List<Finding>, view: &View) -> Mem<()>
         ++ (of_components view.now (no_sources view.now)
         ++ (of_components view.now (never_out view.now)
         ++ (never_states view.now (model_at view.now.numbered.assembly 0)
-        ++ of_components view.now (unused_states view.now)))))))))) }
+        ++ (of_components view.now (unused_states view.now)
+        ++ text_findings view.now)))))))))) }
 {
     add_of_components(alloc, found, view, &AtPoints(Stops))?;
     add_of_components(alloc, found, view, &AtPoints(NowhereOut))?;
     add_no_links(alloc, found, view)?;
     add_inward(alloc, found, view)?;
     add_of_components(alloc, found, view, &AtPoints(NeverOut))?;
-    add_states(alloc, found, view)
+    add_states(alloc, found, view)?;
+    add_text(alloc, found, view)
 }
 
 /// Adds the sides that errors enter from outside, those to which none comes, and those without a source.
@@ -114,6 +123,82 @@ fn add_unlinked(found: &mut List<Finding>, unlinked: &[Unlinked]) -> Mem<()>
 {
     for one in unlinked {
         found.push(Finding::NoLink(*one))?;
+    }
+    Ok(())
+}
+
+/// Adds what stands in modes, the bindings that are not read, the rates that are said of no event, and the implementations of a root that is a
+/// component type.
+fn add_text(alloc: Global, found: &mut List<Finding>, view: &View) -> Mem<()>
+    ensures { OnOk result (found.new ≡ found.old ++ text_findings view.now) }
+{
+    add_in_modes(alloc, found, view)?;
+    add_unread_bindings(alloc, found, view)?;
+    add_unused_rates(alloc, found, view)?;
+    add_of_type_root(alloc, found, view)
+}
+
+fn add_in_modes(alloc: Global, found: &mut List<Finding>, view: &View) -> Mem<()>
+    ensures { OnOk result (found.new ≡ found.old ++ map InModes (unread_parts what.InModes view.now.numbered.assembly.instance)) }
+{
+    let parts = unread_parts(alloc, What::InModes, view.instance())?;
+    add_modal(alloc, found, parts.items())
+}
+
+fn add_unread_bindings(alloc: Global, found: &mut List<Finding>, view: &View) -> Mem<()>
+    ensures { OnOk result (found.new ≡ found.old ++ map UnreadBinding (unread_parts (what.Unread view.now.numbered.assembly.types.profile) view.now.numbered.assembly.instance)) }
+{
+    let what = What::Unread(view.assembly().types().profile());
+    let parts = unread_parts(alloc, what, view.instance())?;
+    add_unread(alloc, found, parts.items())
+}
+
+fn add_unused_rates(alloc: Global, found: &mut List<Finding>, view: &View) -> Mem<()>
+    ensures { OnOk result (found.new ≡ found.old ++ map StrayRate (unused_rates view.now.numbered.assembly.instance view.now.system.events)) }
+{
+    let rates = unused_rates(alloc, view.instance(), view.system().event_infos())?;
+    add_rates(alloc, found, rates.items())
+}
+
+fn add_of_type_root(alloc: Global, found: &mut List<Finding>, view: &View) -> Mem<()>
+    ensures { OnOk result (found.new ≡ found.old ++ map TypeRoot (root_implementations view.now.numbered.assembly.instance)) }
+{
+    let names = root_implementations(alloc, view.instance())?;
+    add_implementations(alloc, found, names.items())
+}
+
+fn add_modal(alloc: Global, found: &mut List<Finding>, parts: &[Part]) -> Mem<()>
+    ensures { OnOk result (found.new ≡ found.old ++ map InModes parts.now) }
+{
+    for part in parts {
+        found.push(Finding::InModes(part.again(alloc)?))?;
+    }
+    Ok(())
+}
+
+fn add_unread(alloc: Global, found: &mut List<Finding>, parts: &[Part]) -> Mem<()>
+    ensures { OnOk result (found.new ≡ found.old ++ map UnreadBinding parts.now) }
+{
+    for part in parts {
+        found.push(Finding::UnreadBinding(part.again(alloc)?))?;
+    }
+    Ok(())
+}
+
+fn add_rates(alloc: Global, found: &mut List<Finding>, rates: &[UnusedRate]) -> Mem<()>
+    ensures { OnOk result (found.new ≡ found.old ++ map StrayRate rates.now) }
+{
+    for rate in rates {
+        found.push(Finding::StrayRate(rate.again(alloc)?))?;
+    }
+    Ok(())
+}
+
+fn add_implementations(alloc: Global, found: &mut List<Finding>, names: &[Name]) -> Mem<()>
+    ensures { OnOk result (found.new ≡ found.old ++ map TypeRoot names.now) }
+{
+    for name in names {
+        found.push(Finding::TypeRoot(copied(alloc, name.items())?))?;
     }
     Ok(())
 }

@@ -1,0 +1,51 @@
+-- The rates of a model that are said of no event.
+use Rattle.std.specs.Prelude.{ℕ, Bool, cond, not, List, [], ◌++◌, filter, flat_map, map}
+use Rattle.std.specs.List.{list_any}
+use Rattle.aadl_syntax.specs.declared.error_model.Association.{Association}
+use Rattle.fault_system.specs.declared.formula.EventInfo.{EventInfo}
+use Rattle.plain_values.specs.Numbered.{numbered_from}
+use Rattle.package_index.specs.Names.{is_same_name}
+use Rattle.component_extension.specs.declared.effective.Effective.{Effective}
+use Rattle.error_models.specs.Below.{machine_of}
+use Rattle.instantiator.specs.declared.path.Component.{Component}
+use Rattle.instantiator.specs.Whole.{Instance, effective_in}
+use Rattle.event_rates.specs.Associations.{clause_associations, is_distribution, machine_associations, path_in}
+use Rattle.event_rates.specs.declared.unused.UnusedRate.{UnusedRate}
+
+-- the whole name of an event: the path of its component, and then its key
+abbrev pub whole_name : Instance → EventInfo → List (List ℕ)
+whole_name instance event = path_in instance event.owner ++ event.key
+
+-- the whole names of events
+abbrev pub whole_names : Instance → List EventInfo → List (List (List ℕ))
+whole_names instance events = map (whole_name instance) events
+
+-- whether a name is among names
+abbrev pub is_one_of : List (List (List ℕ)) → List (List ℕ) → Bool
+is_one_of names name = list_any (λ other. is_same_name other name) names
+
+-- the targets of an association of rates that name no event, from the component of this path on
+abbrev pub unused_targets : List (List (List ℕ)) → List (List ℕ) → Association → List (List (List ℕ))
+unused_targets names path association = cond (is_distribution association.name) (filter (λ target. not (is_one_of names (path ++ target))) association.targets) []
+
+-- those of some associations
+abbrev pub unused_among : List (List (List ℕ)) → List (List ℕ) → List Association → List (List (List ℕ))
+unused_among names path associations = flat_map (unused_targets names path) associations
+
+-- those of the clauses of a component, and then of its machine
+abbrev pub unused_in : List (List (List ℕ)) → Instance → ℕ → List (List (List ℕ))
+unused_in names instance number =
+    unused_among names (path_in instance number) (clause_associations (effective_in instance number))
+    ++ unused_among names (path_in instance number) (machine_associations (machine_of instance.packages (effective_in instance number)))
+
+-- targets, of the component of a number
+abbrev pub rates_at : ℕ → List (List (List ℕ)) → List UnusedRate
+rates_at number targets = map (λ target. record { component = number; target = target }) targets
+
+-- those of the component of a number
+abbrev pub unused_at : List (List (List ℕ)) → Instance → ℕ → Component → List UnusedRate
+unused_at names instance number component = rates_at number (unused_in names instance number)
+
+-- The targets of associations of rates that name no event of a model, one component after the other (EMV2: `OccurrenceDistribution`).
+abbrev pub unused_rates : Instance → List EventInfo → List UnusedRate
+unused_rates instance events = numbered_from (unused_at (whole_names instance events) instance) 0 instance.components

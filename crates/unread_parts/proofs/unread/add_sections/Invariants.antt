@@ -1,0 +1,6 @@
+use Rattle.std.proofs.Common.{◌≡◌, ◌++◌, flat_map, take}
+use Rattle.unread_parts.specs.Unread.{told_section}
+use Rattle.unread_parts.proofs.unread.add_sections.Given as goal
+
+abbrev pub invariant-loop-section : goal.invariant-loop-section
+invariant-loop-section l = l.names ≡ l.fn.names ++ flat_map (told_section l.what) (take l.section-index l.sections)

@@ -1,0 +1,6 @@
+use Rattle.std.proofs.Common.{◌≡◌, ◌++◌, flat_map, take}
+use Rattle.unread_parts.specs.Unread.{modal_subcomponent}
+use Rattle.unread_parts.proofs.unread.add_subcomponents.Given as goal
+
+abbrev pub invariant-loop-member : goal.invariant-loop-member
+invariant-loop-member l = l.names ≡ l.fn.names ++ flat_map modal_subcomponent (take l.member-index l.members)
