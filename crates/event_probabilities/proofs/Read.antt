@@ -9,13 +9,14 @@ use Rattle.decimals.specs.declared.numeral.Numeral.{Numeral}
 use Rattle.decimals.specs.Decimals.{parts}
 use Rattle.decimals.specs.Numerals.{Number}
 use Rattle.decimals.specs.Decimals.{number_parts, decimal_parts}
+use Rattle.decimals.specs.inner.Decimals.{IsNear}
 use Rattle.decimals.specs.inner.Figures.{IsRead, IsReadAs}
 use Rattle.property_reader.specs.declared.rate.RateKind.{RateKind}
 use Rattle.property_reader.specs.declared.rate.RateKind.TheVariants.{Prob}
 use Rattle.probabilities.specs.declared.rates.Rate.{Rate}
 use Rattle.event_probabilities.specs.declared.finding.Found.{Found}
 use Rattle.event_probabilities.specs.declared.finding.Found.TheVariants.{NoProbability}
-use Rattle.event_probabilities.specs.EventRates.{IsProbabilityRate, IsUnknown, IsFound}
+use Rattle.event_probabilities.specs.EventRates.{IsAboveOne, IsProbabilityRate, IsUnknown, IsFound}
 
 pub ten_pos : (k : ℕ) → 0 < 10 ^ k
 ten_pos k = let h = one-le-pow k 10 (omega arith) in omega arith
@@ -61,9 +62,23 @@ pub above_found : (whole : ℕ) (number : Number) (high : Decimal) (result : Opt
     → 10 ^ number.lowered < number.digits * 10 ^ number.raised
 above_found whole number high result is same above = above_read whole number high (rw is at same) above
 
+-- and one of more digits, which is near its upper bound
+pub above_near : (whole : ℕ) (number : Number) (high : Decimal) → IsNear (decimal_parts number high) (number_parts whole number) → 10 ^ whole < parts high
+    → 10 ^ number.lowered * 100000000000000000 < number.digits * 10 ^ number.raised * 100000000000000001
+above_near whole number high near above =
+    let e = parts_split number.digits number.raised whole in
+    let more : 10 ^ whole + 1 ≤ parts high = omega (arith, above) in
+    let h : (10 ^ whole + 1) * 10 ^ number.lowered ≤ parts high * 10 ^ number.lowered = mul-le-mul_right (10 ^ number.lowered) more in
+    let p = ten_pos number.lowered in
+    less_than whole (10 ^ number.lowered * 100000000000000000) (number.digits * 10 ^ number.raised * 100000000000000001) (omega arith)
+
+pub near_found : (whole : ℕ) (number : Number) (high : Decimal) (result : Option Decimal) → result ≡ Some high → IfSome result (λ x. IsNear (decimal_parts number x) (number_parts whole number)) → 10 ^ whole < parts high
+    → 10 ^ number.lowered * 100000000000000000 < number.digits * 10 ^ number.raised * 100000000000000001
+near_found whole number high result is near above = above_near whole number high (rw is at near) above
+
 -- nothing is known of a number that is no probability
 pub unrated : (whole : ℕ) (number : Number) (hours : Option Number) (found : Found) (rate : Rate) → found ≡ NoProbability → IsUnknown whole rate
-    → (number.digits ≤ 999999999999999999 → number.lowered ≤ number.raised + whole → 10 ^ number.lowered < number.digits * 10 ^ number.raised) → IsFound whole Prob (Some number) hours found rate
+    → IsAboveOne whole number → IsFound whole Prob (Some number) hours found rate
 unrated whole number hours found rate is unknown above = rw is (unknown, above)
 
 -- a number that is more than any decimal
@@ -75,6 +90,13 @@ great_read whole number great =
     let q = ten_pos whole in
     let r : 1 * 10 ^ whole ≤ 10 ^ number.lowered * 10 ^ whole = mul-le-mul_right (10 ^ whole) p in
     less_than whole (10 ^ number.lowered) (number.digits * 10 ^ number.raised) (omega arith)
+
+pub great_near : (whole : ℕ) (number : Number) → 10 ^ number.lowered * 10 ^ (whole + 1) ≤ number_parts whole number
+    → 10 ^ number.lowered * 100000000000000000 < number.digits * 10 ^ number.raised * 100000000000000001
+great_near whole number great = let less = great_read whole number great in omega arith
+
+pub great_above : (whole : ℕ) (number : Number) → 10 ^ number.lowered * 10 ^ (whole + 1) ≤ number_parts whole number → IsAboveOne whole number
+great_above whole number great = record { exact = λ few fit. great_read whole number great; near = λ fit. great_near whole number great }
 
 -- the number that a text is
 pub found_of : (whole : ℕ) (kind : RateKind) (text : Option Number) (number : Numeral) (hours : Option Number) (found : Found) (rate : Rate) → IsReadAs text (Some number)

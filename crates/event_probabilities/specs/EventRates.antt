@@ -50,10 +50,16 @@ IsRated whole Prob (Some number) hours rate = IsProbabilityRate whole number rat
 IsRated whole Lambda (Some number) None rate = ⊥
 IsRated whole Lambda (Some number) (Some hours) rate = IsLambdaRate whole number hours rate
 
--- a text is no number that is read, or is no probability: it is more than 1, as far as it has 18 digits at most
+-- A number is more than 1, where it has 18 digits at most; one of more digits is, or lacks less than one in the 17th digit. Both are said
+-- where the whole has room for its places.
+pub record IsAboveOne (whole : ℕ) (number : Number) : Type 0 where
+  pub exact : number.digits ≤ 999999999999999999 → number.lowered ≤ number.raised + whole → 10 ^ number.lowered < number.digits * 10 ^ number.raised
+  pub near : number.lowered ≤ number.raised + whole → 10 ^ number.lowered * 100000000000000000 < number.digits * 10 ^ number.raised * 100000000000000001
+
+-- a text is no number that is read, or is no probability, since it is above 1
 abbrev pub IsNoProbability : ℕ → RateKind → Option Number → Type 0
 IsNoProbability whole kind None = Unit {0}
-IsNoProbability whole Prob (Some number) = number.digits ≤ 999999999999999999 → number.lowered ≤ number.raised + whole → 10 ^ number.lowered < number.digits * 10 ^ number.raised
+IsNoProbability whole Prob (Some number) = IsAboveOne whole number
 IsNoProbability whole Lambda (Some number) = ⊥
 
 -- What is found of an event whose rate is of this kind, with this number, if it is one, within so many hours, if these are given.

@@ -1,5 +1,5 @@
 -- The bounds of families that are near, from those of their parts.
-use Rattle.std.proofs.Common.{ℕ, ◌+◌, ◌*◌, ◌^◌, ◌≤◌, ◌<◌, ◌≡◌, subst, arith}
+use Rattle.std.proofs.Common.{ℕ, ◌+◌, ◌*◌, ◌^◌, ◌≤◌, ◌<◌, ◌≡◌, min, subst, arith}
 use Rattle.std.proofs.Math.Nat.{le_of_mul-le-mul_left, mul-le-mul_left, mul-le-mul_right, mul-le-mul}
 use Rattle.decimals.specs.Decimals.{AreNear}
 use Rattle.decimals.proofs.Nearness.{near_then, near_times, near_plus, near_cancel, near_scale}
@@ -18,6 +18,13 @@ above_near s a b x y r one other sum =
     let k : AreNear 1 (s * r) (s * (x + y)) = near_scale 1 s r (x + y) sum in
     let e : s * (x + y) ≡ s * x + s * y = omega arith in
     near_then 1 1 (s * r) (s * x + s * y) (a + b) (subst (λ n. AreNear 1 (s * r) n) e k) h
+
+-- it stays near where it is cut off
+pub within_near : (s n x r : ℕ) → AreNear 2 (s * x) n → r ≡ min x s → AreNear 2 (s * r) n
+within_near s n x r near same =
+    let less : s * r ≤ s * x = mul-le-mul_left s (omega (arith, same)) in
+    let h : s * r * 100000000000000000 ^ 2 ≤ s * x * 100000000000000000 ^ 2 = mul-le-mul_right (100000000000000000 ^ 2) less in
+    omega (arith, h, near)
 
 -- the bounds of a family from those of its parts
 pub family_near : (s hn h ln l ul uh ll lh ru rd u m : ℕ) → 0 < s → AreNear 2 (s * ru) (hn * ul + h * uh) → AreNear 2 (ln * ll + l * lh) (s * rd)

@@ -1,5 +1,5 @@
 -- One step of the bounds, in plain numbers.
-use Rattle.std.proofs.Common.{min, inl, inr, ℕ, ◌+◌, ◌*◌, ◌≤◌, ◌<◌, ◌-◌, ◌≡◌, arith}
+use Rattle.std.proofs.Common.{min, inl, inr, ℕ, ◌+◌, ◌*◌, ◌≤◌, ◌<◌, ◌-◌, ◌≡◌, subst, sym, arith}
 use Rattle.std.proofs.Math.Nat.{le_of_mul-le-mul_left, mul-le-mul_left, mul-le-mul_right}
 use Rattle.std.specs.Prelude.{◌⊎◌}
 use Rattle.std.proofs.lemmas.Bool.{cases_lt}
@@ -74,3 +74,11 @@ sum_up s a b x y r ha hb hr = at (cases_lt (x + y) s)
         let h3 : s * (x + y) ≤ s * r = mul-le-mul_left s (omega arith) in
         omega arith
     at (inr more) = let h : s * s ≤ s * r = mul-le-mul_left s (omega arith) in omega arith
+
+-- and cut off at the whole
+pub sum_within_up : (s n x r : ℕ) → min (s * s) n ≤ s * x → r ≡ min x s → min (s * s) n ≤ s * r
+sum_within_up s n x r up same = at (cases_lt x s)
+  where
+    at : (x < s) ⊎ (s ≤ x) → min (s * s) n ≤ s * r
+    at (inl less) = let e : r ≡ x = omega (arith, same) in subst (λ k. min (s * s) n ≤ s * k) (sym e) up
+    at (inr more) = let e : r ≡ s = omega (arith, same) in subst (λ k. min (s * s) n ≤ s * k) (sym e) (omega arith)

@@ -27,15 +27,16 @@ fn lower_step(rate: Rate, lo: Decimal, hi: Decimal, whole: u32) -> Decimal
     without.plus_down(with, whole)
 }
 
-/// An upper bound of a family, from those of its first event, of the event's absence and of its parts.
+/// An upper bound of a family, from those of its first event, of the event's absence and of its parts. It is the whole at most.
 fn upper_step(rate: Rate, lo: Decimal, hi: Decimal, whole: u32) -> Decimal
+    ensures most { parts result ≤ 10 ^ whole }
     ensures up { min (10 ^ whole * 10 ^ whole) (parts rate.high_not * parts lo + parts rate.high * parts hi) ≤ 10 ^ whole * parts result }
     ensures near { (p q : ℕ) → HasPlaces whole p rate.high_not → HasPlaces whole p rate.high → HasPlaces whole q lo → HasPlaces whole q hi → p + q ≤ whole
         → IsNearAbove whole (p + q) (parts rate.high_not * parts lo + parts rate.high * parts hi) result }
 {
     let without = rate.high_not.times_up(lo, whole);
     let with = rate.high.times_up(hi, whole);
-    without.plus_up(with, whole)
+    without.plus_up(with, whole).within(whole)
 }
 
 /// The bounds of a family from those of its parts at its first event.

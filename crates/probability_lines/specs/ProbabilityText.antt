@@ -8,7 +8,8 @@ use Rattle.event_probabilities.specs.declared.finding.Found.TheVariants.{Rated, 
 use Rattle.probability_lines.specs.declared.line.Line.{Line}
 use Rattle.probability_lines.specs.declared.line.Line.TheVariants.{Hours, Unrated, Large, AtLeast, AtMost, Event, End}
 
--- why an event has no probability: nothing is said where hours are missing
+-- why an event has no probability: its number is none that is read, or no probability, or no hours are given; of one without a rate nothing
+-- more is said
 abbrev pub reason_text : Found → List ℕ
 reason_text Rated = []
 reason_text WithoutRate = []

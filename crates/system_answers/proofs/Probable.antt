@@ -175,6 +175,7 @@ module _ (system : System) (is : IsSystem system) (target : ℕ) (family : Famil
   bound_target whole rates bounds right = record {
     lower = λ d m within. subst (λ w. parts bounds.lower * d ^ length system.events ≤ w * 10 ^ whole) (weights d m) (right.lower d m (length system.events) 0 within (omega arith) (omega arith));
     upper = λ d m within. subst (λ w. w * 10 ^ whole ≤ parts bounds.upper * d ^ length system.events) (weights d m) (right.upper d m (length system.events) 0 within (omega arith) (omega arith));
+    most = right.most;
   }
 
   sharp_target : (whole places : ℕ) (rates : Rates) (bounds : Bounds) → AreSharp whole places rates (length system.events) family bounds → AreSharpFor whole system target rates bounds

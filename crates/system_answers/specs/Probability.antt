@@ -74,10 +74,11 @@ abbrev pub times_held : System → ℕ → ℕ → (ℕ → ℕ) → ℕ
 times_held system target d m = weight d m (numbers (length system.events) 0) (holds_under system target)
 
 -- Two decimals bound the probability of a target, whatever those of the events are within their bounds: so many parts of the whole are at
--- most, and at least, how often it holds.
+-- most, and at least, how often it holds; and they are the whole at most.
 pub record BoundTarget (whole : ℕ) (system : System) (target : ℕ) (rates : Rates) (bounds : Bounds) : Type 0 where
   pub lower : (d : ℕ) (m : ℕ → ℕ) → IsWithin (10 ^ whole) rates d m → parts bounds.lower * d ^ length system.events ≤ times_held system target d m * 10 ^ whole
   pub upper : (d : ℕ) (m : ℕ → ℕ) → IsWithin (10 ^ whole) rates d m → times_held system target d m * 10 ^ whole ≤ parts bounds.upper * d ^ length system.events
+  pub most : parts bounds.upper ≤ 10 ^ whole
 
 -- The lower one is near to the probability where each event occurs as seldom as it may, and the upper one to that where each occurs as often:
 -- by three units of the 17th digit for each event of the system.

@@ -1,5 +1,5 @@
 -- Decimals that bound the probability of a family of a store.
-use Rattle.std.specs.Prelude.{ℕ, ◌^◌, ◌<◌, ◌≡◌, List, [], ◌∷◌, length, slice_get, Some}
+use Rattle.std.specs.Prelude.{ℕ, ◌^◌, ◌<◌, ◌≤◌, ◌≡◌, List, [], ◌∷◌, length, slice_get, Some}
 use Rattle.decimals.specs.declared.decimal.Decimal.{Decimal}
 use Rattle.decimals.specs.Decimals.{parts}
 use Rattle.zdd_store.specs.inner.Family.{Family, least_number}
@@ -10,10 +10,11 @@ use Rattle.probabilities.specs.inner.Rates.{AreRates}
 use Rattle.probabilities.specs.inner.Bounded.{AreParts, IsLowerBound, IsUpperBound}
 use Rattle.probabilities.specs.Decided.{FitsWhole}
 
--- the two decimals bound the probability of a family
+-- the two decimals bound the probability of a family, and neither says more than the whole
 pub record AreBoundsOf (whole : ℕ) (rates : Rates) (end : ℕ) (family : Family) (bounds : Bounds) : Type 0 where
   pub lower : IsLowerBound (10 ^ whole) rates end family (parts bounds.lower)
   pub upper : IsUpperBound (10 ^ whole) rates end family (parts bounds.upper)
+  pub most : parts bounds.upper ≤ 10 ^ whole
 
 -- each rate of the list does so
 abbrev pub FitWhole : ℕ → List Rate → Type 0

@@ -1,24 +1,27 @@
 use Rattle.std.proofs.Common.{◌+◌, arith}
 use Rattle.event_probabilities.proofs.Narrow.{prob_narrow}
-use Rattle.event_probabilities.proofs.Read.{rate_read, unrated, above_found, great_read}
+use Rattle.event_probabilities.proofs.Read.{rate_read, unrated, above_found, near_found, great_above}
 use Rattle.event_probabilities.proofs.rating.prob_rate.Goals as goal
 
 pub returns-in_default-clause-found : goal.returns-in_default-clause-found
 returns-in_default-clause-found c read hours is =
     unrated c.args.whole read hours c.without.result.found c.without.result.rate c.without.ensures.found c.without.ensures.unknown
-    (λ few fit. great_read c.args.whole read (c.up.ensures.none read (c.args.whole + 1) is c.in_default.is (omega (arith, c.requires))))
+    (great_above c.args.whole read (c.up.ensures.none read (c.args.whole + 1) is c.in_default.is (omega (arith, c.requires))))
 
 pub returns-then-not-is_part-clause-found : goal.returns-then-not-is_part-clause-found
 returns-then-not-is_part-clause-found c read hours is =
     let w = c.without-then-not-is_part in
     unrated c.args.whole read hours w.result.found w.result.rate w.ensures.found w.ensures.unknown
-    (λ few fit. above_found c.args.whole read c.in-Some.high c.up.result c.in-Some.is (c.up.ensures.exact read is few fit) (c.is_part.ensures.above c.if-not-is_part.true))
+    (record {
+      exact = λ few fit. above_found c.args.whole read c.in-Some.high c.up.result c.in-Some.is (c.up.ensures.exact read is few fit) (c.is_part.ensures.above c.if-not-is_part.true);
+      near = λ fit. near_found c.args.whole read c.in-Some.high c.up.result c.in-Some.is (c.up.ensures.near read is fit) (c.is_part.ensures.above c.if-not-is_part.true);
+    })
 
 pub returns-in_default-down-clause-found : goal.returns-in_default-down-clause-found
 returns-in_default-down-clause-found c read hours is =
     let w = c.without-in_default-down in
     unrated c.args.whole read hours w.result.found w.result.rate w.ensures.found w.ensures.unknown
-    (λ few fit. great_read c.args.whole read (c.down.ensures.none read (c.args.whole + 1) is c.in_default-down.is (omega (arith, c.requires))))
+    (great_above c.args.whole read (c.down.ensures.none read (c.args.whole + 1) is c.in_default-down.is (omega (arith, c.requires))))
 
 pub returns-clause-found : goal.returns-clause-found
 returns-clause-found c read hours is =

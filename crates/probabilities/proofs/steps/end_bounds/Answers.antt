@@ -16,6 +16,7 @@ returns-then-id-eq0-clause-bounds c =
       all = λ rates right every. record {
         lower = subst (λ f. IsLowerBound s rates end f 0) (sym is) (lower-none s rates end);
         upper = subst (λ f. IsUpperBound s rates end f 0) (sym is) (upper-none s rates end);
+        most = omega arith;
       };
       narrow = λ places units narrow fit. record { within = omega arith; lower_places = inl refl; upper_places = inl refl; near = near_same _ 0 };
       sharp = none_sharp c.args.whole c.args.rates.now (family_of c.args.store.now c.args.id) _ is (omega arith) (omega arith) (λ places. inl refl) (λ places. inl refl);
@@ -31,6 +32,7 @@ returns-clause-bounds c =
       all = λ rates right every. record {
         lower = subst (λ f. IsLowerBound s rates end f (1 * s)) (sym is) (lower-full s rates end (1 * s) (omega arith));
         upper = subst (λ f. IsUpperBound s rates end f (1 * s)) (sym is) (upper-full s rates end (1 * s) (omega arith));
+        most = omega arith;
       };
       narrow = λ places units narrow fit. record { within = omega arith; lower_places = inr (omega arith); upper_places = inr (omega arith); near = near_same _ (1 * s) };
       sharp = full_sharp c.args.whole c.args.rates.now (family_of c.args.store.now c.args.id) _ is (omega arith) (omega arith) (λ places. inr (omega arith)) (λ places. inr (omega arith));

@@ -15,6 +15,7 @@ returns-clause-bounds c rates end event family low high h =
           (rw (h.rated.low_not, h.rated.low) c.lower_step.ensures.down);
       upper = upper-node (10 ^ w) rates end family event low high _ _ _ some h.right h.inside h.top h.parts h.lo_bounds.upper h.hi_bounds.upper
           (rw (h.rated.high_not, h.rated.high) c.upper_step.ensures.up);
+      most = c.upper_step.ensures.most;
     }
 
 pub returns-clause-narrow : goal.returns-clause-narrow
