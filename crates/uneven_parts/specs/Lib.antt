@@ -1,0 +1,3 @@
+pub mod TwoWays
+pub mod Unlike
+pub mod inner

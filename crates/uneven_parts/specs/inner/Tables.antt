@@ -1,0 +1,40 @@
+-- What sets of links and of likenesses know.
+use Rattle.std.specs.Prelude.{◌≡◌, ℕ, Bool, ◌&&◌, nat_eq, List}
+use Rattle.std.specs.List.{list_any}
+use Rattle.propagation_links.specs.declared.link.Link.{Link}
+use Rattle.model_facts.specs.inner.Tables.{SideKey, same_side_key}
+use Rattle.uneven_parts.specs.Unlike.{Likeness, same_likeness}
+
+-- the key of a way: a side, and a component
+abbrev pub WayKey : Type 0
+WayKey = SideKey × ℕ
+
+abbrev pub same_way_key : WayKey → WayKey → Bool
+same_way_key a b = same_side_key a.0 b.0 && nat_eq a.1 b.1
+
+-- the key of a link: its sides
+abbrev pub LinkKey : Type 0
+LinkKey = SideKey × SideKey
+
+abbrev pub same_link_key : LinkKey → LinkKey → Bool
+same_link_key a b = same_side_key a.0 b.0 && same_side_key a.1 b.1
+
+-- The key of the way of a link.
+abbrev pub way_key : Link → WayKey
+way_key link = ((link.from.component, link.from.point, link.from.outward), link.to.component)
+
+-- The key of a link.
+abbrev pub link_key : Link → LinkKey
+link_key link = ((link.from.component, link.from.point, link.from.outward), (link.to.component, link.to.point, link.to.outward))
+
+-- The set has the ways of these links, and no other.
+abbrev pub KnowsWays : List Link → (WayKey → Bool) → Type 0
+KnowsWays links has = (key : WayKey) → has key ≡ list_any (λ link. same_way_key (way_key link) key) links
+
+-- The set has these links, and no other.
+abbrev pub KnowsLinks : List Link → (LinkKey → Bool) → Type 0
+KnowsLinks links has = (key : LinkKey) → has key ≡ list_any (λ link. same_link_key (link_key link) key) links
+
+-- The set has these likenesses, and no other.
+abbrev pub KnowsLikenesses : List Likeness → (Likeness → Bool) → Type 0
+KnowsLikenesses known has = (key : Likeness) → has key ≡ list_any (λ one. same_likeness one key) known
