@@ -20,6 +20,8 @@ use Rattle.error_behavior.specs.declared.steps.Step.{Step}
 use Rattle.error_models.specs.declared.model.ErrorModel.{ErrorModel}
 use Rattle.instantiator.specs.Whole.{effective_in}
 use Rattle.event_rates.specs.Unused.{unused_rates}
+use Rattle.uneven_parts.specs.TwoWays.{two_ways}
+use Rattle.uneven_parts.specs.Unlike.{unlike_states}
 use Rattle.unread_parts.specs.Root.{root_implementations}
 use Rattle.unread_parts.specs.Unread.{unread_parts}
 use Rattle.unread_parts.specs.declared.unread.What.TheVariants as what
@@ -31,7 +33,7 @@ use Rattle.model_facts.specs.Facts.{inward_of, is_linked, outward_of}
 use Rattle.fact_formulas.specs.Formulas.{end_of}
 use Rattle.model_review.specs.Seen.{Seen, declared_for, is_lost_event, is_lost_fact, is_used, may_come, number_at, side_in, source_number, state_number, states_of, stops, types_in}
 use Rattle.model_review.specs.declared.finding.Finding.{Finding}
-use Rattle.model_review.specs.declared.finding.Finding.TheVariants.{Dry, GoesNowhere, HiddenLink, HiddenPath, HiddenSource, HiddenTransitions, InModes, Never, NeverState, NoLink, NoSource, NotDeclared, Open, StopsHere, StrayRate, TypeRoot, UnreadBinding, UnusedState}
+use Rattle.model_review.specs.declared.finding.Finding.TheVariants.{Dry, GoesNowhere, HiddenLink, HiddenPath, HiddenSource, HiddenTransitions, InModes, Never, NeverState, NoLink, NoSource, NotDeclared, Open, StopsHere, StrayRate, TwoWays, TypeRoot, Unlike, UnreadBinding, UnusedState}
 use Rattle.model_review.specs.declared.finding.TypesAt.{TypesAt}
 
 -- types at a side
@@ -190,6 +192,10 @@ nowhere_out seen owner model = numbered_from (nowhere_at seen owner) 0 model.poi
 abbrev pub no_links : Seen → List Finding
 no_links seen = map NoLink (unlinked_of seen.numbered.assembly.instance (points_in seen.numbered.assembly.models))
 
+-- the same, and then each link by which a side leads to a further side of a component to which it leads already
+abbrev pub ways_told : Seen → List Finding
+ways_told seen = no_links seen ++ map TwoWays (two_ways seen.numbered.assembly.links)
+
 -- ---- open ends
 
 -- A point is told with the types that are declared for its inward side, if no link leads there.
@@ -292,6 +298,16 @@ unused_state seen owner model state = cond (is_unused_state seen owner model sta
 abbrev pub unused_states : Seen → ℕ → ErrorModel → List Finding
 unused_states seen owner model = flat_map (unused_state seen owner model) (numbers_below (length (all_variants model.states.sorts)))
 
+-- ---- states
+
+-- What is told of states: those of the root in which it never is, those of parts that occur in no formula, and those of parts at which the
+-- component around them does not look, though it looks at the same state of a part of the same kind.
+abbrev pub states_told : Seen → List Finding
+states_told seen =
+    never_states seen (model_at seen.numbered.assembly 0)
+    ++ (of_components seen (unused_states seen)
+    ++ map Unlike (unlike_states seen.numbered.assembly.instance seen.system seen.numbered.facts))
+
 -- ---- text that is not looked at
 
 -- What is told of the text: what stands in modes, the bindings that the profile of the model does not read, the rates that are said of no event,
@@ -316,11 +332,10 @@ model_findings seen =
     ++ (flat_map (not_declared seen) seen.numbered.assembly.links
     ++ (of_components seen (stops_of seen)
     ++ (of_components seen (nowhere_out seen)
-    ++ (no_links seen
+    ++ (ways_told seen
     ++ (of_components seen (open_ends seen)
     ++ (of_components seen (dry_sides seen)
     ++ (of_components seen (no_sources seen)
     ++ (of_components seen (never_out seen)
-    ++ (never_states seen (model_at seen.numbered.assembly 0)
-    ++ (of_components seen (unused_states seen)
-    ++ text_findings seen)))))))))))))
+    ++ (states_told seen
+    ++ text_findings seen))))))))))))

@@ -2,7 +2,7 @@ ghost use Rattle.std.specs.Prelude.{◌≡◌, ◌++◌, ◌∷◌, ◌==◌, []
 
 use event_rates::UnusedRate;
 use plain_values::{List, Mem, Name};
-use propagation_links::{PointAt, Unlinked};
+use propagation_links::{Link, PointAt, Unlinked};
 use system_review::Loop;
 use unread_parts::Part;
 
@@ -41,6 +41,8 @@ pub enum Finding {
     GoesNowhere(TypesAt),
     /// A connection or a user path gives no link, and types are declared for a point that it names.
     NoLink(Unlinked),
+    /// A side leads to a further side of a component to which it leads already.
+    TwoWays(Link),
     /// These types arrive from outside of the model: they are declared, and no link leads there.
     Open(TypesAt),
     /// These types are declared, and none of them may come along the links that lead there.
@@ -53,6 +55,8 @@ pub enum Finding {
     NeverState(u32),
     /// A component other than the root may be in this state, and nothing looks at it.
     UnusedState(u32, u32),
+    /// A state of a part at which the component around it does not look, though it looks at the same state of a part of the same kind: its fact.
+    Unlike(u32),
     /// A subcomponent, a connection or a binding stands in modes, which are not looked at.
     InModes(Part),
     /// A binding is not read.

@@ -20,7 +20,7 @@ use fault_system::FaultSystem;
 use itoa::Buffer;
 use model_facts::{Assembly, FactKey, FactKind, fact_name};
 use plain_values::{List, Mem, Name};
-use propagation_links::{PointAt, Unlinked};
+use propagation_links::{Link, PointAt, Unlinked};
 use propagation_points::Point;
 use std::alloc::Global;
 use system_review::Loop;
@@ -71,6 +71,7 @@ fn push_text(alloc: Global, text: &mut Vec<u8>, view: &View, finding: &Finding) 
         Finding::StopsHere(at) => push_at(text, b"stops-here ", assembly, at),
         Finding::GoesNowhere(at) => push_at(text, b"goes-nowhere ", assembly, at),
         Finding::NoLink(one) => push_unlinked(text, assembly, *one),
+        Finding::TwoWays(link) => push_ways(text, assembly, *link),
         Finding::Open(at) => push_at(text, b"open ", assembly, at),
         Finding::Dry(at) => push_at(text, b"dry ", assembly, at),
         Finding::NoSource(side) => push_side_at(text, b"no-source ", assembly, *side),
@@ -79,6 +80,7 @@ fn push_text(alloc: Global, text: &mut Vec<u8>, view: &View, finding: &Finding) 
         Finding::UnusedState(owner, state) => {
             push_state(alloc, text, b"unused-state ", assembly, *owner, *state)
         }
+        Finding::Unlike(fact) => push_fact(text, b"unlike ", view.system(), *fact),
         Finding::InModes(part) => push_in_modes(text, assembly, part),
         Finding::UnreadBinding(part) => push_unread(text, assembly, part),
         Finding::StrayRate(rate) => push_rate(text, assembly, rate),
@@ -107,6 +109,21 @@ fn push_other(text: &mut Vec<u8>, assembly: &Assembly, at: &TypesAt, to: PointAt
 {
     push_at(text, b"not-declared ", assembly, at)?;
     push_side_at(text, b" -> ", assembly, to)
+}
+
+/// Adds that a side leads to a further side of a component.
+fn push_ways(text: &mut Vec<u8>, assembly: &Assembly, link: Link) -> Mem<()>
+    ensures { OnOk result (text.new.items ≡ text.old.items ++ (codes "two-ways " ++ (side_text assembly.now link.from ++ (codes " -> " ++ side_text assembly.now link.to)))) }
+{
+    push_side_at(text, b"two-ways ", assembly, link.from)?;
+    push_side_at(text, b" -> ", assembly, link.to)
+}
+
+/// Adds a word and the name of a fact.
+fn push_fact(text: &mut Vec<u8>, word: &[u8], system: &FaultSystem, fact: u32) -> Mem<()>
+    ensures { OnOk result (text.new.items ≡ text.old.items ++ (word.now ++ fact_name system.now fact)) }
+{
+    push_two(text, word, system.fact_name(fact))
 }
 
 /// Adds how many facts depend on one another, and the first of them.

@@ -3,13 +3,15 @@
 ghost use Rattle.std.specs.Prelude.{◌≡◌, ◌++◌, IfOk, OnOk, false, flat_map, length, map, true};
 ghost use Rattle.plain_values.specs.Rising.{RisesWithin};
 ghost use Rattle.model_facts.specs.Assembly.{model_at};
-ghost use Rattle.model_review.specs.Findings.{dry_sides, hidden_flows, hidden_link, model_findings, never_out, never_states, no_links, no_sources, nowhere_out, of_components, open_ends, stops_of, text_findings, unused_states};
+ghost use Rattle.model_review.specs.Findings.{dry_sides, hidden_flows, hidden_link, model_findings, never_out, no_links, no_sources, nowhere_out, of_components, open_ends, states_told, stops_of, text_findings, ways_told};
 ghost use Rattle.event_rates.specs.Unused.{unused_rates};
+ghost use Rattle.uneven_parts.specs.TwoWays.{two_ways};
+ghost use Rattle.uneven_parts.specs.Unlike.{unlike_states};
 ghost use Rattle.unread_parts.specs.Root.{root_implementations};
 ghost use Rattle.unread_parts.specs.Unread.{unread_parts};
 ghost use Rattle.unread_parts.specs.declared.unread.What.TheVariants as what;
 ghost use Rattle.model_review.specs.Told.{AreFindings};
-ghost use Rattle.model_review.specs.declared.finding.Finding.TheVariants.{InModes, NoLink, StrayRate, TypeRoot, UnreadBinding};
+ghost use Rattle.model_review.specs.declared.finding.Finding.TheVariants.{InModes, NoLink, StrayRate, TwoWays, TypeRoot, Unlike, UnreadBinding};
 
 use crate::ends::{DrySides, Linked, NoSources, OpenEnds};
 use crate::finding::Finding;
@@ -23,8 +25,9 @@ use crate::walks::{AtPoints, AtStates, add_of_component, add_of_components, add_
 use event_rates::{UnusedRate, unused_rates};
 use model_facts::points_of_models;
 use plain_values::{List, Mem, Name, copied};
-use propagation_links::{Unlinked, find_unlinked};
+use propagation_links::{Link, Unlinked, find_unlinked};
 use std::alloc::Global;
+use uneven_parts::{two_ways, unlike_states};
 use unread_parts::{Part, What, root_implementations, unread_parts};
 
 /// What is told of a model, in order.
@@ -67,18 +70,17 @@ fn add_ends(alloc: Global, found: &mut List<Finding>, view: &View) -> Mem<()>
     ensures { OnOk result (found.new ≡ found.old
         ++ (of_components view.now (stops_of view.now)
         ++ (of_components view.now (nowhere_out view.now)
-        ++ (no_links view.now
+        ++ (ways_told view.now
         ++ (of_components view.now (open_ends view.now)
         ++ (of_components view.now (dry_sides view.now)
         ++ (of_components view.now (no_sources view.now)
         ++ (of_components view.now (never_out view.now)
-        ++ (never_states view.now (model_at view.now.numbered.assembly 0)
-        ++ (of_components view.now (unused_states view.now)
-        ++ text_findings view.now)))))))))) }
+        ++ (states_told view.now
+        ++ text_findings view.now))))))))) }
 {
     add_of_components(alloc, found, view, &AtPoints(Stops))?;
     add_of_components(alloc, found, view, &AtPoints(NowhereOut))?;
-    add_no_links(alloc, found, view)?;
+    add_ways(alloc, found, view)?;
     add_inward(alloc, found, view)?;
     add_of_components(alloc, found, view, &AtPoints(NeverOut))?;
     add_states(alloc, found, view)?;
@@ -99,14 +101,54 @@ fn add_inward(alloc: Global, found: &mut List<Finding>, view: &View) -> Mem<()>
     add_of_components(alloc, found, view, &AtPoints(sources))
 }
 
-/// Adds the states of the root in which it never is, and those of its parts at which nothing looks.
+/// Adds the states of the root in which it never is, those of its parts at which nothing looks, and those at which the component around them does
+/// not look, though it looks at those of others like them.
 fn add_states(alloc: Global, found: &mut List<Finding>, view: &View) -> Mem<()>
-    ensures { OnOk result (found.new ≡ found.old
-        ++ (never_states view.now (model_at view.now.numbered.assembly 0)
-        ++ of_components view.now (unused_states view.now))) }
+    ensures { OnOk result (found.new ≡ found.old ++ states_told view.now) }
 {
     add_of_component(alloc, found, view, &AtStates(NeverInState), 0)?;
-    add_of_components(alloc, found, view, &AtStates(UnusedStates))
+    add_of_components(alloc, found, view, &AtStates(UnusedStates))?;
+    add_unlike(alloc, found, view)
+}
+
+fn add_unlike(alloc: Global, found: &mut List<Finding>, view: &View) -> Mem<()>
+    ensures { OnOk result (found.new ≡ found.old ++ map Unlike (unlike_states view.now.numbered.assembly.instance view.now.system view.now.numbered.facts)) }
+{
+    let states = unlike_states(alloc, view.instance(), view.system(), view.facts())?;
+    add_alike(found, states.items())
+}
+
+fn add_alike(found: &mut List<Finding>, states: &[u32]) -> Mem<()>
+    ensures { OnOk result (found.new ≡ found.old ++ map Unlike states.now) }
+{
+    for state in states {
+        found.push(Finding::Unlike(*state))?;
+    }
+    Ok(())
+}
+
+/// Adds the connections and user paths without a link, and the links by which a side leads to a further side of one component.
+fn add_ways(alloc: Global, found: &mut List<Finding>, view: &View) -> Mem<()>
+    ensures { OnOk result (found.new ≡ found.old ++ ways_told view.now) }
+{
+    add_no_links(alloc, found, view)?;
+    add_two_ways(alloc, found, view)
+}
+
+fn add_two_ways(alloc: Global, found: &mut List<Finding>, view: &View) -> Mem<()>
+    ensures { OnOk result (found.new ≡ found.old ++ map TwoWays (two_ways view.now.numbered.assembly.links)) }
+{
+    let links = two_ways(alloc, view.links())?;
+    add_links(found, links.items())
+}
+
+fn add_links(found: &mut List<Finding>, links: &[Link]) -> Mem<()>
+    ensures { OnOk result (found.new ≡ found.old ++ map TwoWays links.now) }
+{
+    for link in links {
+        found.push(Finding::TwoWays(*link))?;
+    }
+    Ok(())
 }
 
 fn add_no_links(alloc: Global, found: &mut List<Finding>, view: &View) -> Mem<()>

@@ -95,6 +95,13 @@ impl<'v> View<'v> {
         &self.model.system
     }
 
+    /// The facts, by their keys.
+    pub(crate) fn facts(&self) -> &'v [FactKey]
+        ensures { result.now ≡ self.now.numbered.facts }
+    {
+        self.model.facts.list()
+    }
+
     /// The facts that are effects.
     pub(crate) fn effects(&self) -> &'v [u32]
         ensures { result.now ≡ self.now.effects }

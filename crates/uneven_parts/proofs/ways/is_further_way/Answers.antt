@@ -11,14 +11,14 @@ pub returns-then-contains : goal.returns-then-contains
 returns-then-contains c =
     let before = take c.args.place c.args.links.now in
     let way : list_any (λ (other : Link). same_way other c.args.link) before ≡ true =
-        sym (c.requires.ways (way_key c.args.link)) ∙ ap (contains same_way_key c.args.ways.now) (sym c.way_key.ensures) ∙ sym c.contains.ensures ∙ c.if-contains.true in
+    sym (c.requires.ways (way_key c.args.link)) ∙ ap (contains same_way_key c.args.ways.now) (sym c.way_key.ensures) ∙ sym c.contains.ensures ∙ c.if-contains.true in
     let known : list_any (λ (other : Link). same_link other c.args.link) before ≡ c.contains-then-contains.result =
-        sym (c.requires.known (link_key c.args.link)) ∙ ap (contains same_link_key c.args.known.now) (sym c.link_key.ensures) ∙ sym c.contains-then-contains.ensures in
+    sym (c.requires.known (link_key c.args.link)) ∙ ap (contains same_link_key c.args.known.now) (sym c.link_key.ensures) ∙ sym c.contains-then-contains.ensures in
     λ i. sym way i && not (sym known i)
 
 pub returns-else-contains : goal.returns-else-contains
 returns-else-contains c =
     let before = take c.args.place c.args.links.now in
     let way : list_any (λ (other : Link). same_way other c.args.link) before ≡ false =
-        sym (c.requires.ways (way_key c.args.link)) ∙ ap (contains same_way_key c.args.ways.now) (sym c.way_key.ensures) ∙ sym c.contains.ensures ∙ c.if-contains.false in
+    sym (c.requires.ways (way_key c.args.link)) ∙ ap (contains same_way_key c.args.ways.now) (sym c.way_key.ensures) ∙ sym c.contains.ensures ∙ c.if-contains.false in
     c.if-contains.false ∙ ap (λ b. b && not (list_any (λ (other : Link). same_link other c.args.link) before)) (sym way)
