@@ -55,7 +55,8 @@ pub enum Finding {
     NeverState(u32),
     /// A component other than the root may be in this state, and nothing looks at it.
     UnusedState(u32, u32),
-    /// A state of a part at which the component around it does not look, though it looks at the same state of a part of the same kind: its fact.
+    /// A state of a part at which something looks, but not the component around it, though it looks at the same state of a part of the same kind: the
+    /// fact.
     Unlike(u32),
     /// A subcomponent, a connection or a binding stands in modes, which are not looked at.
     InModes(Part),
