@@ -20,7 +20,6 @@ use Rattle.error_behavior.specs.declared.steps.Step.{Step}
 use Rattle.error_models.specs.declared.model.ErrorModel.{ErrorModel}
 use Rattle.instantiator.specs.Whole.{effective_in}
 use Rattle.event_rates.specs.Unused.{unused_rates}
-use Rattle.system_review.specs.Occurring.{used_in}
 use Rattle.uneven_parts.specs.TwoWays.{two_ways}
 use Rattle.uneven_parts.specs.Unlike.{unlike_states}
 use Rattle.unread_parts.specs.Root.{root_implementations}
@@ -301,13 +300,13 @@ unused_states seen owner model = flat_map (unused_state seen owner model) (numbe
 
 -- ---- states
 
--- What is told of states: those of the root in which it never is, those of parts that occur in no formula, and those of parts that occur in
--- formulas, but in none of the component around them, though the same state of a part of the same kind does.
+-- What is told of states: those of the root in which it never is, those of parts that occur in no formula, and those of parts that do not occur
+-- in a formula of the component around them, though the same state of a part of the same kind does.
 abbrev pub states_told : Seen → List Finding
 states_told seen =
     never_states seen (model_at seen.numbered.assembly 0)
     ++ (of_components seen (unused_states seen)
-    ++ map Unlike (filter (used_in seen.system) (unlike_states seen.numbered.assembly.instance seen.system seen.numbered.facts)))
+    ++ map Unlike (unlike_states seen.numbered.assembly.instance seen.system seen.numbered.facts))
 
 -- ---- text that is not looked at
 

@@ -4,6 +4,7 @@ use event_rates::UnusedRate;
 use plain_values::{List, Mem, Name};
 use propagation_links::{Link, PointAt, Unlinked};
 use system_review::Loop;
+use uneven_parts::UnlikeState;
 use unread_parts::Part;
 
 /// Types at a side of a point, by their numbers.
@@ -55,9 +56,8 @@ pub enum Finding {
     NeverState(u32),
     /// A component other than the root may be in this state, and nothing looks at it.
     UnusedState(u32, u32),
-    /// A state of a part at which something looks, but not the component around it, though it looks at the same state of a part of the same kind: the
-    /// fact.
-    Unlike(u32),
+    /// A state of a part does not occur in a formula of the component around it, though the same state of a part of the same kind does.
+    Unlike(UnlikeState),
     /// A subcomponent, a connection or a binding stands in modes, which are not looked at.
     InModes(Part),
     /// A binding is not read.

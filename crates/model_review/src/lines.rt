@@ -24,6 +24,7 @@ use propagation_links::{Link, PointAt, Unlinked};
 use propagation_points::Point;
 use std::alloc::Global;
 use system_review::Loop;
+use uneven_parts::UnlikeState;
 use unread_parts::Part;
 
 /// The text of these findings of a model.
@@ -80,7 +81,7 @@ fn push_text(alloc: Global, text: &mut Vec<u8>, view: &View, finding: &Finding) 
         Finding::UnusedState(owner, state) => {
             push_state(alloc, text, b"unused-state ", assembly, *owner, *state)
         }
-        Finding::Unlike(fact) => push_fact(text, b"unlike ", view.system(), *fact),
+        Finding::Unlike(one) => push_unlike(text, view.system(), *one),
         Finding::InModes(part) => push_in_modes(text, assembly, part),
         Finding::UnreadBinding(part) => push_unread(text, assembly, part),
         Finding::StrayRate(rate) => push_rate(text, assembly, rate),
@@ -119,11 +120,12 @@ fn push_ways(text: &mut Vec<u8>, assembly: &Assembly, link: Link) -> Mem<()>
     push_side_at(text, b" -> ", assembly, link.to)
 }
 
-/// Adds a word and the name of a fact.
-fn push_fact(text: &mut Vec<u8>, word: &[u8], system: &FaultSystem, fact: u32) -> Mem<()>
-    ensures { OnOk result (text.new.items ≡ text.old.items ++ (word.now ++ fact_name system.now fact)) }
+/// Adds a state, and the fact in whose formula it does not occur.
+fn push_unlike(text: &mut Vec<u8>, system: &FaultSystem, one: UnlikeState) -> Mem<()>
+    ensures { OnOk result (text.new.items ≡ text.old.items ++ (codes "unlike " ++ (fact_name system.now one.state ++ (codes " in " ++ fact_name system.now one.fact)))) }
 {
-    push_two(text, word, system.fact_name(fact))
+    push_two(text, b"unlike ", system.fact_name(one.state))?;
+    push_two(text, b" in ", system.fact_name(one.fact))
 }
 
 /// Adds how many facts depend on one another, and the first of them.

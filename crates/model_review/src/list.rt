@@ -1,11 +1,10 @@
 //! What is told of a model, in order.
 
-ghost use Rattle.std.specs.Prelude.{◌≡◌, ◌++◌, IfOk, OnOk, false, filter, flat_map, length, map, true};
+ghost use Rattle.std.specs.Prelude.{◌≡◌, ◌++◌, IfOk, OnOk, false, flat_map, length, map, true};
 ghost use Rattle.plain_values.specs.Rising.{RisesWithin};
 ghost use Rattle.model_facts.specs.Assembly.{model_at};
 ghost use Rattle.model_review.specs.Findings.{dry_sides, hidden_flows, hidden_link, model_findings, never_out, no_links, no_sources, nowhere_out, of_components, open_ends, states_told, stops_of, text_findings, ways_told};
 ghost use Rattle.event_rates.specs.Unused.{unused_rates};
-ghost use Rattle.system_review.specs.Occurring.{used_in};
 ghost use Rattle.uneven_parts.specs.TwoWays.{two_ways};
 ghost use Rattle.uneven_parts.specs.Unlike.{unlike_states};
 ghost use Rattle.unread_parts.specs.Root.{root_implementations};
@@ -28,7 +27,7 @@ use model_facts::points_of_models;
 use plain_values::{List, Mem, Name, copied};
 use propagation_links::{Link, Unlinked, find_unlinked};
 use std::alloc::Global;
-use uneven_parts::{two_ways, unlike_states};
+use uneven_parts::{UnlikeState, two_ways, unlike_states};
 use unread_parts::{Part, What, root_implementations, unread_parts};
 
 /// What is told of a model, in order.
@@ -102,8 +101,8 @@ fn add_inward(alloc: Global, found: &mut List<Finding>, view: &View) -> Mem<()>
     add_of_components(alloc, found, view, &AtPoints(sources))
 }
 
-/// Adds the states of the root in which it never is, those of its parts at which nothing looks, and those at which something looks, but not the
-/// component around them, though it looks at those of others like them.
+/// Adds the states of the root in which it never is, those of its parts at which nothing looks, and those that do not occur in a formula of the
+/// component around them, though those of others like them do.
 fn add_states(alloc: Global, found: &mut List<Finding>, view: &View) -> Mem<()>
     ensures { OnOk result (found.new ≡ found.old ++ states_told view.now) }
 {
@@ -113,18 +112,17 @@ fn add_states(alloc: Global, found: &mut List<Finding>, view: &View) -> Mem<()>
 }
 
 fn add_unlike(alloc: Global, found: &mut List<Finding>, view: &View) -> Mem<()>
-    ensures { OnOk result (found.new ≡ found.old ++ map Unlike (filter (used_in view.now.system) (unlike_states view.now.numbered.assembly.instance view.now.system view.now.numbered.facts))) }
+    ensures { OnOk result (found.new ≡ found.old ++ map Unlike (unlike_states view.now.numbered.assembly.instance view.now.system view.now.numbered.facts)) }
 {
     let states = unlike_states(alloc, view.instance(), view.system(), view.facts())?;
-    add_used(found, view, states.items())
+    add_states_unlike(found, states.items())
 }
 
-/// Adds those of some states that occur in formulas.
-fn add_used(found: &mut List<Finding>, view: &View, states: &[u32]) -> Mem<()>
-    ensures { OnOk result (found.new ≡ found.old ++ map Unlike (filter (used_in view.now.system) states.now)) }
+fn add_states_unlike(found: &mut List<Finding>, states: &[UnlikeState]) -> Mem<()>
+    ensures { OnOk result (found.new ≡ found.old ++ map Unlike states.now) }
 {
     for state in states {
-        found.push_if(Finding::Unlike(*state), view.is_used(*state))?;
+        found.push(Finding::Unlike(*state))?;
     }
     Ok(())
 }

@@ -201,7 +201,7 @@ impl<'v> View<'v> {
     }
 
     /// Whether a fact occurs in a formula.
-    pub(crate) fn is_used(&self, fact: u32) -> bool
+    fn is_used(&self, fact: u32) -> bool
         ensures { result ≡ used_in self.now.system fact }
     {
         self.used.has(fact)

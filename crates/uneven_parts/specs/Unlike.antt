@@ -1,5 +1,5 @@
--- States of parts at which the component around them does not look, though it looks at the same state of a part of the same kind.
-use Rattle.std.specs.Prelude.{ℕ, Bool, false, cond, ◌&&◌, not, nat_eq, List, [], ◌∷◌, map, slice_get, slice_index_or, Option, Some, None, option_to_list}
+-- States of parts that do not occur in a formula of the component around them, though the same state of a part of the same kind does.
+use Rattle.std.specs.Prelude.{ℕ, Bool, false, cond, ◌&&◌, not, nat_eq, List, [], ◌∷◌, filter, flat_map, map, slice_get, slice_index_or, take, Option, Some, None, option_and_then}
 use Rattle.std.specs.List.{list_any}
 use Rattle.std.specs.Option.{option_map_or}
 use Rattle.plain_values.specs.Numbered.{numbered_from}
@@ -10,9 +10,11 @@ use Rattle.instantiator.specs.declared.path.Component.{Component}
 use Rattle.model_facts.specs.declared.keys.FactKey.{FactKey}
 use Rattle.model_facts.specs.declared.keys.FactKind.{FactKind}
 use Rattle.model_facts.specs.declared.keys.FactKind.TheVariants.{State, Enters, Exits}
-use Rattle.fault_system.specs.Truth.{occurs}
 use Rattle.fault_system.specs.Systems.{System}
 use Rattle.fault_system.specs.declared.formula.FactInfo.{FactInfo}
+use Rattle.fault_system.specs.declared.formula.Formula.{Formula, fold-Formula}
+use Rattle.fault_system.specs.declared.formula.Formula.TheOpen.{Formula-F, True, Event, Fact, And, Or, AtLeast}
+use Rattle.uneven_parts.specs.declared.unlike.UnlikeState.{UnlikeState}
 
 -- ---- the component around a component
 
@@ -33,19 +35,28 @@ around instance number = slice_index_or (arounds instance) number None
 abbrev pub stands_in : Instance → ℕ → ℕ → Bool
 stands_in instance number other = option_map_or (nat_eq other) (around instance number) false
 
--- ---- what is looked at
+-- ---- what a formula looks at
+
+-- one formula, with the facts in each part in its place
+abbrev pub facts_step : Formula-F (List ℕ) → List ℕ
+facts_step True = []
+facts_step (Event number) = []
+facts_step (Fact number) = number ∷ []
+facts_step (And parts) = flat_map (λ part. part) parts
+facts_step (Or parts) = flat_map (λ part. part) parts
+facts_step (AtLeast least parts) = flat_map (λ part. part) parts
+
+-- the facts in a formula, one for each place
+abbrev pub facts_in : Formula → List ℕ
+facts_in = fold-Formula (List ℕ) facts_step
 
 -- whether a fact is of a part of a component
 abbrev pub is_of_part : Instance → System → ℕ → ℕ → Bool
 is_of_part instance system owner number = option_map_or (λ fact. stands_in instance fact.owner owner) (slice_get system.facts number) false
 
--- whether a fact occurs in the formula of another one, which is of the component around it
-abbrev pub looks_at : Instance → System → ℕ → FactInfo → Bool
-looks_at instance system number fact = is_of_part instance system fact.owner number && occurs number fact.formula
-
--- whether the component around a fact looks at it: it occurs in the formula of a fact of that
-abbrev pub is_looked_at : Instance → System → ℕ → Bool
-is_looked_at instance system number = list_any (looks_at instance system number) system.facts
+-- the facts in a formula of a component that are of its parts
+abbrev pub parts_in : Instance → System → ℕ → Formula → List ℕ
+parts_in instance system owner formula = filter (is_of_part instance system owner) (facts_in formula)
 
 -- ---- parts of the same kind
 
@@ -68,24 +79,52 @@ likeness instance fact = likeness_in (around instance fact.owner) (kind_number i
 abbrev pub same_likeness : Likeness → Likeness → Bool
 same_likeness a b = (nat_eq a.0 b.0 && nat_eq a.1 b.1) && nat_eq a.2 b.2
 
--- that of the fact of a number, if the component around it looks at it
-abbrev pub known_likeness : Instance → System → ℕ → FactKey → List Likeness
-known_likeness instance system number fact = cond (is_looked_at instance system number) (option_to_list (likeness instance fact)) []
+-- that of the fact of a number
+abbrev pub likeness_at : Instance → List FactKey → ℕ → Option Likeness
+likeness_at instance facts number = option_and_then (likeness instance) (slice_get facts number)
 
--- those of the facts at which the components around them look
-abbrev pub known_likenesses : Instance → System → List FactKey → List Likeness
-known_likenesses instance system facts = numbered_from (known_likeness instance system) 0 facts
+-- whether there is one, and it is this one
+abbrev pub is_own : Option Likeness → Likeness → Bool
+is_own one other = option_map_or (λ own. same_likeness own other) one false
+
+-- the fact of a number, if it has this in common with others
+abbrev pub member_with : Instance → Likeness → ℕ → FactKey → List ℕ
+member_with instance one number fact = cond (is_own (likeness instance fact) one) (number ∷ []) []
+
+-- the facts that have this in common
+abbrev pub members : Instance → List FactKey → Likeness → List ℕ
+members instance facts one = numbered_from (member_with instance one) 0 facts
 
 -- ---- what is unlike
 
--- whether one of these is this one, if there is one
-abbrev pub is_among : List Likeness → Option Likeness → Bool
-is_among known one = option_map_or (λ own. list_any (λ other. same_likeness other own) known) one false
+-- the facts that have this in common, and are not among some
+abbrev pub missing : Instance → List FactKey → List ℕ → Likeness → List ℕ
+missing instance facts places one = filter (λ number. not (list_any (λ place. nat_eq place number) places)) (members instance facts one)
 
--- the fact of a number, if the component around it does not look at it, and one of these is what it has in common with others
-abbrev pub unlike_fact : Instance → System → List Likeness → ℕ → FactKey → List ℕ
-unlike_fact instance system known number fact = cond (not (is_looked_at instance system number) && is_among known (likeness instance fact)) (number ∷ []) []
+-- these, as what is unlike in the formula of a fact
+abbrev pub unlike_with : ℕ → List ℕ → List UnlikeState
+unlike_with fact states = map (λ state. record { state = state; fact = fact }) states
 
--- The states of parts at which the component around them does not look, though it looks at the same state of a part of the same kind.
-abbrev pub unlike_states : Instance → System → List FactKey → List ℕ
-unlike_states instance system facts = numbered_from (unlike_fact instance system (known_likenesses instance system facts)) 0 facts
+-- Of a fact at a place of the formula of a fact, which has this in common with others: those that have it too, and stand at none of its places; but
+-- nothing where an earlier place has a fact that has it.
+abbrev pub unlike_by : Instance → List FactKey → List ℕ → ℕ → ℕ → Option Likeness → List UnlikeState
+unlike_by instance facts places fact place None = []
+unlike_by instance facts places fact place (Some one) =
+    cond (list_any (λ other. is_own (likeness_at instance facts other) one) (take place places)) [] (unlike_with fact (missing instance facts places one))
+
+-- those of the fact of a number
+abbrev pub unlike_at : Instance → List FactKey → List ℕ → ℕ → ℕ → ℕ → List UnlikeState
+unlike_at instance facts places fact place number = unlike_by instance facts places fact place (likeness_at instance facts number)
+
+-- those of a formula in which facts of parts stand at these places
+abbrev pub unlike_among : Instance → List FactKey → ℕ → List ℕ → List UnlikeState
+unlike_among instance facts fact places = numbered_from (unlike_at instance facts places fact) 0 places
+
+-- those of the formula of the fact of a number
+abbrev pub unlike_in : Instance → System → List FactKey → ℕ → FactInfo → List UnlikeState
+unlike_in instance system facts number fact = unlike_among instance facts number (parts_in instance system fact.owner fact.formula)
+
+-- The states of parts that do not occur in a formula of the component around them, though the same state of a part of the same kind does: for each
+-- fact in order, by the places in its formula.
+abbrev pub unlike_states : Instance → System → List FactKey → List UnlikeState
+unlike_states instance system facts = numbered_from (unlike_in instance system facts) 0 system.facts

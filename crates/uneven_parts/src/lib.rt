@@ -1,11 +1,12 @@
-//! What is said of one part of a component and not of another one like it: sides that lead to two sides of one part, and states of parts at
-//! which the component around them does not look.
+//! What is said of one part of a component and not of another one like it: sides that lead to two sides of one part, and states of parts that
+//! do not occur where those of others like them do.
 #![tactic(auto)]
 
-mod looked;
 mod parts;
+mod places;
+mod rows;
 mod unlike;
 mod ways;
 
-pub use unlike::unlike_states;
+pub use unlike::{UnlikeState, unlike_states};
 pub use ways::two_ways;

@@ -1,163 +1,251 @@
-//! States of parts at which the component around them does not look, though it looks at those of parts of the same kind.
+//! States of parts that do not occur in a formula of the component around them, though the same state of a part of the same kind does.
 
-ghost use Rattle.std.specs.Prelude.{◌≡◌, ◌++◌, ℕ, IfOk, OnOk};
+ghost use Rattle.std.specs.Prelude.{◌≡◌, ◌++◌, ◌||◌, ℕ, IfOk, OnOk, filter, nat_eq, not, take};
+ghost use Rattle.std.specs.HashMap.{get};
 ghost use Rattle.std.specs.HashSet.{contains};
-ghost use Rattle.fault_system.specs.Truth.{member};
+ghost use Rattle.std.specs.List.{list_any};
 ghost use Rattle.plain_values.specs.Numbered.{numbered_from};
-ghost use Rattle.uneven_parts.specs.Unlike.{is_among, is_looked_at, known_likeness, known_likenesses, same_likeness, unlike_fact, unlike_states};
-ghost use Rattle.uneven_parts.specs.inner.Tables.{KnowsLikenesses};
+ghost use Rattle.uneven_parts.specs.Unlike.{Likeness as Common, is_own, likeness_at, member_with, missing, same_likeness, unlike_among, unlike_by, unlike_in, unlike_states, unlike_with};
+ghost use Rattle.uneven_parts.specs.inner.Tables.{KnowsLikenesses, KnowsMembers, KnowsNumbers, row_at};
 
-use crate::looked::looked_at;
 use crate::parts::Parts;
-use fault_system::{Bits, FaultSystem};
+use crate::places::parts_in;
+use crate::rows::{add, at};
+use fault_system::{FactInfo, FaultSystem};
 use instantiator::Instance;
 use model_facts::FactKey;
 use plain_values::{List, Mem};
 use std::alloc::{AllocError, Global};
-use std::collections::HashSet;
-use std::marker::Model;
+use std::collections::{HashMap, HashSet};
+
+/// A state of a part that does not occur in the formula of a fact, though that of a part of the same kind does, by the numbers of the facts.
+#[derive(Clone, Copy)]
+pub struct UnlikeState {
+    pub state: u32,
+    pub fact: u32,
+}
 
 /// What parts have in common: the component around them, their kind, and a state that each has.
 type Likeness = (u32, usize, u32);
 
-/// What parts have in common at which components look. Contracts see it as a list.
-#[derive(Drop)]
-struct Known<'k> {
-    all: &'k [Likeness],
-    set: HashSet<Likeness>,
-}
-
-impl<'k> Model for Known<'k> {
-    ghost use Rattle.std.specs.Prelude.{List};
-    ghost use Rattle.std.specs.HashSet.{contains};
-    ghost use Rattle.uneven_parts.specs.Unlike.{Likeness as Common, same_likeness};
-    ghost use Rattle.uneven_parts.specs.inner.Tables.{KnowsLikenesses};
-
-    ghost Value = { List Common };
-
-    ghost view = { λ k. k.all.now };
-
-    ghost invariant = { λ k. KnowsLikenesses k.all.now (contains same_likeness k.set) };
-}
-
-impl<'k> Known<'k> {
-    /// Of these.
-    fn of(alloc: Global, all: &'k [Likeness]) -> Mem<Known<'k>>
-        ensures { IfOk result (λ known. known ≡ all.now) }
-    {
-        let mut set = HashSet::new(alloc);
-        for one in all {
-            set.insert(*one)?;
-        }
-        Ok(Known { all, set })
-    }
-
-    /// Whether one of them is this one, if there is one.
-    fn is_among(&self, one: Option<Likeness>) -> bool
-        ensures { result ≡ is_among self.now one }
-    {
-        match one {
-            Some(own) => self.set.contains(&own),
-            None => false,
-        }
-    }
-}
-
-/// The states of parts at which the component around them does not look, though it looks at the same state of a part of the same kind, by the
-/// numbers of the facts.
+/// The states of parts that do not occur in a formula of the component around them, though the same state of a part of the same kind does: for
+/// each fact in order, by the places in its formula.
 pub fn unlike_states<'i>(
     alloc: Global,
     instance: &'i Instance<'i, 'i>,
     system: &FaultSystem,
     facts: &[FactKey],
-) -> Mem<List<u32>>
+) -> Mem<List<UnlikeState>>
     ensures { IfOk result (λ states. states ≡ unlike_states instance.now system.now facts.now) }
 {
     let parts = Parts::of(alloc, instance)?;
-    let marks = looked_at(alloc, &parts, system)?;
-    let all = known_likenesses(alloc, &parts, system, &marks, facts)?;
-    let known = Known::of(alloc, all.items())?;
-    unlike_facts(alloc, &parts, system, &marks, &known, facts)
+    let rows = members_of(alloc, &parts, facts)?;
+    all_unlike(alloc, &parts, system, facts, &rows, system.fact_infos())
 }
 
-/// What is in common to the facts at which the components around them look.
-fn known_likenesses(
-    alloc: Global,
-    parts: &Parts,
-    system: &FaultSystem,
-    marks: &Bits,
-    facts: &[FactKey],
-) -> Mem<List<Likeness>>
-    requires { (m : ℕ) → member marks.now m ≡ is_looked_at parts.now system.now m }
-    ensures { IfOk result (λ known. known ≡ known_likenesses parts.now system.now facts.now) }
+/// The facts that have something in common, by what they have in common.
+fn members_of(alloc: Global, parts: &Parts, facts: &[FactKey]) -> Mem<HashMap<Likeness, List<u32>>>
+    ensures { IfOk result (λ rows. KnowsMembers parts.now facts.now (get same_likeness rows)) }
 {
-    let mut known = List::new(alloc);
+    let mut rows = HashMap::new(alloc);
     for (number, fact) in facts.iter().enumerate() {
-        add_known(&mut known, parts, system, marks, number, *fact)?;
+        add_member(alloc, &mut rows, parts, number, *fact)?;
     }
-    Ok(known)
+    Ok(rows)
 }
 
-/// Adds that of the fact of a number, if the component around it looks at it.
-fn add_known(
-    known: &mut List<Likeness>,
+/// Adds the fact of a number to the row of what it has in common with others, if it has something.
+fn add_member(
+    alloc: Global,
+    rows: &mut HashMap<Likeness, List<u32>>,
     parts: &Parts,
-    system: &FaultSystem,
-    marks: &Bits,
     number: usize,
     fact: FactKey,
 ) -> Mem<()>
-    requires { (m : ℕ) → member marks.now m ≡ is_looked_at parts.now system.now m }
-    ensures { OnOk result (known.new ≡ known.old ++ known_likeness parts.now system.now number fact) }
+    ensures { OnOk result ((one : Common) → row_at (get same_likeness rows.new one) ≡ row_at (get same_likeness rows.old one) ++ member_with parts.now one number fact) }
 {
-    let _ = system;
     if number > 4_294_967_295 {
         return Err(AllocError);
     }
-    if marks.has(number as u32) {
-        known.push_some(parts.likeness(fact))?;
+    match parts.likeness(fact) {
+        Some(own) => add(alloc, rows, own, number as u32),
+        None => Ok(()),
+    }
+}
+
+/// What is unlike in the formulas of some facts, which are numbered from 0.
+fn all_unlike(
+    alloc: Global,
+    parts: &Parts,
+    system: &FaultSystem,
+    keys: &[FactKey],
+    rows: &HashMap<Likeness, List<u32>>,
+    facts: &[FactInfo],
+) -> Mem<List<UnlikeState>>
+    requires { KnowsMembers parts.now keys.now (get same_likeness rows.now) }
+    ensures { IfOk result (λ found. found ≡ numbered_from (unlike_in parts.now system.now keys.now) 0 facts.now) }
+{
+    let mut found = List::new(alloc);
+    for (number, fact) in facts.iter().enumerate() {
+        add_in(alloc, &mut found, parts, system, keys, rows, number, fact)?;
+    }
+    Ok(found)
+}
+
+/// Adds what is unlike in the formula of the fact of a number.
+fn add_in(
+    alloc: Global,
+    found: &mut List<UnlikeState>,
+    parts: &Parts,
+    system: &FaultSystem,
+    keys: &[FactKey],
+    rows: &HashMap<Likeness, List<u32>>,
+    number: usize,
+    fact: &FactInfo,
+) -> Mem<()>
+    requires { KnowsMembers parts.now keys.now (get same_likeness rows.now) }
+    ensures { OnOk result (found.new ≡ found.old ++ unlike_in parts.now system.now keys.now number fact.now) }
+{
+    if number > 4_294_967_295 {
+        return Err(AllocError);
+    }
+    let places = parts_in(alloc, parts, system, fact.owner, &fact.formula)?;
+    add_among(
+        alloc,
+        found,
+        parts,
+        keys,
+        rows,
+        number as u32,
+        places.items(),
+    )
+}
+
+/// Adds what is unlike in the formula of a fact in which facts of parts stand at these places.
+fn add_among(
+    alloc: Global,
+    found: &mut List<UnlikeState>,
+    parts: &Parts,
+    keys: &[FactKey],
+    rows: &HashMap<Likeness, List<u32>>,
+    fact: u32,
+    places: &[u32],
+) -> Mem<()>
+    requires { KnowsMembers parts.now keys.now (get same_likeness rows.now) }
+    ensures { OnOk result (found.new ≡ found.old ++ unlike_among parts.now keys.now fact places.now) }
+{
+    let occurring = numbers_of(alloc, places)?;
+    let mut seen = HashSet::new(alloc);
+    for (place, number) in places.iter().enumerate() {
+        let own = likeness_at(parts, keys, *number);
+        add_at(
+            found, parts, keys, rows, &occurring, &seen, fact, places, place, own,
+        )?;
+        insert_some(&mut seen, own)?;
     }
     Ok(())
 }
 
-/// The facts at which the components around them do not look, though they look at others like them.
-fn unlike_facts(
-    alloc: Global,
-    parts: &Parts,
-    system: &FaultSystem,
-    marks: &Bits,
-    known: &Known,
-    facts: &[FactKey],
-) -> Mem<List<u32>>
-    requires { (m : ℕ) → member marks.now m ≡ is_looked_at parts.now system.now m }
-    ensures { IfOk result (λ states. states ≡ numbered_from (unlike_fact parts.now system.now known.now) 0 facts.now) }
+/// These numbers.
+fn numbers_of(alloc: Global, numbers: &[u32]) -> Mem<HashSet<u32>>
+    ensures { IfOk result (λ set. KnowsNumbers numbers.now (contains nat_eq set)) }
 {
-    let mut states = List::new(alloc);
-    for (number, fact) in facts.iter().enumerate() {
-        add_unlike(&mut states, parts, system, marks, known, number, *fact)?;
+    let mut set = HashSet::new(alloc);
+    for number in numbers {
+        set.insert(*number)?;
     }
-    Ok(states)
+    Ok(set)
 }
 
-/// Adds the fact of a number, if it is one of them.
-fn add_unlike(
-    states: &mut List<u32>,
-    parts: &Parts,
-    system: &FaultSystem,
-    marks: &Bits,
-    known: &Known,
-    number: usize,
-    fact: FactKey,
-) -> Mem<()>
-    requires { (m : ℕ) → member marks.now m ≡ is_looked_at parts.now system.now m }
-    ensures { OnOk result (states.new ≡ states.old ++ unlike_fact parts.now system.now known.now number fact) }
+/// What the fact of a number has in common with others.
+fn likeness_at(parts: &Parts, keys: &[FactKey], number: u32) -> Option<Likeness>
+    ensures { result ≡ likeness_at parts.now keys.now number }
 {
-    let _ = system;
-    if number > 4_294_967_295 {
-        return Err(AllocError);
+    let key = keys.get(number as usize)?;
+    parts.likeness(*key)
+}
+
+/// Puts what a fact has in common with others into a set, if it has something.
+fn insert_some(seen: &mut HashSet<Likeness>, own: Option<Likeness>) -> Mem<()>
+    ensures { OnOk result ((one : Common) → contains same_likeness seen.new one ≡ contains same_likeness seen.old one || is_own own one) }
+{
+    match own {
+        Some(own) => {
+            seen.insert(own)?;
+            Ok(())
+        }
+        None => Ok(()),
     }
-    let number = number as u32;
-    let is_unlike = !marks.has(number) && known.is_among(parts.likeness(fact));
-    states.push_if(number, is_unlike)?;
+}
+
+/// Adds what is unlike by the fact at a place, which has this in common with others, where these facts stand at places, and what is seen is what the
+/// facts before have in common.
+fn add_at(
+    found: &mut List<UnlikeState>,
+    parts: &Parts,
+    keys: &[FactKey],
+    rows: &HashMap<Likeness, List<u32>>,
+    occurring: &HashSet<u32>,
+    seen: &HashSet<Likeness>,
+    fact: u32,
+    places: &[u32],
+    place: usize,
+    own: Option<Likeness>,
+) -> Mem<()>
+    requires rows { KnowsMembers parts.now keys.now (get same_likeness rows.now) }
+    requires occurring { KnowsNumbers places.now (contains nat_eq occurring.now) }
+    requires seen { KnowsLikenesses parts.now keys.now (take place places.now) (contains same_likeness seen.now) }
+    ensures { OnOk result (found.new ≡ found.old ++ unlike_by parts.now keys.now places.now fact place own) }
+{
+    match own {
+        Some(own) => {
+            if seen.contains(&own) {
+                return Ok(());
+            }
+            add_missing(found, parts, keys, rows, occurring, fact, places, own)
+        }
+        None => Ok(()),
+    }
+}
+
+/// Adds those that have this in common, and do not occur.
+fn add_missing(
+    found: &mut List<UnlikeState>,
+    parts: &Parts,
+    keys: &[FactKey],
+    rows: &HashMap<Likeness, List<u32>>,
+    occurring: &HashSet<u32>,
+    fact: u32,
+    places: &[u32],
+    own: Likeness,
+) -> Mem<()>
+    requires rows { KnowsMembers parts.now keys.now (get same_likeness rows.now) }
+    requires occurring { KnowsNumbers places.now (contains nat_eq occurring.now) }
+    ensures { OnOk result (found.new ≡ found.old ++ unlike_with fact (missing parts.now keys.now places.now own)) }
+{
+    let _ = parts;
+    let _ = keys;
+    add_others(found, occurring, fact, places, at(rows, own))
+}
+
+/// Adds those of these numbers that do not occur.
+fn add_others(
+    found: &mut List<UnlikeState>,
+    occurring: &HashSet<u32>,
+    fact: u32,
+    places: &[u32],
+    members: &[u32],
+) -> Mem<()>
+    requires { KnowsNumbers places.now (contains nat_eq occurring.now) }
+    ensures { OnOk result (found.new ≡ found.old ++ unlike_with fact (filter (λ number. not (list_any (λ place. nat_eq place number) places.now)) members.now)) }
+{
+    let _ = places;
+    for state in members {
+        let one = UnlikeState {
+            state: *state,
+            fact,
+        };
+        found.push_if(one, !occurring.contains(state))?;
+    }
     Ok(())
 }

@@ -1,9 +1,11 @@
--- What sets of links and of likenesses know.
-use Rattle.std.specs.Prelude.{◌≡◌, ℕ, Bool, ◌&&◌, nat_eq, List}
+-- What sets and rows know: of links, of facts, and of what facts have in common.
+use Rattle.std.specs.Prelude.{◌≡◌, ℕ, Bool, ◌&&◌, nat_eq, List, [], Option, unwrap_or}
 use Rattle.std.specs.List.{list_any}
 use Rattle.propagation_links.specs.declared.link.Link.{Link}
 use Rattle.model_facts.specs.inner.Tables.{SideKey, same_side_key}
-use Rattle.uneven_parts.specs.Unlike.{Likeness, same_likeness}
+use Rattle.instantiator.specs.Whole.{Instance}
+use Rattle.model_facts.specs.declared.keys.FactKey.{FactKey}
+use Rattle.uneven_parts.specs.Unlike.{Likeness, is_own, likeness_at, members}
 
 -- the key of a way: a side, and a component
 abbrev pub WayKey : Type 0
@@ -35,6 +37,18 @@ KnowsWays links has = (key : WayKey) → has key ≡ list_any (λ link. same_way
 abbrev pub KnowsLinks : List Link → (LinkKey → Bool) → Type 0
 KnowsLinks links has = (key : LinkKey) → has key ≡ list_any (λ link. same_link_key (link_key link) key) links
 
--- The set has these likenesses, and no other.
-abbrev pub KnowsLikenesses : List Likeness → (Likeness → Bool) → Type 0
-KnowsLikenesses known has = (key : Likeness) → has key ≡ list_any (λ one. same_likeness one key) known
+-- the row of a key, where there is one
+abbrev pub row_at : Option (List ℕ) → List ℕ
+row_at row = unwrap_or row []
+
+-- The rows have the facts that have something in common.
+abbrev pub KnowsMembers : Instance → List FactKey → (Likeness → Option (List ℕ)) → Type 0
+KnowsMembers instance facts rows = (one : Likeness) → row_at (rows one) ≡ members instance facts one
+
+-- The set has what these facts have in common with others.
+abbrev pub KnowsLikenesses : Instance → List FactKey → List ℕ → (Likeness → Bool) → Type 0
+KnowsLikenesses instance facts numbers has = (one : Likeness) → has one ≡ list_any (λ number. is_own (likeness_at instance facts number) one) numbers
+
+-- The set has these numbers.
+abbrev pub KnowsNumbers : List ℕ → (ℕ → Bool) → Type 0
+KnowsNumbers numbers has = (number : ℕ) → has number ≡ list_any (λ place. nat_eq place number) numbers
