@@ -20,6 +20,7 @@ use Rattle.error_behavior.specs.declared.steps.Step.{Step}
 use Rattle.error_models.specs.declared.model.ErrorModel.{ErrorModel}
 use Rattle.instantiator.specs.Whole.{effective_in}
 use Rattle.event_rates.specs.Unused.{unused_rates}
+use Rattle.uneven_parts.specs.Quiet.{quiet_states}
 use Rattle.uneven_parts.specs.TwoWays.{two_ways}
 use Rattle.uneven_parts.specs.Unlike.{unlike_states}
 use Rattle.unread_parts.specs.Root.{root_implementations}
@@ -33,7 +34,7 @@ use Rattle.model_facts.specs.Facts.{inward_of, is_linked, outward_of}
 use Rattle.fact_formulas.specs.Formulas.{end_of}
 use Rattle.model_review.specs.Seen.{Seen, declared_for, is_lost_event, is_lost_fact, is_used, may_come, number_at, side_in, source_number, state_number, states_of, stops, types_in}
 use Rattle.model_review.specs.declared.finding.Finding.{Finding}
-use Rattle.model_review.specs.declared.finding.Finding.TheVariants.{Dry, GoesNowhere, HiddenLink, HiddenPath, HiddenSource, HiddenTransitions, InModes, Never, NeverState, NoLink, NoSource, NotDeclared, Open, StopsHere, StrayRate, TwoWays, TypeRoot, Unlike, UnreadBinding, UnusedState}
+use Rattle.model_review.specs.declared.finding.Finding.TheVariants.{Dry, GoesNowhere, HiddenLink, HiddenPath, HiddenSource, HiddenTransitions, InModes, Never, NeverState, NoLink, NoSource, NotDeclared, Open, Quiet, StopsHere, StrayRate, TwoWays, TypeRoot, Unlike, UnreadBinding, UnusedState}
 use Rattle.model_review.specs.declared.finding.TypesAt.{TypesAt}
 
 -- types at a side
@@ -300,13 +301,20 @@ unused_states seen owner model = flat_map (unused_state seen owner model) (numbe
 
 -- ---- states
 
--- What is told of states: those of the root in which it never is, those of parts that occur in no formula, and those of parts that do not occur
--- in a formula of the component around them, though the same state of a part of the same kind does.
+-- What is told of states of parts that do not occur in a formula of the component around them, though the same state of a part of the same kind does,
+-- and of states that give nothing at an outward side of their component, though they give something at another one.
+abbrev pub uneven_told : Seen → List Finding
+uneven_told seen =
+    map Unlike (unlike_states seen.numbered.assembly.instance seen.system seen.numbered.facts)
+    ++ map Quiet (quiet_states seen.numbered.assembly seen.system seen.numbered.facts)
+
+-- What is told of states: those of the root in which it never is, those of parts that occur in no formula, and those that are used otherwise than
+-- others.
 abbrev pub states_told : Seen → List Finding
 states_told seen =
     never_states seen (model_at seen.numbered.assembly 0)
     ++ (of_components seen (unused_states seen)
-    ++ map Unlike (unlike_states seen.numbered.assembly.instance seen.system seen.numbered.facts))
+    ++ uneven_told seen)
 
 -- ---- text that is not looked at
 

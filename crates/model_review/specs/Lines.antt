@@ -18,7 +18,7 @@ use Rattle.model_facts.specs.declared.keys.FactKind.TheVariants.{State}
 use Rattle.fault_system.specs.Systems.{event_name, fact_name}
 use Rattle.model_review.specs.Seen.{Seen}
 use Rattle.model_review.specs.declared.finding.Finding.{Finding}
-use Rattle.model_review.specs.declared.finding.Finding.TheVariants.{Dry, GoesNowhere, HiddenLink, HiddenPath, HiddenSource, HiddenTransitions, InLoop, InModes, Never, NeverState, NoEffect, NoLink, NoSingle, NoSource, NotDeclared, Open, StopsHere, StrayRate, TwoWays, TypeRoot, Unlike, UnreachedEvent, UnreadBinding, UnusedEvent, UnusedState}
+use Rattle.model_review.specs.declared.finding.Finding.TheVariants.{Dry, GoesNowhere, HiddenLink, HiddenPath, HiddenSource, HiddenTransitions, InLoop, InModes, Never, NeverState, NoEffect, NoLink, NoSingle, NoSource, NotDeclared, Open, Quiet, StopsHere, StrayRate, TwoWays, TypeRoot, Unlike, UnreachedEvent, UnreadBinding, UnusedEvent, UnusedState}
 use Rattle.model_review.specs.declared.finding.TypesAt.{TypesAt}
 
 -- ---- sides
@@ -115,6 +115,7 @@ finding_text seen (Never at) = codes "never " ++ types_text seen.numbered.assemb
 finding_text seen (NeverState state) = codes "never " ++ its_fact_name seen.numbered.assembly (fact_in 0 (State state))
 finding_text seen (UnusedState owner state) = codes "unused-state " ++ its_fact_name seen.numbered.assembly (fact_in owner (State state))
 finding_text seen (Unlike one) = codes "unlike " ++ (fact_name seen.system one.state ++ (codes " in " ++ fact_name seen.system one.fact))
+finding_text seen (Quiet one) = codes "quiet " ++ (fact_name seen.system one.state ++ (codes " at " ++ side_text seen.numbered.assembly one.side))
 finding_text seen (InModes part) = codes "in-modes " ++ part_text seen.numbered.assembly part
 finding_text seen (UnreadBinding part) = codes "unread-binding " ++ (path_text (path_at seen.numbered.assembly part.component) ++ (codes " " ++ part.name))
 finding_text seen (StrayRate rate) = codes "unused-rate " ++ (path_text (path_at seen.numbered.assembly rate.component) ++ (codes " " ++ dotted rate.target))

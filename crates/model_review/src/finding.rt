@@ -4,7 +4,7 @@ use event_rates::UnusedRate;
 use plain_values::{List, Mem, Name};
 use propagation_links::{Link, PointAt, Unlinked};
 use system_review::Loop;
-use uneven_parts::UnlikeState;
+use uneven_parts::{QuietState, UnlikeState};
 use unread_parts::Part;
 
 /// Types at a side of a point, by their numbers.
@@ -58,6 +58,8 @@ pub enum Finding {
     UnusedState(u32, u32),
     /// A state of a part does not occur in a formula of the component around it, though the same state of a part of the same kind does.
     Unlike(UnlikeState),
+    /// A state gives nothing at a side of its component, though it gives something at another one.
+    Quiet(QuietState),
     /// A subcomponent, a connection or a binding stands in modes, which are not looked at.
     InModes(Part),
     /// A binding is not read.

@@ -24,7 +24,7 @@ use propagation_links::{Link, PointAt, Unlinked};
 use propagation_points::Point;
 use std::alloc::Global;
 use system_review::Loop;
-use uneven_parts::UnlikeState;
+use uneven_parts::{QuietState, UnlikeState};
 use unread_parts::Part;
 
 /// The text of these findings of a model.
@@ -82,6 +82,7 @@ fn push_text(alloc: Global, text: &mut Vec<u8>, view: &View, finding: &Finding) 
             push_state(alloc, text, b"unused-state ", assembly, *owner, *state)
         }
         Finding::Unlike(one) => push_unlike(text, view.system(), *one),
+        Finding::Quiet(one) => push_quiet(text, view.system(), assembly, *one),
         Finding::InModes(part) => push_in_modes(text, assembly, part),
         Finding::UnreadBinding(part) => push_unread(text, assembly, part),
         Finding::StrayRate(rate) => push_rate(text, assembly, rate),
@@ -126,6 +127,19 @@ fn push_unlike(text: &mut Vec<u8>, system: &FaultSystem, one: UnlikeState) -> Me
 {
     push_two(text, b"unlike ", system.fact_name(one.state))?;
     push_two(text, b" in ", system.fact_name(one.fact))
+}
+
+/// Adds a state, and the side at which it gives nothing.
+fn push_quiet(
+    text: &mut Vec<u8>,
+    system: &FaultSystem,
+    assembly: &Assembly,
+    one: QuietState,
+) -> Mem<()>
+    ensures { OnOk result (text.new.items ≡ text.old.items ++ (codes "quiet " ++ (fact_name system.now one.state ++ (codes " at " ++ side_text assembly.now one.side)))) }
+{
+    push_two(text, b"quiet ", system.fact_name(one.state))?;
+    push_side_at(text, b" at ", assembly, one.side)
 }
 
 /// Adds how many facts depend on one another, and the first of them.

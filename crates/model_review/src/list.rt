@@ -3,15 +3,16 @@
 ghost use Rattle.std.specs.Prelude.{◌≡◌, ◌++◌, IfOk, OnOk, false, flat_map, length, map, true};
 ghost use Rattle.plain_values.specs.Rising.{RisesWithin};
 ghost use Rattle.model_facts.specs.Assembly.{model_at};
-ghost use Rattle.model_review.specs.Findings.{dry_sides, hidden_flows, hidden_link, model_findings, never_out, no_links, no_sources, nowhere_out, of_components, open_ends, states_told, stops_of, text_findings, ways_told};
+ghost use Rattle.model_review.specs.Findings.{dry_sides, hidden_flows, hidden_link, model_findings, never_out, no_links, no_sources, nowhere_out, of_components, open_ends, states_told, stops_of, text_findings, uneven_told, ways_told};
 ghost use Rattle.event_rates.specs.Unused.{unused_rates};
+ghost use Rattle.uneven_parts.specs.Quiet.{quiet_states};
 ghost use Rattle.uneven_parts.specs.TwoWays.{two_ways};
 ghost use Rattle.uneven_parts.specs.Unlike.{unlike_states};
 ghost use Rattle.unread_parts.specs.Root.{root_implementations};
 ghost use Rattle.unread_parts.specs.Unread.{unread_parts};
 ghost use Rattle.unread_parts.specs.declared.unread.What.TheVariants as what;
 ghost use Rattle.model_review.specs.Told.{AreFindings};
-ghost use Rattle.model_review.specs.declared.finding.Finding.TheVariants.{InModes, NoLink, StrayRate, TwoWays, TypeRoot, Unlike, UnreadBinding};
+ghost use Rattle.model_review.specs.declared.finding.Finding.TheVariants.{InModes, NoLink, Quiet, StrayRate, TwoWays, TypeRoot, Unlike, UnreadBinding};
 
 use crate::ends::{DrySides, Linked, NoSources, OpenEnds};
 use crate::finding::Finding;
@@ -27,7 +28,7 @@ use model_facts::points_of_models;
 use plain_values::{List, Mem, Name, copied};
 use propagation_links::{Link, Unlinked, find_unlinked};
 use std::alloc::Global;
-use uneven_parts::{UnlikeState, two_ways, unlike_states};
+use uneven_parts::{QuietState, UnlikeState, quiet_states, two_ways, unlike_states};
 use unread_parts::{Part, What, root_implementations, unread_parts};
 
 /// What is told of a model, in order.
@@ -101,20 +102,43 @@ fn add_inward(alloc: Global, found: &mut List<Finding>, view: &View) -> Mem<()>
     add_of_components(alloc, found, view, &AtPoints(sources))
 }
 
-/// Adds the states of the root in which it never is, those of its parts at which nothing looks, and those that do not occur in a formula of the
-/// component around them, though those of others like them do.
+/// Adds the states of the root in which it never is, those of its parts at which nothing looks, and those that are used otherwise than others.
 fn add_states(alloc: Global, found: &mut List<Finding>, view: &View) -> Mem<()>
     ensures { OnOk result (found.new ≡ found.old ++ states_told view.now) }
 {
     add_of_component(alloc, found, view, &AtStates(NeverInState), 0)?;
     add_of_components(alloc, found, view, &AtStates(UnusedStates))?;
-    add_unlike(alloc, found, view)
+    add_uneven(alloc, found, view)
+}
+
+/// Adds the states of parts unlike others, and those that give nothing at one side of their component and something at another one.
+fn add_uneven(alloc: Global, found: &mut List<Finding>, view: &View) -> Mem<()>
+    ensures { OnOk result (found.new ≡ found.old ++ uneven_told view.now) }
+{
+    add_unlike(alloc, found, view)?;
+    add_quiet(alloc, found, view)
+}
+
+fn add_quiet(alloc: Global, found: &mut List<Finding>, view: &View) -> Mem<()>
+    ensures { OnOk result (found.new ≡ found.old ++ map Quiet (quiet_states view.now.numbered.assembly view.now.system view.now.numbered.facts)) }
+{
+    let states = quiet_states(alloc, view.assembly(), view.system(), view.facts())?;
+    add_states_quiet(found, states.items())
+}
+
+fn add_states_quiet(found: &mut List<Finding>, states: &[QuietState]) -> Mem<()>
+    ensures { OnOk result (found.new ≡ found.old ++ map Quiet states.now) }
+{
+    for state in states {
+        found.push(Finding::Quiet(*state))?;
+    }
+    Ok(())
 }
 
 fn add_unlike(alloc: Global, found: &mut List<Finding>, view: &View) -> Mem<()>
     ensures { OnOk result (found.new ≡ found.old ++ map Unlike (unlike_states view.now.numbered.assembly.instance view.now.system view.now.numbered.facts)) }
 {
-    let states = unlike_states(alloc, view.instance(), view.system(), view.facts())?;
+    let states = unlike_states(alloc, view.instance(), view.system(), view.facts().list())?;
     add_states_unlike(found, states.items())
 }
 

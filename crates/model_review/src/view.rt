@@ -15,7 +15,7 @@ use error_models::ErrorModel;
 use fact_formulas::{NumberedModel, fact_at};
 use fault_system::{Bits, FaultSystem};
 use instantiator::Instance;
-use model_facts::{Assembly, EventKey, EventKind, FactKey, FactKind};
+use model_facts::{Assembly, EventKey, EventKind, FactKey, FactKind, FactTable};
 use plain_values::{List, Mem};
 use propagation_links::{Link, PointAt};
 use propagation_points::Side;
@@ -95,11 +95,11 @@ impl<'v> View<'v> {
         &self.model.system
     }
 
-    /// The facts, by their keys.
-    pub(crate) fn facts(&self) -> &'v [FactKey]
+    /// The facts.
+    pub(crate) fn facts(&self) -> &'v FactTable
         ensures { result.now ≡ self.now.numbered.facts }
     {
-        self.model.facts.list()
+        &self.model.facts
     }
 
     /// The facts that are effects.

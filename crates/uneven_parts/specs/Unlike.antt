@@ -1,5 +1,5 @@
 -- States of parts that do not occur in a formula of the component around them, though the same state of a part of the same kind does.
-use Rattle.std.specs.Prelude.{ℕ, Bool, false, cond, ◌&&◌, not, nat_eq, List, [], ◌∷◌, filter, flat_map, map, slice_get, slice_index_or, take, Option, Some, None, option_and_then}
+use Rattle.std.specs.Prelude.{ℕ, Bool, false, cond, ◌&&◌, not, nat_eq, List, [], ◌∷◌, filter, map, slice_get, slice_index_or, take, Option, Some, None, option_and_then}
 use Rattle.std.specs.List.{list_any}
 use Rattle.std.specs.Option.{option_map_or}
 use Rattle.plain_values.specs.Numbered.{numbered_from}
@@ -12,8 +12,8 @@ use Rattle.model_facts.specs.declared.keys.FactKind.{FactKind}
 use Rattle.model_facts.specs.declared.keys.FactKind.TheVariants.{State, Enters, Exits}
 use Rattle.fault_system.specs.Systems.{System}
 use Rattle.fault_system.specs.declared.formula.FactInfo.{FactInfo}
-use Rattle.fault_system.specs.declared.formula.Formula.{Formula, fold-Formula}
-use Rattle.fault_system.specs.declared.formula.Formula.TheOpen.{Formula-F, True, Event, Fact, And, Or, AtLeast}
+use Rattle.fault_system.specs.declared.formula.Formula.{Formula}
+use Rattle.uneven_parts.specs.Places.{facts_in}
 use Rattle.uneven_parts.specs.declared.unlike.UnlikeState.{UnlikeState}
 
 -- ---- the component around a component
@@ -36,19 +36,6 @@ abbrev pub stands_in : Instance → ℕ → ℕ → Bool
 stands_in instance number other = option_map_or (nat_eq other) (around instance number) false
 
 -- ---- what a formula looks at
-
--- one formula, with the facts in each part in its place
-abbrev pub facts_step : Formula-F (List ℕ) → List ℕ
-facts_step True = []
-facts_step (Event number) = []
-facts_step (Fact number) = number ∷ []
-facts_step (And parts) = flat_map (λ part. part) parts
-facts_step (Or parts) = flat_map (λ part. part) parts
-facts_step (AtLeast least parts) = flat_map (λ part. part) parts
-
--- the facts in a formula, one for each place
-abbrev pub facts_in : Formula → List ℕ
-facts_in = fold-Formula (List ℕ) facts_step
 
 -- whether a fact is of a part of a component
 abbrev pub is_of_part : Instance → System → ℕ → ℕ → Bool

@@ -2,11 +2,14 @@
 //! do not occur where those of others like them do.
 #![tactic(auto)]
 
+mod gives;
 mod parts;
 mod places;
+mod quiet;
 mod rows;
 mod unlike;
 mod ways;
 
+pub use quiet::{QuietState, quiet_states};
 pub use unlike::{UnlikeState, unlike_states};
 pub use ways::two_ways;

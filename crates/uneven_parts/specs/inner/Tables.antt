@@ -5,6 +5,7 @@ use Rattle.propagation_links.specs.declared.link.Link.{Link}
 use Rattle.model_facts.specs.inner.Tables.{SideKey, same_side_key}
 use Rattle.instantiator.specs.Whole.{Instance}
 use Rattle.model_facts.specs.declared.keys.FactKey.{FactKey}
+use Rattle.uneven_parts.specs.Quiet.{Given, Giver, same_given, same_giver}
 use Rattle.uneven_parts.specs.Unlike.{Likeness, is_own, likeness_at, members}
 
 -- the key of a way: a side, and a component
@@ -52,3 +53,11 @@ KnowsLikenesses instance facts numbers has = (one : Likeness) → has one ≡ li
 -- The set has these numbers.
 abbrev pub KnowsNumbers : List ℕ → (ℕ → Bool) → Type 0
 KnowsNumbers numbers has = (number : ℕ) → has number ≡ list_any (λ place. nat_eq place number) numbers
+
+-- The set has all that is given.
+abbrev pub KnowsGiven : List Given → (Given → Bool) → Type 0
+KnowsGiven all has = (key : Given) → has key ≡ list_any (λ one. same_given one key) all
+
+-- The set has all that give something.
+abbrev pub KnowsGivers : List Given → (Giver → Bool) → Type 0
+KnowsGivers all has = (key : Giver) → has key ≡ list_any (λ one. same_giver (one.0, one.2) key) all
