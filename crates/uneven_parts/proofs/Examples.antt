@@ -1,7 +1,6 @@
 -- Worked examples: which links are further ways, and what facts have in common.
-use Rattle.std.proofs.Common.{ℕ, ◌≡◌, true, false, List, [], ◌∷◌, None, Some, refl}
+use Rattle.std.proofs.Common.{ℕ, ◌≡◌, true, false, [], ◌∷◌, None, Some, refl}
 use Rattle.propagation_links.specs.declared.link.Link.{Link}
-use Rattle.propagation_links.specs.declared.link.PointAt.{PointAt}
 use Rattle.model_facts.specs.declared.keys.FactKind.TheVariants.{Enters, State}
 use Rattle.uneven_parts.specs.TwoWays.{two_ways}
 use Rattle.uneven_parts.specs.Unlike.{around_path, likeness_in}

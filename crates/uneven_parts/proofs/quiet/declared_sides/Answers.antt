@@ -1,6 +1,5 @@
 use Rattle.std.proofs.Common.{ap, cond, sym, [], ◌++◌, ◌∷◌, ◌∙◌}
 use Rattle.package_index.proofs.Loops.{numbered-more}
-use Rattle.propagation_points.specs.declared.side.Side.{Side}
 use Rattle.uneven_parts.specs.Quiet.{declared_side, is_declared}
 use Rattle.uneven_parts.proofs.quiet.declared_sides.Goals as goal
 
