@@ -63,10 +63,56 @@ def parts_without_a_reader(size):
     return package(source + reader + f"system s end s; system implementation s.i subcomponents\n{inside}connections\n{wires}end s.i;\n")
 
 
+def units_in_clauses(size):
+    """Units of one kind, and clauses over them, each of which leaves out another one."""
+    states = "".join(f" s{k}: state;" for k in range(TYPES))
+    machine = (
+        "error behavior m events e: error event; states ok: initial state; bad: state; transitions ok -[e]-> bad; end behavior;\n"
+        f"error behavior top states ok: initial state;{states} end behavior;"
+    )
+    unit = "device d annex EMV2 {** use behavior p::m; **}; end d;\n"
+    inside = "".join(f"d{n}: device d;\n" for n in range(size))
+    clauses = "".join(f"[{' and '.join(f'd{n}.bad' for n in range(size) if n != k)}]-> s{k};\n" for k in range(TYPES))
+    annex = f"annex EMV2 {{** use behavior p::top; composite error behavior states\n{clauses}end composite; **}};"
+    return package(unit + f"system s end s; system implementation s.i subcomponents\n{inside}{annex} end s.i;\n", machine)
+
+
+def states_at_outputs(size):
+    """One part with some states and many outputs; each state gives something at all of them but one."""
+    states = "".join(f" s{k}: state;" for k in range(TYPES))
+    events = "".join(f" e{k}: error event;" for k in range(TYPES))
+    steps = "".join(f" ok -[e{k}]-> s{k};" for k in range(TYPES))
+    machine = f"error behavior m events{events} states ok: initial state;{states} transitions{steps} end behavior;"
+    outputs = "".join(f"o{n}: out data port;\n" for n in range(size))
+    points = "".join(f"o{n}: out propagation {{t0}};\n" for n in range(size))
+    given = "".join(f"s{k} -[]-> o{n}{{t0}};\n" for k in range(TYPES) for n in range(size) if n != k)
+    part = (
+        f"device d features {outputs} annex EMV2 {{** use types p; use behavior p::m; error propagations {points} end propagations;\n"
+        f"component error behavior propagations {given} end component; **}}; end d;\n"
+    )
+    return package(part, machine)
+
+
+def inputs_of_one_output(size):
+    """One output that leads to each input of a part."""
+    inputs = "".join(f"i{n}: in data port;\n" for n in range(size))
+    points = "".join(f"i{n}: in propagation {{t0}};\n" for n in range(size))
+    parts = (
+        "device d features o: out data port; annex EMV2 {** use types p; error propagations o: out propagation {t0};\n"
+        f"flows f: error source o{{t0}}; end propagations; **}}; end d;\ndevice r features {inputs} annex EMV2 {{** use types p; error propagations\n{points}"
+        "end propagations; **}; end r;\n"
+    )
+    wires = "".join(f"c{n}: port d.o -> r.i{n};\n" for n in range(size))
+    return package(parts + f"system s end s; system implementation s.i subcomponents d: device d; r: device r; connections\n{wires}end s.i;\n")
+
+
 SHAPES = {
     "a chain of states": ("p::s.i", chain_of_states, [100, 200, 400, 800]),
     "parts in a row": ("p::s.i", parts_in_a_row, [500, 1000, 2000, 4000]),
     "parts without a reader": ("p::s.i", parts_without_a_reader, [250, 500, 1000, 2000]),
+    "units in clauses": ("p::s.i", units_in_clauses, [400, 800, 1600, 3200]),
+    "states at outputs": ("p::d", states_at_outputs, [100, 200, 400, 800]),
+    "inputs of one output": ("p::s.i", inputs_of_one_output, [1000, 2000, 4000, 8000]),
 }
 
 
