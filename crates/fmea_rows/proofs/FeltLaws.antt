@@ -1,5 +1,5 @@
--- Events on which no effect depends have no rows.
-use Rattle.std.proofs.Common.{ℕ, ◌≡◌, ◌<◌, ◌⊎◌, Bool, true, false, cond, not, ◌||◌, eqb, List, [], ◌∷◌, filter, length, map, replicate, set, Option, Some, None, inl, inr, ⊎_elim, ap, ◌∙◌, sym, refl, subst, Contains, eq-eqb, arith, length-set}
+-- Events on which no effect depends have no rows, and groups of events under which no effect is reached.
+use Rattle.std.proofs.Common.{ℕ, zero, suc, ◌≡◌, ◌<◌, ◌⊎◌, Bool, true, false, cond, not, ◌||◌, eqb, List, [], ◌∷◌, filter, length, map, replicate, set, Option, Some, None, inl, inr, ⊎_elim, ap, ◌∙◌, sym, refl, subst, Contains, eq-eqb, arith, length-set}
 use Rattle.std.specs.List.{slice_get}
 use Rattle.std.proofs.lemmas.Bool.{cases_Bool, cases_eq, eqb-true, false≢true, or_left}
 use Rattle.std.proofs.lemmas.List.{get_or-set_other, get_or-set_same, length-replicate}
@@ -8,13 +8,15 @@ use Rattle.fault_system.specs.Systems.{System, Holds, IsFact, applied}
 use Rattle.fault_system.specs.Rounds.{no_event, only}
 use Rattle.fault_system.specs.declared.formula.FactInfo.{FactInfo}
 use Rattle.fault_system.proofs.Elements.{In, contains_In}
+use Rattle.fault_system.proofs.HoldsLaws.{applied-grows}
+use Rattle.fault_system.proofs.Marks.{Below-member}
 use Rattle.fault_system.proofs.NumberSets.{member-map, member-past, member-replicate, member-set, same_set}
 use Rattle.fault_system.proofs.Occurring.{truth-grows-on}
 use Rattle.fault_system.proofs.TruthLaws.{same_answer}
 use Rattle.backward_slice.specs.inner.Reach.{IsReach}
 use Rattle.backward_slice.specs.declared.parts.Reach.{Reach}
 use Rattle.fmea_rows.specs.Rows.{event_rows, is_reached, row_of}
-use Rattle.fmea_rows.specs.inner.Tables.{IsNone}
+use Rattle.fmea_rows.specs.inner.Tables.{AreRowless, IsNone}
 use Rattle.fmea_rows.proofs.RowLaws.{reached-means}
 
 or_no : (a b : Bool) → b ≡ true → a || not b ≡ true → a ≡ true
@@ -34,6 +36,14 @@ fact-at system events facts n has = at (slice_get system.facts n) (λ o e. e) wh
   at None is = absurd (false≢true (sym (member-past (λ fact. truth events facts fact.formula) system.facts n (is None (λ i. None))) ∙ has))
   at (Some fact) is = (fact, is (Some fact) (λ i. Some fact))
 
+-- no number past the facts is in a set of facts
+past : {X : Type 0} (items : List X) (marks : List Bool) → length marks ≡ length items → (n : ℕ) → slice_get items n ≡ None → member marks n ≡ false
+past [] [] same n e = refl
+past [] (b ∷ marks) same n e = absurd (omega (arith, same))
+past (x ∷ xs) [] same n e = absurd (omega (arith, same))
+past (x ∷ xs) (b ∷ marks) same zero e = absurd (cc)
+past (x ∷ xs) (b ∷ marks) same (suc n) e = past xs marks (omega (arith, same)) n e
+
 filter-none : (p : NumberSet) (ns : List ℕ) → ((n : ℕ) → In n ns → p n ≡ false) → filter p ns ≡ []
 filter-none p [] h = refl
 filter-none p (n ∷ ns) h = ap (λ b. cond b (n ∷ filter p ns) (filter p ns)) (h n (inl refl)) ∙ filter-none p ns (λ m i. h m (inr i))
@@ -44,6 +54,13 @@ module _ (system : System) (effects : List ℕ) (reach : Reach) (is : IsReach sy
   cause-reached n m fact here at o =
       let there = (is.facts n).0 here in
       (is.facts m).1 (there.0, there.1, λ facts causes from. causes n m fact (there.2 facts causes from) at o)
+
+  -- each is a fact of the system
+  pub fact-reached : (n : ℕ) → Has (member reach.facts) n → (fact : FactInfo) × IsFact system n fact
+  fact-reached n here = at (slice_get system.facts n) refl where
+    at : (found : Option FactInfo) → slice_get system.facts n ≡ found → (fact : FactInfo) × IsFact system n fact
+    at None e = absurd (false≢true (sym (past system.facts reach.facts is.facts_size n e) ∙ here))
+    at (Some fact) e = (fact, e)
 
   pub effect-reached : (n : ℕ) → Contains effects n → Has (member reach.facts) n
   effect-reached n among = (is.facts n).1 (n, among, λ facts causes from. from)
@@ -77,6 +94,22 @@ module _ (system : System) (effects : List ℕ) (reach : Reach) (is : IsReach sy
     -- such an event has no rows
     pub no-rows : event_rows system effects event ≡ []
     no-rows = ap (map (row_of system event)) (filter-none (is_reached system event) effects not-reached)
+
+-- ---- events that have no rows, many at once
+
+-- what holds under some events holds under more
+holds-more : (system : System) (events more : NumberSet) → ((e : ℕ) → Has events e → Has more e) → (n : ℕ) → Holds system events n → Holds system more n
+holds-more system events more grows n holds xs closed = holds xs (λ m a. closed m (Below-member _ _ (applied-grows events more xs xs grows (λ k h. h) system) m a))
+
+-- where under a group of events no effect holds that does not hold under no event, none of them has a row
+module _ (system : System) (effects : List ℕ) (group : NumberSet) (no_more : (n : ℕ) → In n effects → Holds system group n → Holds system no_event n) where
+  among-group : (event e : ℕ) → Has group event → Has (only event) e → Has group e
+  among-group event e here is = subst (λ (k : ℕ). Has group k) (sym (eqb-true e event is)) here
+
+  pub group-rowless : AreRowless system effects group
+  group-rowless event here = ap (map (row_of system event)) (filter-none (is_reached system event) effects (λ n i. ⊎_elim
+      (λ t. let means = reached-means system event n t in absurd (means.1 (no_more n i (holds-more system (only event) group (λ e. among-group event e here) n means.0))))
+      (λ f. f) (cases_Bool (is_reached system event n))))
 
 -- ---- the set of an event alone, put into the set of no event and taken out again
 

@@ -2,6 +2,7 @@ pub mod RowLaws
 pub mod RowOrder
 pub mod TableLaws
 pub mod TestLaws
+pub mod KeptLaws
 pub mod FeltLaws
 pub mod AnyLaws
 pub mod LineLaws

@@ -3,24 +3,19 @@ use Rattle.std.proofs.Common.{ℕ, zero, suc, ◌+◌, ◌≡◌, ◌≢◌, ◌
 use Rattle.std.specs.List.{flat_map}
 use Rattle.std.proofs.lemmas.Bool.{false≢true, and_from, and_parts, cases_Bool, cases_eq, ne_eqb}
 use Rattle.std.proofs.lemmas.List.{drop_all, drop_more, ext_get_or, flat_map_more, get_or-set_other, get_or-set_same, take_all, take_more}
-use Rattle.std.proofs.lemmas.Option.{slice_get_within}
 use Rattle.plain_values.specs.Rising.{RisesWithin}
 use Rattle.fault_system.specs.Truth.{NumberSet, Has, member, set_of}
 use Rattle.fault_system.specs.Systems.{System}
 use Rattle.fault_system.specs.CutSets.{IsSubset, makes_hold}
 use Rattle.fault_system.specs.Rounds.{IsRoundOf, no_event, only, time_of}
-use Rattle.fault_system.specs.inner.Rounds.{FitsFact, IsChecked, IsTable}
 use Rattle.fault_system.proofs.Elements.{In, In-filter}
-use Rattle.fault_system.proofs.HoldsLaws.{holds_of-exact}
-use Rattle.fault_system.proofs.NumberSets.{RisesWithin-at, RisesWithin-filter, same_rising, same_set, set_of-filter}
-use Rattle.fault_system.proofs.RoundLaws.{ever-holds, table-rounds}
+use Rattle.fault_system.proofs.HoldsLaws.{holds_of-exact, round-least}
+use Rattle.fault_system.proofs.NumberSets.{RisesWithin-at, RisesWithin-filter, same_rising, set_of-filter}
 use Rattle.fault_system.proofs.TruthLaws.{same_answer}
 use Rattle.fmea_rows.specs.Rows.{event_rows, is_reached, round_of, row_of}
-use Rattle.fact_users.specs.inner.Users.{AreUsers}
-use Rattle.fmea_rows.specs.inner.Tables.{FitsWhereFelt, IsKnown, IsRight, changed, changed_rows, facts_of, is_new, row_if, table_rows}
+use Rattle.fmea_rows.specs.inner.Tables.{IsKnown, IsRight, changed, changed_rows, facts_of, is_new, row_if, table_rows}
 use Rattle.fmea_rows.specs.declared.change.Change.{Change}
 use Rattle.fmea_rows.specs.declared.table.Known.{Known}
-use Rattle.fact_users.specs.declared.users.Users.{Users}
 use Rattle.fmea_rows.proofs.RowLaws.{reached-means, round-is}
 
 -- ---- a table with changes
@@ -61,22 +56,6 @@ pub changed-push : (times : List ℕ) (changes : List Change) (c : Change) → c
 changed-push times [] c = refl
 changed-push times (d ∷ changes) c = changed-push (set times d.fact d.time) changes c
 
--- ---- a table whose changes were tested
-
-module _ (system : System) (event : ℕ) (events : NumberSet) (base : List ℕ) (changes : List Change) (users : Users) where
-  pub checked : events ≡ only event → event < length system.events → length base ≡ length system.facts → AreUsers system users
-      → RisesWithin 0 (length system.facts) (facts_of changes) → FitsWhereFelt (record { system = system; events = events; times = changed base changes }) users event changes
-      → IsChecked system event base (changed base changes) (facts_of changes)
-  checked alone fits size are rise felt = record {
-    count = length-changed base changes ∙ size;
-    others = λ n e. changed-other base changes n e;
-    changed = λ n e. as_alone n (felt.around n e).0;
-    users = λ n g fact at e o. as_alone n ((felt.around g e).1 n (are.facts n g fact (slice_get_within system.facts n fact at) at (RisesWithin-at 0 (length system.facts) (facts_of changes) g rise e).1 o));
-    event_users = λ n fact at o. as_alone n (felt.at_event n (are.events n event fact (slice_get_within system.facts n fact at) at fits o));
-  } where
-    as_alone : (n : ℕ) → FitsFact system events (time_of (changed base changes)) n → FitsFact system (only event) (time_of (changed base changes)) n
-    as_alone n = subst (λ (es : NumberSet). FitsFact system es (time_of (changed base changes)) n) alone
-
 -- ---- rows that are made where a test says so
 
 one_or_none : {X : Type 0} (b : Bool) (x : X) (xs : List X) → (if b then x ∷ [] else []) ++ xs ≡ cond b (x ∷ xs) xs
@@ -111,31 +90,40 @@ turned true false = refl
 turned false true = refl
 turned false false = refl
 
--- a fact has a time in a table exactly if it holds
-pub ever-is : (system : System) (events : NumberSet) (times : List ℕ) → IsTable system events times → (n : ℕ) → nat_lt 0 (time_of times n) ≡ makes_hold system n events
-ever-is system events times table n =
-    let holds = ever-holds system events times (table-rounds system events times table) n in
-    same_answer _ _ (λ e. (holds_of-exact system events n).1 (holds.0 e)) (λ e. holds.1 ((holds_of-exact system events n).0 e))
+-- a fact has a time exactly if it holds
+ever-is : (system : System) (events : NumberSet) (n t : ℕ) → IsRoundOf system events n t → nat_lt 0 t ≡ makes_hold system n events
+ever-is system events n zero is = same_answer _ _ (λ e. absurd (false≢true e)) (λ e. absurd (is ((holds_of-exact system events n).0 e)))
+ever-is system events n (suc t) is = same_answer _ _ (λ e. (holds_of-exact system events n).1 (λ xs closed. round-least system events xs closed (suc t) n is.there)) (λ e. le-leb 1 (suc t) (omega arith))
 
-module _ (system : System) (event : ℕ) (base times : List ℕ) (none : IsTable system no_event base) (alone : IsTable system (only event) times) where
-  new-is : (n : ℕ) → is_new base n (time_of times n) ≡ is_reached system event n
-  new-is n =
+filter-same : (p q : NumberSet) (ns : List ℕ) → ((n : ℕ) → In n ns → p n ≡ q n) → filter p ns ≡ filter q ns
+filter-same p q [] h = refl
+filter-same p q (n ∷ ns) h =
+    let head : p n ≡ q n = h n (inl refl) in
+    let tail : filter p ns ≡ filter q ns = filter-same p q ns (λ m i. h m (inr i)) in
+    λ i. cond (head i) (n ∷ tail i) (tail i)
+
+-- two tables that have the rounds of some effects
+module _ (system : System) (event : ℕ) (base times effects : List ℕ) (none : (n : ℕ) → In n effects → IsRoundOf system no_event n (time_of base n)) (alone : (n : ℕ) → In n effects → IsRoundOf system (only event) n (time_of times n)) where
+  new-is : (n : ℕ) → In n effects → is_new base n (time_of times n) ≡ is_reached system event n
+  new-is n among =
       ap (λ b. b && nat_lt 0 (time_of times n)) (is_zero (time_of base n)) ∙ turned (nat_lt 0 (time_of base n)) (nat_lt 0 (time_of times n))
-      ∙ ap (λ b. b && not (nat_lt 0 (time_of base n))) (ever-is system (only event) times alone n) ∙ ap (λ b. makes_hold system n (only event) && not b) (ever-is system no_event base none n)
+      ∙ ap (λ b. b && not (nat_lt 0 (time_of base n))) (ever-is system (only event) n (time_of times n) (alone n among))
+      ∙ ap (λ b. makes_hold system n (only event) && not b) (ever-is system no_event n (time_of base n) (none n among))
 
-  time-is : (n : ℕ) → is_reached system event n ≡ true → time_of times n ≡ round_of system (only event) n
-  time-is n e = by (time_of times n) ((table-rounds system (only event) times alone).each n) where
+  time-is : (n : ℕ) → In n effects → is_reached system event n ≡ true → time_of times n ≡ round_of system (only event) n
+  time-is n among e = by (time_of times n) (alone n among) where
     by : (t : ℕ) → IsRoundOf system (only event) n t → t ≡ round_of system (only event) n
     by zero is = absurd (is (reached-means system event n e).0)
     by (suc t) is = sym (round-is system (only event) n (suc t) is)
 
   -- the rows that the tables tell are those of the event
-  pub table-rows : (effects : List ℕ) → table_rows base times event effects ≡ event_rows system effects event
-  table-rows effects =
+  pub table-rows : table_rows base times event effects ≡ event_rows system effects event
+  table-rows =
       made-where (λ n. is_new base n (time_of times n)) (λ n. record { event = event; effect = n; round = time_of times n }) effects
-      ∙ ap (λ (test : NumberSet). map (λ n. record { event = event; effect = n; round = time_of times n }) (filter test effects)) (same_set new-is)
+      ∙ ap (map (λ n. record { event = event; effect = n; round = time_of times n })) (filter-same (λ n. is_new base n (time_of times n)) (is_reached system event) effects new-is)
       ∙ map-same (λ n. record { event = event; effect = n; round = time_of times n }) (row_of system event) (filter (is_reached system event) effects)
-      (λ n i. let same : time_of times n ≡ round_of system (only event) n = time-is n (In-filter (is_reached system event) n effects i).1 in
+      (λ n i. let among = In-filter (is_reached system event) n effects i in
+      let same : time_of times n ≡ round_of system (only event) n = time-is n among.0 among.1 in
       λ k. record { event = event; effect = n; round = same k })
 
 -- ---- the rows of what changes
@@ -170,7 +158,7 @@ module _ (system : System) (effects : List ℕ) (known : Known) (event : ℕ) wh
       λ i. row_if (member known.effects c.fact && is_new known.base c.fact (head i)) event c.fact (head i) ++ tail i
 
   -- the rows of what changes are those that the tables tell
-  pub changed-rows : (changes : List Change) → IsKnown system effects known → RisesWithin 0 (length system.facts) effects → IsRight system event known.base changes
+  pub changed-rows : (changes : List Change) → IsKnown system effects known → RisesWithin 0 (length system.facts) effects → IsRight system effects event known.base changes
       → changed_rows known event changes ≡ table_rows known.base (changed known.base changes) event effects
   changed-rows changes is rise right =
       by-facts (changed known.base changes) changes (λ c i. changed-at 0 known.base changes c (subst (λ (k : ℕ). RisesWithin 0 k (facts_of changes)) (sym is.base.count) right.rise) i)

@@ -4,7 +4,9 @@
 
 mod change;
 mod fields;
+mod kept;
 mod laws;
+mod passing;
 mod places;
 mod row;
 mod table;

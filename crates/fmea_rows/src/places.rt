@@ -4,7 +4,7 @@
 //! which they are.
 
 use crate::change::Change;
-use fault_system::{FaultSystem, Formula};
+use fault_system::{Bits, FaultSystem, Formula};
 use plain_values::Mem;
 use std::alloc::Global;
 use std::cmp::Reverse;
@@ -32,7 +32,7 @@ pub(crate) struct Place {
     pub marked: u32,
 }
 
-/// The places of the formulas of a system, numbered: first the whole formula of each fact, then the parts. Their rounds are those under
+/// The places of the formulas of some facts of a system, numbered: first the whole formula of each fact, then the parts. Their rounds are those under
 /// no event and, while an event is looked at, those under it as far as they are known.
 #[derive(Drop)]
 pub(crate) struct Places {
@@ -44,6 +44,8 @@ pub(crate) struct Places {
     waiting: BinaryHeap<(Reverse<u32>, u32)>,
     // the places that changed, as they were
     changed: Vec<(u32, Place)>,
+    // how many places were looked at for an event
+    steps: u64,
 }
 
 fn value(values: &[u32], at: u32) -> u32 {
@@ -71,22 +73,35 @@ pub(crate) fn place_at(places: &[Place], at: u32) -> Place {
 }
 
 impl Places {
-    /// Those of a system, with the table of no event, in which 0 stands for no round.
-    pub fn of(alloc: Global, system: &FaultSystem, base: &[u32]) -> Mem<Places> {
+    /// Those of the facts of a set, with the table of no event, in which 0 stands for no round.
+    pub fn of(alloc: Global, system: &FaultSystem, facts: &Bits, base: &[u32]) -> Mem<Places> {
         let mut places = Places {
             places: vec![in alloc; blank(NEVER); system.facts() as usize]?,
             facts: vec![in alloc; NEVER; system.facts() as usize]?,
             events: vec![in alloc; NEVER; system.events() as usize]?,
             waiting: BinaryHeap::new(alloc),
             changed: Vec::new(alloc),
+            steps: 0,
         };
         for number in 0..system.facts() {
             match system.fact(number) {
-                Some(fact) => add(alloc, &mut places, number, &fact.formula, base)?,
-                None => {}
+                Some(fact) if facts.has(number) => {
+                    add(alloc, &mut places, number, &fact.formula, base)?
+                }
+                _ => {}
             }
         }
         Ok(places)
+    }
+
+    /// How many there are.
+    pub fn size(&self) -> u64 {
+        self.places.len() as u64
+    }
+
+    /// How many of them were looked at for the last event.
+    pub fn steps(&self) -> u64 {
+        self.steps
     }
 
     /// All places.
@@ -107,6 +122,7 @@ impl Places {
     /// The facts that come to hold earlier under an event alone than under none, rising, with their rounds.
     pub fn propose(&mut self, alloc: Global, event: u32) -> Mem<Vec<Change>> {
         let mut changes = Vec::new(alloc);
+        self.steps = 0;
         let first = value(self.events.as_slice(), event);
         self.lower_all(alloc, first, 1)?;
         for _ in 0..u64::MAX {
@@ -142,6 +158,7 @@ impl Places {
         let mut comes = round;
         for _ in 0..u64::MAX {
             let old = self.at(at);
+            self.steps = self.steps.saturating_add(1);
             if comes >= old.round {
                 return Ok(());
             }
@@ -176,6 +193,7 @@ impl Places {
             return Ok(round);
         }
         if whole.least != whole.count {
+            self.steps = self.steps.saturating_add(u64::from(whole.count));
             return self.round_of(alloc, whole);
         }
         if number != whole.marked {

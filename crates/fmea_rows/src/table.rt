@@ -1,7 +1,7 @@
 //! The rows of all events.
 //!
-//! For each event the table of rounds under no event is changed where the event is felt, tested, and put back. What passes the
-//! tests is right. That what is proposed always passes is not proved, so where a test failed the rounds under the event would be
+//! For each event the table of rounds under no event is changed where the event is felt, tested, and put back. Only the facts are
+//! walked on which an effect depends. What passes the tests is right. That what is proposed always passes is not proved, so where a test failed the rounds under the event would be
 //! made anew.
 
 ghost use Rattle.std.specs.Prelude.{◌≡◌, ◌<◌, ◌+◌, ◌^◌, ◌++◌, IfOk, IsTrue, OnOk, length};
@@ -11,37 +11,48 @@ ghost use Rattle.fault_system.specs.Rounds.{no_event, only};
 ghost use Rattle.fault_system.specs.inner.Rounds.{IsTable};
 ghost use Rattle.fmea_rows.specs.Rows.{event_rows, rows_of};
 ghost use Rattle.fmea_rows.specs.inner.Rows.{AreRows};
-ghost use Rattle.fact_users.specs.inner.Users.{AreUsers};
-ghost use Rattle.fmea_rows.specs.inner.Tables.{IsBetween, IsKnown, IsNone, IsRight, changed_rows, is_new, table_rows};
+ghost use Rattle.backward_slice.specs.inner.Reach.{IsReach};
+ghost use Rattle.fmea_rows.specs.inner.Tables.{AreKeptUsers, AreRowless, IsBetween, IsKnown, IsNone, IsRight, changed_rows, is_new, table_rows};
 
 use crate::change::{Change, are_rising, make_changes, take_back, time_at};
+use crate::kept::kept_users;
+use crate::passing::Passed;
 use crate::places::Places;
 use crate::row::Row;
 use crate::testing::fits_where_felt;
 use crate::truth::Run;
 use backward_slice::{Reach, reach};
 use fact_users::{Users, users_of};
-use fault_system::{Bits, FaultSystem, checked_table, table_of_rounds};
+use fault_system::{Bits, FaultSystem, table_of_rounds};
 use plain_values::{List, Mem};
 use std::alloc::Global;
 
 /// Which rows are asked: those of a system with some of its facts as effects.
 #[derive(Clone, Copy)]
-struct Asked<'a> {
+pub(crate) struct Asked<'a> {
     /// The system.
-    system: &'a FaultSystem,
+    pub system: &'a FaultSystem,
     /// The rising numbers of the effects.
-    effects: &'a [u32],
+    pub effects: &'a [u32],
 }
 
-/// What is known of all events: the rounds of all facts under no event, which facts are effects, in which formulas each fact
-/// and each event occurs, and on which facts and events the effects depend.
+/// What is known of all events: the rounds of all facts under no event, which facts are effects, on which facts and events the
+/// effects depend, and in which formulas of these facts each fact and each event occurs.
 #[derive(Drop)]
 pub(crate) struct Known {
-    base: List<u32>,
+    pub base: List<u32>,
     effects: Bits,
     users: Users,
     reach: Reach,
+}
+
+impl Known {
+    /// Whether an effect depends on an event.
+    pub fn is_felt(&self, event: u32) -> bool
+        ensures { result ≡ member self.now.reach.events event }
+    {
+        self.reach.events.has(event)
+    }
 }
 
 /// What is used for each event again: the table that is changed and put back, the marks of the facts that were tested, the set of
@@ -57,8 +68,8 @@ pub(crate) struct Desk {
 /// The rows of an FMEA table: for each event each effect that holds under the event alone and not under no event, with
 /// the round in which it comes to hold; by event, and then by effect. The effects are the rising numbers of facts.
 ///
-/// Events on which no effect depends are passed over. For the others the time goes with the places of formulas that come to be true
-/// earlier, and not with events times facts.
+/// Facts and events on which no effect depends are passed over, and groups of events under which together no effect is reached. For the
+/// others the time goes with the places of formulas that come to be true earlier, and not with events times facts.
 pub fn rows(alloc: Global, system: &FaultSystem, effects: &[u32]) -> Mem<List<Row>>
     requires { RisesWithin 0 (length system.now.facts) effects.now }
     ensures rows { IfOk result (λ rows. rows ≡ rows_of system.now effects.now) }
@@ -67,9 +78,18 @@ pub fn rows(alloc: Global, system: &FaultSystem, effects: &[u32]) -> Mem<List<Ro
     let asked = Asked { system, effects };
     let known = known_of(alloc, &asked)?;
     let mut desk = desk_of(alloc, system, &known)?;
+    let mut passed = Passed::none(alloc, system.events(), desk.places.size())?;
     let mut rows = List::new(alloc);
     for event in 0..system.events() {
-        add_rows(alloc, &asked, &known, event, &mut desk, &mut rows)?;
+        add_rows(
+            alloc,
+            &asked,
+            &known,
+            event,
+            &mut desk,
+            &mut passed,
+            &mut rows,
+        )?;
     }
     Ok(rows)
 }
@@ -81,12 +101,21 @@ fn known_of(alloc: Global, asked: &Asked<'_>) -> Mem<Known>
 {
     table_of_rounds();
     let none = Bits::new(alloc, asked.system.events())?;
+    let reach = reach(alloc, asked.system, asked.effects)?;
     Ok(Known {
         base: asked.system.rounds(alloc, &none)?,
         effects: Bits::of(alloc, asked.system.facts(), asked.effects)?,
-        users: users_of(alloc, asked.system)?,
-        reach: reach(alloc, asked.system, asked.effects)?,
+        users: users_within(alloc, asked, &reach)?,
+        reach,
     })
+}
+
+// In which of the formulas on which effects depend each fact and each event occurs.
+fn users_within(alloc: Global, asked: &Asked<'_>, reach: &Reach) -> Mem<Users>
+    ensures { IfOk result (AreKeptUsers asked.now.system.now (member reach.now.facts)) }
+{
+    let users = users_of(alloc, asked.system)?;
+    Ok(kept_users(alloc, &users, &reach.facts)?)
 }
 
 // The table of no event, without marks.
@@ -99,7 +128,7 @@ fn desk_of(alloc: Global, system: &FaultSystem, known: &Known) -> Mem<Desk>
         times: Vec::from_slice(alloc, base)?,
         marks: vec![in alloc; 0u32; base.len()]?,
         alone: Bits::new(alloc, system.events())?,
-        places: Places::of(alloc, system, base)?,
+        places: Places::of(alloc, system, &known.reach.facts, base)?,
     })
 }
 
@@ -110,6 +139,7 @@ fn add_rows(
     known: &Known,
     event: u32,
     desk: &mut Desk,
+    passed: &mut Passed,
     rows: &mut List<Row>,
 ) -> Mem<()>
     requires event { event < length asked.now.system.now.events }
@@ -117,18 +147,24 @@ fn add_rows(
     requires known { IsKnown asked.now.system.now asked.now.effects.now known.now }
     requires between { IsBetween known.now.base event desk.old.times.items desk.old.marks.items }
     requires alone { IsNone (length asked.now.system.now.events) desk.old.alone }
+    requires passed { AreRowless asked.now.system.now asked.now.effects.now (member passed.old.rowless) }
     ensures rows { OnOk result (rows.new ≡ rows.old ++ event_rows asked.now.system.now asked.now.effects.now event) }
     ensures between { OnOk result
         (IsBetween known.now.base (event + 1) desk.new.times.items desk.new.marks.items) }
     ensures alone { OnOk result (IsNone (length asked.now.system.now.events) desk.new.alone) }
+    ensures passed { OnOk result (AreRowless asked.now.system.now asked.now.effects.now (member passed.new.rowless)) }
 {
-    if !known.reach.events.has(event) {
+    if !known.is_felt(event) {
+        return Ok(());
+    }
+    if passed.has(event) {
         return Ok(());
     }
     desk.alone.put(event);
     add_felt(alloc, asked, known, event, desk, rows)?;
     desk.alone.take(event);
-    Ok(())
+    let steps = desk.places.steps();
+    passed.look(alloc, asked, known, event.saturating_add(1), steps)
 }
 
 // Adds the rows of an event on which an effect depends.
@@ -152,39 +188,39 @@ fn add_felt(
 {
     let _few = asked.system.events();
     let changes = desk.places.propose(alloc, event)?;
-    if is_right(asked.system, known, event, changes.as_slice(), desk) {
+    if is_right(asked, known, event, changes.as_slice(), desk) {
         add_changed(known, event, changes.as_slice(), rows)?;
         return Ok(());
     }
     add_plain(alloc, asked, known, event, &desk.alone, rows)
 }
 
-// Whether the table of no event with these changes is that of an event alone.
+// Whether the table of no event with these changes is that of an event alone, at all facts on which an effect depends.
 fn is_right(
-    system: &FaultSystem,
+    asked: &Asked<'_>,
     known: &Known,
     event: u32,
     changes: &[Change],
     desk: &mut Desk,
 ) -> bool
-    requires event { event < length system.now.events }
+    requires event { event < length asked.now.system.now.events }
     requires few { event + 1 < 2 ^ 32 }
     requires alone { member desk.old.alone ≡ only event }
-    requires base { IsTable system.now no_event known.now.base }
-    requires users { AreUsers system.now known.now.users }
+    requires base { IsTable asked.now.system.now no_event known.now.base }
+    requires users { AreKeptUsers asked.now.system.now (member known.now.reach.facts) known.now.users }
+    requires reach { IsReach asked.now.system.now asked.now.effects.now known.now.reach }
     requires between { IsBetween known.now.base event desk.old.times.items desk.old.marks.items }
-    ensures right { IsTrue result → IsRight system.now event known.now.base changes.now }
+    ensures right { IsTrue result → IsRight asked.now.system.now asked.now.effects.now event known.now.base changes.now }
     ensures between { IsBetween known.now.base (event + 1) desk.new.times.items desk.new.marks.items }
     ensures alone { desk.new.alone ≡ desk.old.alone }
 {
-    checked_table();
-    if !are_rising(changes, system.facts()) {
+    if !are_rising(changes, asked.system.facts()) {
         desk.places.settle();
         return false;
     }
     make_changes(desk.times.as_mut_slice(), changes);
     let run = Run {
-        system,
+        system: asked.system,
         only: &desk.alone,
         times: desk.times.as_slice(),
         places: desk.places.all(),

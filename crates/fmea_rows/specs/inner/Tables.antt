@@ -1,15 +1,18 @@
 -- What the functions that find rows owe each other: tables that change, tests, and rows of tables.
-use Rattle.std.specs.Prelude.{ℕ, ◌≤◌, ◌≡◌, ◌==◌, ◌&&◌, Bool, false, if◌then◌else◌, List, [], ◌∷◌, length, map, slice_index_or, slice_set, nat_lt}
+use Rattle.std.specs.Prelude.{ℕ, ◌≤◌, ◌≡◌, ◌<◌, ◌==◌, ◌&&◌, Bool, true, false, if◌then◌else◌, List, [], ◌∷◌, length, map, slice_index_or, slice_set, nat_lt}
 use Rattle.std.specs.List.{flat_map}
 use Rattle.plain_values.specs.Rising.{RisesWithin}
 use Rattle.fault_system.specs.Truth.{NumberSet, Has, member, set_of}
-use Rattle.fault_system.specs.Systems.{System}
-use Rattle.fault_system.specs.Rounds.{no_event, only, time_of}
+use Rattle.fault_system.specs.Truth.{occurs, occurs_event}
+use Rattle.fault_system.specs.Systems.{System, IsFact}
+use Rattle.fault_system.specs.Rounds.{IsRoundOf, no_event, only, time_of}
 use Rattle.fault_system.specs.inner.Rounds.{FitsFact, IsTable}
+use Rattle.fault_system.specs.declared.formula.FactInfo.{FactInfo}
+use Rattle.fmea_rows.specs.Rows.{event_rows}
 use Rattle.fmea_rows.specs.declared.row.Row.{Row}
 use Rattle.fmea_rows.specs.declared.change.Change.{Change}
 use Rattle.backward_slice.specs.inner.Reach.{IsReach}
-use Rattle.fact_users.specs.inner.Users.{AreUsers, users_at}
+use Rattle.fact_users.specs.inner.Users.{users_at}
 use Rattle.fact_users.specs.declared.users.Users.{Users}
 use Rattle.fmea_rows.specs.declared.table.Known.{Known}
 use Rattle.fmea_rows.specs.declared.truth.Run.{Run}
@@ -25,17 +28,26 @@ abbrev pub changed : List ℕ → List Change → List ℕ
 changed times [] = times
 changed times (change ∷ changes) = changed (slice_set times change.fact change.time) changes
 
--- a table of no event with changes, each of another fact, is that of an event alone
-pub record IsRight (system : System) (event : ℕ) (base : List ℕ) (changes : List Change) : Type 0 where
+-- A table of no event with changes, each of another fact, is that of an event alone at all effects.
+pub record IsRight (system : System) (effects : List ℕ) (event : ℕ) (base : List ℕ) (changes : List Change) : Type 0 where
   pub rise : RisesWithin 0 (length system.facts) (facts_of changes)
-  pub table : IsTable system (only event) (changed base changes)
+  pub rounds : (n : ℕ) → Has (set_of effects) n → IsRoundOf system (only event) n (time_of (changed base changes) n)
 
--- what is known of all events: the table of no event, which facts are effects, the users, and on what the effects depend
+-- the facts of a set are among the users of each fact and of each event that occurs in their formulas
+pub record AreKeptUsers (system : System) (set : NumberSet) (users : Users) : Type 0 where
+  pub facts : (n g : ℕ) (fact : FactInfo) → Has set n → IsFact system n fact → g < length system.facts → occurs g fact.formula ≡ true → Has (users_at users.facts.items g) n
+  pub events : (n e : ℕ) (fact : FactInfo) → Has set n → IsFact system n fact → e < length system.events → occurs_event e fact.formula ≡ true → Has (users_at users.events.items e) n
+
+-- what is known of all events: the table of no event, which facts are effects, on what they depend, and its users
 pub record IsKnown (system : System) (effects : List ℕ) (known : Known) : Type 0 where
   pub base : IsTable system no_event known.base
   pub effects_are : (n : ℕ) → member known.effects n ≡ set_of effects n
-  pub users_are : AreUsers system known.users
+  pub users_are : AreKeptUsers system (member known.reach.facts) known.users
   pub reach_is : IsReach system effects known.reach
+
+-- the events of a set have no rows
+abbrev pub AreRowless : System → List ℕ → NumberSet → Type 0
+AreRowless system effects events = (event : ℕ) → Has events event → event_rows system effects event ≡ []
 
 -- ---- tests
 

@@ -16,6 +16,6 @@ returns c =
     record {
       base = (c.table_of_rounds.ensures c.args.asked.now.system.now no_event c.in_ok-rounds.field-0).1 (subst (λ (events : NumberSet). AreRounds c.args.asked.now.system.now events c.in_ok-rounds.field-0) none c.in_ok-rounds.ensures);
       effects_are = c.in_ok-of.ensures.numbers;
-      users_are = c.in_ok-users_of.ensures;
+      users_are = c.in_ok-users_within.ensures;
       reach_is = c.in_ok-reach.ensures;
     }

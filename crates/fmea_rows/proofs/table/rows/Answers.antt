@@ -11,6 +11,7 @@ loop-event-preserved c = record {
   rows = rows-next c.args.system.now c.args.effects.now c.loop-event.event c.loop-event.rows c.add_rows.new.rows c.loop-event.invariant.rows c.in_ok-add_rows.ensures.rows;
   between = c.in_ok-add_rows.ensures.between;
   alone = c.in_ok-add_rows.ensures.alone;
+  passed = c.in_ok-add_rows.ensures.passed;
 }
 
 pub returns : goal.returns
