@@ -2,4 +2,6 @@ mod Noting
 mod Loops
 mod Knowing
 mod Firsts
+mod Fitting
+mod Emptiness
 mod Examples

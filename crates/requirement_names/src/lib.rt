@@ -1,5 +1,5 @@
-//! The names of requirements over a model: the events of groups, sets of events by their texts, and the first of the words that are wrong.
-//! The call that resolves a whole text is not here yet; of it the types of its result are.
+//! The names of requirements, resolved over a model: targets as numbers of facts, groups and exceptions as sets of events, or the first
+//! word that names nothing.
 #![tactic(auto)]
 
 mod first;
@@ -9,9 +9,11 @@ mod mistake;
 mod model;
 mod named;
 mod names;
+mod resolving;
 mod sets;
 mod wrong;
 
-pub use laws::first_is_first;
+pub use laws::{first_is_first, named_fit};
 pub use mistake::{Mistake, NameFault, WrongWord};
 pub use named::{NamedRequirement, NamedSentence, SetSentence};
+pub use resolving::resolved;
