@@ -1,0 +1,2 @@
+pub mod Stray
+pub mod inner
