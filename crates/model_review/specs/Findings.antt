@@ -20,6 +20,7 @@ use Rattle.error_behavior.specs.declared.steps.Step.{Step}
 use Rattle.error_models.specs.declared.model.ErrorModel.{ErrorModel}
 use Rattle.instantiator.specs.Whole.{effective_in}
 use Rattle.event_rates.specs.Unused.{unused_rates}
+use Rattle.stray_bindings.specs.Stray.{stray_bindings}
 use Rattle.uneven_parts.specs.Quiet.{quiet_states}
 use Rattle.uneven_parts.specs.TwoWays.{two_ways}
 use Rattle.uneven_parts.specs.Unlike.{unlike_states}
@@ -34,7 +35,7 @@ use Rattle.model_facts.specs.Facts.{inward_of, is_linked, outward_of}
 use Rattle.fact_formulas.specs.Formulas.{end_of}
 use Rattle.model_review.specs.Seen.{Seen, declared_for, is_lost_event, is_lost_fact, is_used, may_come, number_at, side_in, source_number, state_number, states_of, stops, types_in}
 use Rattle.model_review.specs.declared.finding.Finding.{Finding}
-use Rattle.model_review.specs.declared.finding.Finding.TheVariants.{Dry, GoesNowhere, HiddenLink, HiddenPath, HiddenSource, HiddenTransitions, InModes, Never, NeverState, NoLink, NoSource, NotDeclared, Open, Quiet, StopsHere, StrayRate, TwoWays, TypeRoot, Unlike, UnreadBinding, UnusedState}
+use Rattle.model_review.specs.declared.finding.Finding.TheVariants.{Dry, GoesNowhere, HiddenLink, HiddenPath, HiddenSource, HiddenTransitions, InModes, Never, NeverState, NoLink, NoSource, NotDeclared, Open, Quiet, StopsHere, StrayPath, StrayRate, TwoWays, TypeRoot, Unlike, UnreadBinding, UnusedState}
 use Rattle.model_review.specs.declared.finding.TypesAt.{TypesAt}
 
 -- types at a side
@@ -318,12 +319,18 @@ states_told seen =
 
 -- ---- text that is not looked at
 
--- What is told of the text: what stands in modes, the bindings that the profile of the model does not read, the rates that are said of no event,
+-- What is told of bindings: those that the profile of the model does not read, and the paths in those that it reads which lead to nothing.
+abbrev pub bindings_told : Seen → List Finding
+bindings_told seen =
+    map UnreadBinding (unread_parts (what.Unread seen.numbered.assembly.types.profile) seen.numbered.assembly.instance)
+    ++ map StrayPath (stray_bindings seen.numbered.assembly.types.profile seen.numbered.assembly.instance)
+
+-- What is told of the text: what stands in modes, bindings, the rates that are said of no event,
 -- and the implementations of a root that is a component type.
 abbrev pub text_findings : Seen → List Finding
 text_findings seen =
     map InModes (unread_parts what.InModes seen.numbered.assembly.instance)
-    ++ (map UnreadBinding (unread_parts (what.Unread seen.numbered.assembly.types.profile) seen.numbered.assembly.instance)
+    ++ (bindings_told seen
     ++ (map StrayRate (unused_rates seen.numbered.assembly.instance seen.system.events)
     ++ map TypeRoot (root_implementations seen.numbered.assembly.instance)))
 

@@ -18,7 +18,7 @@ use Rattle.model_facts.specs.declared.keys.FactKind.TheVariants.{State}
 use Rattle.fault_system.specs.Systems.{event_name, fact_name}
 use Rattle.model_review.specs.Seen.{Seen}
 use Rattle.model_review.specs.declared.finding.Finding.{Finding}
-use Rattle.model_review.specs.declared.finding.Finding.TheVariants.{Dry, GoesNowhere, HiddenLink, HiddenPath, HiddenSource, HiddenTransitions, InLoop, InModes, Never, NeverState, NoEffect, NoLink, NoSingle, NoSource, NotDeclared, Open, Quiet, StopsHere, StrayRate, TwoWays, TypeRoot, Unlike, UnreachedEvent, UnreadBinding, UnusedEvent, UnusedState}
+use Rattle.model_review.specs.declared.finding.Finding.TheVariants.{Dry, GoesNowhere, HiddenLink, HiddenPath, HiddenSource, HiddenTransitions, InLoop, InModes, Never, NeverState, NoEffect, NoLink, NoSingle, NoSource, NotDeclared, Open, Quiet, StopsHere, StrayPath, StrayRate, TwoWays, TypeRoot, Unlike, UnreachedEvent, UnreadBinding, UnusedEvent, UnusedState}
 use Rattle.model_review.specs.declared.finding.TypesAt.{TypesAt}
 
 -- ---- sides
@@ -118,6 +118,7 @@ finding_text seen (Unlike one) = codes "unlike " ++ (fact_name seen.system one.s
 finding_text seen (Quiet one) = codes "quiet " ++ (fact_name seen.system one.state ++ (codes " at " ++ side_text seen.numbered.assembly one.side))
 finding_text seen (InModes part) = codes "in-modes " ++ part_text seen.numbered.assembly part
 finding_text seen (UnreadBinding part) = codes "unread-binding " ++ (path_text (path_at seen.numbered.assembly part.component) ++ (codes " " ++ part.name))
+finding_text seen (StrayPath stray) = codes "stray-binding " ++ (path_text (path_at seen.numbered.assembly stray.component) ++ (codes " " ++ dotted stray.path))
 finding_text seen (StrayRate rate) = codes "unused-rate " ++ (path_text (path_at seen.numbered.assembly rate.component) ++ (codes " " ++ dotted rate.target))
 finding_text seen (TypeRoot name) = codes "type-root root " ++ name
 finding_text seen (InLoop loop) = codes "loop " ++ (decimal loop.size ++ (codes " " ++ fact_name seen.system loop.first))

@@ -3,6 +3,7 @@ ghost use Rattle.std.specs.Prelude.{◌≡◌, ◌++◌, ◌∷◌, ◌==◌, []
 use event_rates::UnusedRate;
 use plain_values::{List, Mem, Name};
 use propagation_links::{Link, PointAt, Unlinked};
+use stray_bindings::StrayBinding;
 use system_review::Loop;
 use uneven_parts::{QuietState, UnlikeState};
 use unread_parts::Part;
@@ -64,6 +65,8 @@ pub enum Finding {
     InModes(Part),
     /// A binding is not read.
     UnreadBinding(Part),
+    /// A path in a binding leads to nothing.
+    StrayPath(StrayBinding),
     /// A rate is said of no event.
     StrayRate(UnusedRate),
     /// The root is a component type, and has no parts: an implementation of it is not looked at.

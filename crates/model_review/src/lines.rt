@@ -23,6 +23,7 @@ use plain_values::{List, Mem, Name};
 use propagation_links::{Link, PointAt, Unlinked};
 use propagation_points::Point;
 use std::alloc::Global;
+use stray_bindings::StrayBinding;
 use system_review::Loop;
 use uneven_parts::{QuietState, UnlikeState};
 use unread_parts::Part;
@@ -85,6 +86,7 @@ fn push_text(alloc: Global, text: &mut Vec<u8>, view: &View, finding: &Finding) 
         Finding::Quiet(one) => push_quiet(text, view.system(), assembly, *one),
         Finding::InModes(part) => push_in_modes(text, assembly, part),
         Finding::UnreadBinding(part) => push_unread(text, assembly, part),
+        Finding::StrayPath(stray) => push_stray(text, assembly, stray),
         Finding::StrayRate(rate) => push_rate(text, assembly, rate),
         Finding::TypeRoot(name) => push_two(text, b"type-root root ", name.items()),
         Finding::InLoop(one) => push_loop(text, view.system(), *one),
@@ -421,6 +423,15 @@ fn push_rate(text: &mut Vec<u8>, assembly: &Assembly, rate: &UnusedRate) -> Mem<
     text.extend_from_slice(b"unused-rate ")?;
     push_path(text, assembly, rate.component)?;
     push_target(text, rate.target.items())
+}
+
+/// Adds that a path in a binding leads to nothing.
+fn push_stray(text: &mut Vec<u8>, assembly: &Assembly, stray: &StrayBinding) -> Mem<()>
+    ensures { OnOk result (text.new.items ≡ text.old.items ++ (codes "stray-binding " ++ (path_text (path_at assembly.now stray.now.component) ++ (codes " " ++ dotted stray.now.path)))) }
+{
+    text.extend_from_slice(b"stray-binding ")?;
+    push_path(text, assembly, stray.component)?;
+    push_target(text, stray.path.items())
 }
 
 /// Adds a blank, and names with a dot between each two.

@@ -3,8 +3,9 @@
 ghost use Rattle.std.specs.Prelude.{◌≡◌, ◌++◌, IfOk, OnOk, false, flat_map, length, map, true};
 ghost use Rattle.plain_values.specs.Rising.{RisesWithin};
 ghost use Rattle.model_facts.specs.Assembly.{model_at};
-ghost use Rattle.model_review.specs.Findings.{dry_sides, hidden_flows, hidden_link, model_findings, never_out, no_links, no_sources, nowhere_out, of_components, open_ends, states_told, stops_of, text_findings, uneven_told, ways_told};
+ghost use Rattle.model_review.specs.Findings.{bindings_told, dry_sides, hidden_flows, hidden_link, model_findings, never_out, no_links, no_sources, nowhere_out, of_components, open_ends, states_told, stops_of, text_findings, uneven_told, ways_told};
 ghost use Rattle.event_rates.specs.Unused.{unused_rates};
+ghost use Rattle.stray_bindings.specs.Stray.{stray_bindings};
 ghost use Rattle.uneven_parts.specs.Quiet.{quiet_states};
 ghost use Rattle.uneven_parts.specs.TwoWays.{two_ways};
 ghost use Rattle.uneven_parts.specs.Unlike.{unlike_states};
@@ -12,7 +13,7 @@ ghost use Rattle.unread_parts.specs.Root.{root_implementations};
 ghost use Rattle.unread_parts.specs.Unread.{unread_parts};
 ghost use Rattle.unread_parts.specs.declared.unread.What.TheVariants as what;
 ghost use Rattle.model_review.specs.Told.{AreFindings};
-ghost use Rattle.model_review.specs.declared.finding.Finding.TheVariants.{InModes, NoLink, Quiet, StrayRate, TwoWays, TypeRoot, Unlike, UnreadBinding};
+ghost use Rattle.model_review.specs.declared.finding.Finding.TheVariants.{InModes, NoLink, Quiet, StrayPath, StrayRate, TwoWays, TypeRoot, Unlike, UnreadBinding};
 
 use crate::ends::{DrySides, Linked, NoSources, OpenEnds};
 use crate::finding::Finding;
@@ -28,6 +29,7 @@ use model_facts::points_of_models;
 use plain_values::{List, Mem, Name, copied};
 use propagation_links::{Link, Unlinked, find_unlinked};
 use std::alloc::Global;
+use stray_bindings::{StrayBinding, stray_bindings};
 use uneven_parts::{QuietState, UnlikeState, quiet_states, two_ways, unlike_states};
 use unread_parts::{Part, What, root_implementations, unread_parts};
 
@@ -199,7 +201,7 @@ fn add_text(alloc: Global, found: &mut List<Finding>, view: &View) -> Mem<()>
     ensures { OnOk result (found.new ≡ found.old ++ text_findings view.now) }
 {
     add_in_modes(alloc, found, view)?;
-    add_unread_bindings(alloc, found, view)?;
+    add_bindings(alloc, found, view)?;
     add_unused_rates(alloc, found, view)?;
     add_of_type_root(alloc, found, view)
 }
@@ -209,6 +211,31 @@ fn add_in_modes(alloc: Global, found: &mut List<Finding>, view: &View) -> Mem<()
 {
     let parts = unread_parts(alloc, What::InModes, view.instance())?;
     add_modal(alloc, found, parts.items())
+}
+
+/// Adds the bindings that are not read, and the paths in those that are which lead to nothing.
+fn add_bindings(alloc: Global, found: &mut List<Finding>, view: &View) -> Mem<()>
+    ensures { OnOk result (found.new ≡ found.old ++ bindings_told view.now) }
+{
+    add_unread_bindings(alloc, found, view)?;
+    add_stray_bindings(alloc, found, view)
+}
+
+fn add_stray_bindings(alloc: Global, found: &mut List<Finding>, view: &View) -> Mem<()>
+    ensures { OnOk result (found.new ≡ found.old ++ map StrayPath (stray_bindings view.now.numbered.assembly.types.profile view.now.numbered.assembly.instance)) }
+{
+    let profile = view.assembly().types().profile();
+    let strays = stray_bindings(alloc, profile, view.instance())?;
+    add_strays(alloc, found, strays.items())
+}
+
+fn add_strays(alloc: Global, found: &mut List<Finding>, strays: &[StrayBinding]) -> Mem<()>
+    ensures { OnOk result (found.new ≡ found.old ++ map StrayPath strays.now) }
+{
+    for stray in strays {
+        found.push(Finding::StrayPath(stray.again(alloc)?))?;
+    }
+    Ok(())
 }
 
 fn add_unread_bindings(alloc: Global, found: &mut List<Finding>, view: &View) -> Mem<()>
