@@ -221,8 +221,7 @@ class CoreReader(Reader):
         for token in self.balanced(";"):
             if depth == 0 and token.text == "[" and not member.array:
                 member.array = token.place
-            if not member.array:
-                member.tail.append(token)
+            member.tail.append(token)
             depth += (token.text in OPENING)
             depth -= (token.text in CLOSING)
         self.expect(";")

@@ -1,7 +1,10 @@
 """The text of `review` (docs/REVIEW_FINDINGS.md): each group of lines is a function."""
 
+from bindings import KINDS, Piece, pieces
 from cuts import is_true, leaves
+from rates import associations, key_of
 from rounds import effects, is_effect, rounds
+from text import CLOSING, OPENING
 
 
 class Review:
@@ -13,13 +16,16 @@ class Review:
         self.used = {leaf for formula in self.formulas.values() for leaf in leaves(formula)}
         self.effects = effects(facts)
 
-    def lines(self):
-        """All lines in their order."""
+    def lines(self, has_next=False):
+        """All lines in their order; with those of `next_lines` where they are asked for."""
         groups = (self.hidden_sources, self.hidden_paths, self.hidden_links,
                   self.hidden_transitions, self.not_declared, self.stops_here,
                   self.goes_nowhere, self.no_links, self.open_sides, self.dry_sides,
-                  self.no_sources, self.never, self.unused_states, self.loops, self.unused_events, self.no_singles,
-                  self.no_effect, self.unreached_events)
+                  self.no_sources, self.never, self.unused_states, self.in_modes,
+                  self.unread_bindings, self.unused_rates, self.type_root, self.loops,
+                  self.unused_events, self.no_singles, self.no_effect, self.unreached_events)
+        if has_next:
+            groups = groups[:-5] + (self.next_lines,) + groups[-5:]
         return [line for group in groups for line in group()] + ["end"]
 
     # What lines are made of
@@ -153,19 +159,25 @@ class Review:
         """`stops-here SIDE{TYPES}`."""
         for side in self.sides("in"):
             part, point = self.facts.parts[side[0]], side[2]
-            flows = [flow for flow, _ in part.flows if flow.point[0].text == point]
-            if any(flow.kind == "sink" for flow in flows):
-                continue
-            types = {number for number in self.coming(side)
-                     if ("fact", side + (number,)) not in self.used}
-            for flow in flows:
-                if flow.kind == "path":
-                    _, taken = self.selected(part, flow.point, flow.set, "in")
-                    _, ends = self.selected(part, flow.target, flow.target_set, "out")
-                    types -= set(taken) if flow.target_set and ends else set()
-                    types -= set(taken) & set(ends) if not flow.target_set else set()
+            sinks = [flow for flow, _ in part.flows
+                     if flow.kind == "sink" and flow.point[0].text == point]
+            types = set() if sinks else self.stopped(side)
             if types:
                 yield f"stops-here {self.with_types(side, types)}"
+
+    def stopped(self, side):
+        """The types that may come in at a side, occur in no formula, and are taken by no path
+        to a type of the side at its end."""
+        part, point = self.facts.parts[side[0]], side[2]
+        types = {number for number in self.coming(side)
+                 if ("fact", side + (number,)) not in self.used}
+        for flow, _ in part.flows:
+            if flow.kind == "path" and flow.point[0].text == point:
+                _, taken = self.selected(part, flow.point, flow.set, "in")
+                _, ends = self.selected(part, flow.target, flow.target_set, "out")
+                types -= set(taken) if flow.target_set and ends else set()
+                types -= set(taken) & set(ends) if not flow.target_set else set()
+        return types
 
     def goes_nowhere(self):
         """`goes-nowhere SIDE{TYPES}`."""
@@ -227,6 +239,48 @@ class Review:
                     and fact in self.may and ("fact", fact) not in self.used):
                 yield f"unused-state {self.facts.print(fact)}"
 
+    def in_modes(self):
+        """`in-modes OWNER/NAME`: members by their nearest declaration, then properties."""
+        for part in self.facts.parts:
+            names = [member.name for member in part.members
+                     if member.kind != "features" and has_modes(member.tail)]
+            names += [name for name, tokens, _ in bound(part) if has_modes(tokens)]
+            for name in names:
+                yield f"in-modes {part.path}/{name}"
+
+    def unread_bindings(self):
+        """`unread-binding OWNER NAME`."""
+        for part in self.facts.parts:
+            for name, tokens, member in bound(part):
+                if not is_read(tokens, member, self.facts.profile):
+                    yield f"unread-binding {part.path} {name}"
+
+    def unused_rates(self):
+        """`unused-rate OWNER TARGET`: of the clauses, and then of the machine."""
+        known = {part.path: set() for part in self.facts.parts}
+        for event in self.facts.events:
+            part, key = self.facts.parts[event[0]], key_of(self.facts, event)
+            while part:
+                known[part.path].add(key)
+                key = (part.path.rsplit(".", 1)[-1],) + key
+                part = part.parent
+        for part in self.facts.parts:
+            texts = part.clauses + ([part.machine] if part.machine else [])
+            for _, targets in associations(texts):
+                for target in targets:
+                    if target and target not in known[part.path]:
+                        yield f"unused-rate {part.path} {'.'.join(target)}"
+
+    def type_root(self):
+        """`type-root root NAME`: the implementations of a root that is a type."""
+        chain = self.facts.parts[0].chain
+        if chain and not chain[0].item:
+            package = chain[0].package
+            for classifier in package.classifiers:
+                if classifier.name == chain[0].name and classifier.item:
+                    name = "::".join(package.name + (classifier.name,))
+                    yield f"type-root root {name}.{classifier.item}"
+
     def loops(self):
         """`loop N FACT`."""
         reached = {fact: self.reached(fact) for fact in self.formulas}
@@ -274,3 +328,123 @@ class Review:
             leaf = ("event", event)
             if self.effects and leaf in self.used and leaf not in reached:
                 yield f"unreached-event {self.facts.print(event)}"
+
+    # Lines that are no part of a review yet (`second review .. --next`)
+
+    def next_lines(self):
+        """Lines on sides that lead twice to a part, on states of equal parts that clauses treat
+        unlike, on states that show at one side alone, and on what sinks leave."""
+        for group in (self.two_ways, self.unlike, self.quiet, self.sink_leaves):
+            yield from group()
+
+    def two_ways(self):
+        """`two-ways SIDE -> PART`: by the side, in the order of components and points, and then
+        by the part."""
+        ends = {}
+        for start, goal in self.facts.links:
+            if goal[1] == "in":
+                ends.setdefault((start, goal[0]), set()).add(goal[2])
+        for owner in self.facts.parts:
+            for point in owner.sides:
+                for direction in ("in", "out"):
+                    start = (owner.number, direction, point)
+                    for part in self.facts.parts:
+                        if len(ends.get((start, part.number), ())) > 1:
+                            yield f"two-ways {self.side_name(start)} -> {part.path}"
+
+    def unlike(self):
+        """`unlike FACT in FACT`: the state of a part, by its fact, and the states of the component
+        around it, in whose formula it does not occur and that of an equal part does."""
+        occur = {fact: {key for kind, key in leaves(self.formulas[fact]) if kind == "fact"}
+                 for fact in self.formulas
+                 if fact[1] == "state" and self.facts.parts[fact[0]].composites}
+        for fact in self.formulas:
+            part = self.facts.parts[fact[0]]
+            if fact[1] != "state" or not part.parent:
+                continue
+            beside = [other.number for other in part.parent.children.values()
+                      if other is not part and other.chain and part.chain
+                      and other.chain[0] is part.chain[0]]
+            for goal, found in occur.items():
+                if goal[0] == part.parent.number and fact not in found and any(
+                        (number,) + fact[1:] in found for number in beside):
+                    yield f"unlike {self.facts.print(fact)} in {self.facts.print(goal)}"
+
+    def quiet(self):
+        """`quiet FACT at SIDE`: a state that occurs in no formula at a declared outward side, and
+        does at another outward side of its component."""
+        for fact in self.formulas:
+            part = self.facts.parts[fact[0]]
+            if fact[1] != "state" or part.composites:
+                continue
+            sides = [side for side in self.sides("out") if side[0] == part.number]
+            shown = [side for side in sides if any(
+                ("fact", fact) in leaves(self.formulas[side + (number,)])
+                for number in self.types_of(side))]
+            for side in sides:
+                if shown and side not in shown and self.has_declared_types(side):
+                    yield f"quiet {self.facts.print(fact)} at {self.side_name(side)}"
+
+    def sink_leaves(self):
+        """`sink-leaves SIDE{TYPES}`."""
+        for side in self.sides("in"):
+            part = self.facts.parts[side[0]]
+            sinks = [flow for flow, _ in part.flows
+                     if flow.kind == "sink" and flow.point[0].text == side[2]]
+            types = self.stopped(side) if sinks else set()
+            for flow in sinks:
+                types -= set(self.selected(part, flow.point, flow.set, "in")[1])
+            if types:
+                yield f"sink-leaves {self.with_types(side, types)}"
+
+
+# Properties that bind, and modes
+
+
+def has_modes(tokens):
+    """Does `in modes` stand outside of brackets?"""
+    depth = 0
+    for token, following in zip(tokens, tokens[1:]):
+        depth += (token.text in OPENING) - (token.text in CLOSING)
+        if depth == 0 and token.text == "in" and following.text == "modes":
+            return True
+    return False
+
+
+def bound(part):
+    """The properties of a component whose names end in `_binding`: their names, their tokens,
+    and the member behind which they stand in braces, or None. From the farthest classifier to
+    the nearest, of each the sections and then the braces."""
+    for classifier in reversed(part.chain):
+        groups = [(tokens, None) for tokens in classifier.properties]
+        groups += [(inner(member.tail), member) for member in classifier.members]
+        for tokens, member in groups:
+            for piece in pieces(tokens):
+                name = property_name(piece)
+                if name and name.endswith("_binding"):
+                    yield name, piece, member
+
+
+def inner(tokens):
+    """What stands behind the first `{`."""
+    texts = [token.text for token in tokens]
+    return tokens[texts.index("{") + 1:] if "{" in texts else []
+
+
+def property_name(piece):
+    """The name of a property without its set, or None."""
+    at = 0
+    while [token.text for token in piece[at + 1:at + 2]] == ["::"]:
+        at += 2
+    return piece[at].text if at < len(piece) and piece[at].kind == "word" else None
+
+
+def is_read(tokens, member, profile):
+    """Does the profile read a binding there?"""
+    if member and (profile == 1 or member.kind == "features"):
+        return False
+    try:
+        kind, _, _ = Piece(tokens).binding(braced=member is not None)
+    except ValueError:
+        return False
+    return profile == 2 or kind in KINDS

@@ -114,8 +114,9 @@ class Wider:
             return ""
         if self.maybe(self.wrong):
             return self.pick(SETS)
-        return {"{a}": self.pick(["{a}", "{b}"]), "{b}": "{b}", "{c}": self.pick(["{c}", "{n}"]),
-                }.get(declared) or self.pick(SETS + ["{n}"])
+        found = {"{a}": self.pick(["{a}", "{b}"]), "{b}": "{b}", "{c}": self.pick(["{c}", "{n}"]),
+                 }.get(declared) or self.pick(SETS + ["{n}"])
+        return "{c}" if found == "{n}" and not self.conditions else found
 
     def name(self, right):
         """A name, or seldom a wrong one."""
