@@ -1,6 +1,6 @@
 """The text of `review` (docs/REVIEW_FINDINGS.md): each group of lines is a function."""
 
-from bindings import KINDS, Piece, pieces
+from bindings import GUESTS, KINDS, Piece, braced_of, category, pieces
 from cuts import is_true, leaves
 from rates import associations, key_of
 from rounds import effects, is_effect, rounds
@@ -20,9 +20,10 @@ class Review:
         """All lines in their order; with those of `next_lines` where they are asked for."""
         groups = (self.hidden_sources, self.hidden_paths, self.hidden_links,
                   self.hidden_transitions, self.not_declared, self.stops_here,
-                  self.goes_nowhere, self.no_links, self.open_sides, self.dry_sides,
-                  self.no_sources, self.never, self.unused_states, self.in_modes,
-                  self.unread_bindings, self.unused_rates, self.type_root, self.loops,
+                  self.goes_nowhere, self.no_links, self.two_ways, self.open_sides,
+                  self.dry_sides, self.no_sources, self.never, self.unused_states, self.unlike,
+                  self.quiet, self.in_modes, self.unread_bindings, self.stray_bindings,
+                  self.unused_rates, self.type_root, self.loops,
                   self.unused_events, self.no_singles, self.no_effect, self.unreached_events)
         if has_next:
             groups = groups[:-5] + (self.next_lines,) + groups[-5:]
@@ -255,6 +256,28 @@ class Review:
                 if not is_read(tokens, member, self.facts.profile):
                     yield f"unread-binding {part.path} {name}"
 
+    def stray_bindings(self):
+        """`stray-binding OWNER PATH`: of sections, and then of braces, which profile 2 reads."""
+        second = self.facts.profile == 2
+        for part in self.facts.parts:
+            for kind, references, targets in part.bindings + (braced_of(part) if second else []):
+                if not second and kind not in KINDS:
+                    continue
+                strays = [path for path in targets if not self.may_be_bound(part, kind, path)]
+                strays += [path for path in references if not self.facts.below(part, path)]
+                for path in strays:
+                    yield f"stray-binding {part.path} {'.'.join(path)}"
+
+    def may_be_bound(self, part, kind, path):
+        """Does a path lead to what a binding of a kind binds?"""
+        other = self.facts.below(part, path)
+        if kind != "connection":
+            return other is not None
+        owner = self.facts.below(part, path[:-1])
+        wires = owner.members if owner else []
+        return category(other) == GUESTS["connection"] or any(
+            member.kind == "connections" and member.name == path[-1] for member in wires)
+
     def unused_rates(self):
         """`unused-rate OWNER TARGET`: of the clauses, and then of the machine."""
         known = {part.path: set() for part in self.facts.parts}
@@ -332,43 +355,41 @@ class Review:
     # Lines that are no part of a review yet (`second review .. --next`)
 
     def next_lines(self):
-        """Lines on sides that lead twice to a part, on states of equal parts that clauses treat
-        unlike, on states that show at one side alone, and on what sinks leave."""
-        for group in (self.two_ways, self.unlike, self.quiet, self.sink_leaves):
-            yield from group()
+        """Lines on what sinks leave."""
+        yield from self.sink_leaves()
+
+    # Lines on what is used otherwise than what stands beside it
 
     def two_ways(self):
-        """`two-ways SIDE -> PART`: by the side, in the order of components and points, and then
-        by the part."""
-        ends = {}
+        """`two-ways SIDE -> SIDE`: each further inward side of a component to which a side leads,
+        in the order of links."""
+        ways, known = set(), set()
         for start, goal in self.facts.links:
-            if goal[1] == "in":
-                ends.setdefault((start, goal[0]), set()).add(goal[2])
-        for owner in self.facts.parts:
-            for point in owner.sides:
-                for direction in ("in", "out"):
-                    start = (owner.number, direction, point)
-                    for part in self.facts.parts:
-                        if len(ends.get((start, part.number), ())) > 1:
-                            yield f"two-ways {self.side_name(start)} -> {part.path}"
+            if goal[1] != "in":
+                continue
+            if (start, goal[0]) in ways and (start, goal) not in known:
+                yield f"two-ways {self.side_name(start)} -> {self.side_name(goal)}"
+            ways.add((start, goal[0]))
+            known.add((start, goal))
 
     def unlike(self):
-        """`unlike FACT in FACT`: the state of a part, by its fact, and the states of the component
-        around it, in whose formula it does not occur and that of an equal part does."""
-        occur = {fact: {key for kind, key in leaves(self.formulas[fact]) if kind == "fact"}
-                 for fact in self.formulas
-                 if fact[1] == "state" and self.facts.parts[fact[0]].composites}
-        for fact in self.formulas:
-            part = self.facts.parts[fact[0]]
-            if fact[1] != "state" or not part.parent:
-                continue
-            beside = [other.number for other in part.parent.children.values()
-                      if other is not part and other.chain and part.chain
-                      and other.chain[0] is part.chain[0]]
-            for goal, found in occur.items():
-                if goal[0] == part.parent.number and fact not in found and any(
-                        (number,) + fact[1:] in found for number in beside):
-                    yield f"unlike {self.facts.print(fact)} in {self.facts.print(goal)}"
+        """`unlike FACT in FACT`: for each fact, by the places in its formula, the states of parts
+        of its component that do not occur there, though that of an equal part does."""
+        for goal, formula in self.formulas.items():
+            found = [key for kind, key in places(formula) if kind == "fact"
+                     and self.facts.parts[key[0]].parent is self.facts.parts[goal[0]]]
+            seen = set()
+            for fact in found:
+                part = self.facts.parts[fact[0]]
+                likeness = (id(part.chain[0]) if part.chain else None,) + fact[1:]
+                if fact[1] != "state" or not part.chain or likeness in seen:
+                    continue
+                seen.add(likeness)
+                for other in self.facts.parts:
+                    beside = (other.number,) + fact[1:]
+                    if (other.parent is part.parent and other.chain
+                            and other.chain[0] is part.chain[0] and beside not in found):
+                        yield f"unlike {self.facts.print(beside)} in {self.facts.print(goal)}"
 
     def quiet(self):
         """`quiet FACT at SIDE`: a state that occurs in no formula at a declared outward side, and
@@ -396,6 +417,13 @@ class Review:
                 types -= set(self.selected(part, flow.point, flow.set, "in")[1])
             if types:
                 yield f"sink-leaves {self.with_types(side, types)}"
+
+
+def places(formula):
+    """The facts and events in a formula, one for each place, in order."""
+    if formula[0] in ("fact", "event"):
+        return [formula]
+    return [leaf for part in formula[-1] for leaf in places(part)]
 
 
 # Properties that bind, and modes

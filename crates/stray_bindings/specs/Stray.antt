@@ -1,5 +1,5 @@
 -- Bindings that a profile reads, and that name what is not there (AADL: deployment properties).
-use Rattle.std.specs.Prelude.{ℕ, Bool, true, false, cond, ◌&&◌, ◌||◌, is_some, not, nat_eq, List, [], ◌∷◌, ◌++◌, codes, filter, flat_map, map, Option, None, Some, option_and_then}
+use Rattle.std.specs.Prelude.{ℕ, Bool, true, false, cond, ◌&&◌, ◌||◌, is_some, not, nat_eq, List, [], ◌∷◌, ◌++◌, codes, filter, flat_map, map, option_and_then}
 use Rattle.std.specs.List.{list_any}
 use Rattle.std.specs.Option.{option_map_or}
 use Rattle.aadl_syntax.specs.declared.core_model.Binding.{Binding}
@@ -38,15 +38,10 @@ is_wire_in key instance number component = list_any (is_wire key number) (effect
 abbrev pub has_wire : Instance → Wire → Bool
 has_wire instance key = list_any (λ found. found) (numbered_from (is_wire_in key instance) 0 instance.components)
 
--- whether the component of a number, if there is one, has a connection of this name, if there is one
-abbrev pub has_named : Instance → Option ℕ → Option (List ℕ) → Bool
-has_named instance None name = false
-has_named instance (Some number) None = false
-has_named instance (Some number) (Some name) = has_wire instance (number, name)
-
 -- whether a path leads to a connection: to a component and then to one of its connections
 abbrev pub is_connection : Instance → ℕ → List (List ℕ) → Bool
-is_connection instance number path = has_named instance (component_below instance.components number (front path)) (last path)
+is_connection instance number path =
+    option_map_or (λ owner. option_map_or (λ name. has_wire instance (owner, name)) (last path) false) (component_below instance.components number (front path)) false
 
 -- ---- components
 

@@ -1,10 +1,10 @@
 //! What paths lead to.
 
-ghost use Rattle.std.specs.Prelude.{◌≡◌, ◌||◌, IfOk, OnOk, is_some, Some};
+ghost use Rattle.std.specs.Prelude.{◌≡◌, ◌||◌, IfOk, OnOk, is_some};
 ghost use Rattle.std.specs.HashSet.{contains};
 ghost use Rattle.std.specs.List.{list_any};
 ghost use Rattle.instantiator.specs.Whole.{effective_in};
-ghost use Rattle.stray_bindings.specs.Stray.{has_named, has_wire, is_bindable, is_carrier, is_connection, is_part, is_virtual_bus, is_wire, leads_to_carrier};
+ghost use Rattle.stray_bindings.specs.Stray.{has_wire, is_bindable, is_carrier, is_connection, is_part, is_virtual_bus, is_wire, leads_to_carrier};
 ghost use Rattle.stray_bindings.specs.inner.Tables.{KnowsWires, WireKey, same_wire};
 
 use aadl_syntax::{BindingKind, Category, Connection, Identifier};
@@ -82,20 +82,20 @@ impl<'i> Places<'i> {
     fn is_connection(&self, number: u32, path: &[Identifier]) -> bool
         ensures { result ≡ is_connection self.now number path.now }
     {
-        match path.split_last() {
-            Some((name, front)) => self.has_named(self.instance.find_below(number, front), name),
+        let Some((name, front)) = path.split_last() else {
+            return false;
+        };
+        match self.instance.find_below(number, front) {
+            Some(owner) => self.has_wire(owner, name),
             None => false,
         }
     }
 
-    /// Whether the component of a number, if there is one, has a connection of this name.
-    fn has_named(&self, number: Option<u32>, name: &Identifier) -> bool
-        ensures { result ≡ has_named self.now number (Some name.now) }
+    /// Whether the component of a number has a connection of this name.
+    fn has_wire(&self, owner: u32, name: &Identifier) -> bool
+        ensures { result ≡ has_wire self.now (owner, name.now) }
     {
-        match number {
-            Some(number) => self.wires.contains(&(number, name.text())),
-            None => false,
-        }
+        self.wires.contains(&(owner, name.text()))
     }
 
     /// Whether a path leads to a virtual bus.
@@ -169,7 +169,19 @@ fn add_all<'i>(
         ≡ contains same_wire wires.old key || list_any (is_wire (key.0, key.1.now) number) members.now) }
 {
     for member in members {
-        wires.insert((number, member.nearest().item().name.text()))?;
+        add_one(wires, number, member)?;
     }
+    Ok(())
+}
+
+fn add_one<'i>(
+    wires: &mut HashSet<Wire<'i>>,
+    number: u32,
+    member: &'i Inherited<'i, Connection>,
+) -> Mem<()>
+    ensures { OnOk result ((key : WireKey) → contains same_wire wires.new key ≡ contains same_wire wires.old key || is_wire (key.0, key.1.now) number member.now) }
+{
+    let name = member.nearest().item().name.text();
+    wires.insert((number, name))?;
     Ok(())
 }
