@@ -1,5 +1,5 @@
 -- Bindings that a profile reads, and that name what is not there (AADL: deployment properties).
-use Rattle.std.specs.Prelude.{ℕ, Bool, true, false, cond, ◌&&◌, ◌||◌, is_some, not, nat_eq, List, [], ◌∷◌, ◌++◌, codes, filter, flat_map, map, option_and_then}
+use Rattle.std.specs.Prelude.{ℕ, Bool, true, false, cond, ◌&&◌, ◌||◌, is_some, not, nat_eq, List, [], ◌∷◌, ◌++◌, codes, filter, flat_map, map, Option, None, Some, option_and_then}
 use Rattle.std.specs.List.{list_any}
 use Rattle.std.specs.Option.{option_map_or}
 use Rattle.aadl_syntax.specs.declared.core_model.Binding.{Binding}
@@ -38,10 +38,17 @@ is_wire_in key instance number component = list_any (is_wire key number) (effect
 abbrev pub has_wire : Instance → Wire → Bool
 has_wire instance key = list_any (λ found. found) (numbered_from (is_wire_in key instance) 0 instance.components)
 
--- whether a path leads to a connection: to a component and then to one of its connections
+-- a connection of the component of a number by its name, if there is one
+abbrev pub wire_named : Instance → ℕ → List ℕ → Option Wire
+wire_named instance owner name = cond (has_wire instance (owner, name)) (Some (owner, name)) None
+
+-- the connection to which a path leads: through a component to one of its connections
+abbrev pub wire_at : Instance → ℕ → List (List ℕ) → Option Wire
+wire_at instance number path = option_and_then (λ owner. option_and_then (wire_named instance owner) (last path)) (component_below instance.components number (front path))
+
+-- whether a path leads to a connection
 abbrev pub is_connection : Instance → ℕ → List (List ℕ) → Bool
-is_connection instance number path =
-    option_map_or (λ owner. option_map_or (λ name. has_wire instance (owner, name)) (last path) false) (component_below instance.components number (front path)) false
+is_connection instance number path = is_some (wire_at instance number path)
 
 -- ---- components
 
