@@ -1,0 +1,4 @@
+mod Facts
+mod Firsts
+mod Tests
+mod Exits

@@ -1,0 +1,208 @@
+//! The verdicts on requirements whose names are numbers.
+
+ghost use Rattle.std.specs.Prelude.{◌≡◌, ◌<◌, ◌↔◌, ℕ, IfErr, IfOk, length};
+ghost use Rattle.std.specs.List.{AllByRecursion, AllZip};
+ghost use Rattle.fault_system.specs.Truth.{Has, member};
+ghost use Rattle.backward_slice.specs.Slices.{IsServed, IsSlice};
+ghost use Rattle.requirement_names.specs.inner.Named.{FitsModel, FitsSets};
+ghost use Rattle.requirement_names.specs.declared.named.NamedSentence.TheVariants.{OfSets};
+ghost use Rattle.requirement_verdicts.specs.inner.Meanings.{HoldsAnyway, MayHold};
+ghost use Rattle.requirement_verdicts.specs.inner.Verdicts.{IsVerdict};
+ghost use Rattle.requirement_lines.specs.inner.Judged.{AreUnjudged, IsJudgedSo, IsLarge, IsUnjudged, KnowsFacts};
+
+use crate::judgement::Judgement;
+use crate::told::RequirementFault;
+use backward_slice::{Slice, slice};
+use dependency_blocks::blocks;
+use fault_system::{Bits, FaultSystem};
+use forbidden_sets::{Judged, first_forbidden};
+use plain_values::{List, Mem, Stop, copied};
+use requirement_names::{NamedRequirement, NamedSentence, SetSentence};
+use requirement_verdicts::{Verdict, early_verdict, late_verdict};
+use std::alloc::Global;
+use zdd_store::Store;
+
+/// What is known of the facts of a system.
+#[derive(Clone, Copy)]
+pub(crate) struct Known<'a> {
+    /// The facts that hold under no event.
+    pub always: &'a Bits,
+    /// The facts that hold under some events.
+    pub perhaps: &'a Bits,
+}
+
+/// The verdicts on some requirements, in their order.
+pub(crate) fn all_judged(
+    alloc: Global,
+    system: &FaultSystem,
+    all: &[NamedRequirement],
+) -> Result<List<Judgement>, RequirementFault>
+    requires { AllByRecursion (FitsModel system.now) all.now }
+    ensures judged { IfOk result (λ judgements. AllZip (IsJudgedSo system.now) all.now judgements) }
+    ensures unjudged { IfErr result (AreUnjudged system.now all.now) }
+{
+    let always = anyway_facts(alloc, system)?;
+    let perhaps = possible_facts(alloc, system)?;
+    let known = Known {
+        always: &always,
+        perhaps: &perhaps,
+    };
+    each_judged(alloc, system, &known, all)
+}
+
+/// The facts that hold under no event.
+fn anyway_facts(alloc: Global, system: &FaultSystem) -> Mem<Bits>
+    ensures { IfOk result (λ facts. (n : ℕ) → Has (member facts) n ↔ HoldsAnyway system.now n) }
+{
+    let none = Bits::new(alloc, system.events())?;
+    let facts = system.holds(alloc, &none)?;
+    Ok(facts)
+}
+
+/// The facts that hold under some events.
+fn possible_facts(alloc: Global, system: &FaultSystem) -> Mem<Bits>
+    ensures { IfOk result (λ facts. (n : ℕ) → Has (member facts) n ↔ MayHold system.now n) }
+{
+    let all = all_events(alloc, system)?;
+    let facts = system.holds(alloc, &all)?;
+    Ok(facts)
+}
+
+/// All events of a system.
+fn all_events(alloc: Global, system: &FaultSystem) -> Mem<Bits>
+    ensures size { IfOk result (λ bits. length bits ≡ length system.now.events) }
+    ensures all { IfOk result (λ bits. (n : ℕ) → n < length system.now.events → Has (member bits) n) }
+{
+    let count = system.events();
+    let mut events = Bits::new(alloc, count)?;
+    for event in 0..count {
+        events.put(event);
+    }
+    Ok(events)
+}
+
+/// The verdicts on some requirements, in their order, where this is known of the facts.
+fn each_judged(
+    alloc: Global,
+    system: &FaultSystem,
+    known: &Known<'_>,
+    all: &[NamedRequirement],
+) -> Result<List<Judgement>, RequirementFault>
+    requires fits { AllByRecursion (FitsModel system.now) all.now }
+    requires known { KnowsFacts system.now known.now }
+    ensures judged { IfOk result (λ judgements. AllZip (IsJudgedSo system.now) all.now judgements) }
+    ensures unjudged { IfErr result (AreUnjudged system.now all.now) }
+{
+    let mut judgements = List::new(alloc);
+    for named in all {
+        let judgement = judge(alloc, system, known, named)?;
+        judgements.push(judgement)?;
+    }
+    Ok(judgements)
+}
+
+/// The verdict on a requirement.
+fn judge(
+    alloc: Global,
+    system: &FaultSystem,
+    known: &Known<'_>,
+    named: &NamedRequirement,
+) -> Result<Judgement, RequirementFault>
+    requires fits { FitsModel system.now named.now }
+    requires known { KnowsFacts system.now known.now }
+    ensures judged { IfOk result (IsJudgedSo system.now named.now) }
+    ensures unjudged { IfErr result (IsUnjudged system.now named.now) }
+{
+    match &named.sentence {
+        NamedSentence::OfSets(sentence) => judge_sets(alloc, system, known, named, sentence),
+        NamedSentence::Probability(_, _) => Err(RequirementFault::Unserved(named.name.at)),
+    }
+}
+
+/// The verdict on a requirement whose sentence is this.
+fn judge_sets(
+    alloc: Global,
+    system: &FaultSystem,
+    known: &Known<'_>,
+    named: &NamedRequirement,
+    sentence: &SetSentence,
+) -> Result<Judgement, RequirementFault>
+    requires fits { FitsModel system.now named.now }
+    requires known { KnowsFacts system.now known.now }
+    requires says { named.now.sentence ≡ OfSets sentence.now }
+    ensures judged { IfOk result (IsJudgedSo system.now named.now) }
+    ensures unjudged { IfErr result (IsUnjudged system.now named.now) }
+{
+    match slice_for(alloc, system, named.target, named.name.at) {
+        Ok(part) => judge_part(alloc, system, known, &part, named, sentence),
+        Err(fault) => Err(fault),
+    }
+}
+
+/// The verdict on a requirement whose target has this slice and whose sentence is this.
+fn judge_part(
+    alloc: Global,
+    system: &FaultSystem,
+    known: &Known<'_>,
+    part: &Slice,
+    named: &NamedRequirement,
+    sentence: &SetSentence,
+) -> Result<Judgement, RequirementFault>
+    requires slice { IsServed system.now named.now.target part.now }
+    requires fits { FitsSets system.now sentence.now }
+    requires known { KnowsFacts system.now known.now }
+    requires says { named.now.sentence ≡ OfSets sentence.now }
+    ensures judged { IfOk result (IsJudgedSo system.now named.now) }
+    ensures unjudged { IfErr result (IsUnjudged system.now named.now) }
+{
+    let name = copied(alloc, named.name.text.items())?;
+    let verdict = verdict_on(alloc, system, known, part, sentence)?;
+    Ok(Judgement { name, verdict })
+}
+
+/// The slice of the target of a requirement whose name stands at this place.
+fn slice_for(
+    alloc: Global,
+    system: &FaultSystem,
+    target: u32,
+    at: usize,
+) -> Result<Slice, RequirementFault>
+    requires { target < length system.now.facts }
+    ensures slice { IfOk result (IsServed system.now target) }
+    ensures large { IfErr result (IsLarge system.now target at) }
+{
+    match slice(alloc, system, target) {
+        Ok(part) => Ok(part),
+        Err(Stop::Memory) => Err(RequirementFault::Memory),
+        Err(Stop::Refused(refusal)) => Err(RequirementFault::TooLarge(refusal, at)),
+    }
+}
+
+/// The verdict on what a sentence says of the target of a slice.
+fn verdict_on(
+    alloc: Global,
+    system: &FaultSystem,
+    known: &Known<'_>,
+    part: &Slice,
+    sentence: &SetSentence,
+) -> Mem<Verdict>
+    requires slice { IsSlice system.now part.now.target part.now }
+    requires fits { FitsSets system.now sentence.now }
+    requires known { KnowsFacts system.now known.now }
+    ensures { IfOk result (IsVerdict system.now part.now.target sentence.now) }
+{
+    let always = known.always.has(part.target);
+    let perhaps = known.perhaps.has(part.target);
+    if let Some(verdict) = early_verdict(alloc, always, perhaps, sentence) {
+        return Ok(verdict);
+    }
+    let parts = blocks(alloc, system, part)?;
+    let judged = Judged {
+        system,
+        slice: part,
+        blocks: &parts,
+    };
+    let mut store = Store::new(alloc);
+    let first = first_forbidden(alloc, &judged, sentence, &mut store)?;
+    late_verdict(alloc, system, part.target, sentence, first)
+}
