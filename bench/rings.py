@@ -70,7 +70,14 @@ def needed(count):
     return model(count, machine, devices, parts, wires, composite("j.bad")), []
 
 
-SHAPES = {shape.__name__: shape for shape in [alone, beside, needed]}
+def fed(count):
+    """The ring leaves the root, so each event has a row."""
+    port = f"features o: out event port; annex EMV2 {{** use types p; error propagations o: out propagation {{{ALL}}}; end propagations; **}}; "
+    rows = [f"root.d{n},root.d{n}/e,prob=1,root/out:o{{p::t0}},{4 + 2 * (-n % count)}" for n in range(count)]
+    return model(count, wires="co: port d0.o -> o;\n", features=port), rows
+
+
+SHAPES = {shape.__name__: shape for shape in [alone, beside, needed, fed]}
 
 
 def run(tool, file):

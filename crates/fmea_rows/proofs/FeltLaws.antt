@@ -30,7 +30,7 @@ or_not false true h = absurd (false≢true (sym h))
 or_not false false h = refl
 
 -- where the formulas make a fact true, there is the fact
-fact-at : (system : System) (events facts : NumberSet) (n : ℕ) → Has (member (applied system events facts)) n → (fact : FactInfo) × IsFact system n fact
+pub fact-at : (system : System) (events facts : NumberSet) (n : ℕ) → Has (member (applied system events facts)) n → (fact : FactInfo) × IsFact system n fact
 fact-at system events facts n has = at (slice_get system.facts n) (λ o e. e) where
   at : (found : Option FactInfo) → ((o : Option FactInfo) → found ≡ o → slice_get system.facts n ≡ o) → (fact : FactInfo) × IsFact system n fact
   at None is = absurd (false≢true (sym (member-past (λ fact. truth events facts fact.formula) system.facts n (is None (λ i. None))) ∙ has))

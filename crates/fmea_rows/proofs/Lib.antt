@@ -3,6 +3,7 @@ pub mod RowOrder
 pub mod TableLaws
 pub mod TestLaws
 pub mod KeptLaws
+pub mod ColumnLaws
 pub mod FeltLaws
 pub mod AnyLaws
 pub mod LineLaws

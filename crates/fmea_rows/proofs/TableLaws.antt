@@ -62,7 +62,7 @@ one_or_none : {X : Type 0} (b : Bool) (x : X) (xs : List X) → (if b then x ∷
 one_or_none true x xs = refl
 one_or_none false x xs = refl
 
-made-where : {X Y : Type 0} (test : X → Bool) (make : X → Y) (xs : List X) → flat_map (λ x. if test x then make x ∷ [] else []) xs ≡ map make (filter test xs)
+pub made-where : {X Y : Type 0} (test : X → Bool) (make : X → Y) (xs : List X) → flat_map (λ x. if test x then make x ∷ [] else []) xs ≡ map make (filter test xs)
 made-where test make [] = refl
 made-where test make (x ∷ xs) = one_or_none (test x) (make x) (flat_map (λ y. if test y then make y ∷ [] else []) xs)
     ∙ ap (λ ys. cond (test x) (make x ∷ ys) ys) (made-where test make xs) ∙ mapped (test x)
@@ -125,6 +125,32 @@ module _ (system : System) (event : ℕ) (base times effects : List ℕ) (none :
       (λ n i. let among = In-filter (is_reached system event) n effects i in
       let same : time_of times n ≡ round_of system (only event) n = time-is n among.0 among.1 in
       λ k. record { event = event; effect = n; round = same k })
+
+and_yes : (b : Bool) → b ≡ b && true
+and_yes true = refl
+and_yes false = refl
+
+-- a row is made of a fact exactly where it is reached, by its rounds under no event and under the event alone
+pub one-row : (system : System) (event n b t : ℕ) → IsRoundOf system no_event n b → (b ≡ 0 → IsRoundOf system (only event) n t)
+    → row_if ((b == 0) && nat_lt 0 t) event n t ≡ (if is_reached system event n then row_of system event n ∷ [] else [])
+one-row system event n zero t none alone =
+    let is : IsRoundOf system (only event) n t = alone refl in
+    let new : nat_lt 0 t ≡ is_reached system event n = and_yes (nat_lt 0 t) ∙ ap (λ b. b && true) (ever-is system (only event) n t is)
+    ∙ ap (λ b. makes_hold system n (only event) && not b) (ever-is system no_event n 0 none) in
+    ap (λ b. row_if b event n t) new ∙ by (is_reached system event n) (λ e. at t is e) where
+      at : (t : ℕ) → IsRoundOf system (only event) n t → is_reached system event n ≡ true → t ≡ round_of system (only event) n
+      at zero is e = absurd (is (reached-means system event n e).0)
+      at (suc t) is e = sym (round-is system (only event) n (suc t) is)
+
+      by : (b : Bool) → (b ≡ true → t ≡ round_of system (only event) n) → row_if b event n t ≡ (if b then row_of system event n ∷ [] else [])
+      by true same = let round : t ≡ round_of system (only event) n = same refl in λ k. record { event = event; effect = n; round = round k } ∷ []
+      by false same = refl
+one-row system event n (suc b) t none alone =
+    ap (λ a. row_if (a && nat_lt 0 t) event n t) (is_zero (suc b) ∙ ap not (le-leb 1 (suc b) (omega arith)))
+    ∙ sym (ap (λ a. if a then row_of system event n ∷ [] else []) (ap (λ a. makes_hold system n (only event) && not a) (sym (ever-is system no_event n (suc b) none)) ∙ ap (λ a. makes_hold system n (only event) && not a) (le-leb 1 (suc b) (omega arith)) ∙ never (makes_hold system n (only event)))) where
+      never : (a : Bool) → a && not true ≡ false
+      never true = refl
+      never false = refl
 
 -- ---- the rows of what changes
 

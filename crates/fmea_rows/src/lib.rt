@@ -3,6 +3,8 @@
 #![tactic(auto)]
 
 mod change;
+mod columns;
+mod distances;
 mod fields;
 mod kept;
 mod laws;
@@ -12,6 +14,7 @@ mod row;
 mod table;
 mod table_lines;
 mod testing;
+mod told;
 mod truth;
 
 pub use laws::{computed_rows, one_table, reads_back};

@@ -4,12 +4,13 @@
 //! walked on which an effect depends. What passes the tests is right. That what is proposed always passes is not proved, so where a test failed the rounds under the event would be
 //! made anew.
 
-ghost use Rattle.std.specs.Prelude.{◌≡◌, ◌<◌, ◌+◌, ◌^◌, ◌++◌, IfOk, IsTrue, OnOk, length};
+ghost use Rattle.std.specs.Prelude.{◌≡◌, ◌<◌, ◌+◌, ◌^◌, ◌++◌, ◌⊎◌, [], IfOk, IsTrue, OnOk, length};
 ghost use Rattle.plain_values.specs.Rising.{RisesWithin};
 ghost use Rattle.fault_system.specs.Truth.{member};
 ghost use Rattle.fault_system.specs.Rounds.{no_event, only};
 ghost use Rattle.fault_system.specs.inner.Rounds.{IsTable};
 ghost use Rattle.fmea_rows.specs.Rows.{event_rows, rows_of};
+ghost use Rattle.fmea_rows.specs.inner.Columns.{AreColumns};
 ghost use Rattle.fmea_rows.specs.inner.Rows.{AreRows};
 ghost use Rattle.backward_slice.specs.inner.Reach.{IsReach};
 ghost use Rattle.fmea_rows.specs.inner.Tables.{AreKeptUsers, AreRowless, IsBetween, IsKnown, IsNone, IsRight, changed_rows, is_new, table_rows};
@@ -20,6 +21,7 @@ use crate::passing::Passed;
 use crate::places::Places;
 use crate::row::Row;
 use crate::testing::fits_where_felt;
+use crate::told::{Told, add_told, are_told, steps_before};
 use crate::truth::Run;
 use backward_slice::{Reach, reach};
 use fact_users::{Users, users_of};
@@ -79,6 +81,7 @@ pub fn rows(alloc: Global, system: &FaultSystem, effects: &[u32]) -> Mem<List<Ro
     let known = known_of(alloc, &asked)?;
     let mut desk = desk_of(alloc, system, &known)?;
     let mut passed = Passed::none(alloc, system.events(), desk.places.size())?;
+    let mut told = Told::none(alloc, steps_before(&asked, desk.places.size()));
     let mut rows = List::new(alloc);
     for event in 0..system.events() {
         add_rows(
@@ -88,6 +91,7 @@ pub fn rows(alloc: Global, system: &FaultSystem, effects: &[u32]) -> Mem<List<Ro
             event,
             &mut desk,
             &mut passed,
+            &mut told,
             &mut rows,
         )?;
     }
@@ -140,6 +144,7 @@ fn add_rows(
     event: u32,
     desk: &mut Desk,
     passed: &mut Passed,
+    told: &mut Told,
     rows: &mut List<Row>,
 ) -> Mem<()>
     requires event { event < length asked.now.system.now.events }
@@ -148,11 +153,13 @@ fn add_rows(
     requires between { IsBetween known.now.base event desk.old.times.items desk.old.marks.items }
     requires alone { IsNone (length asked.now.system.now.events) desk.old.alone }
     requires passed { AreRowless asked.now.system.now asked.now.effects.now (member passed.old.rowless) }
+    requires told { (told.old.columns.items ≡ []) ⊎ AreColumns asked.now.system.now asked.now.effects.now told.old.columns.items }
     ensures rows { OnOk result (rows.new ≡ rows.old ++ event_rows asked.now.system.now asked.now.effects.now event) }
     ensures between { OnOk result
         (IsBetween known.now.base (event + 1) desk.new.times.items desk.new.marks.items) }
     ensures alone { OnOk result (IsNone (length asked.now.system.now.events) desk.new.alone) }
     ensures passed { OnOk result (AreRowless asked.now.system.now asked.now.effects.now (member passed.new.rowless)) }
+    ensures told { OnOk result ((told.new.columns.items ≡ []) ⊎ AreColumns asked.now.system.now asked.now.effects.now told.new.columns.items) }
 {
     if !known.is_felt(event) {
         return Ok(());
@@ -160,10 +167,16 @@ fn add_rows(
     if passed.has(event) {
         return Ok(());
     }
+    let columns = told.columns.as_slice();
+    if are_told(columns, event) {
+        add_told(known.base.items(), columns, event, rows)?;
+        return Ok(());
+    }
     desk.alone.put(event);
     add_felt(alloc, asked, known, event, desk, rows)?;
     desk.alone.take(event);
     let steps = desk.places.steps();
+    told.make(alloc, asked, steps)?;
     passed.look(alloc, asked, known, event.saturating_add(1), steps)
 }
 
@@ -291,7 +304,8 @@ fn add_reached(
     Ok(())
 }
 
-fn row_of(event: u32, effect: u32, round: u32) -> Row
+/// A row.
+pub(crate) fn row_of(event: u32, effect: u32, round: u32) -> Row
     ensures { result ≡ record { event = event; effect = effect; round = round } }
 {
     Row {
@@ -301,8 +315,8 @@ fn row_of(event: u32, effect: u32, round: u32) -> Row
     }
 }
 
-// Whether a fact has no time in the table of no event, and one under an event.
-fn is_new(base: &[u32], fact: u32, time: u32) -> bool
+/// Whether a fact has no time in the table of no event, and one under an event.
+pub(crate) fn is_new(base: &[u32], fact: u32, time: u32) -> bool
     ensures { result ≡ is_new base.now fact time }
 {
     time_at(base, fact) == 0 && time > 0

@@ -52,8 +52,8 @@ fn fits_time(run: &Run<'_>, times: &[u32], formula: &Formula, number: u32) -> bo
     comes && !is_true(run, formula, time - 2, number)
 }
 
-// Whether a fact has a time in a table, at most so much.
-fn is_within(times: &[u32], most: u32, number: u32) -> bool
+/// Whether a fact has a time in a table, at most so much.
+pub(crate) fn is_within(times: &[u32], most: u32, number: u32) -> bool
     ensures { result ≡ within (time_of times.now) most number }
 {
     let time = time_at(times, number);

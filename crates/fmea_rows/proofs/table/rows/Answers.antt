@@ -12,6 +12,7 @@ loop-event-preserved c = record {
   between = c.in_ok-add_rows.ensures.between;
   alone = c.in_ok-add_rows.ensures.alone;
   passed = c.in_ok-add_rows.ensures.passed;
+  told = c.in_ok-add_rows.ensures.told;
 }
 
 pub returns : goal.returns

@@ -1,8 +1,9 @@
-use Rattle.std.proofs.Common.{◌≡◌, length}
+use Rattle.std.proofs.Common.{◌≡◌, ◌⊎◌, [], length}
 use Rattle.std.specs.List.{flat_map}
 use Rattle.plain_values.specs.Numbered.{numbers_below}
 use Rattle.fmea_rows.specs.Rows.{event_rows}
 use Rattle.fault_system.specs.Truth.{member}
+use Rattle.fmea_rows.specs.inner.Columns.{AreColumns}
 use Rattle.fmea_rows.specs.inner.Tables.{AreRowless, IsBetween, IsNone}
 use Rattle.fmea_rows.proofs.table.rows.Given as goal
 
@@ -12,4 +13,5 @@ invariant-loop-event l = record {
   between : IsBetween l.known.base l.event l.desk.times.items l.desk.marks.items;
   alone : IsNone (length l.system.events) l.desk.alone;
   passed : AreRowless l.system l.effects (member l.passed.rowless);
+  told : (l.told.columns.items ≡ []) ⊎ AreColumns l.system l.effects l.told.columns.items;
 }
