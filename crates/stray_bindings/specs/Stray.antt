@@ -38,17 +38,17 @@ is_wire_in key instance number component = list_any (is_wire key number) (effect
 abbrev pub has_wire : Instance → Wire → Bool
 has_wire instance key = list_any (λ found. found) (numbered_from (is_wire_in key instance) 0 instance.components)
 
--- a connection of the component of a number by its name, if there is one
-abbrev pub wire_named : Instance → ℕ → List ℕ → Option Wire
-wire_named instance owner name = cond (has_wire instance (owner, name)) (Some (owner, name)) None
+-- the component of a number, if it has a connection of this name
+abbrev pub owner_named : Instance → ℕ → List ℕ → Option ℕ
+owner_named instance owner name = cond (has_wire instance (owner, name)) (Some owner) None
 
--- the connection to which a path leads: through a component to one of its connections
-abbrev pub wire_at : Instance → ℕ → List (List ℕ) → Option Wire
-wire_at instance number path = option_and_then (λ owner. option_and_then (wire_named instance owner) (last path)) (component_below instance.components number (front path))
+-- the component of the connection to which a path leads: through that to one of its connections
+abbrev pub wire_owner : Instance → ℕ → List (List ℕ) → Option ℕ
+wire_owner instance number path = option_and_then (λ owner. option_and_then (owner_named instance owner) (last path)) (component_below instance.components number (front path))
 
 -- whether a path leads to a connection
 abbrev pub is_connection : Instance → ℕ → List (List ℕ) → Bool
-is_connection instance number path = is_some (wire_at instance number path)
+is_connection instance number path = is_some (wire_owner instance number path)
 
 -- ---- components
 

@@ -1,10 +1,10 @@
 //! What paths lead to.
 
-ghost use Rattle.std.specs.Prelude.{◌≡◌, ◌||◌, IfOk, OnOk, is_some, option_map};
+ghost use Rattle.std.specs.Prelude.{◌≡◌, ◌||◌, IfOk, OnOk, is_some};
 ghost use Rattle.std.specs.HashSet.{contains};
 ghost use Rattle.std.specs.List.{list_any};
 ghost use Rattle.instantiator.specs.Whole.{effective_in};
-ghost use Rattle.stray_bindings.specs.Stray.{has_wire, is_bindable, is_carrier, is_connection, is_part, is_virtual_bus, is_wire, leads_to_carrier, wire_at, wire_named};
+ghost use Rattle.stray_bindings.specs.Stray.{has_wire, is_bindable, is_carrier, is_connection, is_part, is_virtual_bus, is_wire, leads_to_carrier, owner_named, wire_owner};
 ghost use Rattle.stray_bindings.specs.inner.Tables.{KnowsWires, WireKey, same_wire};
 
 use aadl_syntax::{BindingKind, Category, Connection, Identifier};
@@ -82,24 +82,24 @@ impl<'i> Places<'i> {
     fn is_connection(&self, number: u32, path: &[Identifier]) -> bool
         ensures { result ≡ is_connection self.now number path.now }
     {
-        self.wire_at(number, path).is_some()
+        self.wire_owner(number, path).is_some()
     }
 
-    /// The connection to which a path leads.
-    fn wire_at<'p>(&self, number: u32, path: &'p [Identifier]) -> Option<Wire<'p>>
-        ensures { option_map (λ wire. (wire.0, wire.1.now)) result ≡ wire_at self.now number path.now }
+    /// The component of the connection to which a path leads.
+    fn wire_owner(&self, number: u32, path: &[Identifier]) -> Option<u32>
+        ensures { result ≡ wire_owner self.now number path.now }
     {
         let (name, front) = path.split_last()?;
         let owner = self.instance.find_below(number, front)?;
-        self.wire_named(owner, name.text())
+        self.owner_named(owner, name.text())
     }
 
-    /// A connection of the component of a number by its name, if there is one.
-    fn wire_named<'p>(&self, owner: u32, name: &'p [u8]) -> Option<Wire<'p>>
-        ensures { option_map (λ wire. (wire.0, wire.1.now)) result ≡ wire_named self.now owner name.now }
+    /// The component of a number, if it has a connection of this name.
+    fn owner_named(&self, owner: u32, name: &[u8]) -> Option<u32>
+        ensures { result ≡ owner_named self.now owner name.now }
     {
         if self.has_wire(owner, name) {
-            Some((owner, name))
+            Some(owner)
         } else {
             None
         }
