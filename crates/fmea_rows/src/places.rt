@@ -44,7 +44,7 @@ pub(crate) struct Places {
     waiting: BinaryHeap<(Reverse<u32>, u32)>,
     // the places that changed, as they were
     changed: Vec<(u32, Place)>,
-    // how many places were looked at for an event
+    // how many places and parts of these were looked at for an event
     steps: u64,
 }
 
@@ -99,7 +99,7 @@ impl Places {
         self.places.len() as u64
     }
 
-    /// How many of them were looked at for the last event.
+    /// How many of them and of their parts were looked at for the last event.
     pub fn steps(&self) -> u64 {
         self.steps
     }
@@ -158,7 +158,7 @@ impl Places {
         let mut comes = round;
         for _ in 0..u64::MAX {
             let old = self.at(at);
-            self.steps = self.steps.saturating_add(1);
+            self.steps = self.steps.saturating_add(1 + u64::from(old.count));
             if comes >= old.round {
                 return Ok(());
             }
