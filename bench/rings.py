@@ -2,7 +2,7 @@
 
     python3 rings.py --tool PROGRAM [--devices N] [NAME..]
 
-Each device hands on every type that comes in, so an event reaches all others. Each table is known byte by byte: a wrong one says
+Each device hands on every type that comes in, and its own event gives one to the next device, so an event reaches all others. Each table is known byte by byte: a wrong one says
 `WRONG`, and then the exit status is 1. Seconds are those of the processor, and megabytes the most that the program had at once. The
 last column is the exponent by which the seconds grow from the row before: 1 is linear, and 2 is the square.
 """
@@ -28,12 +28,12 @@ def model(count, machines="", devices="", parts="", wires="", root="", features=
     """A ring of devices, with what else a shape has."""
     passed = "".join(f" f{n}: error path i{{{name}}} -> o{{{name}}};" for n, name in enumerate(TYPES))
     device = (
-        "device d features i: in event port; o: out event port; annex EMV2 {** use types p; use behavior p::m; error propagations\n"
-        f"i: in propagation {{{ALL}}}; o: out propagation {{{ALL}}}; flows{passed} end propagations;\n"
-        "component error behavior propagations bad -[]-> o{t0}; end component; **}; end d;\n"
+        "device d features i: in event port; o: out event port; q: out event port; annex EMV2 {** use types p; use behavior p::m;\n"
+        f"error propagations i: in propagation {{{ALL}}}; o: out propagation {{{ALL}}}; q: out propagation {{t0}}; flows{passed} end propagations;\n"
+        "component error behavior propagations bad -[]-> q{t0}; end component; **}; end d;\n"
     )
     ring = "".join(f"d{n}: device d;\n" for n in range(count))
-    links = "".join(f"c{n}: port d{n}.o -> d{(n + 1) % count}.i;\n" for n in range(count))
+    links = "".join(f"c{n}: port d{n}.o -> d{(n + 1) % count}.i;\nb{n}: port d{n}.q -> d{(n + 1) % count}.i;\n" for n in range(count))
     types = "error types " + " ".join(f"{name}: type;" for name in TYPES) + " end types;\n"
     return (
         f"package p\npublic\nannex EMV2 {{**\n{types}{MACHINES}{machines}**}};\n{device}{devices}"
@@ -73,7 +73,7 @@ def needed(count):
 def fed(count):
     """The ring leaves the root, so each event has a row."""
     port = f"features o: out event port; annex EMV2 {{** use types p; error propagations o: out propagation {{{ALL}}}; end propagations; **}}; "
-    rows = [f"root.d{n},root.d{n}/e,prob=1,root/out:o{{p::t0}},{4 + 2 * (-n % count)}" for n in range(count)]
+    rows = [f"root.d{n},root.d{n}/e,prob=1,root/out:o{{p::t0}},{4 + 2 * (count - n)}" for n in range(count)]
     return model(count, wires="co: port d0.o -> o;\n", features=port), rows
 
 
