@@ -3,6 +3,7 @@
 //! Nothing is claimed of what is found: the tests of `columns` decide.
 
 use crate::change::time_at;
+use crate::columns::Ends;
 use fault_system::{FaultSystem, Formula};
 use plain_values::Mem;
 use std::alloc::Global;
@@ -19,7 +20,7 @@ pub(crate) struct Distances {
 
 impl Distances {
     /// Those from an effect.
-    pub fn of(alloc: Global, system: &FaultSystem, effect: u32) -> Mem<Distances> {
+    pub fn of(alloc: Global, system: &FaultSystem, ends: &Ends, effect: u32) -> Mem<Distances> {
         let mut found = Distances {
             facts: vec![in alloc; 0u32; system.facts() as usize]?,
             events: vec![in alloc; 0u32; system.events() as usize]?,
@@ -34,7 +35,10 @@ impl Distances {
             done = done.saturating_add(1);
             let distance = time_at(found.facts.as_slice(), number);
             match system.fact(number) {
-                Some(fact) => visit(&mut found, &fact.formula, distance)?,
+                Some(fact) => {
+                    let latest = latest_of(ends, &fact.formula, distance);
+                    visit(&mut found, &fact.formula, distance, latest)?;
+                }
                 None => {}
             }
         }
@@ -52,32 +56,40 @@ impl Distances {
 
     fn note_event(&mut self, event: u32, distance: u32) {
         let at = event as usize;
-        if at < self.events.len() && self.events[at] == 0 {
+        if at < self.events.len() && (self.events[at] == 0 || self.events[at] > distance) {
             self.events[at] = distance;
         }
     }
 }
 
+// How far an event is that occurs in the formula of a fact of a distance: as far, and one farther where it must wait for facts.
+fn latest_of(ends: &Ends, formula: &Formula, distance: u32) -> u32 {
+    if formula.is_true(&ends.all, &ends.no_fact) {
+        return distance;
+    }
+    distance.saturating_add(1)
+}
+
 // Notes what occurs in the formula of a fact.
 #[cycle(visit)]
-fn visit(found: &mut Distances, formula: &Formula, distance: u32) -> Mem<()> {
+fn visit(found: &mut Distances, formula: &Formula, distance: u32, latest: u32) -> Mem<()> {
     match formula {
         Formula::True => Ok(()),
         Formula::Event(number) => {
-            found.note_event(*number, distance);
+            found.note_event(*number, latest);
             Ok(())
         }
         Formula::Fact(number) => found.note_fact(*number, distance.saturating_add(1)),
         Formula::And(parts) | Formula::Or(parts) | Formula::AtLeast(_, parts) => {
-            visit_parts(found, parts.items(), distance)
+            visit_parts(found, parts.items(), distance, latest)
         }
     }
 }
 
 #[cycle(visit)]
-fn visit_parts(found: &mut Distances, parts: &[Formula], distance: u32) -> Mem<()> {
+fn visit_parts(found: &mut Distances, parts: &[Formula], distance: u32, latest: u32) -> Mem<()> {
     for part in parts {
-        visit(found, part, distance)?;
+        visit(found, part, distance, latest)?;
     }
     Ok(())
 }

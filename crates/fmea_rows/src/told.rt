@@ -3,7 +3,7 @@
 ghost use Rattle.std.specs.Prelude.{◌≡◌, ◌++◌, ◌⊎◌, [], IfOk, IsTrue, OnOk};
 ghost use Rattle.fmea_rows.specs.inner.Columns.{AreColumns, AreToldAt, column_rows};
 
-use crate::columns::Column;
+use crate::columns::{Column, Ends};
 use crate::row::Row;
 use crate::table::{Asked, is_new, row_of};
 use plain_values::{List, Mem};
@@ -64,9 +64,10 @@ pub(crate) fn steps_before(asked: &Asked<'_>, whole: u64) -> u64 {
 fn columns_of(alloc: Global, asked: &Asked<'_>) -> Mem<Vec<Column>>
     ensures { IfOk result (λ columns. AreColumns asked.now.system.now asked.now.effects.now columns.items) }
 {
+    let ends = Ends::of(alloc, asked.system)?;
     let mut columns = Vec::new(alloc);
     for effect in asked.effects {
-        columns.push(Column::of(alloc, asked.system, *effect)?)?;
+        columns.push(Column::of(alloc, asked.system, &ends, *effect)?)?;
     }
     Ok(columns)
 }

@@ -7,4 +7,4 @@ use Rattle.fmea_rows.proofs.columns.+around.Given as goal
 
 abbrev pub invariant-are_around-loop-part : goal.invariant-are_around-loop-part
 invariant-are_around-loop-part l =
-    AreAround (time_of l.facts) (time_of l.events) l.distance (λ n. list_any (λ part. part) (map (occurs n) (take l.part-index l.parts))) (λ n. list_any (λ part. part) (map (occurs_event n) (take l.part-index l.parts)))
+    AreAround (time_of l.facts) (time_of l.events) l.distance l.latest (λ n. list_any (λ part. part) (map (occurs n) (take l.part-index l.parts))) (λ n. list_any (λ part. part) (map (occurs_event n) (take l.part-index l.parts)))

@@ -12,4 +12,4 @@ returns c = λ events.
     sure-first c.args.system.now c.args.effect (time_of c.args.facts.now) events old c.put_fact.new.sure
     (λ n. ap (λ (bs : List Bool). member bs n) c.in_ok-none.ensures ∙ member-replicate c.facts.result n)
     (λ n. ap (λ (bs : List Bool). member bs n) c.in_ok-events.ensures ∙ member-replicate c.events.result n)
-    (c.put_fact.ensures events)
+    (c.put_fact.ensures events 0)
