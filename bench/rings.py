@@ -24,13 +24,16 @@ MACHINES = (
 )
 
 
-def model(count, machines="", devices="", parts="", wires="", root="", features=""):
-    """A ring of devices, with what else a shape has."""
+STATES = " use behavior p::m;", "", "component error behavior propagations bad -[]-> q{t0}; end component; "
+
+
+def model(count, machines="", devices="", parts="", wires="", root="", features="", own=STATES):
+    """A ring of devices, with what else a shape has, and what gives each device's own event."""
     passed = "".join(f" f{n}: error path i{{{name}}} -> o{{{name}}};" for n, name in enumerate(TYPES))
     device = (
-        "device d features i: in event port; o: out event port; q: out event port; annex EMV2 {** use types p; use behavior p::m;\n"
-        f"error propagations i: in propagation {{{ALL}}}; o: out propagation {{{ALL}}}; q: out propagation {{t0}}; flows{passed} end propagations;\n"
-        "component error behavior propagations bad -[]-> q{t0}; end component; **}; end d;\n"
+        "device d features i: in event port; o: out event port; q: out event port; annex EMV2 {** use types p;"
+        f"{own[0]}\nerror propagations i: in propagation {{{ALL}}}; o: out propagation {{{ALL}}}; q: out propagation {{t0}}; flows{own[1]}{passed} end propagations;\n"
+        f"{own[2]}**}}; end d;\n"
     )
     ring = "".join(f"d{n}: device d;\n" for n in range(count))
     links = "".join(f"c{n}: port d{n}.o -> d{(n + 1) % count}.i;\nb{n}: port d{n}.q -> d{(n + 1) % count}.i;\n" for n in range(count))
@@ -70,14 +73,22 @@ def needed(count):
     return model(count, machine, devices, parts, wires, composite("j.bad")), []
 
 
+PORT = f"features o: out event port; annex EMV2 {{** use types p; error propagations o: out propagation {{{ALL}}}; end propagations; **}}; "
+
+
 def fed(count):
     """The ring leaves the root, so each event has a row."""
-    port = f"features o: out event port; annex EMV2 {{** use types p; error propagations o: out propagation {{{ALL}}}; end propagations; **}}; "
     rows = [f"root.d{n},root.d{n}/e,prob=1,root/out:o{{p::t0}},{4 + 2 * (count - n)}" for n in range(count)]
-    return model(count, wires="co: port d0.o -> o;\n", features=port), rows
+    return model(count, wires="co: port d0.o -> o;\n", features=PORT), rows
 
 
-SHAPES = {shape.__name__: shape for shape in [alone, beside, needed, fed]}
+def sources(count):
+    """The same, of error sources in the place of states."""
+    rows = [f"root.d{n},root.d{n}/source:s,prob=1,root/out:o{{p::t0}},{2 + 2 * (count - n)}" for n in range(count)]
+    return model(count, wires="co: port d0.o -> o;\n", features=PORT, own=("", " s: error source q{t0};", "")), rows
+
+
+SHAPES = {shape.__name__: shape for shape in [alone, beside, needed, fed, sources]}
 
 
 def run(tool, file):
