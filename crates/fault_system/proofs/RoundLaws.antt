@@ -62,14 +62,14 @@ module _ (events : NumberSet) (times : ℕ → ℕ) (f : Formula) where
   grows : (q r : ℕ) → q ≤ r → truth events (within times q) f ≡ true → truth events (within times r) f ≡ true
   grows q r h = truth-grows events events (within times q) (within times r) (λ n k. k) (within_more times q r h) f
 
-  on_time : (t r : ℕ) → FitsTime events times f t → truth events (within times r) f ≡ true → nat_lt 0 t && nat_le t (suc r) ≡ true
+  pub on_time : (t r : ℕ) → FitsTime events times f t → truth events (within times r) f ≡ true → nat_lt 0 t && nat_le t (suc r) ≡ true
   on_time zero r fits e =
       absurd (false≢true (sym fits ∙ truth-grows events events (within times r) (ever times) (λ n h. h) (within_ever times r) f e))
   on_time (suc zero) r fits e = le-leb 1 (suc r) (omega arith)
   on_time (suc (suc q)) r fits e = ⊎_elim (λ h. timed (suc (suc q)) (suc r) (omega arith) (omega arith))
       (λ h. absurd (false≢true (sym fits.1 ∙ grows r q h e))) (le_or_above q r)
 
-  in_time : (t r : ℕ) → FitsTime events times f t → nat_lt 0 t && nat_le t (suc r) ≡ true → truth events (within times r) f ≡ true
+  pub in_time : (t r : ℕ) → FitsTime events times f t → nat_lt 0 t && nat_le t (suc r) ≡ true → truth events (within times r) f ≡ true
   in_time zero r fits e = absurd (false≢true e)
   in_time (suc zero) r fits e = grows 0 r (omega arith) fits
   in_time (suc (suc q)) r fits e = let less = time_parts (suc (suc q)) (suc r) e in grows (suc q) r (omega (arith, less.1)) fits.0

@@ -35,12 +35,13 @@ changed_table system event old new table changed = record {
       (changed.each n fact at);
 }
 
-any_of : (p : ℕ → Bool) (xs : List ℕ) → list_any p xs ≡ true → (g : ℕ) × (set_of xs g ≡ true) × (p g ≡ true)
+-- a number of the list that passes
+pub any_of : (p : ℕ → Bool) (xs : List ℕ) → list_any p xs ≡ true → (g : ℕ) × (set_of xs g ≡ true) × (p g ≡ true)
 any_of p [] e = absurd (false≢true e)
 any_of p (x ∷ xs) e = ⊎_elim (λ h. (x, ap (λ b. b || set_of xs x) (eq-eqb x x refl), h))
     (λ h. let t : (g : ℕ) × (set_of xs g ≡ true) × (p g ≡ true) = any_of p xs h in (t.0, ap (λ b. (x == t.0) || b) t.1 ∙ or-true (x == t.0), t.2)) (or_cases (p x) (list_any p xs) e)
 
-any_from : (p : ℕ → Bool) (xs : List ℕ) (g : ℕ) → set_of xs g ≡ true → p g ≡ true → list_any p xs ≡ true
+pub any_from : (p : ℕ → Bool) (xs : List ℕ) (g : ℕ) → set_of xs g ≡ true → p g ≡ true → list_any p xs ≡ true
 any_from p [] g e h = absurd (false≢true e)
 any_from p (x ∷ xs) g e h = ⊎_elim (λ f. let same : x ≡ g = eqb-true x g f in ap (λ b. b || list_any p xs) (ap p same ∙ h))
     (λ f. ap (λ b. p x || b) (any_from p xs g f h) ∙ or-true (p x)) (or_cases (x == g) (set_of xs g) e)

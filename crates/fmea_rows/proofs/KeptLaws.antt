@@ -1,22 +1,21 @@
 -- Tables that fit at the facts of a set which has, with each fact, all facts that occur in its formula.
-use Rattle.std.proofs.Common.{ℕ, zero, suc, ◌≡◌, ◌<◌, ◌≤◌, ◌⊎◌, Bool, true, ◌&&◌, ◌||◌, ◌==◌, List, [], ◌∷◌, length, map, filter, inl, inr, ⊎_elim, ap, ◌∙◌, sym, refl, subst, arith, eqb-true, eq-eqb, le-leb}
+use Rattle.std.proofs.Common.{ℕ, zero, suc, ◌≡◌, ◌<◌, ◌≤◌, ◌⊎◌, Bool, ◌&&◌, List, [], ◌∷◌, length, map, filter, inl, inr, ⊎_elim, ap, ◌∙◌, sym, refl, subst, arith}
 use Rattle.std.specs.Prelude.{slice_index_or, nat_lt, nat_le}
 use Rattle.std.specs.List.{list_any}
 use Rattle.std.proofs.lemmas.Bool.{false≢true, cases_Bool, or_cases, and_from}
 use Rattle.std.proofs.lemmas.Option.{slice_get_within}
-use Rattle.std.proofs.Math.Bool.{or-true}
 use Rattle.fault_system.specs.Truth.{NumberSet, Has, member, occurs, occurs_event, set_of, truth}
 use Rattle.fault_system.specs.Systems.{System, IsFact, round}
 use Rattle.fault_system.specs.Rounds.{IsRoundOf, no_event, only, time_of}
-use Rattle.fault_system.specs.inner.Rounds.{FitsFact, FitsTime, IsTable, ever, within}
+use Rattle.fault_system.specs.inner.Rounds.{FitsFact, FitsTime, IsTable, within}
 use Rattle.fault_system.specs.declared.formula.Formula.{Formula}
 use Rattle.fault_system.specs.declared.formula.FactInfo.{FactInfo}
 use Rattle.fault_system.proofs.HoldsLaws.{holds_of-exact}
 use Rattle.fault_system.proofs.NumberSets.{RisesWithin-at, member-map, member-none, set_of-contained, set_of-filter}
-use Rattle.fault_system.proofs.Occurring.{truth-grows, truth-same}
-use Rattle.fault_system.proofs.RoundLaws.{time_parts, timed, too_early, within_none}
+use Rattle.fault_system.proofs.Occurring.{truth-same}
+use Rattle.fault_system.proofs.RoundLaws.{in_time, on_time, timed, too_early, within_none}
 use Rattle.fault_system.proofs.TruthLaws.{same_answer}
-use Rattle.fault_system.proofs.Untouched.{untouched_fits}
+use Rattle.fault_system.proofs.Untouched.{any_from, any_of, untouched_fits}
 use Rattle.backward_slice.specs.Slices.{HasItsCauses}
 use Rattle.fact_users.specs.inner.Users.{AreUsers, users_at}
 use Rattle.fact_users.specs.declared.users.Users.{Users}
@@ -27,37 +26,6 @@ use Rattle.fmea_rows.specs.inner.Tables.{AreKeptUsers, FitsWhereFelt, IsRight, c
 use Rattle.fmea_rows.proofs.FeltLaws.{cause-reached, effect-reached, fact-reached}
 use Rattle.fmea_rows.specs.declared.change.Change.{Change}
 use Rattle.fmea_rows.proofs.TableLaws.{changed-other}
-
--- ---- times that fit
-
-within_more : (times : ℕ → ℕ) (q r : ℕ) → q ≤ r → (n : ℕ) → Has (within times q) n → Has (within times r) n
-within_more times q r h n e = let parts = time_parts (times n) q e in timed (times n) r parts.0 (omega (arith, parts.1))
-
-within_ever : (times : ℕ → ℕ) (r n : ℕ) → Has (within times r) n → Has (ever times) n
-within_ever times r n e = le-leb 1 (times n) (omega (arith, (time_parts (times n) r e).0))
-
-above_or_not : (q r : ℕ) → (suc q ≤ r) ⊎ (r ≤ q)
-above_or_not zero zero = inr (omega arith)
-above_or_not zero (suc r) = inl (omega arith)
-above_or_not (suc q) zero = inr (omega arith)
-above_or_not (suc q) (suc r) = ⊎_elim (λ h. inl (omega arith)) (λ h. inr (omega arith)) (above_or_not q r)
-
-module _ (events : NumberSet) (times : ℕ → ℕ) (f : Formula) where
-  grows : (q r : ℕ) → q ≤ r → truth events (within times q) f ≡ true → truth events (within times r) f ≡ true
-  grows q r h = truth-grows events events (within times q) (within times r) (λ n k. k) (within_more times q r h) f
-
-  -- where the formula is true over the facts of times up to so much, the time is at most one more
-  on_time : (t r : ℕ) → FitsTime events times f t → truth events (within times r) f ≡ true → nat_lt 0 t && nat_le t (suc r) ≡ true
-  on_time zero r fits e =
-      absurd (false≢true (sym fits ∙ truth-grows events events (within times r) (ever times) (λ n h. h) (within_ever times r) f e))
-  on_time (suc zero) r fits e = le-leb 1 (suc r) (omega arith)
-  on_time (suc (suc q)) r fits e = ⊎_elim (λ h. timed (suc (suc q)) (suc r) (omega arith) (omega arith))
-      (λ h. absurd (false≢true (sym fits.1 ∙ grows r q h e))) (above_or_not q r)
-
-  in_time : (t r : ℕ) → FitsTime events times f t → nat_lt 0 t && nat_le t (suc r) ≡ true → truth events (within times r) f ≡ true
-  in_time zero r fits e = absurd (false≢true e)
-  in_time (suc zero) r fits e = grows 0 r (omega arith) fits
-  in_time (suc (suc q)) r fits e = let less = time_parts (suc (suc q)) (suc r) e in grows (suc q) r (omega (arith, less.1)) fits.0
 
 -- ---- the rounds of the facts of a set
 
@@ -87,16 +55,6 @@ module _ (system : System) (events : NumberSet) (times : List ℕ) (set : Number
   kept-rounds n here = at_time n (time_of times n) here refl
 
 -- ---- a table whose changes were tested at the facts of a set
-
-any_of : (p : ℕ → Bool) (xs : List ℕ) → list_any p xs ≡ true → (g : ℕ) × (set_of xs g ≡ true) × (p g ≡ true)
-any_of p [] e = absurd (false≢true e)
-any_of p (x ∷ xs) e = ⊎_elim (λ h. (x, ap (λ b. b || set_of xs x) (eq-eqb x x refl), h))
-    (λ h. let t : (g : ℕ) × (set_of xs g ≡ true) × (p g ≡ true) = any_of p xs h in (t.0, ap (λ b. (x == t.0) || b) t.1 ∙ or-true (x == t.0), t.2)) (or_cases (p x) (list_any p xs) e)
-
-any_from : (p : ℕ → Bool) (xs : List ℕ) (g : ℕ) → set_of xs g ≡ true → p g ≡ true → list_any p xs ≡ true
-any_from p [] g e h = absurd (false≢true e)
-any_from p (x ∷ xs) g e h = ⊎_elim (λ f. let same : x ≡ g = eqb-true x g f in ap (λ b. b || list_any p xs) (ap p same ∙ h))
-    (λ f. ap (λ b. p x || b) (any_from p xs g f h) ∙ or-true (p x)) (or_cases (x == g) (set_of xs g) e)
 
 module _ (system : System) (event : ℕ) (base : List ℕ) (changes : List Change) (users : Users) (set : NumberSet) where
   -- a fact of the set fits, since it was tested or nothing that occurs in its formula changes
