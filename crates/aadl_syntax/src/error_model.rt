@@ -1,7 +1,7 @@
 use crate::identifier::Identifier;
 use crate::place::{End, Ref};
 use crate::tokens::TokenList;
-use plain_values::{List, Spot};
+use plain_values::{List, Name, Spot};
 
 /// The error model text of a package (EMV2 library): its blocks of types and its machines, in order.
 #[derive(Drop)]
@@ -242,10 +242,20 @@ pub struct UserPath {
     pub to: End,
 }
 
-/// A property association: the property, the tokens of its value, and the paths to which it applies.
+/// A property association: the property, the tokens of its value, and the paths to which it applies: those that are names with single dots
+/// between them, and all others.
 #[derive(Drop)]
 pub struct Association {
     pub name: List<Identifier>,
     pub value: TokenList,
     pub targets: List<List<Identifier>>,
+    pub others: List<OtherTarget>,
+}
+
+/// A path of an association that is more than names with single dots between them: its text without blanks, and of `^a.b@c.d` the names `a`,
+/// `b`, `c` and `d`.
+#[derive(Drop)]
+pub struct OtherTarget {
+    pub text: Name,
+    pub names: Option<List<Identifier>>,
 }

@@ -17,8 +17,8 @@ pub use core_model::{
 };
 pub use error_model::{
     Association, Atom, Composite, Condition, Emv2Clause, Emv2Library, EventDecl, EventKind, Flow,
-    FlowKind, MachineDecl, Outgoing, PointItem, PointRef, Source, StateDecl, StateRef, Term,
-    Transition, TypeItem, TypeKind, TypeSet, TypesBlock, UserPath, UserPoint,
+    FlowKind, MachineDecl, OtherTarget, Outgoing, PointItem, PointRef, Source, StateDecl, StateRef,
+    Term, Transition, TypeItem, TypeKind, TypeSet, TypesBlock, UserPath, UserPoint,
 };
 pub use identifier::Identifier;
 pub use place::{End, Ref};

@@ -1,12 +1,15 @@
 -- Property associations in error model text.
-use Rattle.std.specs.Prelude.{ℕ, Bool, true, false, not, ◌&&◌, ◌||◌, if◌then◌else◌, List, [], ◌∷◌, ◌++◌, Option, codes}
+use Rattle.std.specs.Prelude.{ℕ, Bool, true, false, cond, not, ◌&&◌, ◌||◌, List, [], ◌∷◌, ◌++◌, Option, None, Some, codes}
 use Rattle.aadl_syntax.specs.declared.token.Token.{Token}
 use Rattle.aadl_syntax.specs.declared.error_model.Association.{Association}
 use Rattle.grammar_rules.specs.Rules.{Test, Rule, gives, refuses, chooses, gathers, ◌>>=◌}
 use Rattle.grammar_rules.specs.Parts.{parts_after}
 use Rattle.grammar_rules.specs.Spans.{until_inside, closes}
 use Rattle.grammar_rules.specs.Tokens.{word, sign, one_of, is_word, is_sign, is_one_of}
+use Rattle.emv2_parts.specs.declared.properties.AssignedTargets.{AssignedTargets}
 use Rattle.emv2_parts.specs.declared.properties.AssignedValue.{AssignedValue}
+use Rattle.emv2_parts.specs.declared.properties.PathForm.{PathForm}
+use Rattle.emv2_parts.specs.declared.properties.PathForm.TheVariants.{Nothing, Plain, Within, Key, Other}
 use Rattle.emv2_parts.specs.declared.properties.TargetPath.{TargetPath}
 use Rattle.emv2_parts.specs.Words.{point_words, is_name, begins_point}
 use Rattle.emv2_parts.specs.Names.{error_name, names}
@@ -28,29 +31,71 @@ value = chooses (begins_value ∷ []) (until_inside ends_value) refuses
 unfoldable pub arrow : Rule (Unit {0})
 arrow = chooses (is_sign (codes "=>") ∷ []) (sign (codes "=>")) (sign (codes "+=>"))
 
--- a path with one more name; a name is one more step of a target only where none stands right before it
+-- what a path is so far: nothing; names with single dots between them; the same behind `^`; the same behind the `@` of these; or anything else
+abbrev pub form_named : PathForm → Bool → PathForm
+form_named Nothing after = Plain
+form_named Plain after = cond after Other Plain
+form_named Within after = cond after Other Within
+form_named Key after = cond after Other Key
+form_named Other after = Other
+
+-- the same, with a dot, which stands only after a name
+abbrev pub form_dotted : PathForm → Bool → PathForm
+form_dotted Nothing after = Other
+form_dotted Plain after = cond after Plain Other
+form_dotted Within after = cond after Within Other
+form_dotted Key after = cond after Key Other
+form_dotted Other after = Other
+
+-- the same with `^`, which stands first
+abbrev pub form_raised : PathForm → PathForm
+form_raised Nothing = Within
+form_raised Plain = Other
+form_raised Within = Other
+form_raised Key = Other
+form_raised Other = Other
+
+-- the same with `@`, which stands behind a name of a path behind `^`
+abbrev pub form_at : PathForm → Bool → PathForm
+form_at Nothing after = Other
+form_at Plain after = Other
+form_at Within after = cond after Key Other
+form_at Key after = Other
+form_at Other after = Other
+
+-- a path with one more name
 abbrev pub with_name : TargetPath → List ℕ → TargetPath
-with_name path name = record { names = path.names ++ name ∷ []; is_plain = path.is_plain && not path.after_name; after_name = true }
+with_name path name = record { names = path.names ++ name ∷ []; text = path.text ++ name; form = form_named path.form path.after_name; after_name = true }
 
--- a path with a dot, which a target has only after a name
+-- a path with a dot
 abbrev pub with_dot : TargetPath → TargetPath
-with_dot path = record { names = path.names; is_plain = path.is_plain && path.after_name; after_name = false }
+with_dot path = record { names = path.names; text = path.text ++ codes "."; form = form_dotted path.form path.after_name; after_name = false }
 
--- a path with another sign, which no target has
-abbrev pub with_sign : TargetPath → TargetPath
-with_sign path = record { names = path.names; is_plain = false; after_name = false }
+-- a path with `^`
+abbrev pub with_caret : TargetPath → TargetPath
+with_caret path = record { names = path.names; text = path.text ++ codes "^"; form = form_raised path.form; after_name = false }
+
+-- a path with `@`
+abbrev pub with_at : TargetPath → TargetPath
+with_at path = record { names = path.names; text = path.text ++ codes "@"; form = form_at path.form path.after_name; after_name = false }
 
 -- the path of no token
 abbrev pub no_path : TargetPath
-no_path = record { names = []; is_plain = true; after_name = false }
+no_path = record { names = []; text = []; form = Nothing; after_name = false }
 
 -- what a path is made of: names, point words, `.`, `^` and `@`
 unfoldable pub begins_step : Test
 begins_step token = begins_point token || is_sign (codes ".") token || is_sign (codes "^") token || is_sign (codes "@") token
 
--- "^" | "@"
-unfoldable pub path_sign : Rule (Unit {0})
-path_sign = chooses (is_sign (codes "^") ∷ []) (sign (codes "^")) (sign (codes "@"))
+-- "^" | "@", as the next step of a path
+unfoldable pub path_sign : TargetPath → Rule TargetPath
+path_sign path = chooses (is_sign (codes "^") ∷ [])
+    (do
+      _ ← sign (codes "^")
+      gives (with_caret path))
+    (do
+      _ ← sign (codes "@")
+      gives (with_at path))
 
 -- ID | bword | "." | "^" | "@", as the next step of a path
 unfoldable pub path_step : TargetPath → Rule TargetPath
@@ -66,17 +111,41 @@ path_step path = chooses (is_name ∷ [])
     (do
       _ ← sign (codes ".")
       gives (with_dot path))
-    (do
-      _ ← path_sign
-      gives (with_sign path))))
+    (path_sign path)))
 
 -- further steps of a path
 unfoldable pub path_steps : TargetPath → Rule TargetPath
 path_steps path = gathers (begins_step ∷ []) path_step path
 
--- the targets with one more where the path is names with single dots between them
-abbrev pub with_target : List (List (List ℕ)) → TargetPath → List (List (List ℕ))
-with_target targets path = if path.is_plain && path.after_name then targets ++ path.names ∷ [] else targets
+-- whether a path is names with single dots between them
+abbrev pub is_plain : PathForm → Bool
+is_plain Nothing = false
+is_plain Plain = true
+is_plain Within = false
+is_plain Key = false
+is_plain Other = false
+
+-- whether a path has a key
+abbrev pub is_keyed : PathForm → Bool
+is_keyed Nothing = false
+is_keyed Plain = false
+is_keyed Within = false
+is_keyed Key = true
+is_keyed Other = false
+
+-- the names of a path behind `^` and of the key behind it, where it is one
+abbrev pub keyed_names : TargetPath → Option (List (List ℕ))
+keyed_names path = cond (is_keyed path.form && path.after_name) (Some path.names) None
+
+-- the targets with one more: with those of names where the path is names with single dots between them, and else with the others
+abbrev pub with_target : AssignedTargets → TargetPath → AssignedTargets
+with_target targets path = cond (is_plain path.form && path.after_name)
+    (record { plain = targets.plain ++ path.names ∷ []; others = targets.others })
+    (record { plain = targets.plain; others = targets.others ++ record { text = path.text; names = keyed_names path } ∷ [] })
+
+-- no targets
+abbrev pub no_targets : AssignedTargets
+no_targets = record { plain = []; others = [] }
 
 -- tpath: one or more steps
 unfoldable pub whole_path : Rule TargetPath
@@ -84,24 +153,24 @@ whole_path = do
   first ← path_step no_path
   path_steps first
 
--- tpath, which counts as a target only if its steps are a name, then a dot and a name, and so on
-unfoldable pub target_after : List (List (List ℕ)) → Rule (List (List (List ℕ)))
+-- tpath, after other targets
+unfoldable pub target_after : AssignedTargets → Rule AssignedTargets
 target_after targets = do
   path ← whole_path
   gives (with_target targets path)
 
 -- "," tpath
-unfoldable pub further_target : List (List (List ℕ)) → Rule (List (List (List ℕ)))
+unfoldable pub further_target : AssignedTargets → Rule AssignedTargets
 further_target targets = do
   _ ← sign (codes ",")
   target_after targets
 
 -- { "," tpath }, after other targets
-unfoldable pub further_targets : List (List (List ℕ)) → Rule (List (List (List ℕ)))
+unfoldable pub further_targets : AssignedTargets → Rule AssignedTargets
 further_targets targets = gathers (is_sign (codes ",") ∷ []) further_target targets
 
 -- "applies" "to" tpath { "," tpath }, after other targets
-unfoldable pub applied_targets : List (List (List ℕ)) → Rule (List (List (List ℕ)))
+unfoldable pub applied_targets : AssignedTargets → Rule AssignedTargets
 applied_targets targets = do
   _ ← word (codes "applies")
   _ ← word (codes "to")
@@ -109,8 +178,8 @@ applied_targets targets = do
   further_targets more
 
 -- [ "applies" "to" tpath { "," tpath } ]
-unfoldable pub targets : Rule (List (List (List ℕ)))
-targets = chooses (is_word (codes "applies") ∷ []) (applied_targets []) (gives [])
+unfoldable pub targets : Rule AssignedTargets
+targets = chooses (is_word (codes "applies") ∷ []) (applied_targets no_targets) (gives no_targets)
 
 -- ( "=>" | "+=>" ) value [ "applies" "to" tpath { "," tpath } ] ";"
 unfoldable pub assigned_value : Rule AssignedValue
@@ -126,7 +195,7 @@ unfoldable pub association : Rule Association
 association = do
   name ← names
   what ← assigned_value
-  gives (record { name = name; value = what.value; targets = what.targets })
+  gives (record { name = name; value = what.value; targets = what.targets.plain; others = what.targets.others })
 
 -- "properties" { assoc }, after other associations
 unfoldable pub properties_after : List Association → Rule (List Association)

@@ -1,62 +1,185 @@
-ghost use Rattle.std.specs.Prelude.{◌≡◌, [], ◌∷◌, ◌||◌, IfOk, codes};
+ghost use Rattle.std.specs.Prelude.{◌≡◌, [], ◌∷◌, ◌||◌, ◌++◌, IfOk, OnOk, codes};
 ghost use Rattle.grammar_rules.specs.inner.Reader.{Gives, Begins, given};
 ghost use Rattle.grammar_rules.specs.Spans.{closes};
 ghost use Rattle.aadl_syntax.specs.inner.Token.{shown};
 ghost use Rattle.grammar_rules.specs.Tokens.{is_sign, is_word};
 ghost use Rattle.emv2_parts.specs.Words.{is_name};
-ghost use Rattle.emv2_parts.specs.Properties.{begins_value, value, arrow, begins_step, path_sign, path_step, path_steps, further_targets, no_path, with_name, with_dot, with_sign, with_target, whole_path, target_after, further_target, applied_targets, targets, assigned_value, association, properties_after};
+ghost use Rattle.emv2_parts.specs.Properties.{begins_value, value, arrow, begins_step, form_at, form_dotted, form_named, form_raised, is_keyed, is_plain, keyed_names, path_sign, path_step, path_steps, further_targets, no_path, no_targets, with_at, with_caret, with_name, with_dot, with_target, whole_path, target_after, further_target, applied_targets, targets, assigned_value, association, properties_after};
 ghost use Rattle.emv2_parts.specs.inner.Takes.{path_step-takes, further_target-takes, association-takes};
 
 use crate::naming::names;
 use crate::words::{error_name, name_at, point_at, point_name, point_word_at};
-use aadl_syntax::{Association, Identifier, TokenList, TokenRef};
+use aadl_syntax::{Association, Identifier, OtherTarget, TokenList, TokenRef};
 use grammar_rules::{Gathered, Parts, ReadError, Reader, Span, closes, is_sign, is_word};
-use plain_values::{List, Mem};
+use plain_values::{List, Mem, Name};
 
-/// A path as far as it is read: its names, whether it has been names with single dots between them so far, and whether
-/// its last token is a name.
+/// What a path is as far as it is read.
+#[derive(Clone, Copy)]
+pub(crate) enum PathForm {
+    /// No token.
+    Nothing,
+    /// Names with single dots between them.
+    Plain,
+    /// The same behind `^`.
+    Within,
+    /// The same behind the `@` of these.
+    Key,
+    /// Anything else.
+    Other,
+}
+
+/// A path as far as it is read: its names, its text without blanks, what it is so far, and whether its last token is a name.
 #[derive(Drop)]
 pub(crate) struct TargetPath {
     pub(crate) names: List<Identifier>,
-    pub(crate) is_plain: bool,
+    pub(crate) text: Name,
+    pub(crate) form: PathForm,
     pub(crate) after_name: bool,
+}
+
+/// The paths to which an association applies: those that are names with single dots between them, and all others.
+#[derive(Drop)]
+pub(crate) struct AssignedTargets {
+    pub(crate) plain: List<List<Identifier>>,
+    pub(crate) others: List<OtherTarget>,
 }
 
 /// What follows the name of an association.
 #[derive(Drop)]
 pub(crate) struct AssignedValue {
     pub(crate) value: TokenList,
-    pub(crate) targets: List<List<Identifier>>,
+    pub(crate) targets: AssignedTargets,
+}
+
+fn form_named(form: PathForm, after: bool) -> PathForm
+    ensures { result ≡ form_named form after }
+{
+    match form {
+        PathForm::Nothing => PathForm::Plain,
+        PathForm::Plain | PathForm::Within | PathForm::Key => {
+            if after { PathForm::Other } else { form }
+        }
+        PathForm::Other => PathForm::Other,
+    }
+}
+
+fn form_dotted(form: PathForm, after: bool) -> PathForm
+    ensures { result ≡ form_dotted form after }
+{
+    match form {
+        PathForm::Plain | PathForm::Within | PathForm::Key => {
+            if after { form } else { PathForm::Other }
+        }
+        PathForm::Nothing | PathForm::Other => PathForm::Other,
+    }
+}
+
+fn form_raised(form: PathForm) -> PathForm
+    ensures { result ≡ form_raised form }
+{
+    match form {
+        PathForm::Nothing => PathForm::Within,
+        PathForm::Plain | PathForm::Within | PathForm::Key | PathForm::Other => PathForm::Other,
+    }
+}
+
+fn form_at(form: PathForm, after: bool) -> PathForm
+    ensures { result ≡ form_at form after }
+{
+    match form {
+        PathForm::Within => {
+            if after {
+                PathForm::Key
+            } else {
+                PathForm::Other
+            }
+        }
+        PathForm::Nothing | PathForm::Plain | PathForm::Key | PathForm::Other => PathForm::Other,
+    }
+}
+
+/// Adds bytes at the end of a text.
+fn put(text: &mut Name, bytes: &[u8]) -> Mem<()>
+    ensures { OnOk result (text.new ≡ text.old ++ bytes.now) }
+{
+    for byte in bytes {
+        text.push(*byte)?;
+    }
+    Ok(())
 }
 
 fn with_name(path: &mut TargetPath, name: Identifier) -> Mem<()>
     ensures { IfOk result (λ _. path.new ≡ with_name path.old name) }
 {
+    put(&mut path.text, name.text())?;
     path.names.push(name)?;
-    path.is_plain = path.is_plain && !path.after_name;
+    path.form = form_named(path.form, path.after_name);
     path.after_name = true;
     Ok(())
 }
 
-fn with_dot(path: &mut TargetPath)
-    ensures { path.new ≡ with_dot path.old }
+fn with_dot(path: &mut TargetPath) -> Mem<()>
+    ensures { IfOk result (λ _. path.new ≡ with_dot path.old) }
 {
-    path.is_plain = path.is_plain && path.after_name;
+    put(&mut path.text, b".")?;
+    path.form = form_dotted(path.form, path.after_name);
     path.after_name = false;
+    Ok(())
 }
 
-fn with_sign(path: &mut TargetPath)
-    ensures { path.new ≡ with_sign path.old }
+fn with_caret(path: &mut TargetPath) -> Mem<()>
+    ensures { IfOk result (λ _. path.new ≡ with_caret path.old) }
 {
-    path.is_plain = false;
+    put(&mut path.text, b"^")?;
+    path.form = form_raised(path.form);
     path.after_name = false;
+    Ok(())
 }
 
-fn with_target(targets: &mut List<List<Identifier>>, path: TargetPath) -> Mem<()>
+fn with_at(path: &mut TargetPath) -> Mem<()>
+    ensures { IfOk result (λ _. path.new ≡ with_at path.old) }
+{
+    put(&mut path.text, b"@")?;
+    path.form = form_at(path.form, path.after_name);
+    path.after_name = false;
+    Ok(())
+}
+
+fn is_plain(form: PathForm) -> bool
+    ensures { result ≡ is_plain form }
+{
+    match form {
+        PathForm::Plain => true,
+        PathForm::Nothing | PathForm::Within | PathForm::Key | PathForm::Other => false,
+    }
+}
+
+fn is_keyed(form: PathForm) -> bool
+    ensures { result ≡ is_keyed form }
+{
+    match form {
+        PathForm::Key => true,
+        PathForm::Nothing | PathForm::Plain | PathForm::Within | PathForm::Other => false,
+    }
+}
+
+/// A path that is more than names with single dots between them.
+fn other_of(path: TargetPath) -> OtherTarget
+    ensures { result ≡ record { text = path.text; names = keyed_names path } }
+{
+    let has_key = is_keyed(path.form) && path.after_name;
+    let TargetPath { names, text, .. } = path;
+    let names = if has_key { Some(names) } else { None };
+    OtherTarget { text, names }
+}
+
+fn with_target(targets: &mut AssignedTargets, path: TargetPath) -> Mem<()>
     ensures { IfOk result (λ _. targets.new ≡ with_target targets.old path) }
 {
-    if path.is_plain && path.after_name {
-        targets.push(path.names)?;
+    if is_plain(path.form) && path.after_name {
+        targets.plain.push(path.names)?;
+    } else {
+        targets.others.push(other_of(path))?;
     }
     Ok(())
 }
@@ -124,13 +247,15 @@ fn arrow(reader: &mut Reader) -> Result<(), ReadError>
 }
 
 #[tactic(auto, unfolding(crate::specs::Properties::path_sign))]
-fn path_sign(reader: &mut Reader) -> Result<(), ReadError>
-    ensures { Gives result path_sign reader.old reader.new }
+fn path_sign(reader: &mut Reader, path: &mut TargetPath) -> Result<(), ReadError>
+    ensures { Gives (given result path.new) (path_sign path.old) reader.old reader.new }
 {
     if reader.sign_at(0, b"^") {
-        return reader.sign(b"^");
+        reader.sign(b"^")?;
+        return Ok(with_caret(path)?);
     }
-    reader.sign(b"@")
+    reader.sign(b"@")?;
+    Ok(with_at(path)?)
 }
 
 #[tactic(auto, unfolding(crate::specs::Properties::path_step))]
@@ -147,12 +272,9 @@ fn path_step(reader: &mut Reader, path: &mut TargetPath) -> Result<(), ReadError
     }
     if reader.sign_at(0, b".") {
         reader.sign(b".")?;
-        with_dot(path);
-        return Ok(());
+        return Ok(with_dot(path)?);
     }
-    path_sign(reader)?;
-    with_sign(path);
-    Ok(())
+    path_sign(reader, path)
 }
 
 // The first step of a path.
@@ -161,7 +283,8 @@ fn first_step(reader: &mut Reader) -> Result<TargetPath, ReadError>
 {
     let mut path = TargetPath {
         names: List::new(reader.alloc()),
-        is_plain: true,
+        text: List::new(reader.alloc()),
+        form: PathForm::Nothing,
         after_name: false,
     };
     path_step(reader, &mut path)?;
@@ -185,18 +308,15 @@ fn whole_path(reader: &mut Reader) -> Result<TargetPath, ReadError>
 }
 
 #[tactic(auto, unfolding(crate::specs::Properties::further_targets))]
-fn further_targets(
-    reader: &mut Reader,
-    targets: &mut List<List<Identifier>>,
-) -> Result<(), ReadError>
+fn further_targets(reader: &mut Reader, targets: &mut AssignedTargets) -> Result<(), ReadError>
     ensures { Gives (given result targets.new) (further_targets targets.old) reader.old reader.new }
 {
     reader.gather::<FurtherTargets>(targets)
 }
 
-/// Reads a path, and gives the targets with it if it is one.
+/// Reads a path, and gives the targets with it.
 #[tactic(auto, unfolding(crate::specs::Properties::target_after))]
-fn target_after(reader: &mut Reader, targets: &mut List<List<Identifier>>) -> Result<(), ReadError>
+fn target_after(reader: &mut Reader, targets: &mut AssignedTargets) -> Result<(), ReadError>
     ensures { Gives (given result targets.new) (target_after targets.old) reader.old reader.new }
 {
     let path = whole_path(reader)?;
@@ -204,10 +324,7 @@ fn target_after(reader: &mut Reader, targets: &mut List<List<Identifier>>) -> Re
 }
 
 #[tactic(auto, unfolding(crate::specs::Properties::further_target))]
-fn further_target(
-    reader: &mut Reader,
-    targets: &mut List<List<Identifier>>,
-) -> Result<(), ReadError>
+fn further_target(reader: &mut Reader, targets: &mut AssignedTargets) -> Result<(), ReadError>
     ensures { Gives (given result targets.new) (further_target targets.old) reader.old reader.new }
 {
     reader.sign(b",")?;
@@ -215,10 +332,7 @@ fn further_target(
 }
 
 #[tactic(auto, unfolding(crate::specs::Properties::applied_targets))]
-fn applied_targets(
-    reader: &mut Reader,
-    targets: &mut List<List<Identifier>>,
-) -> Result<(), ReadError>
+fn applied_targets(reader: &mut Reader, targets: &mut AssignedTargets) -> Result<(), ReadError>
     ensures { Gives (given result targets.new) (applied_targets targets.old) reader.old reader.new }
 {
     reader.word(b"applies")?;
@@ -228,10 +342,13 @@ fn applied_targets(
 }
 
 #[tactic(auto, unfolding(crate::specs::Properties::targets))]
-fn targets(reader: &mut Reader) -> Result<List<List<Identifier>>, ReadError>
+fn targets(reader: &mut Reader) -> Result<AssignedTargets, ReadError>
     ensures { Gives result targets reader.old reader.new }
 {
-    let mut targets = List::new(reader.alloc());
+    let mut targets = AssignedTargets {
+        plain: List::new(reader.alloc()),
+        others: List::new(reader.alloc()),
+    };
     if reader.word_at(0, b"applies") {
         applied_targets(reader, &mut targets)?;
     }
@@ -254,11 +371,13 @@ fn association(reader: &mut Reader) -> Result<Association, ReadError>
     ensures { Gives result association reader.old reader.new }
 {
     let name = names(reader)?;
-    let assigned_value = assigned_value(reader)?;
+    let AssignedValue { value, targets } = assigned_value(reader)?;
+    let AssignedTargets { plain, others } = targets;
     Ok(Association {
         name,
-        value: assigned_value.value,
-        targets: assigned_value.targets,
+        value,
+        targets: plain,
+        others,
     })
 }
 
@@ -299,7 +418,7 @@ impl Gathered for PathSteps {
 pub(crate) struct FurtherTargets;
 
 impl Gathered for FurtherTargets {
-    type Whole = List<List<Identifier>>;
+    type Whole = AssignedTargets;
 
     ghost tests = { is_sign (codes ",") ∷ [] };
 
@@ -309,7 +428,7 @@ impl Gathered for FurtherTargets {
         reader.sign_at(0, b",")
     }
 
-    fn part(reader: &mut Reader, whole: &mut List<List<Identifier>>) -> Result<(), ReadError> {
+    fn part(reader: &mut Reader, whole: &mut AssignedTargets) -> Result<(), ReadError> {
         further_target(reader, whole)
     }
 

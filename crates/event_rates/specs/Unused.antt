@@ -1,7 +1,8 @@
 -- The rates of a model that are said of no event.
-use Rattle.std.specs.Prelude.{ℕ, Bool, cond, not, List, [], ◌++◌, filter, flat_map, map}
+use Rattle.std.specs.Prelude.{ℕ, Bool, cond, ◌&&◌, ◌==◌, not, List, [], ◌∷◌, ◌++◌, codes, filter, flat_map, length, map}
 use Rattle.std.specs.List.{list_any}
 use Rattle.aadl_syntax.specs.declared.error_model.Association.{Association}
+use Rattle.aadl_syntax.specs.declared.error_model.OtherTarget.{OtherTarget}
 use Rattle.fault_system.specs.declared.formula.EventInfo.{EventInfo}
 use Rattle.plain_values.specs.Numbered.{numbered_from}
 use Rattle.package_index.specs.Names.{is_same_name}
@@ -24,9 +25,22 @@ whole_names instance events = map (whole_name instance) events
 abbrev pub is_one_of : List (List (List ℕ)) → List (List ℕ) → Bool
 is_one_of names name = list_any (λ other. is_same_name other name) names
 
--- the targets of an association of rates that name no event, from the component of this path on
+-- the paths of an association that are more than names with single dots between them, as they stand: they are no targets
+abbrev pub other_targets : List OtherTarget → List (List (List ℕ))
+other_targets others = map (λ other. other.text ∷ []) others
+
+-- a dash, where an association applies to nothing at all
+abbrev pub no_target : Association → List (List (List ℕ))
+no_target association = cond ((length association.targets == 0) && (length association.others == 0)) ((codes "-" ∷ []) ∷ []) []
+
+-- the targets of an association that name no event, from the component of this path on; all that are none; and a dash where there is none
+abbrev pub said_of_none : List (List (List ℕ)) → List (List ℕ) → Association → List (List (List ℕ))
+said_of_none names path association =
+    filter (λ target. not (is_one_of names (path ++ target))) association.targets ++ (other_targets association.others ++ no_target association)
+
+-- those of an association of rates
 abbrev pub unused_targets : List (List (List ℕ)) → List (List ℕ) → Association → List (List (List ℕ))
-unused_targets names path association = cond (is_distribution association.name) (filter (λ target. not (is_one_of names (path ++ target))) association.targets) []
+unused_targets names path association = cond (is_distribution association.name) (said_of_none names path association) []
 
 -- those of some associations
 abbrev pub unused_among : List (List (List ℕ)) → List (List ℕ) → List Association → List (List (List ℕ))

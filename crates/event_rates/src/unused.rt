@@ -2,12 +2,12 @@
 
 ghost use Rattle.std.specs.Prelude.{◌≡◌, ◌++◌, ◌∷◌, [], IfOk, OnOk, cond, filter, map, not, option_copied, unwrap_or};
 ghost use Rattle.plain_values.specs.Numbered.{numbered_from};
-ghost use Rattle.event_rates.specs.Unused.{is_one_of, rates_at, unused_among, unused_at, unused_in, unused_rates, unused_targets, whole_names};
+ghost use Rattle.event_rates.specs.Unused.{is_one_of, no_target, other_targets, rates_at, said_of_none, unused_among, unused_at, unused_in, unused_rates, unused_targets, whole_names};
 
 use crate::kinds::Tables;
 use crate::rates::names_of;
 use crate::table::{AssociationTable, is_distribution};
-use aadl_syntax::{Association, Identifier};
+use aadl_syntax::{Association, Identifier, OtherTarget};
 use fault_system::EventInfo;
 use instantiator::Instance;
 use package_index::Words;
@@ -207,7 +207,53 @@ fn add_targets(
     if !is_distribution(association.name.items()) {
         return Ok(());
     }
-    add_all(targets, alloc, names, path, association.targets.items())
+    add_said(targets, alloc, names, path, association)
+}
+
+/// Adds the targets of an association that name no event, what is no target, and a dash where there is none.
+fn add_said(
+    targets: &mut List<List<Name>>,
+    alloc: Global,
+    names: &EventNames,
+    path: &[&Identifier],
+    association: &Association,
+) -> Mem<()>
+    ensures { OnOk result (targets.new ≡ targets.old ++ said_of_none names.now (map (λ name. name.now) path.now) association.now) }
+{
+    add_all(targets, alloc, names, path, association.targets.items())?;
+    add_others(targets, alloc, association.others.items())?;
+    add_none(targets, alloc, association)
+}
+
+/// Adds what is no target.
+fn add_others(targets: &mut List<List<Name>>, alloc: Global, others: &[OtherTarget]) -> Mem<()>
+    ensures { OnOk result (targets.new ≡ targets.old ++ other_targets others.now) }
+{
+    for other in others {
+        let target = one_name(alloc, other.text.items())?;
+        targets.push(target)?;
+    }
+    Ok(())
+}
+
+/// Adds a dash, if an association applies to nothing.
+fn add_none(targets: &mut List<List<Name>>, alloc: Global, association: &Association) -> Mem<()>
+    ensures { OnOk result (targets.new ≡ targets.old ++ no_target association.now) }
+{
+    let is_none = association.targets.items().is_empty() && association.others.items().is_empty();
+    let target = one_name(alloc, b"-")?;
+    targets.push_if(target, is_none)?;
+    Ok(())
+}
+
+/// One name.
+fn one_name(alloc: Global, text: &[u8]) -> Mem<List<Name>>
+    ensures { IfOk result (λ names. names ≡ text.now ∷ []) }
+{
+    let mut names = List::new(alloc);
+    let name = copied(alloc, text)?;
+    names.push(name)?;
+    Ok(names)
 }
 
 fn add_all(

@@ -10,8 +10,8 @@ use crate::value::{
 };
 use aadl_syntax::{
     Association, Composite, Emv2Clause, Emv2Library, EventDecl, EventKind, Flow, FlowKind,
-    Identifier, MachineDecl, Outgoing, PointItem, StateDecl, TokenList, TypeItem, TypeKind,
-    TypesBlock, UserPath,
+    Identifier, MachineDecl, OtherTarget, Outgoing, PointItem, StateDecl, TokenList, TypeItem,
+    TypeKind, TypesBlock, UserPath,
 };
 use plain_values::{List, Spot};
 
@@ -243,6 +243,7 @@ fn put_associations(associations: &List<Association>, out: &mut Text) {
         put_names(&association.name, b"::", out);
         put_tokens(&association.value, out);
         put_targets(&association.targets, out);
+        put_others(&association.others, out);
         out.put(b"\n");
     }
 }
@@ -254,6 +255,13 @@ pub fn put_tokens(tokens: &TokenList, out: &mut Text) {
             out.put(b" | ");
             put_token(token.kind, token.start, token.end, token.text, out);
         }
+    }
+}
+
+fn put_others(others: &List<OtherTarget>, out: &mut Text) {
+    for other in others.items() {
+        out.put(b" besides ");
+        out.put(other.text.items());
     }
 }
 

@@ -1,10 +1,11 @@
 -- Each part of a loop of the grammar takes at least one token.
-use Rattle.std.specs.Prelude.{ℕ, List}
+use Rattle.std.specs.Prelude.{List}
 use Rattle.aadl_syntax.specs.declared.place.Ref.{Ref}
 use Rattle.grammar_rules.specs.Rules.{Rule}
 use Rattle.grammar_rules.specs.inner.Parts.{TakesTokens}
 use Rattle.grammar_rules.proofs.Takes.{takes_first, takes_after, takes_either, word_takes, sign_takes, identifier_takes, one_of_takes}
 use Rattle.aadl_syntax.specs.declared.error_model.Condition.{Condition}
+use Rattle.emv2_parts.specs.declared.properties.AssignedTargets.{AssignedTargets}
 use Rattle.emv2_parts.specs.declared.properties.TargetPath.{TargetPath}
 use Rattle.emv2_parts.specs.Names.{error_name, names, point, point_word, dotted_names, state_reference, further_name, further_reference, use_types_after, dotted_name, factor, further_term}
 use Rattle.emv2_parts.specs.Properties.{path_sign, path_step, further_target, association, properties_after}
@@ -38,9 +39,9 @@ further_term-takes = takes_first (sign_takes _)
 
 pub path_step-takes : (path : TargetPath) → TakesTokens (path_step path)
 unfolding path_step path_sign error_name
-path_step-takes path = takes_either _ (takes_first (identifier_takes _)) (takes_either _ (takes_first (one_of_takes _)) (takes_either _ (takes_first (sign_takes _)) (takes_first (takes_either _ (sign_takes _) (sign_takes _)))))
+path_step-takes path = takes_either _ (takes_first (identifier_takes _)) (takes_either _ (takes_first (one_of_takes _)) (takes_either _ (takes_first (sign_takes _)) (takes_either _ (takes_first (sign_takes _)) (takes_first (sign_takes _)))))
 
-pub further_target-takes : (targets : List (List (List ℕ))) → TakesTokens (further_target targets)
+pub further_target-takes : (targets : AssignedTargets) → TakesTokens (further_target targets)
 unfolding further_target
 further_target-takes targets = takes_first (sign_takes _)
 
