@@ -40,6 +40,12 @@ flow_meaning table setting name (Sink point set) = None
 flow_meaning table setting name (Path from from_set to to_set mapping) =
     option_and_then (λ start. option_map (λ end. path_meaning start end.point end.types) (reached_in table setting (point_use to true to_set))) (reached_in table setting (point_use from false from_set))
 
+-- what a flow takes in a setting where it is a sink
+abbrev pub taken_by : Table → Setting → FlowKind → Option ReachedPoint
+taken_by table setting (Source point set state) = None
+taken_by table setting (Sink point set) = reached_in table setting (point_use point false set)
+taken_by table setting (Path from from_set to to_set mapping) = None
+
 -- ---- refusals
 
 -- N11 and N10 at the state of a source, if it names one
@@ -62,6 +68,10 @@ abbrev pub meanings : Table → List Point → List Sort → List Scope → List
 meanings table points states scopes flows =
     flat_map (λ flow. option_to_list (flow_meaning table (clause_setting points states scopes flow.scope) flow.item.name flow.item.kind)) flows
 
+-- What the sinks among flows take, in order.
+abbrev pub taken : Table → List Point → List Sort → List Scope → List (Scoped Flow) → List ReachedPoint
+taken table points states scopes flows = flat_map (λ flow. option_to_list (taken_by table (clause_setting points states scopes flow.scope) flow.item.kind)) flows
+
 -- The refusals of flows.
 abbrev pub refusals_of_flows : Table → List Point → List Sort → List Scope → List (Scoped Flow) → List Refusal
 refusals_of_flows table points states scopes flows = flat_map (λ flow. flow_refusals table (clause_setting points states scopes flow.scope) flow.item.kind) flows
@@ -69,6 +79,10 @@ refusals_of_flows table points states scopes flows = flat_map (λ flow. flow_ref
 -- The flows of a component with these points and states, sinks left out.
 abbrev pub flows_of : Table → List Point → List Sort → Effective → List FlowMeaning
 flows_of table points states effective = meanings table points states (scopes_of table.packages effective.clauses) effective.propagations.flows
+
+-- What the sinks of a component with these points and states take.
+abbrev pub sinks_of : Table → List Point → List Sort → Effective → List ReachedPoint
+sinks_of table points states effective = taken table points states (scopes_of table.packages effective.clauses) effective.propagations.flows
 
 -- The refusals of the flows of a component: those of each flow, and P11 at each use of mappings by a clause.
 abbrev pub all_flow_refusals : Table → List Point → List Sort → Effective → List Refusal

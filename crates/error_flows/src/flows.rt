@@ -4,9 +4,9 @@ ghost use Rattle.plain_values.specs.declared.refusal.Code.TheVariants.{Mapping};
 ghost use Rattle.plain_values.specs.Refusal.{refused_so, refused_there};
 ghost use Rattle.propagation_points.specs.Settings.{refusals_in, held_in, reached_in, state_refusals_in};
 ghost use Rattle.error_flows.specs.declared.meaning.FlowMeaning.TheVariants.{Event, State};
-ghost use Rattle.error_flows.specs.Flows.{all_flow_refusals, refusals_of_flows, flow_refusals, flow_meaning, flows_of, meanings, path_meaning, source_meaning, when_refusals};
+ghost use Rattle.error_flows.specs.Flows.{all_flow_refusals, refusals_of_flows, flow_refusals, flow_meaning, flows_of, meanings, path_meaning, sinks_of, source_meaning, taken, taken_by, when_refusals};
 
-use crate::meaning::FlowMeaning;
+use crate::meaning::{FlowMeaning, Flows};
 use aadl_syntax::{Flow, FlowKind, Identifier, StateRef};
 use component_extension::{Effective, InClause};
 use error_libraries::Scope;
@@ -16,7 +16,7 @@ use plain_values::{Code, List, Mem, Spot};
 use propagation_points::{Held, PointUse, Points, Reach, ReachedPoint, Setting, Sorts, scopes_of};
 use std::alloc::Global;
 
-/// The meanings of the flows of a component, in order, sinks left out.
+/// The flows of a component.
 ///
 /// The refusals of its flows are noted: N9 at a point that the component does not have, or not on the side that is used,
 /// N10 at a set with a type that is not declared for its side or its state, N11 at a state that the component does not have,
@@ -27,9 +27,10 @@ pub fn flows_of<'a>(
     reading: &mut Reading<'_, 'a>,
     points: &Points<'a>,
     states: &Sorts<'a>,
-) -> Mem<List<FlowMeaning>>
+) -> Mem<Flows>
     ensures kept { reading.new.types ≡ reading.old.types }
-    ensures flows { IfOk result (λ flows. flows ≡ flows_of reading.old.types points.now states.now effective.now) }
+    ensures flows { IfOk result (λ flows. flows.meanings ≡ flows_of reading.old.types points.now states.now effective.now) }
+    ensures sinks { IfOk result (λ flows. flows.sinks ≡ sinks_of reading.old.types points.now states.now effective.now) }
     ensures noted { OnOk result (reading.new.refusals ≡ noting reading.old.refusals (all_flow_refusals reading.old.types points.now states.now effective.now)) }
 {
     let scopes = scopes_of(alloc, &reading.types, effective.clauses.items())?;
@@ -48,7 +49,7 @@ fn note_mappings(refusals: &mut Refusals, mappings: &[Spot])
     }
 }
 
-/// The meanings of flows that are read in these texts, in order. Their refusals are noted.
+/// The flows that are read in these texts. Their refusals are noted.
 fn meanings<'s, 'a>(
     alloc: Global,
     reading: &mut Reading<'_, 'a>,
@@ -56,62 +57,52 @@ fn meanings<'s, 'a>(
     states: &'s Sorts<'a>,
     scopes: &'s [Scope],
     flows: &[InClause<'a, Flow>],
-) -> Mem<List<FlowMeaning>>
+) -> Mem<Flows>
     ensures kept { reading.new.types ≡ reading.old.types }
-    ensures flows { IfOk result (λ found. found ≡ meanings reading.old.types points.now states.now scopes.now flows.now) }
+    ensures flows { IfOk result (λ found. found.meanings ≡ meanings reading.old.types points.now states.now scopes.now flows.now) }
+    ensures sinks { IfOk result (λ found. found.sinks ≡ taken reading.old.types points.now states.now scopes.now flows.now) }
     ensures noted { OnOk result (reading.new.refusals ≡ noting reading.old.refusals (refusals_of_flows reading.old.types points.now states.now scopes.now flows.now)) }
 {
-    let mut found = List::new(alloc);
+    let mut found = Flows {
+        meanings: List::new(alloc),
+        sinks: List::new(alloc),
+    };
     for flow in flows {
         let setting = Setting::of_clause(points, states, scopes, flow.scope());
-        add_meaning(alloc, &mut found, reading, &setting, flow.item())?;
+        add_flow(alloc, &mut found, reading, &setting, flow.item())?;
     }
     Ok(found)
 }
 
-/// Adds the meaning of a flow, if it has one. Its refusals are noted.
-fn add_meaning<'a>(
+/// Adds a flow, if it has a meaning or takes anything. Its refusals are noted.
+fn add_flow<'a>(
     alloc: Global,
-    found: &mut List<FlowMeaning>,
+    found: &mut Flows,
     reading: &mut Reading<'_, 'a>,
     setting: &Setting<'_, 'a>,
     flow: &'a Flow,
 ) -> Mem<()>
     ensures kept { reading.new.types ≡ reading.old.types }
-    ensures found { OnOk result (found.new ≡ found.old ++ option_to_list (flow_meaning reading.old.types setting.now flow.now.name flow.now.kind)) }
-    ensures noted { OnOk result (reading.new.refusals ≡ noting reading.old.refusals (flow_refusals reading.old.types setting.now flow.now.kind)) }
-{
-    if let Some(meaning) = meaning_of(alloc, reading, setting, flow)? {
-        found.push(meaning)?;
-    }
-    Ok(())
-}
-
-/// The meaning of a flow, if it has one. Its refusals are noted.
-fn meaning_of<'a>(
-    alloc: Global,
-    reading: &mut Reading<'_, 'a>,
-    setting: &Setting<'_, 'a>,
-    flow: &'a Flow,
-) -> Mem<Option<FlowMeaning>>
-    ensures kept { reading.new.types ≡ reading.old.types }
-    ensures meaning { IfOk result (λ meaning. meaning ≡ flow_meaning reading.old.types setting.now flow.now.name flow.now.kind) }
+    ensures found { OnOk result (found.new.meanings ≡ found.old.meanings ++ option_to_list (flow_meaning reading.old.types setting.now flow.now.name flow.now.kind)) }
+    ensures sinks { OnOk result (found.new.sinks ≡ found.old.sinks ++ option_to_list (taken_by reading.old.types setting.now flow.now.kind)) }
     ensures noted { OnOk result (reading.new.refusals ≡ noting reading.old.refusals (flow_refusals reading.old.types setting.now flow.now.kind)) }
 {
     match &flow.kind {
         FlowKind::Source(point, set, state) => {
             let used = PointUse::new(point, true, set);
-            source(alloc, reading, setting, &flow.name, &used, state)
+            let meaning = source(alloc, reading, setting, &flow.name, &used, state)?;
+            found.meanings.push_some(meaning)
         }
         FlowKind::Sink(point, set) => {
             let used = PointUse::new(point, false, set);
-            setting.reached(alloc, reading, &used)?;
-            Ok(None)
+            let reached = setting.reached(alloc, reading, &used)?;
+            found.sinks.push_some(reached)
         }
         FlowKind::Path(from, from_set, to, to_set, mapping) => {
             let start = PointUse::new(from, false, from_set);
             let end = PointUse::new(to, true, to_set);
-            path(alloc, reading, setting, &start, &end, *mapping)
+            let meaning = path(alloc, reading, setting, &start, &end, *mapping)?;
+            found.meanings.push_some(meaning)
         }
     }
 }

@@ -1,8 +1,8 @@
-//! The error flows of a component: what its sources and paths mean, and what is refused of them and of its sinks.
+//! The error flows of a component: what its sources and paths mean, what its sinks take, and what is refused of them.
 #![tactic(auto)]
 
 mod flows;
 mod meaning;
 
 pub use flows::flows_of;
-pub use meaning::FlowMeaning;
+pub use meaning::{FlowMeaning, Flows};

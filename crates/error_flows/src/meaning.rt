@@ -15,3 +15,10 @@ pub enum FlowMeaning {
     /// An error path with a set at its end: whatever of its start is reached makes these types come out of this point.
     Change(ReachedPoint, u32, List<u32>),
 }
+
+/// The flows of a component: what its sources and paths mean, and what its sinks take, each in order.
+#[derive(Drop)]
+pub struct Flows {
+    pub meanings: List<FlowMeaning>,
+    pub sinks: List<ReachedPoint>,
+}

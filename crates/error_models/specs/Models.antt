@@ -6,7 +6,7 @@ use Rattle.component_extension.specs.declared.effective.Effective.{Effective}
 use Rattle.component_extension.specs.Items.{Scoped}
 use Rattle.error_libraries.specs.Libraries.{Table}
 use Rattle.propagation_points.specs.Points.{points_of}
-use Rattle.error_flows.specs.Flows.{flows_of}
+use Rattle.error_flows.specs.Flows.{flows_of, sinks_of}
 use Rattle.error_behavior.specs.Behavior.{behavior_of}
 use Rattle.error_machines.specs.Machines.{Machine}
 use Rattle.error_machines.specs.States.{states_of}
@@ -28,6 +28,7 @@ model_with table effective machine below = record {
   states = states_of table machine;
   behavior = behavior_of table (points_of table effective) machine effective;
   flows = flows_of table (points_of table effective) (states_of table machine).sorts effective;
+  sinks = sinks_of table (points_of table effective) (states_of table machine).sorts effective;
   composites = clauses_of below table (points_of table effective) (states_of table machine) effective;
   is_composite = is_composite effective.behavior.composites;
 }

@@ -2,7 +2,7 @@ ghost use Rattle.std.specs.Prelude.{◌≡◌, None, Some, IfErr, IfOk, OnOk, ma
 ghost use Rattle.plain_values.specs.Order.{least};
 ghost use Rattle.error_libraries.specs.Libraries.{table_of};
 ghost use Rattle.propagation_points.specs.Points.{point_refusals, points_of};
-ghost use Rattle.error_flows.specs.Flows.{all_flow_refusals, flows_of};
+ghost use Rattle.error_flows.specs.Flows.{all_flow_refusals, flows_of, sinks_of};
 ghost use Rattle.error_behavior.specs.Behavior.{behavior_refusals, behavior_of};
 ghost use Rattle.error_machines.specs.States.{states_of};
 ghost use Rattle.composite_states.specs.Composites.{clauses_of, composite_clause_refusals};
@@ -18,7 +18,7 @@ use aadl_syntax::Composite;
 use component_extension::{Effective, InClause};
 use composite_states::{ClauseMeaning, clauses_of};
 use error_behavior::{ErrorBehavior, behavior_of};
-use error_flows::{FlowMeaning, flows_of};
+use error_flows::{Flows, flows_of};
 use error_machines::{States, UsedMachine, states_of};
 use error_types::Reading;
 use instantiator::Instance;
@@ -81,7 +81,8 @@ fn model_of<'a>(
         points,
         states,
         behavior,
-        flows,
+        flows: flows.meanings,
+        sinks: flows.sinks,
         composites,
         is_composite: is_composite(effective.behavior.composites.items()),
     })
@@ -133,16 +134,17 @@ fn behavior<'a>(
     Ok(behavior)
 }
 
-/// The meanings of the flows of a component, whose refusals are tested.
+/// The flows of a component, whose refusals are tested.
 fn flows<'a>(
     alloc: Global,
     effective: &Effective<'a>,
     reading: &mut Reading<'_, 'a>,
     points: &Points<'a>,
     states: &Sorts<'a>,
-) -> Answer<List<FlowMeaning>>
+) -> Answer<Flows>
     ensures kept { reading.new.types ≡ reading.old.types }
-    ensures flows { IfOk result (λ flows. flows ≡ flows_of reading.old.types points.now states.now effective.now) }
+    ensures flows { IfOk result (λ flows. flows.meanings ≡ flows_of reading.old.types points.now states.now effective.now) }
+    ensures sinks { IfOk result (λ flows. flows.sinks ≡ sinks_of reading.old.types points.now states.now effective.now) }
     ensures accepted { OnOk result (least (all_flow_refusals reading.old.types points.now states.now effective.now) ≡ None) }
     ensures refused { IfErr result (StopsAt (least (all_flow_refusals reading.old.types points.now states.now effective.now))) }
     ensures told { IfErr result (Tells (all_flow_refusals reading.old.types points.now states.now effective.now) reading.new.refusals) }

@@ -93,6 +93,7 @@ pub(crate) fn no_model<'a>(alloc: Global) -> ErrorModel<'a>
             emissions: List::new(alloc),
         },
         flows: List::new(alloc),
+        sinks: List::new(alloc),
         composites: List::new(alloc),
         is_composite: false,
     }

@@ -44,7 +44,7 @@ assembly_of profile packages root = of_instance (instance_of packages root) (tab
 
 -- the error model in which nothing happens
 abbrev pub no_model : ErrorModel
-no_model = record { points = []; states = no_states; behavior = record { events = []; steps = []; emissions = [] }; flows = []; composites = []; is_composite = false }
+no_model = record { points = []; states = no_states; behavior = record { events = []; steps = []; emissions = [] }; flows = []; sinks = []; composites = []; is_composite = false }
 
 -- the error model of the kind of a number, with nothing where there is no kind
 abbrev pub kind_model : List ErrorModel → Option ℕ → ErrorModel

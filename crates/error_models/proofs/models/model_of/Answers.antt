@@ -3,7 +3,7 @@ use Rattle.std.specs.Option.{option_or}
 use Rattle.std.proofs.lemmas.Result.{err_from_is_err_and}
 use Rattle.plain_values.specs.Order.{least}
 use Rattle.propagation_points.specs.Points.{point_refusals, points_of}
-use Rattle.error_flows.specs.Flows.{all_flow_refusals, flows_of}
+use Rattle.error_flows.specs.Flows.{all_flow_refusals, flows_of, sinks_of}
 use Rattle.error_behavior.specs.Behavior.{behavior_refusals, behavior_of}
 use Rattle.error_machines.specs.States.{states_of}
 use Rattle.composite_states.specs.Composites.{clauses_of, composite_clause_refusals}
@@ -182,8 +182,10 @@ returns-clause-model c =
     let kept_on : c.flows.new.reading.types ≡ table = c.in_ok-flows.ensures.kept ∙ kept in
     let behavior : c.in_ok-behavior.behavior ≡ behavior_of table (points_of table effective) machine effective =
     c.in_ok-behavior.ensures.behavior ∙ (λ i. behavior_of (start i) (c.in_ok-points.ensures.points i) machine effective) in
-    let flows : c.in_ok-flows.flows ≡ flows_of table (points_of table effective) (states_of table machine).sorts effective =
+    let flows : c.in_ok-flows.flows.meanings ≡ flows_of table (points_of table effective) (states_of table machine).sorts effective =
     c.in_ok-flows.ensures.flows ∙ (λ i. flows_of (kept i) (c.in_ok-points.ensures.points i) (states i).sorts effective) in
+    let sinks : c.in_ok-flows.flows.sinks ≡ sinks_of table (points_of table effective) (states_of table machine).sorts effective =
+    c.in_ok-flows.ensures.sinks ∙ (λ i. sinks_of (kept i) (c.in_ok-points.ensures.points i) (states i).sorts effective) in
     let composites : c.in_ok-composites.composites ≡ clauses_of below table (points_of table effective) (states_of table machine) effective =
     c.in_ok-composites.ensures.clauses ∙ (λ i. clauses_of below (kept_on i) (c.in_ok-points.ensures.points i) (states i) effective) in
     let has : c.is_composite.result ≡ is_composite effective.behavior.composites = c.is_composite.ensures ∙ ap is_composite c.items.ensures.items in
@@ -192,6 +194,7 @@ returns-clause-model c =
       states = states i;
       behavior = behavior i;
       flows = flows i;
+      sinks = sinks i;
       composites = composites i;
       is_composite = has i;
     }
