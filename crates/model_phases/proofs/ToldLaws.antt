@@ -26,6 +26,7 @@ stop-told group noted why result is told =
 pub told-with : (With : Status → Type 0) (Is IsNow : Refusal → Type 0) (end : Status) → ((refusal : Refusal) → With (status.Refused refusal) → Is refusal → IsNow refusal) → With end → OnRefusal Is end → OnRefusal IsNow end
 told-with With Is IsNow (status.Refused refusal) so with told = so refusal with told
 told-with With Is IsNow status.Done so with told = tt
+told-with With Is IsNow status.Unmet so with told = tt
 told-with With Is IsNow status.Usage so with told = tt
 told-with With Is IsNow (status.Constant always) so with told = tt
 told-with With Is IsNow (status.Unrated name) so with told = tt

@@ -9,6 +9,8 @@ use std::alloc::{AllocError, AllocFailed};
 pub enum Status {
     /// All input was read and all output was taken.
     Done,
+    /// All input was read and all output was taken, and it tells of a requirement that is not met.
+    Unmet,
     /// The words give no command.
     Usage,
     /// The words or the texts are refused.
@@ -47,6 +49,7 @@ impl Status {
             Status::WriteFault => 5,
             Status::ReportFault(_) => 6,
             Status::Memory => 7,
+            Status::Unmet => 8,
         }
     }
 }

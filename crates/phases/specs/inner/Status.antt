@@ -1,7 +1,7 @@
 -- The statuses, and the number with which the program ends at each.
 use Rattle.std.specs.Prelude.{ℕ}
 use Rattle.phases.specs.declared.status.Status.{Status}
-use Rattle.phases.specs.declared.status.Status.TheVariants.{Done, Usage, Refused, Constant, Unrated, StaleToken, ReadFault, WriteFault, ReportFault, Memory}
+use Rattle.phases.specs.declared.status.Status.TheVariants.{Done, Unmet, Usage, Refused, Constant, Unrated, StaleToken, ReadFault, WriteFault, ReportFault, Memory}
 
 -- the exit number of a status
 abbrev pub exit_number : Status → ℕ
@@ -15,3 +15,4 @@ exit_number (ReadFault file) = 4
 exit_number WriteFault = 5
 exit_number (ReportFault report) = 6
 exit_number Memory = 7
+exit_number Unmet = 8
