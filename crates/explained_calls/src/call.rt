@@ -13,7 +13,7 @@ ghost use Rattle.fta_run.specs.Words.{GiveNoRequest, IsRequest, Request as AnyRe
 ghost use Rattle.fta_run.specs.inner.Held.{AreFronts, IsReportCaused, IsToRead};
 ghost use Rattle.fta_words.specs.inner.Explained.{explained_call};
 ghost use Rattle.explained_calls.specs.inner.Calls.{Comes, ComesOf, EndsExplained, Explains, IsExplained, asked_words, call_or};
-ghost use Rattle.explained_calls.specs.inner.Texts.{IsExplanation, TellsMore, line_before};
+ghost use Rattle.explained_calls.specs.inner.Texts.{ExplainsEnd, TellsMore, line_before};
 
 use crate::closed::Closed;
 use crate::explanation::more_of;
@@ -156,7 +156,7 @@ fn tell<S: Sink>(
     reports: &Vec<Box<dyn Report>>,
     its_end: Status,
 ) -> Status
-    ensures took { Took (IsExplanation (map label reports.now.items) call.now read.now.names.now read.now.texts its_end) result (S.seen out.old) (S.seen out.new) }
+    ensures took { Took (ExplainsEnd (map label reports.now.items) call.now read.now.names.now read.now.texts its_end) result (S.seen out.old) (S.seen out.new) }
     ensures ends { EndsExplained its_end result (S.seen out.old) (S.seen out.new) }
 {
     match its_end {
@@ -175,7 +175,7 @@ fn tell_end<S: Sink>(
     reports: &Vec<Box<dyn Report>>,
     its_end: &Status,
 ) -> Status
-    ensures took { Took (IsExplanation (map label reports.now.items) call.now read.now.names.now read.now.texts its_end.now) result (S.seen out.old) (S.seen out.new) }
+    ensures took { Took (ExplainsEnd (map label reports.now.items) call.now read.now.names.now read.now.texts its_end.now) result (S.seen out.old) (S.seen out.new) }
     ensures ends { EndsExplained its_end.now result (S.seen out.old) (S.seen out.new) }
 {
     let Ok(more) = more_with(alloc, call, read, reports, its_end) else {

@@ -5,6 +5,7 @@ mod Lacking
 mod LikeEnds
 mod Grammars
 mod Models
+mod RequiredLaws
 mod OneDue
 mod Ran
 pub mod Read

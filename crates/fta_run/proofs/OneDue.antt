@@ -1,5 +1,6 @@
 -- One end at most is due for the words and the contents, where these are told.
-use Rattle.std.proofs.Common.{◌≡◌, ◌≤◌, ℕ, Bool, true, false, List, [], ◌∷◌, length, Option, Some, None, IsSome, IfSome, Result, Ok, refl, sym, subst, ap, ◌∙◌, inl, inr, codes}
+use Rattle.std.proofs.Common.{◌≡◌, ◌≤◌, ℕ, Bool, true, false, List, [], ◌∷◌, length, Option, Some, None, IsSome, IfSome, Result, Ok, Err, refl, sym, subst, ap, ◌∙◌, inl, inr, codes}
+use Rattle.std.specs.Prelude.{IsOk}
 use Rattle.std.specs.List.{AllByRecursion}
 use Rattle.std.proofs.lemmas.Bool.{false≢true}
 use Rattle.plain_values.specs.declared.name.Root.{Root}
@@ -16,7 +17,7 @@ use Rattle.model_facts.specs.Assembly.{Assembly}
 use Rattle.aadl_syntax.specs.declared.core_model.PackageUnit.{PackageUnit}
 use Rattle.package_index.specs.declared.id.ClassifierId.{ClassifierId}
 use Rattle.grammar_rules.specs.Texts.{syntax_error}
-use Rattle.phases.specs.Phases.{IsDue, Passes, Phase}
+use Rattle.phases.specs.Phases.{IsDue, Passed, Passes, Phase, Stopped, Stops}
 use Rattle.phases.specs.inner.Phases.{IsDecided, IsSameEnd}
 use Rattle.phases.specs.declared.status.Status.{Status}
 use Rattle.phases.specs.declared.status.Status.TheVariants.{Usage, Refused}
@@ -36,7 +37,10 @@ use Rattle.system_answers.specs.declared.form.TreeForm.{TreeForm}
 use Rattle.system_answers.proofs.Derived.{confirm_decided, why_decided}
 use Rattle.system_answers.proofs.Decided.{cuts_decided, drawn_decided, galileo_paths_text_decided, galileo_text_decided, listing_decided, named_tree_decided, paths_decided, rated_decided, report_decided, slice_decided, target_decided, tree_decided, tree_for_decided}
 use Rattle.page_tokens.specs.Keys.{asked_digits}
-use Rattle.fta_run.specs.Due.{confirmed_in, cuts_in, due, first_text, galileo_in, made_of_texts, made_root, made_target, make_text, model_of_texts, other_texts, request_text, sets_of_tree, sized_text, text_by, texts_of, units_of, within_limits}
+use Rattle.fta_run.specs.Due.{confirmed_in, cuts_in, due, first_text, galileo_in, is_require, made_of_texts, made_root, made_target, make_text, model_of_texts, other_texts, output_for, output_with, request_text, require_in, required_in, sets_of_tree, sized_text, text_by, texts_of, units_of, within_limits}
+use Rattle.fta_run.specs.Required.{Output}
+use Rattle.fta_run.specs.inner.Steps.{text_due}
+use Rattle.fta_run.proofs.RequiredLaws.{required-decided}
 use Rattle.target_orders.specs.Text.{TellsOrders}
 use Rattle.target_orders.proofs.Said.{one-text}
 use Rattle.fta_run.specs.Effects.{asked_targets}
@@ -147,6 +151,15 @@ confirmed_decided profile root target set texts short = (
       confirm_decided IsSameStatus itself (first_text texts) model.system plain.is_system (fact_line_names model.system plain) (event_line_names model.system plain) short target set (token_names model.system plain),
 )
 
+required_in_decided : (profile : Profile) (root : Root) (tap : Bool) (texts : List (List ℕ)) → IsDecided IsSameStatus (required_in profile root tap texts)
+required_in_decided profile root tap texts = (
+  later_decided (model_of_texts profile root (other_texts texts)) (texts_model_decided profile root (other_texts texts)),
+  λ model at. required-decided IsSameStatus itself model.system tap (first_text texts),
+)
+
+require_decided : (profile : Profile) (root : Root) (tap : Bool) (texts : List (List ℕ)) → IsDecided IsSameStatus (require_in profile root tap texts)
+require_decided profile root tap texts = (required_in_decided profile root tap texts, λ told at. tt)
+
 sized_decided : (model : FlatModel) → IsDecided IsSameStatus (sized_text model)
 sized_decided model =
     (target_decided IsSameStatus itself made_target model.system, λ number named. (slice_decided IsSameStatus itself number model.system, λ slice served. (listing_decided IsSameStatus itself number None model.system, λ sets are. tt)))
@@ -220,6 +233,7 @@ text_decided profile kind.Place voices asked texts short keeps = tt
 text_decided profile kind.Manifest voices asked texts short keeps = (texts_model_decided profile asked.root texts, λ model at. tt)
 text_decided profile kind.Refusals voices asked texts short keeps = absurd keeps
 text_decided profile kind.Probability voices asked texts short keeps = absurd keeps
+text_decided profile kind.Require voices asked texts short keeps = require_decided profile asked.root (is_set asked.options (codes "tap")) texts
 text_decided profile kind.Help voices asked texts short keeps = tt
 text_decided profile kind.Explain voices asked texts short keeps = tt
 text_decided profile kind.Version voices asked texts short keeps = tt
@@ -250,6 +264,7 @@ text_opened profile kind.Probability voices asked texts short = (
     λ number named. (slice_decided IsSameStatus itself number model.system, λ slice served. ((λ text status tells none. none), λ a b none other. absurd none)),
   ),
 )
+text_opened profile kind.Require voices asked texts short = decided_opened (text_by profile kind.Require voices asked texts) (text_decided profile kind.Require voices asked texts short tt)
 text_opened profile kind.Help voices asked texts short = decided_opened (text_by profile kind.Help voices asked texts) (text_decided profile kind.Help voices asked texts short tt)
 text_opened profile kind.Explain voices asked texts short = decided_opened (text_by profile kind.Explain voices asked texts) (text_decided profile kind.Explain voices asked texts short tt)
 text_opened profile kind.Version voices asked texts short = decided_opened (text_by profile kind.Version voices asked texts) (text_decided profile kind.Version voices asked texts short tt)
@@ -257,24 +272,114 @@ text_opened profile kind.Version voices asked texts short = decided_opened (text
 request_decided : (contents : List ℕ → Option (List ℕ)) (voices : List Voice) (asked : Request) → AllByRecursion (λ file. IsSome (contents file)) asked.files → KeepsGates asked.kind asked → IsDecided IsSameStatus (request_text contents voices asked)
 request_decided contents voices asked told keeps = (texts_decided contents asked.files told, λ texts are. text_decided (profile_of asked.options.form) asked.kind voices asked texts (first_short contents asked.files texts are) keeps)
 
-due_decided : (words : List (List ℕ)) (contents : List ℕ → Option (List ℕ)) (voices : List Voice) → AllTold words contents voices → AskForOneText words voices → IsDecided IsSameStatus (due words contents voices)
-due_decided words contents voices told one =
+text_due_decided : (words : List (List ℕ)) (contents : List ℕ → Option (List ℕ)) (voices : List Voice) → AllTold words contents voices → AskForOneText words voices → IsDecided IsSameStatus (text_due words contents voices)
+text_due_decided words contents voices told one =
     (decided_finds IsSameStatus itself (IsRequest (labels voices) words) Usage (one_request (labels voices) words), λ asked is. request_decided contents voices asked (told asked is) (one asked is))
 
-pub one_due : (words : List (List ℕ)) (contents : List ℕ → Option (List ℕ)) (voices : List Voice) → AllTold words contents voices → AskForOneText words voices → (a b : Result (List ℕ) Status) → IsDue (due words contents voices) a → IsDue (due words contents voices) b
-    → IsSameEnd IsSameStatus a b
-one_due words contents voices told one = decided.one_due IsSameStatus (due words contents voices) (due_decided words contents voices told one)
-
-pub one_output : (words : List (List ℕ)) (contents : List ℕ → Option (List ℕ)) (voices : List Voice) → AllTold words contents voices → AskForOneText words voices → (a b : List ℕ) → IsOutput words contents voices a → IsOutput words contents voices b → a ≡ b
-one_output words contents voices told one = decided.one_value IsSameStatus (due words contents voices) (due_decided words contents voices told one)
-
--- ---- ends are alike
-
-due_opened : (words : List (List ℕ)) (contents : List ℕ → Option (List ℕ)) (voices : List Voice) → AllTold words contents voices → IsDecidedButLast IsSameStatus (due words contents voices)
-due_opened words contents voices told = (
+text_due_opened : (words : List (List ℕ)) (contents : List ℕ → Option (List ℕ)) (voices : List Voice) → AllTold words contents voices → IsDecidedButLast IsSameStatus (text_due words contents voices)
+text_due_opened words contents voices told = (
   decided_finds IsSameStatus itself (IsRequest (labels voices) words) Usage (one_request (labels voices) words),
   λ asked is. (texts_decided contents asked.files (told asked is), λ texts are. text_opened (profile_of asked.options.form) asked.kind voices asked texts (first_short contents asked.files texts are)),
 )
 
-pub one_end : (words : List (List ℕ)) (contents : List ℕ → Option (List ℕ)) (voices : List Voice) → AllTold words contents voices → (a b : Result (List ℕ) Status) → IsDue (due words contents voices) a → IsDue (due words contents voices) b → IsLikeEnd IsSameStatus a b
-one_end words contents voices told = alike IsSameStatus (due words contents voices) (due_opened words contents voices told)
+-- ---- from what is due to its text
+
+require_is : (k : Kind) → is_require k ≡ true → k ≡ kind.Require
+require_is kind.Check is = absurd (false≢true is)
+require_is kind.Cuts is = absurd (false≢true is)
+require_is kind.Tree is = absurd (false≢true is)
+require_is kind.Fmea is = absurd (false≢true is)
+require_is kind.Report is = absurd (false≢true is)
+require_is kind.Make is = absurd (false≢true is)
+require_is kind.Galileo is = absurd (false≢true is)
+require_is kind.Paths is = absurd (false≢true is)
+require_is kind.Why is = absurd (false≢true is)
+require_is kind.Confirm is = absurd (false≢true is)
+require_is kind.Targets is = absurd (false≢true is)
+require_is kind.Events is = absurd (false≢true is)
+require_is kind.Review is = absurd (false≢true is)
+require_is kind.Place is = absurd (false≢true is)
+require_is kind.Manifest is = absurd (false≢true is)
+require_is kind.Refusals is = absurd (false≢true is)
+require_is kind.Probability is = absurd (false≢true is)
+require_is kind.Require is = refl
+require_is kind.Explain is = absurd (false≢true is)
+require_is kind.Help is = absurd (false≢true is)
+require_is kind.Version is = absurd (false≢true is)
+
+module _ (profile : Profile) (voices : List Voice) (asked : Request) (texts : List (List ℕ)) where
+  text_passes : (tells : Bool) (k : Kind) → is_require k ≡ tells → (output : Output) → Passed (output_with tells profile k voices asked texts) output → Passed (text_by profile k voices asked texts) output.text
+  text_passes true k is output passed = subst (λ (its : Kind). Passed (text_by profile its voices asked texts) output.text) (sym (require_is k is)) (output, passed, refl)
+  text_passes false k is output passed = subst (λ (text : List ℕ). Passed (text_by profile k voices asked texts) text) (sym (ap (λ (o : Output). o.text) passed.2)) passed.1
+
+  text_stopped : (tells : Bool) (k : Kind) → is_require k ≡ tells → (status : Status) → Stopped (output_with tells profile k voices asked texts) status → Stopped (text_by profile k voices asked texts) status
+  text_stopped true k is status stopped = subst (λ (its : Kind). Stopped (text_by profile its voices asked texts) status) (sym (require_is k is)) (inl stopped)
+  text_stopped false k is status stopped = elim stopped [ inl here ↦ here | inr none ↦ absurd none.2 ]
+
+  -- whether a requirement is not met is decided
+  met_once : (tells : Bool) (k : Kind) (a b : Output) → Passed (output_with tells profile k voices asked texts) a → Passed (output_with tells profile k voices asked texts) b → a.met ≡ b.met
+  met_once true k a b p q =
+      let tap : Bool = is_set asked.options (codes "tap") in
+      ap (λ (o : Output). o.met) (decided.one_value IsSameStatus (required_in profile asked.root tap texts) (required_in_decided profile asked.root tap texts) a b (record { passed = p }) (record { passed = q }))
+  met_once false k a b p q = ap (λ (o : Output). o.met) p.2 ∙ sym (ap (λ (o : Output). o.met) q.2)
+
+module _ (words : List (List ℕ)) (contents : List ℕ → Option (List ℕ)) (voices : List Voice) where
+  pub due_text : (output : Output) → Passes (due words contents voices) output → Passes (text_due words contents voices) output.text
+  due_text output due_is =
+      let given = due_is.passed in
+      let asked : Request = given.0 in
+      let texts : List (List ℕ) = given.2 in
+      record { passed = (asked, given.1, texts, given.3, text_passes (profile_of asked.options.form) voices asked texts (is_require asked.kind) asked.kind refl output given.4) }
+
+  pub due_stop : (status : Status) → Stops (due words contents voices) status → Stops (text_due words contents voices) status
+  due_stop status due_is =
+      elim due_is.stopped [
+        | inl none ↦ record { stopped = inl none }
+        | inr there ↦ elim there.2 [
+          | inl read ↦ record { stopped = inr (there.0, there.1, inl read) }
+          | inr last ↦ record { stopped = inr (there.0, there.1, inr (last.0, last.1, text_stopped (profile_of there.0.options.form) voices there.0 last.0 (is_require there.0.kind) there.0.kind refl status last.2)) }
+        ]
+      ]
+
+  pub same_met : AllTold words contents voices → (a b : Output) → Passes (due words contents voices) a → Passes (due words contents voices) b → a.met ≡ b.met
+  same_met told a b p q = go p.passed.0 q.passed.0 (one_request (labels voices) words p.passed.0 q.passed.0 p.passed.1 q.passed.1) p.passed.1 p.passed.2 q.passed.2 p.passed.3 q.passed.3 p.passed.4 q.passed.4
+    where
+      go : (asked other : Request) → asked ≡ other → IsRequest (labels voices) words asked → (texts others : List (List ℕ)) → Passed (texts_of contents asked.files) texts → Passed (texts_of contents other.files) others
+          → Passed (output_for asked.kind voices asked texts) a → Passed (output_for other.kind voices other others) b → a.met ≡ b.met
+      go asked other same is texts others read also x y =
+          let read_too : Passed (texts_of contents asked.files) others = subst (λ (its : Request). Passed (texts_of contents its.files) others) (sym same) also in
+          let one : texts ≡ others = decided.one_value IsSameStatus (texts_of contents asked.files) (texts_decided contents asked.files (told asked is)) texts others (record { passed = read }) (record { passed = read_too }) in
+          let its_too : Passed (output_for asked.kind voices asked others) b = subst (λ (its : Request). Passed (output_for its.kind voices its others) b) (sym same) y in
+          let its : Passed (output_for asked.kind voices asked texts) b = subst (λ (these : List (List ℕ)). Passed (output_for asked.kind voices asked these) b) (sym one) its_too in
+          met_once (profile_of asked.options.form) voices asked texts (is_require asked.kind) asked.kind a b x its
+
+  -- ---- one end at most
+
+  pub one_output : AllTold words contents voices → AskForOneText words voices → (a b : Output) → IsOutput words contents voices a → IsOutput words contents voices b → a ≡ b
+  one_output told one a b p q =
+      let text : a.text ≡ b.text = decided.one_value IsSameStatus (text_due words contents voices) (text_due_decided words contents voices told one) a.text b.text (due_text a p) (due_text b q) in
+      let met : a.met ≡ b.met = same_met told a b p q in
+      let same : ◌≡◌ {A = Output} (record { text = a.text; met = a.met }) (record { text = b.text; met = b.met }) = cc (text, met) in
+      same
+
+  pub one_due : AllTold words contents voices → AskForOneText words voices → (a b : Result Output Status) → IsDue (due words contents voices) a → IsDue (due words contents voices) b → IsSameEnd IsSameStatus a b
+  one_due told one (Ok x) (Ok y) p q = one_output told one x y p q
+  one_due told one (Ok x) (Err t) p q = decided.not_both IsSameStatus (text_due words contents voices) (text_due_decided words contents voices told one) x.text t (due_text x p) (due_stop t q)
+  one_due told one (Err s) (Ok y) p q = decided.not_both IsSameStatus (text_due words contents voices) (text_due_decided words contents voices told one) y.text s (due_text y q) (due_stop s p)
+  one_due told one (Err s) (Err t) p q = decided.one_stop IsSameStatus (text_due words contents voices) (text_due_decided words contents voices told one) s t (due_stop s p) (due_stop t q)
+
+  -- ---- ends are alike
+
+  text_alike : AllTold words contents voices → (a b : Result (List ℕ) Status) → IsDue (text_due words contents voices) a → IsDue (text_due words contents voices) b → IsLikeEnd IsSameStatus a b
+  text_alike told = alike IsSameStatus (text_due words contents voices) (text_due_opened words contents voices told)
+
+  pub one_end : AllTold words contents voices → (a b : Result Output Status) → IsDue (due words contents voices) a → IsDue (due words contents voices) b → IsLikeEnd IsSameStatus a b
+  one_end told (Ok x) (Ok y) p q = tt
+  one_end told (Ok x) (Err t) p q = text_alike told (Ok x.text) (Err t) (due_text x p) (due_stop t q)
+  one_end told (Err s) (Ok y) p q = text_alike told (Err s) (Ok y.text) (due_stop s p) (due_text y q)
+  one_end told (Err s) (Err t) p q = text_alike told (Err s) (Err t) (due_stop s p) (due_stop t q)
+
+  -- where a text is due, there is an output
+  pub text_or_not : AllTold words contents voices → (a : Result Output Status) (text : List ℕ) → IsDue (due words contents voices) a → Passes (text_due words contents voices) text → IsOk a
+  text_or_not told (Ok x) text p q = refl
+  text_or_not told (Err s) text p q = absurd (text_alike told (Err s) (Ok text) (due_stop s p) q)

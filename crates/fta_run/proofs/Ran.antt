@@ -1,6 +1,6 @@
 -- How a run ended, and what is due.
 use Rattle.std.proofs.Common.{◌≡◌, ◌∙◌, ◌<◌, ◌⊎◌, ℕ, Bool, true, false, List, [], ◌∷◌, length, Option, None, Some, Result, Ok, Err, refl, sym, ap, subst, inl, inr, codes}
-use Rattle.std.specs.Prelude.{IfOk, IsErrAnd, IsOk, MatchResult}
+use Rattle.std.specs.Prelude.{IfOk, IsErrAnd, IsOk, IsOkAnd, MatchResult}
 use Rattle.std.proofs.lemmas.Bool.{false≢true}
 use Rattle.std.proofs.lemmas.Result.{err_from_is_err_and}
 use Rattle.plain_values.specs.declared.refusal.Code.TheVariants.{TooManyFiles}
@@ -10,7 +10,7 @@ use Rattle.plain_values.specs.declared.name.Root.{Root}
 use Rattle.phases.specs.Phases.{Phase, Passes, Stops, yields, tells, chains, finds, IsDue, IsRefusal}
 use Rattle.fta_run.specs.inner.OneEnd.{IsLikeEnd}
 use Rattle.phases.specs.declared.status.Status.{Status}
-use Rattle.phases.specs.declared.status.Status.TheVariants.{Done, Usage, Refused, Constant, Unrated, StaleToken, ReadFault, WriteFault, ReportFault, Memory}
+use Rattle.phases.specs.declared.status.Status.TheVariants.{Done, Unmet, Usage, Refused, Constant, Unrated, StaleToken, ReadFault, WriteFault, ReportFault, Memory}
 use Rattle.phases.proofs.Endings.{StopsOnly, stops_only}
 use Rattle.fault_system.specs.Systems.{System, event_name}
 use Rattle.fault_system.specs.Truth.{set_of}
@@ -42,7 +42,8 @@ use Rattle.page_tokens.specs.Keys.{asked_digits}
 use Rattle.page_tokens.specs.Starts.{IsStale, LacksStart as LacksBegin}
 use Rattle.path_sets.specs.PathSets.{HasLargePaths}
 use Rattle.system_answers.specs.inner.Ends.{EndsReports}
-use Rattle.fta_run.specs.Due.{confirmed_in, cuts_in, due, first_text, galileo_in, made_of_texts, made_root, made_target, make_text, model_of_texts, other_texts, report_in, request_text, sets_of_tree, sized_text, text_by, text_for, texts_of, within_limits}
+use Rattle.fta_run.specs.Due.{confirmed_in, cuts_in, due, first_text, galileo_in, is_require, made_of_texts, made_root, made_target, make_text, model_of_texts, other_texts, output_for, output_with, report_in, request_text, require_in, required_in, sets_of_tree, sized_text, text_by, text_for, texts_of, within_limits}
+use Rattle.fta_run.specs.Required.{Output, with_all_met}
 use Rattle.fta_run.specs.Forms.{drawn_words, is_drawn, is_merging, is_wide, picture_legend, profile_of, tree_form, tree_words}
 use Rattle.fta_words.specs.declared.command.Options.{Options}
 use Rattle.fta_run.specs.Later.{IsLater}
@@ -52,7 +53,7 @@ use Rattle.model_maker.specs.Text.{text_of as made_text}
 use Rattle.cut_reports.specs.Places.{AtChosen}
 use Rattle.fta_run.specs.Answers.{AllTold, AnswersWords, BeginsWithMemory, IsCaused, IsJustified, IsManyAnswer, IsOutput, IsSameStatus, MayCome, Took, is_by_lines}
 use Rattle.fta_run.specs.inner.Held.{IsReadEnd}
-use Rattle.fta_run.specs.inner.Steps.{AsksLines, IsExcused, Runs, ended}
+use Rattle.fta_run.specs.inner.Steps.{AsksLines, IsExcused, Runs, ended, text_due}
 use Rattle.fta_words.proofs.Requests.{file_words_are, one_request}
 use Rattle.fta_outside.specs.Outside.{Rose, Seen, TookPrefix}
 use Rattle.fta_outside.specs.inner.Outside.{LacksMemory}
@@ -61,11 +62,13 @@ use Rattle.fta_outside.specs.declared.error.WriteError.TheVariants.{Failed, Memo
 use Rattle.phases.specs.inner.Meets.{IsMemory, MeetsBut}
 use Rattle.phases.specs.inner.Stopped.{status_of_write}
 use Rattle.phases.proofs.Steps.{◌passes◌, ◌beyond◌, ends}
+use Rattle.fta_run.specs.declared.ready.Answer.{Answer}
 use Rattle.fta_run.specs.declared.ready.Held.{Held}
 use Rattle.fta_run.specs.declared.ready.Ready.{Ready}
 use Rattle.fta_run.specs.declared.ready.Ready.TheVariants as made
-use Rattle.fta_run.specs.inner.Ready.{IsByLines, held_text, ready_text}
-use Rattle.fta_run.proofs.OneDue.{one_end}
+use Rattle.fta_run.specs.inner.Ready.{IsByLines, answer_output, held_text, ready_text}
+use Rattle.fta_run.proofs.OneDue.{due_stop, due_text, one_end, same_met, text_or_not}
+use Rattle.fta_run.proofs.RequiredLaws.{required-stops}
 
 -- ---- how the phases stop
 
@@ -215,6 +218,9 @@ cuts_in_stop : (profile : Profile) (root : Root) (target : List ℕ) (paging : P
 cuts_in_stop profile root target paging tokens texts =
     (refusals (model_of_texts profile root texts) (texts_model_stops profile root texts), λ model at. cuts_stop target paging tokens (asked_digits tokens paging.after profile root target paging.max_order texts) model.system)
 
+require_stop : (profile : Profile) (root : Root) (tap : Bool) (texts : List (List ℕ)) → StopsOnly IsARefusal (require_in profile root tap texts)
+require_stop profile root tap texts = ((refusal_is (IsLater (model_of_texts profile root (other_texts texts))), λ model at. required-stops model.system tap (first_text texts)), λ told at. tt)
+
 text_stops : (profile : Profile) (asked_kind : Kind) (voices : List Voice) (asked : Request) (texts : List (List ℕ)) → StopsOnly IsAnEnd (text_by profile asked_kind voices asked texts)
 text_stops profile kind.Check voices asked texts = (refusals (model_of_texts profile asked.root texts) (texts_model_stops profile asked.root texts), λ model at. tt)
 text_stops profile kind.Cuts voices asked texts = cuts_in_stop profile asked.root asked.target asked.options.paging (is_set asked.options (codes "tokens")) texts
@@ -244,6 +250,7 @@ text_stops profile kind.Probability voices asked texts = (
       refusals (probability_text asked.target asked.options.hours (is_set asked.options (codes "events")) model.system model.rates)
       (probability_stop asked.target asked.options.hours (is_set asked.options (codes "events")) model.system model.rates),
 )
+text_stops profile kind.Require voices asked texts = refusals (require_in profile asked.root (is_set asked.options (codes "tap")) texts) (require_stop profile asked.root (is_set asked.options (codes "tap")) texts)
 text_stops profile kind.Help voices asked texts = tt
 text_stops profile kind.Explain voices asked texts = tt
 text_stops profile kind.Version voices asked texts = tt
@@ -257,7 +264,8 @@ EndsSo names words status = ((status ≡ Usage) × GiveNoRequest names words) �
 
 kind_of : (words : List (List ℕ)) (contents : List ℕ → Option (List ℕ)) (voices : List Voice) (s : Status) → Stops (due words contents voices) s → EndsSo (labels voices) words s
 kind_of words contents voices s stops =
-    elim stops.stopped [
+    let its = due_stop words contents voices s stops in
+    elim its.stopped [
       | inl none ↦ inl none
       | inr there ↦ inr ((there.0, there.1), stops_only IsAnEnd (request_text contents voices there.0) (request_stops contents voices there.0) s there.2)
     ]
@@ -286,10 +294,10 @@ Ended words contents voices s =
     Stops (due words contents voices) s
     ⊎ ((s ≡ Memory)
     ⊎ (((file : ℕ) × (s ≡ ReadFault file) × GiveRequest (labels voices) words)
-    ⊎ (((s ≡ WriteFault) ⊎ ((place : ℕ) × (s ≡ ReportFault place))) × ((text : List ℕ) × Passes (due words contents voices) text))))
+    ⊎ (((s ≡ WriteFault) ⊎ ((place : ℕ) × (s ≡ ReportFault place))) × ((text : List ℕ) × Passes (text_due words contents voices) text))))
 
 module _ (words : List (List ℕ)) (contents : List ℕ → Option (List ℕ)) (voices : List Voice) (read_before read_after : List ℕ → ℕ) (RoseThere : ℕ → Type 0) (t u : Seen) where
-  how_ended : (s : Status) → Runs {T = Unit {0}} words contents voices read_before read_after RoseThere (Err s) t u → Ended words contents voices s
+  how_ended : (s : Status) → Runs words contents voices read_before read_after RoseThere (Err s) t u → Ended words contents voices s
   how_ended s end =
       elim end [
         | inl quiet ↦ elim quiet.0 [
@@ -302,7 +310,7 @@ module _ (words : List (List ℕ)) (contents : List ℕ → Option (List ℕ)) (
             ]
           ]
         ]
-        | inr front ↦ elim front.1 [ inl failed ↦ inr (inr (inr (inl failed.0, (front.0.0, front.0.1)))) | inr memory ↦ inr (inl memory.0) ]
+        | inr front ↦ elim front.1 [ inl failed ↦ inr (inr (inr (inl failed.0, (front.0.0, due_text words contents voices (record { text = front.0.0; met = front.0.1.0 }) front.0.1.1)))) | inr memory ↦ inr (inl memory.0) ]
       ]
 
   words_ended : (s : Status) → Ended words contents voices s → AnswersWords s (labels voices) words
@@ -321,14 +329,16 @@ module _ (words : List (List ℕ)) (contents : List ℕ → Option (List ℕ)) (
         ]
       ]
 
-  pub ran_words : {T : Type 0} (result : Result T Status) → Runs words contents voices read_before read_after RoseThere result t u → AnswersWords (ended result) (labels voices) words
-  ran_words (Ok _) took = (took.1.passed.0, took.1.passed.1)
+  pub ran_words : (result : Result Bool Status) → Runs words contents voices read_before read_after RoseThere result t u → AnswersWords (ended result) (labels voices) words
+  ran_words (Ok true) took = (took.1.passed.0, took.1.passed.1)
+  ran_words (Ok false) took = (took.1.passed.0, took.1.passed.1)
   ran_words (Err s) end = words_ended s (how_ended s end)
 
   -- ---- the verdict
 
   justified : (s : Status) → Stops (due words contents voices) s → IsJustified words contents voices s
   justified Done stops = tt
+  justified Unmet stops = tt
   justified Usage stops = tt
   justified (Refused refusal) stops = stops
   justified (Constant always) stops = stops
@@ -355,8 +365,9 @@ module _ (words : List (List ℕ)) (contents : List ℕ → Option (List ℕ)) (
         ]
       ]
 
-  pub ran_verdict : {T : Type 0} (result : Result T Status) → Runs words contents voices read_before read_after RoseThere result t u → IsJustified words contents voices (ended result)
-  ran_verdict (Ok _) took = tt
+  pub ran_verdict : (result : Result Bool Status) → Runs words contents voices read_before read_after RoseThere result t u → IsJustified words contents voices (ended result)
+  ran_verdict (Ok true) took = tt
+  ran_verdict (Ok false) took = tt
   ran_verdict (Err s) end = verdict_ended s (how_ended s end)
 
   -- ---- what was taken, and what faults came of
@@ -377,7 +388,7 @@ module _ (words : List (List ℕ)) (contents : List ℕ → Option (List ℕ)) (
         ]
       ]
 
-  took_ended : (s : Status) → Runs {T = Unit {0}} words contents voices read_before read_after RoseThere (Err s) t u → Took (IsOutput words contents voices) s t u
+  took_ended : (s : Status) → Runs words contents voices read_before read_after RoseThere (Err s) t u → Took (IsOutput words contents voices) s t u
   took_ended s end =
       elim end [
         | inl quiet ↦ elim quiet.0 [
@@ -399,11 +410,12 @@ module _ (words : List (List ℕ)) (contents : List ℕ → Option (List ℕ)) (
         ]
       ]
 
-  took_as : {T : Type 0} (result : Result T Status) → Runs words contents voices read_before read_after RoseThere result t u → Took (IsOutput words contents voices) (ended result) t u
-  took_as (Ok _) took = took
+  took_as : (result : Result Bool Status) → Runs words contents voices read_before read_after RoseThere result t u → Took (IsOutput words contents voices) (ended result) t u
+  took_as (Ok true) took = took
+  took_as (Ok false) took = took
   took_as (Err s) end = took_ended s end
 
-  pub ran_output : {T : Type 0} (result : Result T Status) (status : Status) → status ≡ ended result → Runs words contents voices read_before read_after RoseThere result t u → Took (IsOutput words contents voices) status t u
+  pub ran_output : (result : Result Bool Status) (status : Status) → status ≡ ended result → Runs words contents voices read_before read_after RoseThere result t u → Took (IsOutput words contents voices) status t u
   ran_output result status is end = subst (λ x. Took (IsOutput words contents voices) x t u) (sym is) (took_as result end)
 
   caused_by_kind : (s : Status) → EndsSo (labels voices) words s → IsCaused s (labels voices) words read_before read_after t u RoseThere
@@ -422,7 +434,7 @@ module _ (words : List (List ℕ)) (contents : List ℕ → Option (List ℕ)) (
         ]
       ]
 
-  caused_ended : (s : Status) → Runs {T = Unit {0}} words contents voices read_before read_after RoseThere (Err s) t u → IsCaused s (labels voices) words read_before read_after t u RoseThere
+  caused_ended : (s : Status) → Runs words contents voices read_before read_after RoseThere (Err s) t u → IsCaused s (labels voices) words read_before read_after t u RoseThere
   caused_ended s end =
       elim end [
         | inl quiet ↦ elim quiet.0 [
@@ -444,43 +456,40 @@ module _ (words : List (List ℕ)) (contents : List ℕ → Option (List ℕ)) (
         ]
       ]
 
-  caused_as : {T : Type 0} (result : Result T Status) → Runs words contents voices read_before read_after RoseThere result t u → IsCaused (ended result) (labels voices) words read_before read_after t u RoseThere
-  caused_as (Ok _) took = tt
+  caused_as : (result : Result Bool Status) → Runs words contents voices read_before read_after RoseThere result t u → IsCaused (ended result) (labels voices) words read_before read_after t u RoseThere
+  caused_as (Ok true) took = tt
+  caused_as (Ok false) took = tt
   caused_as (Err s) end = caused_ended s end
 
-  pub ran_caused : {T : Type 0} (result : Result T Status) (status : Status) → status ≡ ended result → Runs words contents voices read_before read_after RoseThere result t u → IsCaused status (labels voices) words read_before read_after t u RoseThere
+  pub ran_caused : (result : Result Bool Status) (status : Status) → status ≡ ended result → Runs words contents voices read_before read_after RoseThere result t u → IsCaused status (labels voices) words read_before read_after t u RoseThere
   ran_caused result status is end = subst (λ x. IsCaused x (labels voices) words read_before read_after t u RoseThere) (sym is) (caused_as result end)
 
 -- ---- what is due
 
-text_is_due : (a : Result (List ℕ) Status) (text : List ℕ) → IsLikeEnd IsSameStatus a (Ok text) → IsOk a
-text_is_due (Ok x) text same = refl
-text_is_due (Err s) text same = absurd same
-
 same_as : (a s : Status) → ((refusal : Refusal) → s ≡ Refused refusal → ⊥) → IsSameStatus a s → a ≡ s
 same_as a s other same = elim same [ inl is ↦ is | inr both ↦ absurd (other _ both.4) ]
 
-usage_is_due : (a : Result (List ℕ) Status) → IsLikeEnd IsSameStatus a (Err Usage) → a ≡ Err Usage
+usage_is_due : (a : Result Output Status) → IsLikeEnd IsSameStatus a (Err Usage) → a ≡ Err Usage
 usage_is_due (Ok x) same = absurd same
 usage_is_due (Err a) same = ap (λ (s : Status). Err s) (same_as a Usage (λ refusal is. cc (is)) same)
 
-constant_is_due : (a : Result (List ℕ) Status) (always : Bool) → IsLikeEnd IsSameStatus a (Err (Constant always)) → a ≡ Err (Constant always)
+constant_is_due : (a : Result Output Status) (always : Bool) → IsLikeEnd IsSameStatus a (Err (Constant always)) → a ≡ Err (Constant always)
 constant_is_due (Ok x) always same = absurd same
 constant_is_due (Err a) always same = ap (λ (s : Status). Err s) (same_as a (Constant always) (λ refusal is. cc (is)) same)
 
-stale_is_due : (a : Result (List ℕ) Status) (token input : List ℕ) → IsLikeEnd IsSameStatus a (Err (StaleToken token input)) → a ≡ Err (StaleToken token input)
+stale_is_due : (a : Result Output Status) (token input : List ℕ) → IsLikeEnd IsSameStatus a (Err (StaleToken token input)) → a ≡ Err (StaleToken token input)
 stale_is_due (Ok x) token input same = absurd same
 stale_is_due (Err a) token input same = ap (λ (s : Status). Err s) (same_as a (StaleToken token input) (λ refusal is. cc (is)) same)
 
-unrated_is_due : (a : Result (List ℕ) Status) (event : List ℕ) → IsLikeEnd IsSameStatus a (Err (Unrated event)) → a ≡ Err (Unrated event)
+unrated_is_due : (a : Result Output Status) (event : List ℕ) → IsLikeEnd IsSameStatus a (Err (Unrated event)) → a ≡ Err (Unrated event)
 unrated_is_due (Ok x) event same = absurd same
 unrated_is_due (Err a) event same = ap (λ (s : Status). Err s) (same_as a (Unrated event) (λ refusal is. cc (is)) same)
 
-refusal_is_due : (a : Result (List ℕ) Status) (refusal : Refusal) → IsLikeEnd IsSameStatus a (Err (Refused refusal)) → IsErrAnd a (λ status. IsSameStatus status (Refused refusal))
+refusal_is_due : (a : Result Output Status) (refusal : Refusal) → IsLikeEnd IsSameStatus a (Err (Refused refusal)) → IsErrAnd a (λ status. IsSameStatus status (Refused refusal))
 refusal_is_due (Ok x) refusal same = absurd same
 refusal_is_due (Err a) refusal same = same
 
-came_of_kind : (names words : List (List ℕ)) (a : Result (List ℕ) Status) (s : Status) → EndsSo names words s → IsLikeEnd IsSameStatus a (Err s) → MayCome a s
+came_of_kind : (names words : List (List ℕ)) (a : Result Output Status) (s : Status) → EndsSo names words s → IsLikeEnd IsSameStatus a (Err s) → MayCome a s
 came_of_kind names words a s kind same =
     elim kind [
       | inl none ↦ subst (MayCome a) (sym none.0) (usage_is_due a (subst (λ x. IsLikeEnd IsSameStatus a (Err x)) none.0 same))
@@ -496,7 +505,7 @@ came_of_kind names words a s kind same =
       ]
     ]
 
-came_ended : (words : List (List ℕ)) (contents : List ℕ → Option (List ℕ)) (voices : List Voice) (s : Status) → Ended words contents voices s → AllTold words contents voices → (a : Result (List ℕ) Status) → IsDue (due words contents voices) a → MayCome a s
+came_ended : (words : List (List ℕ)) (contents : List ℕ → Option (List ℕ)) (voices : List Voice) (s : Status) → Ended words contents voices s → AllTold words contents voices → (a : Result Output Status) → IsDue (due words contents voices) a → MayCome a s
 came_ended words contents voices s end told a is_due =
     elim end [
       | inl stops ↦ came_of_kind (labels voices) words a s (kind_of words contents voices s stops) (one_end words contents voices told a (Err s) is_due stops)
@@ -505,15 +514,22 @@ came_ended words contents voices s end told a is_due =
         | inr more ↦ elim more [
           | inl read ↦ subst (MayCome a) (sym read.1) tt
           | inr failed ↦
-              let text = text_is_due a failed.1.0 (one_end words contents voices told a (Ok failed.1.0) is_due failed.1.1) in
+              let text : IsOk a = text_or_not words contents voices told a failed.1.0 is_due failed.1.1 in
               elim failed.0 [ inl write ↦ subst (MayCome a) (sym write) text | inr report ↦ subst (MayCome a) (sym report.1) text ]
         ]
       ]
     ]
 
-pub ran_complete : {T : Type 0} (words : List (List ℕ)) (contents : List ℕ → Option (List ℕ)) (voices : List Voice) (read_before read_after : List ℕ → ℕ) (RoseThere : ℕ → Type 0) (t u : Seen) (result : Result T Status)
-    → Runs words contents voices read_before read_after RoseThere result t u → AllTold words contents voices → (a : Result (List ℕ) Status) → IsDue (due words contents voices) a → MayCome a (ended result)
-ran_complete words contents voices read_before read_after RoseThere t u (Ok _) took told a is_due = text_is_due a took.0 (one_end words contents voices told a (Ok took.0) is_due took.1)
+-- what is due tells as much of requirements as what was written
+met_due : (words : List (List ℕ)) (contents : List ℕ → Option (List ℕ)) (voices : List Voice) → AllTold words contents voices → (a : Result Output Status) (output : Output) → IsDue (due words contents voices) a → Passes (due words contents voices) output
+    → IsOkAnd a (λ its. its.met ≡ output.met)
+met_due words contents voices told (Ok its) output is_due passes = same_met words contents voices told its output is_due passes
+met_due words contents voices told (Err s) output is_due passes = absurd (one_end words contents voices told (Err s) (Ok output) is_due passes)
+
+pub ran_complete : (words : List (List ℕ)) (contents : List ℕ → Option (List ℕ)) (voices : List Voice) (read_before read_after : List ℕ → ℕ) (RoseThere : ℕ → Type 0) (t u : Seen) (result : Result Bool Status)
+    → Runs words contents voices read_before read_after RoseThere result t u → AllTold words contents voices → (a : Result Output Status) → IsDue (due words contents voices) a → MayCome a (ended result)
+ran_complete words contents voices read_before read_after RoseThere t u (Ok true) took told a is_due = met_due words contents voices told a (record { text = took.0; met = true }) is_due took.1
+ran_complete words contents voices read_before read_after RoseThere t u (Ok false) took told a is_due = met_due words contents voices told a (record { text = took.0; met = false }) is_due took.1
 ran_complete words contents voices read_before read_after RoseThere t u (Err s) end told a is_due =
     came_ended words contents voices s (how_ended words contents voices read_before read_after RoseThere t u s end) told a is_due
 
@@ -579,12 +595,36 @@ meets_set Excuse Wider phase said so result same wider met = meets_wider Excuse 
 
 -- ---- the steps of a run
 
+-- an answer on a request tells of no requirement
+pub all_met : (Excuse : Status → Type 0) (phase : Phase (List ℕ)) (its : Result Ready Status) (result : Result Answer Status) → MatchResult its (λ ready. result ≡ Ok (record { ready = ready; met = true })) (λ status. result ≡ Err status)
+    → MeetsBut Excuse ready_text phase its → MeetsBut Excuse answer_output (with_all_met phase) result
+all_met Excuse phase (Ok ready) result is met = rw is (record { passed = (ready_text ready, met.passed, refl) })
+all_met Excuse phase (Err s) result is end = rw is (elim end [ inl stops ↦ inl (record { stopped = inl stops.stopped }) | inr excused ↦ inr excused ])
+
+-- and it is made line by line where that is
+pub lines_kept : (its : Result Ready Status) (result : Result Answer Status) (So : Type 0) → MatchResult its (λ ready. result ≡ Ok (record { ready = ready; met = true })) (λ status. result ≡ Err status)
+    → IfOk its (λ ready. IsByLines ready → So) → IfOk result (λ answer. IsByLines answer.ready → So)
+lines_kept (Ok ready) result So is lines = rw is lines
+lines_kept (Err s) result So is lines = rw is tt
+
+-- what is answered to a request is its output, whether it tells of requirements or not
+pub output_told : (Excuse : Status → Type 0) (voices : List Voice) (asked : Request) (texts : List (List ℕ)) (result : Result Answer Status) → is_require asked.kind ≡ true → ((s : Status) → IsMemory s → Excuse s)
+    → MeetsBut IsMemory answer_output (required_in (profile_of asked.options.form) asked.root (is_set asked.options (codes "tap")) texts) result → MeetsBut Excuse answer_output (output_for asked.kind voices asked texts) result
+output_told Excuse voices asked texts result is wanting met =
+    subst (λ (tells : Bool). MeetsBut Excuse answer_output (output_with tells (profile_of asked.options.form) asked.kind voices asked texts) result) (sym is)
+    (meets_wider IsMemory Excuse answer_output (required_in (profile_of asked.options.form) asked.root (is_set asked.options (codes "tap")) texts) result wanting met)
+
+pub output_plain : (Excuse : Status → Type 0) (voices : List Voice) (asked : Request) (texts : List (List ℕ)) (result : Result Answer Status) → is_require asked.kind ≡ false
+    → MeetsBut Excuse answer_output (with_all_met (text_for asked.kind voices asked texts)) result → MeetsBut Excuse answer_output (output_for asked.kind voices asked texts) result
+output_plain Excuse voices asked texts result is met =
+    subst (λ (tells : Bool). MeetsBut Excuse answer_output (output_with tells (profile_of asked.options.form) asked.kind voices asked texts) result) (sym is) met
+
 -- the words give this request, and there is an answer on texts of its files, or none
-pub answered : (words : List (List ℕ)) (contents : List ℕ → Option (List ℕ)) (voices : List Voice) (read_before read_after : List ℕ → ℕ) (RoseThere : ℕ → Type 0) (asked : Request) (texts : List (List ℕ)) (result : Result Ready Status)
+pub answered : (words : List (List ℕ)) (contents : List ℕ → Option (List ℕ)) (voices : List Voice) (read_before read_after : List ℕ → ℕ) (RoseThere : ℕ → Type 0) (asked : Request) (texts : List (List ℕ)) (result : Result Answer Status)
     → Passes (finds (IsRequest (labels voices) words) Usage) asked → Passes (texts_of contents asked.files) texts
-    → MeetsBut (EndsReports asked.options.chosen RoseThere (text_for asked.kind voices asked texts)) ready_text (text_for asked.kind voices asked texts) result
-    → MeetsBut (IsExcused words contents voices read_before read_after RoseThere) ready_text (due words contents voices) result
-answered words contents voices read_before read_after RoseThere asked texts (Ok ready) given read met = given passes read passes met
+    → MeetsBut (EndsReports asked.options.chosen RoseThere (text_for asked.kind voices asked texts)) answer_output (output_for asked.kind voices asked texts) result
+    → MeetsBut (IsExcused words contents voices read_before read_after RoseThere) answer_output (due words contents voices) result
+answered words contents voices read_before read_after RoseThere asked texts (Ok answer) given read met = given passes read passes met
 answered words contents voices read_before read_after RoseThere asked texts (Err s) given read end =
     elim end [
       | inl stops ↦ given beyond read beyond inl stops
@@ -614,9 +654,9 @@ unasked words contents voices read_before read_after RoseThere names s same end 
     ]
 
 -- an answer that is made line by line is one on a request for it
-pub lines_asked : (words : List (List ℕ)) (voices : List Voice) (asked : Request) (result : Result Ready Status) → Passes (finds (IsRequest (labels voices) words) Usage) asked
-    → IfOk result (λ ready. IsByLines ready → is_by_lines asked ≡ true) → IfOk result (λ ready. IsByLines ready → AsksLines words voices)
-lines_asked words voices asked (Ok ready) given lines = λ is. (asked, given.passed, lines is)
+pub lines_asked : (words : List (List ℕ)) (voices : List Voice) (asked : Request) (result : Result Answer Status) → Passes (finds (IsRequest (labels voices) words) Usage) asked
+    → IfOk result (λ answer. IsByLines answer.ready → is_by_lines asked ≡ true) → IfOk result (λ answer. IsByLines answer.ready → AsksLines words voices)
+lines_asked words voices asked (Ok answer) given lines = λ is. (asked, given.passed, lines is)
 lines_asked words voices asked (Err s) given lines = tt
 
 -- an answer is no status
@@ -627,7 +667,7 @@ ok_not_err a e is = cc (is)
 pub many_named : (names words : List (List ℕ)) (asked : Request) → Passes (finds (IsRequest names words) Usage) asked → most_files < length (file_words words) → most_files < length asked.files
 many_named names words asked given many = subst (λ files. most_files < length files) (file_words_are names words asked given.passed) many
 
-pub many_answer : {T : Type 0} (result : Result T Status) (s : Status) → IsErrAnd result (λ its. its ≡ s) → s ≡ Refused (of_words TooManyFiles) → IsManyAnswer (ended result)
+pub many_answer : (result : Result Bool Status) (s : Status) → IsErrAnd result (λ its. its ≡ s) → s ≡ Refused (of_words TooManyFiles) → IsManyAnswer (ended result)
 many_answer result s is many =
     let p = err_from_is_err_and result is in
     rw (p.1, p.2, many) refl
@@ -638,9 +678,10 @@ by_lines_once : (names words : List (List ℕ)) (asked other : Request) → IsRe
 by_lines_once names words asked other is also lines none = false≢true (sym none ∙ subst (λ (one : Request). is_by_lines one ≡ true) (one_request names words other asked also is) lines)
 
 -- memory is wanting only before a text was begun, or for a line of it
-pub ran_begins : {T : Type 0} (words : List (List ℕ)) (contents : List ℕ → Option (List ℕ)) (voices : List Voice) (read_before read_after : List ℕ → ℕ) (RoseThere : ℕ → Type 0) (t u : Seen) (result : Result T Status) (status : Status) → status ≡ ended result
+pub ran_begins : (words : List (List ℕ)) (contents : List ℕ → Option (List ℕ)) (voices : List Voice) (read_before read_after : List ℕ → ℕ) (RoseThere : ℕ → Type 0) (t u : Seen) (result : Result Bool Status) (status : Status) → status ≡ ended result
     → Runs words contents voices read_before read_after RoseThere result t u → (asked : Request) → IsRequest (labels voices) words asked → BeginsWithMemory asked status t u
-ran_begins words contents voices read_before read_after RoseThere t u (Ok _) status is took asked given none memory = absurd (cc (is, memory))
+ran_begins words contents voices read_before read_after RoseThere t u (Ok true) status is took asked given none memory = absurd (cc (is, memory))
+ran_begins words contents voices read_before read_after RoseThere t u (Ok false) status is took asked given none memory = absurd (cc (is, memory))
 ran_begins words contents voices read_before read_after RoseThere t u (Err s) status is end asked given none memory =
     elim end [
       | inl quiet ↦ quiet.1
@@ -657,19 +698,19 @@ kept_as Kept names words given asked x y its kept is = subst (λ (one : Request)
 -- ---- the end of a run
 
 -- there is no answer, and nothing was written
-pub ran_quiet : {T : Type 0} (words : List (List ℕ)) (contents : List ℕ → Option (List ℕ)) (voices : List Voice) (read_before read_after : List ℕ → ℕ) (RoseThere : ℕ → Type 0) (t : Seen) (s : Status) (result : Result T Status) → IsErrAnd result (λ its. its ≡ s)
+pub ran_quiet : (words : List (List ℕ)) (contents : List ℕ → Option (List ℕ)) (voices : List Voice) (read_before read_after : List ℕ → ℕ) (RoseThere : ℕ → Type 0) (t : Seen) (s : Status) (result : Result Bool Status) → IsErrAnd result (λ its. its ≡ s)
     → Stops (due words contents voices) s ⊎ IsExcused words contents voices read_before read_after RoseThere s → Runs words contents voices read_before read_after RoseThere result t t
 ran_quiet words contents voices read_before read_after RoseThere t s result is end =
     let p = err_from_is_err_and result is in
     rw (p.1, p.2) (inl (end, refl))
 
 -- an answer was not written whole
-pub ran_cut : {T : Type 0} (words : List (List ℕ)) (contents : List ℕ → Option (List ℕ)) (voices : List Voice) (read_before read_after : List ℕ → ℕ) (RoseThere : ℕ → Type 0) (t u : Seen) (ready : Ready) (stop : WriteError) (result : Result T Status) → IsErrAnd result (λ its. its ≡ status_of_write stop)
-    → Passes (due words contents voices) (ready_text ready) → (IsByLines ready → AsksLines words voices)
-    → TookPrefix (ready_text ready) t u × (Rose t.faults u.faults ⊎ LacksMemory stop) → (stop ≡ Lacks → IsByLines ready) → Runs words contents voices read_before read_after RoseThere result t u
-ran_cut words contents voices read_before read_after RoseThere t u ready Failed result is due_is by_lines stopped wanting =
+pub ran_cut : (words : List (List ℕ)) (contents : List ℕ → Option (List ℕ)) (voices : List Voice) (read_before read_after : List ℕ → ℕ) (RoseThere : ℕ → Type 0) (t u : Seen) (answer : Answer) (stop : WriteError) (result : Result Bool Status) → IsErrAnd result (λ its. its ≡ status_of_write stop)
+    → Passes (due words contents voices) (answer_output answer) → (IsByLines answer.ready → AsksLines words voices)
+    → TookPrefix (ready_text answer.ready) t u × (Rose t.faults u.faults ⊎ LacksMemory stop) → (stop ≡ Lacks → IsByLines answer.ready) → Runs words contents voices read_before read_after RoseThere result t u
+ran_cut words contents voices read_before read_after RoseThere t u answer Failed result is due_is by_lines stopped wanting =
     let p = err_from_is_err_and result is in
-    rw (p.1, p.2) (inr ((ready_text ready, due_is, stopped.0), elim stopped.1 [ inl rose ↦ inl (refl, rose) | inr none ↦ absurd (cc (none)) ]))
-ran_cut words contents voices read_before read_after RoseThere t u ready Lacks result is due_is by_lines stopped wanting =
+    rw (p.1, p.2) (inr ((ready_text answer.ready, (answer.met, due_is), stopped.0), elim stopped.1 [ inl rose ↦ inl (refl, rose) | inr none ↦ absurd (cc (none)) ]))
+ran_cut words contents voices read_before read_after RoseThere t u answer Lacks result is due_is by_lines stopped wanting =
     let p = err_from_is_err_and result is in
-    rw (p.1, p.2) (inr ((ready_text ready, due_is, stopped.0), inr (refl, by_lines (wanting refl))))
+    rw (p.1, p.2) (inr ((ready_text answer.ready, (answer.met, due_is), stopped.0), inr (refl, by_lines (wanting refl))))

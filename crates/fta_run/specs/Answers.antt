@@ -1,12 +1,12 @@
 -- What a run may answer, and what a sink took where it ended so.
-use Rattle.std.specs.Prelude.{◌≡◌, ◌≤◌, ◌⊎◌, Bool, true, false, ℕ, List, length, Option, Some, Result, Err, IsSome, IsOk, IsErrAnd, slice_get}
+use Rattle.std.specs.Prelude.{◌≡◌, ◌≤◌, ◌⊎◌, Bool, true, false, ℕ, List, length, Option, Some, Result, Err, IsSome, IsOk, IsOkAnd, IsErrAnd, slice_get}
 use Rattle.std.specs.List.{AllByRecursion}
 use Rattle.plain_values.specs.declared.refusal.Code.TheVariants.{TooManyFiles}
 use Rattle.plain_values.specs.declared.refusal.Refusal.{Refusal}
 use Rattle.plain_values.specs.Refusal.{of_words}
 use Rattle.phases.specs.Phases.{Passes, Stops}
 use Rattle.phases.specs.declared.status.Status.{Status}
-use Rattle.phases.specs.declared.status.Status.TheVariants.{Done, Usage, Refused, Constant, Unrated, StaleToken, ReadFault, WriteFault, ReportFault, Memory}
+use Rattle.phases.specs.declared.status.Status.TheVariants.{Done, Unmet, Usage, Refused, Constant, Unrated, StaleToken, ReadFault, WriteFault, ReportFault, Memory}
 use Rattle.grammar_rules.specs.Texts.{syntax_error}
 use Rattle.fta_outside.specs.Outside.{Rose, Seen, Took as TookAll, TookPrefix}
 use Rattle.fta_words.specs.declared.kind.Kind.TheVariants as kind
@@ -15,14 +15,15 @@ use Rattle.fta_words.specs.declared.command.Form.{Form}
 use Rattle.fta_run.specs.Files.{most_files}
 use Rattle.fta_run.specs.Forms.{is_drawn}
 use Rattle.fta_run.specs.Due.{due}
+use Rattle.fta_run.specs.Required.{Output}
 use Rattle.system_answers.specs.Voices.{Voice, labels}
 use Rattle.cut_reports.specs.Places.{is_among}
 
 -- ---- what is due for the words and the contents of the files
 
--- The text of the request that the words give, on what the files contain, where these are the reports.
-abbrev pub IsOutput : List (List ℕ) → (List ℕ → Option (List ℕ)) → List Voice → List ℕ → Type 0
-IsOutput words contents voices text = Passes (due words contents voices) text
+-- What the request that the words give writes, on what the files contain, where these are the reports.
+abbrev pub IsOutput : List (List ℕ) → (List ℕ → Option (List ℕ)) → List Voice → Output → Type 0
+IsOutput words contents voices output = Passes (due words contents voices) output
 
 -- The refusal with which the phases stop.
 abbrev pub IsVerdict : List (List ℕ) → (List ℕ → Option (List ℕ)) → List Voice → Refusal → Type 0
@@ -36,9 +37,11 @@ AllTold words contents voices = (asked : Request) → IsRequest (labels voices) 
 abbrev pub IsSameStatus : Status → Status → Type 0
 IsSameStatus a b = (a ≡ b) ⊎ ((file : ℕ) × (here : ℕ) × (there : ℕ) × (a ≡ Refused (syntax_error file here)) × (b ≡ Refused (syntax_error file there)))
 
--- What may come where this text or this status is due: Done for a text, and that status; want of memory, and a fault of a
--- file; and, where a text is due, a fault of the output or of a report.
-abbrev pub MayCome : Result (List ℕ) Status → Status → Type 0
+-- What may come where this output or this status is due: Done for one that tells of no requirement that is not met, and Unmet for
+-- another; that status; want of memory, and a fault of a file; and, where an output is due, a fault of the output or of a report.
+abbrev pub MayCome : Result Output Status → Status → Type 0
+MayCome its_due Done = IsOkAnd its_due (λ output. output.met ≡ true)
+MayCome its_due Unmet = IsOkAnd its_due (λ output. output.met ≡ false)
 MayCome its_due Usage = its_due ≡ Err Usage
 MayCome its_due (Refused refusal) = IsErrAnd its_due (λ status. IsSameStatus status (Refused refusal))
 MayCome its_due (Constant always) = its_due ≡ Err (Constant always)
@@ -72,13 +75,18 @@ TookText IsText before after = (text : List ℕ) × IsText text × TookAll text 
 abbrev pub TookFront : (List ℕ → Type 0) → Seen → Seen → Type 0
 TookFront IsText before after = (text : List ℕ) × IsText text × TookPrefix text before after
 
--- What a sink took where a run ended so, if the request's text is of this sort: under Done the text, after a fault of the output or
--- want of memory a front of it, and else nothing.
-abbrev pub Took : (List ℕ → Type 0) → Status → Seen → Seen → Type 0
-Took IsText Done before after = TookText IsText before after
-Took IsText WriteFault before after = TookFront IsText before after
-Took IsText Memory before after = (after.taken ≡ before.taken) ⊎ TookFront IsText before after
-Took IsText _ before after = after.taken ≡ before.taken
+-- the texts of outputs of this sort
+abbrev pub IsTextOf : (Output → Type 0) → List ℕ → Type 0
+IsTextOf Is text = (met : Bool) × Is (record { text = text; met = met })
+
+-- What a sink took where a run ended so, if the request's output is of this sort: under Done the text of one that tells of no requirement
+-- that is not met, and under Unmet that of another; after a fault of the output or want of memory a front of it, and else nothing.
+abbrev pub Took : (Output → Type 0) → Status → Seen → Seen → Type 0
+Took Is Done before after = TookText (λ text. Is (record { text = text; met = true })) before after
+Took Is Unmet before after = TookText (λ text. Is (record { text = text; met = false })) before after
+Took Is WriteFault before after = TookFront (IsTextOf Is) before after
+Took Is Memory before after = (after.taken ≡ before.taken) ⊎ TookFront (IsTextOf Is) before after
+Took Is _ before after = after.taken ≡ before.taken
 
 -- A fault comes only where its count rose: that of the name of the file word, of which there are not too many, that of the output,
 -- or that of a report that is chosen.

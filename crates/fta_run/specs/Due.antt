@@ -34,6 +34,7 @@ use Rattle.fta_run.specs.Groups.{TellsRefusals}
 use Rattle.fta_run.specs.Later.{in_later_files}
 use Rattle.fta_run.specs.Files.{MayContain, NamesTooMany, HasTooLong, HasTooMuch, AreTokens, LacksTokens, AreUnits, LacksUnits}
 use Rattle.fta_run.specs.Model.{HasDuplicate, root_named}
+use Rattle.fta_run.specs.Required.{Output, required_text, with_all_met}
 use Rattle.fta_run.specs.Text.{numbers_text}
 use Rattle.system_answers.specs.Derivations.{confirm_text, why_text}
 use Rattle.system_answers.specs.Texts.{cuts_text, drawn_text, galileo_paths_text, galileo_text, paths_text, probability_text, report_text, slice_of, target_of, tree_text}
@@ -242,6 +243,18 @@ manifest_in profile root files texts = do
 abbrev pub refusals_in : Profile → Root → List (List ℕ) → List (List ℕ) → Phase (List ℕ)
 refusals_in profile root files texts = accepts (TellsRefusals (model_of_texts profile root texts) (units_of texts) profile root files texts)
 
+-- what is told of the requirements in the first of these texts, over the model of the root in files of the others
+abbrev pub required_in : Profile → Root → Bool → List (List ℕ) → Phase Output
+required_in profile root tap texts = do
+  model ← in_later_files (model_of_texts profile root (other_texts texts))
+  required_text tap (first_text texts) model.system
+
+-- the text of `require`
+abbrev pub require_in : Profile → Root → Bool → List (List ℕ) → Phase (List ℕ)
+require_in profile root tap texts = do
+  told ← required_in profile root tap texts
+  yields told.text
+
 -- the text of a command, asked with this request, in files of these texts, read by a profile, where these are the reports
 abbrev pub text_by : Profile → Kind → List Voice → Request → List (List ℕ) → Phase (List ℕ)
 text_by profile kind.Check voices asked texts = check_in profile asked.root texts
@@ -261,6 +274,7 @@ text_by profile kind.Place voices asked texts = place_in asked.files asked.numbe
 text_by profile kind.Manifest voices asked texts = manifest_in profile asked.root asked.files texts
 text_by profile kind.Refusals voices asked texts = refusals_in profile asked.root asked.files texts
 text_by profile kind.Probability voices asked texts = probability_in profile asked.root asked.target asked.options.hours (is_set asked.options (codes "events")) texts
+text_by profile kind.Require voices asked texts = require_in profile asked.root (is_set asked.options (codes "tap")) texts
 text_by profile kind.Explain voices asked texts = yields (explain_text asked.target)
 text_by profile kind.Help voices asked texts = yields (help_text asked.of)
 text_by profile kind.Version voices asked texts = yields version_text
@@ -275,8 +289,29 @@ request_text contents voices asked = do
   texts ← texts_of contents asked.files
   text_for asked.kind voices asked texts
 
--- the text of the request that the words give
-abbrev pub due : List (List ℕ) → (List ℕ → Option (List ℕ)) → List Voice → Phase (List ℕ)
+-- ---- what is due
+
+-- whether a command tells of requirements
+abbrev pub is_require : Kind → Bool
+is_require kind.Require = true
+is_require _ = false
+
+-- what a command writes, and whether it tells of no requirement that is not met: all but `require` tell of none
+abbrev pub output_with : Bool → Profile → Kind → List Voice → Request → List (List ℕ) → Phase Output
+output_with true profile kind voices asked texts = required_in profile asked.root (is_set asked.options (codes "tap")) texts
+output_with false profile kind voices asked texts = with_all_met (text_by profile kind voices asked texts)
+
+abbrev pub output_for : Kind → List Voice → Request → List (List ℕ) → Phase Output
+output_for kind voices asked texts = output_with (is_require kind) (profile_of asked.options.form) kind voices asked texts
+
+-- what a request writes, where this is what the files contain, and these are the reports
+abbrev pub request_output : (List ℕ → Option (List ℕ)) → List Voice → Request → Phase Output
+request_output contents voices asked = do
+  texts ← texts_of contents asked.files
+  output_for asked.kind voices asked texts
+
+-- what the request that the words give writes
+abbrev pub due : List (List ℕ) → (List ℕ → Option (List ℕ)) → List Voice → Phase Output
 due words contents voices = do
   asked ← finds (IsRequest (labels voices) words) Usage
-  request_text contents voices asked
+  request_output contents voices asked

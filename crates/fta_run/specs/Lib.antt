@@ -6,6 +6,7 @@ pub mod Files
 pub mod Forms
 pub mod Line
 pub mod Model
+pub mod Required
 pub mod Text
 pub mod Words
 pub mod inner

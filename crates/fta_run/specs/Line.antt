@@ -6,7 +6,7 @@ use Rattle.plain_values.specs.declared.refusal.Refusal.{Refusal}
 use Rattle.plain_values.specs.Refusal.{code_text}
 use Rattle.phases.specs.declared.status.Status.{Status}
 use Rattle.event_lines.specs.Text.{file_word}
-use Rattle.phases.specs.declared.status.Status.TheVariants.{Done, Usage, Refused, Constant, Unrated, StaleToken, ReadFault, WriteFault, ReportFault, Memory}
+use Rattle.phases.specs.declared.status.Status.TheVariants.{Done, Unmet, Usage, Refused, Constant, Unrated, StaleToken, ReadFault, WriteFault, ReportFault, Memory}
 
 -- the place of a refusal: nothing for the words, and else the file, with the byte where it stands at one
 abbrev pub place_text : List (List ℕ) → Place → List ℕ
@@ -38,6 +38,7 @@ report_name reports place = unwrap_or (slice_get reports place) []
 -- what a status says, where the files and the reports have these names
 abbrev pub status_text : List (List ℕ) → List (List ℕ) → Status → List ℕ
 status_text files reports Done = []
+status_text files reports Unmet = []
 status_text files reports Usage = codes "usage"
 status_text files reports (Refused refusal) = refusal_text files refusal
 status_text files reports (Constant always) = constant_text always
@@ -48,7 +49,8 @@ status_text files reports WriteFault = codes "cannot write"
 status_text files reports (ReportFault place) = codes "report " ++ (report_name reports place ++ codes " failed")
 status_text files reports Memory = codes "out of memory"
 
--- the line of a status, where the files and the reports have these names; none where all went well
+-- the line of a status, where the files and the reports have these names; none where all was written
 abbrev pub status_line : List (List ℕ) → List (List ℕ) → Status → List ℕ
 status_line files reports Done = []
+status_line files reports Unmet = []
 status_line files reports status = codes "aadl_fta: " ++ (status_text files reports status ++ codes "\n")

@@ -1,6 +1,6 @@
 //! The answer on a request.
 
-ghost use Rattle.std.specs.Prelude.{◌≡◌, ◌≤◌, IfOk, length, true, vec_len};
+ghost use Rattle.std.specs.Prelude.{◌≡◌, ◌≤◌, Err, IfOk, MatchResult, Ok, codes, length, true, vec_len};
 ghost use Rattle.phases.specs.Phases.{yields};
 ghost use Rattle.phases.specs.inner.Meets.{IsMemory, Meets, MeetsBut};
 ghost use Rattle.plain_values.specs.Rising.{RisesWithin};
@@ -12,9 +12,10 @@ ghost use Rattle.model_phases.specs.Named.{IsPlainModel};
 ghost use Rattle.system_answers.specs.inner.Ends.{EndsReports};
 ghost use Rattle.system_answers.specs.Voices.{voices_of};
 ghost use Rattle.fta_run.specs.Answers.{is_by_lines};
-ghost use Rattle.fta_run.specs.Due.{check_in, cuts_in, events_in, first_name, first_text, fmea_in, galileo_in, made_of_texts, manifest_in, model_of_texts, paths_in, place_in, probability_in, refusals_in, report_in, review_in, sets_of_tree, targets_in, text_by, text_for, tree_in, why_in};
+ghost use Rattle.fta_run.specs.Due.{check_in, cuts_in, events_in, first_name, first_text, fmea_in, galileo_in, is_require, made_of_texts, manifest_in, model_of_texts, output_for, paths_in, place_in, probability_in, refusals_in, report_in, required_in, review_in, sets_of_tree, targets_in, text_by, text_for, tree_in, why_in};
 ghost use Rattle.fta_run.specs.Forms.{drawn_words, is_drawn, picture_legend};
-ghost use Rattle.fta_run.specs.inner.Ready.{IsByLines, held_text, ready_text};
+ghost use Rattle.fta_run.specs.inner.Ready.{IsByLines, answer_output, held_text, ready_text};
+ghost use Rattle.fta_words.specs.Words.{is_set};
 ghost use Rattle.system_answers.specs.Texts.{drawn_text};
 
 use crate::confirmed::confirmation;
@@ -24,8 +25,9 @@ use crate::input::Texts;
 use crate::made::make;
 use crate::manifest::manifest_text;
 use crate::model::model_of_texts;
-use crate::ready::{Held, Ready, ready_of};
+use crate::ready::{Answer, Held, Ready, ready_of};
 use crate::refused::refusals_text;
+use crate::required::required;
 use crate::targets::orders_of;
 use crate::text::numbers_of;
 use cutset_writer::ListingPage;
@@ -48,19 +50,52 @@ pub fn answer_in(
     asked: &Request<'_>,
     texts: Texts,
     reports: &mut Vec<Box<dyn Report>>,
-) -> Result<Ready, Status>
+) -> Result<Answer, Status>
     requires chosen { RisesWithin 0 (vec_len reports.old) asked.now.options.chosen }
-    ensures text { let phase = text_for asked.now.kind (voices_of label text reports.old.items) (request_shown asked.now) texts in MeetsBut (EndsReports asked.now.options.chosen (λ place. RoseAt report_faults place reports.old.items reports.new.items) phase) ready_text phase result }
-    ensures by_lines { IfOk result (λ ready. IsByLines ready → is_by_lines (request_shown asked.now) ≡ true) }
+    ensures text { let voices = voices_of label text reports.old.items in MeetsBut (EndsReports asked.now.options.chosen (λ place. RoseAt report_faults place reports.old.items reports.new.items) (text_for asked.now.kind voices (request_shown asked.now) texts)) answer_output (output_for asked.now.kind voices (request_shown asked.now) texts) result }
+    ensures by_lines { IfOk result (λ answer. IsByLines answer.ready → is_by_lines (request_shown asked.now) ≡ true) }
     ensures reports { AtChosen asked.now.options.chosen (IsKept text label report_faults) reports.old.items reports.new.items }
 {
-    answer_by(
-        alloc,
-        profile_of(&asked.options.form),
-        asked,
-        texts,
-        reports,
-    )
+    let profile = profile_of(&asked.options.form);
+    if is_require(asked.kind) {
+        return required_answer(alloc, profile, asked, texts);
+    }
+    with_all_met(answer_by(alloc, profile, asked, texts, reports))
+}
+
+/// Whether a command tells of requirements.
+fn is_require(kind: Kind) -> bool
+    ensures { result ≡ is_require kind }
+{
+    matches!(kind, Kind::Require)
+}
+
+/// An answer that tells of no requirement.
+fn with_all_met(answer: Result<Ready, Status>) -> Result<Answer, Status>
+    ensures { MatchResult answer (λ ready. result ≡ Ok (record { ready = ready; met = true })) (λ status. result ≡ Err status) }
+{
+    match answer {
+        Ok(ready) => Ok(Answer { ready, met: true }),
+        Err(status) => Err(status),
+    }
+}
+
+/// What is told of the requirements in the first text.
+fn required_answer(
+    alloc: Global,
+    profile: Profile,
+    asked: &Request<'_>,
+    texts: Texts,
+) -> Result<Answer, Status>
+    ensures text { MeetsBut IsMemory answer_output (required_in profile asked.now.root (is_set (request_shown asked.now).options (codes "tap")) texts) result }
+    ensures by_lines { IfOk result (λ answer. IsByLines answer.ready → ⊥) }
+{
+    let tap = asked.options.is_set(b"tap");
+    let told = required(alloc, profile, &asked.root, tap, texts)?;
+    Ok(Answer {
+        ready: Ready::Held(Held::Text(told.text)),
+        met: told.all_met,
+    })
 }
 
 /// The answer on a request whose files have these texts, read by a profile.
@@ -129,6 +164,8 @@ fn answer_by(
             options.is_set(b"events"),
             texts,
         )),
+        // It is answered before.
+        Kind::Require => Err(Status::Memory),
         Kind::Explain => Ok(Ready::Held(explain(target))),
         Kind::Help => ready_of(help(alloc, asked.of)),
         Kind::Version => Ok(Ready::Held(Held::Fixed(version_text()))),

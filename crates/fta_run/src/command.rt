@@ -7,7 +7,8 @@ ghost use Rattle.fta_run.specs.Line.{status_line};
 ghost use Rattle.fta_run.specs.Answers.{AllTold, AnswersWords, BeginsWithMemory, IsCaused, IsJustified, IsManyAnswer, IsOutput, MayCome, Took};
 ghost use Rattle.fta_run.specs.Due.{due};
 ghost use Rattle.fta_run.specs.Files.{most_files};
-ghost use Rattle.fta_run.specs.inner.Ready.{IsByLines, ready_text};
+ghost use Rattle.fta_run.specs.Required.{Output};
+ghost use Rattle.fta_run.specs.inner.Ready.{IsByLines, answer_output};
 ghost use Rattle.fta_run.specs.Words.{GiveNoRequest, IsRequest, Request as AnyRequest, file_words};
 ghost use Rattle.system_answers.specs.Voices.{labels, voices_of};
 ghost use Rattle.cut_reports.specs.Feeding.{IsKept, RoseAt};
@@ -17,7 +18,7 @@ ghost use Rattle.fta_run.specs.inner.Steps.{AsksLines, IsExcused, Runs, ended};
 use crate::answering::answer_in;
 use crate::input::read_texts;
 use crate::line::write_line;
-use crate::ready::{Ready, write};
+use crate::ready::{Answer, write};
 use crate::words::request_of;
 use fta_outside::{Files, Report, Sink};
 use fta_words::file_words;
@@ -36,8 +37,8 @@ use system_answers::names_of;
 /// handed-in reports say of all minimal cut sets of a fact, `make N` what is said of a model that is made of a number, and
 /// `galileo FILE` the minimal cut sets, or path sets, of a tree in Galileo text. `paths ROOT TARGET FILE..` writes a page of the minimal
 /// path sets of a fact, `why ROOT TARGET FILE..` a derivation of it under a set of events, and `confirm ROOT TARGET DERIVATION FILE..`
-/// that a text is one. `place FILE BYTE` writes where a byte of a file stands, and `help` and `version` write fixed texts. Under every
-/// status but Done one line is written to `err`; a fault of `err` changes nothing.
+/// that a text is one. `require ROOT REQUIREMENTS FILE..` tells which requirements of a file are met. `place FILE BYTE` writes where a byte of a file stands, and `help` and `version` write fixed texts. Under every
+/// status but Done and Unmet one line is written to `err`; a fault of `err` changes nothing.
 pub fn run<F: Files, S: Sink, E: Sink>(
     alloc: Global,
     words: &[Word],
@@ -52,7 +53,8 @@ pub fn run<F: Files, S: Sink, E: Sink>(
     // A refusal is the verdict on texts that the files may contain, and so is that a target is constant or a token stale.
     ensures verdict { IsJustified words.now (F.contents files.old) (voices_of label text reports.old.items) result }
 
-    // Under Done `out` took the text of the request on texts that the files may contain, and else at most a front of it.
+    // Under Done and Unmet `out` took the text of the request on texts that the files may contain, and else at most a front of it; it is Unmet
+    // exactly where that tells of a requirement that is not met.
     ensures output { Took (IsOutput words.now (F.contents files.old) (voices_of label text reports.old.items)) result (S.seen out.old) (S.seen out.new) }
 
     // Once a text was begun, no memory is wanting, but for the lines of a tree and of a table.
@@ -64,7 +66,7 @@ pub fn run<F: Files, S: Sink, E: Sink>(
     // Where the files of the request tell their contents, what is due for the words and the contents comes, unless memory runs
     // out or a fault comes first.
     ensures complete { AllTold words.now (F.contents files.old) (voices_of label text reports.old.items)
-        → (its_due : Result (List ℕ) AnyStatus) → IsDue (due words.now (F.contents files.old) (voices_of label text reports.old.items)) its_due → MayCome its_due result }
+        → (its_due : Result Output AnyStatus) → IsDue (due words.now (F.contents files.old) (voices_of label text reports.old.items)) its_due → MayCome its_due result }
 
     // The list of reports keeps its length and order; a report that the request does not choose is as before, and of each the text
     // and the name. Where there is no request, all reports are as before.
@@ -101,23 +103,24 @@ pub fn write_status<E: Sink>(
 }
 
 /// How a run ended that answered this.
-fn ended(answer: Result<(), Status>) -> Status
+fn ended(answer: Result<bool, Status>) -> Status
     ensures { result ≡ ended answer }
 {
     match answer {
-        Ok(()) => Status::Done,
+        Ok(true) => Status::Done,
+        Ok(false) => Status::Unmet,
         Err(status) => status,
     }
 }
 
-/// Writes the answer on the request that the words give.
+/// Writes the answer on the request that the words give, and says whether it tells of no requirement that is not met.
 fn answer_and_write<F: Files, S: Sink>(
     alloc: Global,
     words: &[Word],
     files: &mut F,
     out: &mut S,
     reports: &mut Vec<Box<dyn Report>>,
-) -> Result<(), Status>
+) -> Result<bool, Status>
     ensures end { Runs words.now (F.contents files.old) (voices_of label text reports.old.items) (F.faults files.old) (F.faults files.new) (λ place. RoseAt report_faults place reports.old.items reports.new.items) result (S.seen out.old) (S.seen out.new) }
     ensures reports { (asked : AnyRequest) → IsRequest (labels (voices_of label text reports.old.items)) words.now asked → AtChosen asked.options.chosen (IsKept text label report_faults) reports.old.items reports.new.items }
     ensures no_reports { GiveNoRequest (labels (voices_of label text reports.old.items)) words.now → reports.new ≡ reports.old }
@@ -126,9 +129,10 @@ fn answer_and_write<F: Files, S: Sink>(
     ensures many { most_files < length (file_words words.now) → IsManyAnswer (ended result) }
     ensures names { map label reports.new.items ≡ map label reports.old.items }
 {
-    let ready = answer(alloc, words, files, reports)?;
-    write(alloc, ready, out)?;
-    Ok(())
+    let answer = answer(alloc, words, files, reports)?;
+    let met = answer.met;
+    write(alloc, answer.ready, out)?;
+    Ok(met)
 }
 
 /// The answer on the request that the words give.
@@ -137,9 +141,9 @@ fn answer<F: Files>(
     words: &[Word],
     files: &mut F,
     reports: &mut Vec<Box<dyn Report>>,
-) -> Result<Ready, Status>
-    ensures text { MeetsBut (IsExcused words.now (F.contents files.old) (voices_of label text reports.old.items) (F.faults files.old) (F.faults files.new) (λ place. RoseAt report_faults place reports.old.items reports.new.items)) ready_text (due words.now (F.contents files.old) (voices_of label text reports.old.items)) result }
-    ensures by_lines { IfOk result (λ ready. IsByLines ready → AsksLines words.now (voices_of label text reports.old.items)) }
+) -> Result<Answer, Status>
+    ensures text { MeetsBut (IsExcused words.now (F.contents files.old) (voices_of label text reports.old.items) (F.faults files.old) (F.faults files.new) (λ place. RoseAt report_faults place reports.old.items reports.new.items)) answer_output (due words.now (F.contents files.old) (voices_of label text reports.old.items)) result }
+    ensures by_lines { IfOk result (λ answer. IsByLines answer.ready → AsksLines words.now (voices_of label text reports.old.items)) }
     ensures reports { (asked : AnyRequest) → IsRequest (labels (voices_of label text reports.old.items)) words.now asked → AtChosen asked.options.chosen (IsKept text label report_faults) reports.old.items reports.new.items }
     ensures no_reports { GiveNoRequest (labels (voices_of label text reports.old.items)) words.now → reports.new ≡ reports.old }
     ensures no_files { GiveNoRequest (labels (voices_of label text reports.old.items)) words.now → files.new ≡ files.old }

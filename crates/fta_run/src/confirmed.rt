@@ -39,7 +39,7 @@ pub fn confirmation(
 }
 
 /// The model of the root in files of these texts, each of which has the next number.
-fn later_model(
+pub(crate) fn later_model(
     alloc: Global,
     profile: Profile,
     root: &Root,

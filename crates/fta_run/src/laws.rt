@@ -10,6 +10,7 @@ ghost use Rattle.phases.specs.declared.status.Status.{Status as AnyStatus};
 ghost use Rattle.fta_run.specs.Answers.{AllTold, IsOutput, IsSameStatus};
 ghost use Rattle.fta_run.specs.Due.{due, model_of_texts, other_texts, request_text, texts_of};
 ghost use Rattle.fta_run.specs.Forms.{profile_of};
+ghost use Rattle.fta_run.specs.Required.{Output};
 ghost use Rattle.fta_run.specs.inner.Files.{StandsBefore, ask};
 ghost use Rattle.fta_run.specs.inner.OneEnd.{AskForOneText, IsLikeEnd};
 ghost use Rattle.fta_words.specs.declared.kind.Kind.TheVariants.{Confirm, Why};
@@ -19,10 +20,10 @@ ghost use Rattle.system_answers.specs.Derivations.{accepted_text};
 ghost use Rattle.system_answers.specs.Targets.{IsFactNamed};
 ghost use Rattle.system_answers.specs.Voices.{Voice};
 
-/// The words, the contents of the files, where these are told, and the reports give one text at most, unless they ask for a tree with
+/// The words, the contents of the files, where these are told, and the reports give one output at most, unless they ask for a tree with
 /// merged gates, of which more than one may be made.
 pub fn one_output()
-    ensures { (words : List (List ℕ)) (contents : List ℕ → Option (List ℕ)) (voices : List Voice) → AllTold words contents voices → AskForOneText words voices → (a b : List ℕ) → IsOutput words contents voices a → IsOutput words contents voices b → a ≡ b }
+    ensures { (words : List (List ℕ)) (contents : List ℕ → Option (List ℕ)) (voices : List Voice) → AllTold words contents voices → AskForOneText words voices → (a b : Output) → IsOutput words contents voices a → IsOutput words contents voices b → a ≡ b }
 {}
 
 /// One end at most is due for the words, the contents of the files, where these are told, and the reports, but for the place of a
@@ -30,9 +31,9 @@ pub fn one_output()
 /// due, and then no status is.
 pub fn one_due()
     ensures one { (words : List (List ℕ)) (contents : List ℕ → Option (List ℕ)) (voices : List Voice) → AllTold words contents voices → AskForOneText words voices
-        → (a b : Result (List ℕ) AnyStatus) → IsDue (due words contents voices) a → IsDue (due words contents voices) b → IsSameEnd IsSameStatus a b }
+        → (a b : Result Output AnyStatus) → IsDue (due words contents voices) a → IsDue (due words contents voices) b → IsSameEnd IsSameStatus a b }
     ensures alike { (words : List (List ℕ)) (contents : List ℕ → Option (List ℕ)) (voices : List Voice) → AllTold words contents voices
-        → (a b : Result (List ℕ) AnyStatus) → IsDue (due words contents voices) a → IsDue (due words contents voices) b → IsLikeEnd IsSameStatus a b }
+        → (a b : Result Output AnyStatus) → IsDue (due words contents voices) a → IsDue (due words contents voices) b → IsLikeEnd IsSameStatus a b }
 {}
 
 /// What `why` writes is accepted by `confirm`, where it stands in a file before those of the model.

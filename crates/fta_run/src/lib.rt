@@ -16,6 +16,7 @@ mod manifest;
 mod model;
 mod ready;
 mod refused;
+mod required;
 mod targets;
 mod text;
 mod words;

@@ -10,8 +10,8 @@ use itoa::Buffer;
 use phases::Status;
 use plain_values::{Place, Refusal, Word};
 
-/// Writes the line of a status to the error stream, where these files are named and these are the reports; nothing where all went
-/// well. It takes no memory.
+/// Writes the line of a status to the error stream, where these files are named and these are the reports; nothing where all was
+/// written. It takes no memory.
 pub fn write_line<E: Sink>(
     err: &mut E,
     files: &[Word],
@@ -22,6 +22,7 @@ pub fn write_line<E: Sink>(
 {
     match status {
         Status::Done => Ok(()),
+        Status::Unmet => Ok(()),
         Status::Usage => write_piece(err, b"aadl_fta: usage\n"),
         Status::Refused(refusal) => write_refusal(err, files, refusal),
         Status::Constant(always) => write_constant(err, *always),

@@ -40,6 +40,15 @@ pub enum Ready {
     Table(TableLines),
 }
 
+/// What is answered to a request.
+#[derive(Drop)]
+pub struct Answer {
+    /// What is written.
+    pub ready: Ready,
+    /// Whether it tells of no requirement that is not met.
+    pub met: bool,
+}
+
 /// An answer that is held is ready.
 pub fn ready_of(answer: Result<Held, Status>) -> Result<Ready, Status>
     ensures { MatchResult answer (λ text. result ≡ Ok (made.Held text)) (λ status. result ≡ Err status) }

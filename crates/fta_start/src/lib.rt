@@ -3,7 +3,7 @@
 
 ghost use Rattle.std.specs.Prelude.{◌≡◌, IfOk, false, map, string_bytes, true};
 ghost use Rattle.fta_outside.specs.Outside.{Rose, Took, TookPrefix};
-ghost use Rattle.phases.specs.declared.status.Status.TheVariants.{Done, WriteFault};
+ghost use Rattle.phases.specs.declared.status.Status.TheVariants.{Done, Unmet, WriteFault};
 ghost use Rattle.system_answers.specs.Voices.{labels, voices_of};
 ghost use Rattle.fta_start.specs.inner.Own.{own_voices};
 ghost use Rattle.explained_calls.specs.inner.Calls.{Comes, asked_words};
@@ -112,10 +112,12 @@ fn run_words<P: Program, E: Sink>(
 fn ended<E: Sink>(alloc: Global, status: Status, is_written: bool, err: &mut E) -> Status
     ensures written { is_written ≡ true → result ≡ status }
     ensures lost { is_written ≡ false → status ≡ Done → result ≡ WriteFault }
-    ensures other { (status ≡ Done → ⊥) → result ≡ status }
+    ensures lost_unmet { is_written ≡ false → status ≡ Unmet → result ≡ WriteFault }
+    ensures other { (status ≡ Done → ⊥) → (status ≡ Unmet → ⊥) → result ≡ status }
 {
     match status {
         Status::Done if !is_written => stopped(alloc, Status::WriteFault, err),
+        Status::Unmet if !is_written => stopped(alloc, Status::WriteFault, err),
         _ => status,
     }
 }

@@ -224,6 +224,10 @@ one_asked shape.Derivation words root root₂ target target₂ number number₂ 
     let word : x.0 ≡ y.0 = cc (both) in
     let named : x.1 ≡ y.1 = cc (both) in
     record { roots = same_model x.0 y.0 root root₂ files files₂ word x.3 y.3; targets = x.4 ∙ ap folded named ∙ sym y.4; numbers = x.5 ∙ sym y.5; ofs = x.6 ∙ sym y.6; all_files = cc (both) }
+one_asked shape.Requirements words root root₂ target target₂ number number₂ of of₂ files files₂ x y =
+    let both : x.0 ∷ files ≡ y.0 ∷ files₂ = sym x.1 ∙ y.1 in
+    let word : x.0 ≡ y.0 = cc (both) in
+    record { roots = same_model x.0 y.0 root root₂ files files₂ word x.2 y.2; targets = x.3 ∙ sym y.3; numbers = x.4 ∙ sym y.4; ofs = x.5 ∙ sym y.5; all_files = cc (both) }
 one_asked shape.Number words root root₂ target target₂ number number₂ of of₂ files files₂ x y =
     let both : x.0 ∷ [] ≡ y.0 ∷ [] = sym x.1 ∙ y.1 in
     let word : x.0 ≡ y.0 = cc (both) in
@@ -278,6 +282,7 @@ files_asked : (s : Shape) (name : List ℕ) (words : List (List ℕ)) (root : Ro
 files_asked shape.Model name words root target number of files x = ap (drop 1) x.1
 files_asked shape.Target name words root target number of files x = ap (drop 2) x.2
 files_asked shape.Derivation name words root target number of files x = ap (drop 2) x.2
+files_asked shape.Requirements name words root target number of files x = ap (drop 1) x.1
 files_asked shape.Number name words root target number of files x = ap (drop 1) x.1 ∙ sym x.8
 files_asked shape.File name words root target number of files x = x.0
 files_asked shape.Place name words root target number of files x = ap (take 1) x.1 ∙ only_file files x.0 x.2
@@ -308,6 +313,8 @@ alone_no_file shape.Target word true = refl
 alone_no_file shape.Target word false = refl
 alone_no_file shape.Derivation word true = refl
 alone_no_file shape.Derivation word false = refl
+alone_no_file shape.Requirements word true = refl
+alone_no_file shape.Requirements word false = refl
 alone_no_file shape.Code word true = refl
 alone_no_file shape.Code word false = refl
 alone_no_file shape.Topic word true = refl

@@ -29,9 +29,10 @@ place_of kind.Place = 13
 place_of kind.Manifest = 14
 place_of kind.Refusals = 15
 place_of kind.Probability = 16
-place_of kind.Explain = 17
-place_of kind.Help = 18
-place_of kind.Version = 19
+place_of kind.Require = 17
+place_of kind.Explain = 18
+place_of kind.Help = 19
+place_of kind.Version = 20
 
 -- the name of a command
 abbrev pub name_of : Kind → List ℕ

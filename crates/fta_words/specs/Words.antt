@@ -247,6 +247,9 @@ IsAsked shape.Target words root target number of files =
 IsAsked shape.Derivation words root target number of files =
     (root_word : List ℕ) × (target_word : List ℕ) × (words ≡ root_word ∷ target_word ∷ files) × NamesModel root_word root files
     × IsFolded target_word target × (number ≡ 0) × (of ≡ None) × (2 ≤ length files)
+IsAsked shape.Requirements words root target number of files =
+    (root_word : List ℕ) × (words ≡ root_word ∷ files) × NamesModel root_word root files
+    × (target ≡ []) × (number ≡ 0) × (of ≡ None) × (2 ≤ length files)
 IsAsked shape.Number words root target number of files =
     (number_word : List ℕ) × (words ≡ number_word ∷ []) × IsNumberText number_word number × (1 ≤ number) × (number ≤ 512)
     × (root ≡ no_root) × (target ≡ []) × (of ≡ None) × (files ≡ [])
@@ -328,6 +331,7 @@ shape_named name = option_map_or shape_of (kind_named name) shape.Target
 -- the words that name files, of plain words of a shape with the name before them
 abbrev pub files_in : Shape → List (List ℕ) → List (List ℕ)
 files_in shape.Model words = drop 2 words
+files_in shape.Requirements words = drop 2 words
 files_in shape.Number words = drop 2 words
 files_in shape.Code words = drop 2 words
 files_in shape.File words = drop 1 words

@@ -30,6 +30,7 @@ pub(crate) fn asked_of<'a>(alloc: Global, kind: Kind, words: &'a [Word]) -> Mem<
         Shape::Model => model(alloc, words),
         Shape::Target => target(alloc, words),
         Shape::Derivation => derivation(alloc, words),
+        Shape::Requirements => requirements(alloc, words),
         Shape::Number => Ok(number(alloc, words)),
         Shape::File => Ok(file(alloc, words)),
         Shape::Place => Ok(place(alloc, words)),
@@ -86,6 +87,16 @@ fn derivation<'a>(alloc: Global, words: &'a [Word]) -> Mem<Option<Asked<'a>>>
         return Ok(None);
     }
     target(alloc, words)
+}
+
+/// `ROOT REQUIREMENTS FILE..`
+fn requirements<'a>(alloc: Global, words: &'a [Word]) -> Mem<Option<Asked<'a>>>
+    ensures { IfOk result (AsksAs shape.Requirements words.now) }
+{
+    if words.len() < 3 {
+        return Ok(None);
+    }
+    model(alloc, words)
 }
 
 /// `N`, from 1 to 512

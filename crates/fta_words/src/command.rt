@@ -30,7 +30,7 @@ pub struct Request<'a> {
     pub number: u32,
     /// The command on which help is asked for.
     pub of: Option<Kind>,
-    /// The names of the files: one at least where there is a root, and that of a derivation before them; one where a file is read alone.
+    /// The names of the files: one at least where there is a root, and that of a derivation, or of requirements, before them; one where a file is read alone.
     pub files: &'a [Word],
     /// What the options say.
     pub options: Options,
@@ -52,7 +52,7 @@ pub struct Options {
     /// The names of the flags that are given, in the order of those of all commands: `tokens`, that a last line `more` has a token;
     /// `all`, that all effects, or all facts, are asked for, and not those of the root alone; `text`, that the text of a model that is
     /// made is; `paths`, that the path sets of a tree are, and not its cut sets;
-    /// `events`, that the importance of each event is.
+    /// `events`, that the importance of each event is; `tap`, that verdicts on requirements are written as TAP.
     pub flags: List<Name>,
 }
 

@@ -32,7 +32,7 @@ fn files_in(shape: Shape, words: &[Word]) -> &[Word]
     ensures { result.now ≡ files_in shape words.now }
 {
     match shape {
-        Shape::Model | Shape::Number | Shape::Code => behind(words, 2),
+        Shape::Model | Shape::Requirements | Shape::Number | Shape::Code => behind(words, 2),
         Shape::File => behind(words, 1),
         Shape::Place => second_of(words),
         Shape::Target | Shape::Derivation | Shape::Topic | Shape::Alone => behind(words, 3),

@@ -18,13 +18,14 @@ pub enum Kind {
     Manifest,
     Refusals,
     Probability,
+    Require,
     Explain,
     Help,
     Version,
 }
 
 /// All commands, in order.
-pub const KINDS: [Kind; 20] = [
+pub const KINDS: [Kind; 21] = [
     Kind::Check,
     Kind::Cuts,
     Kind::Tree,
@@ -42,6 +43,7 @@ pub const KINDS: [Kind; 20] = [
     Kind::Manifest,
     Kind::Refusals,
     Kind::Probability,
+    Kind::Require,
     Kind::Explain,
     Kind::Help,
     Kind::Version,
@@ -56,6 +58,8 @@ pub enum Shape {
     Target,
     /// `ROOT TARGET DERIVATION FILE..`
     Derivation,
+    /// `ROOT REQUIREMENTS FILE..`
+    Requirements,
     /// `N`, from 1 to 512
     Number,
     /// `FILE`

@@ -44,7 +44,7 @@ const NO_NAMES: Names = &[];
 pub type CommandRow = Row<&'static [u8], Names>;
 
 /// The flags of all commands.
-pub const FLAGS: [&'static str; 5] = ["tokens", "all", "text", "paths", "events"];
+pub const FLAGS: [&'static str; 6] = ["tokens", "all", "text", "paths", "events", "tap"];
 
 /// The options of all commands that have a value.
 pub const VALUED: [&'static str; 10] = [
@@ -76,16 +76,17 @@ pub const UNRATED: [&'static [u8]; 2] = [b"1", b"refuse"];
 pub const PROFILES: [&'static [u8]; 2] = [b"1", b"2"];
 
 /// The codes of refusals, in lower case.
-pub const CODES: [&'static [u8]; 59] = [
+pub const CODES: [&'static [u8]; 66] = [
     b"l1", b"l2", b"l3", b"s1", b"n1", b"n2", b"n3", b"n4", b"n5", b"n6", b"n7", b"n8", b"n9",
     b"n10", b"n11", b"n12", b"n13", b"n14", b"n15", b"p1", b"p2", b"p3", b"p4", b"p5", b"p6",
     b"p7", b"p8", b"p9", b"p11", b"p12", b"m1", b"m2", b"m13", b"m3", b"m4", b"m5", b"m6", b"m7",
     b"m8", b"m9", b"m10", b"m11", b"m12", b"m14", b"t1", b"k1", b"k2", b"k3", b"v1", b"v2", b"v3",
-    b"g1", b"g6", b"g4", b"g5", b"g2", b"g3", b"g7", b"r1",
+    b"g1", b"g6", b"g4", b"g5", b"g2", b"g3", b"g7", b"r1", b"q1", b"q2", b"q3", b"q4", b"q5", b"q6",
+    b"q7",
 ];
 
 /// A row for each command, in the order of `KINDS`, which is that of help.
-pub const ROWS: [CommandRow; 20] = [
+pub const ROWS: [CommandRow; 21] = [
     Row {
         kind: Kind::Check,
         name: b"check",
@@ -272,6 +273,17 @@ pub const ROWS: [CommandRow; 20] = [
         usage: b"probability ROOT TARGET FILE..",
         optional: b" [--hours T] [--events] [--profile 1|2]",
         about: b"how probable a target is at least and at most, by the rates of its events",
+    },
+    Row {
+        kind: Kind::Require,
+        name: b"require",
+        shape: Shape::Requirements,
+        flags: &[b"tap"],
+        valued: &[b"profile"],
+        required: &[],
+        usage: b"require ROOT REQUIREMENTS FILE..",
+        optional: b" [--tap] [--profile 1|2]",
+        about: b"whether a model meets requirements, each by a line; status 8 where one is not met",
     },
     Row {
         kind: Kind::Explain,

@@ -207,6 +207,29 @@ pub const PROBABILITY: &[u8] =
     Example, in the folder of the repository:\n\
     ./aadl_fta probability Acs::Control.dual 'root/out:torque{errors::serviceomission}' examples/attitude_control.aadl --hours 1000\n";
 
+/// Of `require`.
+pub const REQUIRE: &[u8] =
+    b"Tells of each requirement of a file whether the model meets it: met, broken with the first minimal cut set\n\
+    that breaks it, or vacuous where its target never holds. The exit status is 0 where all are met, and 8\n\
+    where one is not. REQUIREMENTS is a file with a line for each: a name, a target and a sentence; # begins\n\
+    a comment.\n\
+    \n\
+    R-001 root/state:lost order 2               no single event brings it about\n\
+    R-002 root/state:lost order 2 except TOKEN  but for this one, as a line of cuts has it\n\
+    parts software root.a root.b                a group: the events of these components and what is in them\n\
+    events rain root.env/rain                   a group: these events\n\
+    R-003 root/state:lost mixed software        events of the group alone do not bring it about\n\
+    R-004 root/state:lost mixed software 2      two of them at most do not\n\
+    R-005 root/state:lost without root.c/fail   this event has no part in it\n\
+    R-006 root/state:lost possible              it may come about, and not without events\n\
+    R-007 root/state:fire never                 it never does\n\
+    \n\
+    --tap          the same as TAP 13, which tools for tests read\n\
+    --profile 1|2  the first, or the second, which also reads recovery, noerror, orless and more bindings\n\
+    \n\
+    Example, in the folder of the repository:\n\
+    ./aadl_fta require Acs::Control.dual examples/attitude_control.requirements examples/attitude_control.aadl\n";
+
 /// Of `explain`.
 pub const EXPLAIN: &[u8] =
     b"Writes what a refusal says, by its code, and what to write instead. The code is the first word behind the\n\
@@ -236,7 +259,7 @@ pub const VERSION: &[u8] =
 
 /// The line of the exit statuses.
 pub const STATUSES: &[u8] =
-    b"exit status: 0 written whole, 1 no command, 2 refused, 3 no tree of a constant target, 4 a file not read, 5 the output not written, 6 a report failed, 7 out of memory\n";
+    b"exit status: 0 written whole, 1 no command, 2 refused, 3 no tree of a constant target, 4 a file not read, 5 the output not written, 6 a report failed, 7 out of memory, 8 a requirement not met\n";
 
 /// The program and its version.
 pub const PROGRAM: &[u8] = b"aadl_fta 0.1.0";
@@ -245,4 +268,4 @@ pub const PROGRAM: &[u8] = b"aadl_fta 0.1.0";
 pub const VERSIONS: &[u8] = b"aadl_fta 0.1.0\n\
     profile 1\n\
     profile 2\n\
-    formats: check 1 cuts 1 tree 1 mef 1 dot 1 fmea 1 report 1 make 1 galileo 1 paths 1 why 1 confirm 1 targets 1 events 1 review 3 place 1 manifest 2 refusals 1 probability 1\n";
+    formats: check 1 cuts 1 tree 1 mef 1 dot 1 fmea 1 report 1 make 1 galileo 1 paths 1 why 1 confirm 1 targets 1 events 1 review 4 place 1 manifest 2 refusals 1 probability 1 require 1\n";

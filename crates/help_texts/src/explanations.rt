@@ -1,7 +1,7 @@
 //! What a refusal says and what to write instead, as docs/RULES.md has it. It is written by tools/pages.
 
 /// Of each refusal, in the order of docs/RULES.md.
-pub const EXPLANATIONS: [&'static [u8]; 59] = [
+pub const EXPLANATIONS: [&'static [u8]; 66] = [
     b"L1 BadByte\n\
     \n\
     A byte begins no token: a byte order mark, a letter outside of ASCII, a__b, a_.\n\
@@ -361,4 +361,47 @@ pub const EXPLANATIONS: [&'static [u8]; 59] = [
     \n\
     Instead: give the event a rate by OccurrenceDistribution with applies to, or ask without --unrated\n\
     refuse: then its probability is 1.\n",
+    b"Q1 BadRequirement\n\
+    \n\
+    A line of the file of requirements has no reading: the place is the word that is wrong, or that\n\
+    behind which one lacks. A sentence is order N, order N except TOKEN.., mixed GROUP, mixed GROUP N,\n\
+    without EVENT, possible or never; N has one to nine digits. A sentence probability P hours T is not\n\
+    judged yet: it is refused so at the name of its requirement.\n\
+    \n\
+    Instead: write a name, a target and one sentence, as R-001 root/out:torque{errors::serviceomission}\n\
+    order 2; or a group of parts or of events, as parts software root.cha.sw root.chb.sw. For a\n\
+    probability ask probability, and compare in the pipeline.\n",
+    b"Q2 NoRequirement\n\
+    \n\
+    The file has no requirement, but comments, empty lines and groups at most; the place is the file. A\n\
+    pipeline that asks for nothing must not pass.\n\
+    \n\
+    Instead: write a requirement, or name the file of requirements before those of the model.\n",
+    b"Q3 DuplicateName\n\
+    \n\
+    A second group, or a second requirement, of a name; case does not count.\n\
+    \n\
+    Instead: give each a name of its own.\n",
+    b"Q4 UnknownTarget\n\
+    \n\
+    The target of a requirement is the name of no fact of the model.\n\
+    \n\
+    Instead: take a name from targets, or from targets --all.\n",
+    b"Q5 UnknownGroup\n\
+    \n\
+    Behind mixed stands the name of no group of the file.\n\
+    \n\
+    Instead: declare the group by parts or events; it may stand anywhere in the file.\n",
+    b"Q6 EmptyGroup\n\
+    \n\
+    A member of a group of parts is no component at or below which the model has an event or a fact, or\n\
+    one of a group of events is no event.\n\
+    \n\
+    Instead: take a component, as root.cha.sw, or an event as events has it. A requirement on a group in\n\
+    which a word means nothing would be met for nothing.\n",
+    b"Q7 BadToken\n\
+    \n\
+    Behind except stands a text of no set of events, or behind without the name of no event.\n\
+    \n\
+    Instead: take a set as cuts writes it, as root.a/e+root.b/e, and an event as events has it.\n",
 ];

@@ -98,6 +98,7 @@ fn lines_of(kind: Kind) -> &'static [u8]
         Kind::Manifest => texts::MANIFEST,
         Kind::Refusals => texts::REFUSALS,
         Kind::Probability => texts::PROBABILITY,
+        Kind::Require => texts::REQUIRE,
         Kind::Explain => texts::EXPLAIN,
         Kind::Help => texts::HELP,
         Kind::Version => texts::VERSION,

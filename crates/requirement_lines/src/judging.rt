@@ -113,34 +113,34 @@ fn judge(
     ensures judged { IfOk result (IsJudgedSo system.now named.now) }
     ensures unjudged { IfErr result (IsUnjudged system.now named.now) }
 {
-    match &named.sentence {
-        NamedSentence::OfSets(sentence) => judge_sets(alloc, system, known, named, sentence),
-        NamedSentence::Probability(_, _) => Err(RequirementFault::Unserved(named.name.at)),
-    }
-}
-
-/// The verdict on a requirement whose sentence is this.
-fn judge_sets(
-    alloc: Global,
-    system: &FaultSystem,
-    known: &Known<'_>,
-    named: &NamedRequirement,
-    sentence: &SetSentence,
-) -> Result<Judgement, RequirementFault>
-    requires fits { FitsModel system.now named.now }
-    requires known { KnowsFacts system.now known.now }
-    requires says { named.now.sentence ≡ OfSets sentence.now }
-    ensures judged { IfOk result (IsJudgedSo system.now named.now) }
-    ensures unjudged { IfErr result (IsUnjudged system.now named.now) }
-{
     match slice_for(alloc, system, named.target, named.name.at) {
-        Ok(part) => judge_part(alloc, system, known, &part, named, sentence),
+        Ok(part) => judge_part(alloc, system, known, &part, named),
         Err(fault) => Err(fault),
     }
 }
 
-/// The verdict on a requirement whose target has this slice and whose sentence is this.
+/// The verdict on a requirement whose target has this slice.
 fn judge_part(
+    alloc: Global,
+    system: &FaultSystem,
+    known: &Known<'_>,
+    part: &Slice,
+    named: &NamedRequirement,
+) -> Result<Judgement, RequirementFault>
+    requires slice { IsServed system.now named.now.target part.now }
+    requires fits { FitsModel system.now named.now }
+    requires known { KnowsFacts system.now known.now }
+    ensures judged { IfOk result (IsJudgedSo system.now named.now) }
+    ensures unjudged { IfErr result (IsUnjudged system.now named.now) }
+{
+    match &named.sentence {
+        NamedSentence::OfSets(sentence) => judge_sets(alloc, system, known, part, named, sentence),
+        NamedSentence::Probability(_, _) => Err(RequirementFault::Unserved(named.name.at)),
+    }
+}
+
+/// The verdict on a requirement whose target has this slice and whose sentence is this.
+fn judge_sets(
     alloc: Global,
     system: &FaultSystem,
     known: &Known<'_>,

@@ -1,4 +1,4 @@
 mod Cutting
 mod Growing
-mod OneVerdict
+pub mod OneVerdict
 mod Staling

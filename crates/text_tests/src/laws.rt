@@ -25,6 +25,7 @@ fn exit_numbers(rt: HostRuntime) {
     };
     let rows = [
         (Status::Done, 0),
+        (Status::Unmet, 8),
         (Status::Usage, 1),
         (Status::Refused(refusal), 2),
         (Status::ReadFault(3), 4),

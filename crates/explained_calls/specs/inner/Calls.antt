@@ -9,7 +9,7 @@ use Rattle.fta_run.specs.Answers.{AnswersWords, BeginsWithMemory, IsManyAnswer, 
 use Rattle.fta_run.specs.Files.{most_files}
 use Rattle.fta_run.specs.Words.{IsRequest, Request, file_words}
 use Rattle.fta_run.specs.inner.Held.{AreFronts, IsReadEnd, IsToRead, RanOn, RanRead, text_of}
-use Rattle.explained_calls.specs.inner.Texts.{IsExplanation}
+use Rattle.explained_calls.specs.inner.Texts.{ExplainsEnd}
 
 -- what is seen of a sink that takes nothing
 abbrev pub closed : Seen
@@ -24,7 +24,7 @@ EndsExplained its_end status before after =
 pub record IsExplained (call files texts : List (List ℕ)) (voices : List Voice) (status : Status) (before after : Seen) : Type 0 where
   pub its_end : Status
   pub ran : RanOn call (text_of files texts) voices its_end closed closed
-  pub took : Took (IsExplanation (labels voices) call files texts its_end) status before after
+  pub took : Took (ExplainsEnd (labels voices) call files texts its_end) status before after
   pub ends : EndsExplained its_end status before after
 
 -- What comes of a call that is explained: memory was wanting, or a read of one of its files failed, and nothing was written; or its files

@@ -28,6 +28,7 @@ use Rattle.fta_words.specs.declared.command.Options.{Options}
 use Rattle.fta_words.specs.declared.kind.Kind.{Kind}
 use Rattle.fta_words.specs.declared.kind.Kind.TheVariants as kind
 use Rattle.model_phases.specs.declared.flat.FlatModel.{FlatModel}
+use Rattle.fta_run.specs.Required.{Output}
 use Rattle.fta_run.specs.Line.{status_line}
 use Rattle.fta_run.specs.Words.{IsRequest, Request}
 use Rattle.fta_run.specs.Forms.{profile_of}
@@ -205,3 +206,7 @@ line_before files names status = status_line files names status
 -- The text explains how a call ended: the line of the status, and what is said of it.
 abbrev pub IsExplanation : List (List ℕ) → List (List ℕ) → List (List ℕ) → List (List ℕ) → Status → List ℕ → Type 0
 IsExplanation names call files texts status text = (more : List ℕ) × TellsMore names call files texts status more × (text ≡ line_before files names status ++ more)
+
+-- The same of the text of an output.
+abbrev pub ExplainsEnd : List (List ℕ) → List (List ℕ) → List (List ℕ) → List (List ℕ) → Status → Output → Type 0
+ExplainsEnd names call files texts status output = IsExplanation names call files texts status output.text

@@ -1,6 +1,8 @@
 -- The text of an answer that is ready.
 use Rattle.std.specs.Prelude.{ℕ, List, ◌++◌}
 use Rattle.system_answers.specs.inner.Forms.{tree_bytes}
+use Rattle.fta_run.specs.Required.{Output}
+use Rattle.fta_run.specs.declared.ready.Answer.{Answer}
 use Rattle.fta_run.specs.declared.ready.Held.{Held}
 use Rattle.fta_run.specs.declared.ready.Held.TheVariants.{Fixed, Text, Bytes, Page, Sized}
 use Rattle.fta_run.specs.declared.ready.Ready.{Ready}
@@ -19,6 +21,10 @@ abbrev pub ready_text : Ready → List ℕ
 ready_text (ready.Held held) = held_text held
 ready_text (ready.Tree text) = tree_bytes text
 ready_text (ready.Table lines) = lines
+
+-- what an answer writes, and whether it tells of no requirement that is not met
+abbrev pub answer_output : Answer → Output
+answer_output answer = record { text = ready_text answer.ready; met = answer.met }
 
 -- The text is made line by line while it is written.
 abbrev pub IsByLines : Ready → Type 0

@@ -1,13 +1,13 @@
 -- What the steps of a run owe each other, beside that they meet their phases.
-use Rattle.std.specs.Prelude.{◌≡◌, ◌⊎◌, true, ℕ, List, Option, Result, Ok, Err, MatchResult}
+use Rattle.std.specs.Prelude.{◌≡◌, ◌⊎◌, Bool, true, false, ℕ, List, Option, Result, Ok, Err, MatchResult}
 use Rattle.fta_outside.specs.Outside.{Rose, Seen}
-use Rattle.phases.specs.Phases.{Passes, Stops}
+use Rattle.phases.specs.Phases.{Passes, Phase, Stops, finds, ◌>>=◌}
 use Rattle.phases.specs.declared.status.Status.{Status}
-use Rattle.phases.specs.declared.status.Status.TheVariants.{Done, WriteFault, Memory}
+use Rattle.phases.specs.declared.status.Status.TheVariants.{Done, Unmet, Usage, WriteFault, Memory}
 use Rattle.fta_run.specs.Words.{Request, GiveRequest, IsRequest, file_words}
 use Rattle.system_answers.specs.Voices.{Voice, labels}
-use Rattle.fta_run.specs.Answers.{TookFront, TookText, is_by_lines}
-use Rattle.fta_run.specs.Due.{due}
+use Rattle.fta_run.specs.Answers.{IsTextOf, TookFront, TookText, is_by_lines}
+use Rattle.fta_run.specs.Due.{due, request_text}
 use Rattle.fta_run.specs.inner.Held.{IsReadEnd}
 use Rattle.system_answers.specs.inner.Ends.{IsReportFault}
 
@@ -15,13 +15,19 @@ use Rattle.system_answers.specs.inner.Ends.{IsReportFault}
 abbrev pub IsChosenFault : List (List ℕ) → List Voice → (ℕ → Type 0) → Status → Type 0
 IsChosenFault words voices RoseThere status = (asked : Request) × IsRequest (labels voices) words asked × IsReportFault asked.options.chosen RoseThere status
 
+-- the text of the request that the words give
+abbrev pub text_due : List (List ℕ) → (List ℕ → Option (List ℕ)) → List Voice → Phase (List ℕ)
+text_due words contents voices = do
+  asked ← finds (IsRequest (labels voices) words) Usage
+  request_text contents voices asked
+
 -- Why there may be no answer, beside that the phases stop: memory was wanting, or a read of a file of the request failed, or a report,
 -- where a text is due.
 abbrev pub IsExcused : List (List ℕ) → (List ℕ → Option (List ℕ)) → List Voice → (List ℕ → ℕ) → (List ℕ → ℕ) → (ℕ → Type 0) → Status → Type 0
 IsExcused words contents voices before after RoseThere status =
     (status ≡ Memory)
     ⊎ ((IsReadEnd (file_words words) before after status × GiveRequest (labels voices) words)
-    ⊎ (IsChosenFault words voices RoseThere status × ((text : List ℕ) × Passes (due words contents voices) text)))
+    ⊎ (IsChosenFault words voices RoseThere status × ((text : List ℕ) × Passes (text_due words contents voices) text)))
 
 -- The words give a request whose text is made line by line.
 abbrev pub AsksLines : List (List ℕ) → List Voice → Type 0
@@ -32,13 +38,14 @@ abbrev pub IsCutOff : List (List ℕ) → List Voice → Seen → Seen → Statu
 IsCutOff words voices before after status = ((status ≡ WriteFault) × Rose before.faults after.faults) ⊎ ((status ≡ Memory) × AsksLines words voices)
 
 -- A sink took the text that is due; or there is no answer, and it took nothing; or the text was not written whole.
-abbrev pub Runs : {T : Type 0} → List (List ℕ) → (List ℕ → Option (List ℕ)) → List Voice → (List ℕ → ℕ) → (List ℕ → ℕ) → (ℕ → Type 0) → Result T Status → Seen → Seen → Type 0
+abbrev pub Runs : List (List ℕ) → (List ℕ → Option (List ℕ)) → List Voice → (List ℕ → ℕ) → (List ℕ → ℕ) → (ℕ → Type 0) → Result Bool Status → Seen → Seen → Type 0
 Runs words contents voices read_before read_after RoseThere result before after =
-    MatchResult result (λ _. TookText (Passes (due words contents voices)) before after)
+    MatchResult result (λ met. TookText (λ text. Passes (due words contents voices) (record { text = text; met = met })) before after)
     (λ status. ((Stops (due words contents voices) status ⊎ IsExcused words contents voices read_before read_after RoseThere status) × (after.taken ≡ before.taken))
-    ⊎ (TookFront (Passes (due words contents voices)) before after × IsCutOff words voices before after status))
+    ⊎ (TookFront (IsTextOf (Passes (due words contents voices))) before after × IsCutOff words voices before after status))
 
--- the status of an answer
-abbrev pub ended : {T : Type 0} → Result T Status → Status
-ended (Ok _) = Done
+-- the status of an answer, which tells of no requirement that is not met, or of one
+abbrev pub ended : Result Bool Status → Status
+ended (Ok true) = Done
+ended (Ok false) = Unmet
 ended (Err status) = status

@@ -47,15 +47,15 @@ abbrev pub IsOfProbability : NamedSentence → Type 0
 IsOfProbability (OfSets sentence) = ⊥
 IsOfProbability (Probability most hours) = ⊤
 
--- Why a requirement is not judged: want of memory; M10 or M11, where the slice of its target is too large; or its sentence is on a
--- probability. The place is that of its name.
+-- Why a requirement is not judged: want of memory; M10 or M11, where the slice of its target is too large; or that is served, and its
+-- sentence is on a probability. The place is that of its name.
 abbrev pub IsUnjudged : System → NamedRequirement → RequirementFault → Type 0
 IsUnjudged system named Memory = ⊤
 IsUnjudged system named (Unread at) = ⊥
 IsUnjudged system named (Unnamed word) = ⊥
 IsUnjudged system named NoRequirement = ⊥
 IsUnjudged system named (TooLarge refusal at) = HasLargeSlice system named.target refusal × (at ≡ named.name.at)
-IsUnjudged system named (Unserved at) = IsOfProbability named.sentence × (at ≡ named.name.at)
+IsUnjudged system named (Unserved at) = IsOfProbability named.sentence × ((slice : Slice) × IsServed system named.target slice) × (at ≡ named.name.at)
 
 -- why there is no slice of a target that is served: want of memory, or M10 or M11; it is of a requirement whose name stands at this place
 abbrev pub IsLarge : System → ℕ → ℕ → RequirementFault → Type 0

@@ -1,6 +1,5 @@
-use Rattle.std.proofs.Common.{refl, sym, subst}
-use Rattle.requirement_lines.specs.inner.Judged.{IsOfProbability}
+use Rattle.requirement_lines.proofs.Exits.{large-unjudged}
 use Rattle.requirement_lines.proofs.judging.judge.Goals as goal
 
-pub returns-in-Probability-clause-unjudged : goal.returns-in-Probability-clause-unjudged
-returns-in-Probability-clause-unjudged c = (subst IsOfProbability (sym c.in-Probability.is) tt, refl)
+pub returns-in-Err-clause-unjudged : goal.returns-in-Err-clause-unjudged
+returns-in-Err-clause-unjudged c = large-unjudged c.args.system.now c.args.named.now c.in-Err.fault c.in-Err.ensures.large

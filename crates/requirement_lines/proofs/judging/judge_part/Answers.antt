@@ -1,24 +1,10 @@
-use Rattle.std.proofs.Common.{ℕ, sym, subst, ◌∙◌}
-use Rattle.backward_slice.specs.Slices.{IsSlice}
-use Rattle.requirement_names.specs.declared.named.NamedSentence.{NamedSentence}
-use Rattle.requirement_verdicts.specs.inner.Verdicts.{IsVerdict}
-use Rattle.requirement_lines.specs.inner.Judged.{IsVerdictOn}
+use Rattle.std.proofs.Common.{refl, sym, subst}
+use Rattle.requirement_names.specs.inner.Named.{FitsSentence}
+use Rattle.requirement_lines.specs.inner.Judged.{IsOfProbability}
 use Rattle.requirement_lines.proofs.judging.judge_part.Goals as goal
 
-pub verdict_on-requires-clause-slice : goal.verdict_on-requires-clause-slice
-verdict_on-requires-clause-slice c =
-    let part = c.args.part.now in
-    let slice = c.requires.slice.is_slice in
-    subst (λ (target : ℕ). IsSlice c.args.system.now target part) (sym slice.target_is) slice
+pub judge_sets-requires-clause-fits : goal.judge_sets-requires-clause-fits
+judge_sets-requires-clause-fits c = subst (FitsSentence c.args.system.now) c.in-OfSets.is c.requires.fits.sentence
 
-pub returns-clause-judged : goal.returns-clause-judged
-returns-clause-judged c =
-    let system = c.args.system.now in
-    let named = c.args.named.now in
-    let verdict = c.in_ok-verdict.verdict in
-    record {
-      name = c.in_ok-name.ensures ∙ c.items.ensures.items;
-      slice = (c.args.part.now, c.requires.slice);
-      verdict = subst (λ (sentence : NamedSentence). IsVerdictOn system named.target sentence verdict) (sym c.requires.says)
-          (subst (λ (target : ℕ). IsVerdict system target c.args.sentence.now verdict) c.requires.slice.is_slice.target_is c.in_ok-verdict.ensures);
-    }
+pub returns-in-Probability-clause-unjudged : goal.returns-in-Probability-clause-unjudged
+returns-in-Probability-clause-unjudged c = (subst IsOfProbability (sym c.in-Probability.is) tt, (c.args.part.now, c.requires.slice), refl)

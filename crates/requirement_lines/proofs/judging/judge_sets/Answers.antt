@@ -1,10 +1,24 @@
-use Rattle.std.proofs.Common.{subst}
-use Rattle.requirement_names.specs.inner.Named.{FitsSentence}
-use Rattle.requirement_lines.proofs.Exits.{large-unjudged}
+use Rattle.std.proofs.Common.{ℕ, sym, subst, ◌∙◌}
+use Rattle.backward_slice.specs.Slices.{IsSlice}
+use Rattle.requirement_names.specs.declared.named.NamedSentence.{NamedSentence}
+use Rattle.requirement_verdicts.specs.inner.Verdicts.{IsVerdict}
+use Rattle.requirement_lines.specs.inner.Judged.{IsVerdictOn}
 use Rattle.requirement_lines.proofs.judging.judge_sets.Goals as goal
 
-pub judge_part-requires-clause-fits : goal.judge_part-requires-clause-fits
-judge_part-requires-clause-fits c = subst (FitsSentence c.args.system.now) c.requires.says c.requires.fits.sentence
+pub verdict_on-requires-clause-slice : goal.verdict_on-requires-clause-slice
+verdict_on-requires-clause-slice c =
+    let part = c.args.part.now in
+    let slice = c.requires.slice.is_slice in
+    subst (λ (target : ℕ). IsSlice c.args.system.now target part) (sym slice.target_is) slice
 
-pub returns-in-Err-clause-unjudged : goal.returns-in-Err-clause-unjudged
-returns-in-Err-clause-unjudged c = large-unjudged c.args.system.now c.args.named.now c.in-Err.fault c.in-Err.ensures.large
+pub returns-clause-judged : goal.returns-clause-judged
+returns-clause-judged c =
+    let system = c.args.system.now in
+    let named = c.args.named.now in
+    let verdict = c.in_ok-verdict.verdict in
+    record {
+      name = c.in_ok-name.ensures ∙ c.items.ensures.items;
+      slice = (c.args.part.now, c.requires.slice);
+      verdict = subst (λ (sentence : NamedSentence). IsVerdictOn system named.target sentence verdict) (sym c.requires.says)
+          (subst (λ (target : ℕ). IsVerdict system target c.args.sentence.now verdict) c.requires.slice.is_slice.target_is c.in_ok-verdict.ensures);
+    }
