@@ -607,6 +607,10 @@ pub lines_kept : (its : Result Ready Status) (result : Result Answer Status) (So
 lines_kept (Ok ready) result So is lines = rw is lines
 lines_kept (Err s) result So is lines = rw is tt
 
+pub none_by_lines : (result : Result Answer Status) (So : Type 0) → IfOk result (λ answer. IsByLines answer.ready → ⊥) → IfOk result (λ answer. IsByLines answer.ready → So)
+none_by_lines (Ok answer) So none = λ is. absurd (none is)
+none_by_lines (Err s) So none = tt
+
 -- what is answered to a request is its output, whether it tells of requirements or not
 pub output_told : (Excuse : Status → Type 0) (voices : List Voice) (asked : Request) (texts : List (List ℕ)) (result : Result Answer Status) → is_require asked.kind ≡ true → ((s : Status) → IsMemory s → Excuse s)
     → MeetsBut IsMemory answer_output (required_in (profile_of asked.options.form) asked.root (is_set asked.options (codes "tap")) texts) result → MeetsBut Excuse answer_output (output_for asked.kind voices asked texts) result

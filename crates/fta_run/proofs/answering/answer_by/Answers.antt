@@ -1,4 +1,4 @@
-use Rattle.std.proofs.Common.{inl}
+use Rattle.std.proofs.Common.{inl, inr, refl}
 use Rattle.system_answers.specs.Voices.{voices_of}
 use Rattle.system_answers.proofs.Reported.{all_kept}
 use Rattle.fta_run.specs.Due.{cuts_in, first_text, fmea_in, make_text, probability_in, sets_of_tree, targets_in}
@@ -174,3 +174,9 @@ returns-in-Report-clause-text g c =
 
 pub returns-in-Report-clause-by_lines : goal.returns-in-Report-clause-by_lines
 returns-in-Report-clause-by_lines g c = held_is _ c.report.result c.ready_of-in-Report.result c.ready_of-in-Report.ensures
+
+pub returns-in-Require-clause-text : goal.returns-in-Require-clause-text
+returns-in-Require-clause-text g c = inr (inl refl)
+
+pub returns-in-Require-clause-reports : goal.returns-in-Require-clause-reports
+returns-in-Require-clause-reports g c = all_kept (λ b. (goal.Report-dyn g (b.vtable, b.value)).text b.value) (λ b. (goal.Report-dyn g (b.vtable, b.value)).label b.value) (λ b. (goal.Report-dyn g (b.vtable, b.value)).report_faults b.value) _ c.args.reports.now.items
