@@ -328,8 +328,8 @@ module _ (words : List (List ℕ)) (contents : List ℕ → Option (List ℕ)) (
   due_text output due_is =
       let given = due_is.passed in
       let asked : Request = given.0 in
-      let texts : List (List ℕ) = given.2 in
-      record { passed = (asked, given.1, texts, given.3, text_passes (profile_of asked.options.form) voices asked texts (is_require asked.kind) asked.kind refl output given.4) }
+      let texts : List (List ℕ) = given.2.0 in
+      record { passed = (asked, given.1, (texts, given.2.1, text_passes (profile_of asked.options.form) voices asked texts (is_require asked.kind) asked.kind refl output given.2.2)) }
 
   pub due_stop : (status : Status) → Stops (due words contents voices) status → Stops (text_due words contents voices) status
   due_stop status due_is =
@@ -342,7 +342,7 @@ module _ (words : List (List ℕ)) (contents : List ℕ → Option (List ℕ)) (
       ]
 
   pub same_met : AllTold words contents voices → (a b : Output) → Passes (due words contents voices) a → Passes (due words contents voices) b → a.met ≡ b.met
-  same_met told a b p q = go p.passed.0 q.passed.0 (one_request (labels voices) words p.passed.0 q.passed.0 p.passed.1 q.passed.1) p.passed.1 p.passed.2 q.passed.2 p.passed.3 q.passed.3 p.passed.4 q.passed.4
+  same_met told a b p q = go p.passed.0 q.passed.0 (one_request (labels voices) words p.passed.0 q.passed.0 p.passed.1 q.passed.1) p.passed.1 p.passed.2.0 q.passed.2.0 p.passed.2.1 q.passed.2.1 p.passed.2.2 q.passed.2.2
     where
       go : (asked other : Request) → asked ≡ other → IsRequest (labels voices) words asked → (texts others : List (List ℕ)) → Passed (texts_of contents asked.files) texts → Passed (texts_of contents other.files) others
           → Passed (output_for asked.kind voices asked texts) a → Passed (output_for other.kind voices other others) b → a.met ≡ b.met

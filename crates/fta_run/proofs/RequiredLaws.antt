@@ -46,7 +46,9 @@ named-some system all (requirement ∷ requirements) some = refl
 named-so : (system : System) (all : Requirements) (named : List NamedRequirement) → AreNamed system all named → named_of system all ≡ Ok named
 named-so system all named are =
     ap (λ (first : Option WrongWord). named_with system all first all.requirements) are.none_wrong ∙ named-some system all all.requirements are.some
-    ∙ ap (λ (its : List NamedRequirement). Ok {A = List NamedRequirement} {E = Refusal} its) (sym are.each)
+    ∙ ap (λ (its : List NamedRequirement). answer its) (sym are.each) where
+  answer : List NamedRequirement → Result (List NamedRequirement) Refusal
+  answer its = Ok its
 
 module _ (system : System) where
   verdict-passes : (target at : ℕ) (sentence : NamedSentence) (verdict : Verdict) → IsVerdictOn system target sentence verdict → Passed (verdict_on system target at sentence) verdict
@@ -57,13 +59,13 @@ module _ (system : System) where
   judgement-passes named judgement is =
       let name = is.name in
       let same : ◌≡◌ {A = Judgement} (record { name = judgement.name; verdict = judgement.verdict }) (record { name = named.name.text; verdict = judgement.verdict }) = cc (name) in
-      (is.slice.0, is.slice.1, judgement.verdict, verdict-passes named.target named.name.at named.sentence judgement.verdict is.verdict, same)
+      (is.slice.0, is.slice.1, (judgement.verdict, verdict-passes named.target named.name.at named.sentence judgement.verdict is.verdict, same))
 
   judgements-pass : (all : List NamedRequirement) (judgements : List Judgement) → AllZip (IsJudgedSo system) all judgements → Passed (judgements_of system all) judgements
   judgements-pass [] [] zip = refl
   judgements-pass [] (judgement ∷ judgements) zip = absurd zip
   judgements-pass (named ∷ all) [] zip = absurd zip
-  judgements-pass (named ∷ all) (judgement ∷ judgements) zip = (judgement, judgement-passes named judgement zip.0, judgements, judgements-pass all judgements zip.1, refl)
+  judgements-pass (named ∷ all) (judgement ∷ judgements) zip = (judgement, judgement-passes named judgement zip.0, (judgements, judgements-pass all judgements zip.1, refl))
 
   pub told-passes : (text : List ℕ) (tap : Bool) (told : Told) → TellsRequirements system text (line_form tap) told → Passes (required_text tap text system) (output_of told)
   told-passes text tap told tells =
@@ -71,7 +73,7 @@ module _ (system : System) where
       let text_is = tells.text_is in
       let met_is = tells.met_is in
       let same : ◌≡◌ {A = Output} (record { text = told.text.items; met = told.all_met }) (record { text = verdicts_text (line_form tap) system tells.judgements; met = are_met tells.judgements }) = cc (text_is, met_is) in
-      record { passed = (says.all, ap read_as says.read, tells.named, named-so system says.all tells.named says.are_named, tells.judgements, judgements-pass tells.named tells.judgements tells.judged, same) }
+      record { passed = (says.all, ap read_as says.read, (tells.named, named-so system says.all tells.named says.are_named, (tells.judgements, judgements-pass tells.named tells.judgements tells.judged, same))) }
 
   -- ---- why they are refused
 
