@@ -22,7 +22,7 @@ use Rattle.instantiator.proofs.Sample.{connection_of, end_at, id, spot, two_devi
 use Rattle.propagation_links.specs.declared.link.Link.{Link}
 use Rattle.propagation_links.specs.Links.{links_of}
 use Rattle.propagation_links.specs.Refused.{links_refusal}
-use Rattle.propagation_links.proofs.Sample.{binding_section, bound_instance, bound_points, carried_instance, carried_points, clause_of, instance_with, link, path_of, point_of, points, section_of}
+use Rattle.propagation_links.proofs.Sample.{binding_section, bound_instance, bound_points, clause_of, instance_with, link, path_of, point_of, points}
 
 -- ---- two devices that are connected both ways
 
@@ -162,45 +162,3 @@ outer_counts = refl
 last_counts : links_of First (bound_instance (binding_section d w_d ∷ binding_section (codes "z" ∷ []) w_d ∷ []) (binding_section d d ∷ [])) bound_points ≡ []
 unfolding preorder effective_of chain_from binding binding_name binding_word other_word abstract_word binding_end references reference path dotted_name targets binding_targets applied_targets word sign identifier is_word is_sign is_identifier is_even opens closes is_kind
 last_counts = refl
-
--- ---- bindings of the second profile
-
-abbrev w : List (List ℕ)
-w = codes "w" ∷ []
-
--- what is bound around a component holds for it
-inside : links_of Second (bound_instance (binding_section d w ∷ []) []) bound_points ≡ link 1 0 true 3 1 false ∷ link 3 1 true 1 0 false ∷ []
-unfolding preorder effective_of chain_from binding binding_name binding_word other_word abstract_word binding_end references reference path dotted_name targets binding_targets applied_targets word sign identifier is_word is_sign is_identifier is_even opens closes is_kind
-inside = refl
-
-inside_by_the_first : links_of First (bound_instance (binding_section d w ∷ []) []) bound_points ≡ []
-unfolding preorder effective_of chain_from binding binding_name binding_word other_word abstract_word binding_end references reference path dotted_name targets binding_targets applied_targets word sign identifier is_word is_sign is_identifier is_even opens closes is_kind
-inside_by_the_first = refl
-
--- what is said of it itself counts, also where that is farther in
-nearer : links_of Second (bound_instance (binding_section d w ∷ []) (binding_section d d ∷ [])) bound_points ≡ link 3 0 true 3 1 false ∷ link 3 1 true 3 0 false ∷ []
-unfolding preorder effective_of chain_from binding binding_name binding_word other_word abstract_word binding_end references reference path dotted_name targets binding_targets applied_targets word sign identifier is_word is_sign is_identifier is_even opens closes is_kind
-nearer = refl
-
--- a function, and what performs it
-performed : links_of Second (carried_instance [] (section_of (codes "actual_function_binding") d w_d)) carried_points ≡ link 1 1 true 3 2 false ∷ []
-unfolding preorder effective_of chain_from binding binding_name binding_word other_word abstract_word binding_end references reference path dotted_name targets binding_targets applied_targets word sign identifier is_word is_sign is_identifier is_even opens closes is_kind
-performed = refl
-
--- a connection from d to w.x, and d that carries it: behind its own link what d sends to x and to `connection` of w, and what d gets from its port
-carried : links_of Second (carried_instance (connection Plain (codes "d" ∷ codes "o" ∷ []) false (codes "w" ∷ codes "x" ∷ []) ∷ []) (section_of (codes "actual_connection_binding") d (codes "c" ∷ []))) carried_points
-    ≡ link 1 0 true 2 0 false ∷ link 1 1 true 2 0 false ∷ link 1 1 true 2 1 false ∷ link 1 0 true 1 1 false ∷ []
-unfolding preorder effective_of chain_from binding binding_name binding_word other_word abstract_word binding_end references reference path dotted_name targets binding_targets applied_targets word sign identifier is_word is_sign is_identifier is_even opens closes is_kind
-carried = refl
-
--- and both ways: from x there is a link to `bindings` of d besides
-carried_both : links_of Second (carried_instance (connection Plain (codes "d" ∷ codes "o" ∷ []) true (codes "w" ∷ codes "x" ∷ []) ∷ []) (section_of (codes "actual_connection_binding") d (codes "c" ∷ []))) carried_points
-    ≡ link 1 0 true 2 0 false ∷ link 1 1 true 2 0 false ∷ link 1 1 true 2 1 false ∷ link 1 0 true 1 1 false ∷ link 2 0 true 1 1 false ∷ []
-unfolding preorder effective_of chain_from binding binding_name binding_word other_word abstract_word binding_end references reference path dotted_name targets binding_targets applied_targets word sign identifier is_word is_sign is_identifier is_even opens closes is_kind
-carried_both = refl
-
--- the first profile has the connection's own link alone
-carried_by_the_first : links_of First (carried_instance (connection Plain (codes "d" ∷ codes "o" ∷ []) false (codes "w" ∷ codes "x" ∷ []) ∷ []) (section_of (codes "actual_connection_binding") d (codes "c" ∷ []))) carried_points
-    ≡ link 1 0 true 2 0 false ∷ []
-unfolding preorder effective_of chain_from binding binding_name binding_word other_word abstract_word binding_end references reference path dotted_name targets binding_targets applied_targets word sign identifier is_word is_sign is_identifier is_even opens closes is_kind
-carried_by_the_first = refl

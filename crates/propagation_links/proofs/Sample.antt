@@ -82,38 +82,24 @@ dotted [] = []
 dotted (name ∷ []) = word_token name ∷ []
 dotted (name ∷ next ∷ names) = word_token name ∷ sign_token (codes ".") ∷ dotted (next ∷ names)
 
--- a section with a binding by this word, of what the second path leads to, to the component of the first
-abbrev pub section_of : List ℕ → List (List ℕ) → List (List ℕ) → List Token
-section_of property to bound =
-    word_token property ∷ sign_token (codes "=>") ∷ word_token (codes "reference") ∷ sign_token (codes "(")
-    ∷ dotted to ++ (sign_token (codes ")") ∷ word_token (codes "applies") ∷ word_token (codes "to") ∷ dotted bound ++ sign_token (codes ";") ∷ [])
-
 -- a section that binds the component of the second path to the processor of the first
 abbrev pub binding_section : List (List ℕ) → List (List ℕ) → List Token
-binding_section to bound = section_of (codes "actual_processor_binding") to bound
+binding_section to bound =
+    word_token (codes "actual_processor_binding") ∷ sign_token (codes "=>") ∷ word_token (codes "reference") ∷ sign_token (codes "(")
+    ∷ dotted to ++ (sign_token (codes ")") ∷ word_token (codes "applies") ∷ word_token (codes "to") ∷ dotted bound ++ sign_token (codes ";") ∷ [])
 
--- the systems t.i and w.i with these sections, and t.i with these connections
-abbrev pub bound_packages : List Connection → List (List Token) → List (List Token) → List PackageUnit
-bound_packages connections outer inner =
+-- the systems t.i and w.i with these sections
+abbrev pub bound_packages : List (List Token) → List (List Token) → List PackageUnit
+bound_packages outer inner =
     package_of (codes "q")
     (decl_at 1 (codes "d") None None ∷ decl_at 2 (codes "w") None None
     ∷ record (decl_at 3 (codes "w") (Some (codes "i")) None) { subcomponents = subcomponent_at 4 (codes "d") false (Some (name_at 5 (codes "d") None)) ∷ []; properties = inner } ∷ decl_at 6 (codes "t") None None
-    ∷ record (system_t_i connections (clause_of [])) { properties = outer } ∷ []) ∷ []
+    ∷ record (system_t_i [] (clause_of [])) { properties = outer } ∷ []) ∷ []
 
 -- its components are the root, d, w and w.d
 abbrev pub bound_instance : List (List Token) → List (List Token) → Instance
-bound_instance outer inner = instance_of (bound_packages [] outer inner) (id 4)
-
-abbrev pub carried_instance : List Connection → List Token → Instance
-carried_instance connections section = instance_of (bound_packages connections (section ∷ []) []) (id 4)
+bound_instance outer inner = instance_of (bound_packages outer inner) (id 4)
 
 -- a device has the words `bindings` and `processor`, both ways
 abbrev pub bound_points : List (List Point)
 bound_points = [] ∷ (point_of (codes "bindings") Free Free ∷ point_of (codes "processor") Free Free ∷ []) ∷ [] ∷ []
-
--- a device has a port out, the word `bindings` both ways, and the word `binding` in; and w.i has a port x both ways, and the word `connection` in
-abbrev pub carried_points : List (List Point)
-carried_points =
-    []
-    ∷ (point_of (codes "o") Absent Free ∷ point_of (codes "bindings") Free Free ∷ point_of (codes "binding") Free Absent ∷ [])
-    ∷ (point_of (codes "x") Free Free ∷ point_of (codes "connection") Free Absent ∷ []) ∷ []
