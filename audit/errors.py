@@ -259,10 +259,11 @@ class ErrorReader(Reader):
         return goal
 
     def properties(self):
-        """Properties: of each its names, the tokens of its value, and its targets."""
+        """Properties: of each its names, the tokens of its value, its targets that are paths, with
+        None for each other one, and the texts of all others."""
         found = []
         while self.is_name():
-            names, targets = self.names(), []
+            names, targets, others = self.names(), [], []
             self.one_of("=>", "+=>")
             value = self.balanced(";", "applies")
             if not value:
@@ -270,12 +271,15 @@ class ErrorReader(Reader):
             if self.accept("applies"):
                 self.expect("to")
                 targets = self.list_of(self.applies_target)
+                others = [text for is_path, text in targets if not is_path]
+                targets = [is_path for is_path, _ in targets]
             self.expect(";")
-            found.append(Node(names=written(names), value=value, targets=targets))
+            found.append(Node(names=written(names), value=value, targets=targets, others=others))
         return found
 
     def applies_target(self):
-        """One or more of ID, word, `.`, `^` and `@`; names with dots, or None for others."""
+        """One or more of ID, word, `.`, `^` and `@`: names with dots, or None for others; and its
+        text."""
         signs, tokens = (".", "^", "@") + POINT_WORDS, []
         if not (self.is_name() or self.is_next(*signs)):
             self.fail()
@@ -284,7 +288,7 @@ class ErrorReader(Reader):
         names, dots = tokens[::2], tokens[1::2]
         is_path = len(names) > len(dots) and set(written(dots)) <= {"."}
         is_path = is_path and all(token.kind == "word" for token in names)
-        return written(names) if is_path else None
+        return (written(names) if is_path else None), "".join(written(tokens))
 
     # Clauses
 

@@ -13,10 +13,14 @@ def key_of(facts, event):
     return (name, facts.types.types[of_type].name) if kind == "in" else (name,)
 
 
+def rate_properties(owners):
+    """The property in these clauses or machines, in order."""
+    return [item for owner in owners for item in owner.properties if item.names in PROPERTIES]
+
+
 def associations(owners):
-    """The values and targets of the property in these clauses or machines, in order."""
-    return [(item.value, item.targets) for owner in owners for item in owner.properties
-            if item.names in PROPERTIES]
+    """Its values and targets."""
+    return [(item.value, item.targets) for item in rate_properties(owners)]
 
 
 def sayings(facts, event):

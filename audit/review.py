@@ -2,7 +2,7 @@
 
 from bindings import GUESTS, KINDS, Piece, braced_of, category, pieces
 from cuts import is_true, leaves
-from rates import associations, key_of
+from rates import key_of, rate_properties
 from rounds import effects, is_effect, rounds
 from text import CLOSING, OPENING
 
@@ -16,17 +16,15 @@ class Review:
         self.used = {leaf for formula in self.formulas.values() for leaf in leaves(formula)}
         self.effects = effects(facts)
 
-    def lines(self, has_next=False):
-        """All lines in their order; with those of `next_lines` where they are asked for."""
+    def lines(self):
+        """All lines in their order."""
         groups = (self.hidden_sources, self.hidden_paths, self.hidden_links,
                   self.hidden_transitions, self.not_declared, self.stops_here,
-                  self.goes_nowhere, self.no_links, self.two_ways, self.open_sides,
+                  self.sink_leaves, self.goes_nowhere, self.no_links, self.two_ways, self.open_sides,
                   self.dry_sides, self.no_sources, self.never, self.unused_states, self.unlike,
                   self.quiet, self.in_modes, self.unread_bindings, self.stray_bindings,
-                  self.unused_rates, self.type_root, self.loops,
+                  self.unused_rates, self.core_rates, self.type_root, self.loops,
                   self.unused_events, self.no_singles, self.no_effect, self.unreached_events)
-        if has_next:
-            groups = groups[:-5] + (self.next_lines,) + groups[-5:]
         return [line for group in groups for line in group()] + ["end"]
 
     # What lines are made of
@@ -279,7 +277,8 @@ class Review:
             member.kind == "connections" and member.name == path[-1] for member in wires)
 
     def unused_rates(self):
-        """`unused-rate OWNER TARGET`: of the clauses, and then of the machine."""
+        """`unused-rate OWNER TARGET`: of the clauses, and then of the machine; of each property
+        first the paths, then what is none, and a dash where it applies to nothing."""
         known = {part.path: set() for part in self.facts.parts}
         for event in self.facts.events:
             part, key = self.facts.parts[event[0]], key_of(self.facts, event)
@@ -289,10 +288,21 @@ class Review:
                 part = part.parent
         for part in self.facts.parts:
             texts = part.clauses + ([part.machine] if part.machine else [])
-            for _, targets in associations(texts):
-                for target in targets:
-                    if target and target not in known[part.path]:
-                        yield f"unused-rate {part.path} {'.'.join(target)}"
+            for item in rate_properties(texts):
+                paths = [path for path in item.targets if path and path not in known[part.path]]
+                texts = [".".join(path) for path in paths] + item.others
+                for text in texts + ([] if item.targets else ["-"]):
+                    yield f"unused-rate {part.path} {text}"
+
+    def core_rates(self):
+        """`unused-rate OWNER core:TARGET`: of sections and braces in core text."""
+        for part in self.facts.parts:
+            for name, tokens, member in properties_of(part):
+                if name == "occurrencedistribution":
+                    path = applied_text(tokens)
+                    said = [member.name] if member else []
+                    said += [path] if path is not None else []
+                    yield f"unused-rate {part.path} core:{'.'.join(said or ['-'])}"
 
     def type_root(self):
         """`type-root root NAME`: the implementations of a root that is a type."""
@@ -351,12 +361,6 @@ class Review:
             leaf = ("event", event)
             if self.effects and leaf in self.used and leaf not in reached:
                 yield f"unreached-event {self.facts.print(event)}"
-
-    # Lines that are no part of a review yet (`second review .. --next`)
-
-    def next_lines(self):
-        """Lines on what sinks leave."""
-        yield from self.sink_leaves()
 
     # Lines on what is used otherwise than what stands beside it
 
@@ -440,16 +444,21 @@ def has_modes(tokens):
 
 
 def bound(part):
-    """The properties of a component whose names end in `_binding`: their names, their tokens,
-    and the member behind which they stand in braces, or None. From the farthest classifier to
-    the nearest, of each the sections and then the braces."""
+    """The properties of a component whose names end in `_binding`."""
+    return (each for each in properties_of(part) if each[0].endswith("_binding"))
+
+
+def properties_of(part):
+    """The properties of a component in core text: their names, their tokens, and the member
+    behind which they stand in braces, or None. From the farthest classifier to the nearest, of
+    each the sections and then the braces."""
     for classifier in reversed(part.chain):
         groups = [(tokens, None) for tokens in classifier.properties]
         groups += [(inner(member.tail), member) for member in classifier.members]
         for tokens, member in groups:
             for piece in pieces(tokens):
                 name = property_name(piece)
-                if name and name.endswith("_binding"):
+                if name:
                     yield name, piece, member
 
 
@@ -465,6 +474,22 @@ def property_name(piece):
     while [token.text for token in piece[at + 1:at + 2]] == ["::"]:
         at += 2
     return piece[at].text if at < len(piece) and piece[at].kind == "word" else None
+
+
+def applied_text(piece):
+    """What stands behind `applies to` outside of brackets, up to `in` or `;`, without strings; or
+    None."""
+    depth, found = 0, None
+    for before, token in zip(piece, piece[1:]):
+        depth += (before.text in OPENING) - (before.text in CLOSING)
+        if found is None:
+            if depth == 0 and (before.text, token.text) == ("applies", "to"):
+                found = []
+        elif depth == 0 and token.text in ("in", ";"):
+            return "".join(each.text for each in found if each.kind not in ("text", "raw"))
+        else:
+            found.append(token)
+    return None
 
 
 def is_read(tokens, member, profile):

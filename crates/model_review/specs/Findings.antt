@@ -14,6 +14,7 @@ use Rattle.propagation_points.specs.States.{all_variants, held_numbers}
 use Rattle.propagation_points.specs.declared.side.Side.{Side}
 use Rattle.propagation_points.specs.declared.side.Side.TheVariants.{Absent, Free, Declared}
 use Rattle.propagation_points.specs.Uses.{covers}
+use Rattle.propagation_points.specs.declared.uses.ReachedPoint.{ReachedPoint}
 use Rattle.error_flows.specs.declared.meaning.FlowMeaning.{FlowMeaning}
 use Rattle.error_flows.specs.declared.meaning.FlowMeaning.TheVariants as flow
 use Rattle.error_behavior.specs.declared.steps.Step.{Step}
@@ -35,7 +36,7 @@ use Rattle.model_facts.specs.Facts.{inward_of, is_linked, outward_of}
 use Rattle.fact_formulas.specs.Formulas.{end_of}
 use Rattle.model_review.specs.Seen.{Seen, declared_for, is_lost_event, is_lost_fact, is_used, may_come, number_at, side_in, source_number, state_number, states_of, stops, types_in}
 use Rattle.model_review.specs.declared.finding.Finding.{Finding}
-use Rattle.model_review.specs.declared.finding.Finding.TheVariants.{Dry, GoesNowhere, HiddenLink, HiddenPath, HiddenSource, HiddenTransitions, InModes, Never, NeverState, NoLink, NoSource, NotDeclared, Open, Quiet, StopsHere, StrayPath, StrayRate, TwoWays, TypeRoot, Unlike, UnreadBinding, UnusedState}
+use Rattle.model_review.specs.declared.finding.Finding.TheVariants.{CoreRate, Dry, GoesNowhere, HiddenLink, HiddenPath, HiddenSource, HiddenTransitions, InModes, Never, NeverState, NoLink, NoSource, NotDeclared, Open, Quiet, SinkLeaves, StopsHere, StrayPath, StrayRate, TwoWays, TypeRoot, Unlike, UnreadBinding, UnusedState}
 use Rattle.model_review.specs.declared.finding.TypesAt.{TypesAt}
 
 -- types at a side
@@ -170,6 +171,29 @@ stop_at seen owner number point =
 
 abbrev pub stops_of : Seen → ℕ → ErrorModel → List Finding
 stops_of seen owner model = numbered_from (stop_at seen owner) 0 model.points
+
+-- ---- what the sinks of a point leave
+
+-- whether a sink takes a type that comes in at a point
+abbrev pub sink_takes : ℕ → ℕ → ReachedPoint → Bool
+sink_takes number type sink = nat_eq sink.point number && covers sink.types type
+
+-- whether a type stops at a point, and no sink takes it there
+abbrev pub is_left : Seen → ℕ → ℕ → ℕ → Bool
+is_left seen owner number type =
+    is_stopped seen owner number type && not (list_any (sink_takes number type) (model_at seen.numbered.assembly owner).sinks)
+
+-- A point that a sink names is told with the types that stop there and that no sink takes there, if there are any.
+abbrev pub leave_at : Seen → ℕ → ℕ → Point → List Finding
+leave_at seen owner number point =
+    cond (has_sink seen owner point) (if_any (λ types. SinkLeaves (types_at (inward_of owner number) types)) (types_where seen (inward_of owner number) (is_left seen owner number))) []
+
+abbrev pub leaves_of : Seen → ℕ → ErrorModel → List Finding
+leaves_of seen owner model = numbered_from (leave_at seen owner) 0 model.points
+
+-- What is told of where errors stop: the points without a sink, and then those with one.
+abbrev pub stops_told : Seen → List Finding
+stops_told seen = of_components seen (stops_of seen) ++ of_components seen (leaves_of seen)
 
 -- ---- what comes out and leads nowhere
 
@@ -325,13 +349,18 @@ bindings_told seen =
     map UnreadBinding (unread_parts (what.Unread seen.numbered.assembly.types.profile) seen.numbered.assembly.instance)
     ++ map StrayPath (stray_bindings seen.numbered.assembly.types.profile seen.numbered.assembly.instance)
 
--- What is told of the text: what stands in modes, bindings, the rates that are said of no event,
--- and the implementations of a root that is a component type.
+-- What is told of rates: those in error model text that are said of no event, and those in core text, which count for no event.
+abbrev pub rates_told : Seen → List Finding
+rates_told seen =
+    map StrayRate (unused_rates seen.numbered.assembly.instance seen.system.events)
+    ++ map CoreRate (unread_parts what.Rates seen.numbered.assembly.instance)
+
+-- What is told of the text: what stands in modes, bindings, rates, and the implementations of a root that is a component type.
 abbrev pub text_findings : Seen → List Finding
 text_findings seen =
     map InModes (unread_parts what.InModes seen.numbered.assembly.instance)
     ++ (bindings_told seen
-    ++ (map StrayRate (unused_rates seen.numbered.assembly.instance seen.system.events)
+    ++ (rates_told seen
     ++ map TypeRoot (root_implementations seen.numbered.assembly.instance)))
 
 -- ---- in order
@@ -345,7 +374,7 @@ model_findings seen =
     ++ (flat_map (hidden_link seen) seen.numbered.assembly.links
     ++ (of_components seen hidden_transitions
     ++ (flat_map (not_declared seen) seen.numbered.assembly.links
-    ++ (of_components seen (stops_of seen)
+    ++ (stops_told seen
     ++ (of_components seen (nowhere_out seen)
     ++ (ways_told seen
     ++ (of_components seen (open_ends seen)

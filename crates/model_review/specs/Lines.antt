@@ -18,7 +18,7 @@ use Rattle.model_facts.specs.declared.keys.FactKind.TheVariants.{State}
 use Rattle.fault_system.specs.Systems.{event_name, fact_name}
 use Rattle.model_review.specs.Seen.{Seen}
 use Rattle.model_review.specs.declared.finding.Finding.{Finding}
-use Rattle.model_review.specs.declared.finding.Finding.TheVariants.{Dry, GoesNowhere, HiddenLink, HiddenPath, HiddenSource, HiddenTransitions, InLoop, InModes, Never, NeverState, NoEffect, NoLink, NoSingle, NoSource, NotDeclared, Open, Quiet, StopsHere, StrayPath, StrayRate, TwoWays, TypeRoot, Unlike, UnreachedEvent, UnreadBinding, UnusedEvent, UnusedState}
+use Rattle.model_review.specs.declared.finding.Finding.TheVariants.{CoreRate, Dry, GoesNowhere, HiddenLink, HiddenPath, HiddenSource, HiddenTransitions, InLoop, InModes, Never, NeverState, NoEffect, NoLink, NoSingle, NoSource, NotDeclared, Open, Quiet, SinkLeaves, StopsHere, StrayPath, StrayRate, TwoWays, TypeRoot, Unlike, UnreachedEvent, UnreadBinding, UnusedEvent, UnusedState}
 use Rattle.model_review.specs.declared.finding.TypesAt.{TypesAt}
 
 -- ---- sides
@@ -105,6 +105,7 @@ finding_text seen (HiddenLink from at) = codes "hidden-link " ++ (side_text seen
 finding_text seen (HiddenTransitions owner count) = codes "hidden-transitions " ++ (path_text (path_at seen.numbered.assembly owner) ++ (codes " " ++ decimal count))
 finding_text seen (NotDeclared at to) = codes "not-declared " ++ (types_text seen.numbered.assembly at ++ (codes " -> " ++ side_text seen.numbered.assembly to))
 finding_text seen (StopsHere at) = codes "stops-here " ++ types_text seen.numbered.assembly at
+finding_text seen (SinkLeaves at) = codes "sink-leaves " ++ types_text seen.numbered.assembly at
 finding_text seen (GoesNowhere at) = codes "goes-nowhere " ++ types_text seen.numbered.assembly at
 finding_text seen (NoLink one) = codes "no-link " ++ unlinked_text seen.numbered.assembly one
 finding_text seen (TwoWays link) = codes "two-ways " ++ (side_text seen.numbered.assembly link.from ++ (codes " -> " ++ side_text seen.numbered.assembly link.to))
@@ -120,6 +121,7 @@ finding_text seen (InModes part) = codes "in-modes " ++ part_text seen.numbered.
 finding_text seen (UnreadBinding part) = codes "unread-binding " ++ (path_text (path_at seen.numbered.assembly part.component) ++ (codes " " ++ part.name))
 finding_text seen (StrayPath stray) = codes "stray-binding " ++ (path_text (path_at seen.numbered.assembly stray.component) ++ (codes " " ++ dotted stray.path))
 finding_text seen (StrayRate rate) = codes "unused-rate " ++ (path_text (path_at seen.numbered.assembly rate.component) ++ (codes " " ++ dotted rate.target))
+finding_text seen (CoreRate part) = codes "unused-rate " ++ (path_text (path_at seen.numbered.assembly part.component) ++ (codes " core:" ++ part.name))
 finding_text seen (TypeRoot name) = codes "type-root root " ++ name
 finding_text seen (InLoop loop) = codes "loop " ++ (decimal loop.size ++ (codes " " ++ fact_name seen.system loop.first))
 finding_text seen (UnusedEvent event) = codes "unused-event " ++ event_name seen.system event

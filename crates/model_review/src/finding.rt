@@ -39,6 +39,8 @@ pub enum Finding {
     NotDeclared(TypesAt, PointAt),
     /// These types may come in at this side, where nothing of the component looks at them.
     StopsHere(TypesAt),
+    /// These types may come in at this side, nothing of the component looks at them, and no sink of the point takes them.
+    SinkLeaves(TypesAt),
     /// These types may come out of a part at this side, and nothing looks at them.
     GoesNowhere(TypesAt),
     /// A connection or a user path gives no link, and types are declared for a point that it names.
@@ -69,6 +71,8 @@ pub enum Finding {
     StrayPath(StrayBinding),
     /// A rate is said of no event.
     StrayRate(UnusedRate),
+    /// A rate stands in core text, where it counts for no event.
+    CoreRate(Part),
     /// The root is a component type, and has no parts: an implementation of it is not looked at.
     TypeRoot(Name),
     /// Facts depend on one another.

@@ -71,6 +71,7 @@ fn push_text(alloc: Global, text: &mut Vec<u8>, view: &View, finding: &Finding) 
         Finding::HiddenTransitions(owner, count) => push_count(text, assembly, *owner, *count),
         Finding::NotDeclared(at, to) => push_other(text, assembly, at, *to),
         Finding::StopsHere(at) => push_at(text, b"stops-here ", assembly, at),
+        Finding::SinkLeaves(at) => push_at(text, b"sink-leaves ", assembly, at),
         Finding::GoesNowhere(at) => push_at(text, b"goes-nowhere ", assembly, at),
         Finding::NoLink(one) => push_unlinked(text, assembly, *one),
         Finding::TwoWays(link) => push_ways(text, assembly, *link),
@@ -88,6 +89,7 @@ fn push_text(alloc: Global, text: &mut Vec<u8>, view: &View, finding: &Finding) 
         Finding::UnreadBinding(part) => push_unread(text, assembly, part),
         Finding::StrayPath(stray) => push_stray(text, assembly, stray),
         Finding::StrayRate(rate) => push_rate(text, assembly, rate),
+        Finding::CoreRate(part) => push_core_rate(text, assembly, part),
         Finding::TypeRoot(name) => push_two(text, b"type-root root ", name.items()),
         Finding::InLoop(one) => push_loop(text, view.system(), *one),
         Finding::UnusedEvent(event) => push_event(text, b"unused-event ", view.system(), *event),
@@ -404,7 +406,7 @@ fn push_in_modes(text: &mut Vec<u8>, assembly: &Assembly, part: &Part) -> Mem<()
     ensures { OnOk result (text.new.items ≡ text.old.items ++ (codes "in-modes " ++ part_text assembly.now part.now)) }
 {
     text.extend_from_slice(b"in-modes ")?;
-    push_own(text, assembly, part.component, part.name.text())
+    push_own(text, assembly, part.component, part.name.items())
 }
 
 /// Adds that a binding of a component is not read.
@@ -413,7 +415,7 @@ fn push_unread(text: &mut Vec<u8>, assembly: &Assembly, part: &Part) -> Mem<()>
 {
     text.extend_from_slice(b"unread-binding ")?;
     push_path(text, assembly, part.component)?;
-    push_two(text, b" ", part.name.text())
+    push_two(text, b" ", part.name.items())
 }
 
 /// Adds that a rate is said of no event.
@@ -423,6 +425,15 @@ fn push_rate(text: &mut Vec<u8>, assembly: &Assembly, rate: &UnusedRate) -> Mem<
     text.extend_from_slice(b"unused-rate ")?;
     push_path(text, assembly, rate.component)?;
     push_target(text, rate.target.items())
+}
+
+/// Adds that a rate stands in core text.
+fn push_core_rate(text: &mut Vec<u8>, assembly: &Assembly, part: &Part) -> Mem<()>
+    ensures { OnOk result (text.new.items ≡ text.old.items ++ (codes "unused-rate " ++ (path_text (path_at assembly.now part.now.component) ++ (codes " core:" ++ part.now.name)))) }
+{
+    text.extend_from_slice(b"unused-rate ")?;
+    push_path(text, assembly, part.component)?;
+    push_two(text, b" core:", part.name.items())
 }
 
 /// Adds that a path in a binding leads to nothing.

@@ -3,7 +3,7 @@
 ghost use Rattle.std.specs.Prelude.{◌≡◌, ◌++◌, IfOk, OnOk, false, flat_map, length, map, true};
 ghost use Rattle.plain_values.specs.Rising.{RisesWithin};
 ghost use Rattle.model_facts.specs.Assembly.{model_at};
-ghost use Rattle.model_review.specs.Findings.{bindings_told, dry_sides, hidden_flows, hidden_link, model_findings, never_out, no_links, no_sources, nowhere_out, of_components, open_ends, states_told, stops_of, text_findings, uneven_told, ways_told};
+ghost use Rattle.model_review.specs.Findings.{bindings_told, dry_sides, hidden_flows, hidden_link, leaves_of, model_findings, never_out, no_links, no_sources, nowhere_out, of_components, open_ends, rates_told, states_told, stops_of, stops_told, text_findings, uneven_told, ways_told};
 ghost use Rattle.event_rates.specs.Unused.{unused_rates};
 ghost use Rattle.stray_bindings.specs.Stray.{stray_bindings};
 ghost use Rattle.uneven_parts.specs.Quiet.{quiet_states};
@@ -13,13 +13,13 @@ ghost use Rattle.unread_parts.specs.Root.{root_implementations};
 ghost use Rattle.unread_parts.specs.Unread.{unread_parts};
 ghost use Rattle.unread_parts.specs.declared.unread.What.TheVariants as what;
 ghost use Rattle.model_review.specs.Told.{AreFindings};
-ghost use Rattle.model_review.specs.declared.finding.Finding.TheVariants.{InModes, NoLink, Quiet, StrayPath, StrayRate, TwoWays, TypeRoot, Unlike, UnreadBinding};
+ghost use Rattle.model_review.specs.declared.finding.Finding.TheVariants.{CoreRate, InModes, NoLink, Quiet, StrayPath, StrayRate, TwoWays, TypeRoot, Unlike, UnreadBinding};
 
 use crate::ends::{DrySides, Linked, NoSources, OpenEnds};
 use crate::finding::Finding;
 use crate::flows::HiddenFlows;
 use crate::links::{HiddenLinks, NotDeclaredThere};
-use crate::sides::{NeverOut, NowhereOut, Stops};
+use crate::sides::{Leaves, NeverOut, NowhereOut, Stops};
 use crate::states::{HiddenTransitions, NeverInState, UnusedStates};
 use crate::told::add_told;
 use crate::view::View;
@@ -71,7 +71,7 @@ fn add_hidden(alloc: Global, found: &mut List<Finding>, view: &View) -> Mem<()>
 /// looks at.
 fn add_ends(alloc: Global, found: &mut List<Finding>, view: &View) -> Mem<()>
     ensures { OnOk result (found.new ≡ found.old
-        ++ (of_components view.now (stops_of view.now)
+        ++ (stops_told view.now
         ++ (of_components view.now (nowhere_out view.now)
         ++ (ways_told view.now
         ++ (of_components view.now (open_ends view.now)
@@ -81,13 +81,21 @@ fn add_ends(alloc: Global, found: &mut List<Finding>, view: &View) -> Mem<()>
         ++ (states_told view.now
         ++ text_findings view.now))))))))) }
 {
-    add_of_components(alloc, found, view, &AtPoints(Stops))?;
+    add_stops(alloc, found, view)?;
     add_of_components(alloc, found, view, &AtPoints(NowhereOut))?;
     add_ways(alloc, found, view)?;
     add_inward(alloc, found, view)?;
     add_of_components(alloc, found, view, &AtPoints(NeverOut))?;
     add_states(alloc, found, view)?;
     add_text(alloc, found, view)
+}
+
+/// Adds the sides at which errors stop: at points without a sink, and at those with one, what no sink takes.
+fn add_stops(alloc: Global, found: &mut List<Finding>, view: &View) -> Mem<()>
+    ensures { OnOk result (found.new ≡ found.old ++ stops_told view.now) }
+{
+    add_of_components(alloc, found, view, &AtPoints(Stops))?;
+    add_of_components(alloc, found, view, &AtPoints(Leaves))
 }
 
 /// Adds the sides that errors enter from outside, those to which none comes, and those without a source.
@@ -195,14 +203,14 @@ fn add_unlinked(found: &mut List<Finding>, unlinked: &[Unlinked]) -> Mem<()>
     Ok(())
 }
 
-/// Adds what stands in modes, the bindings that are not read, the rates that are said of no event, and the implementations of a root that is a
+/// Adds what stands in modes, the bindings that are not read, the rates that count for no event, and the implementations of a root that is a
 /// component type.
 fn add_text(alloc: Global, found: &mut List<Finding>, view: &View) -> Mem<()>
     ensures { OnOk result (found.new ≡ found.old ++ text_findings view.now) }
 {
     add_in_modes(alloc, found, view)?;
     add_bindings(alloc, found, view)?;
-    add_unused_rates(alloc, found, view)?;
+    add_all_rates(alloc, found, view)?;
     add_of_type_root(alloc, found, view)
 }
 
@@ -246,6 +254,21 @@ fn add_unread_bindings(alloc: Global, found: &mut List<Finding>, view: &View) ->
     add_unread(alloc, found, parts.items())
 }
 
+/// Adds the rates that are said of no event, and those in core text.
+fn add_all_rates(alloc: Global, found: &mut List<Finding>, view: &View) -> Mem<()>
+    ensures { OnOk result (found.new ≡ found.old ++ rates_told view.now) }
+{
+    add_unused_rates(alloc, found, view)?;
+    add_core_rates(alloc, found, view)
+}
+
+fn add_core_rates(alloc: Global, found: &mut List<Finding>, view: &View) -> Mem<()>
+    ensures { OnOk result (found.new ≡ found.old ++ map CoreRate (unread_parts what.Rates view.now.numbered.assembly.instance)) }
+{
+    let parts = unread_parts(alloc, What::Rates, view.instance())?;
+    add_core(alloc, found, parts.items())
+}
+
 fn add_unused_rates(alloc: Global, found: &mut List<Finding>, view: &View) -> Mem<()>
     ensures { OnOk result (found.new ≡ found.old ++ map StrayRate (unused_rates view.now.numbered.assembly.instance view.now.system.events)) }
 {
@@ -283,6 +306,15 @@ fn add_rates(alloc: Global, found: &mut List<Finding>, rates: &[UnusedRate]) -> 
 {
     for rate in rates {
         found.push(Finding::StrayRate(rate.again(alloc)?))?;
+    }
+    Ok(())
+}
+
+fn add_core(alloc: Global, found: &mut List<Finding>, parts: &[Part]) -> Mem<()>
+    ensures { OnOk result (found.new ≡ found.old ++ map CoreRate parts.now) }
+{
+    for part in parts {
+        found.push(Finding::CoreRate(part.again(alloc)?))?;
     }
     Ok(())
 }

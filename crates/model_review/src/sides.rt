@@ -6,9 +6,9 @@ ghost use Rattle.error_libraries.specs.Search.{is_number_in};
 ghost use Rattle.propagation_points.specs.Uses.{covers};
 ghost use Rattle.model_facts.specs.Assembly.{model_at};
 ghost use Rattle.model_facts.specs.Facts.{inward_of, outward_of};
-ghost use Rattle.model_review.specs.Findings.{has_sink, if_any, is_sink_at, is_stopped, lost_types, nowhere_with, takes, types_at, types_where};
+ghost use Rattle.model_review.specs.Findings.{has_sink, if_any, is_left, is_sink_at, is_stopped, lost_types, nowhere_with, sink_takes, takes, types_at, types_where};
 ghost use Rattle.model_review.specs.Seen.{may_come, number_at};
-ghost use Rattle.model_review.specs.declared.finding.Finding.TheVariants.{Never, StopsHere};
+ghost use Rattle.model_review.specs.declared.finding.Finding.TheVariants.{Never, SinkLeaves, StopsHere};
 
 use crate::finding::{Finding, TypesAt, tell_unless};
 use crate::flows::{has_number, inward_of, outward_of};
@@ -168,6 +168,88 @@ fn is_sink_at(kind: &FlowKind, name: &[u8]) -> bool
         },
         FlowKind::Source(_, _, _) | FlowKind::Path(_, _, _, _, _) => false,
     }
+}
+
+// ---- what the sinks of a point leave
+
+/// The types that stop at a point with a sink, and that no sink takes there, if there are any.
+#[derive(Clone, Copy)]
+pub(crate) struct Leaves;
+
+impl PointFinding for Leaves {
+    ghost use Rattle.model_review.specs.Findings.{leave_at};
+
+    ghost finding = { λ _. leave_at };
+
+    fn tell(
+        &self,
+        alloc: Global,
+        found: &mut List<Finding>,
+        view: &View,
+        at: PointPlace,
+        point: &Point,
+    ) -> Mem<()> {
+        if !has_sink(view, at.owner, point) {
+            return Ok(());
+        }
+        add_left(alloc, found, view, at.owner, at.number)
+    }
+}
+
+/// Adds the types that stop at a point, and that no sink takes there.
+fn add_left(
+    alloc: Global,
+    found: &mut List<Finding>,
+    view: &View,
+    owner: u32,
+    number: u32,
+) -> Mem<()>
+    ensures { OnOk result (found.new ≡ found.old ++ if_any (λ types. SinkLeaves (types_at (inward_of owner number) types)) (types_where view.now (inward_of owner number) (is_left view.now owner number))) }
+{
+    let types = left_types(alloc, view, owner, number)?;
+    let side = inward_of(owner, number);
+    let at = TypesAt { side, types };
+    tell_unless(found, at.is_empty(), Finding::SinkLeaves(at))
+}
+
+/// The types that stop at a point, and that no sink takes there.
+fn left_types(alloc: Global, view: &View, owner: u32, number: u32) -> Mem<List<u32>>
+    ensures { IfOk result (λ types. types ≡ types_where view.now (inward_of owner number) (is_left view.now owner number)) }
+{
+    let mut types = List::new(alloc);
+    for kind in view.types(inward_of(owner, number)) {
+        types.push_if(*kind, is_left(view, owner, number, *kind))?;
+    }
+    Ok(types)
+}
+
+/// Whether a type stops at a point, and no sink takes it there.
+fn is_left(view: &View, owner: u32, number: u32, kind: u32) -> bool
+    ensures { result ≡ is_left view.now owner number kind }
+{
+    is_stopped(view, owner, number, kind) && !has_taking(view, owner, number, kind)
+}
+
+/// Whether a sink of a component takes a type that comes in at a point.
+fn has_taking(view: &View, owner: u32, number: u32, kind: u32) -> bool
+    ensures { result ≡ list_any (sink_takes number kind) (model_at view.now.numbered.assembly owner).sinks }
+{
+    match view.model(owner) {
+        Some(model) => is_sunk(number, kind, model.sinks.items()),
+        None => false,
+    }
+}
+
+/// Whether one of these sinks takes a type that comes in at a point.
+fn is_sunk(number: u32, kind: u32, sinks: &[ReachedPoint]) -> bool
+    ensures { result ≡ list_any (sink_takes number kind) sinks.now }
+{
+    for sink in sinks {
+        if begins(sink, number, kind) {
+            return true;
+        }
+    }
+    false
 }
 
 // ---- what leads nowhere

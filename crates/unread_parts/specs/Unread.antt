@@ -1,5 +1,5 @@
--- What stands in the text of a model and is not looked at, though errors may depend on it: members and bindings that stand in modes, and
--- bindings that are not read (AADL: modes, deployment properties).
+-- What stands in the text of a model and is not looked at, though errors may depend on it: members and bindings that stand in modes,
+-- bindings that are not read, and rates in core text (AADL: modes, deployment properties; EMV2: `OccurrenceDistribution`).
 use Rattle.std.specs.Prelude.{ℕ, suc, ◌-◌, Bool, true, false, cond, ◌&&◌, ◌||◌, not, List, [], ◌∷◌, ◌++◌, codes, drop, flat_map, length, map, Option, Some, None}
 use Rattle.aadl_syntax.specs.declared.core_model.Binding.{Binding}
 use Rattle.aadl_syntax.specs.declared.core_model.BindingKind.{BindingKind}
@@ -9,6 +9,8 @@ use Rattle.aadl_syntax.specs.declared.core_model.Decl.{Decl}
 use Rattle.aadl_syntax.specs.declared.core_model.PackageUnit.{PackageUnit}
 use Rattle.aadl_syntax.specs.declared.core_model.Subcomponent.{Subcomponent}
 use Rattle.aadl_syntax.specs.declared.token.Token.{Token}
+use Rattle.aadl_syntax.specs.declared.token.TokenKind.{TokenKind}
+use Rattle.aadl_syntax.specs.declared.token.TokenKind.TheVariants.{AnnexRaw, Text}
 use Rattle.plain_values.specs.Name.{is_same_text}
 use Rattle.plain_values.specs.Numbered.{numbered_from}
 use Rattle.profiles.specs.declared.profile.Profile.{Profile}
@@ -16,7 +18,7 @@ use Rattle.profiles.specs.Profiles.{is_first}
 use Rattle.grammar_rules.specs.Rules.{Rule, chooses, gives, ◌>>=◌}
 use Rattle.grammar_rules.specs.Running.{Outcome, read, dead, run}
 use Rattle.grammar_rules.specs.Spans.{until}
-use Rattle.grammar_rules.specs.Tokens.{identifier, is_sign, is_word, sign}
+use Rattle.grammar_rules.specs.Tokens.{identifier, is_sign, is_word, sign, word}
 use Rattle.bindings.specs.Bindings.{piece_binding}
 use Rattle.bindings.specs.Pieces.{behind_brace, section_pieces}
 use Rattle.component_extension.specs.Items.{classes_of}
@@ -26,7 +28,7 @@ use Rattle.instantiator.specs.declared.path.Component.{Component}
 use Rattle.instantiator.specs.Whole.{Instance, effective_in}
 use Rattle.unread_parts.specs.declared.unread.Part.{Part}
 use Rattle.unread_parts.specs.declared.unread.What.{What}
-use Rattle.unread_parts.specs.declared.unread.What.TheVariants.{InModes, Unread}
+use Rattle.unread_parts.specs.declared.unread.What.TheVariants.{InModes, Rates, Unread}
 
 -- ---- modes
 
@@ -89,39 +91,105 @@ reads profile braced (Some binding) = not (is_first profile) || (not braced && i
 abbrev pub is_told : What → Bool → List Token → Bool
 is_told InModes braced piece = has_modes piece
 is_told (Unread profile) braced piece = not (reads profile braced (piece_binding braced piece))
+is_told Rates braced piece = false
 
--- the name of a piece whose property has this name, if it has one, where it is told of a binding
-abbrev pub told_named : What → Bool → List Token → Option (List ℕ) → List (List ℕ)
-told_named what braced piece None = []
-told_named what braced piece (Some name) = cond (is_binding_name name && is_told what braced piece) (name ∷ []) []
+-- the name of a piece whose property has this name, where it is told of a binding
+abbrev pub told_binding : What → Bool → List Token → List ℕ → List (List ℕ)
+told_binding what braced piece name = cond (is_binding_name name && is_told what braced piece) (name ∷ []) []
 
--- the name of a piece that is told of a binding
-abbrev pub told_piece : What → Bool → List Token → List (List ℕ)
-told_piece what braced piece = told_named what braced piece (name_of piece)
+-- ---- rates
 
--- the names of those of a `properties` section
+-- whether a property is that of rates by its name
+abbrev pub is_rate_name : List ℕ → Bool
+is_rate_name name = is_same_text name (codes "occurrencedistribution")
+
+-- a run stops at the word `to` behind the word `applies`
+unfoldable pub ends_applies : Option Token → Token → Bool
+ends_applies None token = false
+ends_applies (Some before) token = is_word (codes "applies") before && is_word (codes "to") token
+
+-- a run stops at the word `in`, and at a semicolon
+unfoldable pub ends_path : Option Token → Token → Bool
+ends_path before token = is_word (codes "in") token || is_sign (codes ";") token
+
+-- what stands behind `applies to`, which is outside of brackets, up to `in` or to the semicolon
+unfoldable pub applied : Rule (List Token)
+applied = do
+  _ ← until ends_applies
+  _ ← word (codes "to")
+  until ends_path
+
+-- the text of a token of this kind; strings and the text of an annex, which may have lines, are left out
+abbrev pub kept_text : TokenKind → List ℕ → List ℕ
+kept_text Text text = []
+kept_text AnnexRaw text = []
+kept_text _ text = text
+
+-- the texts of tokens, without blanks
+abbrev pub joined : List Token → List ℕ
+joined tokens = flat_map (λ token. kept_text token.kind token.text) tokens
+
+-- the text of a reading, if there is one
+abbrev pub path_read : Outcome (List Token) → Option (List ℕ)
+path_read (read tokens rest unseen) = Some (joined tokens)
+path_read (dead unseen) = None
+
+-- the path that a piece applies to, or the paths with their commas, as they stand; if it applies to any
+abbrev pub applied_path : List Token → Option (List ℕ)
+applied_path piece = path_read (run 0 applied piece (suc (length piece)))
+
+-- What a rate is said of that applies to this path, if it applies to any: in braces behind a member of that, or of the path in it; in a
+-- section of the path, or of nothing.
+abbrev pub said_of : Bool → List ℕ → Option (List ℕ) → List ℕ
+said_of true member None = member
+said_of true member (Some path) = member ++ (codes "." ++ path)
+said_of false member None = codes "-"
+said_of false member (Some path) = path
+
+-- what a piece whose property has this name is said of, where that is the property of rates
+abbrev pub told_rate : Bool → List ℕ → List Token → List ℕ → List (List ℕ)
+told_rate braced member piece name = cond (is_rate_name name) (said_of braced member (applied_path piece) ∷ []) []
+
+-- ---- pieces
+
+-- what is told of a piece whose property has this name: of a binding its name, and of a rate what it is said of
+abbrev pub told_so : What → Bool → List ℕ → List Token → List ℕ → List (List ℕ)
+told_so InModes braced member piece name = told_binding InModes braced piece name
+told_so (Unread profile) braced member piece name = told_binding (Unread profile) braced piece name
+told_so Rates braced member piece name = told_rate braced member piece name
+
+-- the same, if it has a name
+abbrev pub told_named : What → Bool → List ℕ → List Token → Option (List ℕ) → List (List ℕ)
+told_named what braced member piece None = []
+told_named what braced member piece (Some name) = told_so what braced member piece name
+
+-- what is told of a piece of a section, or of what stands in braces behind a member
+abbrev pub told_piece : What → Bool → List ℕ → List Token → List (List ℕ)
+told_piece what braced member piece = told_named what braced member piece (name_of piece)
+
+-- what is told of a `properties` section
 abbrev pub told_section : What → List Token → List (List ℕ)
-told_section what tokens = flat_map (told_piece what false) (section_pieces tokens)
+told_section what tokens = flat_map (told_piece what false []) (section_pieces tokens)
 
--- the names of those that stand in braces among the tokens behind a member
-abbrev pub told_braces : What → List Token → List (List ℕ)
-told_braces what tokens = flat_map (told_piece what true) (section_pieces (behind_brace tokens))
+-- what is told of what stands in braces among the tokens behind a member
+abbrev pub told_braces : What → List ℕ → List Token → List (List ℕ)
+told_braces what member tokens = flat_map (told_piece what true member) (section_pieces (behind_brace tokens))
 
--- the names of those in braces behind subcomponents
+-- what is told of the braces behind subcomponents
 unfoldable pub told_subcomponents : What → List Subcomponent → List (List ℕ)
-told_subcomponents what subcomponents = flat_map (λ subcomponent. told_braces what subcomponent.tail) subcomponents
+told_subcomponents what subcomponents = flat_map (λ subcomponent. told_braces what subcomponent.name subcomponent.tail) subcomponents
 
--- the names of those in braces behind connections
+-- what is told of the braces behind connections
 unfoldable pub told_connections : What → List Connection → List (List ℕ)
-told_connections what connections = flat_map (λ connection. told_braces what connection.tail) connections
+told_connections what connections = flat_map (λ connection. told_braces what connection.name connection.tail) connections
 
--- the names of those in braces behind the subcomponents of a classifier, and then behind its connections
+-- what is told of the braces behind the subcomponents of a classifier, and then behind its connections
 abbrev pub told_behind : What → Decl → List (List ℕ)
 told_behind what decl = told_subcomponents what decl.subcomponents ++ told_connections what decl.connections
 
--- the names of those of a classifier: of its sections, and in braces behind its members
-abbrev pub told_bindings : What → Class → List (List ℕ)
-told_bindings what class = flat_map (told_section what) class.item.properties ++ told_behind what class.item
+-- what is told of the properties of a classifier: of its sections, and in braces behind its members
+abbrev pub told_properties : What → Class → List (List ℕ)
+told_properties what class = flat_map (told_section what) class.item.properties ++ told_behind what class.item
 
 -- ---- members
 
@@ -137,14 +205,15 @@ modal_connection member = cond (has_modes member.nearest.item.tail) (member.near
 abbrev pub told_members : What → Effective → List (List ℕ)
 told_members InModes effective = flat_map modal_subcomponent effective.members.subcomponents ++ flat_map modal_connection effective.members.connections
 told_members (Unread profile) effective = []
+told_members Rates effective = []
 
 -- ---- the model
 
--- the names of what is told of an effective classifier: its members, and then its bindings
+-- what is told of an effective classifier: its members, and then its properties
 abbrev pub told_names : What → List PackageUnit → Effective → List (List ℕ)
-told_names what packages effective = told_members what effective ++ flat_map (told_bindings what) (classes_of packages effective.chain)
+told_names what packages effective = told_members what effective ++ flat_map (told_properties what) (classes_of packages effective.chain)
 
--- these names, of the component of a number
+-- these texts, of the component of a number
 abbrev pub parts_at : ℕ → List (List ℕ) → List Part
 parts_at number names = map (λ name. record { component = number; name = name }) names
 
@@ -152,7 +221,7 @@ parts_at number names = map (λ name. record { component = number; name = name }
 abbrev pub told_of : What → Instance → ℕ → Component → List Part
 told_of what instance number component = parts_at number (told_names what instance.packages (effective_in instance number))
 
--- What is told of an instance, one component after the other: the subcomponents, connections and bindings that stand in modes, or the
--- bindings that a profile does not read.
+-- What is told of an instance, one component after the other: the subcomponents, connections and bindings that stand in modes, the
+-- bindings that a profile does not read, or what the rates in its core text are said of.
 abbrev pub unread_parts : What → Instance → List Part
 unread_parts what instance = numbered_from (told_of what instance) 0 instance.components

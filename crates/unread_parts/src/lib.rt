@@ -1,9 +1,10 @@
-//! What stands in the text of a model and is not looked at, though errors may depend on it: what is in modes, and bindings that are not
-//! read.
+//! What stands in the text of a model and is not looked at, though errors may depend on it: what is in modes, bindings that are not read, and
+//! rates in core text.
 #![tactic(auto)]
 
 mod modes;
 mod pieces;
+mod rates;
 mod root;
 mod unread;
 

@@ -1,21 +1,22 @@
-//! The pieces of sections and of what stands in braces that are told.
+//! What is told of the pieces of sections, and of what stands in braces.
 
-ghost use Rattle.std.specs.Prelude.{◌≡◌, ◌++◌, ◌∷◌, ◌&&◌, [], IfOk, OnOk, cond};
+ghost use Rattle.std.specs.Prelude.{◌≡◌, ◌++◌, ◌∷◌, [], IfOk, OnOk, cond, option_to_list};
 ghost use Rattle.grammar_rules.specs.inner.Reader.{Gives};
-ghost use Rattle.unread_parts.specs.Unread.{is_binding_name, is_of_components, is_told, name_behind, name_of, property_name, reads, told_braces, told_piece, told_section};
+ghost use Rattle.unread_parts.specs.Unread.{is_binding_name, is_of_components, is_told, name_behind, name_of, property_name, reads, told_binding, told_braces, told_piece, told_section, told_so};
 
 use crate::modes::has_modes;
+use crate::rates::told_rate;
 use crate::unread::What;
 use aadl_syntax::{Binding, BindingKind, Identifier, TokenList, TokenSlice};
 use bindings::{behind_brace, piece_binding, section_pieces};
 use grammar_rules::{ReadError, Reader};
-use plain_values::{List, Mem, is_same};
+use plain_values::{List, Mem, Name, copied, is_same};
 use profiles::Profile;
 use std::alloc::{AllocError, Global};
 
-/// Adds the names of the pieces of a `properties` section that are told.
+/// Adds what is told of a `properties` section.
 pub(crate) fn add_section(
-    names: &mut List<Identifier>,
+    names: &mut List<Name>,
     alloc: Global,
     what: What,
     tokens: &TokenList,
@@ -23,58 +24,88 @@ pub(crate) fn add_section(
     ensures { OnOk result (names.new ≡ names.old ++ told_section what tokens.now) }
 {
     for piece in section_pieces(alloc, TokenSlice::of(tokens))?.items() {
-        add_piece(names, alloc, what, false, piece)?;
+        add_piece(names, alloc, what, false, b"", piece)?;
     }
     Ok(())
 }
 
-/// Adds the names of those that stand in braces among the tokens behind a member.
+/// Adds what is told of what stands in braces among the tokens behind the member of a name.
 pub(crate) fn add_braces(
-    names: &mut List<Identifier>,
+    names: &mut List<Name>,
     alloc: Global,
     what: What,
+    member: &[u8],
     tokens: &TokenList,
 ) -> Mem<()>
-    ensures { OnOk result (names.new ≡ names.old ++ told_braces what tokens.now) }
+    ensures { OnOk result (names.new ≡ names.old ++ told_braces what member.now tokens.now) }
 {
     for piece in section_pieces(alloc, behind_brace(tokens))?.items() {
-        add_piece(names, alloc, what, true, piece)?;
+        add_piece(names, alloc, what, true, member, piece)?;
     }
     Ok(())
 }
 
-/// Adds the name of a piece that is told of a binding.
+/// Adds what is told of a piece of a section, or of what stands in braces behind the member of a name.
 fn add_piece(
-    names: &mut List<Identifier>,
+    names: &mut List<Name>,
     alloc: Global,
     what: What,
     braced: bool,
+    member: &[u8],
     piece: &TokenList,
 ) -> Mem<()>
-    ensures { OnOk result (names.new ≡ names.old ++ told_piece what braced piece.now) }
+    ensures { OnOk result (names.new ≡ names.old ++ told_piece what braced member.now piece.now) }
 {
     match name_of(alloc, piece)? {
-        Some(name) => add_named(names, alloc, what, braced, piece, name),
+        Some(name) => {
+            let told = told_so(alloc, what, braced, member, piece, name.text())?;
+            names.push_some(told)
+        }
         None => Ok(()),
     }
 }
 
-/// Adds the name of a piece whose property has it, where it is told of a binding.
-fn add_named(
-    names: &mut List<Identifier>,
+/// What is told of a piece whose property has this name, if anything is.
+fn told_so(
+    alloc: Global,
+    what: What,
+    braced: bool,
+    member: &[u8],
+    piece: &TokenList,
+    name: &[u8],
+) -> Mem<Option<Name>>
+    ensures { IfOk result (λ told. option_to_list told ≡ told_so what braced member.now piece.now name.now) }
+{
+    match what {
+        What::Rates => told_rate(alloc, braced, member, piece, name),
+        What::InModes | What::Unread(_) => told_binding(alloc, what, braced, piece, name),
+    }
+}
+
+/// The name of a piece whose property has it, where it is told of a binding.
+fn told_binding(
     alloc: Global,
     what: What,
     braced: bool,
     piece: &TokenList,
-    name: Identifier,
-) -> Mem<()>
-    ensures { OnOk result (names.new ≡ names.old ++ cond (is_binding_name name && is_told what braced piece.now) (name ∷ []) []) }
+    name: &[u8],
+) -> Mem<Option<Name>>
+    ensures { IfOk result (λ told. option_to_list told ≡ told_binding what braced piece.now name.now) }
 {
-    if is_binding_name(name.text()) {
-        let told = is_told(alloc, what, braced, piece)?;
-        names.push_if(name, told)?;
+    if !is_binding_name(name) {
+        return Ok(None);
     }
-    Ok(())
+    let told = is_told(alloc, what, braced, piece)?;
+    name_if(alloc, told, name)
+}
+
+fn name_if(alloc: Global, told: bool, name: &[u8]) -> Mem<Option<Name>>
+    ensures { IfOk result (λ its. option_to_list its ≡ cond told (name.now ∷ []) []) }
+{
+    if told {
+        return Ok(Some(copied(alloc, name)?));
+    }
+    Ok(None)
 }
 
 /// The name of the property of a piece, if it begins with one.
@@ -126,6 +157,7 @@ fn is_told(alloc: Global, what: What, braced: bool, piece: &TokenList) -> Mem<bo
             let binding = piece_binding(alloc, braced, piece)?;
             Ok(!reads(profile, braced, &binding))
         }
+        What::Rates => Ok(false),
     }
 }
 

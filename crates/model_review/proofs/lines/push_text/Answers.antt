@@ -18,6 +18,12 @@ returns-in-StopsHere c =
     subst (λ (f : Finding). OnOk c.push_at.result (c.push_at.new.text.items ≡ text ++ finding_text c.args.view.now f)) (sym c.in-StopsHere.is)
     (subst (λ (a : Assembly). OnOk c.push_at.result (c.push_at.new.text.items ≡ text ++ (codes "stops-here " ++ types_text a c.in-StopsHere.at))) c.assembly-assembly.ensures c.push_at.ensures)
 
+pub returns-in-SinkLeaves : goal.returns-in-SinkLeaves
+returns-in-SinkLeaves c =
+    let text = c.args.text.now.items in
+    subst (λ (f : Finding). OnOk c.push_at-in-SinkLeaves.result (c.push_at-in-SinkLeaves.new.text.items ≡ text ++ finding_text c.args.view.now f)) (sym c.in-SinkLeaves.is)
+    (subst (λ (a : Assembly). OnOk c.push_at-in-SinkLeaves.result (c.push_at-in-SinkLeaves.new.text.items ≡ text ++ (codes "sink-leaves " ++ types_text a c.in-SinkLeaves.at))) c.assembly-assembly.ensures c.push_at-in-SinkLeaves.ensures)
+
 pub returns-in-GoesNowhere : goal.returns-in-GoesNowhere
 returns-in-GoesNowhere c =
     let text = c.args.text.now.items in
