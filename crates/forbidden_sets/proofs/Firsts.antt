@@ -17,10 +17,11 @@ use Rattle.zdd_families.proofs.Joins.{filter_member, member_filter}
 use Rattle.zdd_families.proofs.Covers.{covers_member, member_covers}
 use Rattle.zdd_families.proofs.Subsets.{has_none}
 use Rattle.cutset_engine.proofs.CutSets.{has-set_of}
-use Rattle.requirement_verdicts.specs.inner.Meanings.{ContainsNone}
+use Rattle.requirement_verdicts.specs.Meanings.{ContainsNone}
 use Rattle.requirement_names.specs.declared.named.SetSentence.{SetSentence}
 use Rattle.requirement_names.specs.declared.named.SetSentence.TheVariants.{Mixed, Order, Possible}
-use Rattle.requirement_verdicts.specs.inner.Verdicts.{ForbidsNone, HasNoMinimal, IsFirstForbidden, IsFirstMinimal}
+use Rattle.requirement_verdicts.specs.Verdicts.{IsFirstMinimal}
+use Rattle.requirement_verdicts.specs.inner.Verdicts.{ForbidsNone, HasNoMinimal, IsFirstForbidden}
 use Rattle.forbidden_sets.specs.inner.Families.{HasOthers, HasSizes, HasThoseWith, IsFirstOf, IsHead, IsOther}
 use Rattle.forbidden_sets.proofs.Parts.{rises-rising}
 

@@ -10,7 +10,7 @@ ghost use Rattle.fault_system.specs.CutSets.{IsEventSet};
 ghost use Rattle.zdd_store.specs.inner.Store.{Keeps};
 ghost use Rattle.requirement_names.specs.inner.Named.{FitsSets};
 ghost use Rattle.requirement_names.specs.declared.named.SetSentence.TheVariants.{Mixed, Never, Order, Without};
-ghost use Rattle.requirement_verdicts.specs.inner.Meanings.{HoldsAnyway};
+ghost use Rattle.requirement_verdicts.specs.Meanings.{HoldsAnyway};
 ghost use Rattle.requirement_verdicts.specs.inner.Verdicts.{ForbidsNone, IsFirstForbidden};
 ghost use Rattle.forbidden_sets.specs.inner.Families.{IsJudged, single};
 

@@ -4,8 +4,9 @@ ghost use Rattle.std.specs.Prelude.{◌≡◌, ◌++◌, ◌∷◌, ◌<◌, ◌
 ghost use Rattle.std.specs.List.{AllByRecursion};
 ghost use Rattle.zdd_store.specs.inner.Family.{Family, IsRising};
 ghost use Rattle.zdd_store.specs.inner.Store.{IsIn, Keeps, family_of};
-ghost use Rattle.requirement_verdicts.specs.inner.Meanings.{HoldsAnyway};
-ghost use Rattle.requirement_verdicts.specs.inner.Verdicts.{HasNoMinimal, IsFirstMinimal};
+ghost use Rattle.requirement_verdicts.specs.Meanings.{HoldsAnyway};
+ghost use Rattle.requirement_verdicts.specs.Verdicts.{IsFirstMinimal};
+ghost use Rattle.requirement_verdicts.specs.inner.Verdicts.{HasNoMinimal};
 ghost use Rattle.forbidden_sets.specs.inner.Families.{HasSizes, IsFirstOf, IsHead, IsJudged, IsOther};
 
 use crate::families::other_sets;

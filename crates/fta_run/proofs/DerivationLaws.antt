@@ -11,7 +11,8 @@ use Rattle.system_answers.specs.Targets.{IsFactNamed}
 use Rattle.system_answers.specs.Voices.{Voice}
 use Rattle.system_answers.proofs.Derived.{accepted-holds, why-confirmed}
 use Rattle.fta_run.specs.Forms.{profile_of}
-use Rattle.fta_run.specs.Due.{model_of_texts, other_texts, request_text, texts_of}
+use Rattle.fta_run.specs.Due.{model_of_texts, other_texts, texts_of}
+use Rattle.fta_run.specs.inner.Texts.{request_text}
 use Rattle.fta_run.specs.Files.{too_long_from}
 use Rattle.fta_run.specs.inner.Files.{StandsBefore, ask}
 use Rattle.fta_run.specs.Words.{Request}

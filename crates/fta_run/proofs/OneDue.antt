@@ -37,9 +37,9 @@ use Rattle.system_answers.specs.declared.form.TreeForm.{TreeForm}
 use Rattle.system_answers.proofs.Derived.{confirm_decided, why_decided}
 use Rattle.system_answers.proofs.Decided.{cuts_decided, drawn_decided, galileo_paths_text_decided, galileo_text_decided, listing_decided, named_tree_decided, paths_decided, rated_decided, report_decided, slice_decided, target_decided, tree_decided, tree_for_decided}
 use Rattle.page_tokens.specs.Keys.{asked_digits}
-use Rattle.fta_run.specs.Due.{confirmed_in, cuts_in, due, first_text, galileo_in, is_require, made_of_texts, made_root, made_target, make_text, model_of_texts, other_texts, output_for, output_with, request_text, require_in, required_in, sets_of_tree, sized_text, text_by, texts_of, units_of, within_limits}
+use Rattle.fta_run.specs.Due.{confirmed_in, cuts_in, due, first_text, galileo_in, is_require, made_of_texts, made_root, made_target, make_text, model_of_texts, other_texts, output_for, output_with, require_in, required_in, sets_of_tree, sized_text, text_by, texts_of, units_of, within_limits}
+use Rattle.fta_run.specs.inner.Texts.{request_text, text_due}
 use Rattle.fta_run.specs.Required.{Output}
-use Rattle.fta_run.specs.inner.Steps.{text_due}
 use Rattle.fta_run.proofs.RequiredLaws.{required-decided}
 use Rattle.target_orders.specs.Text.{TellsOrders}
 use Rattle.target_orders.proofs.Said.{one-text}

@@ -42,7 +42,8 @@ use Rattle.page_tokens.specs.Keys.{asked_digits}
 use Rattle.page_tokens.specs.Starts.{IsStale, LacksStart as LacksBegin}
 use Rattle.path_sets.specs.PathSets.{HasLargePaths}
 use Rattle.system_answers.specs.inner.Ends.{EndsReports}
-use Rattle.fta_run.specs.Due.{confirmed_in, cuts_in, due, first_text, galileo_in, is_require, made_of_texts, made_root, made_target, make_text, model_of_texts, other_texts, output_for, output_with, report_in, request_text, require_in, required_in, sets_of_tree, sized_text, text_by, text_for, texts_of, within_limits}
+use Rattle.fta_run.specs.Due.{confirmed_in, cuts_in, due, first_text, galileo_in, is_require, made_of_texts, made_root, made_target, make_text, model_of_texts, other_texts, output_for, output_with, report_in, require_in, required_in, sets_of_tree, sized_text, text_by, texts_of, within_limits}
+use Rattle.fta_run.specs.inner.Texts.{request_text, text_due, text_for}
 use Rattle.fta_run.specs.Required.{Output, with_all_met}
 use Rattle.fta_run.specs.Forms.{drawn_words, is_drawn, is_merging, is_wide, picture_legend, profile_of, tree_form, tree_words}
 use Rattle.fta_words.specs.declared.command.Options.{Options}
@@ -53,7 +54,7 @@ use Rattle.model_maker.specs.Text.{text_of as made_text}
 use Rattle.cut_reports.specs.Places.{AtChosen}
 use Rattle.fta_run.specs.Answers.{AllTold, AnswersWords, BeginsWithMemory, IsCaused, IsJustified, IsManyAnswer, IsOutput, IsSameStatus, MayCome, Took, is_by_lines}
 use Rattle.fta_run.specs.inner.Held.{IsReadEnd}
-use Rattle.fta_run.specs.inner.Steps.{AsksLines, IsExcused, Runs, ended, text_due}
+use Rattle.fta_run.specs.inner.Steps.{AsksLines, IsExcused, Runs, ended}
 use Rattle.fta_words.proofs.Requests.{file_words_are, one_request}
 use Rattle.fta_outside.specs.Outside.{Rose, Seen, TookPrefix}
 use Rattle.fta_outside.specs.inner.Outside.{LacksMemory}

@@ -19,21 +19,22 @@ use Rattle.backward_slice.specs.Slices.{HasLargeSlice, IsServed}
 use Rattle.system_answers.proofs.Decided.{slice_decided}
 use Rattle.requirements.specs.declared.reading.Requirement.{Requirement}
 use Rattle.requirements.specs.declared.reading.Requirements.{Requirements}
-use Rattle.requirements.specs.inner.Requirements.{requirements_of}
+use Rattle.requirements.specs.Requirements.{requirements_of}
 use Rattle.requirement_names.specs.declared.mistake.WrongWord.{WrongWord}
 use Rattle.requirement_names.specs.declared.named.NamedRequirement.{NamedRequirement}
 use Rattle.requirement_names.specs.declared.named.NamedSentence.{NamedSentence}
 use Rattle.requirement_names.specs.declared.named.NamedSentence.TheVariants.{OfSets, Probability}
-use Rattle.requirement_names.specs.inner.Named.{AreNamed, named_requirements}
+use Rattle.requirement_names.specs.Named.{named_requirements}
+use Rattle.requirement_names.specs.inner.Named.{AreNamed}
 use Rattle.requirement_verdicts.specs.declared.verdict.Verdict.{Verdict}
-use Rattle.requirement_verdicts.specs.inner.Verdicts.{IsVerdict}
+use Rattle.requirement_verdicts.specs.Verdicts.{IsVerdict}
 use Rattle.requirement_verdicts.proofs.OneVerdict.{one-verdict}
 use Rattle.requirement_lines.specs.declared.judgement.Judgement.{Judgement}
 use Rattle.requirement_lines.specs.declared.told.RequirementFault.{RequirementFault}
 use Rattle.requirement_lines.specs.declared.told.RequirementFault.TheVariants as fault
 use Rattle.requirement_lines.specs.declared.told.Told.{Told}
 use Rattle.requirement_lines.specs.inner.Judged.{CanBeJudged, IsFirstUnjudged, IsJudgedSo, IsOfProbability, IsRefusedFor, IsVerdictOn, TellsRequirements}
-use Rattle.requirement_lines.specs.inner.Lines.{are_met, verdicts_text}
+use Rattle.requirement_lines.specs.Lines.{are_met, verdicts_text}
 use Rattle.fta_run.specs.Required.{HasLargeSliceAt, Output, byte_place, judgement_of, judgements_of, line_form, mistake_code, named_of, named_with, placed_at, read_as, required_text, verdict_on}
 use Rattle.fta_run.specs.inner.Required.{output_of, status_of_fault}
 
@@ -47,8 +48,8 @@ named-so : (system : System) (all : Requirements) (named : List NamedRequirement
 named-so system all named are =
     ap (λ (first : Option WrongWord). named_with system all first all.requirements) are.none_wrong ∙ named-some system all all.requirements are.some
     ∙ ap (λ (its : List NamedRequirement). answer its) (sym are.each) where
-  answer : List NamedRequirement → Result (List NamedRequirement) Refusal
-  answer its = Ok its
+      answer : List NamedRequirement → Result (List NamedRequirement) Refusal
+      answer its = Ok its
 
 module _ (system : System) where
   verdict-passes : (target at : ℕ) (sentence : NamedSentence) (verdict : Verdict) → IsVerdictOn system target sentence verdict → Passed (verdict_on system target at sentence) verdict
@@ -115,7 +116,7 @@ module _ (system : System) where
             ap (λ (first : Option WrongWord). named_with system all first all.requirements) is.2.0 ∙ ap (λ (its : List Requirement). named_with system all None its) is.2.1,
             refl,
           ),
-        )
+        );
       })
   refused-stops text tap (fault.TooLarge large at) is =
       let says = is.says in
@@ -129,7 +130,7 @@ module _ (system : System) where
             named-so system says.all is.named says.are_named,
             inl (first-stops is.named (fault.TooLarge large at) (Refused (placed_at at large)) first (large-stops first.one large at first.here.0 first.here.1)),
           ),
-        )
+        );
       })
   refused-stops text tap (fault.Unserved at) is =
       let says = is.says in
@@ -143,7 +144,7 @@ module _ (system : System) where
             named-so system says.all is.named says.are_named,
             inl (first-stops is.named (fault.Unserved at) (Refused (refusal BadRequirement (byte_place at))) first (unserved-stops first.one at first.here.0 first.here.1 first.here.2)),
           ),
-        )
+        );
       })
 
 -- ---- there is one end
@@ -155,10 +156,10 @@ module _ (Same : Status → Status → Type 0) (itself : (status : Status) → S
       decided_rejects Same (IsServed system target) (HasLargeSliceAt system target at) its.one_value
       (λ slice refusal served large. its.apart slice (Refused large.0) served (large.0, large.1, refl))
       (λ a b x y.
-          let same : Refused x.0 ≡ Refused y.0 = its.one_stop (Refused x.0) (Refused y.0) (x.0, x.1, refl) (y.0, y.1, refl) in
-          let one : x.0 ≡ y.0 = cc (same) in
-          let equal : a ≡ b = x.2 ∙ ap (placed_at at) one ∙ sym y.2 in
-          subst (λ (its : Refusal). Same (Refused a) (Refused its)) equal (itself (Refused a)))
+      let same : Refused x.0 ≡ Refused y.0 = its.one_stop (Refused x.0) (Refused y.0) (x.0, x.1, refl) (y.0, y.1, refl) in
+      let one : x.0 ≡ y.0 = cc (same) in
+      let equal : a ≡ b = x.2 ∙ ap (placed_at at) one ∙ sym y.2 in
+      subst (λ (its : Refusal). Same (Refused a) (Refused its)) equal (itself (Refused a)))
 
   verdict-decided : (target at : ℕ) (sentence : NamedSentence) → IsDecided Same (verdict_on system target at sentence)
   verdict-decided target at (OfSets sentence) = decided_accepts Same (IsVerdict system target sentence) (one-verdict system target sentence)

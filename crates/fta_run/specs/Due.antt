@@ -279,16 +279,6 @@ text_by profile kind.Explain voices asked texts = yields (explain_text asked.tar
 text_by profile kind.Help voices asked texts = yields (help_text asked.of)
 text_by profile kind.Version voices asked texts = yields version_text
 
--- the same by the profile that the options say
-abbrev pub text_for : Kind → List Voice → Request → List (List ℕ) → Phase (List ℕ)
-text_for kind voices asked texts = text_by (profile_of asked.options.form) kind voices asked texts
-
--- the text of a request, where this is what the files contain, and these are the reports
-abbrev pub request_text : (List ℕ → Option (List ℕ)) → List Voice → Request → Phase (List ℕ)
-request_text contents voices asked = do
-  texts ← texts_of contents asked.files
-  text_for asked.kind voices asked texts
-
 -- ---- what is due
 
 -- whether a command tells of requirements

@@ -12,21 +12,21 @@ use Rattle.fault_system.specs.Systems.{System}
 use Rattle.backward_slice.specs.Slices.{HasLargeSlice, IsServed}
 use Rattle.requirements.specs.declared.reading.Requirement.{Requirement}
 use Rattle.requirements.specs.declared.reading.Requirements.{Requirements}
-use Rattle.requirements.specs.inner.Requirements.{requirements_of}
+use Rattle.requirements.specs.Requirements.{requirements_of}
 use Rattle.requirement_names.specs.declared.mistake.Mistake.{Mistake}
 use Rattle.requirement_names.specs.declared.mistake.Mistake.TheVariants.{DuplicateName, UnknownTarget, UnknownGroup, EmptyGroup, BadToken}
 use Rattle.requirement_names.specs.declared.mistake.WrongWord.{WrongWord}
 use Rattle.requirement_names.specs.declared.named.NamedRequirement.{NamedRequirement}
 use Rattle.requirement_names.specs.declared.named.NamedSentence.{NamedSentence}
 use Rattle.requirement_names.specs.declared.named.NamedSentence.TheVariants.{OfSets, Probability}
-use Rattle.requirement_names.specs.inner.Named.{named_requirements}
-use Rattle.requirement_names.specs.inner.Wrong.{first_wrong}
+use Rattle.requirement_names.specs.Named.{named_requirements}
+use Rattle.requirement_names.specs.Wrong.{first_wrong}
 use Rattle.requirement_verdicts.specs.declared.verdict.Verdict.{Verdict}
-use Rattle.requirement_verdicts.specs.inner.Verdicts.{IsVerdict}
+use Rattle.requirement_verdicts.specs.Verdicts.{IsVerdict}
 use Rattle.requirement_lines.specs.declared.judgement.Judgement.{Judgement}
 use Rattle.requirement_lines.specs.declared.told.LineForm.{LineForm}
 use Rattle.requirement_lines.specs.declared.told.LineForm.TheVariants.{Plain, Tap}
-use Rattle.requirement_lines.specs.inner.Lines.{are_met, verdicts_text}
+use Rattle.requirement_lines.specs.Lines.{are_met, verdicts_text}
 
 -- What a command writes, and whether it tells of no requirement that is not met.
 pub record Output : Type 0 where

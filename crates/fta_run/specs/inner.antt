@@ -1,4 +1,5 @@
 pub mod Files
+pub mod Texts
 pub mod Steps
 pub mod Read
 pub mod Required

@@ -33,12 +33,7 @@ pub fn required(
 }
 
 /// What is told of the requirements of a text over a system.
-fn told_over(
-    alloc: Global,
-    system: &FaultSystem,
-    text: &[u8],
-    tap: bool,
-) -> Result<Told, Status>
+fn told_over(alloc: Global, system: &FaultSystem, text: &[u8], tap: bool) -> Result<Told, Status>
     ensures { MeetsBut IsMemory output_of (required_text tap text.now system.now) result }
 {
     match require(alloc, system, text, line_form(tap)) {

@@ -81,8 +81,8 @@ pub const CODES: [&'static [u8]; 66] = [
     b"n10", b"n11", b"n12", b"n13", b"n14", b"n15", b"p1", b"p2", b"p3", b"p4", b"p5", b"p6",
     b"p7", b"p8", b"p9", b"p11", b"p12", b"m1", b"m2", b"m13", b"m3", b"m4", b"m5", b"m6", b"m7",
     b"m8", b"m9", b"m10", b"m11", b"m12", b"m14", b"t1", b"k1", b"k2", b"k3", b"v1", b"v2", b"v3",
-    b"g1", b"g6", b"g4", b"g5", b"g2", b"g3", b"g7", b"r1", b"q1", b"q2", b"q3", b"q4", b"q5", b"q6",
-    b"q7",
+    b"g1", b"g6", b"g4", b"g5", b"g2", b"g3", b"g7", b"r1", b"q1", b"q2", b"q3", b"q4", b"q5",
+    b"q6", b"q7",
 ];
 
 /// A row for each command, in the order of `KINDS`, which is that of help.

@@ -4,7 +4,7 @@ use Rattle.std.specs.Prelude.{IfErr, IfOk}
 use Rattle.std.specs.List.{AllZip}
 use Rattle.fault_system.specs.Systems.{System}
 use Rattle.requirements.specs.declared.reading.Requirements.{Requirements}
-use Rattle.requirements.specs.inner.Requirements.{requirements_of}
+use Rattle.requirements.specs.Requirements.{requirements_of}
 use Rattle.requirement_names.specs.declared.named.NamedRequirement.{NamedRequirement}
 use Rattle.requirement_lines.specs.declared.judgement.Judgement.{Judgement}
 use Rattle.requirement_lines.specs.declared.told.LineForm.{LineForm}
@@ -12,7 +12,7 @@ use Rattle.requirement_lines.specs.declared.told.RequirementFault.{RequirementFa
 use Rattle.requirement_lines.specs.declared.told.RequirementFault.TheVariants.{Memory, Unread, Unnamed, NoRequirement, TooLarge, Unserved}
 use Rattle.requirement_lines.specs.declared.told.Told.{Told}
 use Rattle.requirement_lines.specs.inner.Judged.{AreUnjudged, IsJudgedSo, IsLarge, IsMisnamedSo, IsMisread, IsRefusedFor, IsUnjudged, Says, TellsRequirements}
-use Rattle.requirement_lines.specs.inner.Lines.{are_met, verdicts_text}
+use Rattle.requirement_lines.specs.Lines.{are_met, verdicts_text}
 use Rattle.requirement_lines.proofs.Firsts.{first-unjudged}
 
 pub misread-refused : (system : System) (text : List ℕ) (fault : RequirementFault) → IsMisread text fault → IsRefusedFor system text fault

@@ -14,7 +14,7 @@ use Rattle.dependency_blocks.proofs.AllFacts.{below-contained}
 use Rattle.requirement_names.specs.declared.named.SetSentence.{SetSentence}
 use Rattle.requirement_names.specs.declared.named.SetSentence.TheVariants.{Order, Mixed, Without, Possible, Never}
 use Rattle.requirement_names.specs.inner.Named.{FitsSets}
-use Rattle.requirement_verdicts.specs.inner.Meanings.{MayHold}
+use Rattle.requirement_verdicts.specs.Meanings.{MayHold}
 use Rattle.requirement_verdicts.specs.inner.Verdicts.{HasEventSets}
 
 rises-below : (count : ℕ) → RisesWithin 0 count (numbers_below count)

@@ -3,7 +3,7 @@ use Rattle.std.proofs.Common.{ℕ, zero, suc, ◌+◌, ◌≡◌, ◌<◌, ◌�
 use Rattle.std.proofs.lemmas.List.{drop_all}
 use Rattle.fault_system.specs.Systems.{System}
 use Rattle.requirement_lines.specs.declared.judgement.Judgement.{Judgement}
-use Rattle.requirement_lines.specs.inner.Lines.{tap_line, tap_lines}
+use Rattle.requirement_lines.specs.Lines.{tap_line, tap_lines}
 
 module _ (system : System) (judgements : List Judgement) (i : ℕ) where
   pub tests-more : (judgement : Judgement) → i < length judgements → judgement ≡ get_or judgements i judgement → (before after goal : List ℕ) → after ≡ before ++ tap_line system (i + 1) judgement

@@ -6,8 +6,8 @@ ghost use Rattle.fault_system.specs.Truth.{Has, member};
 ghost use Rattle.backward_slice.specs.Slices.{IsServed, IsSlice};
 ghost use Rattle.requirement_names.specs.inner.Named.{FitsModel, FitsSets};
 ghost use Rattle.requirement_names.specs.declared.named.NamedSentence.TheVariants.{OfSets};
-ghost use Rattle.requirement_verdicts.specs.inner.Meanings.{HoldsAnyway, MayHold};
-ghost use Rattle.requirement_verdicts.specs.inner.Verdicts.{IsVerdict};
+ghost use Rattle.requirement_verdicts.specs.Meanings.{HoldsAnyway, MayHold};
+ghost use Rattle.requirement_verdicts.specs.Verdicts.{IsVerdict};
 ghost use Rattle.requirement_lines.specs.inner.Judged.{AreUnjudged, IsJudgedSo, IsLarge, IsUnjudged, KnowsFacts};
 
 use crate::judgement::Judgement;

@@ -3,7 +3,7 @@
 ghost use Rattle.std.specs.Prelude.{◌≡◌, ◌++◌, IfOk, OnOk, codes, decimal, filter, length};
 ghost use Rattle.std.specs.List.{flat_map};
 ghost use Rattle.cutset_lister.specs.SetText.{set_text};
-ghost use Rattle.requirement_lines.specs.inner.Lines.{are_met, count_of, end_line, is_broken, is_met, is_vacuous, plain_text, verdict_line, verdict_set, verdict_word, verdicts_text};
+ghost use Rattle.requirement_lines.specs.Lines.{are_met, count_of, end_line, is_broken, is_met, is_vacuous, plain_text, verdict_line, verdict_set, verdict_word, verdicts_text};
 
 use crate::judgement::Judgement;
 use crate::tap::push_tap;

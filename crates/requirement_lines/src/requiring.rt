@@ -2,11 +2,11 @@
 
 ghost use Rattle.std.specs.Prelude.{◌≡◌, ℕ, List as Items, IfErr, IfOk, Ok};
 ghost use Rattle.std.specs.List.{AllByRecursion};
-ghost use Rattle.requirements.specs.inner.Requirements.{requirements_of};
+ghost use Rattle.requirements.specs.Requirements.{requirements_of};
 ghost use Rattle.requirement_names.specs.inner.Named.{AreNamed, FitsModel};
 ghost use Rattle.requirement_lines.specs.declared.told.RequirementFault.TheVariants.{Memory};
 ghost use Rattle.requirement_lines.specs.inner.Judged.{IsMisnamedSo, IsMisread, IsRefusedFor, Says, TellsRequirements};
-ghost use Rattle.requirement_lines.specs.inner.Lines.{are_met, verdicts_text};
+ghost use Rattle.requirement_lines.specs.Lines.{are_met, verdicts_text};
 
 use crate::judgement::Judgement;
 use crate::judging::all_judged;

@@ -1,7 +1,7 @@
 //! Verdicts as TAP 13.
 
 ghost use Rattle.std.specs.Prelude.{◌≡◌, ◌+◌, ◌++◌, ◌≤◌, OnOk, IfOk, length};
-ghost use Rattle.requirement_lines.specs.inner.Lines.{description, escaped, escaped_byte, tap_line, tap_lines, tap_reason, tap_text, tap_word};
+ghost use Rattle.requirement_lines.specs.Lines.{description, escaped, escaped_byte, tap_line, tap_lines, tap_reason, tap_text, tap_word};
 
 use crate::judgement::Judgement;
 use crate::lines::{push_count, push_set};

@@ -5,16 +5,16 @@ use Rattle.fault_system.specs.Systems.{System}
 use Rattle.fault_system.specs.declared.formula.EventInfo.{EventInfo}
 use Rattle.fault_system.specs.declared.formula.FactInfo.{FactInfo}
 use Rattle.fault_system.specs.declared.formula.Formula.TheVariants.{True}
-use Rattle.requirements.specs.inner.Requirements.{requirements_of}
+use Rattle.requirements.specs.Requirements.{requirements_of}
 use Rattle.requirements.specs.declared.reading.Requirements.{Requirements}
 use Rattle.requirement_names.specs.declared.mistake.Mistake.TheVariants.{DuplicateName, UnknownTarget, UnknownGroup, EmptyGroup, BadToken}
 use Rattle.requirement_names.specs.declared.mistake.WrongWord.{WrongWord}
 use Rattle.requirement_names.specs.declared.named.NamedRequirement.{NamedRequirement}
 use Rattle.requirement_names.specs.declared.named.NamedSentence.TheVariants.{OfSets}
 use Rattle.requirement_names.specs.declared.named.SetSentence.TheVariants.{Order, Mixed, Without}
-use Rattle.requirement_names.specs.inner.Sets.{set_named}
-use Rattle.requirement_names.specs.inner.Wrong.{first_wrong}
-use Rattle.requirement_names.specs.inner.Named.{named_requirements}
+use Rattle.requirement_names.specs.Sets.{set_named}
+use Rattle.requirement_names.specs.Wrong.{first_wrong}
+use Rattle.requirement_names.specs.Named.{named_requirements}
 
 abbrev event : List ℕ → EventInfo
 event name = record { name = name; owner = 0; key = [] }

@@ -3,7 +3,8 @@ use Rattle.std.proofs.Common.{zero, suc, ◌≡◌, ◌≤◌, Bool, true, false
 use Rattle.std.specs.List.{AllByRecursion}
 use Rattle.std.proofs.lemmas.Bool.Decides.{nat_tests}
 use Rattle.requirement_names.specs.declared.mistake.WrongWord.{WrongWord}
-use Rattle.requirement_names.specs.inner.Wrong.{IsFirstOf, noting}
+use Rattle.requirement_names.specs.Wrong.{noting}
+use Rattle.requirement_names.specs.inner.Wrong.{IsFirstOf}
 
 here : (word : WrongWord) (words : List WrongWord) → Contains (word ∷ words) word
 here word words = (0, omega arith, refl)

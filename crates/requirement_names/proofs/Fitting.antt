@@ -22,11 +22,12 @@ use Rattle.requirements.specs.declared.reading.Requirements.{Requirements}
 use Rattle.requirement_names.specs.declared.mistake.Mistake.{Mistake}
 use Rattle.requirement_names.specs.declared.mistake.WrongWord.{WrongWord}
 use Rattle.requirement_names.specs.declared.named.NamedRequirement.{NamedRequirement}
-use Rattle.requirement_names.specs.inner.Names.{event_named, event_names, fact_named, fact_names, place_of}
-use Rattle.requirement_names.specs.inner.Groups.{events_named, group_events, group_names, group_sets}
-use Rattle.requirement_names.specs.inner.Sets.{are_events, events_of, parts_of, set_named}
-use Rattle.requirement_names.specs.inner.Wrong.{again_behind, all_wrong, wrong_if, wrong_in, wrong_members, wrong_words}
-use Rattle.requirement_names.specs.inner.Named.{AreNamed, FitsModel, FitsSentence, named_requirement, named_sentence, set_of_word}
+use Rattle.requirement_names.specs.Names.{event_named, event_names, fact_named, fact_names, place_of}
+use Rattle.requirement_names.specs.Groups.{events_named, group_events, group_names, group_sets}
+use Rattle.requirement_names.specs.Sets.{are_events, events_of, parts_of, set_named}
+use Rattle.requirement_names.specs.Wrong.{again_behind, all_wrong, wrong_if, wrong_in, wrong_members, wrong_words}
+use Rattle.requirement_names.specs.Named.{named_requirement, named_sentence, set_of_word}
+use Rattle.requirement_names.specs.inner.Named.{AreNamed, FitsModel, FitsSentence}
 use Rattle.requirement_names.proofs.Firsts.{none-noted}
 
 -- ---- empty lists

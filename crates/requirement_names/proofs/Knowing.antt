@@ -9,9 +9,9 @@ use Rattle.std.proofs.lemmas.Slice.Eq.{bytes_eq-Decides}
 use Rattle.plain_values.specs.Name.{is_same_text}
 use Rattle.requirements.specs.declared.words.PlacedWord.{PlacedWord}
 use Rattle.requirement_names.specs.declared.mistake.WrongWord.{WrongWord}
-use Rattle.requirement_names.specs.inner.Names.{called}
+use Rattle.requirement_names.specs.Names.{called}
 use Rattle.requirement_names.specs.inner.Tables.{Added, Knows, has_text, same_text}
-use Rattle.requirement_names.specs.inner.Wrong.{again_behind, noting, wrong_again}
+use Rattle.requirement_names.specs.Wrong.{again_behind, noting, wrong_again}
 use Rattle.requirement_names.proofs.Noting.{noted-more}
 
 -- ---- places

@@ -1,7 +1,7 @@
 -- Steps of loops that note wrong words.
 use Rattle.std.proofs.Common.{ℕ, suc, ◌+◌, ◌≡◌, ◌<◌, List, ◌∷◌, length, drop, get_or, flat_map, Option, sym, ap, ◌∙◌, add-one, drop-cons}
 use Rattle.requirement_names.specs.declared.mistake.WrongWord.{WrongWord}
-use Rattle.requirement_names.specs.inner.Wrong.{noting}
+use Rattle.requirement_names.specs.Wrong.{noting}
 use Rattle.requirement_names.proofs.Noting.{noted-more}
 
 module _ {A : Type 0} (xs : List A) (i : ℕ) (x : A) (within : i < length xs) (is : x ≡ get_or xs i x) where

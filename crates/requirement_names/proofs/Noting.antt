@@ -1,7 +1,7 @@
 -- Wrong words that are noted part after part, and the first of them.
 use Rattle.std.proofs.Common.{◌≡◌, List, [], ◌∷◌, ◌++◌, Option, Some, refl, sym, ap, ◌∙◌}
 use Rattle.requirement_names.specs.declared.mistake.WrongWord.{WrongWord}
-use Rattle.requirement_names.specs.inner.Wrong.{earlier, noting}
+use Rattle.requirement_names.specs.Wrong.{earlier, noting}
 
 -- one list behind another
 pub noting-append : (first : Option WrongWord) (p q : List WrongWord) → noting first (p ++ q) ≡ noting (noting first p) q

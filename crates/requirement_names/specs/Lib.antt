@@ -1,1 +1,6 @@
+pub mod Groups
+pub mod Named
+pub mod Names
+pub mod Sets
+pub mod Wrong
 pub mod inner

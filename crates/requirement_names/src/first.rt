@@ -1,7 +1,7 @@
 //! The first of the wrong words that were noted.
 
 ghost use Rattle.std.specs.Prelude.{◌≡◌, None, Some};
-ghost use Rattle.requirement_names.specs.inner.Wrong.{earlier, noting, wrong_if};
+ghost use Rattle.requirement_names.specs.Wrong.{earlier, noting, wrong_if};
 
 use crate::mistake::{Mistake, WrongWord};
 use requirements::PlacedWord;

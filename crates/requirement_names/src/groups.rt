@@ -4,8 +4,8 @@ ghost use Rattle.std.specs.Prelude.{◌≡◌, IfOk, filter, length, map};
 ghost use Rattle.std.specs.List.{list_any};
 ghost use Rattle.plain_values.specs.Numbered.{numbers_below};
 ghost use Rattle.requirements.specs.declared.reading.GroupKind.TheVariants.{Parts};
-ghost use Rattle.requirement_names.specs.inner.Names.{is_below};
-ghost use Rattle.requirement_names.specs.inner.Groups.{belongs_to, group_events, is_in_group, is_of_model};
+ghost use Rattle.requirement_names.specs.Names.{is_below};
+ghost use Rattle.requirement_names.specs.Groups.{belongs_to, group_events, is_in_group, is_of_model};
 
 use crate::model::{ModelNames, is_below};
 use crate::names::folded_names;

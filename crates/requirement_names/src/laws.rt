@@ -5,7 +5,8 @@ ghost use Rattle.std.specs.List.{AllByRecursion};
 ghost use Rattle.fault_system.specs.Systems.{System};
 ghost use Rattle.requirements.specs.declared.reading.Requirements.{Requirements};
 ghost use Rattle.requirement_names.specs.declared.named.NamedRequirement.{NamedRequirement};
-ghost use Rattle.requirement_names.specs.inner.Wrong.{IsFirstOf, all_wrong, first_wrong};
+ghost use Rattle.requirement_names.specs.Wrong.{all_wrong, first_wrong};
+ghost use Rattle.requirement_names.specs.inner.Wrong.{IsFirstOf};
 ghost use Rattle.requirement_names.specs.inner.Named.{AreNamed, FitsModel};
 
 /// The first wrong word is one of all that are wrong, and none stands before it; there is none only where no word is wrong.

@@ -2,7 +2,7 @@
 
 ghost use Rattle.std.specs.Prelude.{◌≡◌, ◌<◌, ◌^◌, length, IfOk, IfSome, map};
 ghost use Rattle.fault_system.specs.Systems.{IsSystem};
-ghost use Rattle.requirement_names.specs.inner.Names.{event_named, event_names, fact_named, fact_names, is_below, is_sign};
+ghost use Rattle.requirement_names.specs.Names.{event_named, event_names, fact_named, fact_names, is_below, is_sign};
 
 use fault_system::{FaultSystem, Names};
 use plain_values::{Mem, is_same};
@@ -22,7 +22,7 @@ impl<'a> Model for ModelNames<'a> {
     ghost use Rattle.std.specs.Prelude.{◌≡◌};
     ghost use Rattle.fault_system.specs.contracts.formula.Formula as formula;
     ghost use Rattle.fault_system.specs.Systems.{System};
-    ghost use Rattle.requirement_names.specs.inner.Names.{event_names, fact_names};
+    ghost use Rattle.requirement_names.specs.Names.{event_names, fact_names};
 
     ghost Value = { System };
 

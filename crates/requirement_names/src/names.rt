@@ -2,9 +2,9 @@
 
 ghost use Rattle.std.specs.Prelude.{◌≡◌, ◌<◌, ◌^◌, IfOk, OnOk, [], length, map};
 ghost use Rattle.std.specs.HashMap.{get};
-ghost use Rattle.requirement_names.specs.inner.Names.{called, place_of};
+ghost use Rattle.requirement_names.specs.Names.{called, place_of};
 ghost use Rattle.requirement_names.specs.inner.Tables.{Added};
-ghost use Rattle.requirement_names.specs.inner.Wrong.{again_behind, noting};
+ghost use Rattle.requirement_names.specs.Wrong.{again_behind, noting};
 
 use crate::first::FirstWrong;
 use crate::mistake::Mistake;

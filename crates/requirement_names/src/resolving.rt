@@ -2,10 +2,12 @@
 
 ghost use Rattle.std.specs.Prelude.{◌≡◌, [], IfErr, IfOk, None, OnOk, map, unwrap_or};
 ghost use Rattle.plain_values.specs.Name.{folded};
-ghost use Rattle.requirement_names.specs.inner.Names.{event_named};
-ghost use Rattle.requirement_names.specs.inner.Groups.{events_named, group_names};
-ghost use Rattle.requirement_names.specs.inner.Wrong.{IsFault, again_behind, all_wrong, first_wrong, noting, wrong_of};
-ghost use Rattle.requirement_names.specs.inner.Named.{AreNamed, named_requirement, named_requirements, named_sentence, set_of_word};
+ghost use Rattle.requirement_names.specs.Names.{event_named};
+ghost use Rattle.requirement_names.specs.Groups.{events_named, group_names};
+ghost use Rattle.requirement_names.specs.Wrong.{again_behind, all_wrong, first_wrong, noting, wrong_of};
+ghost use Rattle.requirement_names.specs.inner.Wrong.{IsFault};
+ghost use Rattle.requirement_names.specs.Named.{named_requirement, named_requirements, named_sentence, set_of_word};
+ghost use Rattle.requirement_names.specs.inner.Named.{AreNamed};
 ghost use Rattle.requirement_names.specs.declared.named.NamedSentence.TheVariants.{OfSets, Probability as ProbabilityOf};
 ghost use Rattle.requirement_names.specs.declared.named.SetSentence.TheVariants as said;
 

@@ -1,7 +1,7 @@
 //! Sets of events that words name.
 
 ghost use Rattle.std.specs.Prelude.{◌≡◌, IfOk, OnOk};
-ghost use Rattle.requirement_names.specs.inner.Sets.{are_events, events_of, has_one_of, parts_of, set_named, with_byte};
+ghost use Rattle.requirement_names.specs.Sets.{are_events, events_of, has_one_of, parts_of, set_named, with_byte};
 
 use crate::model::ModelNames;
 use fault_system::FaultSystem;

@@ -3,9 +3,9 @@
 ghost use Rattle.std.specs.Prelude.{◌≡◌, ◌++◌, OnOk, is_some, not};
 ghost use Rattle.std.specs.List.{flat_map};
 ghost use Rattle.plain_values.specs.Name.{folded};
-ghost use Rattle.requirement_names.specs.inner.Names.{event_named, fact_named, place_of};
-ghost use Rattle.requirement_names.specs.inner.Sets.{set_named};
-ghost use Rattle.requirement_names.specs.inner.Wrong.{noting, wrong_event, wrong_group, wrong_in, wrong_member, wrong_members, wrong_target, wrong_token, wrong_words};
+ghost use Rattle.requirement_names.specs.Names.{event_named, fact_named, place_of};
+ghost use Rattle.requirement_names.specs.Sets.{set_named};
+ghost use Rattle.requirement_names.specs.Wrong.{noting, wrong_event, wrong_group, wrong_in, wrong_member, wrong_members, wrong_target, wrong_token, wrong_words};
 
 use crate::first::FirstWrong;
 use crate::groups::is_of_model;

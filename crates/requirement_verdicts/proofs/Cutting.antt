@@ -9,8 +9,9 @@ use Rattle.fault_system.proofs.NumberSets.{set_of-first}
 use Rattle.fault_system.proofs.ListingLaws.{covers, listing-exact}
 use Rattle.requirement_names.specs.declared.named.SetSentence.{SetSentence}
 use Rattle.requirement_names.specs.declared.named.SetSentence.TheVariants.{Order, Mixed, Without, Possible, Never}
-use Rattle.requirement_verdicts.specs.inner.Meanings.{IsKept}
-use Rattle.requirement_verdicts.specs.inner.Verdicts.{IsBroken, IsFirstForbidden, IsForbidden}
+use Rattle.requirement_verdicts.specs.Meanings.{IsKept}
+use Rattle.requirement_verdicts.specs.Verdicts.{IsBroken, IsForbidden}
+use Rattle.requirement_verdicts.specs.inner.Verdicts.{IsFirstForbidden}
 
 shorter-order : (most : Option ℕ) (a b : List ℕ) → length a ≤ length b → IsWithinOrder most b → IsWithinOrder most a
 shorter-order None a b few short = tt

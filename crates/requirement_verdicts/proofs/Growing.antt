@@ -4,7 +4,7 @@ use Rattle.std.specs.List.{AllByRecursion}
 use Rattle.fault_system.specs.Systems.{System}
 use Rattle.fault_system.specs.CutSets.{IsSubset}
 use Rattle.requirement_names.specs.declared.named.SetSentence.TheVariants.{Order, Mixed}
-use Rattle.requirement_verdicts.specs.inner.Meanings.{IsFresh, IsMet}
+use Rattle.requirement_verdicts.specs.Meanings.{IsFresh, IsMet}
 
 module _ (system : System) (target : ℕ) where
   pub fewer : (less least : ℕ) (except : List (List ℕ)) → less ≤ least → AllByRecursion (IsFresh system target less) except → IsMet system target (Order least except) → IsMet system target (Order less except)

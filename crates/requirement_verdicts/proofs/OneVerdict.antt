@@ -9,8 +9,8 @@ use Rattle.requirement_names.specs.declared.named.SetSentence.TheVariants.{Order
 use Rattle.requirement_verdicts.specs.declared.verdict.Verdict.{Verdict}
 use Rattle.requirement_verdicts.specs.declared.verdict.Verdict.TheVariants.{Met, Vacuous, Broken, Stale}
 use Rattle.requirement_verdicts.proofs.Cutting.{forbidden-clash}
-use Rattle.requirement_verdicts.specs.inner.Meanings.{HoldsAnyway, IsFresh, IsKept, IsMet, MayHold}
-use Rattle.requirement_verdicts.specs.inner.Verdicts.{HasStale, IsBroken, IsStale, IsVacuous, IsVerdict}
+use Rattle.requirement_verdicts.specs.Meanings.{HoldsAnyway, IsFresh, IsKept, IsMet, MayHold}
+use Rattle.requirement_verdicts.specs.Verdicts.{HasStale, IsBroken, IsStale, IsVacuous, IsVerdict}
 
 -- ---- the first stale exception
 

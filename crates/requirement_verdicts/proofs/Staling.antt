@@ -2,8 +2,8 @@
 use Rattle.std.proofs.Common.{ℕ, zero, suc, ◌+◌, ◌≡◌, ◌<◌, List, [], ◌∷◌, ◌++◌, length, take, drop, get_or, sym, ap, subst, add-one, arith}
 use Rattle.std.specs.List.{AllByRecursion}
 use Rattle.fault_system.specs.Systems.{System}
-use Rattle.requirement_verdicts.specs.inner.Meanings.{IsFresh}
-use Rattle.requirement_verdicts.specs.inner.Verdicts.{IsFirstStale}
+use Rattle.requirement_verdicts.specs.Meanings.{IsFresh}
+use Rattle.requirement_verdicts.specs.Verdicts.{IsFirstStale}
 
 split-at : {A : Type 0} (xs : List A) (i : ℕ) (x : A) → i < length xs → x ≡ get_or xs i x → xs ≡ take i xs ++ x ∷ drop (suc i) xs
 split-at [] i x inside is = absurd (omega (arith, inside))

@@ -1,1 +1,3 @@
+pub mod Meanings
+pub mod Verdicts
 pub mod inner

@@ -5,8 +5,9 @@ ghost use Rattle.std.specs.List.{AllByRecursion};
 ghost use Rattle.fault_system.specs.Systems.{System};
 ghost use Rattle.fault_system.specs.CutSets.{IsEventSet};
 ghost use Rattle.requirement_names.specs.declared.named.SetSentence.TheVariants.{Order};
-ghost use Rattle.requirement_verdicts.specs.inner.Meanings.{HoldsAnyway, IsKept, MayHold};
-ghost use Rattle.requirement_verdicts.specs.inner.Verdicts.{ForbidsNone, HasEventSets, IsFirstForbidden, IsVerdict};
+ghost use Rattle.requirement_verdicts.specs.Meanings.{HoldsAnyway, IsKept, MayHold};
+ghost use Rattle.requirement_verdicts.specs.Verdicts.{IsVerdict};
+ghost use Rattle.requirement_verdicts.specs.inner.Verdicts.{ForbidsNone, HasEventSets, IsFirstForbidden};
 
 use crate::stale::first_stale;
 use crate::verdict::Verdict;

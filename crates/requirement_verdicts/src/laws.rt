@@ -7,8 +7,8 @@ ghost use Rattle.fault_system.specs.CutSets.{IsMinimalCutSet, IsSubset};
 ghost use Rattle.requirement_names.specs.declared.named.SetSentence.{SetSentence};
 ghost use Rattle.requirement_names.specs.declared.named.SetSentence.TheVariants.{Mixed, Order};
 ghost use Rattle.requirement_verdicts.specs.declared.verdict.Verdict.{Verdict};
-ghost use Rattle.requirement_verdicts.specs.inner.Meanings.{IsFresh, IsKept, IsMet};
-ghost use Rattle.requirement_verdicts.specs.inner.Verdicts.{IsForbidden, IsVerdict};
+ghost use Rattle.requirement_verdicts.specs.Meanings.{IsFresh, IsKept, IsMet};
+ghost use Rattle.requirement_verdicts.specs.Verdicts.{IsForbidden, IsVerdict};
 
 /// What is met stays met where less is required: of fewer events, where no exception is stale then; with more exceptions, none of which is
 /// stale; of a smaller group; and of fewer events of a group.

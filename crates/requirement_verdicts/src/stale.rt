@@ -3,8 +3,8 @@
 ghost use Rattle.std.specs.Prelude.{◌↔◌, ◌≡◌, IfOk, IsTrue, MatchOption};
 ghost use Rattle.std.specs.List.{AllByRecursion};
 ghost use Rattle.fault_system.specs.CutSets.{IsEventSet};
-ghost use Rattle.requirement_verdicts.specs.inner.Meanings.{IsFresh};
-ghost use Rattle.requirement_verdicts.specs.inner.Verdicts.{IsFirstStale};
+ghost use Rattle.requirement_verdicts.specs.Meanings.{IsFresh};
+ghost use Rattle.requirement_verdicts.specs.Verdicts.{IsFirstStale};
 
 use fault_system::FaultSystem;
 use plain_values::{List, Mem};

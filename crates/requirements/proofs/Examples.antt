@@ -3,7 +3,7 @@ use Rattle.std.proofs.Common.{◌≡◌, [], ◌∷◌, Some, Ok, Err, refl}
 use Rattle.std.specs.Prelude.{codes}
 use Rattle.requirements.specs.declared.sentence.Sentence.TheVariants.{Order, Mixed, Never}
 use Rattle.requirements.specs.declared.reading.GroupKind.TheVariants.{Parts}
-use Rattle.requirements.specs.inner.Requirements.{requirements_of}
+use Rattle.requirements.specs.Requirements.{requirements_of}
 
 -- a group, a requirement with a carriage return before its end, and one whose line lacks its end; a comment and empty lines say nothing
 three : requirements_of (codes "parts g a.b # c\n\nR t order 2\r\nS u never")

@@ -1,1 +1,4 @@
+pub mod Requirements
+pub mod Sentences
+pub mod Words
 pub mod inner

@@ -1,4 +1,1 @@
-pub mod Words
-pub mod Sentences
-pub mod Requirements
 pub mod Faults

@@ -1,7 +1,7 @@
 //! Numbers of requirements.
 
 ghost use Rattle.std.specs.Prelude.{◌≡◌, ◌≤◌, length};
-ghost use Rattle.requirements.specs.inner.Sentences.{digits_from, is_digit, number_of};
+ghost use Rattle.requirements.specs.Sentences.{digits_from, is_digit, number_of};
 
 /// The number of one to nine decimal digits, if the text has that form.
 pub(crate) fn number_of(text: &[u8]) -> Option<u32>

@@ -1,7 +1,7 @@
 //! The requirements that a text has.
 
 ghost use Rattle.std.specs.Prelude.{◌≡◌, Ok, IfErr, IfOk, OnOk};
-ghost use Rattle.requirements.specs.inner.Requirements.{group_line, requirement_line, requirements_of, with_group, with_line};
+ghost use Rattle.requirements.specs.Requirements.{group_line, requirement_line, requirements_of, with_group, with_line};
 ghost use Rattle.requirements.specs.inner.Faults.{IsFault};
 
 use crate::sentence::{Sentence, sentence_of, words_again};

@@ -1,7 +1,7 @@
 //! The sentences of requirements.
 
 ghost use Rattle.std.specs.Prelude.{◌≡◌, Ok, IfErr, IfOk};
-ghost use Rattle.requirements.specs.inner.Sentences.{alone_of, exceptions_of, is_word, mixed_of, mixed_with, order_of, order_with, probability_of, sentence_of, without_of};
+ghost use Rattle.requirements.specs.Sentences.{alone_of, exceptions_of, is_word, mixed_of, mixed_with, order_of, order_with, probability_of, sentence_of, without_of};
 ghost use Rattle.requirements.specs.inner.Faults.{IsFault};
 
 use crate::number::number_of;

@@ -1,7 +1,7 @@
 //! The words of a text, line by line.
 
 ghost use Rattle.std.specs.Prelude.{◌≡◌, IfOk, OnOk};
-ghost use Rattle.requirements.specs.inner.Words.{add_byte, end_line, end_word, is_between, is_blank, lines_of, nothing_read, with_byte};
+ghost use Rattle.requirements.specs.Words.{add_byte, end_line, end_word, is_between, is_blank, lines_of, nothing_read, with_byte};
 
 use plain_values::{List, Mem, Name};
 use std::alloc::Global;

@@ -1,25 +1,20 @@
 -- What the steps of a run owe each other, beside that they meet their phases.
 use Rattle.std.specs.Prelude.{◌≡◌, ◌⊎◌, Bool, true, false, ℕ, List, Option, Result, Ok, Err, MatchResult}
 use Rattle.fta_outside.specs.Outside.{Rose, Seen}
-use Rattle.phases.specs.Phases.{Passes, Phase, Stops, finds, ◌>>=◌}
+use Rattle.phases.specs.Phases.{Passes, Stops}
 use Rattle.phases.specs.declared.status.Status.{Status}
-use Rattle.phases.specs.declared.status.Status.TheVariants.{Done, Unmet, Usage, WriteFault, Memory}
+use Rattle.phases.specs.declared.status.Status.TheVariants.{Done, Unmet, WriteFault, Memory}
 use Rattle.fta_run.specs.Words.{Request, GiveRequest, IsRequest, file_words}
 use Rattle.system_answers.specs.Voices.{Voice, labels}
 use Rattle.fta_run.specs.Answers.{IsTextOf, TookFront, TookText, is_by_lines}
-use Rattle.fta_run.specs.Due.{due, request_text}
+use Rattle.fta_run.specs.Due.{due}
+use Rattle.fta_run.specs.inner.Texts.{text_due}
 use Rattle.fta_run.specs.inner.Held.{IsReadEnd}
 use Rattle.system_answers.specs.inner.Ends.{IsReportFault}
 
 -- A report that the request of the words chooses failed.
 abbrev pub IsChosenFault : List (List ℕ) → List Voice → (ℕ → Type 0) → Status → Type 0
 IsChosenFault words voices RoseThere status = (asked : Request) × IsRequest (labels voices) words asked × IsReportFault asked.options.chosen RoseThere status
-
--- the text of the request that the words give
-abbrev pub text_due : List (List ℕ) → (List ℕ → Option (List ℕ)) → List Voice → Phase (List ℕ)
-text_due words contents voices = do
-  asked ← finds (IsRequest (labels voices) words) Usage
-  request_text contents voices asked
 
 -- Why there may be no answer, beside that the phases stop: memory was wanting, or a read of a file of the request failed, or a report,
 -- where a text is due.

@@ -6,7 +6,7 @@ use Rattle.fault_system.specs.Systems.{System}
 use Rattle.backward_slice.specs.declared.parts.Slice.{Slice}
 use Rattle.backward_slice.specs.Slices.{HasLargeSlice, IsServed}
 use Rattle.requirements.specs.declared.reading.Requirements.{Requirements}
-use Rattle.requirements.specs.inner.Requirements.{requirements_of}
+use Rattle.requirements.specs.Requirements.{requirements_of}
 use Rattle.requirement_names.specs.declared.mistake.NameFault.{NameFault}
 use Rattle.requirement_names.specs.declared.mistake.NameFault.TheVariants as name
 use Rattle.requirement_names.specs.declared.named.NamedRequirement.{NamedRequirement}
@@ -15,15 +15,15 @@ use Rattle.requirement_names.specs.declared.named.NamedSentence.TheVariants.{OfS
 use Rattle.requirement_names.specs.inner.Named.{AreNamed}
 use Rattle.requirement_names.specs.inner.Wrong.{IsFault}
 use Rattle.requirement_verdicts.specs.declared.verdict.Verdict.{Verdict}
-use Rattle.requirement_verdicts.specs.inner.Meanings.{HoldsAnyway, MayHold}
-use Rattle.requirement_verdicts.specs.inner.Verdicts.{IsVerdict}
+use Rattle.requirement_verdicts.specs.Meanings.{HoldsAnyway, MayHold}
+use Rattle.requirement_verdicts.specs.Verdicts.{IsVerdict}
 use Rattle.requirement_lines.specs.declared.judging.Known.{Known}
 use Rattle.requirement_lines.specs.declared.judgement.Judgement.{Judgement}
 use Rattle.requirement_lines.specs.declared.told.LineForm.{LineForm}
 use Rattle.requirement_lines.specs.declared.told.RequirementFault.{RequirementFault}
 use Rattle.requirement_lines.specs.declared.told.RequirementFault.TheVariants.{Memory, Unread, Unnamed, NoRequirement, TooLarge, Unserved}
 use Rattle.requirement_lines.specs.declared.told.Told.{Told}
-use Rattle.requirement_lines.specs.inner.Lines.{are_met, verdicts_text}
+use Rattle.requirement_lines.specs.Lines.{are_met, verdicts_text}
 
 -- ---- one requirement
 

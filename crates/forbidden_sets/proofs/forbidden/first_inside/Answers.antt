@@ -3,7 +3,7 @@ use Rattle.std.specs.List.{AllByRecursion}
 use Rattle.zdd_store.specs.inner.Family.{IsRising}
 use Rattle.fault_system.proofs.NumberSets.{RisesWithin-each}
 use Rattle.requirement_names.specs.declared.named.SetSentence.TheVariants.{Mixed}
-use Rattle.requirement_verdicts.specs.inner.Verdicts.{IsForbidden}
+use Rattle.requirement_verdicts.specs.Verdicts.{IsForbidden}
 use Rattle.forbidden_sets.specs.inner.Families.{IsOther}
 use Rattle.forbidden_sets.proofs.Firsts.{found-ok}
 use Rattle.forbidden_sets.proofs.Singles.{inside-back, inside-to, none-inside, singles-of, singles-rise}

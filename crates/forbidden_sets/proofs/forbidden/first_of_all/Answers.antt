@@ -1,6 +1,6 @@
 use Rattle.std.proofs.Common.{[], arith}
 use Rattle.requirement_names.specs.declared.named.SetSentence.TheVariants.{Never}
-use Rattle.requirement_verdicts.specs.inner.Verdicts.{IsForbidden}
+use Rattle.requirement_verdicts.specs.Verdicts.{IsForbidden}
 use Rattle.forbidden_sets.specs.inner.Families.{IsOther}
 use Rattle.forbidden_sets.proofs.Firsts.{found-ok, minimal-short, no-parts}
 use Rattle.forbidden_sets.proofs.forbidden.first_of_all.Goals as goal

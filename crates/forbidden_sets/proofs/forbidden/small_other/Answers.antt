@@ -1,7 +1,7 @@
 use Rattle.forbidden_sets.proofs.Firsts.{each-rising, found-ok, order-back, order-to}
 use Rattle.forbidden_sets.specs.inner.Families.{IsOther}
 use Rattle.requirement_names.specs.declared.named.SetSentence.TheVariants.{Order}
-use Rattle.requirement_verdicts.specs.inner.Verdicts.{IsForbidden}
+use Rattle.requirement_verdicts.specs.Verdicts.{IsForbidden}
 use Rattle.forbidden_sets.proofs.forbidden.small_other.Goals as goal
 
 pub first_other-requires-clause-rising : goal.first_other-requires-clause-rising

@@ -1,6 +1,7 @@
 use Rattle.std.proofs.Common.{MatchOption, subst, arith}
 use Rattle.zdd_families.proofs.Ways.{Keeps_same, Keeps_trans}
-use Rattle.requirement_verdicts.specs.inner.Verdicts.{HasNoMinimal, IsFirstMinimal}
+use Rattle.requirement_verdicts.specs.Verdicts.{IsFirstMinimal}
+use Rattle.requirement_verdicts.specs.inner.Verdicts.{HasNoMinimal}
 use Rattle.forbidden_sets.specs.inner.Families.{IsOther}
 use Rattle.forbidden_sets.proofs.Firsts.{first-more, none-more, none-yet}
 use Rattle.forbidden_sets.proofs.searching.first_other.Goals as goal

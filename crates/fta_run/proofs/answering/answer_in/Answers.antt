@@ -6,7 +6,8 @@ use Rattle.profiles.specs.declared.profile.Profile.{Profile}
 use Rattle.system_answers.specs.inner.Ends.{EndsReports}
 use Rattle.system_answers.specs.Voices.{voices_of}
 use Rattle.system_answers.proofs.Reported.{all_kept}
-use Rattle.fta_run.specs.Due.{required_in, text_by, text_for}
+use Rattle.fta_run.specs.Due.{required_in, text_by}
+use Rattle.fta_run.specs.inner.Texts.{text_for}
 use Rattle.fta_run.specs.Words.{is_set}
 use Rattle.fta_run.specs.inner.Ready.{answer_output}
 use Rattle.fta_run.proofs.Ran.{all_met, by_profile, lines_kept, none_by_lines, output_plain, output_told}

@@ -1,7 +1,7 @@
 use Rattle.std.proofs.Common.{ℕ, sym, subst, ◌∙◌}
 use Rattle.backward_slice.specs.Slices.{IsSlice}
 use Rattle.requirement_names.specs.declared.named.NamedSentence.{NamedSentence}
-use Rattle.requirement_verdicts.specs.inner.Verdicts.{IsVerdict}
+use Rattle.requirement_verdicts.specs.Verdicts.{IsVerdict}
 use Rattle.requirement_lines.specs.inner.Judged.{IsVerdictOn}
 use Rattle.requirement_lines.proofs.judging.judge_sets.Goals as goal
 

@@ -1,6 +1,6 @@
 use Rattle.std.proofs.Common.{MatchOption, subst}
-use Rattle.requirement_verdicts.specs.inner.Meanings.{HoldsAnyway, MayHold}
-use Rattle.requirement_verdicts.specs.inner.Verdicts.{IsVerdict}
+use Rattle.requirement_verdicts.specs.Meanings.{HoldsAnyway, MayHold}
+use Rattle.requirement_verdicts.specs.Verdicts.{IsVerdict}
 use Rattle.requirement_lines.proofs.Facts.{event-sets, tells-fact}
 use Rattle.requirement_lines.proofs.judging.verdict_on.Goals as goal
 

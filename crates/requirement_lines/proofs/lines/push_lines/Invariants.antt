@@ -1,6 +1,6 @@
 use Rattle.std.proofs.Common.{◌≡◌, ◌++◌, take}
 use Rattle.std.specs.List.{flat_map}
-use Rattle.requirement_lines.specs.inner.Lines.{verdict_line}
+use Rattle.requirement_lines.specs.Lines.{verdict_line}
 use Rattle.requirement_lines.proofs.lines.push_lines.Given as goal
 
 abbrev pub invariant-loop-judgement : goal.invariant-loop-judgement

@@ -1,5 +1,5 @@
 use Rattle.std.proofs.Common.{◌≡◌, ◌++◌, take}
-use Rattle.requirement_lines.specs.inner.Lines.{escaped}
+use Rattle.requirement_lines.specs.Lines.{escaped}
 use Rattle.requirement_lines.proofs.tap.push_escaped.Given as goal
 
 abbrev pub invariant-loop-byte : goal.invariant-loop-byte

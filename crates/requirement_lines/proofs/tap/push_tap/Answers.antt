@@ -1,7 +1,7 @@
 use Rattle.std.proofs.Common.{length}
 use Rattle.std.specs.Prelude.{codes, decimal}
 use Rattle.std.proofs.lemmas.Result.{on_ok_weaker}
-use Rattle.requirement_lines.specs.inner.Lines.{tap_lines}
+use Rattle.requirement_lines.specs.Lines.{tap_lines}
 use Rattle.requirement_lines.proofs.Tests.{plan-then}
 use Rattle.requirement_lines.proofs.tap.push_tap.Goals as goal
 

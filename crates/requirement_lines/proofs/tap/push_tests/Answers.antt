@@ -1,5 +1,5 @@
 use Rattle.std.proofs.Common.{◌++◌, arith}
-use Rattle.requirement_lines.specs.inner.Lines.{tap_lines}
+use Rattle.requirement_lines.specs.Lines.{tap_lines}
 use Rattle.requirement_lines.proofs.Tests.{tests-end, tests-more}
 use Rattle.requirement_lines.proofs.tap.push_tests.Goals as goal
 

@@ -1,5 +1,5 @@
 use Rattle.std.proofs.Common.{◌≡◌, ◌+◌, ◌++◌, drop}
-use Rattle.requirement_lines.specs.inner.Lines.{tap_lines}
+use Rattle.requirement_lines.specs.Lines.{tap_lines}
 use Rattle.requirement_lines.proofs.tap.push_tests.Given as goal
 
 abbrev pub invariant-loop-place : goal.invariant-loop-place

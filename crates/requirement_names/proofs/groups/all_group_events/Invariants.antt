@@ -1,5 +1,5 @@
 use Rattle.std.proofs.Common.{◌≡◌, map, take}
-use Rattle.requirement_names.specs.inner.Groups.{group_events}
+use Rattle.requirement_names.specs.Groups.{group_events}
 use Rattle.requirement_names.proofs.groups.all_group_events.Given as goal
 
 abbrev pub invariant-loop-group : goal.invariant-loop-group

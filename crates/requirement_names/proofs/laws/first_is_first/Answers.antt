@@ -1,4 +1,4 @@
-use Rattle.requirement_names.specs.inner.Wrong.{all_wrong}
+use Rattle.requirement_names.specs.Wrong.{all_wrong}
 use Rattle.requirement_names.proofs.Firsts.{first-of}
 use Rattle.requirement_names.proofs.laws.first_is_first.Goals as goal
 

@@ -1,5 +1,5 @@
 use Rattle.std.proofs.Common.{◌≡◌, map, take}
-use Rattle.requirement_names.specs.inner.Names.{called}
+use Rattle.requirement_names.specs.Names.{called}
 use Rattle.requirement_names.proofs.names.folded_names.Given as goal
 
 abbrev pub invariant-loop-item : goal.invariant-loop-item

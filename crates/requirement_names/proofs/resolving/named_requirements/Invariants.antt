@@ -1,5 +1,5 @@
 use Rattle.std.proofs.Common.{◌≡◌, map, take}
-use Rattle.requirement_names.specs.inner.Named.{named_requirement}
+use Rattle.requirement_names.specs.Named.{named_requirement}
 use Rattle.requirement_names.proofs.resolving.named_requirements.Given as goal
 
 abbrev pub invariant-loop-requirement : goal.invariant-loop-requirement

@@ -1,6 +1,6 @@
 use Rattle.std.proofs.Common.{[], ap, flat_map, ◌∙◌}
-use Rattle.requirement_names.specs.inner.Groups.{group_names}
-use Rattle.requirement_names.specs.inner.Wrong.{again_behind, noting, wrong_members, wrong_words}
+use Rattle.requirement_names.specs.Groups.{group_names}
+use Rattle.requirement_names.specs.Wrong.{again_behind, noting, wrong_members, wrong_words}
 use Rattle.requirement_names.proofs.Noting.{noted-four}
 use Rattle.requirement_names.proofs.resolving.note_parts.Goals as goal
 

@@ -1,5 +1,5 @@
 use Rattle.std.proofs.Common.{◌≡◌, map, take}
-use Rattle.requirement_names.specs.inner.Named.{set_of_word}
+use Rattle.requirement_names.specs.Named.{set_of_word}
 use Rattle.requirement_names.proofs.resolving.sets_of_words.Given as goal
 
 abbrev pub invariant-loop-token : goal.invariant-loop-token

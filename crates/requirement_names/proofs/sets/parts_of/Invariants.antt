@@ -1,5 +1,5 @@
 use Rattle.std.proofs.Common.{◌≡◌, drop}
-use Rattle.requirement_names.specs.inner.Sets.{nothing_cut, with_bytes}
+use Rattle.requirement_names.specs.Sets.{nothing_cut, with_bytes}
 use Rattle.requirement_names.proofs.sets.parts_of.Given as goal
 
 abbrev pub invariant-loop-byte : goal.invariant-loop-byte

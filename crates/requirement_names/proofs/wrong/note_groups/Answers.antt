@@ -1,5 +1,5 @@
 use Rattle.std.proofs.Common.{ap, flat_map, ◌∙◌}
-use Rattle.requirement_names.specs.inner.Wrong.{noting, wrong_member, wrong_members}
+use Rattle.requirement_names.specs.Wrong.{noting, wrong_member, wrong_members}
 use Rattle.requirement_names.proofs.Loops.{noting-more}
 use Rattle.requirement_names.proofs.wrong.note_groups.Goals as goal
 

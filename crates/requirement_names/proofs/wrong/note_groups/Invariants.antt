@@ -1,5 +1,5 @@
 use Rattle.std.proofs.Common.{◌≡◌, drop, flat_map}
-use Rattle.requirement_names.specs.inner.Wrong.{noting, wrong_members}
+use Rattle.requirement_names.specs.Wrong.{noting, wrong_members}
 use Rattle.requirement_names.proofs.wrong.note_groups.Given as goal
 
 abbrev pub invariant-loop-group : goal.invariant-loop-group

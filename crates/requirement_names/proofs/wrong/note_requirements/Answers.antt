@@ -1,4 +1,4 @@
-use Rattle.requirement_names.specs.inner.Wrong.{wrong_words}
+use Rattle.requirement_names.specs.Wrong.{wrong_words}
 use Rattle.requirement_names.proofs.Loops.{noting-more}
 use Rattle.requirement_names.proofs.wrong.note_requirements.Goals as goal
 

@@ -1,5 +1,5 @@
 use Rattle.std.proofs.Common.{◌≡◌, drop, flat_map}
-use Rattle.requirement_names.specs.inner.Wrong.{noting, wrong_token}
+use Rattle.requirement_names.specs.Wrong.{noting, wrong_token}
 use Rattle.requirement_names.proofs.wrong.note_tokens.Given as goal
 
 abbrev pub invariant-loop-token : goal.invariant-loop-token

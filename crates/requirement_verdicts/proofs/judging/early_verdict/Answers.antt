@@ -1,6 +1,6 @@
 use Rattle.std.proofs.Common.{sym, subst, ◌∙◌}
 use Rattle.std.proofs.lemmas.Bool.{false≢true}
-use Rattle.requirement_verdicts.specs.inner.Verdicts.{IsBroken}
+use Rattle.requirement_verdicts.specs.Verdicts.{IsBroken}
 use Rattle.requirement_verdicts.proofs.Cutting.{broken-anyway}
 use Rattle.requirement_verdicts.proofs.judging.early_verdict.Goals as goal
 

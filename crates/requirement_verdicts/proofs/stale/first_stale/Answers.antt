@@ -1,6 +1,6 @@
 use Rattle.std.proofs.Common.{sym, subst, ◌∙◌}
 use Rattle.std.proofs.lemmas.Bool.{false≢true}
-use Rattle.requirement_verdicts.specs.inner.Meanings.{IsFresh}
+use Rattle.requirement_verdicts.specs.Meanings.{IsFresh}
 use Rattle.requirement_verdicts.proofs.Staling.{all-more, stale-here}
 use Rattle.requirement_verdicts.proofs.stale.first_stale.Goals as goal
 

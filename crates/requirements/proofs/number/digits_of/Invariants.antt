@@ -1,5 +1,5 @@
 use Rattle.std.proofs.Common.{◌≡◌, ◌<◌, ◌^◌, drop}
-use Rattle.requirements.specs.inner.Sentences.{digits_from}
+use Rattle.requirements.specs.Sentences.{digits_from}
 use Rattle.requirements.proofs.number.digits_of.Given as goal
 
 abbrev pub invariant-loop-digit : goal.invariant-loop-digit

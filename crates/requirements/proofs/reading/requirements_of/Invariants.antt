@@ -1,5 +1,5 @@
 use Rattle.std.proofs.Common.{◌≡◌, Ok, drop}
-use Rattle.requirements.specs.inner.Requirements.{none_read, with_lines}
+use Rattle.requirements.specs.Requirements.{none_read, with_lines}
 use Rattle.requirements.proofs.reading.requirements_of.Given as goal
 
 abbrev pub invariant-loop-line : goal.invariant-loop-line

@@ -1,5 +1,5 @@
 use Rattle.std.proofs.Common.{◌≡◌, drop}
-use Rattle.requirements.specs.inner.Words.{nothing_read, with_bytes}
+use Rattle.requirements.specs.Words.{nothing_read, with_bytes}
 use Rattle.requirements.proofs.words.lines_of.Given as goal
 
 abbrev pub invariant-loop-at : goal.invariant-loop-at

@@ -3,9 +3,9 @@ use Rattle.std.specs.List.{list_any}
 use Rattle.std.specs.HashMap.{get}
 use Rattle.plain_values.specs.Name.{is_same_text}
 use Rattle.requirement_names.specs.declared.mistake.Mistake.TheVariants.{DuplicateName}
-use Rattle.requirement_names.specs.inner.Names.{called}
+use Rattle.requirement_names.specs.Names.{called}
 use Rattle.requirement_names.specs.inner.Tables.{has_text, same_text}
-use Rattle.requirement_names.specs.inner.Wrong.{noting, wrong_if}
+use Rattle.requirement_names.specs.Wrong.{noting, wrong_if}
 use Rattle.requirement_names.proofs.Knowing.{again-is, again-more, called-at, knows-more, long-as, text_agrees, text_alike}
 use Rattle.requirement_names.proofs.names.NameTable.of.Goals as goal
 

@@ -1,7 +1,7 @@
 use Rattle.std.proofs.Common.{◌≡◌, [], drop, take}
 use Rattle.std.specs.HashMap.{get}
 use Rattle.requirement_names.specs.inner.Tables.{Knows, has_text, same_text}
-use Rattle.requirement_names.specs.inner.Wrong.{again_behind, noting}
+use Rattle.requirement_names.specs.Wrong.{again_behind, noting}
 use Rattle.requirement_names.proofs.names.NameTable.of.Given as goal
 
 abbrev pub invariant-loop-number : goal.invariant-loop-number

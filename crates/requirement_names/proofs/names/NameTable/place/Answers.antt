@@ -1,5 +1,5 @@
 use Rattle.std.proofs.Common.{ap, ◌∙◌}
-use Rattle.requirement_names.specs.inner.Names.{place_of}
+use Rattle.requirement_names.specs.Names.{place_of}
 use Rattle.requirement_names.proofs.names.NameTable.place.Goals as goal
 
 pub returns : goal.returns

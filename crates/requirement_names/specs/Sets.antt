@@ -5,7 +5,7 @@ use Rattle.plain_values.specs.Name.{is_same_text}
 use Rattle.plain_values.specs.Numbered.{numbers_below}
 use Rattle.fault_system.specs.Systems.{System, event_name}
 use Rattle.requirement_names.specs.declared.sets.Cut.{Cut}
-use Rattle.requirement_names.specs.inner.Names.{event_named}
+use Rattle.requirement_names.specs.Names.{event_named}
 
 -- nothing is cut yet
 abbrev pub nothing_cut : Cut

@@ -8,7 +8,7 @@ use Rattle.fault_system.specs.Systems.{System, event_name}
 use Rattle.requirements.specs.declared.reading.Group.{Group}
 use Rattle.requirements.specs.declared.reading.GroupKind.{GroupKind}
 use Rattle.requirements.specs.declared.reading.GroupKind.TheVariants.{Parts, Events}
-use Rattle.requirement_names.specs.inner.Names.{called, event_named, is_below, place_of}
+use Rattle.requirement_names.specs.Names.{called, event_named, is_below, place_of}
 
 -- whether an event belongs to a member of a group: it lies below the component, or it is the event
 abbrev pub belongs_to : GroupKind → List ℕ → List ℕ → Bool

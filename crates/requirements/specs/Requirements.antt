@@ -7,8 +7,8 @@ use Rattle.requirements.specs.declared.reading.GroupKind.{GroupKind}
 use Rattle.requirements.specs.declared.reading.GroupKind.TheVariants.{Parts, Events}
 use Rattle.requirements.specs.declared.reading.Requirement.{Requirement}
 use Rattle.requirements.specs.declared.reading.Requirements.{Requirements}
-use Rattle.requirements.specs.inner.Words.{lines_of}
-use Rattle.requirements.specs.inner.Sentences.{is_word, sentence_of}
+use Rattle.requirements.specs.Words.{lines_of}
+use Rattle.requirements.specs.Sentences.{is_word, sentence_of}
 
 -- no groups and no requirements
 abbrev pub none_read : Requirements
