@@ -1,5 +1,5 @@
 -- The sorted numbers of a set rise.
-use Rattle.std.proofs.Common.{ℕ, ◌+◌, ◌≡◌, ◌≢◌, ◌<◌, ◌≤◌, ◌⊎◌, zero, suc, false, List, [], ◌∷◌, length, map, Option, None, Some, All, Contains, eqb, get_or, inl, inr, ⊎_elim, refl, sym, ap, ◌∙◌, subst, arith}
+use Rattle.std.proofs.Common.{ℕ, ◌+◌, ◌≡◌, ◌<◌, ◌≤◌, zero, suc, false, List, [], ◌∷◌, length, map, Option, Some, All, eqb, get_or, sym, ap, ◌∙◌, arith}
 use Rattle.std.specs.Prelude.{AllPairs}
 use Rattle.std.specs.List.{AllByRecursion, IsDistinct}
 use Rattle.std.specs.Ordering.{nat_cmp}
@@ -33,9 +33,6 @@ eqb-flips x y = same-bool (eqb x y) (eqb y x) (λ e. eq-eqb y x (sym (eqb-true x
 none-differ : IsDistinct eqb []
 unfolding IsDistinct
 none-differ = tt
-
-some-same : (a b : ℕ) → Some a ≡ Some b → a ≡ b
-some-same a b is = cc
 
 first-of : (f : ℕ → Option ℕ) (x y : ℕ) (xs ys : List ℕ) → map f (x ∷ xs) ≡ map Some (y ∷ ys) → (f x ≡ Some y) × (map f xs ≡ map Some ys)
 first-of f x y xs ys is = (cc, cc)

@@ -1,9 +1,9 @@
 -- Worked examples of the definitions.
-use Rattle.std.proofs.Common.{◌≡◌, ℕ, List, [], ◌∷◌, Bool, true, false, codes, refl}
+use Rattle.std.proofs.Common.{◌≡◌, ℕ, List, [], ◌∷◌, true, false, codes, refl}
 use Rattle.std.specs.Fmt.{digits}
 use Rattle.fault_system.specs.Systems.{System}
 use Rattle.fault_system.specs.declared.formula.EventInfo.{EventInfo}
-use Rattle.listing_changes.specs.inner.Changes.{change_line, change_lines, changes_text, end_line, have_same_names, is_matched, unmatched}
+use Rattle.listing_changes.specs.inner.Changes.{change_lines, changes_text, have_same_names, is_matched, unmatched}
 
 abbrev an_event : List ℕ → EventInfo
 an_event name = record { name = name; owner = 0; key = [] }

@@ -1,15 +1,13 @@
 -- When one of the sets of another system has the names of a set: exactly if it has the set of their numbers there.
-use Rattle.std.proofs.Common.{ℕ, ◌+◌, ◌≡◌, ◌≢◌, ◌<◌, ◌≤◌, ◌⊎◌, Bool, true, false, ◌&&◌, ◌||◌, List, [], ◌∷◌, length, map, Option, None, Some, All, Contains, get_or, inl, inr, ⊎_elim, refl, sym, ap, ◌∙◌, subst, arith}
-use Rattle.std.specs.Prelude.{AllPairs, IsTrue, ◌==◌, ◌↔◌}
-use Rattle.std.specs.List.{list_all, list_any, IsDistinct}
-use Rattle.std.specs.List.Sorted.{IsPermutation, IsNonDecreasing}
-use Rattle.std.proofs.lemmas.Bool.{false≢true, and_from, and_parts, eq-eqb, eqb-true}
+use Rattle.std.proofs.Common.{ℕ, ◌≡◌, ◌≢◌, ◌<◌, ◌⊎◌, Bool, true, false, ◌||◌, List, [], ◌∷◌, length, Option, Some, Contains, inl, inr, ⊎_elim, refl, sym, ap, ◌∙◌, subst}
+use Rattle.std.specs.Prelude.{IsTrue, ◌↔◌}
+use Rattle.std.specs.List.{list_all, list_any}
+use Rattle.std.specs.List.Sorted.{IsPermutation}
+use Rattle.std.proofs.lemmas.Bool.{false≢true, and_from, and_parts}
 use Rattle.std.proofs.lemmas.List.Folds.{list_any_at}
 use Rattle.std.proofs.lemmas.List.Sorted.{Contains-permutation, IsPermutation-sym}
 use Rattle.std.proofs.lemmas.Slice.Eq.{bytes_eq-Decides}
 use Rattle.plain_values.specs.Name.{is_same_text}
-use Rattle.plain_values.specs.Rising.{RisesWithin}
-use Rattle.fault_system.specs.Truth.{Has, set_of}
 use Rattle.fault_system.specs.Systems.{System, IsSystem, event_name}
 use Rattle.fault_system.specs.CutSets.{IsEventSet}
 use Rattle.fault_system.proofs.Elements.{In, In-contains, contains_In, In-map, In-mapped}
@@ -50,9 +48,6 @@ among-at names others name all here =
     subst (λ n. In n others) (sym ((bytes_eq-Decides name found.0).0 found.2)) found.1
 
 -- ---- numbers there
-
-some-same : (a b : ℕ) → Some a ≡ Some b → a ≡ b
-some-same a b is = cc
 
 module _ (table : List (Option ℕ)) (set numbers : List ℕ) (are : AreNumbers table set numbers) where
   -- each event has a number

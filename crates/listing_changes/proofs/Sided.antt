@@ -68,10 +68,13 @@ all-told older newer o n most before after gone_through first second third last 
     let family = same-family before gone_through store sets in
     let of_before = sets_left before.store before.listing in
     let of_after = sets_left after.store after.listing in
+    let gone_sets = unmatched before.system.now after.system.now (family_of after.store after.sets) of_before in
+    let new_sets = unmatched after.system.now gone_through.system.now (family_of gone_through.store gone_through.sets) of_after in
     let lacking : unmatched after.system.now gone_through.system.now (family_of gone_through.store gone_through.sets) of_after ≡ unmatched after.system.now before.system.now (family_of before.store before.sets) of_after =
     ap (λ (its : Bor System). unmatched after.system.now its.now (family_of gone_through.store gone_through.sets) of_after) system ∙ ap (λ its. unmatched after.system.now before.system.now its of_after) family in
     let its = subst (λ (s : System). AreCuts s o most before) (sym older_is) before_are in
     let others = subst (λ (s : System). AreCuts s n most after) (sym newer_is) after_are in
     subst (λ (s : System). TellsChanges s o newer n most last) older_is (subst (λ (s : System). TellsChanges before.system.now o s n most last) newer_is
     (tells-changes before.system.now after.system.now o n most of_before of_after (family_of before.store before.sets) (family_of after.store after.sets) first second third last gone new its.listing others.listing its.same others.same empty
-    second_is (third_is ∙ ap (λ (of : List (List ℕ)). second ++ change_lines (codes "new ") after.system.now of) lacking) last_is (gone_is ∙ ap (λ k. k + length (unmatched before.system.now after.system.now (family_of after.store after.sets) of_before)) zero ∙ none-more (length (unmatched before.system.now after.system.now (family_of after.store after.sets) of_before))) (new_is ∙ none-more (length (unmatched after.system.now gone_through.system.now (family_of gone_through.store gone_through.sets) of_after)) ∙ ap length lacking)))
+    second_is (third_is ∙ ap (λ (of : List (List ℕ)). second ++ change_lines (codes "new ") after.system.now of) lacking) last_is
+    (gone_is ∙ ap (λ k. k + length gone_sets) zero ∙ none-more (length gone_sets)) (new_is ∙ none-more (length new_sets) ∙ ap length lacking)))

@@ -1,14 +1,14 @@
 -- The text as a whole, and what it tells.
-use Rattle.std.proofs.Common.{ℕ, ◌+◌, ◌≡◌, ◌↔◌, ◌⊎◌, Bool, true, false, not, cond, List, [], ◌∷◌, ◌++◌, codes, filter, length, append_assoc, Contains, Option, refl, sym, ap, subst, ◌∙◌, arith}
+use Rattle.std.proofs.Common.{ℕ, ◌+◌, ◌≡◌, ◌↔◌, Bool, true, false, not, List, [], ◌++◌, codes, filter, length, append_assoc, Contains, Option, sym, ap, ◌∙◌}
 use Rattle.std.specs.List.{AllByRecursion}
 use Rattle.std.proofs.lemmas.Bool.{false≢true, false_from_ne_true}
 use Rattle.fault_system.specs.Systems.{System}
-use Rattle.fault_system.specs.CutSets.{IsEventSet, IsMinimalCutSet}
-use Rattle.fault_system.specs.Listings.{IsListing, IsWithinOrder}
-use Rattle.fault_system.proofs.Elements.{In, In-contains, In-filter, In-filtered, contains_In, each-made}
+use Rattle.fault_system.specs.CutSets.{IsEventSet}
+use Rattle.fault_system.specs.Listings.{IsListing}
+use Rattle.fault_system.proofs.Elements.{In-contains, In-filter, In-filtered, contains_In, each-made}
 use Rattle.fault_system.proofs.Orders.{one_order}
 use Rattle.zdd_store.specs.inner.Family.{HaveSameSets}
-use Rattle.listing_changes.specs.inner.Changes.{HasNoEqual, TellsChanges, change_lines, changes_text, end_line, is_matched, names_of, unmatched}
+use Rattle.listing_changes.specs.inner.Changes.{HasNoEqual, TellsChanges, change_lines, changes_text, end_line, is_matched, unmatched}
 use Rattle.listing_changes.proofs.Matching.{equal-names, matched-equal, matched-same}
 
 -- filters by tests that agree keep the same
@@ -70,9 +70,6 @@ pub lacking-sets : (here there : System) (target other_target : ℕ) (most : Opt
     → (Contains (unmatched here there others sets) set ↔ HasNoEqual here target there other_target most set)
 unfolding unmatched
 lacking-sets here there target other_target most sets others set own other = (to, from) where
-  test : List ℕ → Bool
-  test s = not (is_matched here there others s)
-
   to : Contains (filter (λ s. not (is_matched here there others s)) sets) set → HasNoEqual here target there other_target most set
   to there_is =
       let kept = In-filter (λ s. not (is_matched here there others s)) set sets (In-contains set (filter (λ s. not (is_matched here there others s)) sets) there_is) in

@@ -1,6 +1,6 @@
 //! The lines that tell what changed.
 
-ghost use Rattle.std.specs.Prelude.{◌≡◌, ◌++◌, ◌∷◌, OnOk, decimal, length};
+ghost use Rattle.std.specs.Prelude.{◌≡◌, ◌++◌, ◌∷◌, OnOk, decimal};
 ghost use Rattle.cutset_lister.specs.SetText.{set_text};
 ghost use Rattle.listing_changes.specs.inner.Changes.{change_line, end_line};
 

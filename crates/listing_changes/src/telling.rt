@@ -1,6 +1,6 @@
 //! Tells the sets of a listing that another system has not.
 
-ghost use Rattle.std.specs.Prelude.{◌≡◌, ◌<◌, ◌≤◌, ◌∷◌, [], ℕ, List as Items, IfOk, Ok, OnOk, false, length, true};
+ghost use Rattle.std.specs.Prelude.{◌≡◌, ◌<◌, ◌≤◌, ◌∷◌, [], ℕ, List as Items, Ok, OnOk, false, length, true};
 ghost use Rattle.std.specs.List.{AllByRecursion};
 ghost use Rattle.fault_system.specs.CutSets.{IsEventSet};
 ghost use Rattle.cutset_lister.specs.inner.Walks.{IsStarted, sets_left};

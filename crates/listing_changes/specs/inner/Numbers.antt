@@ -1,5 +1,5 @@
 -- By which numbers another system has the events of a system.
-use Rattle.std.specs.Prelude.{ℕ, ◌≡◌, Bool, true, false, List, map, Contains, Option, None, Some, position, slice_index_or}
+use Rattle.std.specs.Prelude.{ℕ, ◌≡◌, List, map, Contains, Option, None, Some, position, slice_index_or}
 use Rattle.plain_values.specs.Name.{is_same_text}
 use Rattle.fault_system.specs.Systems.{System}
 

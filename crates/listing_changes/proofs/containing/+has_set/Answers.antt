@@ -1,5 +1,4 @@
-use Rattle.std.proofs.Common.{◌<◌, arith}
-use Rattle.zdd_store.specs.inner.Family.{least_number}
+use Rattle.std.proofs.Common.{arith}
 use Rattle.zdd_store.specs.inner.Store.{family_of}
 use Rattle.listing_changes.proofs.Placing.{both-ways, empty-below, first-elsewhere, first-there, none-below, not-there}
 use Rattle.listing_changes.proofs.containing.+has_set.Goals as goal
