@@ -37,6 +37,7 @@ WHY = b"""1 root.v/state:operational
 4 root/out:torque{errors::serviceomission} #3
 """
 TREE = b'toplevel "T";\n"T" 2of3 "a" "b" "G";\n"G" and "b" "c";\n"a" prob=1;\n"b" prob=1;\n"c" prob=1;\n'
+MET, BROKEN = f"R {TARGET} order 1\n".encode(), f"R {TARGET} order 2\n".encode()
 CUTS_WORDS = ["cuts", ROOT, TARGET, *FILES]
 A_WORDS = ["cuts", "p::s", "root/state:bad", "a.aadl"]
 
@@ -156,6 +157,10 @@ def cases(folder):
         Case("reports to a full disk", ["report", ROOT, TARGET, *FILES], 5, bad, out="/dev/full"),
         Case("path sets to a full disk", ["paths", ROOT, TARGET, *FILES], 5, bad, out="/dev/full"),
         Case("numbers to a full disk", ["check", ROOT, *FILES], 5, bad, out="/dev/full"),
+        Case("verdicts to a full disk", ["require", ROOT, "/dev/stdin", *FILES], 5, bad, out="/dev/full", stdin=MET),
+        Case("verdicts of which one is not met, to a full disk", ["require", ROOT, "/dev/stdin", *FILES], 5, bad, out="/dev/full", stdin=BROKEN),
+        Case("a requirement that is met, from a pipe", ["require", ROOT, "/dev/stdin", *FILES], 0, "", b"met R\nend met 1 broken 0 vacuous 0\n", stdin=MET),
+        Case("a requirement that is broken, from a pipe", ["require", ROOT, "/dev/stdin", *FILES], 8, "", b"broken R root.v/failure\nend met 0 broken 1 vacuous 0\n", stdin=BROKEN),
         Case("derivation to a full disk", ["why", ROOT, TARGET, *FILES, "--set", "root.v/failure"], 5, bad, out="/dev/full"),
         Case("its check to a full disk", ["confirm", ROOT, TARGET, "d.txt", *FILES, "--set", "root.v/failure"], 5, bad, out="/dev/full"),
         Case("listing of a tree to a full disk", ["galileo", "t.dft"], 5, bad, out="/dev/full"),

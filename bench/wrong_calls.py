@@ -13,6 +13,7 @@ import subprocess
 import sys
 
 MODEL = "examples/attitude_control.aadl"
+REQUIREMENTS = "examples/attitude_control.requirements"
 ROOT, TARGET = "Acs::Control.dual", "root/out:torque{errors::serviceomission}"
 TREE = "usage aadl_fta tree ROOT TARGET FILE.. [--format galileo|mef|dot] [--gates written|merged] [--unrated 1|refuse] [--profile 1|2]"
 
@@ -51,6 +52,9 @@ CALLS = [
     (["check", "Lib::Main.i", "examples/with_library.aadl"], 2, ["ROOT Lib::Main.i"]),
     (["galileo", MODEL], 2, ["G1 BadLine"]),
     (["confirm", ROOT, TARGET, MODEL, MODEL, "--set", "root.cpu/failure"], 2, ["V1 BadStepLine"]),
+    (["require", ROOT, REQUIREMENTS], 1, ["usage aadl_fta require ROOT REQUIREMENTS FILE.. [--tap] [--profile 1|2]"]),
+    (["require", ROOT, MODEL, MODEL], 2, ["Q1 BadRequirement"]),
+    (["require", "Small::Sensor", REQUIREMENTS, "examples/small.aadl"], 2, ["Q6 EmptyGroup", REQUIREMENTS + ":3:13"]),
 ]
 
 
