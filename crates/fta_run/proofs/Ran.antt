@@ -524,8 +524,8 @@ came_ended words contents voices s end told a is_due =
 -- what is due tells as much of requirements as what was written
 met_due : (words : List (List ℕ)) (contents : List ℕ → Option (List ℕ)) (voices : List Voice) → AllTold words contents voices → (a : Result Output Status) (output : Output) → IsDue (due words contents voices) a → Passes (due words contents voices) output
     → IsOkAnd a (λ its. its.met ≡ output.met)
-met_due words contents voices told (Ok its) output is_due passes = same_met words contents voices told its output is_due passes
-met_due words contents voices told (Err s) output is_due passes = absurd (one_end words contents voices told (Err s) (Ok output) is_due passes)
+met_due words contents voices told (Ok its) output is_due wrote = same_met words contents voices told its output is_due wrote
+met_due words contents voices told (Err s) output is_due wrote = absurd (one_end words contents voices told (Err s) (Ok output) is_due wrote)
 
 pub ran_complete : (words : List (List ℕ)) (contents : List ℕ → Option (List ℕ)) (voices : List Voice) (read_before read_after : List ℕ → ℕ) (RoseThere : ℕ → Type 0) (t u : Seen) (result : Result Bool Status)
     → Runs words contents voices read_before read_after RoseThere result t u → AllTold words contents voices → (a : Result Output Status) → IsDue (due words contents voices) a → MayCome a (ended result)
@@ -672,7 +672,7 @@ ok_not_err a e is = cc (is)
 pub many_named : (names words : List (List ℕ)) (asked : Request) → Passes (finds (IsRequest names words) Usage) asked → most_files < length (file_words words) → most_files < length asked.files
 many_named names words asked given many = subst (λ files. most_files < length files) (file_words_are names words asked given.passed) many
 
-pub many_answer : (result : Result Bool Status) (s : Status) → IsErrAnd result (λ its. its ≡ s) → s ≡ Refused (of_words TooManyFiles) → IsManyAnswer (ended result)
+pub many_answer : {T : Type 0} (result : Result T Status) (s : Status) → IsErrAnd result (λ its. its ≡ s) → s ≡ Refused (of_words TooManyFiles) → IsErrAnd result IsManyAnswer
 many_answer result s is many =
     let p = err_from_is_err_and result is in
     rw (p.1, p.2, many) refl

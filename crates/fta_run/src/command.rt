@@ -1,4 +1,4 @@
-ghost use Rattle.std.specs.Prelude.{◌≡◌, ◌<◌, ℕ, List, IfOk, Result, length, map};
+ghost use Rattle.std.specs.Prelude.{◌≡◌, ◌<◌, ℕ, List, IfOk, IsErrAnd, Result, length, map};
 ghost use Rattle.fta_outside.specs.Outside.{Rose, Took as TookAll, TookPrefix};
 ghost use Rattle.phases.specs.Phases.{IsDue};
 ghost use Rattle.phases.specs.inner.Meets.{MeetsBut};
@@ -148,7 +148,7 @@ fn answer<F: Files>(
     ensures no_reports { GiveNoRequest (labels (voices_of label text reports.old.items)) words.now → reports.new ≡ reports.old }
     ensures no_files { GiveNoRequest (labels (voices_of label text reports.old.items)) words.now → files.new ≡ files.old }
     ensures too_many { most_files < length (file_words words.now) → files.new ≡ files.old }
-    ensures many { most_files < length (file_words words.now) → IsManyAnswer (ended result) }
+    ensures many { most_files < length (file_words words.now) → IsErrAnd result IsManyAnswer }
     ensures names { map label reports.new.items ≡ map label reports.old.items }
 {
     let names = names_of(alloc, reports)?;
