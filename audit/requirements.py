@@ -178,7 +178,7 @@ class Meaning:
         if word.text.lower() == b"none":
             return frozenset()
         numbers = [self.events.get(name) for name in word.text.lower().split(b"+")]
-        if None in numbers or len(set(numbers)) < len(numbers):
+        if None in numbers:
             self.fault("Q7", word)
         return frozenset(numbers)
 
@@ -314,9 +314,11 @@ def answer(facts, data, has_tap):
     told = [(each.name.text, *judge.verdict(each)) for each in asked]
     if has_tap:
         lines = [b"TAP version 13", b"1..%d" % len(told)]
-        lines += [b"%sok %d - %s" % (b"" if word == b"met" else b"not ", number,
-                                     escaped(name + rest))
-                  for number, (name, word, rest) in enumerate(told, 1)]
+        for number, (name, word, rest) in enumerate(told, 1):
+            is_met = word == b"met"
+            lines.append(b"%sok %d - %s" % (
+                b"" if is_met else b"not ", number,
+                escaped(name + (b"" if is_met else b" " + word + rest))))
     else:
         lines = [word + b" " + name + rest for name, word, rest in told]
         words = [word for _, word, _ in told]
